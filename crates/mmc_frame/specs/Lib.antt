@@ -1,0 +1,4 @@
+pub mod Check
+pub mod Field
+pub mod Frame
+pub mod Status
