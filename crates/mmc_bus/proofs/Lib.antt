@@ -1,0 +1,1 @@
+-- No lemmas yet.

@@ -1,0 +1,12 @@
+//! The bus between a host and one card: the trait that a host stack drives, and what it hands over.
+#![tactic(auto)]
+
+mod bus;
+mod bytes;
+mod memory;
+mod part;
+
+pub use bus::{Bus, DataIn, DataOut, Exchange, Lines, Reply, Timing, Want, Width};
+pub use bytes::Bytes;
+pub use memory::NoMemory;
+pub use part::Part;
