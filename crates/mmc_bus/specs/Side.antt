@@ -4,6 +4,7 @@ use Rattle.mmc_bus.specs.declared.bus.Exchange.{Exchange}
 use Rattle.mmc_bus.specs.declared.bus.Lines.{Lines}
 use Rattle.mmc_bus.specs.declared.bus.Width.{Width}
 use Rattle.mmc_bus.specs.declared.bus.Timing.{Timing}
+use Rattle.mmc_bus.specs.declared.wire.Wire.{Wire}
 
 pub record Side : Type 0 where
   -- as last set by the host
@@ -22,3 +23,7 @@ pub record Exchanged (old : Side) (exchange : Exchange) (new : Side) : Type 0 wh
 -- the lines are set, and nothing else
 abbrev pub SetsLines : Side → Width → Timing → Side → Type 0
 SetsLines old width timing new = new ≡ record old { lines = record { width = width; timing = timing } }
+
+-- what a bus that keeps this shows
+abbrev pub side_of : Wire → Side
+side_of wire = record { lines = wire.lines; last = wire.last; exchanges = wire.exchanges }

@@ -3,10 +3,18 @@
 
 mod bus;
 mod bytes;
+mod chip;
+pub mod commands;
 mod memory;
 mod part;
+mod plain;
+mod trace;
+mod wire;
 
 pub use bus::{Bus, DataIn, DataOut, Exchange, Lines, Reply, Timing, Want, Width};
 pub use bytes::Bytes;
 pub use memory::NoMemory;
 pub use part::Part;
+pub use plain::PlainCard;
+pub use trace::TraceBus;
+pub use wire::Wire;

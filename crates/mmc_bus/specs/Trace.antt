@@ -1,0 +1,20 @@
+-- A bus that keeps its last exchanges.
+use Rattle.std.specs.Prelude.{◌≡◌, ℕ, List, [], ◌∷◌, ◌++◌}
+use Rattle.circular_buffer.specs.Buffer.{keep_last}
+use Rattle.mmc_bus.specs.declared.bus.Exchange.{Exchange}
+
+-- the bus inside, the exchanges that are kept, oldest first, and how many there may be
+pub record TraceView (B : Type 0) : Type 0 where
+  pub bus : B
+  pub exchanges : List Exchange
+  pub capacity : ℕ
+
+-- this exchange is kept, and the oldest goes where there is no room
+pub record Traces {B : Type 0} (old : TraceView B) (exchange : Exchange) (new : TraceView B) : Type 0 where
+  pub exchanges : new.exchanges ≡ keep_last old.capacity (old.exchanges ++ exchange ∷ [])
+  pub capacity : new.capacity ≡ old.capacity
+
+-- no exchange was made
+pub record TracesNothing {B : Type 0} (old new : TraceView B) : Type 0 where
+  pub exchanges : new.exchanges ≡ old.exchanges
+  pub capacity : new.capacity ≡ old.capacity

@@ -1,0 +1,115 @@
+ghost use Rattle.std.specs.Prelude.{◌≡◌, ◌≤◌, [], length, slice_get, IfErr, IfOk};
+ghost use Rattle.mmc_bus.specs.Side.{Exchanged, SetsLines};
+ghost use Rattle.mmc_bus.specs.declared.bus.Exchange.TheVariants.{Busy, Command, In, Out};
+
+use crate::bus::{Bus, DataIn, DataOut, Exchange, Reply, Timing, Want, Width};
+use crate::memory::NoMemory;
+use circular_buffer::HeapCircularBuffer;
+use std::alloc::Global;
+use std::marker::Model;
+
+/// A bus that hands every operation on to the bus inside, and keeps the last exchanges.
+pub struct TraceBus<B: Bus> {
+    bus: B,
+    last: HeapCircularBuffer<Exchange>,
+}
+
+impl<B: Bus> Model for TraceBus<B> {
+    ghost use Rattle.mmc_bus.specs.Trace.{TraceView};
+
+    ghost Value = { TraceView B };
+
+    ghost view = { λ t. record { bus = t.bus; exchanges = t.last.items; capacity = t.last.capacity } };
+}
+
+impl<B: Bus> TraceBus<B> {
+    /// A trace that keeps the last `n` exchanges, from 1 to 65,536, and has none yet.
+    ///
+    /// # Errors
+    /// `NoMemory` where the room for them is refused, with the bus.
+    pub fn new(alloc: Global, bus: B, n: usize) -> Result<TraceBus<B>, (B, NoMemory)>
+        requires some { 1 ≤ n }
+        requires few { n ≤ 65536 }
+        ensures ok { IfOk result (λ t. t ≡ record { bus = bus; exchanges = []; capacity = n }) }
+        ensures err { IfErr result (λ e. e.0 ≡ bus) }
+    {
+        match HeapCircularBuffer::with_capacity(alloc, n) {
+            Ok(last) => Ok(TraceBus { bus, last }),
+            Err(_) => Err((bus, NoMemory)),
+        }
+    }
+
+    /// How many exchanges are kept.
+    pub fn len(&self) -> usize
+        ensures { result ≡ length self.now.exchanges }
+    {
+        self.last.len()
+    }
+
+    /// The exchange at this place, the oldest at 0, or `None` from `len` on.
+    pub fn exchange(&self, i: usize) -> Option<Exchange>
+        ensures { result ≡ slice_get self.now.exchanges i }
+    {
+        self.last.get(i).copied()
+    }
+
+    /// The bus inside.
+    pub fn into_inner(self) -> B
+        ensures { result ≡ self.bus }
+    {
+        let TraceBus { bus, last: _ } = self;
+        bus
+    }
+}
+
+impl<B: Bus> Bus for TraceBus<B> {
+    ghost use Rattle.mmc_bus.specs.Trace.{Traces, TracesNothing};
+
+    ghost side = { λ t. B.side t.bus };
+
+    fn command(&mut self, frame: [u8; 6], want: Want) -> Reply
+        ensures exchanged { Exchanged (B.side self.old.bus) (Command frame result) (B.side self.new.bus) }
+        ensures traced { Traces self.old (Command frame result) self.new }
+    {
+        let reply = self.bus.command(frame, want);
+        self.last.push_back(Exchange::Command { frame, reply });
+        reply
+    }
+
+    fn read_data(&mut self, buffer: &mut [u8]) -> DataIn
+        ensures exchanged { Exchanged (B.side self.old.bus) (In (length buffer.old) result) (B.side self.new.bus) }
+        ensures traced { Traces self.old (In (length buffer.old) result) self.new }
+    {
+        let got = self.bus.read_data(buffer);
+        self.last.push_back(Exchange::In {
+            len: buffer.len(),
+            got,
+        });
+        got
+    }
+
+    fn write_data(&mut self, block: &[u8; 512]) -> DataOut
+        ensures exchanged { Exchanged (B.side self.old.bus) (Out result) (B.side self.new.bus) }
+        ensures traced { Traces self.old (Out result) self.new }
+    {
+        let got = self.bus.write_data(block);
+        self.last.push_back(Exchange::Out { got });
+        got
+    }
+
+    fn busy(&mut self) -> bool
+        ensures exchanged { Exchanged (B.side self.old.bus) (Busy result) (B.side self.new.bus) }
+        ensures traced { Traces self.old (Busy result) self.new }
+    {
+        let yes = self.bus.busy();
+        self.last.push_back(Exchange::Busy { yes });
+        yes
+    }
+
+    fn set_lines(&mut self, width: Width, timing: Timing)
+        ensures set { SetsLines (B.side self.old.bus) width timing (B.side self.new.bus) }
+        ensures traced { TracesNothing self.old self.new }
+    {
+        self.bus.set_lines(width, timing);
+    }
+}

@@ -1,0 +1,46 @@
+ghost use Rattle.std.specs.Prelude.{◌≡◌, None};
+ghost use Rattle.mmc_bus.specs.Side.{Exchanged, SetsLines, side_of};
+
+use crate::bus::{Exchange, Lines, Timing, Width};
+
+/// What a bus keeps of its exchanges, so that contracts can speak of them.
+#[derive(Clone, Copy, Debug, PartialEq, Eq)]
+pub struct Wire {
+    /// The lines, as last set.
+    pub lines: Lines,
+    /// The last exchange with its answer, if there was one.
+    pub last: Option<Exchange>,
+    /// How many exchanges there were; the number stays at 2^64 - 1.
+    pub exchanges: u64,
+}
+
+impl Wire {
+    /// One line, default speed, and no exchange so far.
+    pub fn new() -> Wire
+        ensures { result ≡ record { lines = record { width = Width.One; timing = Timing.Default }; last = None; exchanges = 0 } }
+    {
+        Wire {
+            lines: Lines {
+                width: Width::One,
+                timing: Timing::Default,
+            },
+            last: None,
+            exchanges: 0,
+        }
+    }
+
+    /// Keeps an exchange.
+    pub fn note(&mut self, exchange: Exchange)
+        ensures { Exchanged (side_of self.old) exchange (side_of self.new) }
+    {
+        self.last = Some(exchange);
+        self.exchanges = self.exchanges.saturating_add(1);
+    }
+
+    /// Keeps how the lines are set.
+    pub fn set_lines(&mut self, width: Width, timing: Timing)
+        ensures { SetsLines (side_of self.old) width timing (side_of self.new) }
+    {
+        self.lines = Lines { width, timing };
+    }
+}
