@@ -1,1 +1,4 @@
--- No definitions yet.
+pub mod Device
+pub mod Info
+pub mod Refusal
+pub mod Requests
