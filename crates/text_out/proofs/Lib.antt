@@ -1,0 +1,4 @@
+pub mod HexLemmas
+pub mod PieceLemmas
+pub mod RepeatLemmas
+pub mod WritingLemmas

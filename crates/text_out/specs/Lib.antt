@@ -1,0 +1,4 @@
+pub mod Hex
+pub mod Pieces
+pub mod Repeats
+pub mod Writing

@@ -1,0 +1,17 @@
+//! Text to any writer: bytes, decimal numbers, hexadecimal digits and longest repeats, with a contract that says
+//! what went out, also after a fault.
+//!
+//! One function touches the writer, `put`. It takes an `Err` of a write as it comes, so that an interrupted write
+//! is a fault, and passes it on. After a fault a front of the text went out.
+#![tactic(auto)]
+
+mod hex;
+pub mod laws;
+mod pieces;
+pub mod put;
+mod repeats;
+
+pub use pieces::{Piece, put_pieces};
+
+#[cfg(test)]
+mod tests;
