@@ -1,1 +1,1 @@
--- No lemmas yet.
+pub mod ExchangeLines

@@ -1,5 +1,5 @@
 // The card behind `PlainCard`: what it does with each command and block.
-ghost use Rattle.std.specs.Prelude.{◌≡◌, ◌<◌, ◌≤◌, length};
+ghost use Rattle.std.specs.Prelude.{◌≡◌, ◌<◌, IfOk, length, replicate};
 
 use crate::bus::{DataIn, DataOut, Reply};
 use crate::commands::{
@@ -33,10 +33,14 @@ pub struct Chip {
 
 impl Chip {
     /// A card in tran with this many sectors, that are all 00h.
-    pub fn new(alloc: Global, sectors: usize) -> Result<Chip, NoMemory> {
-        let Ok(contents) = vec![in alloc; [0; 512]; sectors] else {
-            return Err(NoMemory);
-        };
+    #[tactic(auto, using(std::proofs::lemmas::Grind::replicate_next))]
+    pub fn new(alloc: Global, sectors: usize) -> Result<Chip, NoMemory>
+        ensures { IfOk result (λ chip. chip.contents.items ≡ replicate sectors (replicate 512 0)) }
+    {
+        let mut contents = Vec::new(alloc);
+        for _ in 0..sectors {
+            contents.push([0; 512])?;
+        }
         Ok(Chip {
             contents,
             phase: Phase::Tran,

@@ -5,6 +5,7 @@ mod bus;
 mod bytes;
 mod chip;
 pub mod commands;
+mod exchange_text;
 mod memory;
 mod part;
 mod plain;
@@ -18,3 +19,6 @@ pub use part::Part;
 pub use plain::PlainCard;
 pub use trace::TraceBus;
 pub use wire::Wire;
+
+#[cfg(test)]
+mod tests;

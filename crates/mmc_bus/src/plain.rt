@@ -1,4 +1,4 @@
-ghost use Rattle.std.specs.Prelude.{◌≤◌};
+ghost use Rattle.std.specs.Prelude.{◌≡◌, ◌≤◌, IfOk, replicate};
 ghost use Rattle.mmc_bus.specs.Side.{side_of};
 
 use crate::bus::{Bus, DataIn, DataOut, Exchange, Lines, Reply, Timing, Want, Width};
@@ -16,6 +16,8 @@ pub struct PlainCard {
 }
 
 impl PlainCard {
+    ghost use Rattle.mmc_bus.specs.PlainCard.{contents_of};
+
     /// A card of this many sectors, from 1 to 65,536, that are all 00h.
     ///
     /// # Errors
@@ -23,6 +25,7 @@ impl PlainCard {
     pub fn new(alloc: Global, sectors: usize) -> Result<PlainCard, NoMemory>
         requires some { 1 ≤ sectors }
         requires few { sectors ≤ 65536 }
+        ensures { IfOk result (λ card. contents_of card ≡ replicate sectors (replicate 512 0)) }
     {
         Ok(PlainCard {
             chip: Chip::new(alloc, sectors)?,

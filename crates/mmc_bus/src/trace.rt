@@ -1,14 +1,18 @@
 ghost use Rattle.std.specs.Prelude.{◌≡◌, ◌≤◌, [], length, slice_get, IfErr, IfOk};
+ghost use Rattle.mmc_bus.specs.ExchangeText.{lines_text};
 ghost use Rattle.mmc_bus.specs.Side.{Exchanged, SetsLines};
 ghost use Rattle.mmc_bus.specs.declared.bus.Exchange.TheVariants.{Busy, Command, In, Out};
+ghost use Rattle.text_out.specs.Writing.{Writes};
 
 use crate::bus::{Bus, DataIn, DataOut, Exchange, Reply, Timing, Want, Width};
 use crate::memory::NoMemory;
 use circular_buffer::HeapCircularBuffer;
 use std::alloc::Global;
+use std::io::{self, Write};
 use std::marker::Model;
 
 /// A bus that hands every operation on to the bus inside, and keeps the last exchanges.
+#[derive(Drop)]
 pub struct TraceBus<B: Bus> {
     bus: B,
     last: HeapCircularBuffer<Exchange>,
@@ -51,6 +55,20 @@ impl<B: Bus> TraceBus<B> {
         ensures { result ≡ slice_get self.now.exchanges i }
     {
         self.last.get(i).copied()
+    }
+
+    /// Writes a line for each exchange that is kept, oldest first.
+    ///
+    /// # Errors
+    /// The fault of a write; a front of the lines went out then.
+    pub fn write_lines<W: Write>(&self, out: &mut W) -> io::Result<()>
+        ensures { Writes (W.contents out.old) (W.contents out.new) result (lines_text self.now.exchanges) }
+    {
+        for i in 0..self.len() {
+            let exchange = self.last.get(i).unwrap();
+            exchange.write_line(out)?;
+        }
+        Ok(())
     }
 
     /// The bus inside.

@@ -1,0 +1,169 @@
+use crate::commands::{READ_SINGLE_BLOCK, SEND_STATUS, WRITE_BLOCK};
+use crate::*;
+use mmc_frame::encode;
+use std::test::Fail;
+
+// The argument that names the card.
+const RCA: u32 = 0x0001_0000;
+
+#[test]
+fn bytes_are_their_vector(rt: HostRuntime) -> Result<(), Fail> {
+    let mut bytes = Bytes::new(vec![in rt.alloc(); 1, 2, 3]?);
+    for byte in bytes.as_mut_slice() {
+        *byte ^= 0x80;
+    }
+    assert!(rt; bytes.as_slice() == [0x81, 0x82, 0x83].as_slice());
+    assert!(rt; bytes.into_vec().as_slice() == [0x81, 0x82, 0x83].as_slice());
+    Ok(())
+}
+
+// The answers of a card by the standard's table of states, and what a trace of two keeps of them.
+#[test]
+fn traces_a_transfer(rt: HostRuntime) -> Result<(), Fail> {
+    let card = PlainCard::new(rt.alloc(), 4).ok().ok_or("no card")?;
+    let mut bus = TraceBus::new(rt.alloc(), card, 2).ok().ok_or("no trace")?;
+    assert_eq!(rt; bus.len(), 0);
+    assert_eq!(rt; bus.exchange(0), None);
+
+    let rcv = Reply::Short([0x18, 0x00, 0x00, 0x09, 0x00, 0x5d]);
+    assert_eq!(rt; bus.command(encode(WRITE_BLOCK, 512), Want::Short), rcv);
+    assert_eq!(rt; bus.write_data(&[0x5a; 512]), DataOut::Accepted);
+    // in prg the card is busy: not ready for data
+    let prg = Reply::Short([0x0d, 0x00, 0x00, 0x0e, 0x00, 0x5d]);
+    assert_eq!(rt; bus.command(encode(SEND_STATUS, RCA), Want::Short), prg);
+    assert!(rt; !bus.busy());
+    let tran = Reply::Short([0x0d, 0x00, 0x00, 0x09, 0x00, 0x3f]);
+    assert_eq!(rt; bus.command(encode(SEND_STATUS, RCA), Want::Short), tran);
+
+    let data = Reply::Short([0x11, 0x00, 0x00, 0x09, 0x00, 0x67]);
+    assert_eq!(rt;
+        bus.command(encode(READ_SINGLE_BLOCK, 512), Want::Short),
+        data
+    );
+    let mut block = [0; 512];
+    assert_eq!(rt; bus.read_data(&mut block), DataIn::Good);
+    assert!(rt; block.iter().all(|byte| *byte == 0x5a));
+
+    assert_eq!(rt; bus.len(), 2);
+    let sent = Exchange::Command {
+        frame: encode(READ_SINGLE_BLOCK, 512),
+        reply: data,
+    };
+    assert_eq!(rt; bus.exchange(0), Some(sent));
+    assert_eq!(rt;
+        bus.exchange(1),
+        Some(Exchange::In {
+            len: 512,
+            got: DataIn::Good
+        })
+    );
+    assert_eq!(rt; bus.exchange(2), None);
+    let mut text = Vec::new(rt.alloc());
+    assert!(rt; bus.write_lines(&mut text).is_ok());
+    assert!(rt; text.as_slice() == b"cmd 510000020079 rsp 110000090067\nin 512 good\n".as_slice());
+    let mut card = bus.into_inner();
+    assert_eq!(rt; card.read_data(&mut block), DataIn::Nothing);
+    Ok(())
+}
+
+// A wrong check, a command that the card doesn't know, another card's RCA, and addresses that it hasn't.
+#[test]
+fn shows_errors_once(rt: HostRuntime) -> Result<(), Fail> {
+    let mut card = PlainCard::new(rt.alloc(), 4).ok().ok_or("no card")?;
+    let mut garbled = encode(SEND_STATUS, RCA);
+    garbled[5] ^= 0x10;
+    assert_eq!(rt; card.command(garbled, Want::Short), Reply::Silent);
+    assert_eq!(rt; card.command(encode(58, 0), Want::Short), Reply::Silent);
+    assert_eq!(rt;
+        card.command(encode(SEND_STATUS, 0x0002_0000), Want::Short),
+        Reply::Silent
+    );
+    for (index, argument, status) in [
+        (SEND_STATUS, RCA, 0x00c0_0900),
+        (SEND_STATUS, RCA, 0x0000_0900),
+        (READ_SINGLE_BLOCK, 2048, 0x8000_0900),
+        (WRITE_BLOCK, 256, 0x4000_0900),
+        (SEND_STATUS, RCA, 0x0000_0900),
+    ] {
+        let reply = card.command(encode(index, argument), Want::Short);
+        assert_eq!(rt;
+            reply,
+            Reply::Short(mmc_frame::encode_response(index, status)),
+            "CMD{index}"
+        );
+    }
+    card.set_lines(Width::Four, Timing::Default);
+    let mut block = [0; 512];
+    let begun = card.command(encode(READ_SINGLE_BLOCK, 0), Want::Short);
+    assert_eq!(rt; begun, Reply::Short([0x11, 0x00, 0x00, 0x09, 0x00, 0x67]));
+    assert_eq!(rt; card.read_data(&mut block), DataIn::Nothing, "other lines");
+    card.set_lines(Width::One, Timing::Default);
+    let mut short = [0; 8];
+    assert_eq!(rt;
+        card.read_data(&mut short),
+        DataIn::Nothing,
+        "another length"
+    );
+    assert_eq!(rt; card.read_data(&mut block), DataIn::Good);
+    Ok(())
+}
+
+#[test]
+fn writes_each_exchange(rt: HostRuntime) -> Result<(), Fail> {
+    let long = [0x3f, 0, 0, 0, 0, 0, 0, 0, 0, 0, 0, 0, 0, 0, 0, 0, 0x01];
+    let rows: [(Exchange, &[u8]); 8] = [
+        (
+            Exchange::Command {
+                frame: encode(0, 0),
+                reply: Reply::Silent,
+            },
+            b"cmd 400000000095 rsp none\n",
+        ),
+        (
+            Exchange::Command {
+                frame: [0x42, 0, 0, 0, 0, 0x4d],
+                reply: Reply::Long(long),
+            },
+            b"cmd 42000000004d rsp 3f00000000000000000000000000000001\n",
+        ),
+        (
+            Exchange::In {
+                len: 8,
+                got: DataIn::Bad,
+            },
+            b"in 8 bad\n",
+        ),
+        (
+            Exchange::In {
+                len: 64,
+                got: DataIn::Nothing,
+            },
+            b"in 64 nothing\n",
+        ),
+        (
+            Exchange::Out {
+                got: DataOut::Accepted,
+            },
+            b"out accepted\n",
+        ),
+        (
+            Exchange::Out {
+                got: DataOut::Rejected,
+            },
+            b"out rejected\n",
+        ),
+        (
+            Exchange::Out {
+                got: DataOut::Nothing,
+            },
+            b"out nothing\n",
+        ),
+        (Exchange::Busy { yes: true }, b"busy yes\n"),
+    ];
+    for (exchange, line) in rows {
+        let mut text = Vec::new(rt.alloc());
+        assert!(rt; exchange.write_line(&mut text).is_ok());
+        assert!(rt; text.as_slice() == line);
+    }
+    Ok(())
+}
