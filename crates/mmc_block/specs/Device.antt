@@ -1,6 +1,5 @@
 -- What contracts see of a device.
-use Rattle.std.specs.Prelude.{◌≡◌, ℕ, ◌+◌, ◌*◌, ◌^◌, ◌<◌, ◌≤◌, Bool, true, false, List, [], ◌∷◌, ◌++◌, length, map, Option, Some, None, ◌⊎◌}
-use Rattle.mmc_bus.specs.declared.part.Part.{Part}
+use Rattle.std.specs.Prelude.{◌≡◌, ℕ, ◌+◌, ◌*◌, ◌^◌, ◌<◌, ◌≤◌, Bool, true, false, not, ◌&&◌, List, [], ◌∷◌, ◌++◌, length, map, None}
 use Rattle.mmc_block.specs.declared.completion.Answer.{Answer}
 use Rattle.mmc_block.specs.declared.completion.Answer.TheVariants.{Done, Data, Failed}
 use Rattle.mmc_block.specs.declared.completion.Completion.{Completion}
@@ -65,12 +64,22 @@ Fits (Write part start count bytes) Done = Unit {0}
 Fits (Write part start count bytes) (Data bytes') = ⊥
 Fits (Write part start count bytes) (Failed cause) = Unit {0}
 
+abbrev pub is_failed : Answer → Bool
+is_failed Done = false
+is_failed (Data bytes) = false
+is_failed (Failed cause) = true
+
 -- the oldest of those that wait is answered, under its ticket and client, and waits no longer
 abbrev pub AnswersOldest : List Waiting → List Completion → List Waiting → Type 0
 AnswersOldest [] completions later = (completions ≡ []) × (later ≡ [])
 AnswersOldest (w ∷ ws) completions later =
     (answer : Answer) × Fits w.request answer
     × (completions ≡ record { ticket = w.ticket; client = w.client; answer = answer } ∷ []) × (later ≡ ws)
+
+-- no answer is a failure
+abbrev pub none_failed : List Completion → Bool
+none_failed [] = true
+none_failed (c ∷ cs) = not (is_failed c.answer) && none_failed cs
 
 -- each answer is a failure for want of recovery
 abbrev pub AllForRecovery : List Completion → Type 0

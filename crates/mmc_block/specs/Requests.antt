@@ -1,12 +1,8 @@
 -- What a request names.
-use Rattle.std.specs.Prelude.{◌≡◌, ℕ, ◌+◌, ◌*◌, Bool, true, false, not, ◌&&◌, ◌||◌, ◌==◌, nat_lt, nat_le, ◌^◌, ◌-◌, if◌then◌else◌, length, Option, Some, None}
+use Rattle.std.specs.Prelude.{ℕ, ◌*◌, Bool, true, false, ◌==◌, length}
 use Rattle.mmc_bus.specs.declared.part.Part.{Part}
 use Rattle.mmc_block.specs.declared.request.Request.{Request}
 use Rattle.mmc_block.specs.declared.request.Request.TheVariants.{Read, Write}
-use Rattle.mmc_block.specs.declared.refused.Refused.{Refused}
-use Rattle.mmc_block.specs.declared.refused.Refused.TheVariants.{NoSuchPartition, Empty, TooLong, OutOfRange, WrongLength, ReadOnly, Full, NoMemory}
-use Rattle.mmc_block.specs.declared.info.Info.{Info}
-use Rattle.mmc_block.specs.Info.{sectors_of}
 
 abbrev pub part_of : Request → Part
 part_of (Read part start count) = part

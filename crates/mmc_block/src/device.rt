@@ -10,6 +10,7 @@ use std::marker::Model;
 ///
 /// Where a transfer fails the device can't bring the card back in order yet: it answers every later request
 /// `Failed` with the cause `Recovery`, without an exchange.
+#[derive(Drop)]
 pub struct BlockDev<B: Bus> {
     pub(crate) bus: B,
     pub(crate) info: Info,
@@ -49,7 +50,7 @@ impl<B: Bus> BlockDev<B> {
         ensures work { result ≡ length self.now.waits }
         ensures bounded { result ≤ 131072 * length self.now.waits }
     {
-        self.waits.len() as u64
+        self.waiting() as u64
     }
 
     /// The bus, for another use of the card. A request that waits gets no answer.

@@ -18,3 +18,6 @@ pub use info::Info;
 pub use refused::Refused;
 pub use request::{MAX_COUNT, Request};
 pub use submit::{MAX_WAITING, Ticket};
+
+#[cfg(test)]
+mod tests;

@@ -1,4 +1,4 @@
-ghost use Rattle.std.specs.Prelude.{◌≡◌, ◌<◌, ◌≤◌, ◌^◌, [], false, length, true};
+ghost use Rattle.std.specs.Prelude.{◌&&◌, ◌≡◌, ◌<◌, ◌≤◌, ◌^◌, [], false, length, true};
 ghost use Rattle.mmc_block.specs.Device.{Fits};
 ghost use Rattle.mmc_block.specs.Requests.{count_of, has_its_bytes, room_of, start_of};
 
@@ -43,15 +43,17 @@ fn carry_out<B: Bus>(bus: &mut B, request: Request, mut buffer: Bytes) -> Answer
 }
 
 impl<B: Bus> BlockDev<B> {
-    ghost use Rattle.mmc_block.specs.Device.{AllForRecovery, AnswersOldest};
+    ghost use Rattle.mmc_block.specs.Device.{AllForRecovery, AnswersOldest, none_failed};
 
-    /// Serves the oldest request that waits, and gives its answer. Where nothing waits there is no exchange and no answer.
+    /// Serves the oldest request that waits, and gives its answer. Where nothing waits there is no exchange and no
+    /// answer. After a failure every later answer is `Failed` with the cause `Recovery`, without an exchange.
     pub fn turn(&mut self) -> ArrayVec<Completion, 16>
         ensures oldest { AnswersOldest self.old.waits result.items self.new.waits }
         ensures lowers { 0 < length self.old.waits → length self.new.waits < length self.old.waits }
         ensures stays { (self.new.info ≡ self.old.info) × (self.new.next ≡ self.old.next) }
         ensures idle { self.old.waits ≡ [] → self.new ≡ self.old }
-        ensures recovery { self.old.is_ready ≡ false → (self.new.bus ≡ self.old.bus) × (self.new.is_ready ≡ false) × AllForRecovery result.items }
+        ensures ready { self.new.is_ready ≡ (self.old.is_ready && none_failed result.items) }
+        ensures recovery { self.old.is_ready ≡ false → (self.new.bus ≡ self.old.bus) × AllForRecovery result.items }
     {
         let mut completions = ArrayVec::new();
         if let Some(entry) = self.waits.pop_front() {

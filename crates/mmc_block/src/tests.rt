@@ -1,0 +1,177 @@
+use crate::*;
+use mmc_bus::{
+    Bus, Bytes, DataIn, DataOut, Exchange, Part, PlainCard, Reply, Timing, TraceBus, Want, Width,
+    Wire,
+};
+use std::test::Fail;
+
+// A bus on which nothing answers.
+#[derive(Drop)]
+struct Dead {
+    wire: Wire,
+}
+
+impl Bus for Dead {
+    ghost use Rattle.mmc_bus.specs.Side.{side_of};
+
+    ghost side = { λ bus. side_of bus.wire };
+
+    fn command(&mut self, frame: [u8; 6], want: Want) -> Reply {
+        let _ = want;
+        self.wire.note(Exchange::Command {
+            frame,
+            reply: Reply::Silent,
+        });
+        Reply::Silent
+    }
+
+    fn read_data(&mut self, buffer: &mut [u8]) -> DataIn {
+        self.wire.note(Exchange::In {
+            len: buffer.len(),
+            got: DataIn::Nothing,
+        });
+        DataIn::Nothing
+    }
+
+    fn write_data(&mut self, block: &[u8; 512]) -> DataOut {
+        let _ = block;
+        self.wire.note(Exchange::Out {
+            got: DataOut::Nothing,
+        });
+        DataOut::Nothing
+    }
+
+    fn busy(&mut self) -> bool {
+        self.wire.note(Exchange::Busy { yes: true });
+        true
+    }
+
+    fn set_lines(&mut self, width: Width, timing: Timing) {
+        self.wire.set_lines(width, timing);
+    }
+}
+
+#[test]
+fn serves_requests_in_order(rt: HostRuntime) -> Result<(), Fail> {
+    let card = PlainCard::new(rt.alloc(), 4).ok().ok_or("no card")?;
+    let bus = TraceBus::new(rt.alloc(), card, 16).ok().ok_or("no trace")?;
+    let mut device = BlockDev::open_plain(rt.alloc(), bus, 4)
+        .ok()
+        .ok_or("no device")?;
+    assert_eq!(rt; device.info().sectors(Part::User), Some(4));
+    assert_eq!(rt; device.info().sectors(Part::Boot1), None);
+    assert!(rt; !device.info().read_only);
+
+    assert!(rt; device.turn().is_empty(), "nothing waits");
+    assert_eq!(rt; device.work_left(), 0);
+
+    let bytes = Bytes::new(vec![in rt.alloc(); 0x5a; 512]?);
+    let write = Request::Write {
+        part: Part::User,
+        start: 3,
+        count: 1,
+        bytes,
+    };
+    assert_eq!(rt; device.submit(rt.alloc(), 7, write).ok(), Some(0));
+    let read = Request::Read {
+        part: Part::User,
+        start: 3,
+        count: 1,
+    };
+    assert_eq!(rt; device.submit(rt.alloc(), 8, read).ok(), Some(1));
+    assert_eq!(rt; device.waiting(), 2);
+
+    let mut answers = device.turn();
+    match answers.pop() {
+        Some(
+            Completion {
+                ticket: 0,
+                client: 7,
+                answer: Answer::Done,
+            },
+        ) => {}
+        _ => assert!(rt; false),
+    }
+    let mut answers = device.turn();
+    match answers.pop() {
+        Some(
+            Completion {
+                ticket: 1,
+                client: 8,
+                answer: Answer::Data(bytes),
+            },
+        ) => {
+            assert!(rt; bytes.as_slice().len() == 512);
+            assert!(rt; bytes.as_slice().iter().all(|byte| *byte == 0x5a));
+        }
+        _ => assert!(rt; false),
+    }
+    // CMD24, the block, a poll and CMD13; CMD17 and the block
+    assert_eq!(rt; device.close().len(), 6);
+    Ok(())
+}
+
+// The first refusal in the order of `Refused` comes, with the request.
+#[test]
+fn refuses_in_order(rt: HostRuntime) -> Result<(), Fail> {
+    let card = PlainCard::new(rt.alloc(), 4).ok().ok_or("no card")?;
+    let mut device = BlockDev::open_plain(rt.alloc(), card, 4)
+        .ok()
+        .ok_or("no device")?;
+    for (part, start, count, len, refused) in [
+        (Part::Boot1, 9, 0, 1, Refused::NoSuchPartition),
+        (Part::User, 9, 0, 1, Refused::Empty),
+        (Part::User, 9, 2, 1, Refused::TooLong),
+        (Part::User, u64::MAX, 1, 1, Refused::OutOfRange),
+        (Part::User, 3, 1, 511, Refused::WrongLength),
+    ] {
+        let bytes = Bytes::new(vec![in rt.alloc(); 0; len]?);
+        match device.submit(
+            rt.alloc(),
+            1,
+            Request::Write {
+                part,
+                start,
+                count,
+                bytes,
+            },
+        ) {
+            Err((Request::Write { start: back, .. }, why)) => {
+                assert_eq!(rt; back, start);
+                assert_eq!(rt; why, refused);
+            }
+            _ => assert!(rt; false),
+        }
+        assert_eq!(rt; device.waiting(), 0);
+    }
+    Ok(())
+}
+
+#[test]
+fn fails_once_by_the_bus_and_then_for_recovery(rt: HostRuntime) -> Result<(), Fail> {
+    let bus = TraceBus::new(rt.alloc(), Dead { wire: Wire::new() }, 9)
+        .ok()
+        .ok_or("no trace")?;
+    let mut device = BlockDev::open_plain(rt.alloc(), bus, 4)
+        .ok()
+        .ok_or("no device")?;
+    for (ticket, cause) in [(0, Cause::Answer), (1, Cause::Recovery)] {
+        let read = Request::Read {
+            part: Part::User,
+            start: 0,
+            count: 1,
+        };
+        assert_eq!(rt; device.submit(rt.alloc(), 1, read).ok(), Some(ticket));
+        match device.turn().pop() {
+            Some(
+                Completion {
+                    answer: Answer::Failed(why),
+                    ..
+                },
+            ) => assert_eq!(rt; why, cause),
+            _ => assert!(rt; false),
+        }
+    }
+    assert_eq!(rt; device.close().len(), 1);
+    Ok(())
+}
