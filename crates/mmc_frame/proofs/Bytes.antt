@@ -1,11 +1,11 @@
 -- The check of a string of bytes is got byte by byte.
-use Rattle.std.proofs.Common.{◌≡◌, ℕ, zero, suc, ◌+◌, ◌-◌, ◌*◌, ◌/◌, ◌%◌, ◌^◌, ◌<◌, ◌≤◌, ◌⊎◌, inl, inr, List, [], ◌∷◌, ◌++◌, length, replicate, Bool, true, false, cond, ◌&&◌, refl, sym, ◌∙◌, ap, arith, rules, append_assoc, append-nil, bit_xor, get_or}
+use Rattle.std.proofs.Common.{◌≡◌, ℕ, zero, suc, ◌*◌, ◌/◌, ◌%◌, ◌<◌, inl, inr, List, [], ◌∷◌, ◌++◌, length, replicate, Bool, true, false, cond, ◌&&◌, refl, sym, ◌∙◌, ap, arith, append_assoc, append-nil, bit_xor}
 use Rattle.std.specs.Prelude.{nat_eq, slice_index, ◌==◌}
 use Rattle.std.proofs.lemmas.Bool.{cases_eq, eqb-true, eq-eqb, ne_eqb}
-use Rattle.std.specs.Int.Bits.{xor_self, xor_zero_l, xor_zero_r, xor_assoc}
+use Rattle.std.specs.Int.Bits.{xor_self, xor_zero_r, xor_assoc}
 use Rattle.mmc_frame.specs.Check.{times_x, power, remainder, bits_of, byte_bits}
 use Rattle.mmc_frame.specs.declared.check.TheConstants.{SHIFTED}
-use Rattle.mmc_frame.proofs.Linear.{same_from_xor, eight, eight_linear, eight-lt, times_x_is, times_x-lt, times_x_linear, pushed, pushed-lt, remainder-push, remainder-lt}
+use Rattle.mmc_frame.proofs.Linear.{same_from_xor, eight, eight_linear, times_x_is, times_x-lt, times_x_linear, pushed, pushed-lt, remainder-push, remainder-lt}
 use Rattle.std.proofs.lemmas.Nat.{xor_lt}
 
 -- x^k times p

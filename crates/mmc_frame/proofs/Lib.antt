@@ -1,3 +1,6 @@
 pub mod Linear
 pub mod Bytes
 pub mod Frames
+pub mod Powers
+pub mod Flipped
+pub mod FlippedFrames

@@ -1,0 +1,2 @@
+pub mod ExtCsd
+pub mod Partition

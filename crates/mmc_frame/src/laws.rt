@@ -1,0 +1,20 @@
+//! Laws about the frames. Each function does nothing; its contract is the law, which a caller then knows.
+ghost use Rattle.std.specs.Prelude.{ℕ};
+ghost use Rattle.mmc_frame.specs.Flips.{RefusesFlips, is_command, is_r2, is_r6, is_r7, is_response_to};
+
+/// A sound command with one bit or two flipped is no sound command.
+pub fn flipped_command_is_refused()
+    ensures { RefusesFlips 6 is_command is_command }
+{}
+
+/// A sound R1, R6 or R7 with one bit or two flipped is refused, whichever command it is taken to answer.
+pub fn flipped_response_is_refused()
+    ensures r1 { (index other : ℕ) → RefusesFlips 6 (is_response_to index) (is_response_to other) }
+    ensures r6 { RefusesFlips 6 is_r6 is_r6 }
+    ensures r7 { RefusesFlips 6 is_r7 is_r7 }
+{}
+
+/// A sound R2 with one bit or two flipped is refused.
+pub fn flipped_register_is_refused()
+    ensures { RefusesFlips 17 is_r2 is_r2 }
+{}
