@@ -1,0 +1,10 @@
+pub mod CardFile
+pub mod Data
+pub mod Input
+pub mod Lines
+pub mod Numbers
+pub mod Options
+pub mod Output
+pub mod Parts
+pub mod Script
+pub mod Words

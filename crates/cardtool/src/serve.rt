@@ -1,0 +1,198 @@
+// Serves a script on a card, and prints what becomes of its requests.
+ghost use Rattle.std.specs.Prelude.{◌<◌, ◌≤◌, length};
+ghost use Rattle.std.specs.Option.{ForSome};
+
+use crate::card_file::read_card;
+use crate::event::Event;
+use crate::fault::ServeFault;
+use crate::input::{ReadFault, read_bounded};
+use crate::output::{has_failure, put_completions, put_queued, put_refused};
+use crate::script::{Script, read_script};
+use mmc_block::{BlockDev, Request};
+use mmc_bus::{Bus, PlainCard, TraceBus};
+use std::alloc::Global;
+use std::io::{self, Read, Write};
+use text_out::{Piece, put_pieces};
+
+/// The most bytes of a card file.
+const MAX_CARD_FILE: usize = 65_536;
+/// The most bytes of a script.
+const MAX_SCRIPT: usize = 1_048_576;
+
+/// The exit status where every request was answered `Done` or `Data`.
+const ALL_WELL: u8 = 0;
+/// The exit status where some request failed or was refused.
+const SOME_FAILED: u8 = 1;
+
+// One turn, and a line for each completion. The answer of this and the next functions says whether some request
+// failed or was refused.
+fn turn<B: Bus, W: Write>(device: &mut BlockDev<B>, out: &mut W) -> io::Result<bool>
+    ensures { 0 < length device.old.waits → length device.new.waits < length device.old.waits }
+{
+    let completions = device.turn();
+    put_completions(out, completions.as_slice())?;
+    Ok(has_failure(completions.as_slice()))
+}
+
+// Turns until nothing waits.
+fn run<B: Bus, W: Write>(device: &mut BlockDev<B>, out: &mut W) -> io::Result<bool> {
+    let mut bad = false;
+    while device.waiting() > 0 {
+        bad = turn(device, out)? | bad;
+    }
+    Ok(bad)
+}
+
+// A submission, with its line.
+fn submit<B: Bus, W: Write>(
+    alloc: Global,
+    device: &mut BlockDev<B>,
+    client: u32,
+    request: Request,
+    out: &mut W,
+) -> io::Result<bool> {
+    match device.submit(alloc, client, request) {
+        Ok(ticket) => {
+            put_queued(out, ticket, client)?;
+            Ok(false)
+        }
+        Err((_, refused)) => {
+            put_refused(out, client, refused)?;
+            Ok(true)
+        }
+    }
+}
+
+// One event, with its lines.
+fn serve_event<B: Bus, W: Write>(
+    alloc: Global,
+    device: &mut BlockDev<B>,
+    event: Event,
+    out: &mut W,
+) -> io::Result<bool> {
+    match event {
+        Event::Submit { client, request } => submit(alloc, device, client, request, out),
+        Event::Turn => turn(device, out),
+        Event::Run => run(device, out),
+    }
+}
+
+// All events of a script, and then turns until nothing waits.
+fn serve_events<B: Bus, W: Write>(
+    alloc: Global,
+    device: &mut BlockDev<B>,
+    script: Script,
+    out: &mut W,
+) -> io::Result<bool> {
+    let mut script = script;
+    let mut bad = false;
+    while let Some(event) = script.take_first() {
+        bad = serve_event(alloc, device, event, out)? | bad;
+    }
+    Ok(run(device, out)? | bad)
+}
+
+// Serves a script on the card of a bus, and gives the bus back.
+fn serve_on<B: Bus + Drop, W: Write>(
+    alloc: Global,
+    bus: B,
+    sectors: u64,
+    script: Script,
+    out: &mut W,
+) -> Result<(B, u8), ServeFault>
+    requires some { 1 ≤ sectors }
+    requires few { sectors ≤ 65536 }
+{
+    let mut device = match BlockDev::open_plain(alloc, bus, sectors) {
+        Ok(device) => device,
+        Err(_) => return Err(ServeFault::NoMemory),
+    };
+    let served = serve_events(alloc, &mut device, script, out);
+    let bus = device.close();
+    match served {
+        Ok(bad) => Ok((bus, if bad { SOME_FAILED } else { ALL_WELL })),
+        Err(_) => Err(ServeFault::Write),
+    }
+}
+
+// Serves a script, and writes the last `n` exchanges.
+fn serve_traced<W: Write>(
+    alloc: Global,
+    card: PlainCard,
+    sectors: u64,
+    script: Script,
+    n: u32,
+    out: &mut W,
+) -> Result<u8, ServeFault>
+    requires some { 1 ≤ sectors }
+    requires few { sectors ≤ 65536 }
+    requires one { 1 ≤ n }
+    requires many { n ≤ 65536 }
+{
+    let Ok(bus) = TraceBus::new(alloc, card, n as usize) else {
+        return Err(ServeFault::NoMemory);
+    };
+    let (bus, status) = serve_on(alloc, bus, sectors, script, out)?;
+    match put_trace(&bus, out) {
+        Ok(()) => Ok(status),
+        Err(_) => Err(ServeFault::Write),
+    }
+}
+
+// Writes `trace K` and a line for each of the K exchanges that are kept.
+fn put_trace<W: Write>(bus: &TraceBus<PlainCard>, out: &mut W) -> io::Result<()> {
+    put_pieces(
+        out,
+        &[
+            Piece::Text(b"trace "),
+            Piece::Number(bus.len() as u64),
+            Piece::Text(b"\n"),
+        ],
+    )?;
+    bus.write_lines(out)
+}
+
+// The whole of an input, or its fault, `unread` where the reader failed.
+fn whole<R: Read>(
+    alloc: Global,
+    reader: &mut R,
+    limit: usize,
+    unread: ServeFault,
+) -> Result<Vec<u8>, ServeFault> {
+    match read_bounded(alloc, reader, limit) {
+        Ok(bytes) => Ok(bytes),
+        Err(ReadFault::Reader) => Err(unread),
+        Err(ReadFault::TooLong) => Err(ServeFault::TooLong),
+        Err(ReadFault::NoMemory) => Err(ServeFault::NoMemory),
+    }
+}
+
+/// Serves a script on the card of a card file, with a line for each answer, and gives the exit status: 0 where every
+/// request was answered `Done` or `Data`, 1 where some request failed or was refused. With `trace`, from 1 to 65,536,
+/// the last so many exchanges follow.
+///
+/// # Errors
+/// The first fault in this order: the card file is read, then parsed, then the script is read, then parsed, then the
+/// card, the trace and the device are made. Nothing was written then. `Write` comes where a write failed; a front of
+/// the text went out.
+pub fn serve<C: Read, S: Read, W: Write>(
+    alloc: Global,
+    card: &mut C,
+    script: &mut S,
+    trace: Option<u32>,
+    out: &mut W,
+) -> Result<u8, ServeFault>
+    requires { ForSome trace (λ n. (1 ≤ n) × (n ≤ 65536)) }
+{
+    let card_file = whole(alloc, card, MAX_CARD_FILE, ServeFault::ReadCard)?;
+    let sectors = read_card(card_file.as_slice())?;
+    let text = whole(alloc, script, MAX_SCRIPT, ServeFault::ReadScript)?;
+    let script = read_script(alloc, text.as_slice())?;
+    let Ok(card) = PlainCard::new(alloc, sectors as usize) else {
+        return Err(ServeFault::NoMemory);
+    };
+    match trace {
+        Some(n) => serve_traced(alloc, card, sectors, script, n, out),
+        None => Ok(serve_on(alloc, card, sectors, script, out)?.1),
+    }
+}
