@@ -1,55 +1,7 @@
 use crate::*;
-use mmc_bus::{
-    Bus, Bytes, DataIn, DataOut, Exchange, Part, PlainCard, Reply, Timing, TraceBus, Want, Width,
-    Wire,
-};
+use mmc_bus::{Bytes, Part, PlainCard, ScriptedBus, TraceBus};
+use std::collections::VecDeque;
 use std::test::Fail;
-
-// A bus on which nothing answers.
-#[derive(Drop)]
-struct Dead {
-    wire: Wire,
-}
-
-impl Bus for Dead {
-    ghost use Rattle.mmc_bus.specs.Side.{side_of};
-
-    ghost side = { λ bus. side_of bus.wire };
-
-    fn command(&mut self, frame: [u8; 6], want: Want) -> Reply {
-        let _ = want;
-        self.wire.note(Exchange::Command {
-            frame,
-            reply: Reply::Silent,
-        });
-        Reply::Silent
-    }
-
-    fn read_data(&mut self, buffer: &mut [u8]) -> DataIn {
-        self.wire.note(Exchange::In {
-            len: buffer.len(),
-            got: DataIn::Nothing,
-        });
-        DataIn::Nothing
-    }
-
-    fn write_data(&mut self, block: &[u8; 512]) -> DataOut {
-        let _ = block;
-        self.wire.note(Exchange::Out {
-            got: DataOut::Nothing,
-        });
-        DataOut::Nothing
-    }
-
-    fn busy(&mut self) -> bool {
-        self.wire.note(Exchange::Busy { yes: true });
-        true
-    }
-
-    fn set_lines(&mut self, width: Width, timing: Timing) {
-        self.wire.set_lines(width, timing);
-    }
-}
 
 #[test]
 fn serves_requests_in_order(rt: HostRuntime) -> Result<(), Fail> {
@@ -149,9 +101,8 @@ fn refuses_in_order(rt: HostRuntime) -> Result<(), Fail> {
 
 #[test]
 fn fails_once_by_the_bus_and_then_for_recovery(rt: HostRuntime) -> Result<(), Fail> {
-    let bus = TraceBus::new(rt.alloc(), Dead { wire: Wire::new() }, 9)
-        .ok()
-        .ok_or("no trace")?;
+    let silent = ScriptedBus::new(VecDeque::new(rt.alloc()));
+    let bus = TraceBus::new(rt.alloc(), silent, 9).ok().ok_or("no trace")?;
     let mut device = BlockDev::open_plain(rt.alloc(), bus, 4)
         .ok()
         .ok_or("no device")?;

@@ -1,1 +1,11 @@
+pub mod CardRows
+pub mod Cards
 pub mod ExchangeLines
+pub mod FaultCount
+pub mod Landing
+pub mod Narrow
+pub mod NarrowSteps
+pub mod PlainLemmas
+pub mod PlainSteps
+pub mod SectorLemmas
+pub mod Standing

@@ -6,9 +6,11 @@ mod bytes;
 mod chip;
 pub mod commands;
 mod exchange_text;
+pub mod laws;
 mod memory;
 mod part;
 mod plain;
+mod scripted;
 mod trace;
 mod wire;
 
@@ -17,6 +19,7 @@ pub use bytes::Bytes;
 pub use memory::NoMemory;
 pub use part::Part;
 pub use plain::PlainCard;
+pub use scripted::{BusAnswer, ScriptedBus};
 pub use trace::TraceBus;
 pub use wire::Wire;
 

@@ -1,22 +1,28 @@
 ghost use Rattle.std.specs.Prelude.{◌≡◌, ◌≤◌, IfOk, replicate};
-ghost use Rattle.mmc_bus.specs.Side.{side_of};
 
-use crate::bus::{Bus, DataIn, DataOut, Exchange, Lines, Reply, Timing, Want, Width};
+use crate::bus::{Bus, DataIn, DataOut, Exchange, Reply, Timing, Want, Width};
 use crate::chip::Chip;
 use crate::memory::NoMemory;
 use crate::wire::Wire;
 use std::alloc::Global;
 
 /// A faithful byte-addressed SD card with RCA 1 that is already selected: in tran, with one line at default speed and
-/// blocks of 512 bytes. It knows CMD13, CMD17 and CMD24, and is never busy at a poll.
+/// blocks of 512 bytes. It is never busy at a poll.
+///
+/// It keeps to the card relation as long as each command is CMD13, CMD17, CMD24 or no sound command; any other it takes
+/// as illegal, and from then on it isn't kept.
 #[derive(Debug, Drop)]
 pub struct PlainCard {
     chip: Chip,
     wire: Wire,
+    // No command came that the card doesn't know.
+    is_kept: bool,
 }
 
 impl PlainCard {
-    ghost use Rattle.mmc_bus.specs.PlainCard.{contents_of};
+    ghost use Rattle.std.specs.Prelude.{true};
+    ghost use Rattle.mmc_frame.specs.declared.card_state.State.TheVariants as State;
+    ghost use Rattle.mmc_bus.specs.PlainCard.{contents_of, plain_side};
 
     /// A card of this many sectors, from 1 to 65,536, that are all 00h.
     ///
@@ -25,40 +31,33 @@ impl PlainCard {
     pub fn new(alloc: Global, sectors: usize) -> Result<PlainCard, NoMemory>
         requires some { 1 ≤ sectors }
         requires few { sectors ≤ 65536 }
-        ensures { IfOk result (λ card. contents_of card ≡ replicate sectors (replicate 512 0)) }
+        ensures contents { IfOk result (λ card. contents_of card ≡ replicate sectors (replicate 512 0)) }
+        ensures kept { IfOk result (λ card. (plain_side card).is_kept ≡ true) }
+        ensures tran { IfOk result (λ card. (plain_side card).card.state ≡ State.Tran) }
     {
         Ok(PlainCard {
             chip: Chip::new(alloc, sectors)?,
             wire: Wire::new(),
+            is_kept: true,
         })
-    }
-
-    // Whether the lines of the host are those of the card.
-    fn lines_fit(&self) -> bool {
-        self.wire.lines
-            == Lines {
-                width: Width::One,
-                timing: Timing::Default,
-            }
     }
 }
 
 impl Bus for PlainCard {
-    ghost side = { λ card. side_of card.wire };
+    ghost use Rattle.mmc_bus.specs.PlainCard.{plain_side};
+
+    ghost side = { plain_side };
 
     fn command(&mut self, frame: [u8; 6], want: Want) -> Reply {
         let _ = want;
+        self.is_kept = self.is_kept && Chip::knows(&frame);
         let reply = self.chip.command(&frame);
         self.wire.note(Exchange::Command { frame, reply });
         reply
     }
 
     fn read_data(&mut self, buffer: &mut [u8]) -> DataIn {
-        let got = if self.lines_fit() {
-            self.chip.send(buffer)
-        } else {
-            DataIn::Nothing
-        };
+        let got = self.chip.send(self.wire.lines, buffer);
         self.wire.note(Exchange::In {
             len: buffer.len(),
             got,
@@ -67,11 +66,7 @@ impl Bus for PlainCard {
     }
 
     fn write_data(&mut self, block: &[u8; 512]) -> DataOut {
-        let got = if self.lines_fit() {
-            self.chip.take(block)
-        } else {
-            DataOut::Nothing
-        };
+        let got = self.chip.take(self.wire.lines, block);
         self.wire.note(Exchange::Out { got });
         got
     }

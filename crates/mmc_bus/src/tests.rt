@@ -1,6 +1,7 @@
 use crate::commands::{READ_SINGLE_BLOCK, SEND_STATUS, WRITE_BLOCK};
 use crate::*;
 use mmc_frame::encode;
+use std::collections::VecDeque;
 use std::test::Fail;
 
 // The argument that names the card.
@@ -165,5 +166,44 @@ fn writes_each_exchange(rt: HostRuntime) -> Result<(), Fail> {
         assert!(rt; exchange.write_line(&mut text).is_ok());
         assert!(rt; text.as_slice() == line);
     }
+    Ok(())
+}
+
+// Each kind of exchange takes the next answer only where it is of that kind.
+#[test]
+fn scripted_answers_go_by_kind(rt: HostRuntime) -> Result<(), Fail> {
+    let mut answers = VecDeque::new(rt.alloc());
+    let reply = Reply::Short([0x0d, 0x00, 0x00, 0x09, 0x00, 0x3f]);
+    let bytes = Bytes::new(vec![in rt.alloc(); 1, 2, 3]?);
+    answers
+        .push_back(BusAnswer::Command(reply))
+        .ok()
+        .ok_or("no room")?;
+    answers
+        .push_back(BusAnswer::In(DataIn::Good, bytes))
+        .ok()
+        .ok_or("no room")?;
+    answers
+        .push_back(BusAnswer::Out(DataOut::Rejected))
+        .ok()
+        .ok_or("no room")?;
+    answers
+        .push_back(BusAnswer::Busy(true))
+        .ok()
+        .ok_or("no room")?;
+    let mut bus = ScriptedBus::new(answers);
+    let status = encode(SEND_STATUS, RCA);
+    assert!(rt; !bus.busy());
+    assert_eq!(rt; bus.command(status, Want::Short), reply);
+    assert_eq!(rt; bus.command(status, Want::Short), Reply::Silent);
+    assert_eq!(rt; bus.write_data(&[0; 512]), DataOut::Nothing);
+    let mut buffer = [9; 4];
+    assert_eq!(rt; bus.read_data(&mut buffer), DataIn::Good);
+    assert!(rt; buffer == [1, 2, 3, 0]);
+    assert_eq!(rt; bus.read_data(&mut buffer), DataIn::Nothing);
+    assert_eq!(rt; bus.write_data(&[0; 512]), DataOut::Rejected);
+    bus.set_lines(Width::Four, Timing::High);
+    assert!(rt; bus.busy());
+    assert!(rt; !bus.busy());
     Ok(())
 }

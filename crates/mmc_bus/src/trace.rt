@@ -1,6 +1,6 @@
 ghost use Rattle.std.specs.Prelude.{◌≡◌, ◌≤◌, [], length, slice_get, IfErr, IfOk};
 ghost use Rattle.mmc_bus.specs.ExchangeText.{lines_text};
-ghost use Rattle.mmc_bus.specs.Side.{Exchanged, SetsLines};
+ghost use Rattle.mmc_bus.specs.Exchanges.{Commanded, Given, Polled, SetsLines, Taken};
 ghost use Rattle.mmc_bus.specs.declared.bus.Exchange.TheVariants.{Busy, Command, In, Out};
 ghost use Rattle.text_out.specs.Writing.{Writes};
 
@@ -86,7 +86,7 @@ impl<B: Bus> Bus for TraceBus<B> {
     ghost side = { λ t. B.side t.bus };
 
     fn command(&mut self, frame: [u8; 6], want: Want) -> Reply
-        ensures exchanged { Exchanged (B.side self.old.bus) (Command frame result) (B.side self.new.bus) }
+        ensures exchanged { Commanded (B.side self.old.bus) frame result (B.side self.new.bus) }
         ensures traced { Traces self.old (Command frame result) self.new }
     {
         let reply = self.bus.command(frame, want);
@@ -95,7 +95,7 @@ impl<B: Bus> Bus for TraceBus<B> {
     }
 
     fn read_data(&mut self, buffer: &mut [u8]) -> DataIn
-        ensures exchanged { Exchanged (B.side self.old.bus) (In (length buffer.old) result) (B.side self.new.bus) }
+        ensures exchanged { Taken (B.side self.old.bus) (length buffer.old) result buffer.new (B.side self.new.bus) }
         ensures traced { Traces self.old (In (length buffer.old) result) self.new }
     {
         let got = self.bus.read_data(buffer);
@@ -107,7 +107,7 @@ impl<B: Bus> Bus for TraceBus<B> {
     }
 
     fn write_data(&mut self, block: &[u8; 512]) -> DataOut
-        ensures exchanged { Exchanged (B.side self.old.bus) (Out result) (B.side self.new.bus) }
+        ensures exchanged { Given (B.side self.old.bus) block.now result (B.side self.new.bus) }
         ensures traced { Traces self.old (Out result) self.new }
     {
         let got = self.bus.write_data(block);
@@ -116,7 +116,7 @@ impl<B: Bus> Bus for TraceBus<B> {
     }
 
     fn busy(&mut self) -> bool
-        ensures exchanged { Exchanged (B.side self.old.bus) (Busy result) (B.side self.new.bus) }
+        ensures exchanged { Polled (B.side self.old.bus) result (B.side self.new.bus) }
         ensures traced { Traces self.old (Busy result) self.new }
     {
         let yes = self.bus.busy();

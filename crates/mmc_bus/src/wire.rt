@@ -1,5 +1,5 @@
 ghost use Rattle.std.specs.Prelude.{◌≡◌, None};
-ghost use Rattle.mmc_bus.specs.Side.{Exchanged, SetsLines, side_of};
+ghost use Rattle.mmc_bus.specs.Wires.{Notes};
 
 use crate::bus::{Exchange, Lines, Timing, Width};
 
@@ -31,7 +31,7 @@ impl Wire {
 
     /// Keeps an exchange.
     pub fn note(&mut self, exchange: Exchange)
-        ensures { Exchanged (side_of self.old) exchange (side_of self.new) }
+        ensures { Notes self.old exchange self.new }
     {
         self.last = Some(exchange);
         self.exchanges = self.exchanges.saturating_add(1);
@@ -39,7 +39,7 @@ impl Wire {
 
     /// Keeps how the lines are set.
     pub fn set_lines(&mut self, width: Width, timing: Timing)
-        ensures { SetsLines (side_of self.old) width timing (side_of self.new) }
+        ensures { self.new ≡ record self.old { lines = record { width = width; timing = timing } } }
     {
         self.lines = Lines { width, timing };
     }

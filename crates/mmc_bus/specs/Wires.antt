@@ -1,0 +1,38 @@
+-- What a bus keeps of its exchanges at run time, and the side of a bus that keeps nothing else.
+use Rattle.std.specs.Prelude.{◌+◌, ◌-◌, ◌^◌, ◌≡◌, Bool, Some, [], false, min}
+use Rattle.mmc_frame.specs.declared.kind.Kind.TheVariants.{Sd}
+use Rattle.mmc_bus.specs.declared.bus.Exchange.{Exchange}
+use Rattle.mmc_bus.specs.declared.wire.Wire.{Wire}
+use Rattle.mmc_bus.specs.Card.{Card, powered_on}
+use Rattle.mmc_bus.specs.Made.{Made}
+use Rattle.mmc_bus.specs.Side.{Side}
+
+-- an exchange is noted
+pub record Notes (old : Wire) (exchange : Exchange) (new : Wire) : Type 0 where
+  pub lines : new.lines ≡ old.lines
+  pub last : new.last ≡ Some exchange
+  pub exchanges : new.exchanges ≡ min (old.exchanges + 1) (2 ^ 64 - 1)
+
+-- the side with this card, on which no fault has fallen
+abbrev pub side_with : Card → Bool → Wire → Side
+side_with card is_kept wire =
+    record { card = card; lines = wire.lines; last = wire.last; exchanges = wire.exchanges; faults = 0; is_kept = is_kept }
+
+abbrev pub nothing_made : Made
+nothing_made =
+    record {
+      kind = Sd;
+      ocr = 0;
+      cid = [];
+      csd = [];
+      scr = [];
+      ext_csd = [];
+      published = 0;
+      is_locked = false;
+      answers_cmd8 = false;
+      has_high_speed = false;
+    }
+
+-- The side of a bus that never is kept: its card says nothing.
+abbrev pub unkept : Wire → Side
+unkept wire = side_with (powered_on nothing_made []) false wire
