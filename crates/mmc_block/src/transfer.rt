@@ -9,7 +9,7 @@ ghost use Rattle.std.specs.Prelude.{◌≡◌, ◌*◌, ◌<◌, ◌^◌, length
 
 use crate::completion::Cause;
 use bitflags::Flags;
-use mmc_bus::commands::{READ_SINGLE_BLOCK, SEND_STATUS, WRITE_BLOCK};
+use mmc_frame::commands::{READ_SINGLE_BLOCK, SEND_STATUS, WRITE_BLOCK};
 use mmc_bus::{Bus, Bytes, DataIn, DataOut, Reply, Want};
 use mmc_frame::{Kind, encode, errors, is_clean, read_r1};
 

@@ -16,7 +16,7 @@ use Rattle.mmc_bus.specs.Blocks.{accepted, asked_for, can_send, can_take, end_er
 use Rattle.mmc_bus.specs.Card.{AreAmong, AreBlocks, Both, Card, First, FromBytes, FromSectors, Held, IsCard, NoAddress, Source, error_bits, is_in, is_selected, is_writing}
 use Rattle.mmc_bus.specs.Faults.{CommandStep, GiveStep, PollStep, TakeStep, bad_block, brownout, fail, faithful, flip_command, flip_reply, lose_command, lose_reply, lose_status, reject, slow_inquiry, slow_poll}
 use Rattle.mmc_bus.specs.Made.{erased_byte_of_card, erased_sector, has_cmd23, has_switch_function}
-use Rattle.mmc_bus.specs.Rows.{ASendOpCond, ASendScr, ASetBusWidth, AllSendCid, AppCmd, Command, Erase, EraseEnd, EraseStart, GoIdleState, ReadMultipleBlock, ReadSingleBlock, SelectCard, SendCsd, SendExtCsd, SendIfCond, SendOpCond, SendRelativeAddr, SendStatus, SetBlockCount, SetBlocklen, SetRelativeAddr, StopTransmission, SwitchByte, SwitchFunc, Unknown, WriteBlock, WriteMultipleBlock, answered, command_of, is_foreign, is_legal, leaves_erase, reached, responded, row}
+use Rattle.mmc_bus.specs.Rows.{ASendOpCond, ASendScr, ASetBusWidth, AllSendCid, AppCmd, Command, Erase, EraseEnd, EraseStart, GoIdleState, ReadMultipleBlock, ReadSingleBlock, SelectCard, SendCsd, SendExtCsd, SendIfCond, SendOpCond, SendRelativeAddr, SendStatus, SetBlockCount, SetBlocklen, SetRelativeAddr, StopTransmission, SwitchByte, SwitchFunc, Unknown, WriteBlock, WriteMultipleBlock, answered, command_of, is_foreign, is_legal, leaves_erase, reached, responded, row, without_addresses}
 use Rattle.mmc_bus.specs.RowsErase.{erase_held, erases, erasing, forgotten, hold_first, hold_last, holds_address, is_no_range, is_trim}
 use Rattle.mmc_bus.specs.RowsIdentify.{inquired, is_served}
 use Rattle.mmc_bus.specs.RowsSwitch.{ext_csd_now, switch_row, switch_status, switched, timing_after}
@@ -160,9 +160,12 @@ legal_dropped _ c = refl
 
 pub legal_reached : (command : Command) (c : Card) → is_legal command (reached command c) ≡ is_legal command c
 legal_reached command c =
-    elim (not (leaves_erase command) && holds_address c.erase) as (λ b. is_legal command (cond b (raised erase_reset (forgotten c)) c) ≡ is_legal command c) [
-      | true ↦ legal_dropped command c
-      | false ↦ refl
+    elim (leaves_erase command) as (λ b. is_legal command (cond b c (without_addresses c)) ≡ is_legal command c) [
+      | true ↦ refl
+      | false ↦ elim (holds_address c.erase) as (λ b. is_legal command (cond b (raised erase_reset (forgotten c)) c) ≡ is_legal command c) [
+        | true ↦ legal_dropped command c
+        | false ↦ refl
+      ]
     ]
 
 pub card_responded : (choice : Choice) (command : Command) (c : Card) (index argument : ℕ) → IsCard c → IsCard (responded choice command c index argument).0

@@ -1,5 +1,5 @@
 -- Each step of a card leaves a card.
-use Rattle.std.proofs.Common.{◌&&◌, ◌++◌, ◌+◌, ◌∙◌, ◌∷◌, ◌≡◌, ◌⊎◌, Bool, List, [], ap, arith, cond, false, inl, inr, length, not, refl, subst, suc, sym, true, zero, ℕ}
+use Rattle.std.proofs.Common.{◌&&◌, ◌++◌, ◌+◌, ◌∙◌, ◌∷◌, ◌≡◌, ◌⊎◌, Bool, List, [], ap, arith, cond, false, inl, inr, length, refl, subst, suc, sym, true, zero, ℕ}
 use Rattle.std.specs.Prelude.{bit_or, if◌then◌else◌, replicate, slice_index_or}
 use Rattle.mmc_frame.specs.Status.{state_number}
 use Rattle.mmc_frame.specs.declared.card_state.State.{State}
@@ -10,7 +10,7 @@ use Rattle.mmc_bus.specs.Answer.{Choice, com_crc_error, done, erase_reset, garbl
 use Rattle.mmc_bus.specs.Blocks.{polled_once, programmed, rested}
 use Rattle.mmc_bus.specs.Card.{AreAmong, AreBlocks, Card, IsApart, IsCard, NoAddress, complaint_bits, error_bits, is_in, is_selected, is_writing, landed, landed_in, stored}
 use Rattle.mmc_bus.specs.Made.{HasRegisters, first_block_length}
-use Rattle.mmc_bus.specs.Rows.{Command, leaves_erase, reached}
+use Rattle.mmc_bus.specs.Rows.{Command, leaves_erase, reached, without_addresses}
 use Rattle.mmc_bus.specs.RowsErase.{forgotten, holds_address}
 use Rattle.mmc_bus.specs.Sectors.{Sector, part_number}
 use Rattle.std.proofs.lemmas.Nat.Bits.{bit_at_or, same_from_bits}
@@ -233,7 +233,8 @@ card_cond false x y p q = q refl
 
 pub card_reached : (command : Command) (c : Card) → IsCard c → IsCard (reached command c)
 card_reached command c k =
-    card_if (not (leaves_erase command) && holds_address c.erase) (raised erase_reset (forgotten c)) c (λ _. card_dropped c k) (λ _. k)
+    card_if (leaves_erase command) c (without_addresses c) (λ _. k)
+    (λ _. card_if (holds_address c.erase) (raised erase_reset (forgotten c)) c (λ _. card_dropped c k) (λ _. k))
 
 pub card_reset : (lands : ℕ → Bool) (c : Card) → IsCard c → IsCard (reset lands c)
 card_reset lands c k =

@@ -12,23 +12,23 @@ use Rattle.mmc_bus.proofs.SectorLemmas.{by_touch, cond_in_new, cond_in_old, in_c
 use Rattle.mmc_bus.specs.Answer.{Answer, Checked, Choice, Mute, block_len_error, busied, erase_param, erase_reset, garbled, general_error, raised, refused, reset, shown, status}
 use Rattle.mmc_bus.specs.Blocks.{accepted, asked_for, can_send, can_take, polled_once, programmed, rejected, rested, sent_from}
 use Rattle.mmc_bus.specs.Card.{Both, Card, First, FromBytes, FromSectors, Held, NoAddress, Source, at_sector, holds, is_in, known, landed, stored, unfinished}
-use Rattle.mmc_bus.specs.Laws.{Carried, WithinOrTaken, erased_by, erased_by_command, erased_by_held}
-use Rattle.mmc_bus.specs.Rows.{ASendOpCond, ASendScr, ASetBusWidth, AllSendCid, AppCmd, Command, Erase, EraseEnd, EraseStart, GoIdleState, ReadMultipleBlock, ReadSingleBlock, SelectCard, SendCsd, SendExtCsd, SendIfCond, SendOpCond, SendRelativeAddr, SendStatus, SetBlockCount, SetBlocklen, SetRelativeAddr, StopTransmission, SwitchByte, SwitchFunc, Unknown, WriteBlock, WriteMultipleBlock, answered, command_of, is_foreign, is_legal, leaves_erase, reached, responded, row}
+use Rattle.mmc_bus.specs.Laws.{Carried, WithinOrTaken, erased_by, erased_by_command, erased_by_held, maybe_erased}
+use Rattle.mmc_bus.specs.Rows.{ASendOpCond, ASendScr, ASetBusWidth, AllSendCid, AppCmd, Command, Erase, EraseEnd, EraseStart, GoIdleState, ReadMultipleBlock, ReadSingleBlock, SelectCard, SendCsd, SendExtCsd, SendIfCond, SendOpCond, SendRelativeAddr, SendStatus, SetBlockCount, SetBlocklen, SetRelativeAddr, StopTransmission, SwitchByte, SwitchFunc, Unknown, WriteBlock, WriteMultipleBlock, answered, command_of, is_foreign, is_legal, leaves_erase, reached, responded, row, without_addresses}
 use Rattle.mmc_bus.specs.RowsErase.{erase_held, erases, erasing, forgotten, hold_first, hold_last, holds_address, is_no_range, is_trim}
 use Rattle.mmc_bus.specs.RowsIdentify.{inquired, is_served}
 use Rattle.mmc_bus.specs.RowsSwitch.{access_switched, accessed, part_accessed, switch_row, switched, write_byte}
 use Rattle.mmc_bus.specs.RowsTransfer.{begun, preset, transfer_errors, transferred}
-use Rattle.mmc_bus.specs.Sectors.{Change, IsIn, Sector, Within, maybe_changed, part_number, touches, value_of}
+use Rattle.mmc_bus.specs.Sectors.{Change, IsIn, Sector, Sets, Within, maybe_changed, part_number, touches, value_of}
 
 -- made the same, of the same sizes, and no sector may hold more
 pub record Keeps (old new : Card) : Type 0 where
   pub carried : Carried old new
   pub narrows : Within (holds new) (holds old)
 
--- the same, but that the sectors of a change may hold its values too
-pub record Widens (change : Change) (old new : Card) : Type 0 where
+-- the same, but that the sectors that are erased may hold the erased values too
+pub record Widens (change : Option Change) (old new : Card) : Type 0 where
   pub carried : Carried old new
-  pub widens : Within (holds new) (maybe_changed change (holds old))
+  pub widens : Within (holds new) (maybe_erased change (holds old))
 
 pub carried_same : (c : Card) → Carried c c
 carried_same c = record { made = refl; sizes = λ p. refl }
@@ -42,24 +42,32 @@ keeps_same c = record { carried = carried_same c; narrows = within_same (holds c
 pub keeps_then : {a b c : Card} → Keeps a b → Keeps b c → Keeps a c
 keeps_then p q = record { carried = carried_then p.carried q.carried; narrows = λ i s v h. p.narrows i s v (q.narrows i s v h) }
 
-pub wide : (change : Change) (c d : Card) → Keeps c d → Widens change c d
+old_erased : (change : Option Change) (sets : Sets) → Within sets (maybe_erased change sets)
+old_erased (Some change) sets = old_maybe change sets
+old_erased None sets = within_same sets
+
+erased_within : (change : Option Change) (new old : Sets) → Within new old → Within (maybe_erased change new) (maybe_erased change old)
+erased_within (Some change) new old within = maybe_within change new old within
+erased_within None new old within = within
+
+pub wide : (change : Option Change) (c d : Card) → Keeps c d → Widens change c d
 wide change c d k = record {
   carried = k.carried;
-  widens = λ i s v h. old_maybe change (holds c) i s v (k.narrows i s v h);
+  widens = λ i s v h. old_erased change (holds c) i s v (k.narrows i s v h);
 }
 
 -- first nothing is widened, then by a change
-pub wide_then : (change : Change) (a b c : Card) → Keeps a b → Widens change b c → Widens change a c
+pub wide_then : (change : Option Change) (a b c : Card) → Keeps a b → Widens change b c → Widens change a c
 wide_then change a b c p q = record {
   carried = carried_then p.carried q.carried;
-  widens = λ i s v h. maybe_within change (holds b) (holds a) p.narrows i s v (q.widens i s v h);
+  widens = λ i s v h. erased_within change (holds b) (holds a) p.narrows i s v (q.widens i s v h);
 }
 
 keeps_cond : {X : Type 0} (c : Card) (b : Bool) (x y : Card × X) → Keeps c x.0 → Keeps c y.0 → Keeps c (cond b x y).0
 keeps_cond c true x y p q = p
 keeps_cond c false x y p q = q
 
-wide_cond : {X : Type 0} (change : Change) (c : Card) (b : Bool) (x y : Card × X) → Widens change c x.0 → Widens change c y.0 → Widens change c (cond b x y).0
+wide_cond : {X : Type 0} (change : Option Change) (c : Card) (b : Bool) (x y : Card × X) → Widens change c x.0 → Widens change c y.0 → Widens change c (cond b x y).0
 wide_cond change c true x y p q = p
 wide_cond change c false x y p q = q
 
@@ -98,7 +106,7 @@ cleared c d m st none = record {
 }
 
 -- a change is unfinished now, and nothing of it has landed
-begins : (change : Change) (c d : Card) → d.made ≡ c.made → d.sectors ≡ c.sectors → unfinished d ≡ change → Widens change c d
+begins : (change : Change) (c d : Card) → d.made ≡ c.made → d.sectors ≡ c.sectors → unfinished d ≡ change → Widens (Some change) c d
 begins change c d m st u = record {
   carried = record { made = m; sizes = same_sizes c d st };
   widens = λ p s v h.
@@ -171,10 +179,10 @@ widens_erase c argument NoAddress = wide _ c _ (plain c _ refl refl refl)
 widens_erase c argument (First first) = wide _ c _ (plain c _ refl refl refl)
 widens_erase c argument (Both first last) =
     let change = erasing c (is_trim c argument) first last in
-    wide_cond change c (is_no_range c first last)
+    wide_cond (Some change) c (is_no_range c first last)
     (forgotten (shown c), Checked 38 (status false (raised erase_param c)))
     (erases change c, Checked 38 (status false c))
-    (wide change c _ (plain c _ refl refl refl))
+    (wide (Some change) c _ (plain c _ refl refl refl))
     (begins change c (erases change c) refl refl refl)
 
 -- a card that differs in its setting alone
@@ -250,7 +258,8 @@ widens_row choice Unknown c index argument = wide _ c _ (plain c _ refl refl ref
 
 pub keeps_reached : (command : Command) (c : Card) → Keeps c (reached command c)
 keeps_reached command c =
-    keeps_if c (not (leaves_erase command) && holds_address c.erase) (raised erase_reset (forgotten c)) c (plain c _ refl refl refl) (keeps_same c)
+    keeps_if c (leaves_erase command) c (without_addresses c) (keeps_same c)
+    (keeps_if c (holds_address c.erase) (raised erase_reset (forgotten c)) c (plain c _ refl refl refl) (keeps_same c))
 
 -- only CMD38 may erase, and it is reached as it is
 same_erased : (command : Command) (c : Card) (argument : ℕ) → erased_by_command command (reached command c) argument ≡ erased_by_command command c argument
@@ -261,7 +270,7 @@ widens_reached : (choice : Choice) (command : Command) (c : Card) (index argumen
     → Widens (erased_by_command command c argument) c (row choice command (reached command c) index argument).0
 widens_reached choice command c index argument =
     wide_then (erased_by_command command c argument) c (reached command c) _ (keeps_reached command c)
-    (subst (λ (t : Change). Widens t (reached command c) (row choice command (reached command c) index argument).0)
+    (subst (λ (t : Option Change). Widens t (reached command c) (row choice command (reached command c) index argument).0)
     (same_erased command c argument) (widens_row choice command (reached command c) index argument))
 
 pub widens_responded : (choice : Choice) (command : Command) (c : Card) (index argument : ℕ)

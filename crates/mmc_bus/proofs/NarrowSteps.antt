@@ -1,6 +1,6 @@
 -- The law of narrowing, step by step.
 use Rattle.std.proofs.Common.{◌≡◌, Bool, List, false, inl, refl, subst, sym, true, ℕ}
-use Rattle.std.specs.Prelude.{if◌then◌else◌}
+use Rattle.std.specs.Prelude.{Option, if◌then◌else◌}
 use Rattle.mmc_frame.specs.Frame.{command_in}
 use Rattle.mmc_bus.specs.declared.bus.DataIn.{DataIn}
 use Rattle.mmc_bus.specs.declared.bus.DataOut.{DataOut}
@@ -41,7 +41,7 @@ adds_offered block lines c =
     adds_if block c (can_take lines c) (accepted block c) c (λ t. adds_accepted block lines c t) (λ _. adds_none block c c (keeps_same c))
 
 -- along an equation of cards
-wide_along : (change : Change) (c : Card) {d x : Card} → d ≡ x → Widens change c x → Widens change c d
+wide_along : (change : Option Change) (c : Card) {d x : Card} → d ≡ x → Widens change c x → Widens change c d
 wide_along change c e w = subst (Widens change c) (sym e) w
 
 keeps_along : (c : Card) {d x : Card} → d ≡ x → Keeps c x → Keeps c d
@@ -50,10 +50,10 @@ keeps_along c e k = subst (Keeps c) (sym e) k
 adds_along : (block : Sector) (c : Card) {d x : Card} → d ≡ x → Adds block c x → Adds block c d
 adds_along block c e a = subst (Adds block c) (sym e) a
 
-wide_after : (change : Change) (a b c : Card) → Widens change a b → Keeps b c → Widens change a c
+wide_after : (change : Option Change) (a b c : Card) → Widens change a b → Keeps b c → Widens change a c
 wide_after change a b c p q = record { carried = carried_then p.carried q.carried; widens = λ i s v h. p.widens i s v (q.narrows i s v h) }
 
-wide_if : (change : Change) (c : Card) (b : Bool) (x y : Card) → Widens change c x → Widens change c y → Widens change c (if b then x else y)
+wide_if : (change : Option Change) (c : Card) (b : Bool) (x y : Card) → Widens change c x → Widens change c y → Widens change c (if b then x else y)
 wide_if change c true x y p q = p
 wide_if change c false x y p q = q
 

@@ -1,5 +1,7 @@
 -- A plain card is a card.
 use Rattle.std.proofs.Common.{◌≡◌, [], Bool, true, false, cond, ◌&&◌, ◌+◌, refl, sym, ◌∙◌, inl, arith}
+use Rattle.mmc_frame.specs.Check.{power, remainder, times_x}
+use Rattle.mmc_frame.specs.RegisterFrame.{is_sound_register}
 use Rattle.mmc_bus.specs.declared.chip.Chip.{Chip}
 use Rattle.mmc_bus.specs.declared.chip.Phase.{Phase}
 use Rattle.mmc_bus.specs.declared.chip.Phase.TheVariants.{Data, Prg, Rcv, Tran}
@@ -13,11 +15,14 @@ use Rattle.mmc_bus.specs.PlainCard.{calm, card_of, plain_made}
 use Rattle.mmc_bus.proofs.PlainLemmas.{AreBlocks-from, values_sized}
 
 plain_registers : HasRegisters plain_made
+unfolding is_sound_register remainder power times_x
 plain_registers = record {
   ocr = omega arith;
   published = omega arith;
   cid = refl;
   csd = refl;
+  cid_check = refl;
+  csd_check = refl;
   scr = λ h. refl;
   ext_csd = λ h. absurd cc;
 }

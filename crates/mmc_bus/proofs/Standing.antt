@@ -1,5 +1,5 @@
 -- The steps of a run leave a card selected as it was, or as after CMD0.
-use Rattle.std.proofs.Common.{◌&&◌, ◌+◌, ◌||◌, ◌∙◌, ◌≡◌, ◌⊎◌, Bool, List, ap, cond, false, inl, inr, not, refl, subst, sym, true, ℕ}
+use Rattle.std.proofs.Common.{◌&&◌, ◌+◌, ◌||◌, ◌∙◌, ◌≡◌, ◌⊎◌, Bool, List, ap, cond, false, inl, inr, refl, subst, sym, true, ℕ}
 use Rattle.std.specs.Prelude.{◌==◌, None, Option, Some, if◌then◌else◌}
 use Rattle.mmc_frame.specs.Frame.{command_in}
 use Rattle.mmc_frame.specs.declared.card_state.State.{State}
@@ -18,7 +18,7 @@ use Rattle.mmc_bus.specs.Card.{Both, Card, First, FromBytes, FromSectors, Held, 
 use Rattle.mmc_bus.specs.Faults.{CommandStep, GiveStep, PollStep, TakeStep, bad_block, brownout, fail, faithful, flip_command, flip_reply, lose_command, lose_reply, lose_status, reject, slow_inquiry, slow_poll}
 use Rattle.mmc_bus.specs.Laws.{IsAfterReset, Setting, Stands, StillStands, is_frame_of_run, is_of_run, setting_of, timing_once_sent}
 use Rattle.mmc_bus.specs.Made.{Made, first_rca, has_cmd23}
-use Rattle.mmc_bus.specs.Rows.{Command, Erase, EraseEnd, EraseStart, ReadMultipleBlock, ReadSingleBlock, SendStatus, SetBlockCount, StopTransmission, Unknown, WriteBlock, WriteMultipleBlock, answered, command_of, is_foreign, is_legal, leaves_erase, reached, responded, row}
+use Rattle.mmc_bus.specs.Rows.{Command, Erase, EraseEnd, EraseStart, ReadMultipleBlock, ReadSingleBlock, SendStatus, SetBlockCount, StopTransmission, Unknown, WriteBlock, WriteMultipleBlock, answered, command_of, is_foreign, is_legal, leaves_erase, reached, responded, row, without_addresses}
 use Rattle.mmc_bus.specs.RowsErase.{erase_held, erases, erasing, forgotten, hold_first, hold_last, holds_address, is_no_range, is_trim}
 use Rattle.mmc_bus.specs.RowsTransfer.{begun, preset, transfer_errors, transferred}
 use Rattle.mmc_bus.specs.Sectors.{Sector}
@@ -105,10 +105,11 @@ stands_garbled s keeps c h =
 
 stands_reached : (s : Setting) (command : Command) (c : Card) → Stands s c → Stands s (reached command c)
 stands_reached s command c h =
-    stands_if s (not (leaves_erase command) && holds_address c.erase) (raised erase_reset (forgotten c)) c
+    stands_if s (leaves_erase command) c (without_addresses c) (λ _. h)
+    (λ _. stands_if s (holds_address c.erase) (raised erase_reset (forgotten c)) c
     (λ _. stands_like s c (raised erase_reset (forgotten c)) refl refl refl
     (reset_like c (raised erase_reset (forgotten c)) refl refl refl (λ b. b) (λ b. b) (λ b. refl) (λ b. b) refl (λ b. b) refl) h)
-    (λ _. h)
+    (λ _. h))
 
 -- Rows.
 

@@ -1,14 +1,9 @@
 -- What a card shows of itself in a response, and what it does with the error bits that it has shown.
 -- When error bits are raised, shown and cleared is the project's own choice, made here once.
-use Rattle.std.specs.Prelude.{◌*◌, ◌+◌, ◌^◌, Bool, List, [], bit_or, false, if◌then◌else◌, not, true, ℕ}
+use Rattle.std.specs.Prelude.{◌*◌, ◌+◌, ◌^◌, Bool, List, bit_or, false, if◌then◌else◌, not, true, ℕ}
 use Rattle.mmc_frame.specs.Field.{field}
 use Rattle.mmc_frame.specs.Status.{state_number}
-use Rattle.mmc_frame.specs.declared.card_state.State.TheVariants.{Idle}
-use Rattle.mmc_bus.specs.declared.bus.Timing.TheVariants.{Default}
-use Rattle.mmc_bus.specs.declared.bus.Width.TheVariants.{One}
-use Rattle.mmc_bus.specs.declared.part.Part.TheVariants.{User}
-use Rattle.mmc_bus.specs.Card.{Card, NoAddress, landed}
-use Rattle.mmc_bus.specs.Made.{first_rca}
+use Rattle.mmc_bus.specs.Card.{Card, landed, powered_on}
 
 -- What a card answers: nothing; a response with a check, to the command with this index, with this argument (R1, R6, R7);
 -- an OCR (R3); a register of sixteen bytes (R2).
@@ -104,26 +99,7 @@ garbled keeps_count card =
 -- As after CMD0 (SD Physical Layer 6.00, section 4.3; JESD84-B51, section 6.4.1): each block or sector of an unfinished
 -- write, erase or trim is old or new. The block length stays (the project's own).
 abbrev pub reset : (ℕ → Bool) → Card → Card
-reset lands card =
-    record card {
-      state = Idle;
-      rca = first_rca card.made.kind;
-      part = User;
-      width = One;
-      timing = Default;
-      erase_group_def = 0;
-      count = 0;
-      app = false;
-      erase = NoAddress;
-      complaints = 0;
-      errors = 0;
-      switch_error = false;
-      asked = 0;
-      is_busy = false;
-      polled = 0;
-      sectors = landed lands card;
-      values = [];
-    }
+reset lands card = record (powered_on card.made (landed lands card)) { block_length = card.block_length }
 
 -- the card is made busy, until the poll that it answers no
 abbrev pub busied : Card → Card

@@ -2,9 +2,9 @@
 -- go wrong, and what a card does then, is the project's own.
 use Rattle.std.specs.Prelude.{◌&&◌, ◌+◌, ◌<◌, ◌≡◌, ◌≤◌, Bool, List, None, Ok, Option, Some, false, if◌then◌else◌, length, true, ℕ}
 use Rattle.mmc_frame.specs.Check.{bits_of}
-use Rattle.mmc_frame.specs.Flips.{Flips}
+use Rattle.mmc_frame.specs.Flips.{AreBytes, Flips}
 use Rattle.mmc_frame.specs.Frame.{argument_in, command_in, response_in}
-use Rattle.mmc_frame.specs.RegisterFrame.{ocr_in, register_frame}
+use Rattle.mmc_frame.specs.RegisterFrame.{ocr_frame, register_frame}
 use Rattle.mmc_frame.specs.declared.card_state.State.TheVariants.{Idle, Prg}
 use Rattle.mmc_bus.specs.declared.bus.DataIn.{DataIn}
 use Rattle.mmc_bus.specs.declared.bus.DataOut.{DataOut}
@@ -30,12 +30,13 @@ OneFault old new = new.faults ≡ old.faults + 1
 abbrev pub Spells : Answer → Reply → Type 0
 Spells Mute reply = reply ≡ Silent
 Spells (Checked index argument) reply = (frame : List ℕ) × (reply ≡ Short frame) × (response_in frame index ≡ Ok argument)
-Spells (Open ocr) reply = (frame : List ℕ) × (reply ≡ Short frame) × (ocr_in frame ≡ Ok ocr)
+Spells (Open ocr) reply = reply ≡ Short (ocr_frame ocr)
 Spells (Register bytes) reply = reply ≡ Long (register_frame bytes)
 
 -- a frame of this many bytes, of which one bit or two are flipped
 abbrev pub AreFlipped : ℕ → List ℕ → List ℕ → Type 0
-AreFlipped size frame heard = (length frame ≡ size) × (length heard ≡ size) × Flips (bits_of frame) (bits_of heard)
+AreFlipped size frame heard =
+    (length frame ≡ size) × (length heard ≡ size) × AreBytes heard × Flips (bits_of frame) (bits_of heard)
 
 -- The reply is this answer with one bit or two flipped; of an R3 never those of the OCR, which nothing protects.
 abbrev pub IsFlipped : Answer → Reply → Type 0
@@ -43,8 +44,7 @@ IsFlipped Mute reply = ⊥
 IsFlipped (Checked index argument) reply =
     (frame : List ℕ) × (heard : List ℕ) × (response_in frame index ≡ Ok argument) × AreFlipped 6 frame heard × (reply ≡ Short heard)
 IsFlipped (Open ocr) reply =
-    (frame : List ℕ) × (heard : List ℕ) × (ocr_in frame ≡ Ok ocr) × AreFlipped 6 frame heard × (argument_in heard ≡ ocr)
-    × (reply ≡ Short heard)
+    (heard : List ℕ) × AreFlipped 6 (ocr_frame ocr) heard × (argument_in heard ≡ ocr) × (reply ≡ Short heard)
 IsFlipped (Register bytes) reply =
     (heard : List ℕ) × AreFlipped 17 (register_frame bytes) heard × (reply ≡ Long heard)
 

@@ -4,14 +4,13 @@ use Rattle.mmc_frame.specs.declared.card_state.State.TheVariants.{Data, Idle, Rc
 use Rattle.mmc_bus.specs.declared.bus.Timing.{Timing}
 use Rattle.mmc_bus.specs.declared.bus.Width.{Width}
 use Rattle.mmc_bus.specs.declared.part.Part.{Part}
-use Rattle.mmc_bus.specs.declared.part.Part.TheVariants.{User}
 use Rattle.mmc_bus.specs.Blocks.{next_written}
 use Rattle.mmc_bus.specs.Card.{Both, Card, FromBytes, FromSectors, Held, IsApart, Source, holds, is_in, is_selected, stored}
 use Rattle.mmc_bus.specs.Faults.{NoFault, OneFault}
 use Rattle.mmc_bus.specs.Made.{first_rca}
 use Rattle.mmc_bus.specs.Rows.{Command, Erase, EraseEnd, EraseStart, ReadMultipleBlock, ReadSingleBlock, SendStatus, SetBlockCount, StopTransmission, Unknown, WriteBlock, WriteMultipleBlock, command_of}
 use Rattle.mmc_bus.specs.RowsErase.{erasing, is_trim}
-use Rattle.mmc_bus.specs.Sectors.{Change, IsIn, Sector}
+use Rattle.mmc_bus.specs.Sectors.{Change, IsIn, Sector, Sets, maybe_changed}
 use Rattle.mmc_bus.specs.Side.{Side}
 
 -- the card was made so before too, and each partition has as many sectors as before
@@ -19,23 +18,24 @@ pub record Carried (old new : Card) : Type 0 where
   pub made : new.made ≡ old.made
   pub sizes : (part : Part) → length (stored new part) ≡ length (stored old part)
 
--- no sector gets a value
-abbrev pub no_change : Change
-no_change = record { part = User; start = 0; values = [] }
-
 -- What a command may erase: the sectors of a CMD38 for which both addresses are held, and of any other command none.
-abbrev pub erased_by_held : Card → ℕ → Held → Change
-erased_by_held card argument (Both first last) = erasing card (is_trim card argument) first last
-erased_by_held card argument _ = no_change
+abbrev pub erased_by_held : Card → ℕ → Held → Option Change
+erased_by_held card argument (Both first last) = Some (erasing card (is_trim card argument) first last)
+erased_by_held card argument _ = None
 
-abbrev pub erased_by_command : Command → Card → ℕ → Change
+abbrev pub erased_by_command : Command → Card → ℕ → Option Change
 erased_by_command Erase card argument = erased_by_held card argument card.erase
-erased_by_command _ card argument = no_change
+erased_by_command _ card argument = None
 
-abbrev pub erased_by : Card → Option (ℕ × ℕ) → Change
+abbrev pub erased_by : Card → Option (ℕ × ℕ) → Option Change
 erased_by card (Some command) =
     erased_by_command (command_of card.made.kind card.app command.0) card command.1
-erased_by card None = no_change
+erased_by card None = None
+
+-- after a change, if there is one, of which each sector was carried out or not
+abbrev pub maybe_erased : Option Change → Sets → Sets
+maybe_erased (Some change) sets = maybe_changed change sets
+maybe_erased None sets = sets
 
 -- the block is to be the next sector of the write that runs
 pub record Takes (card : Card) (part : Part) (sector : ℕ) (block value : Sector) : Type 0 where

@@ -1,5 +1,7 @@
 -- What never changes of a card: its kind and registers, and what they say of it.
 use Rattle.std.specs.Prelude.{◌%◌, ◌&&◌, ◌/◌, ◌<◌, ◌==◌, ◌^◌, ◌≡◌, Bool, Err, List, Ok, Result, false, if◌then◌else◌, length, not, replicate, true, ℕ}
+use Rattle.mmc_frame.specs.Flips.{is_r2}
+use Rattle.mmc_frame.specs.RegisterFrame.{register_frame}
 use Rattle.mmc_frame.specs.declared.kind.Kind.{Kind}
 use Rattle.mmc_frame.specs.declared.kind.Kind.TheVariants.{Mmc, Sd}
 use Rattle.mmc_regs.specs.Csd.{csd_of, erase_unit_of, is_protected, sectors_of}
@@ -34,12 +36,15 @@ pub record Made : Type 0 where
   pub answers_cmd8 : Bool
   pub has_high_speed : Bool
 
--- the registers have their lengths, and the OCR no bit 31
+-- The registers have their lengths and, of CID and CSD, their checks (SD Physical Layer 6.00, sections 5.2 and 5.3); the OCR
+-- has no bit 31.
 pub record HasRegisters (made : Made) : Type 0 where
   pub ocr : made.ocr < 2 ^ 31
   pub published : made.published < 2 ^ 16
   pub cid : length made.cid ≡ 16
   pub csd : length made.csd ≡ 16
+  pub cid_check : is_r2 (register_frame made.cid) ≡ true
+  pub csd_check : is_r2 (register_frame made.csd) ≡ true
   pub scr : made.kind ≡ Sd → length made.scr ≡ 8
   pub ext_csd : made.kind ≡ Mmc → length made.ext_csd ≡ 512
 

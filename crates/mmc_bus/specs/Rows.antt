@@ -163,9 +163,11 @@ leaves_erase Erase = true
 leaves_erase _ = false
 
 -- Any other command drops them with ERASE_RESET, also one that isn't carried out (SD Physical Layer 6.00, section 4.3.5).
+abbrev pub without_addresses : Card → Card
+without_addresses card = if holds_address card.erase then raised erase_reset (forgotten card) else card
+
 abbrev pub reached : Command → Card → Card
-reached command card =
-    if not (leaves_erase command) && holds_address card.erase then raised erase_reset (forgotten card) else card
+reached command card = if leaves_erase command then card else without_addresses card
 
 -- A sound command: the card after it, and its answer. One that names another card changes nothing.
 abbrev pub responded : Choice → Command → Card → ℕ → ℕ → Card × Answer

@@ -5,8 +5,8 @@ ghost use Rattle.mmc_bus.specs.Phase.{size_in};
 ghost use Rattle.mmc_bus.specs.RowsSwitch.{timing_number, width_number};
 
 use crate::bus::{DataIn, DataOut, Lines, Reply, Timing, Width};
-use crate::commands::{READ_SINGLE_BLOCK, SEND_STATUS, WRITE_BLOCK};
 use crate::memory::NoMemory;
+use mmc_frame::commands::{READ_SINGLE_BLOCK, SEND_STATUS, WRITE_BLOCK};
 use mmc_frame::{encode_response, read_command};
 use std::alloc::Global;
 

@@ -3,8 +3,8 @@ ghost use Rattle.std.specs.Prelude.{◌≡◌, Bool, List, length, true, ℕ};
 ghost use Rattle.mmc_frame.specs.Frame.{command_in};
 ghost use Rattle.mmc_bus.specs.Card.{IsCard, holds};
 ghost use Rattle.mmc_bus.specs.Faults.{CommandStep, GiveStep, PollStep, TakeStep};
-ghost use Rattle.mmc_bus.specs.Laws.{Carried, CountsAtMostOne, StillStands, WithinOrTaken, erased_by, is_frame_of_run};
-ghost use Rattle.mmc_bus.specs.Sectors.{Sector, Within, maybe_changed};
+ghost use Rattle.mmc_bus.specs.Laws.{Carried, CountsAtMostOne, StillStands, WithinOrTaken, erased_by, is_frame_of_run, maybe_erased};
+ghost use Rattle.mmc_bus.specs.Sectors.{Sector, Within};
 ghost use Rattle.mmc_bus.specs.Side.{Side};
 ghost use Rattle.mmc_bus.specs.declared.bus.DataIn.{DataIn};
 ghost use Rattle.mmc_bus.specs.declared.bus.DataOut.{DataOut};
@@ -21,7 +21,7 @@ pub fn a_step_keeps_what_a_card_is_made_with()
 /// Whatever happens, a sector may hold no more than it might before; but a block that is offered may be the next sector of
 /// the write that runs, and CMD38 may erase the sectors that it names.
 pub fn a_step_narrows_what_sectors_may_hold()
-    ensures command { (old new : Side) (frame : List ℕ) (reply : Reply) → CommandStep old frame reply new → Within (holds new.card) (maybe_changed (erased_by old.card (command_in frame)) (holds old.card)) }
+    ensures command { (old new : Side) (frame : List ℕ) (reply : Reply) → CommandStep old frame reply new → Within (holds new.card) (maybe_erased (erased_by old.card (command_in frame)) (holds old.card)) }
     ensures poll { (old new : Side) (said : Bool) → PollStep old said new → Within (holds new.card) (holds old.card) }
     ensures write { (old new : Side) (block : Sector) (got : DataOut) → GiveStep old block got new → WithinOrTaken old.card block new.card }
     ensures read { (old new : Side) (size : ℕ) (got : DataIn) (block : Sector) → TakeStep old size got block new → Within (holds new.card) (holds old.card) }

@@ -4,7 +4,6 @@
 mod bus;
 mod bytes;
 mod chip;
-pub mod commands;
 mod exchange_text;
 pub mod laws;
 mod memory;

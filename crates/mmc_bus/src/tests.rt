@@ -1,5 +1,5 @@
-use crate::commands::{READ_SINGLE_BLOCK, SEND_STATUS, WRITE_BLOCK};
 use crate::*;
+use mmc_frame::commands::{READ_SINGLE_BLOCK, SEND_STATUS, WRITE_BLOCK};
 use mmc_frame::encode;
 use std::collections::VecDeque;
 use std::test::Fail;

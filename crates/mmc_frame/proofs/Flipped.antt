@@ -134,3 +134,11 @@ flips_show m k xs ys small fits fixed sound heard (two p q less inside is) =
     ap (covered m k) is ∙ covered_flip m k q (flip_at p xs) (omega arith) high
     ∙ ap (flip_at (q - m)) (covered_flip m k p xs low (omega arith)) in
     two_unsound (p - m) (q - m) (covered m k xs) (omega arith) (omega arith) (omega arith) sound (ap remainder (sym two_inside) ∙ heard)
+
+-- it isn't xs itself either
+pub flips_differ : (xs : List Bool) → Flips xs xs → ⊥
+flips_differ xs (one p inside is) = not_same (bit_of p xs) (sym (ap (bit_of p) is ∙ flipped_bit p xs inside))
+flips_differ xs (two p q less inside is) =
+    let late : q < length (flip_at p xs) = omega (arith, length-flip_at p xs) in
+    not_same (bit_of q xs)
+    (sym (ap (bit_of q) is ∙ flipped_bit q (flip_at p xs) late ∙ ap not (other_bit p q xs (λ e. absurd (omega arith)))))

@@ -1,19 +1,19 @@
 -- Frames with one or two bits flipped are refused: 48 bits, of which the check covers all but the end bit, and 136 bits,
 -- of which it covers all but the first eight and the end bit.
-use Rattle.std.proofs.Common.{◌≡◌, ℕ, zero, suc, ◌+◌, ◌*◌, ◌%◌, ◌<◌, inl, inr, List, [], ◌∷◌, ◌++◌, length, take, drop, Bool, true, false, cond, ◌&&◌, refl, sym, ◌∙◌, ap, arith, is_ok, is_some, Some, None, Result, Ok, Err}
+use Rattle.std.proofs.Common.{◌≡◌, ℕ, zero, suc, ◌+◌, ◌*◌, ◌/◌, ◌%◌, ◌^◌, ◌<◌, inl, inr, List, [], ◌∷◌, ◌++◌, length, take, drop, Bool, true, false, cond, ◌&&◌, refl, sym, ◌∙◌, ap, subst, arith, is_ok, is_some, Some, None, Result, Ok, Err}
 use Rattle.std.specs.Prelude.{slice_index, slice_range, ◌==◌}
 use Rattle.std.proofs.lemmas.Bool.{eqb-true, eq-eqb}
 use Rattle.std.proofs.lemmas.List.{take_all}
 use Rattle.mmc_frame.specs.Check.{remainder, bits_of, byte_bits}
 use Rattle.mmc_frame.specs.Field.{field}
-use Rattle.mmc_frame.specs.Flips.{Flips, RefusesFlips}
+use Rattle.mmc_frame.specs.Flips.{AreBytes, Flips, RefusesFlips}
 use Rattle.mmc_frame.specs.Frame.{number, is_sound, has_fixed_bits, index_in, argument_in, command_in, response_in}
-use Rattle.mmc_frame.specs.RegisterFrame.{is_sound_register, register_in}
+use Rattle.mmc_frame.specs.RegisterFrame.{is_sound_register, ocr_frame, ocr_in, register_in}
 use Rattle.mmc_frame.specs.ResponseFields.{read_as}
 use Rattle.mmc_frame.specs.declared.fault.FrameFault.{FrameFault}
 use Rattle.mmc_frame.specs.declared.fault.FrameFault.TheVariants.{FixedBits, Check, Index}
 use Rattle.mmc_frame.proofs.Bytes.{and_true, length-bits_of}
-use Rattle.mmc_frame.proofs.Flipped.{bit_of, flips_show}
+use Rattle.mmc_frame.proofs.Flipped.{bit_of, flips_differ, flips_show}
 
 bit_before : (i : ℕ) (xs ys : List Bool) → i < length xs → bit_of i (xs ++ ys) ≡ bit_of i xs
 bit_before i [] ys h = absurd (omega arith)
@@ -141,3 +141,40 @@ pub long_law : (takes hears : List ℕ → Bool) → ((f : List ℕ) → takes f
     → RefusesFlips 17 takes hears
 long_law takes hears sends receives sent heard size size_heard flips taken =
     refused (hears heard) (λ again. long_flips sent heard size size_heard flips (sends sent taken) (receives heard again))
+
+-- R3, which no check protects.
+
+ocr_by : (a b : Bool) (x : ℕ) → is_ok (cond (a && b) (Ok x) (Err FixedBits)) ≡ true → (a ≡ true) × (b ≡ true)
+ocr_by true true x h = (refl, refl)
+ocr_by true false x h = absurd cc
+ocr_by false b x h = absurd cc
+
+-- the bytes are those of the OCR's frame
+same_frame : (a b c d e l ocr : ℕ) → a < 256 → b < 256 → c < 256 → d < 256 → e < 256 → l < 256
+    → field 47 40 (number (a ∷ b ∷ c ∷ d ∷ e ∷ l ∷ [])) ≡ 0x3f → field 7 0 (number (a ∷ b ∷ c ∷ d ∷ e ∷ l ∷ [])) ≡ 0xff
+    → argument_in (a ∷ b ∷ c ∷ d ∷ e ∷ l ∷ []) ≡ ocr → (a ∷ b ∷ c ∷ d ∷ e ∷ l ∷ []) ≡ ocr_frame ocr
+same_frame a b c d e l ocr ha hb hc hd he hl first last argument =
+    let ia : a ≡ 0x3f = omega arith in
+    let il : l ≡ 0xff = omega arith in
+    let ib : b ≡ ocr / 2 ^ 24 = omega arith in
+    let ic : c ≡ ocr / 2 ^ 16 % 256 = omega arith in
+    let id : d ≡ ocr / 2 ^ 8 % 256 = omega arith in
+    let ie : e ≡ ocr % 256 = omega arith in
+    rw (ia, ib, ic, id, ie, il) refl
+
+pub ocr_flips : (ocr : ℕ) (g : List ℕ) → length g ≡ 6 → AreBytes g → Flips (bits_of (ocr_frame ocr)) (bits_of g)
+    → argument_in g ≡ ocr → is_ok (ocr_in g) ≡ false
+ocr_flips ocr (a ∷ b ∷ c ∷ d ∷ e ∷ l ∷ []) size bytes flips argument =
+    let g : List ℕ = a ∷ b ∷ c ∷ d ∷ e ∷ l ∷ [] in
+    refused (is_ok (ocr_in g)) (λ taken.
+    let fixed = ocr_by (field 47 40 (number g) == 0x3f) (field 7 0 (number g) == 0xff) (argument_in g) taken in
+    let same : g ≡ ocr_frame ocr = same_frame a b c d e l ocr bytes.0 bytes.1.0 bytes.1.1.0 bytes.1.1.1.0 bytes.1.1.1.1.0 bytes.1.1.1.1.1.0
+    (eqb-true (field 47 40 (number g)) 0x3f fixed.0) (eqb-true (field 7 0 (number g)) 0xff fixed.1) argument in
+    flips_differ (bits_of g) (subst (λ f. Flips (bits_of f) (bits_of g)) (sym same) flips))
+ocr_flips ocr [] size bytes flips argument = absurd (omega arith)
+ocr_flips ocr (a ∷ []) size bytes flips argument = absurd (omega arith)
+ocr_flips ocr (a ∷ b ∷ []) size bytes flips argument = absurd (omega arith)
+ocr_flips ocr (a ∷ b ∷ c ∷ []) size bytes flips argument = absurd (omega arith)
+ocr_flips ocr (a ∷ b ∷ c ∷ d ∷ []) size bytes flips argument = absurd (omega arith)
+ocr_flips ocr (a ∷ b ∷ c ∷ d ∷ e ∷ []) size bytes flips argument = absurd (omega arith)
+ocr_flips ocr (a ∷ b ∷ c ∷ d ∷ e ∷ l ∷ x ∷ xs) size bytes flips argument = absurd (omega arith)

@@ -1,6 +1,6 @@
 //! Laws about the frames. Each function does nothing; its contract is the law, which a caller then knows.
 ghost use Rattle.std.specs.Prelude.{ℕ};
-ghost use Rattle.mmc_frame.specs.Flips.{RefusesFlips, is_command, is_r2, is_r6, is_r7, is_response_to};
+ghost use Rattle.mmc_frame.specs.Flips.{RefusesFlips, RefusesFlipsBesideOcr, is_command, is_r2, is_r6, is_r7, is_response_to};
 
 /// A sound command with one bit or two flipped is no sound command.
 pub fn flipped_command_is_refused()
@@ -17,4 +17,9 @@ pub fn flipped_response_is_refused()
 /// A sound R2 with one bit or two flipped is refused.
 pub fn flipped_register_is_refused()
     ensures { RefusesFlips 17 is_r2 is_r2 }
+{}
+
+/// An R3 with one bit or two flipped is refused, as long as none of them is of the OCR, which nothing protects.
+pub fn flipped_beside_the_ocr_is_refused()
+    ensures { RefusesFlipsBesideOcr }
 {}

@@ -7,6 +7,7 @@
 mod card_state;
 mod check;
 mod command;
+pub mod commands;
 mod fault;
 mod frame;
 mod kind;

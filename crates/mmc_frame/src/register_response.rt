@@ -1,6 +1,6 @@
 // The two responses without an index: R2 with a CID or a CSD, R3 with the OCR.
 ghost use Rattle.std.specs.Prelude.{◌≡◌, slice_range, true, Ok};
-ghost use Rattle.mmc_frame.specs.RegisterFrame.{has_end_bit, is_sound_register, ocr_in, register_frame, register_in};
+ghost use Rattle.mmc_frame.specs.RegisterFrame.{has_end_bit, is_sound_register, ocr_frame, ocr_in, register_frame, register_in};
 
 use crate::check::check_of;
 use crate::fault::FrameFault;
@@ -60,7 +60,8 @@ pub fn read_r2(frame: &[u8; 17]) -> Result<[u8; 16], FrameFault>
 
 /// The R3 of an OCR.
 pub fn encode_r3(ocr: u32) -> [u8; 6]
-    ensures { ocr_in result ≡ Ok ocr }
+    ensures sent { result ≡ ocr_frame ocr }
+    ensures read { ocr_in result ≡ Ok ocr }
 {
     let mut bytes = [0; 4];
     BigEndian::write_u32(&mut bytes, ocr);

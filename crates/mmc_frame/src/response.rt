@@ -3,13 +3,9 @@ ghost use Rattle.std.specs.Prelude.{◌≡◌, ◌<◌, Ok};
 ghost use Rattle.mmc_frame.specs.Frame.{response_in};
 ghost use Rattle.mmc_frame.specs.ResponseFields.{r6_in, r7_in, status_in_r6};
 
+use crate::commands::{SEND_IF_COND, SEND_RELATIVE_ADDR};
 use crate::fault::FrameFault;
 use crate::frame::{argument_of, framed, is_sound_frame};
-
-// The commands that R6 and R7 answer.
-const SEND_RELATIVE_ADDR: u8 = 3;
-
-const SEND_IF_COND: u8 = 8;
 
 /// What an R6 tells, the answer of an SD card to CMD3.
 #[derive(Clone, Copy, Debug, PartialEq, Eq)]
