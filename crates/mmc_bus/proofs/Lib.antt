@@ -8,4 +8,6 @@ pub mod NarrowSteps
 pub mod PlainLemmas
 pub mod PlainSteps
 pub mod SectorLemmas
+pub mod SetLemmas
 pub mod Standing
+pub mod StatusLemmas

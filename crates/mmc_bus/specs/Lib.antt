@@ -2,6 +2,7 @@ pub mod Answer
 pub mod Blocks
 pub mod Bytes
 pub mod Card
+pub mod CardLaws
 pub mod ExchangeText
 pub mod Exchanges
 pub mod Faults

@@ -3,6 +3,7 @@
 
 mod bus;
 mod bytes;
+pub mod card_laws;
 mod chip;
 mod exchange_text;
 pub mod laws;
