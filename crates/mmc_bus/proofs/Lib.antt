@@ -11,3 +11,5 @@ pub mod SectorLemmas
 pub mod SetLemmas
 pub mod Standing
 pub mod StatusLemmas
+pub mod Readers
+pub mod Hear

@@ -6,7 +6,9 @@ pub mod CardLaws
 pub mod ExchangeText
 pub mod Exchanges
 pub mod Faults
+pub mod Heard
 pub mod Laws
+pub mod Learned
 pub mod Made
 pub mod Phase
 pub mod PlainCard

@@ -4,8 +4,10 @@
 mod bus;
 mod bytes;
 pub mod card_laws;
+mod cause;
 mod chip;
 mod exchange_text;
+mod host;
 pub mod laws;
 mod memory;
 mod part;
@@ -14,8 +16,10 @@ mod scripted;
 mod trace;
 mod wire;
 
+pub use host::{Unheard, ask, ask_ocr, ask_register, give_block, poll, take_block, tell};
 pub use bus::{Bus, DataIn, DataOut, Exchange, Lines, Reply, Timing, Want, Width};
 pub use bytes::Bytes;
+pub use cause::Cause;
 pub use memory::NoMemory;
 pub use part::Part;
 pub use plain::PlainCard;

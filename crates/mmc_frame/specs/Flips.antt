@@ -1,5 +1,5 @@
 -- Frames in which one bit or two changed on the way.
-use Rattle.std.specs.Prelude.{◌≡◌, ℕ, zero, suc, ◌<◌, ◌^◌, List, [], ◌∷◌, length, Bool, true, false, not, is_ok, is_some}
+use Rattle.std.specs.Prelude.{◌≡◌, ℕ, zero, suc, ◌<◌, List, [], ◌∷◌, length, Bool, true, false, not, is_ok, is_some}
 use Rattle.mmc_frame.specs.Check.{bits_of}
 use Rattle.mmc_frame.specs.Frame.{argument_in, command_in, response_in}
 use Rattle.mmc_frame.specs.RegisterFrame.{ocr_frame, ocr_in, register_in}
@@ -46,5 +46,5 @@ is_r2 frame = is_ok (register_in frame)
 -- What is left of an R3 once one bit or two of it are flipped, none of them of the OCR, is refused.
 abbrev pub RefusesFlipsBesideOcr : Type 0
 RefusesFlipsBesideOcr =
-    (ocr : ℕ) (heard : List ℕ) → ocr < 2 ^ 32 → length heard ≡ 6 → AreBytes heard
+    (ocr : ℕ) (heard : List ℕ) → length heard ≡ 6 → AreBytes heard
     → Flips (bits_of (ocr_frame ocr)) (bits_of heard) → argument_in heard ≡ ocr → is_ok (ocr_in heard) ≡ false

@@ -1,0 +1,121 @@
+-- What a host learns of an exchange over a bus that is kept: what holds whatever fell, what a sound answer tells, fault or
+-- not, and what holds where no fault fell.
+use Rattle.std.specs.Prelude.{◌&&◌, ◌+◌, ◌<◌, ◌≡◌, ◌≤◌, Bool, List, Ok, Result, Some, false, not, true, ℕ}
+use Rattle.mmc_frame.specs.Frame.{command_in}
+use Rattle.mmc_frame.specs.declared.card_state.State.TheVariants.{Prg}
+use Rattle.mmc_bus.specs.declared.host.Unheard.{Unheard}
+use Rattle.mmc_bus.specs.declared.bus.DataIn.{DataIn}
+use Rattle.mmc_bus.specs.declared.bus.DataOut.{DataOut}
+use Rattle.mmc_bus.specs.declared.bus.Reply.{Reply}
+use Rattle.mmc_bus.specs.Answer.{Answer, Choice, Mute, refused}
+use Rattle.mmc_bus.specs.Blocks.{accepted, can_send, can_take, next_block, rested, sent}
+use Rattle.mmc_bus.specs.Card.{Card, IsCard, holds, is_in, is_selected}
+use Rattle.mmc_bus.specs.Exchanges.{Exchanged}
+use Rattle.mmc_bus.specs.Faults.{IsPatient, NoFault}
+use Rattle.mmc_bus.specs.Laws.{Carried, StillStands, WithinOrTaken, erased_by, is_frame_of_run, maybe_erased}
+use Rattle.mmc_bus.specs.Rows.{Command, command_of, is_foreign, is_legal, reached, row}
+use Rattle.mmc_bus.specs.Sectors.{Sector, Within}
+use Rattle.mmc_bus.specs.Side.{Side}
+use Rattle.mmc_bus.specs.declared.bus.DataIn.TheVariants as Received
+use Rattle.mmc_bus.specs.declared.bus.DataOut.TheVariants as Sent
+use Rattle.mmc_bus.specs.declared.bus.Exchange.TheVariants as Did
+
+-- What the card is made with stays, and the sizes of its partitions; the count of faults doesn't fall.
+pub record Stays (old new : Side) : Type 0 where
+  pub carried : Carried old.card new.card
+  pub later : old.faults ≤ new.faults
+
+-- A part of a host's work over a bus that is kept: what it leaves, and that `Fine` holds where no fault fell in it.
+pub record Ran (old new : Side) (Fine : Type 0) : Type 0 where
+  pub was_kept : old.is_kept ≡ true
+  pub was_card : IsCard old.card
+  pub is_card : IsCard new.card
+  pub stays : Stays old new
+  pub fine : NoFault old new → Fine
+
+-- Commands.
+
+-- what this index means to the card
+abbrev pub meant : Card → ℕ → Command
+meant card index = command_of card.made.kind card.app index
+
+-- what the card does with the command where it is legal
+abbrev pub carried_out : Choice → Card → ℕ → ℕ → Card × Answer
+carried_out choice card index argument =
+    row choice (meant card index) (reached (meant card index) card) index argument
+
+-- The card has carried the command out, and this is its answer.
+pub record Obeyed {X : Type 0} (answers : Answer → X) (old : Card) (index argument : ℕ) (heard : X) (new : Card) : Type 0 where
+  pub choice : Choice
+  pub own : is_foreign (meant old index) old argument ≡ false
+  pub legal : is_legal (meant old index) old ≡ true
+  pub card : new ≡ (carried_out choice old index argument).0
+  pub answer : heard ≡ answers (carried_out choice old index argument).1
+
+-- The card did as the table says, no slower than it may, and all of its answer came.
+pub record Faithful {X : Type 0} (answers : Answer → X) (old : Card) (index argument : ℕ) (heard : X) (new : Card) : Type 0 where
+  pub choice : Choice
+  pub patient : IsPatient choice old.asked
+  pub obeys : is_foreign (meant old index) old argument ≡ false → is_legal (meant old index) old ≡ true
+      → (new ≡ (carried_out choice old index argument).0) × (heard ≡ answers (carried_out choice old index argument).1)
+  pub refuses : is_foreign (meant old index) old argument ≡ false → is_legal (meant old index) old ≡ false
+      → (new ≡ refused (reached (meant old index) old)) × (heard ≡ answers Mute)
+
+pub record CommandFacts {X : Type 0} (answers : Answer → Result X Unheard) (old : Side) (index argument : ℕ) (heard : Result X Unheard) (new : Side) : Type 0 where
+  pub stays : Stays old new
+  -- no sector may hold more, but what CMD38 erases
+  pub narrows : Within (holds new.card) (maybe_erased (erased_by old.card (Some (index, argument))) (holds old.card))
+  -- a command of a run, lost or not, leaves the card standing
+  pub stands : is_frame_of_run old.card (Some (index, argument)) ≡ true → StillStands old.card new.card
+  -- a sound answer comes from the card, fault or not
+  pub sound : (x : X) → heard ≡ Ok x → Obeyed answers old.card index argument heard new.card
+  pub fine : NoFault old new → Faithful answers old.card index argument heard new.card
+
+-- One exchange: a command with this index and argument, and what was heard.
+pub record Asked {X : Type 0} (hears : Reply → Result X Unheard) (answers : Answer → Result X Unheard) (old : Side) (index argument : ℕ) (heard : Result X Unheard) (new : Side) : Type 0 where
+  pub frame : List ℕ
+  pub reply : Reply
+  pub command : command_in frame ≡ Some (index, argument)
+  pub hearing : heard ≡ hears reply
+  pub exchanged : Exchanged old (Did.Command frame reply) (CommandFacts answers old index argument heard new) new
+
+-- Polls.
+
+-- programming may fail: that of a write, erase or trim
+abbrev pub may_fail : Card → Bool
+may_fail card = is_in card.state Prg && not card.is_switching
+
+pub record PollFacts (old : Side) (said : Bool) (new : Side) : Type 0 where
+  pub stays : Stays old new
+  pub narrows : Within (holds new.card) (holds old.card)
+  pub stands : StillStands old.card new.card
+  -- a card that says yes is busy, and stays as it is
+  pub yes : said ≡ true → (old.card.is_busy ≡ true) × (new.card ≡ record old.card { polled = old.card.polled + 1 })
+  -- a no is the card's, fault or not, where it is selected still and either can't have failed or holds no error
+  pub calm : said ≡ false → is_selected new.card.state ≡ true → may_fail old.card ≡ false → new.card ≡ rested old.card
+  pub shown : said ≡ false → is_selected new.card.state ≡ true → new.card.errors ≡ 0 → new.card ≡ rested old.card
+  pub patient : NoFault old new → said ≡ true → old.card.polled < 8
+  pub fine : NoFault old new → said ≡ false → new.card ≡ rested old.card
+
+-- Blocks.
+
+pub record GiveFacts (old : Side) (block : Sector) (got : DataOut) (new : Side) : Type 0 where
+  pub stays : Stays old new
+  -- the next sector of the write may hold the block too
+  pub widens : WithinOrTaken old.card block new.card
+  pub stands : StillStands old.card new.card
+  -- an accepted block was taken, fault or not
+  pub taken : got ≡ Sent.Accepted → (can_take old.lines old.card ≡ true) × (new.card ≡ accepted block old.card)
+  pub fine : NoFault old new → can_take old.lines old.card ≡ true → got ≡ Sent.Accepted
+  pub refuses : NoFault old new → can_take old.lines old.card ≡ false → (got ≡ Sent.Nothing) × (new.card ≡ old.card)
+
+pub record TakeFacts (old : Side) (size : ℕ) (got : DataIn) (block : List ℕ) (new : Side) : Type 0 where
+  pub stays : Stays old new
+  pub narrows : Within (holds new.card) (holds old.card)
+  pub stands : StillStands old.card new.card
+  -- a good block is the one that the card had to send, fault or not
+  pub good : got ≡ Received.Good
+      → (can_send old.lines size old.card ≡ true) × (next_block old.card ≡ Some block)
+      × ((choice : Choice) × (new.card ≡ sent choice old.card))
+  pub fine : NoFault old new → can_send old.lines size old.card ≡ true → got ≡ Received.Good
+  pub refuses : NoFault old new → can_send old.lines size old.card ≡ false → (got ≡ Received.Nothing) × (new.card ≡ old.card)
