@@ -13,3 +13,4 @@ pub mod Standing
 pub mod StatusLemmas
 pub mod Readers
 pub mod Hear
+pub mod CommandLemmas

@@ -3,6 +3,7 @@ pub mod Blocks
 pub mod Bytes
 pub mod Card
 pub mod CardLaws
+pub mod CommandLaws
 pub mod ExchangeText
 pub mod Exchanges
 pub mod Faults

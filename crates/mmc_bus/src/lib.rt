@@ -6,6 +6,7 @@ mod bytes;
 pub mod card_laws;
 mod cause;
 mod chip;
+pub mod command_laws;
 mod exchange_text;
 mod host;
 pub mod laws;
