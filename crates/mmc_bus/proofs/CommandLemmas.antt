@@ -1,5 +1,5 @@
 -- What a host may conclude of a command, from its row.
-use Rattle.std.proofs.Common.{◌&&◌, ◌*◌, ◌+◌, ◌∙◌, ◌≡◌, Bool, ap, arith, cond, false, not, refl, sym, true, ℕ}
+use Rattle.std.proofs.Common.{◌&&◌, ◌*◌, ◌+◌, ◌||◌, ◌∙◌, ◌≡◌, ◌⊎◌, Bool, ap, arith, cond, false, inl, inr, not, refl, subst, sym, true, ℕ}
 use Rattle.std.specs.Prelude.{◌==◌, Err, Ok, Result, if◌then◌else◌}
 use Rattle.std.proofs.lemmas.Bool.{eq-eqb, eqb-true}
 use Rattle.std.proofs.lemmas.Nat.{le_or_r}
@@ -17,7 +17,7 @@ use Rattle.mmc_bus.specs.Card.{AreAmong, Card, IsCard, NoAddress, error_bits, is
 use Rattle.mmc_bus.specs.CommandLaws.{Begins, Does, Names}
 use Rattle.mmc_bus.specs.Heard.{response_of}
 use Rattle.mmc_bus.specs.Learned.{CommandFacts, carried_out, meant}
-use Rattle.mmc_bus.specs.Rows.{Command, is_foreign, is_legal, leaves_erase, reached, row, without_addresses}
+use Rattle.mmc_bus.specs.Rows.{Command, is_addressed, is_foreign, is_legal, leaves_erase, reached, row, without_addresses}
 use Rattle.mmc_bus.specs.RowsTransfer.{transfer_errors, transferred}
 use Rattle.mmc_bus.specs.Side.{Side}
 
@@ -52,38 +52,122 @@ named argument card h = eqb-true (field 31 16 argument) card.rca (not_false (fie
 pub owns : (argument : ℕ) (card : Card) → Names argument card → not (field 31 16 argument == card.rca) ≡ false
 owns argument card h = ap not (eq-eqb (field 31 16 argument) card.rca h)
 
+-- one of two states
+either_true : (a b : Bool) → (a || b) ≡ true → (a ≡ true) ⊎ (b ≡ true)
+either_true true b h = inl refl
+either_true false b h = inr h
+
+one_true : (a b : Bool) → (a ≡ true) ⊎ (b ≡ true) → (a || b) ≡ true
+one_true true b h = refl
+one_true false b (inl h) = cc
+one_true false b (inr h) = h
+
+pub in_either : (s t : State) (b : Bool) → (is_in s t || b) ≡ true → (s ≡ t) ⊎ (b ≡ true)
+in_either s t b h =
+    elim (either_true (is_in s t) b h) [
+      | inl at ↦ inl (in_state s t at)
+      | inr other ↦ inr other
+    ]
+
+two_states : (s t u : State) → (s ≡ t) ⊎ (is_in s u ≡ true) → (s ≡ t) ⊎ (s ≡ u)
+two_states s t u (inl at) = inl at
+two_states s t u (inr other) = inr (in_state s u other)
+
+two_tests : (s t u : State) → (s ≡ t) ⊎ (s ≡ u) → (s ≡ t) ⊎ (is_in s u ≡ true)
+two_tests s t u (inl at) = inl at
+two_tests s t u (inr other) = inr (in_is s u other)
+
+pub either_in : (s t : State) (b : Bool) → (s ≡ t) ⊎ (b ≡ true) → (is_in s t || b) ≡ true
+either_in s t b (inl at) = one_true (is_in s t) b (inl (in_is s t at))
+either_in s t b (inr other) = one_true (is_in s t) b (inr other)
+
 -- no address is dropped where none is held
-reached_same : (command : Command) (card : Card) → card.erase ≡ NoAddress → reached command card ≡ card
-reached_same command card none = either_card (leaves_erase command) card (without_addresses card) (rw none refl)
+pub none_held : (command : Command) (card : Card) → card.erase ≡ NoAddress → reached command card ≡ card
+none_held command card none = either_card (leaves_erase command) card (without_addresses card) (rw none refl)
 
 pub carried : (choice : Choice) (card : Card) (index argument : ℕ) → card.erase ≡ NoAddress
     → carried_out choice card index argument ≡ row choice (meant card index) card index argument
 carried choice card index argument none =
-    ap (λ (c : Card). row choice (meant card index) c index argument) (reached_same (meant card index) card none)
+    ap (λ (c : Card). row choice (meant card index) c index argument) (none_held (meant card index) card none)
 
 -- What it does.
 
-same_ok : {X : Type 0} (x y : X) → let r : Result X Unheard = Ok x in let s : Result X Unheard = Ok y in r ≡ s → x ≡ y
+pub same_ok : {X : Type 0} (x y : X) → let r : Result X Unheard = Ok x in let s : Result X Unheard = Ok y in r ≡ s → x ≡ y
 same_ok x y h = cc
 
-pub does : {X : Type 0} (answers : Answer → Result X Unheard) (IsThere : Type 0) (told : X) (after : Card) (old : Side) (index argument : ℕ) (heard : Result X Unheard) (new : Side)
-    → CommandFacts answers old index argument heard new
-    → (is_foreign (meant old.card index) old.card argument ≡ false → is_legal (meant old.card index) old.card ≡ true → IsThere)
-    → (IsThere → (is_foreign (meant old.card index) old.card argument ≡ false) × (is_legal (meant old.card index) old.card ≡ true))
-    → ((choice : Choice) → ((carried_out choice old.card index argument).0 ≡ after) × (answers (carried_out choice old.card index argument).1 ≡ Ok told))
+-- the outcome, where no address is dropped and this command is meant
+pub comes : (choice : Choice) (command : Command) (card : Card) (index argument : ℕ) (outcome : Card × Answer) → meant card index ≡ command → reached command card ≡ card
+    → row choice command card index argument ≡ outcome → carried_out choice card index argument ≡ outcome
+comes choice command card index argument outcome means same is =
+    ap (λ (c : Command). row choice c (reached c card) index argument) means ∙ ap (λ (c : Card). row choice command c index argument) same ∙ is
+
+pub does : {X : Type 0} (answers : Answer → Result X Unheard) (IsThere : Type 0) (told : X) (after : Card) (answer : Answer) (command : Command)
+    (old : Side) (index argument : ℕ) (heard : Result X Unheard) (new : Side)
+    → CommandFacts answers old index argument heard new → meant old.card index ≡ command → reached command old.card ≡ old.card
+    → (is_foreign command old.card argument ≡ false → is_legal command old.card ≡ true → IsThere)
+    → (IsThere → (is_foreign command old.card argument ≡ false) × (is_legal command old.card ≡ true))
+    → ((choice : Choice) → row choice command old.card index argument ≡ (after, answer)) → answers answer ≡ Ok told
     → Does IsThere told after old heard new
-does answers IsThere told after old index argument heard new facts there legal done = record {
-  sound = λ x h.
-      let o = facts.sound x h in
-      let d = done o.choice in
-      (there o.own o.legal, same_ok x told (sym h ∙ o.answer ∙ d.1), o.card ∙ d.0);
-  fine = λ same t.
-      let f = facts.fine same in
-      let at = legal t in
-      let obeys = f.obeys at.0 at.1 in
-      let d = done f.choice in
-      (obeys.1 ∙ d.1, obeys.0 ∙ d.0);
-}
+does answers IsThere told after answer command old index argument heard new facts means same there legal done tells =
+    let outcome : (choice : Choice) → carried_out choice old.card index argument ≡ (after, answer) =
+      λ choice. comes choice command old.card index argument (after, answer) means same (done choice) in
+    record {
+      sound = λ x h.
+          let o = facts.sound x h in
+          let d = outcome o.choice in
+          (there (subst (λ c. is_foreign c old.card argument ≡ false) means o.own) (subst (λ c. is_legal c old.card ≡ true) means o.legal),
+          same_ok x told (sym h ∙ o.answer ∙ ap (λ (x : Card × Answer). answers x.1) d ∙ tells),
+          o.card ∙ ap (λ (x : Card × Answer). x.0) d);
+      fine = λ no_fault t.
+          let f = facts.fine no_fault in
+          let at = legal t in
+          let obeys = f.obeys (subst (λ c. is_foreign c old.card argument ≡ false) (sym means) at.0) (subst (λ c. is_legal c old.card ≡ true) (sym means) at.1) in
+          let d = outcome f.choice in
+          (obeys.1 ∙ ap (λ (x : Card × Answer). answers x.1) d ∙ tells, obeys.0 ∙ ap (λ (x : Card × Answer). x.0) d);
+    }
+
+-- a command that names no card
+owned : (command : Command) (card : Card) (argument : ℕ) → is_addressed command ≡ false → is_foreign command card argument ≡ false
+owned command card argument h = ap (λ b. b && not (field 31 16 argument == card.rca)) h
+
+-- of one state
+pub does_in : {X : Type 0} (answers : Answer → Result X Unheard) (state : State) (told : X) (after : Card) (answer : Answer) (command : Command)
+    (old : Side) (index argument : ℕ) (heard : Result X Unheard) (new : Side)
+    → CommandFacts answers old index argument heard new → meant old.card index ≡ command → reached command old.card ≡ old.card
+    → is_addressed command ≡ false → is_legal command old.card ≡ is_in old.card.state state
+    → ((choice : Choice) → row choice command old.card index argument ≡ (after, answer)) → answers answer ≡ Ok told
+    → Does (old.card.state ≡ state) told after old heard new
+does_in answers state told after answer command old index argument heard new facts means same own legal done tells =
+    does answers (old.card.state ≡ state) told after answer command old index argument heard new facts means same
+    (λ mine at. in_state old.card.state state (sym legal ∙ at))
+    (λ there. (owned command old.card argument own, legal ∙ in_is old.card.state state there))
+    done tells
+
+-- of one state, for a card that knows it
+pub does_known : {X : Type 0} (answers : Answer → Result X Unheard) (state : State) (knows : Bool) (told : X) (after : Card) (answer : Answer) (command : Command)
+    (old : Side) (index argument : ℕ) (heard : Result X Unheard) (new : Side)
+    → CommandFacts answers old index argument heard new → meant old.card index ≡ command → reached command old.card ≡ old.card
+    → is_addressed command ≡ false → is_legal command old.card ≡ (is_in old.card.state state && knows)
+    → ((choice : Choice) → row choice command old.card index argument ≡ (after, answer)) → answers answer ≡ Ok told
+    → Does ((old.card.state ≡ state) × (knows ≡ true)) told after old heard new
+does_known answers state knows told after answer command old index argument heard new facts means same own legal done tells =
+    does answers ((old.card.state ≡ state) × (knows ≡ true)) told after answer command old index argument heard new facts means same
+    (λ mine at. let h = both (is_in old.card.state state) knows (sym legal ∙ at) in (in_state old.card.state state h.0, h.1))
+    (λ there. (owned command old.card argument own, legal ∙ rw (in_is old.card.state state there.0, there.1) refl))
+    done tells
+
+-- of two states
+pub does_either : {X : Type 0} (answers : Answer → Result X Unheard) (state other : State) (told : X) (after : Card) (answer : Answer) (command : Command)
+    (old : Side) (index argument : ℕ) (heard : Result X Unheard) (new : Side)
+    → CommandFacts answers old index argument heard new → meant old.card index ≡ command → reached command old.card ≡ old.card
+    → is_addressed command ≡ false → is_legal command old.card ≡ (is_in old.card.state state || is_in old.card.state other)
+    → ((choice : Choice) → row choice command old.card index argument ≡ (after, answer)) → answers answer ≡ Ok told
+    → Does ((old.card.state ≡ state) ⊎ (old.card.state ≡ other)) told after old heard new
+does_either answers state other told after answer command old index argument heard new facts means same own legal done tells =
+    does answers ((old.card.state ≡ state) ⊎ (old.card.state ≡ other)) told after answer command old index argument heard new facts means same
+    (λ mine at. two_states old.card.state state other (in_either old.card.state state (is_in old.card.state other) (sym legal ∙ at)))
+    (λ there. (owned command old.card argument own, legal ∙ either_in old.card.state state (is_in old.card.state other) (two_tests old.card.state state other there)))
+    done tells
 
 -- Transfers.
 

@@ -14,3 +14,4 @@ pub mod StatusLemmas
 pub mod Readers
 pub mod Hear
 pub mod CommandLemmas
+pub mod InquiryLemmas

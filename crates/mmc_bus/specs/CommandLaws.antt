@@ -1,12 +1,12 @@
 -- What a command tells a host, by what it learned of the exchange: from where the command was carried out, what its answer
 -- says, and the card after it.
-use Rattle.std.specs.Prelude.{◌≡◌, Bool, Ok, Result, false, ℕ}
+use Rattle.std.specs.Prelude.{◌+◌, ◌<◌, ◌^◌, ◌≡◌, ◌⊎◌, Bool, Ok, Result, false, ℕ}
 use Rattle.mmc_frame.specs.Field.{field}
 use Rattle.mmc_frame.specs.Status.{error_bits}
-use Rattle.mmc_frame.specs.declared.card_state.State.TheVariants.{Tran}
+use Rattle.mmc_frame.specs.declared.card_state.State.TheVariants.{Idle, Ready, Tran}
 use Rattle.mmc_frame.specs.declared.kind.Kind.{Kind}
 use Rattle.mmc_bus.specs.declared.host.Unheard.{Unheard}
-use Rattle.mmc_bus.specs.Answer.{status}
+use Rattle.mmc_bus.specs.Answer.{done, status}
 use Rattle.mmc_bus.specs.Card.{Card}
 use Rattle.mmc_bus.specs.Faults.{NoFault}
 use Rattle.mmc_bus.specs.Heard.{response_of}
@@ -34,3 +34,18 @@ pub record Begins (is_write : Bool) (after : Card) (old : Side) (address : ℕ) 
   pub sound : (kind : Kind) (told : ℕ) → heard ≡ Ok told → error_bits kind told ≡ 0 → (old.card.state ≡ Tran) × (new.card ≡ after)
   pub fine : NoFault old new → old.card.state ≡ Tran → transfer_errors is_write old.card address ≡ 0
       → (heard ≡ Ok (status false old.card)) × (new.card ≡ after)
+
+-- A readiness inquiry tells this OCR: the card is ready, or isn't yet.
+abbrev pub TellsReady : Card → ℕ → Card → Type 0
+TellsReady old ocr new = (new ≡ record (done old) { state = Ready; asked = old.asked + 1 }) × (ocr ≡ 2 ^ 31 + old.made.ocr)
+
+abbrev pub TellsWait : Card → ℕ → Card → Type 0
+TellsWait old ocr new = (new ≡ record (done old) { asked = old.asked + 1 }) × (ocr ≡ old.made.ocr)
+
+-- The command asks whether the card is ready. It has to become so, in the end, where `IsServed` holds too.
+pub record Inquires (IsServed : Type 0) (old : Side) (heard : Result ℕ Unheard) (new : Side) : Type 0 where
+  -- an OCR comes from a card in idle, fault or not
+  pub sound : (ocr : ℕ) → heard ≡ Ok ocr → (old.card.state ≡ Idle) × (TellsReady old.card ocr new.card ⊎ TellsWait old.card ocr new.card)
+  -- not ready at most eight times
+  pub fine : NoFault old new → old.card.state ≡ Idle → IsServed
+      → (ocr : ℕ) × (heard ≡ Ok ocr) × (TellsReady old.card ocr new.card ⊎ (TellsWait old.card ocr new.card × (old.card.asked < 8)))

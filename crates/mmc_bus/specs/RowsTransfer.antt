@@ -10,12 +10,14 @@ use Rattle.mmc_bus.specs.Answer.{Answer, Checked, address_error, bit, block_len_
 use Rattle.mmc_bus.specs.Card.{Card, FromBytes, FromSectors, is_in, stored}
 use Rattle.mmc_bus.specs.Made.{is_misaligned, is_read_only, is_sd, sector_at}
 
+-- a card after CMD12: of a write it programs what it took
+abbrev pub stopped : Card → Card
+stopped card =
+    if is_in card.state Rcv then record (busied (shown card)) { state = Prg; is_switching = false } else record (shown card) { state = Tran }
+
 -- CMD12, STOP_TRANSMISSION
 abbrev pub stop_transmission : Card → Card × Answer
-stop_transmission card = (
-  if is_in card.state Rcv then record (busied (shown card)) { state = Prg; is_switching = false } else record (shown card) { state = Tran },
-  Checked 12 (status false card),
-)
+stop_transmission card = (stopped card, Checked 12 (status false card))
 
 -- CMD16, SET_BLOCKLEN: 512 alone (the project's own: the host sends no other)
 abbrev pub set_blocklen : Card → ℕ → Card × Answer
@@ -24,10 +26,13 @@ set_blocklen card argument =
     then (record (shown card) { block_length = 512 }, Checked 16 (status false card))
     else (shown card, Checked 16 (status false (raised block_len_error card)))
 
--- CMD23, SET_BLOCK_COUNT: 32 bits of SD (SD Physical Layer 6.00, section 4.7.4), 16 of eMMC (JESD84-B51, section 6.6.7)
+-- a card after CMD23: 32 bits of SD (SD Physical Layer 6.00, section 4.7.4), 16 of eMMC (JESD84-B51, section 6.6.7)
+abbrev pub preset_to : Card → ℕ → Card
+preset_to card argument = record (shown card) { count = if is_sd card.made.kind then argument else field 15 0 argument }
+
+-- CMD23, SET_BLOCK_COUNT
 abbrev pub set_block_count_to : Card → ℕ → Card × Answer
-set_block_count_to card argument =
-    (record (shown card) { count = if is_sd card.made.kind then argument else field 15 0 argument }, Checked 23 (status false card))
+set_block_count_to card argument = (preset_to card argument, Checked 23 (status false card))
 
 -- a preset count of 0 is none (the project's own)
 abbrev pub preset : Card → Option ℕ

@@ -1,6 +1,6 @@
 use Rattle.std.proofs.Common.{false, refl}
 use Rattle.mmc_bus.proofs.CommandLemmas.{begins, carried}
-use Rattle.mmc_bus.proofs.command_laws.read_single_block.Goals as goal
+use Rattle.mmc_bus.proofs.transfer_laws.read_single_block.Goals as goal
 
 pub returns : goal.returns
 returns c = λ old new address heard facts card none.

@@ -1,0 +1,16 @@
+use Rattle.std.proofs.Common.{false, refl}
+use Rattle.mmc_frame.specs.declared.card_state.State.TheVariants.{Stby}
+use Rattle.mmc_bus.proofs.Cards.{in_state}
+use Rattle.mmc_bus.proofs.CommandLemmas.{does, in_is, named, none_held, owns}
+use Rattle.mmc_bus.proofs.identify_laws.select_card.Goals as goal
+use Rattle.mmc_bus.specs.Answer.{Checked, status}
+use Rattle.mmc_bus.specs.Heard.{response_of}
+use Rattle.mmc_bus.specs.Rows.{SelectCard}
+
+pub returns : goal.returns
+returns c = λ old new argument heard facts none.
+    does (response_of 7) _ (status false old.card) _ (Checked 7 (status false old.card)) SelectCard old 7 argument heard new facts refl
+    (none_held SelectCard old.card none)
+    (λ own legal. (in_state old.card.state Stby legal, named argument old.card own))
+    (λ there. (owns argument old.card there.1, in_is old.card.state Stby there.0))
+    (λ choice. refl) refl
