@@ -26,7 +26,7 @@ use Rattle.mmc_bus.specs.Side.{Side}
 same_number : (n : ℕ) → (n == n) ≡ true
 same_number n = eq-eqb n n refl
 
-not_false : (b : Bool) → not b ≡ false → b ≡ true
+pub not_false : (b : Bool) → not b ≡ false → b ≡ true
 not_false true h = refl
 not_false false h = cc
 
@@ -110,14 +110,15 @@ pub does : {X : Type 0} (answers : Answer → Result X Unheard) (IsThere : Type 
     → Does IsThere told after old heard new
 does answers IsThere told after answer command old index argument heard new facts means same there legal done tells =
     let outcome : (choice : Choice) → carried_out choice old.card index argument ≡ (after, answer) =
-      λ choice. comes choice command old.card index argument (after, answer) means same (done choice) in
+    λ choice. comes choice command old.card index argument (after, answer) means same (done choice) in
     record {
       sound = λ x h.
           let o = facts.sound x h in
-          let d = outcome o.choice in
-          (there (subst (λ c. is_foreign c old.card argument ≡ false) means o.own) (subst (λ c. is_legal c old.card ≡ true) means o.legal),
-          same_ok x told (sym h ∙ o.answer ∙ ap (λ (x : Card × Answer). answers x.1) d ∙ tells),
-          o.card ∙ ap (λ (x : Card × Answer). x.0) d);
+          let d = outcome o.choice in (
+            there (subst (λ c. is_foreign c old.card argument ≡ false) means o.own) (subst (λ c. is_legal c old.card ≡ true) means o.legal),
+            same_ok x told (sym h ∙ o.answer ∙ ap (λ (x : Card × Answer). answers x.1) d ∙ tells),
+            o.card ∙ ap (λ (x : Card × Answer). x.0) d,
+          );
       fine = λ no_fault t.
           let f = facts.fine no_fault in
           let at = legal t in
@@ -218,10 +219,11 @@ begins is_write index after old address heard new facts k own legal done = recor
   sound = λ kind told h none.
       let o = facts.sound told h in
       let d = done o.choice in
-      let errors = transfer_errors is_write old.card address in
-      (in_state old.card.state Tran (sym legal ∙ o.legal),
-      begun_by (errors == 0) kind index errors told old.card after new.card refl k (among_errors _ _ _ _)
-      (o.card ∙ ap (λ (x : Card × Answer). x.0) d) (sym h ∙ o.answer ∙ ap (λ (x : Card × Answer). response_of index x.1) d) none);
+      let errors = transfer_errors is_write old.card address in (
+        in_state old.card.state Tran (sym legal ∙ o.legal),
+        begun_by (errors == 0) kind index errors told old.card after new.card refl k (among_errors _ _ _ _)
+            (o.card ∙ ap (λ (x : Card × Answer). x.0) d) (sym h ∙ o.answer ∙ ap (λ (x : Card × Answer). response_of index x.1) d) none,
+      );
   fine = λ same tran none.
       let f = facts.fine same in
       let obeys = f.obeys own (legal ∙ in_is old.card.state Tran tran) in

@@ -42,10 +42,10 @@ TellsReady old ocr new = (new ≡ record (done old) { state = Ready; asked = old
 abbrev pub TellsWait : Card → ℕ → Card → Type 0
 TellsWait old ocr new = (new ≡ record (done old) { asked = old.asked + 1 }) × (ocr ≡ old.made.ocr)
 
--- The command asks whether the card is ready. It has to become so, in the end, where `IsServed` holds too.
+-- The command asks a card whether it is ready, which it becomes for a host that serves it.
 pub record Inquires (IsServed : Type 0) (old : Side) (heard : Result ℕ Unheard) (new : Side) : Type 0 where
   -- an OCR comes from a card in idle, fault or not
   pub sound : (ocr : ℕ) → heard ≡ Ok ocr → (old.card.state ≡ Idle) × (TellsReady old.card ocr new.card ⊎ TellsWait old.card ocr new.card)
-  -- not ready at most eight times
+  -- at most eight times that it isn't ready
   pub fine : NoFault old new → old.card.state ≡ Idle → IsServed
       → (ocr : ℕ) × (heard ≡ Ok ocr) × (TellsReady old.card ocr new.card ⊎ (TellsWait old.card ocr new.card × (old.card.asked < 8)))

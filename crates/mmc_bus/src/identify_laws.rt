@@ -24,7 +24,7 @@ pub fn go_idle_state()
         → NoFault old new → (lands : ℕ → Bool) × (new.card ≡ reset lands old.card) }
 {}
 
-/// CMD1 of eMMC, SEND_OP_COND: a device in idle tells its OCR, and is ready after at most eight that say that it isn't.
+/// CMD1 of eMMC, SEND_OP_COND: a device in idle tells its OCR, and says at most eight times that it isn't ready.
 pub fn send_op_cond()
     ensures { (old new : Side) (argument : ℕ) (heard : Result ℕ Unheard) → CommandFacts ocr_of old 1 argument heard new → IsCard old.card
         → old.card.made.kind ≡ Mmc → Inquires Unit old heard new }
@@ -77,8 +77,8 @@ pub fn send_status()
         → Does ((is_identified old.card.state ≡ true) × (old.card.app ≡ false) × Names argument old.card) (status false old.card) (shown old.card) old heard new }
 {}
 
-/// ACMD41, SD_SEND_OP_COND: a card in idle tells its OCR, and a host that serves it hears at most eight that say that it
-/// isn't ready.
+/// ACMD41, SD_SEND_OP_COND: a card in idle tells its OCR, and says to a host that serves it at most eight times that it isn't
+/// ready.
 pub fn sd_send_op_cond()
     ensures { (old new : Side) (argument : ℕ) (heard : Result ℕ Unheard) → CommandFacts ocr_of old 41 argument heard new → IsCard old.card
         → old.card.made.kind ≡ Sd → old.card.app ≡ true → Inquires (is_served old.card argument ≡ true) old heard new }
