@@ -9,7 +9,7 @@ use Rattle.mmc_bus.specs.declared.part.Part.TheVariants as Part
 use Rattle.mmc_bus.specs.declared.plain.PlainCard.{PlainCard}
 use Rattle.mmc_bus.specs.Answer.{Answer, Choice}
 use Rattle.mmc_bus.specs.Card.{Card, FromSectors, NoAddress}
-use Rattle.mmc_bus.specs.Faults.{Spells}
+use Rattle.mmc_bus.specs.Faults.{NoFault, Spells}
 use Rattle.mmc_bus.specs.Made.{Made}
 use Rattle.mmc_bus.specs.Phase.{is_programming, left_in, state_of, values_in}
 use Rattle.mmc_bus.specs.Side.{Side}
@@ -80,3 +80,8 @@ is_known (Some command) = (command.0 == 13) || ((command.0 == 17) || (command.0 
 
 abbrev pub plain_side : PlainCard → Side
 plain_side card = side_with (card_of card.chip) card.is_kept card.wire
+
+-- kept if it was, and no fault falls
+pub record StaysKept (old new : Side) : Type 0 where
+  pub is_kept : new.is_kept ≡ old.is_kept
+  pub no_fault : NoFault old new

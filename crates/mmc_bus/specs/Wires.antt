@@ -1,7 +1,9 @@
 -- What a bus keeps of its exchanges at run time, and the side of a bus that keeps nothing else.
-use Rattle.std.specs.Prelude.{◌+◌, ◌-◌, ◌^◌, ◌≡◌, Bool, Some, [], false, min}
+use Rattle.std.specs.Prelude.{◌+◌, ◌-◌, ◌^◌, ◌≡◌, Bool, None, Some, [], false, min}
 use Rattle.mmc_frame.specs.declared.kind.Kind.TheVariants.{Sd}
 use Rattle.mmc_bus.specs.declared.bus.Exchange.{Exchange}
+use Rattle.mmc_bus.specs.declared.bus.Timing.TheVariants.{Default}
+use Rattle.mmc_bus.specs.declared.bus.Width.TheVariants.{One}
 use Rattle.mmc_bus.specs.declared.wire.Wire.{Wire}
 use Rattle.mmc_bus.specs.Card.{Card, powered_on}
 use Rattle.mmc_bus.specs.Made.{Made}
@@ -32,6 +34,13 @@ nothing_made =
       answers_cmd8 = false;
       has_high_speed = false;
     }
+
+-- no exchange so far, and no fault, on one line at default speed
+pub record IsUnused (side : Side) : Type 0 where
+  pub lines : side.lines ≡ record { width = One; timing = Default }
+  pub last : side.last ≡ None
+  pub exchanges : side.exchanges ≡ 0
+  pub faults : side.faults ≡ 0
 
 -- The side of a bus that never is kept: its card says nothing.
 abbrev pub unkept : Wire → Side

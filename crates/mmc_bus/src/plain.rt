@@ -1,4 +1,5 @@
-ghost use Rattle.std.specs.Prelude.{◌≡◌, ◌≤◌, IfOk, replicate};
+ghost use Rattle.std.specs.Prelude.{◌≡◌, ◌≤◌, IfOk, length, replicate, true};
+ghost use Rattle.mmc_bus.specs.PlainCard.{StaysKept, contents_of, is_known, plain_side};
 
 use crate::bus::{Bus, DataIn, DataOut, Exchange, Reply, Timing, Want, Width};
 use crate::chip::Chip;
@@ -20,9 +21,8 @@ pub struct PlainCard {
 }
 
 impl PlainCard {
-    ghost use Rattle.std.specs.Prelude.{true};
     ghost use Rattle.mmc_frame.specs.declared.card_state.State.TheVariants as State;
-    ghost use Rattle.mmc_bus.specs.PlainCard.{contents_of, plain_side};
+    ghost use Rattle.mmc_bus.specs.Wires.{IsUnused};
 
     /// A card of this many sectors, from 1 to 65,536, that are all 00h.
     ///
@@ -34,6 +34,7 @@ impl PlainCard {
         ensures contents { IfOk result (λ card. contents_of card ≡ replicate sectors (replicate 512 0)) }
         ensures kept { IfOk result (λ card. (plain_side card).is_kept ≡ true) }
         ensures tran { IfOk result (λ card. (plain_side card).card.state ≡ State.Tran) }
+        ensures unused { IfOk result (λ card. IsUnused (plain_side card)) }
     {
         Ok(PlainCard {
             chip: Chip::new(alloc, sectors)?,
@@ -44,11 +45,15 @@ impl PlainCard {
 }
 
 impl Bus for PlainCard {
-    ghost use Rattle.mmc_bus.specs.PlainCard.{plain_side};
+    ghost use Rattle.mmc_frame.specs.Frame.{command_in};
+    ghost use Rattle.mmc_bus.specs.Exchanges.{Commanded, Given, Polled, SetsLines, Taken};
 
     ghost side = { plain_side };
 
-    fn command(&mut self, frame: [u8; 6], want: Want) -> Reply {
+    fn command(&mut self, frame: [u8; 6], want: Want) -> Reply
+        ensures exchanged { Commanded (plain_side self.old) frame result (plain_side self.new) }
+        ensures kept { is_known (command_in frame) ≡ true → StaysKept (plain_side self.old) (plain_side self.new) }
+    {
         let _ = want;
         self.is_kept = self.is_kept && Chip::knows(&frame);
         let reply = self.chip.command(&frame);
@@ -56,7 +61,10 @@ impl Bus for PlainCard {
         reply
     }
 
-    fn read_data(&mut self, buffer: &mut [u8]) -> DataIn {
+    fn read_data(&mut self, buffer: &mut [u8]) -> DataIn
+        ensures exchanged { Taken (plain_side self.old) (length buffer.old) result buffer.new (plain_side self.new) }
+        ensures kept { StaysKept (plain_side self.old) (plain_side self.new) }
+    {
         let got = self.chip.send(self.wire.lines, buffer);
         self.wire.note(Exchange::In {
             len: buffer.len(),
@@ -65,19 +73,28 @@ impl Bus for PlainCard {
         got
     }
 
-    fn write_data(&mut self, block: &[u8; 512]) -> DataOut {
+    fn write_data(&mut self, block: &[u8; 512]) -> DataOut
+        ensures exchanged { Given (plain_side self.old) block.now result (plain_side self.new) }
+        ensures kept { StaysKept (plain_side self.old) (plain_side self.new) }
+    {
         let got = self.chip.take(self.wire.lines, block);
         self.wire.note(Exchange::Out { got });
         got
     }
 
-    fn busy(&mut self) -> bool {
+    fn busy(&mut self) -> bool
+        ensures exchanged { Polled (plain_side self.old) result (plain_side self.new) }
+        ensures kept { StaysKept (plain_side self.old) (plain_side self.new) }
+    {
         self.chip.store();
         self.wire.note(Exchange::Busy { yes: false });
         false
     }
 
-    fn set_lines(&mut self, width: Width, timing: Timing) {
+    fn set_lines(&mut self, width: Width, timing: Timing)
+        ensures set { SetsLines (plain_side self.old) width timing (plain_side self.new) }
+        ensures kept { StaysKept (plain_side self.old) (plain_side self.new) }
+    {
         self.wire.set_lines(width, timing);
     }
 }

@@ -89,11 +89,13 @@ fn next_block(answers: &mut VecDeque<BusAnswer>, buffer: &mut [u8]) -> DataIn
 }
 
 impl ScriptedBus {
-    ghost use Rattle.mmc_bus.specs.ScriptedBus.{answers_of};
+    ghost use Rattle.mmc_bus.specs.ScriptedBus.{answers_of, side_of_scripted};
+    ghost use Rattle.mmc_bus.specs.Wires.{IsUnused};
 
     /// A bus that gives these answers, with one line at default speed.
     pub fn new(answers: VecDeque<BusAnswer>) -> ScriptedBus
-        ensures { answers_of result ≡ answers.items }
+        ensures answers { answers_of result ≡ answers.items }
+        ensures unused { IsUnused (side_of_scripted result) }
     {
         ScriptedBus {
             answers,

@@ -5,8 +5,8 @@ use Rattle.mmc_bus.specs.declared.bus.Exchange.TheVariants.{In}
 use Rattle.mmc_bus.proofs.PlainSteps.{plain_is_card}
 use Rattle.mmc_bus.proofs.plain.PlainCardBus.read_data.Goals as goal
 
-pub returns : goal.returns
-returns c = record {
+pub returns-clause-exchanged : goal.returns-clause-exchanged
+returns-clause-exchanged c = record {
   lines = c.note.ensures.lines;
   last = c.note.ensures.last ∙ ap (λ n. Some (In n c.send-got.result)) c.send-got.ensures.len;
   exchanges = c.note.ensures.exchanges;

@@ -3,8 +3,8 @@ use Rattle.mmc_bus.specs.Faults.GiveStep.{faithful}
 use Rattle.mmc_bus.proofs.PlainSteps.{plain_is_card}
 use Rattle.mmc_bus.proofs.plain.PlainCardBus.write_data.Goals as goal
 
-pub returns : goal.returns
-returns c = record {
+pub returns-clause-exchanged : goal.returns-clause-exchanged
+returns-clause-exchanged c = record {
   lines = c.note.ensures.lines;
   last = c.note.ensures.last;
   exchanges = c.note.ensures.exchanges;
