@@ -1,7 +1,6 @@
 -- What a plain card keeps true of its fields, and its sectors after a block was programmed.
-use Rattle.std.proofs.Common.{◌≡◌, ℕ, zero, suc, ◌<◌, ◌≤◌, List, [], ◌∷◌, length, replicate, true, refl, ◌∙◌, ap, arith, bit_or}
+use Rattle.std.proofs.Common.{◌≡◌, ℕ, zero, suc, ◌<◌, ◌≤◌, List, [], ◌∷◌, length, replicate, true, refl, ap, arith}
 use Rattle.std.specs.Prelude.{slice_index_or, slice_set}
-use Rattle.std.proofs.lemmas.Nat.Bits.{same_from_bits, bit_at_or}
 use Rattle.std.proofs.lemmas.Nat.{le_or_l}
 use Rattle.mmc_bus.specs.declared.chip.Phase.{Phase}
 use Rattle.mmc_bus.specs.declared.chip.Phase.TheVariants.{Data, Prg, Rcv, Tran}
@@ -11,13 +10,6 @@ use Rattle.mmc_bus.specs.Card.{AreAmong, AreBlocks, complaint_bits, landed_in}
 
 pub complaints_few : (c : ℕ) → AreAmong c complaint_bits → c ≤ 1536
 complaints_few c h = omega (arith, le_or_l c 1536, h)
-
-or_assoc : (a b c : ℕ) → bit_or (bit_or a b) c ≡ bit_or a (bit_or b c)
-or_assoc a b c = same_from_bits _ _ (λ i. simp bit_at_or (omega arith))
-
--- one bit more of the same kind
-pub among_more : (c b all : ℕ) → AreAmong c all → AreAmong b all → AreAmong (bit_or c b) all
-among_more c b all h k = or_assoc c b all ∙ ap (bit_or c) k ∙ h
 
 landed_none : (xs : List Sector) → landed_in (λ i. true) zero [] xs ≡ xs
 landed_none [] = refl

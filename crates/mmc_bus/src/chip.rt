@@ -133,7 +133,7 @@ impl Chip {
     }
 
     // A command that isn't carried out.
-    #[tactic(auto, using(crate::proofs::PlainLemmas::among_more))]
+    #[tactic(auto, using(crate::proofs::Cards::among_more))]
     fn refuse(&mut self) -> Reply
         ensures answer { result ≡ Reply.Silent }
         ensures card { card_of self.new ≡ refused (card_of self.old) }
@@ -205,7 +205,7 @@ impl Chip {
     }
 
     /// The response to a command. Where its check is wrong, the card notes that and is silent.
-    #[tactic(auto, using(crate::proofs::PlainLemmas::among_more))]
+    #[tactic(auto, using(crate::proofs::Cards::among_more))]
     pub fn command(&mut self, frame: &[u8; 6]) -> Reply
         ensures { is_known (command_in frame.now) ≡ true → Answers (answered calm (card_of self.old) (command_in frame.now)) self.new result }
     {
