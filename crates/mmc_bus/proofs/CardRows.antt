@@ -1,5 +1,5 @@
 -- Each row leaves a card.
-use Rattle.std.proofs.Common.{◌&&◌, ◌||◌, ◌∙◌, ◌≡◌, Bool, List, [], ap, cond, false, inl, inr, length, not, refl, subst, sym, true, ℕ}
+use Rattle.std.proofs.Common.{◌&&◌, ◌||◌, ◌∙◌, ◌≡◌, Bool, List, [], ap, false, inl, inr, length, not, refl, true, ℕ}
 use Rattle.std.specs.Prelude.{◌==◌, None, Option, Some, if◌then◌else◌}
 use Rattle.mmc_frame.specs.Frame.{command_in}
 use Rattle.mmc_frame.specs.declared.card_state.State.{State}
@@ -9,14 +9,15 @@ use Rattle.mmc_bus.specs.declared.bus.DataOut.{DataOut}
 use Rattle.mmc_bus.specs.declared.bus.Lines.{Lines}
 use Rattle.mmc_bus.specs.declared.bus.Reply.{Reply}
 use Rattle.mmc_bus.specs.declared.bus.Timing.{Timing}
-use Rattle.mmc_bus.proofs.Cards.{IsLike, among_more, apart_card, blocks_replicate, blocks_snoc, card_app, card_cond, card_done, card_forgotten, card_garbled, card_if, card_polled, card_programmed, card_raised, card_reached, card_refused, card_reset, card_shown, card_slow, chosen_card, in_state, like_done, like_same, like_shown, stays_card}
+use Rattle.mmc_bus.proofs.Cards.{IsLike, among_more, apart_card, blocks_replicate, blocks_snoc, card_app, card_done, card_forgotten, card_garbled, card_polled, card_programmed, card_raised, card_reached, card_refused, card_reset, card_shown, card_slow, chosen_card, in_state, like_done, like_same, like_shown, stays_card}
+use Rattle.mmc_bus.proofs.Conditions.{along, by_cond, first_by_cond}
 use Rattle.mmc_bus.proofs.Narrow.{AreSwitched, both, is_switched, sends_data}
-use Rattle.mmc_bus.specs.Answer.{Answer, Checked, Choice, Mute, block_len_error, busied, erase_param, erase_reset, general_error, out_of_range, raised, refused, shown, status}
+use Rattle.mmc_bus.specs.Answer.{Choice, busied, erase_reset, general_error, out_of_range, raised, shown}
 use Rattle.mmc_bus.specs.Blocks.{accepted, asked_for, can_send, can_take, end_errors, is_last, offered, programmed, rejected, sent_from}
 use Rattle.mmc_bus.specs.Card.{AreAmong, AreBlocks, Both, Card, First, FromBytes, FromSectors, Held, IsCard, NoAddress, Source, error_bits, is_in, is_selected, is_writing}
 use Rattle.mmc_bus.specs.Faults.{CommandStep, GiveStep, PollStep, TakeStep, bad_block, brownout, fail, faithful, flip_command, flip_reply, lose_command, lose_reply, lose_status, reject, slow_inquiry, slow_poll}
 use Rattle.mmc_bus.specs.Made.{erased_byte_of_card, erased_sector, has_cmd23, has_switch_function}
-use Rattle.mmc_bus.specs.Rows.{ASendOpCond, ASendScr, ASetBusWidth, AllSendCid, AppCmd, Command, Erase, EraseEnd, EraseStart, GoIdleState, ReadMultipleBlock, ReadSingleBlock, SelectCard, SendCsd, SendExtCsd, SendIfCond, SendOpCond, SendRelativeAddr, SendStatus, SetBlockCount, SetBlocklen, SetRelativeAddr, StopTransmission, SwitchByte, SwitchFunc, Unknown, WriteBlock, WriteMultipleBlock, answered, command_of, is_foreign, is_legal, leaves_erase, reached, responded, row, without_addresses}
+use Rattle.mmc_bus.specs.Rows.{ASendOpCond, ASendScr, ASetBusWidth, AllSendCid, AppCmd, Command, Erase, EraseEnd, EraseStart, GoIdleState, ReadMultipleBlock, ReadSingleBlock, SelectCard, SendCsd, SendExtCsd, SendIfCond, SendOpCond, SendRelativeAddr, SendStatus, SetBlockCount, SetBlocklen, SetRelativeAddr, StopTransmission, SwitchByte, SwitchFunc, Unknown, WriteBlock, WriteMultipleBlock, answered, command_of, is_foreign, is_legal, leaves_erase, reached, responded, row}
 use Rattle.mmc_bus.specs.RowsErase.{erase_held, erases, erasing, forgotten, hold_first, hold_last, holds_address, is_no_range, is_trim}
 use Rattle.mmc_bus.specs.RowsIdentify.{inquired, is_served}
 use Rattle.mmc_bus.specs.RowsSwitch.{ext_csd_now, switch_row, switch_status, switched, timing_after}
@@ -53,15 +54,9 @@ card_inquired true c k e =
 card_inquired false c k e =
     stays_card c _ k (like_done c _ k refl refl refl refl) refl refl refl refl refl refl refl (λ h. h) (λ h. refl) (λ h. h)
 
-card_blocklen : (b : Bool) (c : Card) (x y : Answer) → IsCard c → IsCard (cond {A = Card × Answer} b (record (shown c) { block_length = 512 }, x) (shown c, y)).0
-card_blocklen true c x y k =
-    stays_card c _ k (record { made = refl; block_length = inr refl; complaints = refl; errors = refl })
-    refl refl refl refl refl refl refl (λ h. h) (λ h. refl) (λ h. h)
-card_blocklen false c x y k = card_shown c k
-
 card_transferred : (index errors : ℕ) (c after : Card) → IsCard c → IsCard after → IsCard (transferred index errors c after).0
 card_transferred index errors c after k a =
-    card_cond (errors == 0) (after, Checked index (status false c)) (shown c, Checked index (status false (raised errors c))) (λ _. a) (λ _. card_shown c k)
+    first_by_cond IsCard (errors == 0) _ _ (λ _. a) (λ _. card_shown c k)
 
 card_begun : (state : State) (is_single : Bool) (left : Option ℕ) (c : Card) (address : ℕ) → is_selected state ≡ true → IsCard c → IsCard (begun state is_single left c address)
 card_begun state is_single left c address up k =
@@ -78,7 +73,7 @@ not_both false b h n = cc
 card_stopped : (c : Card) → IsCard c → (is_in c.state Data || is_in c.state Rcv) ≡ true
     → IsCard (if is_in c.state Rcv then record (busied (shown c)) { state = Prg; is_switching = false } else record (shown c) { state = Tran })
 card_stopped c k l =
-    card_if (is_in c.state Rcv) _ _
+    by_cond IsCard (is_in c.state Rcv)
     (λ h. chosen_card c _ k (like_shown c _ refl refl refl refl) refl refl (λ h. cc) k.taken)
     (λ h. chosen_card c _ k (like_shown c _ refl refl refl refl) refl refl
     (λ _. none_in c Data k (in_state c.state Data (not_both (is_in c.state Data) (is_in c.state Rcv) l h)) refl) k.taken)
@@ -86,7 +81,7 @@ card_stopped c k l =
 -- in tran, with one field more that may change
 card_in_tran : (c d : Card) → c.state ≡ Tran → IsCard c → IsLike c d → d.state ≡ c.state → d.sectors ≡ c.sectors → d.values ≡ c.values → IsCard d
 card_in_tran c d e k l state sectors values =
-    chosen_card c d k l (ap is_selected (state ∙ e)) sectors (λ _. values ∙ none_in c Tran k e refl) (subst AreBlocks (sym values) k.taken)
+    chosen_card c d k l (ap is_selected (state ∙ e)) sectors (λ _. values ∙ none_in c Tran k e refl) (along AreBlocks values k.taken)
 
 card_first : (index : ℕ) (c : Card) (address : ℕ) (held : Held) → c.state ≡ Tran → IsCard c → IsCard (hold_first index c address held).0
 card_first index c address NoAddress e k = card_in_tran c _ e k (like_shown c _ refl refl refl refl) refl refl refl
@@ -102,10 +97,7 @@ card_erase : (c : Card) (argument : ℕ) (held : Held) → IsCard c → IsCard (
 card_erase c argument NoAddress k = card_forgotten c k
 card_erase c argument (First first) k = card_forgotten c k
 card_erase c argument (Both first last) k =
-    card_cond (is_no_range c first last)
-    (forgotten (shown c), Checked 38 (status false (raised erase_param c)))
-    (erases (erasing c (is_trim c argument) first last) c, Checked 38 (status false c))
-    (λ _. card_forgotten c k)
+    first_by_cond IsCard (is_no_range c first last) _ _ (λ _. card_forgotten c k)
     (λ _. chosen_card c (erases (erasing c (is_trim c argument) first last) c) k (like_shown c _ refl refl refl refl) refl refl (λ h. cc)
     (blocks_replicate _ (erased_sector c.made) (length-replicate 512 (erased_byte_of_card c.made))))
 
@@ -130,7 +122,10 @@ card_row choice SendExtCsd c index argument l k = card_sending (ext_csd_now c) c
 card_row choice SendCsd c index argument l k = card_done c k
 card_row choice StopTransmission c index argument l k = card_stopped c k l
 card_row choice SendStatus c index argument l k = card_shown c k
-card_row choice SetBlocklen c index argument l k = card_blocklen (argument == 512) c (Checked 16 (status false c)) (Checked 16 (status false (raised block_len_error c))) k
+card_row choice SetBlocklen c index argument l k =
+    first_by_cond IsCard (argument == 512) _ _
+    (λ _. stays_card c _ k (record { made = refl; block_length = inr refl; complaints = refl; errors = refl }) refl refl refl refl refl refl refl (λ h. h) (λ h. refl) (λ h. h))
+    (λ _. card_shown c k)
 card_row choice ReadSingleBlock c index argument l k =
     card_transferred 17 (transfer_errors false c argument) c _ k (card_begun Data true (Some 1) c argument refl k)
 card_row choice ReadMultipleBlock c index argument l k =
@@ -160,20 +155,13 @@ legal_dropped _ c = refl
 
 pub legal_reached : (command : Command) (c : Card) → is_legal command (reached command c) ≡ is_legal command c
 legal_reached command c =
-    elim (leaves_erase command) as (λ b. is_legal command (cond b c (without_addresses c)) ≡ is_legal command c) [
-      | true ↦ refl
-      | false ↦ elim (holds_address c.erase) as (λ b. is_legal command (cond b (raised erase_reset (forgotten c)) c) ≡ is_legal command c) [
-        | true ↦ legal_dropped command c
-        | false ↦ refl
-      ]
-    ]
+    let Same : Card → Type 0 = λ d. is_legal command d ≡ is_legal command c in
+    by_cond Same (leaves_erase command) (λ _. refl) (λ _. by_cond Same (holds_address c.erase) (λ _. legal_dropped command c) (λ _. refl))
 
 pub card_responded : (choice : Choice) (command : Command) (c : Card) (index argument : ℕ) → IsCard c → IsCard (responded choice command c index argument).0
 card_responded choice command c index argument k =
-    card_cond (is_foreign command c argument) (c, Mute)
-    (cond (is_legal command c) (row choice command (reached command c) index argument) (refused (reached command c), Mute))
-    (λ _. k)
-    (λ _. card_cond (is_legal command c) (row choice command (reached command c) index argument) (refused (reached command c), Mute)
+    first_by_cond IsCard (is_foreign command c argument) _ _ (λ _. k)
+    (λ _. first_by_cond IsCard (is_legal command c) _ _
     (λ l. card_row choice command (reached command c) index argument (legal_reached command c ∙ l) (card_reached command c k))
     (λ _. card_refused (reached command c) (card_reached command c k)))
 
@@ -184,25 +172,20 @@ card_answered choice c None k = card_garbled choice.keeps_count c k
 -- Blocks.
 
 pub up_if : (b : Bool) (x y : State) → is_selected x ≡ true → is_selected y ≡ true → is_selected (if b then x else y) ≡ true
-up_if true x y p q = p
-up_if false x y p q = q
-
-rests_if : (b : Bool) (x y : State) → is_writing x ≡ true → is_writing y ≡ true → is_writing (if b then x else y) ≡ true
-rests_if true x y p q = p
-rests_if false x y p q = q
+up_if b x y p q = by_cond (λ s. is_selected s ≡ true) b (λ _. p) (λ _. q)
 
 card_accepted : (block : Sector) (c : Card) → length block ≡ 512 → IsCard c → IsCard (accepted block c)
 card_accepted block c h k =
-    let writing = rests_if (is_last c.left) Prg Rcv refl refl in
+    let writing : is_writing (accepted block c).state ≡ true = by_cond (λ s. is_writing s ≡ true) (is_last c.left) (λ _. refl) (λ _. refl) in
     chosen_card c _ k (like_same c _ k refl refl refl refl) (up_if (is_last c.left) Prg Rcv refl refl) refl
     (λ w. cc (writing, w)) (blocks_snoc c.values block k.taken h)
 
 card_rejected : (c : Card) → IsCard c → IsCard (rejected c)
 card_rejected c k =
-    card_if c.is_single _ _ (λ _. chosen_card c _ k (like_same c _ k refl refl refl refl) refl refl (λ _. refl) tt) (λ _. k)
+    by_cond IsCard c.is_single (λ _. chosen_card c _ k (like_same c _ k refl refl refl refl) refl refl (λ _. refl) tt) (λ _. k)
 
 card_offered : (lines : Lines) (block : Sector) (c : Card) → length block ≡ 512 → IsCard c → IsCard (offered lines block c)
-card_offered lines block c h k = card_if (can_take lines c) _ _ (λ _. card_accepted block c h k) (λ _. k)
+card_offered lines block c h k = by_cond IsCard (can_take lines c) (λ _. card_accepted block c h k) (λ _. k)
 
 end_among : (b : Bool) → AreAmong (if b then out_of_range else 0) error_bits
 end_among true = refl
@@ -219,42 +202,39 @@ card_sent_from (FromBytes bytes timing) choice c e k =
 
 card_asked_for : (choice : Choice) (lines : Lines) (size : ℕ) (c : Card) → IsCard c → IsCard (asked_for choice lines size c)
 card_asked_for choice lines size c k =
-    card_if (can_send lines size c) _ _ (λ h. card_sent_from c.source choice c (in_state c.state Data (sends_data lines size c h)) k) (λ _. k)
+    by_cond IsCard (can_send lines size c) (λ h. card_sent_from c.source choice c (in_state c.state Data (sends_data lines size c h)) k) (λ _. k)
 
 -- Steps.
 
-card_along : {c d : Card} → d ≡ c → IsCard c → IsCard d
-card_along e k = subst IsCard (sym e) k
-
 pub command_card : (old : Side) (frame : List ℕ) (reply : Reply) (new : Side) → CommandStep old frame reply new → IsCard old.card → IsCard new.card
-command_card old frame reply new (faithful choice patient count card spells) k = card_along card (card_answered choice old.card (command_in frame) k)
-command_card old frame reply new (lose_command count card silent) k = card_along card k
-command_card old frame reply new (flip_command keeps_count count card silent) k = card_along card (card_garbled keeps_count old.card k)
-command_card old frame reply new (lose_reply choice patient count card answers silent) k = card_along card (card_answered choice old.card (command_in frame) k)
-command_card old frame reply new (flip_reply choice patient count card flipped) k = card_along card (card_answered choice old.card (command_in frame) k)
-command_card old frame reply new (slow_inquiry choice slow late inquiry count card spells) k = card_along card (card_answered choice old.card (command_in frame) k)
+command_card old frame reply new (faithful choice patient count card spells) k = along IsCard card (card_answered choice old.card (command_in frame) k)
+command_card old frame reply new (lose_command count card silent) k = along IsCard card k
+command_card old frame reply new (flip_command keeps_count count card silent) k = along IsCard card (card_garbled keeps_count old.card k)
+command_card old frame reply new (lose_reply choice patient count card answers silent) k = along IsCard card (card_answered choice old.card (command_in frame) k)
+command_card old frame reply new (flip_reply choice patient count card flipped) k = along IsCard card (card_answered choice old.card (command_in frame) k)
+command_card old frame reply new (slow_inquiry choice slow late inquiry count card spells) k = along IsCard card (card_answered choice old.card (command_in frame) k)
 command_card old frame reply new (brownout choice lands after patient count card silent) k =
-    card_along card (card_reset lands _ (card_if after _ _ (λ _. card_answered choice old.card (command_in frame) k) (λ _. k)))
+    along IsCard card (card_reset lands _ (by_cond IsCard after (λ _. card_answered choice old.card (command_in frame) k) (λ _. k)))
 
 pub poll_card : (old : Side) (said : Bool) (new : Side) → PollStep old said new → IsCard old.card → IsCard new.card
-poll_card old said new (faithful choice patient count card answer) k = card_along card (card_polled choice old.card k)
-poll_card old said new (slow_poll busy late count card answer) k = card_along card (card_slow old.card k)
+poll_card old said new (faithful choice patient count card answer) k = along IsCard card (card_polled choice old.card k)
+poll_card old said new (slow_poll busy late count card answer) k = along IsCard card (card_slow old.card k)
 poll_card old said new (fail lands prg switching count card answer) k =
-    card_along card (card_raised general_error (programmed lands old.card) refl (card_programmed lands old.card k))
+    along IsCard card (card_raised general_error (programmed lands old.card) refl (card_programmed lands old.card k))
 poll_card old said new (brownout choice lands after patient count card answer) k =
-    card_along card (card_reset lands _ (card_if after _ _ (λ _. card_polled choice old.card k) (λ _. k)))
+    along IsCard card (card_reset lands _ (by_cond IsCard after (λ _. card_polled choice old.card k) (λ _. k)))
 
 pub give_card : (old : Side) (block : Sector) (got : DataOut) (new : Side) → length block ≡ 512 → GiveStep old block got new → IsCard old.card → IsCard new.card
-give_card old block got new h (faithful count card answer) k = card_along card (card_offered old.lines block old.card h k)
-give_card old block got new h (reject takes count card answer) k = card_along card (card_rejected old.card k)
+give_card old block got new h (faithful count card answer) k = along IsCard card (card_offered old.lines block old.card h k)
+give_card old block got new h (reject takes count card answer) k = along IsCard card (card_rejected old.card k)
 give_card old block got new h (lose_status taken takes count card answer) k =
-    card_along card (card_if taken _ _ (λ _. card_accepted block old.card h k) (λ _. card_rejected old.card k))
+    along IsCard card (by_cond IsCard taken (λ _. card_accepted block old.card h k) (λ _. card_rejected old.card k))
 give_card old block got new h (brownout lands after count card answer) k =
-    card_along card (card_reset lands _ (card_if after _ _ (λ _. card_offered old.lines block old.card h k) (λ _. k)))
+    along IsCard card (card_reset lands _ (by_cond IsCard after (λ _. card_offered old.lines block old.card h k) (λ _. k)))
 
 pub take_card : (old : Side) (size : ℕ) (got : DataIn) (block : Sector) (new : Side) → TakeStep old size got block new → IsCard old.card → IsCard new.card
-take_card old size got block new (faithful choice count card answer good) k = card_along card (card_asked_for choice old.lines size old.card k)
+take_card old size got block new (faithful choice count card answer good) k = along IsCard card (card_asked_for choice old.lines size old.card k)
 take_card old size got block new (bad_block choice comes sends count card answer) k =
-    card_along card (card_sent_from old.card.source choice old.card (in_state old.card.state Data (sends_data old.lines size old.card sends)) k)
+    along IsCard card (card_sent_from old.card.source choice old.card (in_state old.card.state Data (sends_data old.lines size old.card sends)) k)
 take_card old size got block new (brownout choice lands after count card answer) k =
-    card_along card (card_reset lands _ (card_if after _ _ (λ _. card_asked_for choice old.lines size old.card k) (λ _. k)))
+    along IsCard card (card_reset lands _ (by_cond IsCard after (λ _. card_asked_for choice old.lines size old.card k) (λ _. k)))

@@ -1,16 +1,17 @@
 -- Each step of a card leaves a card.
-use Rattle.std.proofs.Common.{◌&&◌, ◌++◌, ◌+◌, ◌∙◌, ◌∷◌, ◌≡◌, ◌⊎◌, Bool, List, [], ap, arith, cond, false, inl, inr, length, refl, subst, suc, sym, true, zero, ℕ}
-use Rattle.std.specs.Prelude.{bit_or, if◌then◌else◌, replicate, slice_index_or}
+use Rattle.std.proofs.Common.{◌&&◌, ◌++◌, ◌+◌, ◌∙◌, ◌∷◌, ◌≡◌, ◌⊎◌, Bool, List, [], ap, arith, false, inl, inr, length, refl, suc, sym, true, zero, ℕ}
+use Rattle.std.specs.Prelude.{bit_or, replicate, slice_index_or}
 use Rattle.mmc_frame.specs.Status.{state_number}
 use Rattle.mmc_frame.specs.declared.card_state.State.{State}
 use Rattle.mmc_frame.specs.declared.card_state.State.TheVariants.{Data, Dis, Ident, Idle, Prg, Rcv, Ready, Stby, Tran}
 use Rattle.mmc_bus.specs.declared.part.Part.{Part}
+use Rattle.mmc_bus.proofs.Conditions.{along, by_cond, first_by_cond}
 use Rattle.mmc_bus.proofs.Landing.{one_set}
 use Rattle.mmc_bus.specs.Answer.{Choice, com_crc_error, done, erase_reset, garbled, illegal_command, raised, refused, reset, shown}
 use Rattle.mmc_bus.specs.Blocks.{polled_once, programmed, rested}
 use Rattle.mmc_bus.specs.Card.{AreAmong, AreBlocks, Card, IsApart, IsCard, NoAddress, complaint_bits, error_bits, is_in, is_selected, is_writing, landed, landed_in, stored}
 use Rattle.mmc_bus.specs.Made.{HasRegisters, first_block_length}
-use Rattle.mmc_bus.specs.Rows.{Command, leaves_erase, reached, without_addresses}
+use Rattle.mmc_bus.specs.Rows.{Command, leaves_erase, reached}
 use Rattle.mmc_bus.specs.RowsErase.{forgotten, holds_address}
 use Rattle.mmc_bus.specs.Sectors.{Sector, part_number}
 use Rattle.std.proofs.lemmas.Nat.Bits.{bit_at_or, same_from_bits}
@@ -65,14 +66,10 @@ apart_rests Dis h = refl
 
 -- Blocks.
 
-one_length : (b : Bool) (w x : Sector) → length w ≡ 512 → length x ≡ 512 → length (if b then w else x) ≡ 512
-one_length true w x p q = p
-one_length false w x p q = q
-
 pub blocks_some : (lands : ℕ → Bool) (i : ℕ) (vs xs : List Sector) → AreBlocks vs → AreBlocks xs → AreBlocks (landed_in lands i vs xs)
 blocks_some lands i vs [] v x = tt
 blocks_some lands zero [] (x ∷ xs) v h = h
-blocks_some lands zero (w ∷ vs) (x ∷ xs) v h = (one_length (lands (length vs)) w x v.0 h.0, blocks_some lands zero vs xs v.1 h.1)
+blocks_some lands zero (w ∷ vs) (x ∷ xs) v h = (by_cond (λ (block : Sector). length block ≡ 512) (lands (length vs)) (λ _. v.0) (λ _. h.0), blocks_some lands zero vs xs v.1 h.1)
 blocks_some lands (suc i) vs (x ∷ xs) v h = (h.0, blocks_some lands i vs xs v h.1)
 
 pub blocks_snoc : (vs : List Sector) (block : Sector) → AreBlocks vs → length block ≡ 512 → AreBlocks (vs ++ block ∷ [])
@@ -87,12 +84,12 @@ blocks_landed : (lands : ℕ → Bool) (c : Card) → IsCard c → (p : Part) �
 blocks_landed lands c k p =
     let new = landed_in lands c.start c.values (stored c c.part) in
     elim (one_set c.sectors (part_number c.part) new [] (part_number p)) [
-      | inl o ↦ subst AreBlocks (sym o) (k.blocks p)
-      | inr n ↦ subst AreBlocks (sym n.1) (blocks_some lands c.start c.values (stored c c.part) k.taken (k.blocks c.part))
+      | inl o ↦ along AreBlocks o (k.blocks p)
+      | inr n ↦ along AreBlocks n.1 (blocks_some lands c.start c.values (stored c c.part) k.taken (k.blocks c.part))
     ]
 
 same_blocks : (c d : Card) → d.sectors ≡ c.sectors → IsCard c → (p : Part) → AreBlocks (stored d p)
-same_blocks c d st k p = subst (λ (ss : List (List Sector)). AreBlocks (slice_index_or ss (part_number p) [])) (sym st) (k.blocks p)
+same_blocks c d st k p = along (λ (ss : List (List Sector)). AreBlocks (slice_index_or ss (part_number p) [])) st (k.blocks p)
 
 -- Makers.
 
@@ -116,7 +113,7 @@ block_length_like c d k l =
 pub made_card : (c d : Card) → IsCard c → IsLike c d → (is_selected d.state ≡ false → IsApart d) → (is_writing d.state ≡ false → d.values ≡ [])
     → ((p : Part) → AreBlocks (stored d p)) → AreBlocks d.values → IsCard d
 made_card c d k l apart finished blocks taken = record {
-  registers = subst HasRegisters (sym l.made) k.registers;
+  registers = along HasRegisters l.made k.registers;
   apart = apart;
   finished = finished;
   block_length = block_length_like c d k l;
@@ -144,7 +141,7 @@ stays_card c d k l state sectors values width timing group part busy count erase
     })
     (λ h. values ∙ k.finished (ap is_writing (sym state) ∙ h))
     (same_blocks c d sectors k)
-    (subst AreBlocks (sym values) k.taken)
+    (along AreBlocks values k.taken)
 
 -- From a state with the card not selected to another one.
 pub apart_card : (c d : Card) → IsCard c → IsLike c d → is_selected c.state ≡ false → is_writing d.state ≡ false → d.sectors ≡ c.sectors → d.values ≡ c.values
@@ -164,7 +161,7 @@ apart_card c d k l down rests sectors values width timing group part busy count 
     })
     (λ h. values ∙ k.finished (apart_rests c.state down))
     (same_blocks c d sectors k)
-    (subst AreBlocks (sym values) k.taken)
+    (along AreBlocks values k.taken)
 
 -- The card is selected after it.
 pub chosen_card : (c d : Card) → IsCard c → IsLike c d → is_selected d.state ≡ true → d.sectors ≡ c.sectors
@@ -174,13 +171,13 @@ chosen_card c d k l up sectors finished taken =
 
 -- after a response with a status, one without, and a command that isn't carried out
 pub like_shown : (c d : Card) → d.made ≡ c.made → d.block_length ≡ c.block_length → d.complaints ≡ 0 → d.errors ≡ 0 → IsLike c d
-like_shown c d m b x y = record { made = m; block_length = inl b; complaints = subst (λ n. AreAmong n complaint_bits) (sym x) refl; errors = subst (λ n. AreAmong n error_bits) (sym y) refl }
+like_shown c d m b x y = record { made = m; block_length = inl b; complaints = along (λ n. AreAmong n complaint_bits) x refl; errors = along (λ n. AreAmong n error_bits) y refl }
 
 pub like_done : (c d : Card) → IsCard c → d.made ≡ c.made → d.block_length ≡ c.block_length → d.complaints ≡ 0 → d.errors ≡ c.errors → IsLike c d
-like_done c d k m b x y = record { made = m; block_length = inl b; complaints = subst (λ n. AreAmong n complaint_bits) (sym x) refl; errors = subst (λ n. AreAmong n error_bits) (sym y) k.errors }
+like_done c d k m b x y = record { made = m; block_length = inl b; complaints = along (λ n. AreAmong n complaint_bits) x refl; errors = along (λ n. AreAmong n error_bits) y k.errors }
 
 pub like_same : (c d : Card) → IsCard c → d.made ≡ c.made → d.block_length ≡ c.block_length → d.complaints ≡ c.complaints → d.errors ≡ c.errors → IsLike c d
-like_same c d k m b x y = record { made = m; block_length = inl b; complaints = subst (λ n. AreAmong n complaint_bits) (sym x) k.complaints; errors = subst (λ n. AreAmong n error_bits) (sym y) k.errors }
+like_same c d k m b x y = record { made = m; block_length = inl b; complaints = along (λ n. AreAmong n complaint_bits) x k.complaints; errors = along (λ n. AreAmong n error_bits) y k.errors }
 
 pub card_shown : (c : Card) → IsCard c → IsCard (shown c)
 card_shown c k = stays_card c (shown c) k (like_shown c _ refl refl refl refl) refl refl refl refl refl refl refl (λ h. h) (λ h. refl) (λ h. h)
@@ -200,15 +197,11 @@ card_refused c k =
     (record { made = refl; block_length = inl refl; complaints = among_more c.complaints illegal_command complaint_bits k.complaints refl; errors = k.errors })
     refl refl refl refl refl refl refl (λ h. h) (λ h. refl) (λ h. h)
 
-pub count_if : (b : Bool) (n : ℕ) → n ≡ 0 → (if b then n else 0) ≡ 0
-count_if true n h = h
-count_if false n h = refl
-
 pub card_garbled : (keeps : Bool) (c : Card) → IsCard c → IsCard (garbled keeps c)
 card_garbled keeps c k =
     stays_card c (garbled keeps c) k
     (record { made = refl; block_length = inl refl; complaints = among_more c.complaints com_crc_error complaint_bits k.complaints refl; errors = k.errors })
-    refl refl refl refl refl refl refl (λ h. h) (λ h. count_if keeps c.count h) (λ h. h)
+    refl refl refl refl refl refl refl (λ h. h) (λ h. by_cond (λ n. n ≡ 0) keeps (λ _. h) (λ _. refl)) (λ h. h)
 
 -- error bits are raised
 pub card_raised : (bits : ℕ) (c : Card) → AreAmong bits error_bits → IsCard c → IsCard (raised bits c)
@@ -223,18 +216,9 @@ card_dropped c k =
     (record { made = refl; block_length = inl refl; complaints = k.complaints; errors = among_more c.errors erase_reset error_bits k.errors refl })
     refl refl refl refl refl refl refl (λ h. h) (λ h. h) (λ h. refl)
 
-pub card_if : (b : Bool) (x y : Card) → (b ≡ true → IsCard x) → (b ≡ false → IsCard y) → IsCard (if b then x else y)
-card_if true x y p q = p refl
-card_if false x y p q = q refl
-
-pub card_cond : {X : Type 0} (b : Bool) (x y : Card × X) → (b ≡ true → IsCard x.0) → (b ≡ false → IsCard y.0) → IsCard (cond b x y).0
-card_cond true x y p q = p refl
-card_cond false x y p q = q refl
-
 pub card_reached : (command : Command) (c : Card) → IsCard c → IsCard (reached command c)
 card_reached command c k =
-    card_if (leaves_erase command) c (without_addresses c) (λ _. k)
-    (λ _. card_if (holds_address c.erase) (raised erase_reset (forgotten c)) c (λ _. card_dropped c k) (λ _. k))
+    by_cond IsCard (leaves_erase command) (λ _. k) (λ _. by_cond IsCard (holds_address c.erase) (λ _. card_dropped c k) (λ _. k))
 
 pub card_reset : (lands : ℕ → Bool) (c : Card) → IsCard c → IsCard (reset lands c)
 card_reset lands c k =
@@ -248,7 +232,7 @@ card_programmed lands c k =
 
 pub card_rested : (c : Card) → IsCard c → IsCard (rested c)
 card_rested c k =
-    card_if (is_in c.state Prg) _ _ (λ _. card_programmed (λ i. true) c k)
+    by_cond IsCard (is_in c.state Prg) (λ _. card_programmed (λ i. true) c k)
     (λ _. stays_card c _ k (like_same c _ k refl refl refl refl) refl refl refl refl refl refl refl (λ h. refl) (λ h. h) (λ h. h))
 
 pub card_slow : (c : Card) → IsCard c → IsCard (record c { polled = c.polled + 1 })
@@ -256,4 +240,4 @@ card_slow c k = stays_card c _ k (like_same c _ k refl refl refl refl) refl refl
 
 pub card_polled : (choice : Choice) (c : Card) → IsCard c → IsCard (polled_once choice c).0
 card_polled choice c k =
-    card_cond (c.is_busy && choice.is_slow) (record c { polled = c.polled + 1 }, true) (rested c, false) (λ _. card_slow c k) (λ _. card_rested c k)
+    first_by_cond IsCard (c.is_busy && choice.is_slow) _ _ (λ _. card_slow c k) (λ _. card_rested c k)

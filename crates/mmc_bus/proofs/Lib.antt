@@ -1,5 +1,6 @@
 pub mod CardRows
 pub mod Cards
+pub mod Conditions
 pub mod ExchangeLines
 pub mod FaultCount
 pub mod Landing

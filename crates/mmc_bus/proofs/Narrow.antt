@@ -7,14 +7,15 @@ use Rattle.mmc_frame.specs.declared.card_state.State.TheVariants.{Data, Prg, Rcv
 use Rattle.mmc_ext_csd.specs.ExtCsd.{high_speed_at_52_mhz, partition_config}
 use Rattle.mmc_bus.specs.declared.bus.Lines.{Lines}
 use Rattle.mmc_bus.specs.declared.part.Part.{Part}
+use Rattle.mmc_bus.proofs.Conditions.{by_cond, first_by_cond}
 use Rattle.mmc_bus.proofs.Landing.{at_snoc, landed_size, landed_within, snoc_length}
 use Rattle.mmc_bus.proofs.SectorLemmas.{by_touch, cond_in_new, cond_in_old, in_cond, maybe_within, old_maybe, same_part, touched_by, untouched, within_same}
-use Rattle.mmc_bus.specs.Answer.{Answer, Checked, Choice, Mute, block_len_error, busied, erase_param, erase_reset, garbled, general_error, raised, refused, reset, shown, status}
+use Rattle.mmc_bus.specs.Answer.{Choice, busied, garbled, general_error, raised, refused, reset, shown}
 use Rattle.mmc_bus.specs.Blocks.{accepted, asked_for, can_send, can_take, polled_once, programmed, rejected, rested, sent_from}
 use Rattle.mmc_bus.specs.Card.{Both, Card, First, FromBytes, FromSectors, Held, NoAddress, Source, at_sector, holds, is_in, known, landed, stored, unfinished}
 use Rattle.mmc_bus.specs.Laws.{Carried, WithinOrTaken, erased_by, erased_by_command, erased_by_held, maybe_erased}
-use Rattle.mmc_bus.specs.Rows.{ASendOpCond, ASendScr, ASetBusWidth, AllSendCid, AppCmd, Command, Erase, EraseEnd, EraseStart, GoIdleState, ReadMultipleBlock, ReadSingleBlock, SelectCard, SendCsd, SendExtCsd, SendIfCond, SendOpCond, SendRelativeAddr, SendStatus, SetBlockCount, SetBlocklen, SetRelativeAddr, StopTransmission, SwitchByte, SwitchFunc, Unknown, WriteBlock, WriteMultipleBlock, answered, command_of, is_foreign, is_legal, leaves_erase, reached, responded, row, without_addresses}
-use Rattle.mmc_bus.specs.RowsErase.{erase_held, erases, erasing, forgotten, hold_first, hold_last, holds_address, is_no_range, is_trim}
+use Rattle.mmc_bus.specs.Rows.{ASendOpCond, ASendScr, ASetBusWidth, AllSendCid, AppCmd, Command, Erase, EraseEnd, EraseStart, GoIdleState, ReadMultipleBlock, ReadSingleBlock, SelectCard, SendCsd, SendExtCsd, SendIfCond, SendOpCond, SendRelativeAddr, SendStatus, SetBlockCount, SetBlocklen, SetRelativeAddr, StopTransmission, SwitchByte, SwitchFunc, Unknown, WriteBlock, WriteMultipleBlock, answered, command_of, is_foreign, is_legal, leaves_erase, reached, responded, row}
+use Rattle.mmc_bus.specs.RowsErase.{erase_held, erases, erasing, hold_first, hold_last, holds_address, is_no_range, is_trim}
 use Rattle.mmc_bus.specs.RowsIdentify.{inquired, is_served}
 use Rattle.mmc_bus.specs.RowsSwitch.{access_switched, accessed, part_accessed, switch_row, switched, write_byte}
 use Rattle.mmc_bus.specs.RowsTransfer.{begun, preset, transfer_errors, transferred}
@@ -62,18 +63,6 @@ wide_then change a b c p q = record {
   carried = carried_then p.carried q.carried;
   widens = λ i s v h. erased_within change (holds b) (holds a) p.narrows i s v (q.widens i s v h);
 }
-
-keeps_cond : {X : Type 0} (c : Card) (b : Bool) (x y : Card × X) → Keeps c x.0 → Keeps c y.0 → Keeps c (cond b x y).0
-keeps_cond c true x y p q = p
-keeps_cond c false x y p q = q
-
-wide_cond : {X : Type 0} (change : Option Change) (c : Card) (b : Bool) (x y : Card × X) → Widens change c x.0 → Widens change c y.0 → Widens change c (cond b x y).0
-wide_cond change c true x y p q = p
-wide_cond change c false x y p q = q
-
-pub keeps_if : (c : Card) (b : Bool) (x y : Card) → Keeps c x → Keeps c y → Keeps c (if b then x else y)
-keeps_if c true x y p q = p
-keeps_if c false x y p q = q
 
 same_sizes : (c d : Card) → d.sectors ≡ c.sectors → (p : Part) → length (stored d p) ≡ length (stored c p)
 same_sizes c d st p = ap (λ (ss : List (List Sector)). length (slice_index_or ss (part_number p) [])) st
@@ -135,14 +124,14 @@ pub keeps_failed : (lands : ℕ → Bool) (c : Card) → Keeps c (raised general
 keeps_failed lands c = over c (raised general_error (programmed lands c)) lands refl refl refl
 
 pub keeps_rested : (c : Card) → Keeps c (rested c)
-keeps_rested c = keeps_if c (is_in c.state Prg) _ _ (keeps_programmed (λ i. true) c) (plain c _ refl refl refl)
+keeps_rested c = by_cond (Keeps c) (is_in c.state Prg) (λ _. keeps_programmed (λ i. true) c) (λ _. plain c _ refl refl refl)
 
 pub keeps_slow : (c : Card) → Keeps c (record c { polled = c.polled + 1 })
 keeps_slow c = plain c _ refl refl refl
 
 pub keeps_polled : (choice : Choice) (c : Card) → Keeps c (polled_once choice c).0
 keeps_polled choice c =
-    keeps_cond c (c.is_busy && choice.is_slow) (record c { polled = c.polled + 1 }, true) (rested c, false) (keeps_slow c) (keeps_rested c)
+    first_by_cond (Keeps c) (c.is_busy && choice.is_slow) _ _ (λ _. keeps_slow c) (λ _. keeps_rested c)
 
 -- Rows.
 
@@ -150,19 +139,15 @@ keeps_inquired : (is_ready : Bool) (c : Card) → Keeps c (inquired is_ready c).
 keeps_inquired true c = plain c _ refl refl refl
 keeps_inquired false c = plain c _ refl refl refl
 
-keeps_blocklen : (b : Bool) (c : Card) (x y : Answer) → Keeps c (cond {A = Card × Answer} b (record (shown c) { block_length = 512 }, x) (shown c, y)).0
-keeps_blocklen true c x y = plain c _ refl refl refl
-keeps_blocklen false c x y = plain c _ refl refl refl
-
 keeps_transferred : (index errors : ℕ) (c after : Card) → Keeps c after → Keeps c (transferred index errors c after).0
 keeps_transferred index errors c after k =
-    keeps_cond c (errors == 0) (after, Checked index (status false c)) (shown c, Checked index (status false (raised errors c))) k (plain c _ refl refl refl)
+    first_by_cond (Keeps c) (errors == 0) _ _ (λ _. k) (λ _. plain c _ refl refl refl)
 
 keeps_begun : (state : State) (is_single : Bool) (left : Option ℕ) (c : Card) (address : ℕ) → Keeps c (begun state is_single left c address)
 keeps_begun state is_single left c address = cleared c _ refl refl refl
 
 keeps_stopped : (b : Bool) (c : Card) → Keeps c (if b then record (busied (shown c)) { state = Prg; is_switching = false } else record (shown c) { state = Tran })
-keeps_stopped b c = keeps_if c b _ _ (plain c _ refl refl refl) (plain c _ refl refl refl)
+keeps_stopped b c = by_cond (Keeps c) b (λ _. plain c _ refl refl refl) (λ _. plain c _ refl refl refl)
 
 keeps_first : (index : ℕ) (c : Card) (address : ℕ) (held : Held) → Keeps c (hold_first index c address held).0
 keeps_first index c address NoAddress = plain c _ refl refl refl
@@ -179,11 +164,9 @@ widens_erase c argument NoAddress = wide _ c _ (plain c _ refl refl refl)
 widens_erase c argument (First first) = wide _ c _ (plain c _ refl refl refl)
 widens_erase c argument (Both first last) =
     let change = erasing c (is_trim c argument) first last in
-    wide_cond (Some change) c (is_no_range c first last)
-    (forgotten (shown c), Checked 38 (status false (raised erase_param c)))
-    (erases change c, Checked 38 (status false c))
-    (wide (Some change) c _ (plain c _ refl refl refl))
-    (begins change c (erases change c) refl refl refl)
+    first_by_cond (Widens (Some change) c) (is_no_range c first last) _ _
+    (λ _. wide (Some change) c _ (plain c _ refl refl refl))
+    (λ _. begins change c (erases change c) refl refl refl)
 
 -- a card that differs in its setting alone
 pub record IsSwitched (c d : Card) : Type 0 where
@@ -195,29 +178,24 @@ abbrev pub AreSwitched : Card → Option Card → Type 0
 AreSwitched c None = Unit {0}
 AreSwitched c (Some d) = IsSwitched c d
 
-switched_cond : (c : Card) (b : Bool) (x y : Option Card) → AreSwitched c x → AreSwitched c y → AreSwitched c (cond b x y)
-switched_cond c true x y p q = p
-switched_cond c false x y p q = q
-
 accessed_switched : (c : Card) (o : Option Part) → AreSwitched c (accessed c o)
 accessed_switched c None = tt
 accessed_switched c (Some part) =
-    switched_cond c (length (stored c part) == 0) None (Some (record c { part = part })) tt (record { made = refl; sectors = refl; block_length = refl })
+    by_cond (AreSwitched c) (length (stored c part) == 0) (λ _. tt) (λ _. record { made = refl; sectors = refl; block_length = refl })
 
 access_is_switched : (c : Card) (argument : ℕ) → AreSwitched c (access_switched c argument)
 access_is_switched c argument =
-    switched_cond c (argument == write_byte 179 (8 * field 7 3 (partition_config c.made.ext_csd) + field 10 8 argument))
-    (accessed c (part_accessed (field 10 8 argument))) None
-    (accessed_switched c (part_accessed (field 10 8 argument))) tt
+    by_cond (AreSwitched c) (argument == write_byte 179 (8 * field 7 3 (partition_config c.made.ext_csd) + field 10 8 argument))
+    (λ _. accessed_switched c (part_accessed (field 10 8 argument))) (λ _. tt)
 
 pub is_switched : (c : Card) (argument : ℕ) → AreSwitched c (switched c argument)
 is_switched c argument =
     let same : (d : Card) → d.made ≡ c.made → d.sectors ≡ c.sectors → d.block_length ≡ c.block_length → IsSwitched c d =
     λ d m s b. record { made = m; sectors = s; block_length = b } in
-    switched_cond c (argument == write_byte 175 1) _ _ (same _ refl refl refl)
-    (switched_cond c (argument == write_byte 183 2) _ _ (same _ refl refl refl)
-    (switched_cond c ((argument == write_byte 185 1) && (high_speed_at_52_mhz c.made.ext_csd == 1)) _ _ (same _ refl refl refl)
-    (access_is_switched c argument)))
+    by_cond (AreSwitched c) (argument == write_byte 175 1) (λ _. same _ refl refl refl)
+    (λ _. by_cond (AreSwitched c) (argument == write_byte 183 2) (λ _. same _ refl refl refl)
+    (λ _. by_cond (AreSwitched c) ((argument == write_byte 185 1) && (high_speed_at_52_mhz c.made.ext_csd == 1)) (λ _. same _ refl refl refl)
+    (λ _. access_is_switched c argument)))
 
 keeps_switch : (c : Card) (o : Option Card) → AreSwitched c o → Keeps c (switch_row c o).0
 keeps_switch c None h = cleared c _ refl refl refl
@@ -236,7 +214,8 @@ widens_row choice SendExtCsd c index argument = wide _ c _ (plain c _ refl refl 
 widens_row choice SendCsd c index argument = wide _ c _ (plain c _ refl refl refl)
 widens_row choice StopTransmission c index argument = wide _ c _ (keeps_stopped (is_in c.state Rcv) c)
 widens_row choice SendStatus c index argument = wide _ c _ (plain c _ refl refl refl)
-widens_row choice SetBlocklen c index argument = wide _ c _ (keeps_blocklen (argument == 512) c (Checked 16 (status false c)) (Checked 16 (status false (raised block_len_error c))))
+widens_row choice SetBlocklen c index argument =
+    wide _ c _ (first_by_cond (Keeps c) (argument == 512) _ _ (λ _. plain c _ refl refl refl) (λ _. plain c _ refl refl refl))
 widens_row choice ReadSingleBlock c index argument =
     wide _ c _ (keeps_transferred 17 (transfer_errors false c argument) c _ (keeps_begun Data true (Some 1) c argument))
 widens_row choice ReadMultipleBlock c index argument =
@@ -258,8 +237,8 @@ widens_row choice Unknown c index argument = wide _ c _ (plain c _ refl refl ref
 
 pub keeps_reached : (command : Command) (c : Card) → Keeps c (reached command c)
 keeps_reached command c =
-    keeps_if c (leaves_erase command) c (without_addresses c) (keeps_same c)
-    (keeps_if c (holds_address c.erase) (raised erase_reset (forgotten c)) c (plain c _ refl refl refl) (keeps_same c))
+    by_cond (Keeps c) (leaves_erase command) (λ _. keeps_same c)
+    (λ _. by_cond (Keeps c) (holds_address c.erase) (λ _. plain c _ refl refl refl) (λ _. keeps_same c))
 
 -- only CMD38 may erase, and it is reached as it is
 same_erased : (command : Command) (c : Card) (argument : ℕ) → erased_by_command command (reached command c) argument ≡ erased_by_command command c argument
@@ -277,12 +256,9 @@ pub widens_responded : (choice : Choice) (command : Command) (c : Card) (index a
     → Widens (erased_by_command command c argument) c (responded choice command c index argument).0
 widens_responded choice command c index argument =
     let change = erased_by_command command c argument in
-    wide_cond change c (is_foreign command c argument) (c, Mute)
-    (cond (is_legal command c) (row choice command (reached command c) index argument) (refused (reached command c), Mute))
-    (wide change c c (keeps_same c))
-    (wide_cond change c (is_legal command c) (row choice command (reached command c) index argument) (refused (reached command c), Mute)
-    (widens_reached choice command c index argument)
-    (wide change c _ (keeps_then (keeps_reached command c) (keeps_refused (reached command c)))))
+    first_by_cond (Widens change c) (is_foreign command c argument) _ _ (λ _. wide change c c (keeps_same c))
+    (λ _. first_by_cond (Widens change c) (is_legal command c) _ _ (λ _. widens_reached choice command c index argument)
+    (λ _. wide change c _ (keeps_then (keeps_reached command c) (keeps_refused (reached command c)))))
 
 pub widens_answered : (choice : Choice) (c : Card) (sent : Option (ℕ × ℕ)) → Widens (erased_by c sent) c (answered choice c sent).0
 widens_answered choice c (Some command) =
@@ -297,10 +273,10 @@ keeps_sent_from (FromBytes bytes timing) choice c = plain c _ refl refl refl
 
 pub keeps_asked_for : (choice : Choice) (lines : Lines) (size : ℕ) (c : Card) → Keeps c (asked_for choice lines size c)
 keeps_asked_for choice lines size c =
-    keeps_if c (can_send lines size c) _ _ (keeps_sent_from c.source choice c) (keeps_same c)
+    by_cond (Keeps c) (can_send lines size c) (λ _. keeps_sent_from c.source choice c) (λ _. keeps_same c)
 
 pub keeps_rejected : (c : Card) → Keeps c (rejected c)
-keeps_rejected c = keeps_if c c.is_single _ _ (cleared c _ refl refl refl) (keeps_same c)
+keeps_rejected c = by_cond (Keeps c) c.is_single (λ _. cleared c _ refl refl refl) (λ _. keeps_same c)
 
 -- a block that was taken
 pub accepted_adds : (block : Sector) (c : Card) → is_in c.state Rcv ≡ true → WithinOrTaken c block (accepted block c)

@@ -1,5 +1,5 @@
 -- The steps of a run leave a card selected as it was, or as after CMD0.
-use Rattle.std.proofs.Common.{◌&&◌, ◌+◌, ◌||◌, ◌∙◌, ◌≡◌, ◌⊎◌, Bool, List, ap, cond, false, inl, inr, refl, subst, sym, true, ℕ}
+use Rattle.std.proofs.Common.{◌&&◌, ◌+◌, ◌||◌, ◌∙◌, ◌≡◌, ◌⊎◌, Bool, List, ap, false, inl, inr, refl, sym, true, ℕ}
 use Rattle.std.specs.Prelude.{◌==◌, None, Option, Some, if◌then◌else◌}
 use Rattle.mmc_frame.specs.Frame.{command_in}
 use Rattle.mmc_frame.specs.declared.card_state.State.{State}
@@ -10,16 +10,17 @@ use Rattle.mmc_bus.specs.declared.bus.Lines.{Lines}
 use Rattle.mmc_bus.specs.declared.bus.Reply.{Reply}
 use Rattle.mmc_bus.specs.declared.bus.Timing.{Timing}
 use Rattle.mmc_bus.proofs.CardRows.{legal_reached, up_if}
-use Rattle.mmc_bus.proofs.Cards.{count_if, in_state}
+use Rattle.mmc_bus.proofs.Cards.{in_state}
+use Rattle.mmc_bus.proofs.Conditions.{along, by_cond, first_by_cond}
 use Rattle.mmc_bus.proofs.Narrow.{both, sends_data, takes_rcv}
-use Rattle.mmc_bus.specs.Answer.{Checked, Choice, Mute, erase_param, erase_reset, garbled, raised, refused, reset, shown, status}
+use Rattle.mmc_bus.specs.Answer.{Choice, erase_reset, garbled, raised, refused, reset, shown}
 use Rattle.mmc_bus.specs.Blocks.{accepted, asked_for, can_send, can_take, is_last, offered, polled_once, programmed, rejected, rested, sent_from}
 use Rattle.mmc_bus.specs.Card.{Both, Card, First, FromBytes, FromSectors, Held, NoAddress, Source, is_in, is_selected}
 use Rattle.mmc_bus.specs.Faults.{CommandStep, GiveStep, PollStep, TakeStep, bad_block, brownout, fail, faithful, flip_command, flip_reply, lose_command, lose_reply, lose_status, reject, slow_inquiry, slow_poll}
 use Rattle.mmc_bus.specs.Laws.{IsAfterReset, Setting, Stands, StillStands, is_frame_of_run, is_of_run, setting_of, timing_once_sent}
 use Rattle.mmc_bus.specs.Made.{Made, first_rca, has_cmd23}
-use Rattle.mmc_bus.specs.Rows.{Command, Erase, EraseEnd, EraseStart, ReadMultipleBlock, ReadSingleBlock, SendStatus, SetBlockCount, StopTransmission, Unknown, WriteBlock, WriteMultipleBlock, answered, command_of, is_foreign, is_legal, leaves_erase, reached, responded, row, without_addresses}
-use Rattle.mmc_bus.specs.RowsErase.{erase_held, erases, erasing, forgotten, hold_first, hold_last, holds_address, is_no_range, is_trim}
+use Rattle.mmc_bus.specs.Rows.{Command, Erase, EraseEnd, EraseStart, ReadMultipleBlock, ReadSingleBlock, SendStatus, SetBlockCount, StopTransmission, Unknown, WriteBlock, WriteMultipleBlock, answered, command_of, is_foreign, is_legal, leaves_erase, reached, responded, row}
+use Rattle.mmc_bus.specs.RowsErase.{erase_held, forgotten, hold_first, hold_last, holds_address, is_no_range}
 use Rattle.mmc_bus.specs.RowsTransfer.{begun, preset, transfer_errors, transferred}
 use Rattle.mmc_bus.specs.Sectors.{Sector}
 use Rattle.mmc_bus.specs.Side.{Side}
@@ -37,14 +38,6 @@ stands_like s c d state same source after h = record {
   sends = λ u. ap (λ (x : Source). timing_once_sent x d.timing) source ∙ ap (λ (x : Setting). timing_once_sent c.source x.timing) same ∙ h.sends (ap (λ (x : State). is_in x Data) (sym state) ∙ u);
   reset = λ n. after (h.reset (ap is_selected (sym state) ∙ n));
 }
-
-stands_if : (s : Setting) (b : Bool) (x y : Card) → (b ≡ true → Stands s x) → (b ≡ false → Stands s y) → Stands s (cond b x y)
-stands_if s true x y p q = p refl
-stands_if s false x y p q = q refl
-
-stands_cond : {X : Type 0} (s : Setting) (b : Bool) (x y : Card × X) → (b ≡ true → Stands s x.0) → (b ≡ false → Stands s y.0) → Stands s (cond b x y).0
-stands_cond s true x y p q = p refl
-stands_cond s false x y p q = q refl
 
 -- it is after CMD0, and a step changes nothing of that
 reset_like : (c d : Card) → d.state ≡ c.state → d.made ≡ c.made → setting_of d ≡ setting_of c → (c.is_busy ≡ false → d.is_busy ≡ false) → (c.count ≡ 0 → d.count ≡ 0)
@@ -101,12 +94,12 @@ stands_refused s c h =
 stands_garbled : (s : Setting) (keeps : Bool) (c : Card) → Stands s c → Stands s (garbled keeps c)
 stands_garbled s keeps c h =
     stands_like s c (garbled keeps c) refl refl refl
-    (reset_like c (garbled keeps c) refl refl refl (λ b. b) (λ b. count_if keeps c.count b) (λ b. b) (λ b. b) refl (λ b. b) refl) h
+    (reset_like c (garbled keeps c) refl refl refl (λ b. b) (λ b. by_cond (λ n. n ≡ 0) keeps (λ _. b) (λ _. refl)) (λ b. b) (λ b. b) refl (λ b. b) refl) h
 
 stands_reached : (s : Setting) (command : Command) (c : Card) → Stands s c → Stands s (reached command c)
 stands_reached s command c h =
-    stands_if s (leaves_erase command) c (without_addresses c) (λ _. h)
-    (λ _. stands_if s (holds_address c.erase) (raised erase_reset (forgotten c)) c
+    by_cond (Stands s) (leaves_erase command) (λ _. h)
+    (λ _. by_cond (Stands s) (holds_address c.erase)
     (λ _. stands_like s c (raised erase_reset (forgotten c)) refl refl refl
     (reset_like c (raised erase_reset (forgotten c)) refl refl refl (λ b. b) (λ b. b) (λ b. refl) (λ b. b) refl (λ b. b) refl) h)
     (λ _. h))
@@ -128,7 +121,7 @@ stands_begun s state is_single left c address up tran h =
 
 stands_transferred : (s : Setting) (index errors : ℕ) (c after : Card) → Stands s c → Stands s after → Stands s (transferred index errors c after).0
 stands_transferred s index errors c after h a =
-    stands_cond s (errors == 0) (after, Checked index (status false c)) (shown c, Checked index (status false (raised errors c))) (λ _. a) (λ _. stands_shown s c h)
+    first_by_cond (Stands s) (errors == 0) _ _ (λ _. a) (λ _. stands_shown s c h)
 
 -- nothing is sent from there
 stands_quiet : (s : Setting) (c d : Card) → is_selected d.state ≡ true → is_in d.state Data ≡ false → is_selected c.state ≡ true → setting_of d ≡ setting_of c
@@ -149,10 +142,7 @@ stands_erase : (s : Setting) (c : Card) (argument : ℕ) (held : Held) → is_in
 stands_erase s c argument NoAddress tran h = stands_forgotten s c h
 stands_erase s c argument (First first) tran h = stands_forgotten s c h
 stands_erase s c argument (Both first last) tran h =
-    stands_cond s (is_no_range c first last)
-    (forgotten (shown c), Checked 38 (status false (raised erase_param c)))
-    (erases (erasing c (is_trim c argument) first last) c, Checked 38 (status false c))
-    (λ _. stands_forgotten s c h)
+    first_by_cond (Stands s) (is_no_range c first last) _ _ (λ _. stands_forgotten s c h)
     (λ _. stands_quiet s c _ refl refl (up_in c Tran tran refl) refl h)
 
 either : (a b : Bool) → (a || b) ≡ true → (a ≡ true) ⊎ (b ≡ true)
@@ -163,7 +153,7 @@ stands_row : (s : Setting) (choice : Choice) (command : Command) (c : Card) (ind
     → Stands s c → Stands s (row choice command c index argument).0
 stands_row s choice StopTransmission c index argument o l h =
     let u : is_selected c.state ≡ true = elim (either (is_in c.state Data) (is_in c.state Rcv) l) [ inl d ↦ up_in c Data d refl | inr r ↦ up_in c Rcv r refl ] in
-    stands_if s (is_in c.state Rcv) _ _ (λ _. stands_quiet s c _ refl refl u refl h) (λ _. stands_quiet s c _ refl refl u refl h)
+    by_cond (Stands s) (is_in c.state Rcv) (λ _. stands_quiet s c _ refl refl u refl h) (λ _. stands_quiet s c _ refl refl u refl h)
 stands_row s choice SendStatus c index argument o l h = stands_shown s c h
 stands_row s choice SetBlockCount c index argument o l h =
     stands_like s c _ refl refl refl (λ a. tran_not_reset c (both (is_in c.state Tran) (has_cmd23 c.made) l).0 a) h
@@ -184,10 +174,8 @@ stands_row s choice _ c index argument o l h = cc
 stands_responded : (s : Setting) (choice : Choice) (command : Command) (c : Card) (index argument : ℕ) → is_of_run command ≡ true
     → Stands s c → Stands s (responded choice command c index argument).0
 stands_responded s choice command c index argument o h =
-    stands_cond s (is_foreign command c argument) (c, Mute)
-    (cond (is_legal command c) (row choice command (reached command c) index argument) (refused (reached command c), Mute))
-    (λ _. h)
-    (λ _. stands_cond s (is_legal command c) (row choice command (reached command c) index argument) (refused (reached command c), Mute)
+    first_by_cond (Stands s) (is_foreign command c argument) _ _ (λ _. h)
+    (λ _. first_by_cond (Stands s) (is_legal command c) _ _
     (λ l. stands_row s choice command (reached command c) index argument o (legal_reached command c ∙ l) (stands_reached s command c h))
     (λ _. stands_refused s (reached command c) (stands_reached s command c h)))
 
@@ -202,7 +190,7 @@ stands_programmed s lands c prg h = stands_quiet s c _ refl refl (up_in c Prg pr
 
 stands_rested : (s : Setting) (c : Card) → Stands s c → Stands s (rested c)
 stands_rested s c h =
-    stands_if s (is_in c.state Prg) (programmed (λ i. true) c) (record c { is_busy = false; polled = 0 })
+    by_cond (Stands s) (is_in c.state Prg)
     (λ prg. stands_programmed s (λ i. true) c prg h)
     (λ _. stands_like s c _ refl refl refl (reset_like c _ refl refl refl (λ b. refl) (λ b. b) (λ b. b) (λ b. b) refl (λ b. refl) refl) h)
 
@@ -211,22 +199,18 @@ stands_slow s c busy h = stands_like s c _ refl refl refl (λ a. cc (busy, a.apa
 
 stands_polled : (s : Setting) (choice : Choice) (c : Card) → Stands s c → Stands s (polled_once choice c).0
 stands_polled s choice c h =
-    stands_cond s (c.is_busy && choice.is_slow) (record c { polled = c.polled + 1 }, true) (rested c, false)
+    first_by_cond (Stands s) (c.is_busy && choice.is_slow) _ _
     (λ b. stands_slow s c (both c.is_busy choice.is_slow b).0 h) (λ _. stands_rested s c h)
-
-quiet_if : (b : Bool) → is_in (if b then Prg else Rcv) Data ≡ false
-quiet_if true = refl
-quiet_if false = refl
 
 stands_accepted : (s : Setting) (block : Sector) (c : Card) → is_in c.state Rcv ≡ true → Stands s c → Stands s (accepted block c)
 stands_accepted s block c rcv h =
-    stands_quiet s c _ (up_if (is_last c.left) Prg Rcv refl refl) (quiet_if (is_last c.left)) (up_in c Rcv rcv refl) refl h
+    stands_quiet s c _ (up_if (is_last c.left) Prg Rcv refl refl) (by_cond (λ t. is_in t Data ≡ false) (is_last c.left) (λ _. refl) (λ _. refl)) (up_in c Rcv rcv refl) refl h
 
 stands_rejected : (s : Setting) (c : Card) → is_in c.state Rcv ≡ true → Stands s c → Stands s (rejected c)
-stands_rejected s c rcv h = stands_if s c.is_single _ _ (λ _. stands_quiet s c _ refl refl (up_in c Rcv rcv refl) refl h) (λ _. h)
+stands_rejected s c rcv h = by_cond (Stands s) c.is_single (λ _. stands_quiet s c _ refl refl (up_in c Rcv rcv refl) refl h) (λ _. h)
 
 stands_offered : (s : Setting) (lines : Lines) (block : Sector) (c : Card) → Stands s c → Stands s (offered lines block c)
-stands_offered s lines block c h = stands_if s (can_take lines c) _ _ (λ t. stands_accepted s block c (takes_rcv lines c t) h) (λ _. h)
+stands_offered s lines block c h = by_cond (Stands s) (can_take lines c) (λ t. stands_accepted s block c (takes_rcv lines c t) h) (λ _. h)
 
 stands_sent_from : (s : Setting) (source : Source) (choice : Choice) (c : Card) → is_in c.state Data ≡ true → timing_once_sent source c.timing ≡ s.timing
     → Stands s c → Stands s (sent_from source choice c)
@@ -239,46 +223,43 @@ stands_sent_from s (FromBytes bytes timing) choice c data_now t h =
 
 stands_asked_for : (s : Setting) (choice : Choice) (lines : Lines) (size : ℕ) (c : Card) → Stands s c → Stands s (asked_for choice lines size c)
 stands_asked_for s choice lines size c h =
-    stands_if s (can_send lines size c) _ _
+    by_cond (Stands s) (can_send lines size c)
     (λ t. let d = sends_data lines size c t in stands_sent_from s c.source choice c d (h.sends d) h) (λ _. h)
 
 -- Steps.
 
-stands_along : (s : Setting) {c d : Card} → d ≡ c → Stands s c → Stands s d
-stands_along s e h = subst (Stands s) (sym e) h
-
 pub command_stands : (old : Side) (frame : List ℕ) (reply : Reply) (new : Side) → is_frame_of_run old.card (command_in frame) ≡ true
     → CommandStep old frame reply new → StillStands old.card new.card
-command_stands old frame reply new o (faithful choice patient count card spells) s h = stands_along s card (stands_answered s choice old.card (command_in frame) o h)
-command_stands old frame reply new o (lose_command count card silent) s h = stands_along s card h
-command_stands old frame reply new o (flip_command keeps_count count card silent) s h = stands_along s card (stands_garbled s keeps_count old.card h)
-command_stands old frame reply new o (lose_reply choice patient count card answers silent) s h = stands_along s card (stands_answered s choice old.card (command_in frame) o h)
-command_stands old frame reply new o (flip_reply choice patient count card flipped) s h = stands_along s card (stands_answered s choice old.card (command_in frame) o h)
-command_stands old frame reply new o (slow_inquiry choice slow late inquiry count card spells) s h = stands_along s card (stands_answered s choice old.card (command_in frame) o h)
+command_stands old frame reply new o (faithful choice patient count card spells) s h = along (Stands s) card (stands_answered s choice old.card (command_in frame) o h)
+command_stands old frame reply new o (lose_command count card silent) s h = along (Stands s) card h
+command_stands old frame reply new o (flip_command keeps_count count card silent) s h = along (Stands s) card (stands_garbled s keeps_count old.card h)
+command_stands old frame reply new o (lose_reply choice patient count card answers silent) s h = along (Stands s) card (stands_answered s choice old.card (command_in frame) o h)
+command_stands old frame reply new o (flip_reply choice patient count card flipped) s h = along (Stands s) card (stands_answered s choice old.card (command_in frame) o h)
+command_stands old frame reply new o (slow_inquiry choice slow late inquiry count card spells) s h = along (Stands s) card (stands_answered s choice old.card (command_in frame) o h)
 command_stands old frame reply new o (brownout choice lands after patient count card silent) s h =
-    stands_along s card (stands_reset s lands (if after then (answered choice old.card (command_in frame)).0 else old.card))
+    along (Stands s) card (stands_reset s lands (if after then (answered choice old.card (command_in frame)).0 else old.card))
 
 pub poll_stands : (old : Side) (said : Bool) (new : Side) → PollStep old said new → StillStands old.card new.card
-poll_stands old said new (faithful choice patient count card answer) s h = stands_along s card (stands_polled s choice old.card h)
-poll_stands old said new (slow_poll busy late count card answer) s h = stands_along s card (stands_slow s old.card busy h)
+poll_stands old said new (faithful choice patient count card answer) s h = along (Stands s) card (stands_polled s choice old.card h)
+poll_stands old said new (slow_poll busy late count card answer) s h = along (Stands s) card (stands_slow s old.card busy h)
 poll_stands old said new (fail lands prg switching count card answer) s h =
-    stands_along s card (stands_quiet s old.card _ refl refl (up_in old.card Prg prg refl) refl h)
+    along (Stands s) card (stands_quiet s old.card _ refl refl (up_in old.card Prg prg refl) refl h)
 poll_stands old said new (brownout choice lands after patient count card answer) s h =
-    stands_along s card (stands_reset s lands (if after then (polled_once choice old.card).0 else old.card))
+    along (Stands s) card (stands_reset s lands (if after then (polled_once choice old.card).0 else old.card))
 
 pub give_stands : (old : Side) (block : Sector) (got : DataOut) (new : Side) → GiveStep old block got new → StillStands old.card new.card
-give_stands old block got new (faithful count card answer) s h = stands_along s card (stands_offered s old.lines block old.card h)
-give_stands old block got new (reject takes count card answer) s h = stands_along s card (stands_rejected s old.card (takes_rcv old.lines old.card takes) h)
+give_stands old block got new (faithful count card answer) s h = along (Stands s) card (stands_offered s old.lines block old.card h)
+give_stands old block got new (reject takes count card answer) s h = along (Stands s) card (stands_rejected s old.card (takes_rcv old.lines old.card takes) h)
 give_stands old block got new (lose_status taken takes count card answer) s h =
     let rcv = takes_rcv old.lines old.card takes in
-    stands_along s card (stands_if s taken _ _ (λ _. stands_accepted s block old.card rcv h) (λ _. stands_rejected s old.card rcv h))
+    along (Stands s) card (by_cond (Stands s) taken (λ _. stands_accepted s block old.card rcv h) (λ _. stands_rejected s old.card rcv h))
 give_stands old block got new (brownout lands after count card answer) s h =
-    stands_along s card (stands_reset s lands (if after then offered old.lines block old.card else old.card))
+    along (Stands s) card (stands_reset s lands (if after then offered old.lines block old.card else old.card))
 
 pub take_stands : (old : Side) (size : ℕ) (got : DataIn) (block : Sector) (new : Side) → TakeStep old size got block new → StillStands old.card new.card
-take_stands old size got block new (faithful choice count card answer good) s h = stands_along s card (stands_asked_for s choice old.lines size old.card h)
+take_stands old size got block new (faithful choice count card answer good) s h = along (Stands s) card (stands_asked_for s choice old.lines size old.card h)
 take_stands old size got block new (bad_block choice comes sends count card answer) s h =
     let d = sends_data old.lines size old.card sends in
-    stands_along s card (stands_sent_from s old.card.source choice old.card d (h.sends d) h)
+    along (Stands s) card (stands_sent_from s old.card.source choice old.card d (h.sends d) h)
 take_stands old size got block new (brownout choice lands after count card answer) s h =
-    stands_along s card (stands_reset s lands (if after then asked_for choice old.lines size old.card else old.card))
+    along (Stands s) card (stands_reset s lands (if after then asked_for choice old.lines size old.card else old.card))
