@@ -6,16 +6,16 @@ use Rattle.mmc_frame.specs.declared.card_state.State.{State}
 use Rattle.mmc_frame.specs.declared.card_state.State.TheVariants.{Data, Dis, Ident, Idle, Prg, Rcv, Ready, Stby, Tran}
 use Rattle.mmc_bus.specs.declared.bus.DataIn.{DataIn}
 use Rattle.mmc_bus.specs.declared.bus.DataOut.{DataOut}
-use Rattle.mmc_bus.specs.declared.bus.Lines.{Lines}
 use Rattle.mmc_bus.specs.declared.bus.Reply.{Reply}
 use Rattle.mmc_bus.specs.declared.bus.Timing.{Timing}
-use Rattle.mmc_bus.proofs.Cards.{IsLike, among_more, apart_card, blocks_replicate, blocks_snoc, card_app, card_done, card_forgotten, card_garbled, card_polled, card_programmed, card_raised, card_reached, card_refused, card_reset, card_shown, card_slow, chosen_card, in_state, like_done, like_same, like_shown, stays_card}
+use Rattle.mmc_bus.proofs.Cards.{IsLike, among_more, apart_card, blocks_replicate, blocks_snoc, card_app, card_done, card_forgotten, card_garbled, card_programmed, card_raised, card_reached, card_refused, card_reset, card_rested, card_shown, card_slow, chosen_card, in_state, like_done, like_same, like_shown, stays_card}
 use Rattle.mmc_bus.proofs.Conditions.{along, by_cond, first_by_cond}
 use Rattle.mmc_bus.proofs.Narrow.{AreSwitched, both, is_switched, sends_data}
+use Rattle.mmc_bus.proofs.Steps.{after_command, after_give, after_poll, after_take}
 use Rattle.mmc_bus.specs.Answer.{Choice, busied, erase_reset, general_error, out_of_range, raised, shown}
-use Rattle.mmc_bus.specs.Blocks.{accepted, asked_for, can_send, can_take, end_errors, is_last, offered, programmed, rejected, sent_from}
+use Rattle.mmc_bus.specs.Blocks.{accepted, end_errors, is_last, programmed, rejected, sent_from}
 use Rattle.mmc_bus.specs.Card.{AreAmong, AreBlocks, Both, Card, First, FromBytes, FromSectors, Held, IsCard, NoAddress, Source, error_bits, is_in, is_selected, is_writing}
-use Rattle.mmc_bus.specs.Faults.{CommandStep, GiveStep, PollStep, TakeStep, bad_block, brownout, fail, faithful, flip_command, flip_reply, lose_command, lose_reply, lose_status, reject, slow_inquiry, slow_poll}
+use Rattle.mmc_bus.specs.Faults.{CommandStep, GiveStep, PollStep, TakeStep}
 use Rattle.mmc_bus.specs.Made.{erased_byte_of_card, erased_sector, has_cmd23, has_switch_function}
 use Rattle.mmc_bus.specs.Rows.{ASendOpCond, ASendScr, ASetBusWidth, AllSendCid, AppCmd, Command, Erase, EraseEnd, EraseStart, GoIdleState, ReadMultipleBlock, ReadSingleBlock, SelectCard, SendCsd, SendExtCsd, SendIfCond, SendOpCond, SendRelativeAddr, SendStatus, SetBlockCount, SetBlocklen, SetRelativeAddr, StopTransmission, SwitchByte, SwitchFunc, Unknown, WriteBlock, WriteMultipleBlock, answered, command_of, is_foreign, is_legal, leaves_erase, reached, responded, row}
 use Rattle.mmc_bus.specs.RowsErase.{erase_held, erases, erasing, forgotten, hold_first, hold_last, holds_address, is_no_range, is_trim}
@@ -184,9 +184,6 @@ card_rejected : (c : Card) → IsCard c → IsCard (rejected c)
 card_rejected c k =
     by_cond IsCard c.is_single (λ _. chosen_card c _ k (like_same c _ k refl refl refl refl) refl refl (λ _. refl) tt) (λ _. k)
 
-card_offered : (lines : Lines) (block : Sector) (c : Card) → length block ≡ 512 → IsCard c → IsCard (offered lines block c)
-card_offered lines block c h k = by_cond IsCard (can_take lines c) (λ _. card_accepted block c h k) (λ _. k)
-
 end_among : (b : Bool) → AreAmong (if b then out_of_range else 0) error_bits
 end_among true = refl
 end_among false = refl
@@ -200,41 +197,23 @@ card_sent_from FromSectors choice c e k =
 card_sent_from (FromBytes bytes timing) choice c e k =
     chosen_card c _ k (like_same c _ k refl refl refl refl) refl refl (λ _. none_in c Data k e refl) k.taken
 
-card_asked_for : (choice : Choice) (lines : Lines) (size : ℕ) (c : Card) → IsCard c → IsCard (asked_for choice lines size c)
-card_asked_for choice lines size c k =
-    by_cond IsCard (can_send lines size c) (λ h. card_sent_from c.source choice c (in_state c.state Data (sends_data lines size c h)) k) (λ _. k)
-
 -- Steps.
 
 pub command_card : (old : Side) (frame : List ℕ) (reply : Reply) (new : Side) → CommandStep old frame reply new → IsCard old.card → IsCard new.card
-command_card old frame reply new (faithful choice patient count card spells) k = along IsCard card (card_answered choice old.card (command_in frame) k)
-command_card old frame reply new (lose_command count card silent) k = along IsCard card k
-command_card old frame reply new (flip_command keeps_count count card silent) k = along IsCard card (card_garbled keeps_count old.card k)
-command_card old frame reply new (lose_reply choice patient count card answers silent) k = along IsCard card (card_answered choice old.card (command_in frame) k)
-command_card old frame reply new (flip_reply choice patient count card flipped) k = along IsCard card (card_answered choice old.card (command_in frame) k)
-command_card old frame reply new (slow_inquiry choice slow late inquiry count card spells) k = along IsCard card (card_answered choice old.card (command_in frame) k)
-command_card old frame reply new (brownout choice lands after patient count card silent) k =
-    along IsCard card (card_reset lands _ (by_cond IsCard after (λ _. card_answered choice old.card (command_in frame) k) (λ _. k)))
+command_card old frame reply new step k =
+    after_command IsCard old frame reply new k
+    (λ choice. card_answered choice old.card (command_in frame) k) (λ keeps. card_garbled keeps old.card k) card_reset step
 
 pub poll_card : (old : Side) (said : Bool) (new : Side) → PollStep old said new → IsCard old.card → IsCard new.card
-poll_card old said new (faithful choice patient count card answer) k = along IsCard card (card_polled choice old.card k)
-poll_card old said new (slow_poll busy late count card answer) k = along IsCard card (card_slow old.card k)
-poll_card old said new (fail lands prg switching count card answer) k =
-    along IsCard card (card_raised general_error (programmed lands old.card) refl (card_programmed lands old.card k))
-poll_card old said new (brownout choice lands after patient count card answer) k =
-    along IsCard card (card_reset lands _ (by_cond IsCard after (λ _. card_polled choice old.card k) (λ _. k)))
+poll_card old said new step k =
+    after_poll IsCard old said new k (card_rested old.card k) (λ _. card_slow old.card k)
+    (λ lands _ _. card_raised general_error (programmed lands old.card) refl (card_programmed lands old.card k)) card_reset step
 
 pub give_card : (old : Side) (block : Sector) (got : DataOut) (new : Side) → length block ≡ 512 → GiveStep old block got new → IsCard old.card → IsCard new.card
-give_card old block got new h (faithful count card answer) k = along IsCard card (card_offered old.lines block old.card h k)
-give_card old block got new h (reject takes count card answer) k = along IsCard card (card_rejected old.card k)
-give_card old block got new h (lose_status taken takes count card answer) k =
-    along IsCard card (by_cond IsCard taken (λ _. card_accepted block old.card h k) (λ _. card_rejected old.card k))
-give_card old block got new h (brownout lands after count card answer) k =
-    along IsCard card (card_reset lands _ (by_cond IsCard after (λ _. card_offered old.lines block old.card h k) (λ _. k)))
+give_card old block got new h step k =
+    after_give IsCard old block got new k (λ _. card_accepted block old.card h k) (λ _. card_rejected old.card k) card_reset step
 
 pub take_card : (old : Side) (size : ℕ) (got : DataIn) (block : Sector) (new : Side) → TakeStep old size got block new → IsCard old.card → IsCard new.card
-take_card old size got block new (faithful choice count card answer good) k = along IsCard card (card_asked_for choice old.lines size old.card k)
-take_card old size got block new (bad_block choice comes sends count card answer) k =
-    along IsCard card (card_sent_from old.card.source choice old.card (in_state old.card.state Data (sends_data old.lines size old.card sends)) k)
-take_card old size got block new (brownout choice lands after count card answer) k =
-    along IsCard card (card_reset lands _ (by_cond IsCard after (λ _. card_asked_for choice old.lines size old.card k) (λ _. k)))
+take_card old size got block new step k =
+    after_take IsCard old size got block new k
+    (λ choice sends. card_sent_from old.card.source choice old.card (in_state old.card.state Data (sends_data old.lines size old.card sends)) k) card_reset step

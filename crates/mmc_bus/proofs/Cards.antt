@@ -1,14 +1,14 @@
 -- Each step of a card leaves a card.
-use Rattle.std.proofs.Common.{◌&&◌, ◌++◌, ◌+◌, ◌∙◌, ◌∷◌, ◌≡◌, ◌⊎◌, Bool, List, [], ap, arith, false, inl, inr, length, refl, suc, sym, true, zero, ℕ}
+use Rattle.std.proofs.Common.{◌++◌, ◌+◌, ◌∙◌, ◌∷◌, ◌≡◌, ◌⊎◌, Bool, List, [], ap, arith, false, inl, inr, length, refl, suc, sym, true, zero, ℕ}
 use Rattle.std.specs.Prelude.{bit_or, replicate, slice_index_or}
 use Rattle.mmc_frame.specs.Status.{state_number}
 use Rattle.mmc_frame.specs.declared.card_state.State.{State}
 use Rattle.mmc_frame.specs.declared.card_state.State.TheVariants.{Data, Dis, Ident, Idle, Prg, Rcv, Ready, Stby, Tran}
 use Rattle.mmc_bus.specs.declared.part.Part.{Part}
-use Rattle.mmc_bus.proofs.Conditions.{along, by_cond, first_by_cond}
+use Rattle.mmc_bus.proofs.Conditions.{along, by_cond}
 use Rattle.mmc_bus.proofs.Landing.{one_set}
-use Rattle.mmc_bus.specs.Answer.{Choice, com_crc_error, done, erase_reset, garbled, illegal_command, raised, refused, reset, shown}
-use Rattle.mmc_bus.specs.Blocks.{polled_once, programmed, rested}
+use Rattle.mmc_bus.specs.Answer.{com_crc_error, done, erase_reset, garbled, illegal_command, raised, refused, reset, shown}
+use Rattle.mmc_bus.specs.Blocks.{programmed, rested}
 use Rattle.mmc_bus.specs.Card.{AreAmong, AreBlocks, Card, IsApart, IsCard, NoAddress, complaint_bits, error_bits, is_in, is_selected, is_writing, landed, landed_in, stored}
 use Rattle.mmc_bus.specs.Made.{HasRegisters, first_block_length}
 use Rattle.mmc_bus.specs.Rows.{Command, leaves_erase, reached}
@@ -237,7 +237,3 @@ card_rested c k =
 
 pub card_slow : (c : Card) → IsCard c → IsCard (record c { polled = c.polled + 1 })
 card_slow c k = stays_card c _ k (like_same c _ k refl refl refl refl) refl refl refl refl refl refl refl (λ h. h) (λ h. h) (λ h. h)
-
-pub card_polled : (choice : Choice) (c : Card) → IsCard c → IsCard (polled_once choice c).0
-card_polled choice c k =
-    first_by_cond IsCard (c.is_busy && choice.is_slow) _ _ (λ _. card_slow c k) (λ _. card_rested c k)

@@ -16,3 +16,4 @@ pub mod Readers
 pub mod Hear
 pub mod CommandLemmas
 pub mod InquiryLemmas
+pub mod Steps

@@ -11,7 +11,7 @@ use Rattle.mmc_bus.proofs.Conditions.{by_cond, first_by_cond}
 use Rattle.mmc_bus.proofs.Landing.{at_snoc, landed_size, landed_within, snoc_length}
 use Rattle.mmc_bus.proofs.SectorLemmas.{by_touch, cond_in_new, cond_in_old, in_cond, maybe_within, old_maybe, same_part, touched_by, untouched, within_same}
 use Rattle.mmc_bus.specs.Answer.{Choice, busied, garbled, general_error, raised, refused, reset, shown}
-use Rattle.mmc_bus.specs.Blocks.{accepted, asked_for, can_send, can_take, polled_once, programmed, rejected, rested, sent_from}
+use Rattle.mmc_bus.specs.Blocks.{accepted, can_send, can_take, programmed, rejected, rested, sent_from}
 use Rattle.mmc_bus.specs.Card.{Both, Card, First, FromBytes, FromSectors, Held, NoAddress, Source, at_sector, holds, is_in, known, landed, stored, unfinished}
 use Rattle.mmc_bus.specs.Laws.{Carried, WithinOrTaken, erased_by, erased_by_command, erased_by_held, maybe_erased}
 use Rattle.mmc_bus.specs.Rows.{ASendOpCond, ASendScr, ASetBusWidth, AllSendCid, AppCmd, Command, Erase, EraseEnd, EraseStart, GoIdleState, ReadMultipleBlock, ReadSingleBlock, SelectCard, SendCsd, SendExtCsd, SendIfCond, SendOpCond, SendRelativeAddr, SendStatus, SetBlockCount, SetBlocklen, SetRelativeAddr, StopTransmission, SwitchByte, SwitchFunc, Unknown, WriteBlock, WriteMultipleBlock, answered, command_of, is_foreign, is_legal, leaves_erase, reached, responded, row}
@@ -128,10 +128,6 @@ keeps_rested c = by_cond (Keeps c) (is_in c.state Prg) (λ _. keeps_programmed (
 
 pub keeps_slow : (c : Card) → Keeps c (record c { polled = c.polled + 1 })
 keeps_slow c = plain c _ refl refl refl
-
-pub keeps_polled : (choice : Choice) (c : Card) → Keeps c (polled_once choice c).0
-keeps_polled choice c =
-    first_by_cond (Keeps c) (c.is_busy && choice.is_slow) _ _ (λ _. keeps_slow c) (λ _. keeps_rested c)
 
 -- Rows.
 
@@ -270,10 +266,6 @@ widens_answered choice c None = wide _ c _ (keeps_garbled choice.keeps_count c)
 pub keeps_sent_from : (source : Source) (choice : Choice) (c : Card) → Keeps c (sent_from source choice c)
 keeps_sent_from FromSectors choice c = plain c _ refl refl refl
 keeps_sent_from (FromBytes bytes timing) choice c = plain c _ refl refl refl
-
-pub keeps_asked_for : (choice : Choice) (lines : Lines) (size : ℕ) (c : Card) → Keeps c (asked_for choice lines size c)
-keeps_asked_for choice lines size c =
-    by_cond (Keeps c) (can_send lines size c) (λ _. keeps_sent_from c.source choice c) (λ _. keeps_same c)
 
 pub keeps_rejected : (c : Card) → Keeps c (rejected c)
 keeps_rejected c = by_cond (Keeps c) c.is_single (λ _. cleared c _ refl refl refl) (λ _. keeps_same c)

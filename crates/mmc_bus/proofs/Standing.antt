@@ -1,22 +1,22 @@
 -- The steps of a run leave a card selected as it was, or as after CMD0.
-use Rattle.std.proofs.Common.{◌&&◌, ◌+◌, ◌||◌, ◌∙◌, ◌≡◌, ◌⊎◌, Bool, List, ap, false, inl, inr, refl, sym, true, ℕ}
-use Rattle.std.specs.Prelude.{◌==◌, None, Option, Some, if◌then◌else◌}
+use Rattle.std.proofs.Common.{◌+◌, ◌||◌, ◌∙◌, ◌≡◌, ◌⊎◌, Bool, List, ap, false, inl, inr, refl, sym, true, ℕ}
+use Rattle.std.specs.Prelude.{◌==◌, None, Option, Some}
 use Rattle.mmc_frame.specs.Frame.{command_in}
 use Rattle.mmc_frame.specs.declared.card_state.State.{State}
 use Rattle.mmc_frame.specs.declared.card_state.State.TheVariants.{Data, Prg, Rcv, Tran}
 use Rattle.mmc_bus.specs.declared.bus.DataIn.{DataIn}
 use Rattle.mmc_bus.specs.declared.bus.DataOut.{DataOut}
-use Rattle.mmc_bus.specs.declared.bus.Lines.{Lines}
 use Rattle.mmc_bus.specs.declared.bus.Reply.{Reply}
 use Rattle.mmc_bus.specs.declared.bus.Timing.{Timing}
 use Rattle.mmc_bus.proofs.CardRows.{legal_reached, up_if}
 use Rattle.mmc_bus.proofs.Cards.{in_state}
-use Rattle.mmc_bus.proofs.Conditions.{along, by_cond, first_by_cond}
+use Rattle.mmc_bus.proofs.Conditions.{by_cond, first_by_cond}
 use Rattle.mmc_bus.proofs.Narrow.{both, sends_data, takes_rcv}
+use Rattle.mmc_bus.proofs.Steps.{after_command, after_give, after_poll, after_take}
 use Rattle.mmc_bus.specs.Answer.{Choice, erase_reset, garbled, raised, refused, reset, shown}
-use Rattle.mmc_bus.specs.Blocks.{accepted, asked_for, can_send, can_take, is_last, offered, polled_once, programmed, rejected, rested, sent_from}
+use Rattle.mmc_bus.specs.Blocks.{accepted, is_last, programmed, rejected, rested, sent_from}
 use Rattle.mmc_bus.specs.Card.{Both, Card, First, FromBytes, FromSectors, Held, NoAddress, Source, is_in, is_selected}
-use Rattle.mmc_bus.specs.Faults.{CommandStep, GiveStep, PollStep, TakeStep, bad_block, brownout, fail, faithful, flip_command, flip_reply, lose_command, lose_reply, lose_status, reject, slow_inquiry, slow_poll}
+use Rattle.mmc_bus.specs.Faults.{CommandStep, GiveStep, PollStep, TakeStep}
 use Rattle.mmc_bus.specs.Laws.{IsAfterReset, Setting, Stands, StillStands, is_frame_of_run, is_of_run, setting_of, timing_once_sent}
 use Rattle.mmc_bus.specs.Made.{Made, first_rca, has_cmd23}
 use Rattle.mmc_bus.specs.Rows.{Command, Erase, EraseEnd, EraseStart, ReadMultipleBlock, ReadSingleBlock, SendStatus, SetBlockCount, StopTransmission, Unknown, WriteBlock, WriteMultipleBlock, answered, command_of, is_foreign, is_legal, leaves_erase, reached, responded, row}
@@ -197,20 +197,12 @@ stands_rested s c h =
 stands_slow : (s : Setting) (c : Card) → c.is_busy ≡ true → Stands s c → Stands s (record c { polled = c.polled + 1 })
 stands_slow s c busy h = stands_like s c _ refl refl refl (λ a. cc (busy, a.apart.is_busy)) h
 
-stands_polled : (s : Setting) (choice : Choice) (c : Card) → Stands s c → Stands s (polled_once choice c).0
-stands_polled s choice c h =
-    first_by_cond (Stands s) (c.is_busy && choice.is_slow) _ _
-    (λ b. stands_slow s c (both c.is_busy choice.is_slow b).0 h) (λ _. stands_rested s c h)
-
 stands_accepted : (s : Setting) (block : Sector) (c : Card) → is_in c.state Rcv ≡ true → Stands s c → Stands s (accepted block c)
 stands_accepted s block c rcv h =
     stands_quiet s c _ (up_if (is_last c.left) Prg Rcv refl refl) (by_cond (λ t. is_in t Data ≡ false) (is_last c.left) (λ _. refl) (λ _. refl)) (up_in c Rcv rcv refl) refl h
 
 stands_rejected : (s : Setting) (c : Card) → is_in c.state Rcv ≡ true → Stands s c → Stands s (rejected c)
 stands_rejected s c rcv h = by_cond (Stands s) c.is_single (λ _. stands_quiet s c _ refl refl (up_in c Rcv rcv refl) refl h) (λ _. h)
-
-stands_offered : (s : Setting) (lines : Lines) (block : Sector) (c : Card) → Stands s c → Stands s (offered lines block c)
-stands_offered s lines block c h = by_cond (Stands s) (can_take lines c) (λ t. stands_accepted s block c (takes_rcv lines c t) h) (λ _. h)
 
 stands_sent_from : (s : Setting) (source : Source) (choice : Choice) (c : Card) → is_in c.state Data ≡ true → timing_once_sent source c.timing ≡ s.timing
     → Stands s c → Stands s (sent_from source choice c)
@@ -221,45 +213,27 @@ stands_sent_from s (FromBytes bytes timing) choice c data_now t h =
     let same : timing ≡ c.timing = t ∙ sym (ap (λ (x : Setting). x.timing) (h.selected was)) in
     stands_quiet s c _ refl refl was (ap (λ (x : Timing). record (setting_of c) { timing = x }) same) h
 
-stands_asked_for : (s : Setting) (choice : Choice) (lines : Lines) (size : ℕ) (c : Card) → Stands s c → Stands s (asked_for choice lines size c)
-stands_asked_for s choice lines size c h =
-    by_cond (Stands s) (can_send lines size c)
-    (λ t. let d = sends_data lines size c t in stands_sent_from s c.source choice c d (h.sends d) h) (λ _. h)
-
 -- Steps.
 
 pub command_stands : (old : Side) (frame : List ℕ) (reply : Reply) (new : Side) → is_frame_of_run old.card (command_in frame) ≡ true
     → CommandStep old frame reply new → StillStands old.card new.card
-command_stands old frame reply new o (faithful choice patient count card spells) s h = along (Stands s) card (stands_answered s choice old.card (command_in frame) o h)
-command_stands old frame reply new o (lose_command count card silent) s h = along (Stands s) card h
-command_stands old frame reply new o (flip_command keeps_count count card silent) s h = along (Stands s) card (stands_garbled s keeps_count old.card h)
-command_stands old frame reply new o (lose_reply choice patient count card answers silent) s h = along (Stands s) card (stands_answered s choice old.card (command_in frame) o h)
-command_stands old frame reply new o (flip_reply choice patient count card flipped) s h = along (Stands s) card (stands_answered s choice old.card (command_in frame) o h)
-command_stands old frame reply new o (slow_inquiry choice slow late inquiry count card spells) s h = along (Stands s) card (stands_answered s choice old.card (command_in frame) o h)
-command_stands old frame reply new o (brownout choice lands after patient count card silent) s h =
-    along (Stands s) card (stands_reset s lands (if after then (answered choice old.card (command_in frame)).0 else old.card))
+command_stands old frame reply new o step s h =
+    after_command (Stands s) old frame reply new h
+    (λ choice. stands_answered s choice old.card (command_in frame) o h) (λ keeps. stands_garbled s keeps old.card h) (λ lands card _. stands_reset s lands card) step
 
 pub poll_stands : (old : Side) (said : Bool) (new : Side) → PollStep old said new → StillStands old.card new.card
-poll_stands old said new (faithful choice patient count card answer) s h = along (Stands s) card (stands_polled s choice old.card h)
-poll_stands old said new (slow_poll busy late count card answer) s h = along (Stands s) card (stands_slow s old.card busy h)
-poll_stands old said new (fail lands prg switching count card answer) s h =
-    along (Stands s) card (stands_quiet s old.card _ refl refl (up_in old.card Prg prg refl) refl h)
-poll_stands old said new (brownout choice lands after patient count card answer) s h =
-    along (Stands s) card (stands_reset s lands (if after then (polled_once choice old.card).0 else old.card))
+poll_stands old said new step s h =
+    after_poll (Stands s) old said new h (stands_rested s old.card h) (λ busy. stands_slow s old.card busy h)
+    (λ lands prg _. stands_quiet s old.card _ refl refl (up_in old.card Prg prg refl) refl h) (λ lands card _. stands_reset s lands card) step
 
 pub give_stands : (old : Side) (block : Sector) (got : DataOut) (new : Side) → GiveStep old block got new → StillStands old.card new.card
-give_stands old block got new (faithful count card answer) s h = along (Stands s) card (stands_offered s old.lines block old.card h)
-give_stands old block got new (reject takes count card answer) s h = along (Stands s) card (stands_rejected s old.card (takes_rcv old.lines old.card takes) h)
-give_stands old block got new (lose_status taken takes count card answer) s h =
-    let rcv = takes_rcv old.lines old.card takes in
-    along (Stands s) card (by_cond (Stands s) taken (λ _. stands_accepted s block old.card rcv h) (λ _. stands_rejected s old.card rcv h))
-give_stands old block got new (brownout lands after count card answer) s h =
-    along (Stands s) card (stands_reset s lands (if after then offered old.lines block old.card else old.card))
+give_stands old block got new step s h =
+    let rcv = takes_rcv old.lines old.card in
+    after_give (Stands s) old block got new h
+    (λ takes. stands_accepted s block old.card (rcv takes) h) (λ takes. stands_rejected s old.card (rcv takes) h) (λ lands card _. stands_reset s lands card) step
 
 pub take_stands : (old : Side) (size : ℕ) (got : DataIn) (block : Sector) (new : Side) → TakeStep old size got block new → StillStands old.card new.card
-take_stands old size got block new (faithful choice count card answer good) s h = along (Stands s) card (stands_asked_for s choice old.lines size old.card h)
-take_stands old size got block new (bad_block choice comes sends count card answer) s h =
-    let d = sends_data old.lines size old.card sends in
-    along (Stands s) card (stands_sent_from s old.card.source choice old.card d (h.sends d) h)
-take_stands old size got block new (brownout choice lands after count card answer) s h =
-    along (Stands s) card (stands_reset s lands (if after then asked_for choice old.lines size old.card else old.card))
+take_stands old size got block new step s h =
+    after_take (Stands s) old size got block new h
+    (λ choice sends. let d = sends_data old.lines size old.card sends in stands_sent_from s old.card.source choice old.card d (h.sends d) h)
+    (λ lands card _. stands_reset s lands card) step
