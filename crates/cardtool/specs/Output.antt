@@ -5,8 +5,8 @@ use Rattle.std.specs.Fmt.{decimal}
 use Rattle.text_out.specs.Repeats.{repeats_text}
 use Rattle.mmc_block.specs.declared.refused.Refused.{Refused}
 use Rattle.mmc_block.specs.declared.refused.Refused.TheVariants as Why
-use Rattle.mmc_block.specs.declared.completion.Cause.{Cause}
-use Rattle.mmc_block.specs.declared.completion.Cause.TheVariants as By
+use Rattle.mmc_bus.specs.declared.cause.Cause.{Cause}
+use Rattle.mmc_bus.specs.declared.cause.Cause.TheVariants as By
 use Rattle.mmc_block.specs.declared.completion.Answer.{Answer}
 use Rattle.mmc_block.specs.declared.completion.Answer.TheVariants.{Done, Data, Failed}
 use Rattle.mmc_block.specs.declared.completion.Completion.{Completion}

@@ -1,47 +1,49 @@
-// One sector, read or written.
+// What reads and writes of one sector share.
 //
 // 1. A command's R1 has to be sound and show no error.
 // 2. A read is CMD17 and the block.
 // 3. A write is CMD24, the block, polls until the card isn't busy, sixteen at most, and a CMD13 whose status is clean:
 //    it alone tells that the block was programmed.
 // 4. Anything else ends the transfer at once.
-ghost use Rattle.std.specs.Prelude.{◌≡◌, ◌*◌, ◌<◌, ◌^◌, length};
+ghost use Rattle.std.specs.Prelude.{◌≡◌, ◌*◌, ◌<◌, ◌^◌, Err, IfErr, IsOk, Ok, Some, false, true, ℕ};
+ghost use Rattle.mmc_frame.specs.Status.{IsClean, error_bits};
+ghost use Rattle.mmc_frame.specs.declared.kind.Kind.TheVariants.{Sd};
+ghost use Rattle.mmc_bus.specs.Answer.{shown};
+ghost use Rattle.mmc_bus.specs.Blocks.{rested};
+ghost use Rattle.mmc_bus.specs.Card.{is_selected};
+ghost use Rattle.mmc_bus.specs.CardLaws.{IsInOrder};
+ghost use Rattle.mmc_bus.specs.Heard.{cause_of, cause_of_response};
+ghost use Rattle.mmc_bus.specs.Learned.{Ran};
+ghost use Rattle.mmc_block.specs.Transfer.{StaysWithin};
 
-use crate::completion::Cause;
 use bitflags::Flags;
-use mmc_frame::commands::{READ_SINGLE_BLOCK, SEND_STATUS, WRITE_BLOCK};
-use mmc_bus::{Bus, Bytes, DataIn, DataOut, Reply, Want};
-use mmc_frame::{Kind, encode, errors, is_clean, read_r1};
+use mmc_bus::{Bus, Cause, Unheard, ask, card_laws, identify_laws, poll};
+use mmc_frame::commands::SEND_STATUS;
+use mmc_frame::{Kind, errors, is_clean};
 
 // The RCA of the card, in argument bits 31 to 16.
 const RCA_ARGUMENT: u32 = 0x0001_0000;
 // How often a card may say that it is busy.
 const POLLS: u8 = 16;
 
-// The argument of a command for this sector of a byte-addressed card.
-fn address_of(sector: u64) -> u32
+/// The argument of a command for this sector of a byte-addressed card.
+pub fn address_of(sector: u64) -> u32
     requires { sector < 2 ^ 23 }
     ensures { result ≡ 512 * sector }
 {
     (512 * sector) as u32
 }
 
-// Sends a command, and gives the status of its R1.
-fn ask<B: Bus>(bus: &mut B, index: u8, argument: u32) -> Result<u32, Cause>
-    requires { index < 64 }
+/// Judges the R1 of a command that begins a transfer: a status without an error.
+///
+/// # Errors
+/// `Answer` where no sound response was heard, `Status` where it shows an error.
+pub fn begun(heard: Result<u32, Unheard>) -> Result<(), Cause>
+    ensures ok { IsOk result → (status : ℕ) × (heard ≡ Ok status) × (error_bits Sd status ≡ 0) }
+    ensures all { (status : ℕ) → heard ≡ Ok status → error_bits Sd status ≡ 0 → IsOk result }
+    ensures cause { IfErr result (λ cause. cause ≡ cause_of_response heard) }
 {
-    match bus.command(encode(index, argument), Want::Short) {
-        Reply::Short(frame) => read_r1(&frame, index).map_err(|_| Cause::Answer),
-        _ => Err(Cause::Answer),
-    }
-}
-
-// Sends the command that begins a transfer.
-fn begin<B: Bus>(bus: &mut B, index: u8, sector: u64) -> Result<(), Cause>
-    requires index { index < 64 }
-    requires sector { sector < 2 ^ 23 }
-{
-    let status = ask(bus, index, address_of(sector))?;
+    let status = heard.map_err(|_| Cause::Answer)?;
     if errors(Kind::Sd, status).is_empty() {
         Ok(())
     } else {
@@ -49,19 +51,13 @@ fn begin<B: Bus>(bus: &mut B, index: u8, sector: u64) -> Result<(), Cause>
     }
 }
 
-// Polls until the card isn't busy.
-fn wait<B: Bus>(bus: &mut B) -> Result<(), Cause> {
-    for _ in 0..POLLS {
-        if !bus.busy() {
-            return Ok(());
-        }
-    }
-    Err(Cause::Busy)
-}
-
-// Asks for the status, which has to be clean.
-fn confirm<B: Bus>(bus: &mut B) -> Result<(), Cause> {
-    let status = ask(bus, SEND_STATUS, RCA_ARGUMENT)?;
+// Judges the R1 of a closing CMD13: a clean status.
+fn confirmed(heard: Result<u32, Unheard>) -> Result<(), Cause>
+    ensures ok { IsOk result → (status : ℕ) × (heard ≡ Ok status) × IsClean Sd status }
+    ensures all { (status : ℕ) → heard ≡ Ok status → IsClean Sd status → IsOk result }
+    ensures cause { IfErr result (λ cause. cause ≡ cause_of_response heard) }
+{
+    let status = heard.map_err(|_| Cause::Answer)?;
     if is_clean(Kind::Sd, status) {
         Ok(())
     } else {
@@ -69,26 +65,40 @@ fn confirm<B: Bus>(bus: &mut B) -> Result<(), Cause> {
     }
 }
 
-/// Reads a sector into a buffer of 512 bytes. After a failure what the buffer holds is open.
-pub fn read_sector<B: Bus>(bus: &mut B, sector: u64, buffer: &mut Bytes) -> Result<(), Cause>
-    requires { sector < 2 ^ 23 }
-    ensures { length buffer.new ≡ length buffer.old }
+/// Polls until the card isn't busy.
+///
+/// # Errors
+/// `Busy` where it still is at the sixteenth poll.
+pub fn wait<B: Bus>(bus: &mut B) -> Result<(), Cause>
+    // A no is believed as far as the card is selected still and holds no error.
+    ensures own { (B.side bus.new).is_kept ≡ true → IsOk result → is_selected (B.side bus.new).card.state ≡ true → (B.side bus.new).card.errors ≡ 0
+        → (B.side bus.new).card ≡ rested (B.side bus.old).card }
+    ensures ran { (B.side bus.new).is_kept ≡ true → Ran (B.side bus.old) (B.side bus.new)
+        ((B.side bus.old).card.polled ≡ 0 → IsOk result × ((B.side bus.new).card ≡ rested (B.side bus.old).card)) }
+    ensures stays { (B.side bus.new).is_kept ≡ true → StaysWithin (B.side bus.old) (B.side bus.new) }
+    ensures cause { IfErr result (λ cause. cause_of (B.side bus.new).last ≡ Some cause) }
 {
-    begin(bus, READ_SINGLE_BLOCK, sector)?;
-    match bus.read_data(buffer.as_mut_slice()) {
-        DataIn::Good => Ok(()),
-        DataIn::Bad | DataIn::Nothing => Err(Cause::Data),
+    for _polls in 0..POLLS {
+        if !poll(bus) {
+            return Ok(());
+        }
     }
+    Err(Cause::Busy)
 }
 
-/// Writes a sector. After a failure the sector holds its old contents or the new.
-pub fn write_sector<B: Bus>(bus: &mut B, sector: u64, block: &[u8; 512]) -> Result<(), Cause>
-    requires { sector < 2 ^ 23 }
+/// Asks for the status, which has to be clean.
+///
+/// # Errors
+/// `Answer` where no sound response was heard, `Status` where it isn't clean.
+pub fn confirm<B: Bus>(bus: &mut B) -> Result<(), Cause>
+    ensures own { (B.side bus.new).is_kept ≡ true → IsOk result
+        → IsInOrder Sd (B.side bus.old).card × ((B.side bus.new).card ≡ shown (B.side bus.old).card) }
+    ensures ran { (B.side bus.new).is_kept ≡ true → Ran (B.side bus.old) (B.side bus.new)
+        (IsInOrder Sd (B.side bus.old).card → (B.side bus.old).card.app ≡ false → (B.side bus.old).card.rca ≡ 1 → IsOk result) }
+    ensures stays { (B.side bus.new).is_kept ≡ true → StaysWithin (B.side bus.old) (B.side bus.new) }
+    ensures cause { IfErr result (λ cause. cause_of (B.side bus.new).last ≡ Some cause) }
 {
-    begin(bus, WRITE_BLOCK, sector)?;
-    if bus.write_data(block) != DataOut::Accepted {
-        return Err(Cause::Data);
-    }
-    wait(bus)?;
-    confirm(bus)
+    identify_laws::send_status();
+    card_laws::a_status_tells_of_its_card();
+    confirmed(ask(bus, SEND_STATUS, RCA_ARGUMENT))
 }

@@ -2,14 +2,15 @@ ghost use Rattle.std.specs.Prelude.{◌&&◌, ◌≡◌, ◌<◌, ◌≤◌, ◌
 ghost use Rattle.mmc_block.specs.Device.{Fits};
 ghost use Rattle.mmc_block.specs.Requests.{count_of, has_its_bytes, room_of, start_of};
 
-use crate::completion::{Answer, Cause, Completion};
+use crate::completion::{Answer, Completion};
 use crate::device::BlockDev;
 use crate::entry::Entry;
 use crate::info::Info;
+use crate::read::read_sector;
 use crate::request::Request;
-use crate::transfer::{read_sector, write_sector};
+use crate::write::write_sector;
 use arrayvec::ArrayVec;
-use mmc_bus::{Bus, Bytes};
+use mmc_bus::{Bus, Bytes, Cause};
 
 // The bytes of one sector as a block.
 fn block_of(bytes: &Bytes) -> &[u8; 512]
@@ -31,7 +32,7 @@ fn carry_out<B: Bus>(bus: &mut B, request: Request, mut buffer: Bytes) -> Answer
     ensures { Fits request result }
 {
     match request {
-        Request::Read { start, .. } => match read_sector(bus, start, &mut buffer) {
+        Request::Read { start, .. } => match read_sector(bus, start, buffer.as_mut_slice()) {
             Ok(()) => Answer::Data(buffer),
             Err(cause) => Answer::Failed(cause),
         },

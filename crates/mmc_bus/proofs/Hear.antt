@@ -64,9 +64,9 @@ faithfully : {X : Type 0} (answers : Answer → X) (choice : Choice) (old : Card
     → Faithful answers old index argument heard new
 faithfully answers choice old index argument heard new patient card answer =
     let obeys : (own : is_foreign (meant old index) old argument ≡ false) (legal : is_legal (meant old index) old ≡ true)
-      → respond choice old index argument ≡ carried_out choice old index argument = λ own legal. rw (own, legal) refl in
+    → respond choice old index argument ≡ carried_out choice old index argument = λ own legal. rw (own, legal) refl in
     let refuses : (own : is_foreign (meant old index) old argument ≡ false) (legal : is_legal (meant old index) old ≡ false)
-      → respond choice old index argument ≡ (refused (reached (meant old index) old), Mute) = λ own legal. rw (own, legal) refl in
+    → respond choice old index argument ≡ (refused (reached (meant old index) old), Mute) = λ own legal. rw (own, legal) refl in
     record {
       choice = choice;
       patient = patient;

@@ -20,10 +20,10 @@ mod trace;
 pub mod transfer_laws;
 mod wire;
 
-pub use host::{Unheard, ask, ask_ocr, ask_register, give_block, poll, take_block, tell};
 pub use bus::{Bus, DataIn, DataOut, Exchange, Lines, Reply, Timing, Want, Width};
 pub use bytes::Bytes;
 pub use cause::Cause;
+pub use host::{Unheard, ask, ask_ocr, ask_register, give_block, poll, take_block, tell};
 pub use memory::NoMemory;
 pub use part::Part;
 pub use plain::PlainCard;
