@@ -8,14 +8,9 @@ use Rattle.mmc_block.specs.declared.entry.Entry.{Entry}
 use Rattle.mmc_block.specs.declared.info.Info.{Info}
 use Rattle.mmc_block.specs.declared.request.Request.{Request}
 use Rattle.mmc_block.specs.declared.request.Request.TheVariants.{Read, Write}
+use Rattle.mmc_block.specs.Machine.{Waiting}
 use Rattle.mmc_block.specs.Requests.{start_of, count_of, has_its_bytes, room_of}
 use Rattle.mmc_block.specs.Refusal.{first_refusal}
-
--- an accepted request that has no answer yet
-pub record Waiting : Type 0 where
-  pub ticket : ℕ
-  pub client : ℕ
-  pub request : Request
 
 pub record DeviceView (B : Type 0) : Type 0 where
   pub bus : B
