@@ -1,6 +1,7 @@
 pub mod Device
 pub mod Info
 pub mod Machine
+pub mod MachineLaws
 pub mod Place
 pub mod Refusal
 pub mod Requests

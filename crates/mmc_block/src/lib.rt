@@ -5,6 +5,7 @@ mod completion;
 mod device;
 mod entry;
 mod info;
+pub mod laws;
 mod open;
 mod read;
 mod refused;
