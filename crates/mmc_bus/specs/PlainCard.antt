@@ -1,10 +1,12 @@
 -- The card that a plain card is: a byte-addressed SD card that is selected, and takes the commands of single blocks.
-use Rattle.std.specs.Prelude.{◌==◌, ◌||◌, ◌∷◌, ◌≡◌, Bool, List, None, Option, Some, [], false, true, ℕ}
+use Rattle.std.specs.Prelude.{◌==◌, ◌||◌, ◌∷◌, ◌≡◌, Bool, List, None, Option, Some, [], false, replicate, true, ℕ}
 use Rattle.mmc_frame.specs.declared.kind.Kind.TheVariants as Kind
 use Rattle.mmc_bus.specs.declared.bus.Reply.{Reply}
 use Rattle.mmc_bus.specs.declared.bus.Timing.TheVariants as Timing
 use Rattle.mmc_bus.specs.declared.bus.Width.TheVariants as Width
 use Rattle.mmc_bus.specs.declared.chip.Chip.{Chip}
+use Rattle.mmc_bus.specs.declared.chip.Phase.{Phase}
+use Rattle.mmc_bus.specs.declared.chip.Phase.TheVariants.{Tran}
 use Rattle.mmc_bus.specs.declared.part.Part.TheVariants as Part
 use Rattle.mmc_bus.specs.declared.plain.PlainCard.{PlainCard}
 use Rattle.mmc_bus.specs.Answer.{Answer, Choice}
@@ -12,12 +14,9 @@ use Rattle.mmc_bus.specs.Card.{Card, FromSectors, NoAddress}
 use Rattle.mmc_bus.specs.Faults.{NoFault, Spells}
 use Rattle.mmc_bus.specs.Made.{Made}
 use Rattle.mmc_bus.specs.Phase.{is_programming, left_in, state_of, values_in}
+use Rattle.mmc_bus.specs.Sectors.{Sector}
 use Rattle.mmc_bus.specs.Side.{Side}
 use Rattle.mmc_bus.specs.Wires.{side_with}
-
--- its sectors, in order, 512 bytes each
-abbrev pub contents_of : PlainCard → List (List ℕ)
-contents_of card = card.chip.contents.items
 
 -- the registers of an SD card of standard capacity, without CMD23 and with one line
 abbrev pub plain_made : Made
@@ -35,11 +34,12 @@ plain_made =
       has_high_speed = false;
     }
 
-abbrev pub card_of : Chip → Card
-card_of chip =
+-- in this phase, with these sectors, and with these error bits to show
+abbrev pub plain_card : Phase → List Sector → ℕ → (next start : ℕ) → Card
+plain_card phase sectors complaints next start =
     record {
       made = plain_made;
-      state = state_of chip.phase;
+      state = state_of phase;
       rca = 1;
       part = Part.User;
       width = Width.One;
@@ -49,21 +49,28 @@ card_of chip =
       count = 0;
       app = false;
       erase = NoAddress;
-      complaints = chip.complaints;
+      complaints = complaints;
       errors = 0;
       switch_error = false;
       asked = 0;
-      is_busy = is_programming chip.phase;
+      is_busy = is_programming phase;
       polled = 0;
-      sectors = chip.contents.items ∷ [];
+      sectors = sectors ∷ [];
       source = FromSectors;
-      next = chip.next;
-      left = left_in chip.phase;
+      next = next;
+      left = left_in phase;
       is_single = true;
-      start = chip.start;
-      values = values_in chip.phase;
+      start = start;
+      values = values_in phase;
       is_switching = false;
     }
+
+abbrev pub card_of : Chip → Card
+card_of chip = plain_card chip.phase chip.contents.items chip.complaints chip.next chip.start
+
+-- in tran, with this many sectors, that are all 00h
+abbrev pub new_plain_card : ℕ → Card
+new_plain_card sectors = plain_card Tran (replicate sectors (replicate 512 0)) 0 0 0
 
 -- it is always ready, and no error is raised without need
 abbrev pub calm : Choice

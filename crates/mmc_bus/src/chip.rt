@@ -53,7 +53,7 @@ impl Chip {
     ghost use Rattle.mmc_bus.specs.Answer.{Checked, raised, refused, shown, status};
     ghost use Rattle.mmc_bus.specs.Blocks.{asked_for, can_send, can_take, next_block, offered, rested};
     ghost use Rattle.mmc_bus.specs.Faults.{Spells};
-    ghost use Rattle.mmc_bus.specs.PlainCard.{Answers, calm, card_of, is_known};
+    ghost use Rattle.mmc_bus.specs.PlainCard.{Answers, calm, card_of, is_known, new_plain_card};
     ghost use Rattle.mmc_bus.specs.Phase.{state_of};
     ghost use Rattle.mmc_bus.specs.Rows.{answered, respond};
     ghost use Rattle.mmc_bus.specs.RowsTransfer.{transfer_errors};
@@ -62,8 +62,7 @@ impl Chip {
     /// A card in tran with this many sectors, that are all 00h.
     #[tactic(auto, using(std::proofs::lemmas::Grind::replicate_next))]
     pub fn new(alloc: Global, sectors: usize) -> Result<Chip, NoMemory>
-        ensures contents { IfOk result (λ chip. chip.contents.items ≡ replicate sectors (replicate 512 0)) }
-        ensures tran { IfOk result (λ chip. chip.phase ≡ Phase.Tran) }
+        ensures { IfOk result (λ chip. card_of chip ≡ new_plain_card sectors) }
     {
         let mut contents = Vec::new(alloc);
         for _ in 0..sectors {

@@ -1,5 +1,5 @@
-ghost use Rattle.std.specs.Prelude.{◌≡◌, ◌≤◌, IfOk, length, replicate, true};
-ghost use Rattle.mmc_bus.specs.PlainCard.{StaysKept, contents_of, is_known, plain_side};
+ghost use Rattle.std.specs.Prelude.{◌≡◌, ◌≤◌, IfOk, length, true};
+ghost use Rattle.mmc_bus.specs.PlainCard.{StaysKept, is_known, plain_side};
 
 use crate::bus::{Bus, DataIn, DataOut, Exchange, Reply, Timing, Want, Width};
 use crate::chip::Chip;
@@ -21,7 +21,7 @@ pub struct PlainCard {
 }
 
 impl PlainCard {
-    ghost use Rattle.mmc_frame.specs.declared.card_state.State.TheVariants as State;
+    ghost use Rattle.mmc_bus.specs.PlainCard.{new_plain_card};
     ghost use Rattle.mmc_bus.specs.Wires.{IsUnused};
 
     /// A card of this many sectors, from 1 to 65,536, that are all 00h.
@@ -31,9 +31,8 @@ impl PlainCard {
     pub fn new(alloc: Global, sectors: usize) -> Result<PlainCard, NoMemory>
         requires some { 1 ≤ sectors }
         requires few { sectors ≤ 65536 }
-        ensures contents { IfOk result (λ card. contents_of card ≡ replicate sectors (replicate 512 0)) }
+        ensures card { IfOk result (λ card. (plain_side card).card ≡ new_plain_card sectors) }
         ensures kept { IfOk result (λ card. (plain_side card).is_kept ≡ true) }
-        ensures tran { IfOk result (λ card. (plain_side card).card.state ≡ State.Tran) }
         ensures unused { IfOk result (λ card. IsUnused (plain_side card)) }
     {
         Ok(PlainCard {
