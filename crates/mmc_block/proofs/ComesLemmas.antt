@@ -43,22 +43,24 @@ pub turn_of_one : (info : Info) (m : Machine) (w : Waiting) (ws : List Waiting) 
 turn_of_one info m w ws c decided after idle waits ticket client passes_none decides answered = record {
   started = record m { waits = ws; serves = w ∷ [] };
   start = inl (record {
-        oldest = w;
-        others = [];
-        later = ws;
-        idle = idle;
-        group = refl;
-        alike = tt;
-        few = omega arith;
-        first = waits;
-        left = merged_alone ws;
-        sets = refl;
-        next = refl;
-      });
+    oldest = w;
+    others = [];
+    later = ws;
+    idle = idle;
+    group = refl;
+    alike = tt;
+    few = omega arith;
+    first = waits;
+    left = merged_alone ws;
+    sets = refl;
+    next = refl;
+  });
   serves = record {
     decided = decided;
     decides = decides;
-    completes = (answered_by m ws after, record {
+    completes = (
+      answered_by m ws after,
+      record {
         before = [];
         w = w;
         after = [];
@@ -71,7 +73,9 @@ turn_of_one info m w ws c decided after idle waits ticket client passes_none dec
         leaves = refl;
         waits = refl;
         next = refl;
-      }, refl);
+      },
+      refl,
+    );
     ascend = (omega arith, tt);
   };
 }
@@ -225,7 +229,7 @@ comes side d e w ws c cs one waits left next info idle idle_after order ticket c
     let x = answers m.sets within in (
       answered_by m ws x.after,
       subst (λ ys. Turns d.info m ys (answered_by m ws x.after)) (sym one)
-      (turn_of_one d.info m w ws c x.decided x.after (a.serves ∙ idle) (a.waits ∙ waits) ticket client (passes w ws d.next order) x.decides x.answered),
+          (turn_of_one d.info m w ws c x.decided x.after (a.serves ∙ idle) (a.waits ∙ waits) ticket client (passes w ws d.next order) x.decides x.answered),
       record {
         waits = sym left;
         serves = sym idle_after;
