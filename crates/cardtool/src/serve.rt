@@ -1,6 +1,8 @@
 // Serves a script on a card, and prints what becomes of its requests.
-ghost use Rattle.std.specs.Prelude.{◌<◌, ◌≤◌, length};
+ghost use Rattle.std.specs.Prelude.{◌<◌, ◌≡◌, ◌≤◌, IfOk, length, true};
 ghost use Rattle.std.specs.Option.{ForSome};
+ghost use Rattle.mmc_block.specs.Place.{IsReady};
+ghost use Rattle.mmc_bus.specs.PlainCard.{plain_side};
 
 use crate::card_file::read_card;
 use crate::event::Event;
@@ -8,6 +10,7 @@ use crate::fault::ServeFault;
 use crate::input::{ReadFault, read_bounded};
 use crate::output::{has_failure, put_completions, put_queued, put_refused};
 use crate::script::{Script, read_script};
+use mmc_block::plain_laws::a_new_plain_card_is_ready;
 use mmc_block::{BlockDev, Request};
 use mmc_bus::{Bus, PlainCard, TraceBus};
 use std::alloc::Global;
@@ -102,6 +105,7 @@ fn serve_on<B: Bus + Drop, W: Write>(
 ) -> Result<(B, u8), ServeFault>
     requires some { 1 ≤ sectors }
     requires few { sectors ≤ 65536 }
+    requires ready { (B.side bus).is_kept ≡ true → IsReady sectors (B.side bus) }
 {
     let mut device = match BlockDev::open_plain(alloc, bus, sectors) {
         Ok(device) => device,
@@ -126,6 +130,7 @@ fn serve_traced<W: Write>(
 ) -> Result<u8, ServeFault>
     requires some { 1 ≤ sectors }
     requires few { sectors ≤ 65536 }
+    requires ready { IsReady sectors (plain_side card) }
     requires one { 1 ≤ n }
     requires many { n ≤ 65536 }
 {
@@ -150,6 +155,19 @@ fn put_trace<W: Write>(bus: &TraceBus<PlainCard>, out: &mut W) -> io::Result<()>
         ],
     )?;
     bus.write_lines(out)
+}
+
+// A card of this many sectors, that is ready for a transfer.
+fn new_card(alloc: Global, sectors: u64) -> Result<PlainCard, ServeFault>
+    requires some { 1 ≤ sectors }
+    requires few { sectors ≤ 65536 }
+    ensures { IfOk result (λ card. IsReady sectors (plain_side card)) }
+{
+    a_new_plain_card_is_ready();
+    match PlainCard::new(alloc, sectors as usize) {
+        Ok(card) => Ok(card),
+        Err(_) => Err(ServeFault::NoMemory),
+    }
 }
 
 // The whole of an input, or its fault, `unread` where the reader failed.
@@ -188,9 +206,7 @@ pub fn serve<C: Read, S: Read, W: Write>(
     let sectors = read_card(card_file.as_slice())?;
     let text = whole(alloc, script, MAX_SCRIPT, ServeFault::ReadScript)?;
     let script = read_script(alloc, text.as_slice())?;
-    let Ok(card) = PlainCard::new(alloc, sectors as usize) else {
-        return Err(ServeFault::NoMemory);
-    };
+    let card = new_card(alloc, sectors)?;
     match trace {
         Some(n) => serve_traced(alloc, card, sectors, script, n, out),
         None => Ok(serve_on(alloc, card, sectors, script, out)?.1),
