@@ -32,4 +32,6 @@ pub use trace::TraceBus;
 pub use wire::Wire;
 
 #[cfg(test)]
+mod host_tests;
+#[cfg(test)]
 mod tests;
