@@ -10,6 +10,7 @@ use Rattle.mmc_frame.specs.declared.card_state.State.TheVariants.{Tran}
 use Rattle.mmc_frame.specs.declared.kind.Kind.{Kind}
 use Rattle.mmc_bus.specs.declared.host.Unheard.{Unheard}
 use Rattle.mmc_bus.specs.declared.host.Unheard.TheVariants.{Unsound}
+use Rattle.mmc_bus.proofs.Narrow.{both}
 use Rattle.mmc_bus.proofs.Cards.{card_raised, in_state}
 use Rattle.mmc_bus.proofs.StatusLemmas.{status_errors}
 use Rattle.mmc_bus.specs.Answer.{Answer, Checked, Choice, address_error, bit, block_len_error, out_of_range, raised, shown, status, wp_violation}
@@ -33,10 +34,6 @@ not_false false h = cc
 either_card : (b : Bool) (c d : Card) → d ≡ c → (if b then c else d) ≡ c
 either_card true c d e = refl
 either_card false c d e = e
-
-pub both : (a b : Bool) → (a && b) ≡ true → (a ≡ true) × (b ≡ true)
-both true b h = (refl, h)
-both false b h = cc
 
 pub not_true : (b : Bool) → not b ≡ true → b ≡ false
 not_true true h = cc

@@ -15,6 +15,7 @@ use Rattle.mmc_bus.specs.declared.bus.Reply.TheVariants.{Silent}
 use Rattle.mmc_bus.specs.declared.host.Unheard.{Unheard}
 use Rattle.mmc_bus.specs.declared.host.Unheard.TheVariants.{Unsound}
 use Rattle.mmc_bus.proofs.Cards.{card_reached}
+use Rattle.mmc_bus.proofs.Conditions.{by_cond}
 use Rattle.mmc_bus.specs.Answer.{Answer, Checked, Choice, Mute, Open, Register, block_len_error, erase_param, raised, refused, shown, status}
 use Rattle.mmc_bus.specs.Card.{Both, Card, First, Held, IsCard, NoAddress}
 use Rattle.mmc_bus.specs.Faults.{IsFlipped, Spells}
@@ -41,12 +42,7 @@ IsAnswerTo command (Open ocr) = asks_for_ocr command ≡ true
 IsAnswerTo command (Register bytes) = is_r2 (register_frame bytes) ≡ true
 
 answer_cond : (command : Command) (b : Bool) (x y : Card × Answer) → IsAnswerTo command x.1 → IsAnswerTo command y.1 → IsAnswerTo command (cond b x y).1
-answer_cond command true x y p q = p
-answer_cond command false x y p q = q
-
-answer_if : (command : Command) (b : Bool) (x y : Answer) → IsAnswerTo command x → IsAnswerTo command y → IsAnswerTo command (cond b x y)
-answer_if command true x y p q = p
-answer_if command false x y p q = q
+answer_cond command b x y p q = by_cond (λ (r : Card × Answer). IsAnswerTo command r.1) b {x = x} {y = y} (λ _. p) (λ _. q)
 
 inquired_answer : (command : Command) (is_ready : Bool) (c : Card) → asks_for_ocr command ≡ true → IsAnswerTo command (inquired is_ready c).1
 inquired_answer command true c asks = asks
@@ -84,7 +80,7 @@ row_answer choice SendOpCond c index argument r = inquired_answer SendOpCond (no
 row_answer choice ASendOpCond c index argument r = inquired_answer ASendOpCond (is_served c argument && not choice.is_slow) c refl
 row_answer choice AllSendCid c index argument r = r.cid_check
 row_answer choice SendCsd c index argument r = r.csd_check
-row_answer choice SendIfCond c index argument r = answer_if SendIfCond (field 11 8 argument == 1) (Checked 8 (field 11 0 argument)) Mute refl tt
+row_answer choice SendIfCond c index argument r = by_cond (IsAnswerTo SendIfCond) (field 11 8 argument == 1) {x = Checked 8 (field 11 0 argument)} {y = Mute} (λ _. refl) (λ _. tt)
 row_answer choice SetBlocklen c index argument r =
     answer_cond SetBlocklen (argument == 512) (record (shown c) { block_length = 512 }, Checked 16 (status false c))
     (shown c, Checked 16 (status false (raised block_len_error c))) refl refl

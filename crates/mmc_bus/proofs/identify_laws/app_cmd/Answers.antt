@@ -1,6 +1,7 @@
 use Rattle.std.proofs.Common.{refl, true}
 use Rattle.mmc_frame.specs.declared.card_state.State.TheVariants.{Idle}
-use Rattle.mmc_bus.proofs.CommandLemmas.{both, does, either_in, in_either, named, none_held, owns}
+use Rattle.mmc_bus.proofs.CommandLemmas.{does, either_in, in_either, named, none_held, owns}
+use Rattle.mmc_bus.proofs.Narrow.{both}
 use Rattle.mmc_bus.proofs.identify_laws.app_cmd.Goals as goal
 use Rattle.mmc_bus.specs.Answer.{Checked, status}
 use Rattle.mmc_bus.specs.Heard.{response_of}

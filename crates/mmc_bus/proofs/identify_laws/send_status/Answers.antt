@@ -1,5 +1,6 @@
 use Rattle.std.proofs.Common.{false, not, refl}
-use Rattle.mmc_bus.proofs.CommandLemmas.{both, does, named, not_true, owns}
+use Rattle.mmc_bus.proofs.CommandLemmas.{does, named, not_true, owns}
+use Rattle.mmc_bus.proofs.Narrow.{both}
 use Rattle.mmc_bus.proofs.identify_laws.send_status.Goals as goal
 use Rattle.mmc_bus.specs.Answer.{Checked, status}
 use Rattle.mmc_bus.specs.Heard.{response_of}
