@@ -21,6 +21,7 @@ use Rattle.mmc_bus.specs.Blocks.{accepted, can_send, can_take, next_block, reste
 use Rattle.mmc_bus.specs.Card.{Card, IsCard, holds, is_in, is_selected}
 use Rattle.mmc_bus.specs.Exchanges.{Exchanged}
 use Rattle.mmc_bus.specs.Faults.{CommandStep, GiveStep, IsFlipped, IsPatient, NoFault, OneFault, PollStep, Spells, TakeStep, bad_block, brownout, fail, faithful, flip_command, flip_reply, lose_command, lose_reply, lose_status, reject, slow_inquiry, slow_poll}
+use Rattle.mmc_bus.specs.Heard.{cause_of, cause_of_command}
 use Rattle.mmc_bus.specs.Laws.{CountsAtMostOne, erased_by, is_frame_of_run, maybe_erased}
 use Rattle.mmc_bus.specs.Learned.{Asked, CommandFacts, Faithful, GiveFacts, Obeyed, PollFacts, TakeFacts, carried_out, may_fail, meant}
 use Rattle.mmc_bus.specs.Rows.{answered, is_foreign, is_legal, reached, respond}
@@ -333,6 +334,7 @@ asked Fits hears answers old frame index argument reply heard new reads fits com
   reply = reply;
   command = command;
   hearing = hearing;
+  cause = ap cause_of e.last ∙ ap (λ s. Some (cause_of_command s reply)) command;
   exchanged = with_facts old (Command frame reply) new e
       (λ k step. subst (λ x. CommandFacts answers old index argument x new) (sym hearing)
       (command_facts Fits hears answers old frame index argument reply new reads (fits k) command step));

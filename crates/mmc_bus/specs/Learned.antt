@@ -12,6 +12,7 @@ use Rattle.mmc_bus.specs.Blocks.{accepted, can_send, can_take, next_block, reste
 use Rattle.mmc_bus.specs.Card.{Card, IsCard, holds, is_in, is_selected}
 use Rattle.mmc_bus.specs.Exchanges.{Exchanged}
 use Rattle.mmc_bus.specs.Faults.{IsPatient, NoFault}
+use Rattle.mmc_bus.specs.Heard.{cause_of, cause_of_command}
 use Rattle.mmc_bus.specs.Laws.{Carried, StillStands, WithinOrTaken, erased_by, is_frame_of_run, maybe_erased}
 use Rattle.mmc_bus.specs.Rows.{Command, command_of, is_foreign, is_legal, reached, row}
 use Rattle.mmc_bus.specs.Sectors.{Sector, Within}
@@ -77,6 +78,8 @@ pub record Asked {X : Type 0} (hears : Reply → Result X Unheard) (answers : An
   pub reply : Reply
   pub command : command_in frame ≡ Some (index, argument)
   pub hearing : heard ≡ hears reply
+  -- its cause, by the reply alone
+  pub cause : cause_of new.last ≡ Some (cause_of_command (Some (index, argument)) reply)
   pub exchanged : Exchanged old (Did.Command frame reply) (CommandFacts answers old index argument heard new) new
 
 -- Polls.
