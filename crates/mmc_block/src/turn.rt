@@ -122,6 +122,7 @@ impl<B: Bus> BlockDev<B> {
         ensures machine { (B.side self.new.bus).is_kept ≡ true
             → Comes B.side self.old (λ (m n : Machine). Turns self.old.info m result.items n) self.new }
         ensures kept { (B.side self.new.bus).is_kept ≡ true → (B.side self.old.bus).is_kept ≡ true }
+        ensures later { (B.side self.new.bus).is_kept ≡ true → (B.side self.old.bus).faults ≤ (B.side self.new.bus).faults }
         ensures fine { (B.side self.new.bus).is_kept ≡ true → self.old.is_ready ≡ true → NoFault (B.side self.old.bus) (B.side self.new.bus)
             → none_failed result.items ≡ true }
 
