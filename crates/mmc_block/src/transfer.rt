@@ -5,7 +5,7 @@
 // 3. A write is CMD24, the block, polls until the card isn't busy, sixteen at most, and a CMD13 whose status is clean:
 //    it alone tells that the block was programmed.
 // 4. Anything else ends the transfer at once.
-ghost use Rattle.std.specs.Prelude.{◌≡◌, ◌*◌, ◌<◌, ◌^◌, Err, IfErr, IsOk, Ok, Some, false, true, ℕ};
+ghost use Rattle.std.specs.Prelude.{◌≡◌, ◌*◌, ◌+◌, ◌<◌, ◌≤◌, ◌^◌, Err, IfErr, IsOk, Ok, Some, false, true, ℕ};
 ghost use Rattle.mmc_frame.specs.Status.{IsClean, error_bits};
 ghost use Rattle.mmc_frame.specs.declared.kind.Kind.TheVariants.{Sd};
 ghost use Rattle.mmc_bus.specs.Answer.{shown};
@@ -76,6 +76,7 @@ pub fn wait<B: Bus>(bus: &mut B) -> Result<(), Cause>
     ensures ran { (B.side bus.new).is_kept ≡ true → Ran (B.side bus.old) (B.side bus.new)
         ((B.side bus.old).card.polled ≡ 0 → IsOk result × ((B.side bus.new).card ≡ rested (B.side bus.old).card)) }
     ensures stays { (B.side bus.new).is_kept ≡ true → StaysWithin (B.side bus.old) (B.side bus.new) }
+    ensures bounded { (B.side bus.new).exchanges ≤ (B.side bus.old).exchanges + 16 }
     ensures cause { IfErr result (λ cause. cause_of (B.side bus.new).last ≡ Some cause) }
 {
     for _polls in 0..POLLS {
