@@ -5,4 +5,6 @@ pub mod NumberLemmas
 pub mod OutputLemmas
 pub mod PartLemmas
 pub mod PrintedLemmas
+pub mod RestLemmas
 pub mod ScriptLemmas
+pub mod ServingLemmas

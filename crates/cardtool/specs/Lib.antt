@@ -7,4 +7,5 @@ pub mod Options
 pub mod Output
 pub mod Parts
 pub mod Script
+pub mod Serving
 pub mod Words

@@ -1,8 +1,10 @@
 // Serves a script on a card, and prints what becomes of its requests.
-ghost use Rattle.std.specs.Prelude.{◌<◌, ◌≡◌, ◌≤◌, IfOk, length, true};
+ghost use Rattle.std.specs.Prelude.{◌<◌, ◌≡◌, ◌≤◌, ◌++◌, ◌∷◌, IfOk, [], length, true};
 ghost use Rattle.std.specs.Option.{ForSome};
 ghost use Rattle.mmc_block.specs.Place.{IsReady};
 ghost use Rattle.mmc_bus.specs.PlainCard.{plain_side};
+ghost use Rattle.cardtool.specs.declared.event.Event.TheVariants.{Run, Submit};
+ghost use Rattle.cardtool.specs.Serving.{Plays, Rests, Turned, answered};
 
 use crate::card_file::read_card;
 use crate::event::Event;
@@ -27,18 +29,37 @@ const ALL_WELL: u8 = 0;
 /// The exit status where some request failed or was refused.
 const SOME_FAILED: u8 = 1;
 
+// The answer of lines that were printed, or were not.
+fn answer(printed: io::Result<()>, bad: bool) -> io::Result<bool>
+    ensures { result ≡ answered bad printed }
+{
+    match printed {
+        Ok(()) => Ok(bad),
+        Err(fault) => Err(fault),
+    }
+}
+
 // One turn, and a line for each completion. The answer of this and the next functions says whether some request
 // failed or was refused.
 fn turn<B: Bus, W: Write>(device: &mut BlockDev<B>, out: &mut W) -> io::Result<bool>
-    ensures { 0 < length device.old.waits → length device.new.waits < length device.old.waits }
+    ensures turned { (B.side device.new.bus).is_kept ≡ true
+        → Turned device.old.info (Rests B.side device.old) (Rests B.side device.new) (W.contents out.old) (W.contents out.new) result }
+    ensures kept { (B.side device.new.bus).is_kept ≡ true → (B.side device.old.bus).is_kept ≡ true }
+    ensures info { device.new.info ≡ device.old.info }
+    ensures falls { 0 < length device.old.waits → length device.new.waits < length device.old.waits }
 {
     let completions = device.turn();
-    put_completions(out, completions.as_slice())?;
-    Ok(has_failure(completions.as_slice()))
+    let printed = put_completions(out, completions.as_slice());
+    answer(printed, has_failure(completions.as_slice()))
 }
 
 // Turns until nothing waits.
-fn run<B: Bus, W: Write>(device: &mut BlockDev<B>, out: &mut W) -> io::Result<bool> {
+fn run<B: Bus, W: Write>(device: &mut BlockDev<B>, out: &mut W) -> io::Result<bool>
+    ensures plays { (B.side device.new.bus).is_kept ≡ true
+        → Plays device.old.info (Rests B.side device.old) (Rests B.side device.new) (Run ∷ []) (W.contents out.old) (W.contents out.new) result }
+    ensures kept { (B.side device.new.bus).is_kept ≡ true → (B.side device.old.bus).is_kept ≡ true }
+    ensures info { device.new.info ≡ device.old.info }
+{
     let mut bad = false;
     while device.waiting() > 0 {
         bad = turn(device, out)? | bad;
@@ -53,15 +74,20 @@ fn submit<B: Bus, W: Write>(
     client: u32,
     request: Request,
     out: &mut W,
-) -> io::Result<bool> {
+) -> io::Result<bool>
+    ensures plays { (B.side device.new.bus).is_kept ≡ true
+        → Plays device.old.info (Rests B.side device.old) (Rests B.side device.new) (Submit client request ∷ []) (W.contents out.old) (W.contents out.new) result }
+    ensures kept { (B.side device.new.bus).is_kept ≡ true → (B.side device.old.bus).is_kept ≡ true }
+    ensures info { device.new.info ≡ device.old.info }
+{
     match device.submit(alloc, client, request) {
         Ok(ticket) => {
-            put_queued(out, ticket, client)?;
-            Ok(false)
+            let printed = put_queued(out, ticket, client);
+            return answer(printed, false);
         }
         Err((_, refused)) => {
-            put_refused(out, client, refused)?;
-            Ok(true)
+            let printed = put_refused(out, client, refused);
+            return answer(printed, true);
         }
     }
 }
@@ -72,7 +98,12 @@ fn serve_event<B: Bus, W: Write>(
     device: &mut BlockDev<B>,
     event: Event,
     out: &mut W,
-) -> io::Result<bool> {
+) -> io::Result<bool>
+    ensures plays { (B.side device.new.bus).is_kept ≡ true
+        → Plays device.old.info (Rests B.side device.old) (Rests B.side device.new) (event ∷ []) (W.contents out.old) (W.contents out.new) result }
+    ensures kept { (B.side device.new.bus).is_kept ≡ true → (B.side device.old.bus).is_kept ≡ true }
+    ensures info { device.new.info ≡ device.old.info }
+{
     match event {
         Event::Submit { client, request } => submit(alloc, device, client, request, out),
         Event::Turn => turn(device, out),
@@ -86,7 +117,12 @@ fn serve_events<B: Bus, W: Write>(
     device: &mut BlockDev<B>,
     script: Script,
     out: &mut W,
-) -> io::Result<bool> {
+) -> io::Result<bool>
+    ensures plays { (B.side device.new.bus).is_kept ≡ true
+        → Plays device.old.info (Rests B.side device.old) (Rests B.side device.new) (script ++ Run ∷ []) (W.contents out.old) (W.contents out.new) result }
+    ensures kept { (B.side device.new.bus).is_kept ≡ true → (B.side device.old.bus).is_kept ≡ true }
+    ensures info { device.new.info ≡ device.old.info }
+{
     let mut script = script;
     let mut bad = false;
     while let Some(event) = script.take_first() {

@@ -1,0 +1,111 @@
+-- The device's calls, from a machine with nothing in service to one with nothing in service.
+use Rattle.std.proofs.Common.{◌≡◌, ◌+◌, ℕ, List, [], ◌∷◌, ◌++◌, None, suc, true, length, sym, refl, ap, ap₂, ◌∙◌, subst, arith, inl, inr, length-append}
+use Rattle.std.specs.Prelude.{◌||◌, Bool, IsErr, Option, Result, false}
+use Rattle.mmc_bus.specs.Side.{Side}
+use Rattle.mmc_block.specs.declared.completion.Completion.{Completion}
+use Rattle.mmc_block.specs.declared.info.Info.{Info}
+use Rattle.mmc_block.specs.declared.refused.Refused.{Refused}
+use Rattle.mmc_block.specs.declared.request.Request.{Request}
+use Rattle.mmc_block.specs.Device.{AnswersOldest, Comes, DeviceView, Queues}
+use Rattle.mmc_block.specs.Machine.{Accepts, CompletesAll, IsMerged, Machine, StartsIfIdle, Turns, Waiting}
+use Rattle.mmc_block.specs.Refusal.{IsFirst, first_refusal}
+use Rattle.cardtool.specs.declared.event.Event.{Event}
+use Rattle.cardtool.specs.Serving.{Breaks, Goes, Plays, Rests, unanswered}
+use Rattle.cardtool.proofs.ServingLemmas.{breaks_after, goes_none, goes_then, no_length, plays_broken}
+
+pub waiting_is : {B : Type 0} (side : B → Side) (d : DeviceView B) (m : Machine) (k : ℕ) → k ≡ length d.waits → Rests side d m → k ≡ unanswered m
+waiting_is side d m k is h =
+    let waits : length m.waits ≡ length d.waits = ap length h.0.waits in
+    let serves : length m.serves ≡ 0 = ap length h.1 in
+    omega (arith, is, waits, serves)
+
+merged_length : (zs xs ys : List Waiting) → IsMerged zs xs ys → length zs ≡ length xs + length ys
+merged_length [] xs ys h = omega (arith, ap length h.0, ap length h.1)
+merged_length (z ∷ zs) xs ys (inl (rest, is, h)) = omega (arith, ap length is, merged_length zs rest ys h)
+merged_length (z ∷ zs) xs ys (inr (rest, is, h)) = omega (arith, ap length is, merged_length zs xs rest h)
+
+-- a start takes as many as no longer wait into service
+started_length : (m s : Machine) → m.serves ≡ [] → StartsIfIdle m s → length s.serves + length s.waits ≡ length m.waits
+started_length m s none (inl h) =
+    let first : length m.waits ≡ suc (length h.later) = ap length h.first in
+    let group : length s.serves ≡ suc (length h.others) = ap length h.group in
+    omega (arith, first, group, merged_length h.later h.others s.waits h.left)
+started_length m s none (inr h) =
+    let waits : length m.waits ≡ 0 = ap length (h.1 none) in
+    let same : length s.waits ≡ length m.waits = ap (λ k. length k.waits) h.0 in
+    let serves : length s.serves ≡ 0 = ap (λ k. length k.serves) h.0 ∙ ap length none in
+    omega (arith, waits, same, serves)
+
+completed_length : (i : Info) (m : Machine) (cs : List Completion) (n : Machine) → CompletesAll i m cs n → (length n.waits ≡ length m.waits) × (length n.serves + length cs ≡ length m.serves)
+completed_length i m [] n h = (ap (λ k. length k.waits) h, ap (λ k. length k.serves + 0) h ∙ omega arith)
+completed_length i m (c ∷ cs) n (mid, step, h) =
+    let others = completed_length i mid cs n h in
+    let waits : length mid.waits ≡ length m.waits = ap length step.waits in
+    let served : length m.serves ≡ length (step.before ++ step.w ∷ step.after) = ap length step.served in
+    let was : length (step.before ++ step.w ∷ step.after) ≡ length step.before + suc (length step.after) = length-append step.before (step.w ∷ step.after) in
+    let leaves : length mid.serves ≡ length (step.before ++ step.after) = ap length step.leaves in
+    let is : length (step.before ++ step.after) ≡ length step.before + length step.after = length-append step.before step.after in
+    (omega (arith, others.0, waits), omega (arith, others.1, served, was, leaves, is))
+
+answered_length : (ws : List Waiting) (cs : List Completion) (later : List Waiting) → AnswersOldest ws cs later → length ws ≡ length cs + length later
+answered_length [] cs later h = omega (arith, ap length h.0, ap length h.1)
+answered_length (w ∷ ws) cs later h = omega (arith, ap length h.2, ap length h.3)
+
+-- a turn that answers the oldest leaves nothing in service
+turn_rests : (i : Info) (m : Machine) (cs : List Completion) (n : Machine) → m.serves ≡ [] → AnswersOldest m.waits cs n.waits → Turns i m cs n → n.serves ≡ []
+turn_rests i m cs n none oldest t =
+    let start = started_length m t.started none t.start in
+    let done = completed_length i (record t.started { sets = t.serves.decided }) cs n t.serves.completes in
+    let oldest_length = answered_length m.waits cs n.waits oldest in
+    no_length n.serves (omega (arith, start, done.0, done.1, oldest_length))
+
+pub rests_turn : {B : Type 0} (side : B → Side) (old new : DeviceView B) (i : Info) (cs : List Completion)
+    → AnswersOldest old.waits cs new.waits → Comes side old (λ (m n : Machine). Turns i m cs n) new
+    → (m : Machine) → Rests side old m → (n : Machine) × Rests side new n × Turns i m cs n
+rests_turn side old new i cs oldest comes m h =
+    let s = comes m h.0 in
+    let at : AnswersOldest m.waits cs s.0.waits = subst (λ ws. AnswersOldest ws cs s.0.waits) (sym h.0.waits) (subst (λ ws. AnswersOldest old.waits cs ws) (sym s.2.waits) oldest) in
+    (s.0, (s.2, turn_rests i m cs s.0 h.1 at s.1), s.1)
+
+-- a refusal, seen from the device or from the machine
+refusal_is : {B : Type 0} (side : B → Side) (d : DeviceView B) (m : Machine) (q : Request) → Rests side d m
+    → first_refusal d.info (length d.waits) d.next q ≡ first_refusal d.info (unanswered m) m.next q
+refusal_is side d m q h = ap₂ (λ (k next : ℕ). first_refusal d.info k next q) (waiting_is side d m (length d.waits) refl h) (sym h.0.next)
+
+pub rests_queued : {B : Type 0} (side : B → Side) (old new : DeviceView B) (client ticket : ℕ) (q : Request)
+    → Queues old client q ticket new → Comes side old (λ (m n : Machine). Accepts m client q ticket n) new
+    → (m : Machine) → Rests side old m → (n : Machine) × Rests side new n × ((first_refusal old.info (unanswered m) m.next q ≡ None) × Accepts m client q ticket n)
+rests_queued side old new client ticket q queues comes m h =
+    let s = comes m h.0 in
+    (s.0, (s.2, ap (λ k. k.serves) s.1.waits ∙ h.1), (sym (refusal_is side old m q h) ∙ queues.not_refused, s.1))
+
+pub rests_refused : {B : Type 0} (side : B → Side) (old new : DeviceView B) (q : Request) (why : Refused)
+    → new ≡ old → IsFirst (first_refusal old.info (length old.waits) old.next q) why
+    → (m : Machine) → Rests side old m → Rests side new m × IsFirst (first_refusal old.info (unanswered m) m.next q) why
+rests_refused side old new q why same first m h = (subst (λ d. Rests side d m) (sym same) h, subst (λ r. IsFirst r why) (refusal_is side old m q h) first)
+
+-- What a loop keeps: a bus that is kept was kept before, and the events so far were served over it.
+pub record Went {B : Type 0} (side : B → Side) (start now : DeviceView B) (es left : List Event) (old new : Option (List ℕ)) (bad : Bool) : Type 0 where
+  pub kept : (side now.bus).is_kept ≡ true → (side start.bus).is_kept ≡ true
+  pub info : now.info ≡ start.info
+  pub goes : (side now.bus).is_kept ≡ true → Goes start.info (Rests side start) (Rests side now) es left old new bad
+
+pub went_none : {B : Type 0} (side : B → Side) (d : DeviceView B) (es : List Event) (old : Option (List ℕ)) → Went side d d es es old old false
+went_none side d es old = record { kept = λ k. k; info = refl; goes = λ k. goes_none d.info (Rests side d) es old }
+
+pub went_then : {B : Type 0} (side : B → Side) (start mid now : DeviceView B) (es fs left rest : List Event) (old between new : Option (List ℕ)) (x y : Bool)
+    → Went side start mid es (fs ++ left) old between x → ((side now.bus).is_kept ≡ true → (side mid.bus).is_kept ≡ true) → now.info ≡ mid.info
+    → ((side now.bus).is_kept ≡ true → Goes mid.info (Rests side mid) (Rests side now) fs rest between new y) → Went side start now es (rest ++ left) old new (y || x)
+went_then side start mid now es fs left rest old between new x y went kept info goes = record {
+  kept = λ k. went.kept (kept k);
+  info = info ∙ went.info;
+  goes = λ k. goes_then start.info (Rests side start) (Rests side mid) (Rests side now) es fs left rest old between new x y (went.goes (kept k)) (subst (λ i. Goes i (Rests side mid) (Rests side now) fs rest between new y) went.info (goes k));
+}
+
+pub went_broken : {B E : Type 0} (side : B → Side) (start mid now : DeviceView B) (es fs left : List Event) (old between new : Option (List ℕ)) (x : Bool) (r : Result Bool E) → IsErr r
+    → Went side start mid es (fs ++ left) old between x → ((side now.bus).is_kept ≡ true → (side mid.bus).is_kept ≡ true)
+    → ((side now.bus).is_kept ≡ true → Breaks mid.info (Rests side mid) (Rests side now) fs between new)
+    → (side now.bus).is_kept ≡ true → Plays start.info (Rests side start) (Rests side now) es old new r
+went_broken side start mid now es fs left old between new x r bad went kept breaks k =
+    plays_broken start.info (Rests side start) (Rests side now) es old new r bad
+    (breaks_after start.info (Rests side start) (Rests side mid) (Rests side now) es fs left old between new x (went.goes (kept k)) (subst (λ i. Breaks i (Rests side mid) (Rests side now) fs between new) went.info (breaks k)))
