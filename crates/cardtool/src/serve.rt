@@ -1,10 +1,11 @@
 // Serves a script on a card, and prints what becomes of its requests.
-ghost use Rattle.std.specs.Prelude.{◌<◌, ◌≡◌, ◌≤◌, ◌++◌, ◌∷◌, IfOk, [], length, true};
+ghost use Rattle.std.specs.Prelude.{◌<◌, ◌≡◌, ◌≤◌, ◌++◌, ◌∷◌, IfErr, IfOk, [], length, true};
 ghost use Rattle.std.specs.Option.{ForSome};
 ghost use Rattle.mmc_block.specs.Place.{IsReady};
+ghost use Rattle.mmc_bus.specs.Card.{holds};
 ghost use Rattle.mmc_bus.specs.PlainCard.{plain_side};
 ghost use Rattle.cardtool.specs.declared.event.Event.TheVariants.{Run, Submit};
-ghost use Rattle.cardtool.specs.Serving.{Plays, Rests, Turned, answered};
+ghost use Rattle.cardtool.specs.Serving.{IsServed, IsUnwritten, Plays, Rests, Turned, answered, outcome_of, plain_info};
 
 use crate::card_file::read_card;
 use crate::event::Event;
@@ -83,11 +84,11 @@ fn submit<B: Bus, W: Write>(
     match device.submit(alloc, client, request) {
         Ok(ticket) => {
             let printed = put_queued(out, ticket, client);
-            return answer(printed, false);
+            answer(printed, false)
         }
         Err((_, refused)) => {
             let printed = put_refused(out, client, refused);
-            return answer(printed, true);
+            answer(printed, true)
         }
     }
 }
@@ -131,28 +132,47 @@ fn serve_events<B: Bus, W: Write>(
     Ok(run(device, out)? | bad)
 }
 
-// Serves a script on the card of a bus, and gives the bus back.
-fn serve_on<B: Bus + Drop, W: Write>(
+// The exit status, or the fault of a write.
+fn outcome(served: io::Result<bool>) -> Result<u8, ServeFault>
+    ensures { result ≡ outcome_of served }
+{
+    match served {
+        Ok(false) => Ok(ALL_WELL),
+        Ok(true) => Ok(SOME_FAILED),
+        Err(_) => Err(ServeFault::Write),
+    }
+}
+
+/// Serves a script on the card of a bus, and turns until nothing waits, with a line for each answer. The bus is handed
+/// back with the exit status: 0 where every request was answered `Done` or `Data`, 1 where some request failed or was
+/// refused.
+///
+/// # Errors
+/// `NoMemory` where the device can't be opened; nothing was written then. `Write` where a write failed; a front of the
+/// text went out.
+pub fn serve_on<B: Bus + Drop, W: Write>(
     alloc: Global,
     bus: B,
     sectors: u64,
     script: Script,
     out: &mut W,
-) -> Result<(B, u8), ServeFault>
+) -> (B, Result<u8, ServeFault>)
     requires some { 1 ≤ sectors }
     requires few { sectors ≤ 65536 }
     requires ready { (B.side bus).is_kept ≡ true → IsReady sectors (B.side bus) }
+    // Over a bus that is kept to the end: a run of the sector machine, and its text.
+    ensures served { (B.side result.0).is_kept ≡ true
+        → IsServed (plain_info sectors) (holds (B.side bus).card) (holds (B.side result.0).card) (script ++ Run ∷ []) (W.contents out.old) (W.contents out.new) result.1 }
+    // Over any bus.
+    ensures unwritten { IfErr result.1 (λ fault. IsUnwritten (W.contents out.old) (W.contents out.new) fault) }
 {
     let mut device = match BlockDev::open_plain(alloc, bus, sectors) {
         Ok(device) => device,
-        Err(_) => return Err(ServeFault::NoMemory),
+        Err((bus, _)) => return (bus, Err(ServeFault::NoMemory)),
     };
     let served = serve_events(alloc, &mut device, script, out);
     let bus = device.close();
-    match served {
-        Ok(bad) => Ok((bus, if bad { SOME_FAILED } else { ALL_WELL })),
-        Err(_) => Err(ServeFault::Write),
-    }
+    (bus, outcome(served))
 }
 
 // Serves a script, and writes the last `n` exchanges.
@@ -169,11 +189,13 @@ fn serve_traced<W: Write>(
     requires ready { IsReady sectors (plain_side card) }
     requires one { 1 ≤ n }
     requires many { n ≤ 65536 }
+    ensures { IfErr result (λ fault. IsUnwritten (W.contents out.old) (W.contents out.new) fault) }
 {
     let Ok(bus) = TraceBus::new(alloc, card, n as usize) else {
         return Err(ServeFault::NoMemory);
     };
-    let (bus, status) = serve_on(alloc, bus, sectors, script, out)?;
+    let (bus, served) = serve_on(alloc, bus, sectors, script, out);
+    let status = served?;
     match put_trace(&bus, out) {
         Ok(()) => Ok(status),
         Err(_) => Err(ServeFault::Write),
@@ -237,6 +259,7 @@ pub fn serve<C: Read, S: Read, W: Write>(
     out: &mut W,
 ) -> Result<u8, ServeFault>
     requires { ForSome trace (λ n. (1 ≤ n) × (n ≤ 65536)) }
+    ensures { IfErr result (λ fault. IsUnwritten (W.contents out.old) (W.contents out.new) fault) }
 {
     let card_file = whole(alloc, card, MAX_CARD_FILE, ServeFault::ReadCard)?;
     let sectors = read_card(card_file.as_slice())?;
@@ -245,6 +268,6 @@ pub fn serve<C: Read, S: Read, W: Write>(
     let card = new_card(alloc, sectors)?;
     match trace {
         Some(n) => serve_traced(alloc, card, sectors, script, n, out),
-        None => Ok(serve_on(alloc, card, sectors, script, out)?.1),
+        None => serve_on(alloc, card, sectors, script, out).1,
     }
 }
