@@ -17,7 +17,9 @@ use Rattle.mmc_bus.specs.Blocks.{accepted, end_errors, is_last, programmed, reje
 use Rattle.mmc_bus.specs.Card.{AreAmong, AreBlocks, Both, Card, First, FromBytes, FromSectors, Held, IsCard, NoAddress, Source, error_bits, is_in, is_selected, is_writing}
 use Rattle.mmc_bus.specs.Faults.{CommandStep, GiveStep, PollStep, TakeStep}
 use Rattle.mmc_bus.specs.Made.{erased_byte_of_card, erased_sector, has_cmd23, has_switch_function}
-use Rattle.mmc_bus.specs.Rows.{ASendOpCond, ASendScr, ASetBusWidth, AllSendCid, AppCmd, Command, Erase, EraseEnd, EraseStart, GoIdleState, ReadMultipleBlock, ReadSingleBlock, SelectCard, SendCsd, SendExtCsd, SendIfCond, SendOpCond, SendRelativeAddr, SendStatus, SetBlockCount, SetBlocklen, SetRelativeAddr, StopTransmission, SwitchByte, SwitchFunc, Unknown, WriteBlock, WriteMultipleBlock, answered, command_of, is_foreign, is_legal, leaves_erase, reached, responded, row}
+use Rattle.mmc_bus.specs.declared.command.Command.{Command}
+use Rattle.mmc_bus.specs.declared.command.Command.TheVariants.{ASendOpCond, ASendScr, ASetBusWidth, AllSendCid, AppCmd, Erase, EraseEnd, EraseStart, GoIdleState, ReadMultipleBlock, ReadSingleBlock, SelectCard, SendCsd, SendExtCsd, SendIfCond, SendOpCond, SendRelativeAddr, SendStatus, SetBlockCount, SetBlocklen, SetRelativeAddr, StopTransmission, SwitchByte, SwitchFunc, Unknown, WriteBlock, WriteMultipleBlock}
+use Rattle.mmc_bus.specs.Rows.{answered, command_of, is_foreign, is_legal, leaves_erase, reached, responded, row}
 use Rattle.mmc_bus.specs.RowsErase.{erase_held, erases, erasing, forgotten, hold_first, hold_last, holds_address, is_no_range, is_trim}
 use Rattle.mmc_bus.specs.RowsIdentify.{inquired, is_served}
 use Rattle.mmc_bus.specs.RowsSwitch.{ext_csd_now, switch_row, switch_status, switched, timing_after}

@@ -11,7 +11,8 @@ use Rattle.mmc_bus.specs.Answer.{com_crc_error, done, erase_reset, garbled, ille
 use Rattle.mmc_bus.specs.Blocks.{programmed, rested}
 use Rattle.mmc_bus.specs.Card.{AreAmong, AreBlocks, Card, IsApart, IsCard, NoAddress, complaint_bits, error_bits, is_in, is_selected, is_writing, landed, landed_in, stored}
 use Rattle.mmc_bus.specs.Made.{HasRegisters, first_block_length}
-use Rattle.mmc_bus.specs.Rows.{Command, leaves_erase, reached}
+use Rattle.mmc_bus.specs.declared.command.Command.{Command}
+use Rattle.mmc_bus.specs.Rows.{leaves_erase, reached}
 use Rattle.mmc_bus.specs.RowsErase.{forgotten, holds_address}
 use Rattle.mmc_bus.specs.Sectors.{Sector, part_number}
 use Rattle.std.proofs.lemmas.Nat.Bits.{bit_at_or, same_from_bits}

@@ -18,7 +18,8 @@ use Rattle.mmc_bus.specs.Card.{AreAmong, Card, IsCard, NoAddress, error_bits, is
 use Rattle.mmc_bus.specs.CommandLaws.{Begins, Does, Names}
 use Rattle.mmc_bus.specs.Heard.{response_of}
 use Rattle.mmc_bus.specs.Learned.{CommandFacts, carried_out, meant}
-use Rattle.mmc_bus.specs.Rows.{Command, is_addressed, is_foreign, is_legal, leaves_erase, reached, row, without_addresses}
+use Rattle.mmc_bus.specs.declared.command.Command.{Command}
+use Rattle.mmc_bus.specs.Rows.{is_addressed, is_foreign, is_legal, leaves_erase, reached, row, without_addresses}
 use Rattle.mmc_bus.specs.RowsTransfer.{transfer_errors, transferred}
 use Rattle.mmc_bus.specs.Side.{Side}
 

@@ -13,7 +13,8 @@ use Rattle.mmc_bus.specs.Card.{Card, IsCard, is_in, is_selected}
 use Rattle.mmc_bus.specs.CommandLaws.{Inquires, TellsReady, TellsWait}
 use Rattle.mmc_bus.specs.Heard.{ocr_of, or_unsound}
 use Rattle.mmc_bus.specs.Learned.{CommandFacts, meant}
-use Rattle.mmc_bus.specs.Rows.{Command, is_foreign, is_legal, reached, row, without_addresses}
+use Rattle.mmc_bus.specs.declared.command.Command.{Command}
+use Rattle.mmc_bus.specs.Rows.{is_foreign, is_legal, reached, row, without_addresses}
 use Rattle.mmc_bus.specs.RowsErase.{holds_address}
 use Rattle.mmc_bus.specs.RowsIdentify.{inquired}
 use Rattle.mmc_bus.specs.Side.{Side}

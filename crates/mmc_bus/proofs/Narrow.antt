@@ -14,7 +14,9 @@ use Rattle.mmc_bus.specs.Answer.{Choice, busied, garbled, general_error, raised,
 use Rattle.mmc_bus.specs.Blocks.{accepted, can_send, can_take, programmed, rejected, rested, sent_from}
 use Rattle.mmc_bus.specs.Card.{Both, Card, First, FromBytes, FromSectors, Held, NoAddress, Source, at_sector, holds, is_in, known, landed, stored, unfinished}
 use Rattle.mmc_bus.specs.Laws.{Carried, WithinOrTaken, erased_by, erased_by_command, erased_by_held, maybe_erased}
-use Rattle.mmc_bus.specs.Rows.{ASendOpCond, ASendScr, ASetBusWidth, AllSendCid, AppCmd, Command, Erase, EraseEnd, EraseStart, GoIdleState, ReadMultipleBlock, ReadSingleBlock, SelectCard, SendCsd, SendExtCsd, SendIfCond, SendOpCond, SendRelativeAddr, SendStatus, SetBlockCount, SetBlocklen, SetRelativeAddr, StopTransmission, SwitchByte, SwitchFunc, Unknown, WriteBlock, WriteMultipleBlock, answered, command_of, is_foreign, is_legal, leaves_erase, reached, responded, row}
+use Rattle.mmc_bus.specs.declared.command.Command.{Command}
+use Rattle.mmc_bus.specs.declared.command.Command.TheVariants.{ASendOpCond, ASendScr, ASetBusWidth, AllSendCid, AppCmd, Erase, EraseEnd, EraseStart, GoIdleState, ReadMultipleBlock, ReadSingleBlock, SelectCard, SendCsd, SendExtCsd, SendIfCond, SendOpCond, SendRelativeAddr, SendStatus, SetBlockCount, SetBlocklen, SetRelativeAddr, StopTransmission, SwitchByte, SwitchFunc, Unknown, WriteBlock, WriteMultipleBlock}
+use Rattle.mmc_bus.specs.Rows.{answered, command_of, is_foreign, is_legal, leaves_erase, reached, responded, row}
 use Rattle.mmc_bus.specs.RowsErase.{erase_held, erases, erasing, hold_first, hold_last, holds_address, is_no_range, is_trim}
 use Rattle.mmc_bus.specs.RowsIdentify.{inquired, is_served}
 use Rattle.mmc_bus.specs.RowsSwitch.{access_switched, accessed, part_accessed, switch_row, switched, write_byte}

@@ -21,7 +21,9 @@ use Rattle.mmc_bus.specs.Card.{Both, Card, First, Held, IsCard, NoAddress}
 use Rattle.mmc_bus.specs.Faults.{IsFlipped, Spells}
 use Rattle.mmc_bus.specs.Heard.{index_of_inquiry, is_inquiry_index, nothing_heard, nothing_of, ocr_heard, ocr_of, or_unsound, register_heard, register_of, response_heard, response_of}
 use Rattle.mmc_bus.specs.Made.{HasRegisters}
-use Rattle.mmc_bus.specs.Rows.{ASendOpCond, AllSendCid, Command, Erase, EraseEnd, EraseStart, GoIdleState, ReadMultipleBlock, ReadSingleBlock, SendCsd, SendIfCond, SendOpCond, SetBlocklen, SwitchByte, Unknown, WriteBlock, WriteMultipleBlock, command_of, is_foreign, is_legal, reached, responded, row}
+use Rattle.mmc_bus.specs.declared.command.Command.{Command}
+use Rattle.mmc_bus.specs.declared.command.Command.TheVariants.{ASendOpCond, AllSendCid, Erase, EraseEnd, EraseStart, GoIdleState, ReadMultipleBlock, ReadSingleBlock, SendCsd, SendIfCond, SendOpCond, SetBlocklen, SwitchByte, Unknown, WriteBlock, WriteMultipleBlock}
+use Rattle.mmc_bus.specs.Rows.{command_of, is_foreign, is_legal, reached, responded, row}
 use Rattle.mmc_bus.specs.RowsErase.{erase_held, erases, erasing, forgotten, hold_first, hold_last, is_no_range, is_trim}
 use Rattle.mmc_bus.specs.RowsIdentify.{inquired, is_served}
 use Rattle.mmc_bus.specs.RowsSwitch.{switch_row, switched}

@@ -19,7 +19,9 @@ use Rattle.mmc_bus.specs.Card.{Both, Card, First, FromBytes, FromSectors, Held, 
 use Rattle.mmc_bus.specs.Faults.{CommandStep, GiveStep, PollStep, TakeStep}
 use Rattle.mmc_bus.specs.Laws.{IsAfterReset, Setting, Stands, StillStands, is_frame_of_run, is_of_run, setting_of, timing_once_sent}
 use Rattle.mmc_bus.specs.Made.{Made, first_rca, has_cmd23}
-use Rattle.mmc_bus.specs.Rows.{Command, Erase, EraseEnd, EraseStart, ReadMultipleBlock, ReadSingleBlock, SendStatus, SetBlockCount, StopTransmission, Unknown, WriteBlock, WriteMultipleBlock, answered, command_of, is_foreign, is_legal, leaves_erase, reached, responded, row}
+use Rattle.mmc_bus.specs.declared.command.Command.{Command}
+use Rattle.mmc_bus.specs.declared.command.Command.TheVariants.{Erase, EraseEnd, EraseStart, ReadMultipleBlock, ReadSingleBlock, SendStatus, SetBlockCount, StopTransmission, Unknown, WriteBlock, WriteMultipleBlock}
+use Rattle.mmc_bus.specs.Rows.{answered, command_of, is_foreign, is_legal, leaves_erase, reached, responded, row}
 use Rattle.mmc_bus.specs.RowsErase.{erase_held, forgotten, hold_first, hold_last, holds_address, is_no_range}
 use Rattle.mmc_bus.specs.RowsTransfer.{begun, preset, transfer_errors, transferred}
 use Rattle.mmc_bus.specs.Sectors.{Sector}

@@ -13,7 +13,9 @@ use Rattle.mmc_bus.specs.declared.bus.Reply.TheVariants.{Long, Short, Silent}
 use Rattle.mmc_bus.specs.Answer.{Answer, Checked, Choice, Mute, Open, Register, garbled, general_error, raised, reset}
 use Rattle.mmc_bus.specs.Blocks.{accepted, asked_for, can_send, can_take, next_block, offered, polled_once, programmed, rejected, sent}
 use Rattle.mmc_bus.specs.Card.{Card, is_in}
-use Rattle.mmc_bus.specs.Rows.{ASendOpCond, Command, SendOpCond, answered, command_of}
+use Rattle.mmc_bus.specs.declared.command.Command.{Command}
+use Rattle.mmc_bus.specs.declared.command.Command.TheVariants.{ASendOpCond, SendOpCond}
+use Rattle.mmc_bus.specs.Rows.{answered, command_of}
 use Rattle.mmc_bus.specs.RowsIdentify.{is_served}
 use Rattle.mmc_bus.specs.Side.{Side}
 use Rattle.mmc_bus.specs.declared.bus.DataIn.TheVariants as Received

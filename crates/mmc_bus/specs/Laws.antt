@@ -8,7 +8,9 @@ use Rattle.mmc_bus.specs.Blocks.{next_written}
 use Rattle.mmc_bus.specs.Card.{Both, Card, FromBytes, FromSectors, Held, IsApart, Source, holds, is_in, is_selected, stored}
 use Rattle.mmc_bus.specs.Faults.{NoFault, OneFault}
 use Rattle.mmc_bus.specs.Made.{first_rca}
-use Rattle.mmc_bus.specs.Rows.{Command, Erase, EraseEnd, EraseStart, ReadMultipleBlock, ReadSingleBlock, SendStatus, SetBlockCount, StopTransmission, Unknown, WriteBlock, WriteMultipleBlock, command_of}
+use Rattle.mmc_bus.specs.declared.command.Command.{Command}
+use Rattle.mmc_bus.specs.declared.command.Command.TheVariants.{Erase, EraseEnd, EraseStart, ReadMultipleBlock, ReadSingleBlock, SendStatus, SetBlockCount, StopTransmission, Unknown, WriteBlock, WriteMultipleBlock}
+use Rattle.mmc_bus.specs.Rows.{command_of}
 use Rattle.mmc_bus.specs.RowsErase.{erasing, is_trim}
 use Rattle.mmc_bus.specs.Sectors.{Change, IsIn, Sector, Sets, maybe_changed}
 use Rattle.mmc_bus.specs.Side.{Side}

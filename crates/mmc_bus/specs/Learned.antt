@@ -14,7 +14,8 @@ use Rattle.mmc_bus.specs.Exchanges.{Exchanged}
 use Rattle.mmc_bus.specs.Faults.{IsPatient, NoFault}
 use Rattle.mmc_bus.specs.Heard.{cause_of, cause_of_command}
 use Rattle.mmc_bus.specs.Laws.{Carried, StillStands, WithinOrTaken, erased_by, is_frame_of_run, maybe_erased}
-use Rattle.mmc_bus.specs.Rows.{Command, command_of, is_foreign, is_legal, reached, row}
+use Rattle.mmc_bus.specs.declared.command.Command.{Command}
+use Rattle.mmc_bus.specs.Rows.{command_of, is_foreign, is_legal, reached, row}
 use Rattle.mmc_bus.specs.Sectors.{Sector, Within}
 use Rattle.mmc_bus.specs.Side.{Side}
 use Rattle.mmc_bus.specs.declared.bus.DataIn.TheVariants as Received

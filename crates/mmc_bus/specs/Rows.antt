@@ -6,6 +6,8 @@ use Rattle.mmc_frame.specs.declared.card_state.State.{State}
 use Rattle.mmc_frame.specs.declared.card_state.State.TheVariants.{Data, Ident, Idle, Rcv, Ready, Stby, Tran}
 use Rattle.mmc_frame.specs.declared.kind.Kind.{Kind}
 use Rattle.mmc_frame.specs.declared.kind.Kind.TheVariants.{Mmc, Sd}
+use Rattle.mmc_bus.specs.declared.command.Command.{Command}
+use Rattle.mmc_bus.specs.declared.command.Command.TheVariants.{ASendOpCond, ASendScr, ASetBusWidth, AllSendCid, AppCmd, Erase, EraseEnd, EraseStart, GoIdleState, ReadMultipleBlock, ReadSingleBlock, SelectCard, SendCsd, SendExtCsd, SendIfCond, SendOpCond, SendRelativeAddr, SendStatus, SetBlockCount, SetBlocklen, SetRelativeAddr, StopTransmission, SwitchByte, SwitchFunc, Unknown, WriteBlock, WriteMultipleBlock}
 use Rattle.mmc_bus.specs.Answer.{Answer, Choice, Mute, erase_reset, garbled, raised, refused}
 use Rattle.mmc_bus.specs.Card.{Card, is_in, is_selected}
 use Rattle.mmc_bus.specs.Made.{has_cmd23, has_switch_function, is_sd}
@@ -13,36 +15,6 @@ use Rattle.mmc_bus.specs.RowsErase.{erase_held, forgotten, hold_first, hold_last
 use Rattle.mmc_bus.specs.RowsIdentify.{all_send_cid, app_cmd, go_idle_state, sd_send_op_cond, select_card, send_csd, send_if_cond, send_op_cond, send_relative_addr, send_status, set_relative_addr}
 use Rattle.mmc_bus.specs.RowsSwitch.{send_ext_csd, set_bus_width, switch_byte, switch_func}
 use Rattle.mmc_bus.specs.RowsTransfer.{read_multiple_block, read_single_block, send_scr, set_block_count_to, set_blocklen, stop_transmission, write_block, write_multiple_block}
-
--- The commands of the table. An A stands before an application command.
-pub data Command : Type 0 where
-  GoIdleState : Command
-  SendOpCond : Command
-  ASendOpCond : Command
-  AllSendCid : Command
-  SendRelativeAddr : Command
-  SetRelativeAddr : Command
-  SelectCard : Command
-  SendIfCond : Command
-  SendExtCsd : Command
-  SendCsd : Command
-  StopTransmission : Command
-  SendStatus : Command
-  SetBlocklen : Command
-  ReadSingleBlock : Command
-  ReadMultipleBlock : Command
-  SetBlockCount : Command
-  WriteBlock : Command
-  WriteMultipleBlock : Command
-  EraseStart : Command
-  EraseEnd : Command
-  Erase : Command
-  SwitchByte : Command
-  SwitchFunc : Command
-  ASetBusWidth : Command
-  ASendScr : Command
-  AppCmd : Command
-  Unknown : Command
 
 abbrev pub by_kind : Kind → Command → Command → Command
 by_kind Sd sd mmc = sd

@@ -6,6 +6,7 @@ mod bytes;
 pub mod card_laws;
 mod cause;
 mod chip;
+mod command;
 pub mod erase_laws;
 mod exchange_text;
 mod host;

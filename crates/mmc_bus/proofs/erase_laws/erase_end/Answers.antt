@@ -4,7 +4,7 @@ use Rattle.mmc_bus.proofs.CommandLemmas.{does_in}
 use Rattle.mmc_bus.proofs.erase_laws.erase_end.Goals as goal
 use Rattle.mmc_bus.specs.Answer.{Checked, status}
 use Rattle.mmc_bus.specs.Heard.{response_of}
-use Rattle.mmc_bus.specs.Rows.{EraseEnd}
+use Rattle.mmc_bus.specs.declared.command.Command.TheVariants.{EraseEnd}
 use Rattle.mmc_bus.specs.RowsErase.{hold_last}
 
 pub returns : goal.returns

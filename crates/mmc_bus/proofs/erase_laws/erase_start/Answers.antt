@@ -4,7 +4,7 @@ use Rattle.mmc_bus.proofs.CommandLemmas.{does_in}
 use Rattle.mmc_bus.proofs.erase_laws.erase_start.Goals as goal
 use Rattle.mmc_bus.specs.Answer.{Checked, status}
 use Rattle.mmc_bus.specs.Heard.{response_of}
-use Rattle.mmc_bus.specs.Rows.{EraseStart}
+use Rattle.mmc_bus.specs.declared.command.Command.TheVariants.{EraseStart}
 use Rattle.mmc_bus.specs.RowsErase.{hold_first}
 
 pub returns : goal.returns

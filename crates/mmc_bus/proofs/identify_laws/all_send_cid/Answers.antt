@@ -4,7 +4,7 @@ use Rattle.mmc_bus.proofs.CommandLemmas.{does_in, none_held}
 use Rattle.mmc_bus.proofs.identify_laws.all_send_cid.Goals as goal
 use Rattle.mmc_bus.specs.Answer.{Register}
 use Rattle.mmc_bus.specs.Heard.{or_unsound, register_of}
-use Rattle.mmc_bus.specs.Rows.{AllSendCid}
+use Rattle.mmc_bus.specs.declared.command.Command.TheVariants.{AllSendCid}
 
 pub returns : goal.returns
 returns c = λ old new argument heard bytes facts none is.

@@ -6,7 +6,8 @@ use Rattle.mmc_bus.proofs.identify_laws.app_cmd.Goals as goal
 use Rattle.mmc_bus.specs.Answer.{Checked, status}
 use Rattle.mmc_bus.specs.Heard.{response_of}
 use Rattle.mmc_bus.specs.Made.{is_sd}
-use Rattle.mmc_bus.specs.Rows.{AppCmd, is_identified}
+use Rattle.mmc_bus.specs.declared.command.Command.TheVariants.{AppCmd}
+use Rattle.mmc_bus.specs.Rows.{is_identified}
 
 pub returns : goal.returns
 returns c = λ old new argument heard facts kind none.

@@ -2,7 +2,7 @@ use Rattle.std.proofs.Common.{◌&&◌, ◌≡◌, not, refl, true}
 use Rattle.mmc_bus.proofs.CommandLemmas.{not_false}
 use Rattle.mmc_bus.proofs.InquiryLemmas.{inquires}
 use Rattle.mmc_bus.proofs.identify_laws.sd_send_op_cond.Goals as goal
-use Rattle.mmc_bus.specs.Rows.{ASendOpCond}
+use Rattle.mmc_bus.specs.declared.command.Command.TheVariants.{ASendOpCond}
 use Rattle.mmc_bus.specs.RowsIdentify.{is_served}
 
 pub returns : goal.returns

@@ -5,7 +5,7 @@ use Rattle.mmc_bus.proofs.CommandLemmas.{does, in_is, named, none_held, owns}
 use Rattle.mmc_bus.proofs.identify_laws.select_card.Goals as goal
 use Rattle.mmc_bus.specs.Answer.{Checked, status}
 use Rattle.mmc_bus.specs.Heard.{response_of}
-use Rattle.mmc_bus.specs.Rows.{SelectCard}
+use Rattle.mmc_bus.specs.declared.command.Command.TheVariants.{SelectCard}
 
 pub returns : goal.returns
 returns c = λ old new argument heard facts none.

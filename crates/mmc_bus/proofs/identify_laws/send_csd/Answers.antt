@@ -5,7 +5,7 @@ use Rattle.mmc_bus.proofs.CommandLemmas.{does, in_is, named, none_held, owns}
 use Rattle.mmc_bus.proofs.identify_laws.send_csd.Goals as goal
 use Rattle.mmc_bus.specs.Answer.{Register}
 use Rattle.mmc_bus.specs.Heard.{or_unsound, register_of}
-use Rattle.mmc_bus.specs.Rows.{SendCsd}
+use Rattle.mmc_bus.specs.declared.command.Command.TheVariants.{SendCsd}
 
 pub returns : goal.returns
 returns c = λ old new argument heard bytes facts none is.

@@ -5,7 +5,7 @@ use Rattle.mmc_bus.proofs.CommandLemmas.{does_known, none_held}
 use Rattle.mmc_bus.proofs.identify_laws.send_if_cond.Goals as goal
 use Rattle.mmc_bus.specs.Answer.{Checked}
 use Rattle.mmc_bus.specs.Heard.{response_of}
-use Rattle.mmc_bus.specs.Rows.{SendIfCond}
+use Rattle.mmc_bus.specs.declared.command.Command.TheVariants.{SendIfCond}
 
 pub returns : goal.returns
 returns c = λ old new argument heard facts kind none voltage.

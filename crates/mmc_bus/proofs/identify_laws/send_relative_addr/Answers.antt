@@ -4,7 +4,7 @@ use Rattle.mmc_bus.proofs.CommandLemmas.{does_either, none_held}
 use Rattle.mmc_bus.proofs.identify_laws.send_relative_addr.Goals as goal
 use Rattle.mmc_bus.specs.Answer.{Checked, r6_argument}
 use Rattle.mmc_bus.specs.Heard.{response_of}
-use Rattle.mmc_bus.specs.Rows.{SendRelativeAddr}
+use Rattle.mmc_bus.specs.declared.command.Command.TheVariants.{SendRelativeAddr}
 
 pub returns : goal.returns
 returns c = λ old new argument heard facts kind none.

@@ -4,7 +4,8 @@ use Rattle.mmc_bus.proofs.Narrow.{both}
 use Rattle.mmc_bus.proofs.identify_laws.send_status.Goals as goal
 use Rattle.mmc_bus.specs.Answer.{Checked, status}
 use Rattle.mmc_bus.specs.Heard.{response_of}
-use Rattle.mmc_bus.specs.Rows.{SendStatus, is_identified}
+use Rattle.mmc_bus.specs.declared.command.Command.TheVariants.{SendStatus}
+use Rattle.mmc_bus.specs.Rows.{is_identified}
 
 pub returns : goal.returns
 returns c = λ old new argument heard facts.

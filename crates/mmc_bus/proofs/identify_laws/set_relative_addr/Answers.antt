@@ -4,7 +4,7 @@ use Rattle.mmc_bus.proofs.CommandLemmas.{does_in, none_held}
 use Rattle.mmc_bus.proofs.identify_laws.set_relative_addr.Goals as goal
 use Rattle.mmc_bus.specs.Answer.{Checked, status}
 use Rattle.mmc_bus.specs.Heard.{response_of}
-use Rattle.mmc_bus.specs.Rows.{SetRelativeAddr}
+use Rattle.mmc_bus.specs.declared.command.Command.TheVariants.{SetRelativeAddr}
 
 pub returns : goal.returns
 returns c = λ old new argument heard facts kind none.

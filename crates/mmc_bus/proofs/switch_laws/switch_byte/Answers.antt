@@ -4,7 +4,7 @@ use Rattle.mmc_bus.proofs.CommandLemmas.{does_in, none_held}
 use Rattle.mmc_bus.proofs.switch_laws.switch_byte.Goals as goal
 use Rattle.mmc_bus.specs.Answer.{Checked, status}
 use Rattle.mmc_bus.specs.Heard.{response_of}
-use Rattle.mmc_bus.specs.Rows.{SwitchByte}
+use Rattle.mmc_bus.specs.declared.command.Command.TheVariants.{SwitchByte}
 use Rattle.mmc_bus.specs.RowsSwitch.{switch_row}
 
 pub returns : goal.returns

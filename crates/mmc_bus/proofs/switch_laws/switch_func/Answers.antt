@@ -5,7 +5,7 @@ use Rattle.mmc_bus.proofs.switch_laws.switch_func.Goals as goal
 use Rattle.mmc_bus.specs.Answer.{Checked, status}
 use Rattle.mmc_bus.specs.Heard.{response_of}
 use Rattle.mmc_bus.specs.Made.{has_switch_function}
-use Rattle.mmc_bus.specs.Rows.{SwitchFunc}
+use Rattle.mmc_bus.specs.declared.command.Command.TheVariants.{SwitchFunc}
 
 pub returns : goal.returns
 returns c = λ old new argument heard facts kind app none.

@@ -5,7 +5,7 @@ use Rattle.mmc_bus.proofs.transfer_laws.set_block_count.Goals as goal
 use Rattle.mmc_bus.specs.Answer.{Checked, status}
 use Rattle.mmc_bus.specs.Heard.{response_of}
 use Rattle.mmc_bus.specs.Made.{has_cmd23}
-use Rattle.mmc_bus.specs.Rows.{SetBlockCount}
+use Rattle.mmc_bus.specs.declared.command.Command.TheVariants.{SetBlockCount}
 
 pub returns : goal.returns
 returns c = λ old new argument heard facts none.

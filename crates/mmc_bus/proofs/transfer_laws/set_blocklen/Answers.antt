@@ -4,7 +4,7 @@ use Rattle.mmc_bus.proofs.CommandLemmas.{does_in, none_held}
 use Rattle.mmc_bus.proofs.transfer_laws.set_blocklen.Goals as goal
 use Rattle.mmc_bus.specs.Answer.{Checked, status}
 use Rattle.mmc_bus.specs.Heard.{response_of}
-use Rattle.mmc_bus.specs.Rows.{SetBlocklen}
+use Rattle.mmc_bus.specs.declared.command.Command.TheVariants.{SetBlocklen}
 
 pub returns : goal.returns
 returns c = λ old new heard facts none.

@@ -4,7 +4,7 @@ use Rattle.mmc_bus.proofs.CommandLemmas.{does_either, none_held}
 use Rattle.mmc_bus.proofs.transfer_laws.stop_transmission.Goals as goal
 use Rattle.mmc_bus.specs.Answer.{Checked, status}
 use Rattle.mmc_bus.specs.Heard.{response_of}
-use Rattle.mmc_bus.specs.Rows.{StopTransmission}
+use Rattle.mmc_bus.specs.declared.command.Command.TheVariants.{StopTransmission}
 
 pub returns : goal.returns
 returns c = record {
