@@ -18,3 +18,4 @@ pub mod SetLemmas
 pub mod Standing
 pub mod StatusLemmas
 pub mod Steps
+pub mod StoreLemmas

@@ -1,46 +1,50 @@
--- What a plain card keeps true of its fields, and its sectors after a block was programmed.
-use Rattle.std.proofs.Common.{◌≡◌, ℕ, zero, suc, ◌<◌, ◌≤◌, List, [], ◌∷◌, length, replicate, true, refl, ap, arith}
-use Rattle.std.specs.Prelude.{slice_index_or, slice_set}
+-- What a plain card keeps true of its fields, and what it does with a block.
+use Rattle.std.proofs.Common.{◌&&◌, ◌+◌, ◌==◌, ◌≡◌, ◌≤◌, ◌∙◌, Bool, None, Some, ap, arith, false, length, refl, true, ℕ}
+use Rattle.std.specs.Int.Bits.{or_zero_r}
+use Rattle.std.specs.Prelude.{Option, bit_or, if◌then◌else◌}
 use Rattle.std.proofs.lemmas.Nat.{le_or_l}
-use Rattle.mmc_bus.specs.declared.chip.Phase.{Phase}
-use Rattle.mmc_bus.specs.declared.chip.Phase.TheVariants.{Data, Prg, Rcv, Tran}
-use Rattle.mmc_bus.specs.Phase.{size_in, values_in}
+use Rattle.mmc_frame.specs.declared.card_state.State.TheVariants.{Data, Tran}
+use Rattle.mmc_bus.specs.declared.bus.Lines.{Lines}
+use Rattle.mmc_bus.specs.Answer.{out_of_range}
+use Rattle.mmc_bus.specs.Blocks.{asked_for, block_to_send, can_send, end_errors, is_last, is_none, is_of_length, lines_fit, next_block, one_less, sent, sent_from}
+use Rattle.mmc_bus.specs.Card.{AreAmong, Card, FromSectors, complaint_bits, error_bits, is_in, stored}
+use Rattle.mmc_bus.specs.PlainCard.{calm}
 use Rattle.mmc_bus.specs.Sectors.{Sector}
-use Rattle.mmc_bus.specs.Card.{AreAmong, AreBlocks, complaint_bits, landed_in}
 
 pub complaints_few : (c : ℕ) → AreAmong c complaint_bits → c ≤ 1536
 complaints_few c h = omega (arith, le_or_l c 1536, h)
 
-landed_none : (xs : List Sector) → landed_in (λ i. true) zero [] xs ≡ xs
-landed_none [] = refl
-landed_none (x ∷ xs) = refl
+pub errors_few : (e : ℕ) → AreAmong e error_bits → e ≤ 518605
+errors_few e h = omega (arith, le_or_l e 518605, h)
 
--- one block that has landed takes its place
-pub landed_one : (start : ℕ) (block : Sector) (xs : List Sector) → landed_in (λ i. true) start (block ∷ []) xs ≡ slice_set xs start block
-landed_one start block [] = refl
-landed_one zero block (x ∷ xs) = ap (λ ys. block ∷ ys) (landed_none xs)
-landed_one (suc start) block (x ∷ xs) = ap (λ ys. x ∷ ys) (landed_one start block xs)
+-- a calm card raises no error behind the last sector
+no_end : (left : Option ℕ) (at_end : Bool) → (if is_none left && (false && at_end) then out_of_range else 0) ≡ 0
+no_end None at_end = refl
+no_end (Some left) at_end = refl
 
-abbrev pub blank : Sector
-blank = replicate 512 0
+pub calm_end : (card : Card) → bit_or card.errors (end_errors false card) ≡ card.errors
+calm_end card = ap (λ n. bit_or card.errors n) (no_end card.left (card.next + 1 == length (stored card card.part))) ∙ or_zero_r card.errors
 
--- each sector has 512 bytes
-abbrev pub AllBlocks : List Sector → Type 0
-AllBlocks xs = (i : ℕ) → i < length xs → length (slice_index_or xs i blank) ≡ 512
+-- the card after a sector that it has sent
+abbrev pub after_sector : Card → Card
+after_sector card = record card { next = card.next + 1; left = one_less card.left; state = if is_last card.left then Tran else Data }
 
-pub AreBlocks-from : (xs : List Sector) → AllBlocks xs → AreBlocks xs
-AreBlocks-from [] all = tt
-AreBlocks-from (x ∷ xs) all = (all 0 (omega arith), AreBlocks-from xs (λ i h. all (suc i) (omega arith)))
+pub calm_sent : (card : Card) → sent_from FromSectors calm card ≡ after_sector card
+calm_sent card = ap (λ (n : ℕ). record (after_sector card) { errors = n }) (calm_end card)
 
-pub AllBlocks-set : (xs : List Sector) (start : ℕ) (block : Sector) → AllBlocks xs → length block ≡ 512 → AllBlocks (slice_set xs start block)
-AllBlocks-set [] start block all size i h = all i h
-AllBlocks-set (x ∷ xs) zero block all size zero h = size
-AllBlocks-set (x ∷ xs) zero block all size (suc i) h = all (suc i) h
-AllBlocks-set (x ∷ xs) (suc start) block all size zero h = all 0 (omega arith)
-AllBlocks-set (x ∷ xs) (suc start) block all size (suc i) h = AllBlocks-set xs start block (λ j k. all (suc j) (omega arith)) size i (omega arith)
+can_by : (a b c : Bool) → (a && b) ≡ true → c ≡ true → (a && (b && c)) ≡ true
+can_by true true c h k = k
+can_by true false c h k = cc
+can_by false b c h k = cc
 
-pub values_sized : (phase : Phase) → size_in phase ≡ 512 → AreBlocks (values_in phase)
-values_sized Tran h = tt
-values_sized Data h = tt
-values_sized Rcv h = tt
-values_sized (Prg block) h = (h, tt)
+same_size : (m n : ℕ) → m ≡ n → (m == n) ≡ true
+same_size m n h = grind arith
+
+-- a sector that a calm card has to send, asked for by its length
+pub asked_sector : (lines : Lines) (size : ℕ) (card : Card) (block : Sector) → (is_in card.state Data && lines_fit lines card) ≡ true
+    → card.source ≡ FromSectors → block_to_send FromSectors card ≡ Some block → length block ≡ size → asked_for calm lines size card ≡ after_sector card
+asked_sector lines size card block ready source next fits =
+    let comes : next_block card ≡ Some block = ap (λ s. block_to_send s card) source ∙ next in
+    let can : can_send lines size card ≡ true =
+        can_by (is_in card.state Data) (lines_fit lines card) _ ready (ap (is_of_length size) comes ∙ same_size (length block) size fits) in
+    ap (λ b. if b then sent calm card else card) can ∙ ap (λ s. sent_from s calm card) source ∙ calm_sent card

@@ -1,18 +1,37 @@
--- A plain card is a card.
-use Rattle.std.proofs.Common.{◌≡◌, [], Bool, true, false, cond, ◌&&◌, ◌+◌, refl, sym, ◌∙◌, inl, arith}
+-- The exchanges of a plain card are steps of a card, and leave one.
+use Rattle.std.proofs.Common.{◌&&◌, ◌+◌, ◌≡◌, Bool, List, Some, ap, arith, cond, false, inl, length, refl, replicate, suc, sym, true, zero, ◌∙◌, ℕ}
+use Rattle.std.specs.Prelude.{if◌then◌else◌}
 use Rattle.mmc_frame.specs.Check.{power, remainder, times_x}
+use Rattle.mmc_frame.specs.Frame.{command_in}
 use Rattle.mmc_frame.specs.RegisterFrame.{is_sound_register}
-use Rattle.mmc_bus.specs.declared.chip.Chip.{Chip}
-use Rattle.mmc_bus.specs.declared.chip.Phase.{Phase}
-use Rattle.mmc_bus.specs.declared.chip.Phase.TheVariants.{Data, Prg, Rcv, Tran}
+use Rattle.mmc_bus.specs.declared.bus.DataIn.{DataIn}
+use Rattle.mmc_bus.specs.declared.bus.DataIn.TheVariants as Received
+use Rattle.mmc_bus.specs.declared.bus.DataOut.{DataOut}
+use Rattle.mmc_bus.specs.declared.bus.DataOut.TheVariants as Sent
+use Rattle.mmc_bus.specs.declared.bus.Exchange.{Exchange}
+use Rattle.mmc_bus.specs.declared.bus.Exchange.TheVariants.{Busy, Command, In, Out}
+use Rattle.mmc_bus.specs.declared.bus.Reply.{Reply}
 use Rattle.mmc_bus.specs.declared.part.Part.{Part}
 use Rattle.mmc_bus.specs.declared.part.Part.TheVariants.{Boot1, Boot2, Gp1, Gp2, Gp3, Gp4, User}
-use Rattle.mmc_bus.specs.Card.{AreBlocks, Card, IsCard, is_selected, is_writing, stored}
-use Rattle.mmc_bus.specs.Phase.{state_of, values_in}
-use Rattle.mmc_bus.specs.Blocks.{polled_once, rested}
+use Rattle.mmc_bus.specs.declared.wire.Wire.{Wire}
+use Rattle.mmc_bus.specs.Blocks.{asked_for, can_send, can_take, next_block, offered, polled_once, rested}
+use Rattle.mmc_bus.specs.Card.{AreBlocks, Card, IsCard, stored}
+use Rattle.mmc_bus.specs.Exchanges.{Commanded, Exchanged, Given, Polled, Taken}
+use Rattle.mmc_bus.specs.Faults.{CommandStep, GiveStep, PollStep, Spells, TakeStep}
+use Rattle.mmc_bus.specs.Faults.CommandStep.{faithful as does_command}
+use Rattle.mmc_bus.specs.Faults.GiveStep.{faithful as does_give}
+use Rattle.mmc_bus.specs.Faults.PollStep.{faithful as does_poll}
+use Rattle.mmc_bus.specs.Faults.TakeStep.{faithful as does_take}
 use Rattle.mmc_bus.specs.Made.{HasRegisters}
-use Rattle.mmc_bus.specs.PlainCard.{calm, card_of, plain_made}
-use Rattle.mmc_bus.proofs.PlainLemmas.{AreBlocks-from, values_sized}
+use Rattle.mmc_bus.specs.PlainCard.{calm, new_plain_card, plain_made}
+use Rattle.mmc_bus.specs.Rows.{answered}
+use Rattle.mmc_bus.specs.Sectors.{Sector}
+use Rattle.mmc_bus.specs.Side.{Side}
+use Rattle.mmc_bus.specs.Store.{blank}
+use Rattle.mmc_bus.specs.Wires.{Notes, side_with}
+use Rattle.mmc_bus.proofs.CardRows.{command_card, give_card, poll_card, take_card}
+
+-- A new plain card is a card.
 
 plain_registers : HasRegisters plain_made
 unfolding is_sound_register remainder power times_x
@@ -27,44 +46,83 @@ plain_registers = record {
   ext_csd = λ h. absurd cc;
 }
 
--- it is selected
-selected : (phase : Phase) → is_selected (state_of phase) ≡ true
-selected Tran = refl
-selected Data = refl
-selected Rcv = refl
-selected (Prg block) = refl
+blank_blocks : (count : ℕ) → AreBlocks (replicate count blank)
+blank_blocks zero = tt
+blank_blocks (suc count) = (refl, blank_blocks count)
 
-nothing_taken : (phase : Phase) → is_writing (state_of phase) ≡ false → values_in phase ≡ []
-nothing_taken Tran h = refl
-nothing_taken Data h = refl
-nothing_taken Rcv h = refl
-nothing_taken (Prg block) h = absurd cc
+new_blocks : (sectors : ℕ) (part : Part) → AreBlocks (stored (new_plain_card sectors) part)
+new_blocks sectors User = blank_blocks sectors
+new_blocks sectors Boot1 = tt
+new_blocks sectors Boot2 = tt
+new_blocks sectors Gp1 = tt
+new_blocks sectors Gp2 = tt
+new_blocks sectors Gp3 = tt
+new_blocks sectors Gp4 = tt
 
-blocks_in : (chip : Chip) (part : Part) → AreBlocks (stored (card_of chip) part)
-blocks_in chip User = AreBlocks-from chip.contents.items chip.blocks
-blocks_in chip Boot1 = tt
-blocks_in chip Boot2 = tt
-blocks_in chip Gp1 = tt
-blocks_in chip Gp2 = tt
-blocks_in chip Gp3 = tt
-blocks_in chip Gp4 = tt
-
-pub plain_is_card : (chip : Chip) → IsCard (card_of chip)
-plain_is_card chip = record {
+pub new_is_card : (sectors : ℕ) → IsCard (new_plain_card sectors)
+new_is_card sectors = record {
   registers = plain_registers;
-  apart = λ h. (let no : false ≡ true = sym h ∙ selected chip.phase in absurd cc);
-  finished = nothing_taken chip.phase;
+  apart = λ h. absurd cc;
+  finished = λ h. refl;
   block_length = inl refl;
-  complaints = chip.known;
+  complaints = refl;
   errors = refl;
-  blocks = blocks_in chip;
-  taken = values_sized chip.phase chip.taken;
+  blocks = new_blocks sectors;
+  taken = tt;
 }
+
+-- Exchanges, each with the card that it leaves.
+
+-- a plain card's side
+abbrev pub plainly : Card → Wire → Side
+plainly card wire = side_with card true wire
+
+exchanged : {Step : Type 0} (old new : Card) (before after : Wire) (exchange : Exchange) → Notes before exchange after → IsCard old → IsCard new → Step
+    → Exchanged (plainly old before) exchange Step (plainly new after)
+exchanged old new before after exchange notes was is step = record {
+  lines = notes.lines;
+  last = notes.last;
+  exchanges = notes.exchanges;
+  kept = λ kept. record { was_kept = refl; was_card = was; step = step; is_card = is };
+}
+
+pub commanded : (old new : Card) (before after : Wire) (frame : List ℕ) (reply : Reply) → IsCard old → Notes before (Command frame reply) after
+    → new ≡ (answered calm old (command_in frame)).0 → Spells (answered calm old (command_in frame)).1 reply
+    → Commanded (plainly old before) frame reply (plainly new after) × IsCard new
+commanded old new before after frame reply k notes same spells =
+    let step : CommandStep (plainly old before) frame reply (plainly new after) = does_command calm (λ slow. absurd cc) refl same spells in
+    let is = command_card (plainly old before) frame reply (plainly new after) step k in
+    (exchanged old new before after (Command frame reply) notes k is step, is)
+
+pub taken : (old new : Card) (before after : Wire) (size : ℕ) (got : DataIn) (block : List ℕ) → IsCard old → Notes before (In size got) after
+    → new ≡ asked_for calm before.lines size old → got ≡ (if can_send before.lines size old then Received.Good else Received.Nothing)
+    → (got ≡ Received.Good → next_block old ≡ Some block) → Taken (plainly old before) size got block (plainly new after) × IsCard new
+taken old new before after size got block k notes same is_got comes =
+    let step : TakeStep (plainly old before) size got block (plainly new after) = does_take calm refl same is_got comes in
+    let is = take_card (plainly old before) size got block (plainly new after) step k in
+    (exchanged old new before after (In size got) notes k is step, is)
+
+pub given : (old new : Card) (before after : Wire) (block : Sector) (got : DataOut) → length block ≡ 512 → IsCard old → Notes before (Out got) after
+    → new ≡ offered before.lines block old → got ≡ (if can_take before.lines old then Sent.Accepted else Sent.Nothing)
+    → Given (plainly old before) block got (plainly new after) × IsCard new
+given old new before after block got size k notes same is_got =
+    let step : GiveStep (plainly old before) block got (plainly new after) = does_give refl same is_got in
+    let is = give_card (plainly old before) block got (plainly new after) size step k in
+    (exchanged old new before after (Out got) notes k is step, is)
 
 never : {X : Type 0} (b : Bool) (x y : X) → cond (b && false) x y ≡ y
 never true x y = refl
 never false x y = refl
 
 -- a calm card isn't busy at a poll
-pub calm_poll : (card : Card) → polled_once calm card ≡ (rested card, false)
+calm_poll : (card : Card) → polled_once calm card ≡ (rested card, false)
 calm_poll card = never card.is_busy (record card { polled = card.polled + 1 }, true) (rested card, false)
+
+pub polled : (old new : Card) (before after : Wire) → IsCard old → Notes before (Busy false) after → new ≡ rested old
+    → Polled (plainly old before) false (plainly new after) × IsCard new
+polled old new before after k notes same =
+    let poll = calm_poll old in
+    let step : PollStep (plainly old before) false (plainly new after) =
+        does_poll calm (λ slow. absurd cc) refl (same ∙ ap (λ (p : Card × Bool). p.0) (sym poll)) (ap (λ (p : Card × Bool). p.1) (sym poll)) in
+    let is = poll_card (plainly old before) false (plainly new after) step k in
+    (exchanged old new before after (Busy false) notes k is step, is)

@@ -11,8 +11,9 @@ pub mod Heard
 pub mod Laws
 pub mod Learned
 pub mod Made
-pub mod Phase
 pub mod PlainCard
+pub mod PlainCommands
+pub mod PlainSide
 pub mod Rows
 pub mod RowsErase
 pub mod RowsIdentify
@@ -22,5 +23,6 @@ pub mod Scripted
 pub mod ScriptedBus
 pub mod Sectors
 pub mod Side
+pub mod Store
 pub mod Trace
 pub mod Wires

@@ -1,212 +1,268 @@
-// The card behind `PlainCard`: what it does with each command and block.
-ghost use Rattle.std.specs.Prelude.{◌&&◌, ◌==◌, ◌≡◌, ◌<◌, ◌≤◌, ℕ, IfOk, length, replicate, slice_index_or, slice_set};
-ghost use Rattle.mmc_bus.specs.Card.{AreAmong, complaint_bits};
-ghost use Rattle.mmc_bus.specs.Phase.{size_in};
-ghost use Rattle.mmc_bus.specs.RowsSwitch.{timing_number, width_number};
+// The card behind `PlainCard`: an SD card of standard capacity with all the commands of such a card.
+ghost use Rattle.std.specs.Prelude.{◌<◌, ◌≡◌, IfOk, true};
+ghost use Rattle.mmc_frame.specs.Status.{state_number};
+ghost use Rattle.mmc_frame.specs.declared.card_state.State.TheVariants.{Idle};
+ghost use Rattle.mmc_bus.specs.Card.{AreAmong, complaint_bits, error_bits, is_in};
 
-use crate::bus::{DataIn, DataOut, Lines, Reply, Timing, Width};
+use crate::bus::{Reply, Width};
+use crate::command::{Command, command_of, is_addressed, leaves_erase};
 use crate::memory::NoMemory;
-use mmc_frame::commands::{READ_SINGLE_BLOCK, SEND_STATUS, WRITE_BLOCK};
-use mmc_frame::{encode_response, read_command};
+use crate::store::Store;
+use mmc_frame::commands::SEND_STATUS;
+use mmc_frame::{State, encode_response, read_command};
 use std::alloc::Global;
 
-// The RCA that the card has published.
-const RCA: u32 = 1;
-
 // Error bits of the card status, in units of bit 13.
-const OUT_OF_RANGE: u32 = 0x4_0000;
-
-const ADDRESS_ERROR: u32 = 0x2_0000;
-
 const COM_CRC_ERROR: u32 = 0x400;
-
 const ILLEGAL_COMMAND: u32 = 0x200;
+const ERASE_RESET: u32 = 0x1;
 
-/// Where the card is in a transfer.
+/// The addresses that an erase is to go by.
 #[derive(Clone, Copy, Debug)]
-pub enum Phase {
-    Tran,
-    Data,
-    Rcv,
-    // With the block that it programs.
-    Prg([u8; 512]),
+pub enum Addresses {
+    None,
+    // That of CMD32.
+    First(u32),
+    // Those of CMD32 and CMD33.
+    Both(u32, u32),
 }
 
-/// A card with RCA 1 that is selected, with blocks of 512 bytes. It knows CMD13, CMD17 and CMD24.
+/// A card as it is: where it is, what it remembers, and its sectors. It has blocks of 512 bytes, and default speed.
 #[derive(Debug, Drop)]
 pub struct Chip {
-    pub contents: Vec<[u8; 512]>,
-    pub phase: Phase,
-    // COM_CRC_ERROR and ILLEGAL_COMMAND, until they are shown.
+    pub store: Store,
+    pub state: State,
+    pub rca: u32,
+    pub width: Width,
+    // The next command is an application command.
+    pub is_app: bool,
+    pub addresses: Addresses,
+    // Error bits that are to be shown, in units of bit 13: COM_CRC_ERROR and ILLEGAL_COMMAND, and the others.
     pub complaints: u32,
-    // The next sector that is sent, and the sector at which the last transfer began.
-    pub next: usize,
-    pub start: usize,
+    pub errors: u32,
+    // Readiness inquiries since CMD0.
+    pub asked: u8,
+    pub is_busy: bool,
+    // It sends its SCR and not sectors.
+    pub sends_scr: bool,
+    // The next sector that it sends; the blocks to come, of an uncounted transfer none; a transfer of one block.
+    pub next: u32,
+    pub left: Option<u32>,
+    pub is_single: bool,
     pub ghost known: { AreAmong complaints complaint_bits },
-    pub ghost taken: { size_in phase ≡ 512 },
-    pub ghost blocks: { (i : ℕ) → i < length contents.items → length (slice_index_or contents.items i (replicate 512 0)) ≡ 512 },
+    pub ghost raised: { AreAmong errors error_bits },
+    pub ghost unasked: { is_in state Idle ≡ true → asked ≡ 0 },
+}
+
+// The number of a state in a status.
+fn number_of(state: State) -> u32
+    ensures { result ≡ state_number state }
+{
+    match state {
+        State::Idle => 0,
+        State::Ready => 1,
+        State::Ident => 2,
+        State::Stby => 3,
+        State::Tran => 4,
+        State::Data => 5,
+        State::Rcv => 6,
+        State::Prg => 7,
+        State::Dis => 8,
+    }
 }
 
 impl Chip {
-    ghost use Rattle.std.specs.Prelude.{None, Some, false, if◌then◌else◌, true};
+    ghost use Rattle.std.specs.Prelude.{◌≤◌};
     ghost use Rattle.mmc_frame.specs.Frame.{command_in};
-    ghost use Rattle.mmc_bus.specs.Answer.{Checked, raised, refused, shown, status};
-    ghost use Rattle.mmc_bus.specs.Blocks.{asked_for, can_send, can_take, next_block, offered, rested};
+    ghost use Rattle.mmc_bus.specs.Answer.{Checked, Mute, done, raised, refused, shown, status};
     ghost use Rattle.mmc_bus.specs.Faults.{Spells};
-    ghost use Rattle.mmc_bus.specs.PlainCard.{Answers, calm, card_of, is_known, new_plain_card};
-    ghost use Rattle.mmc_bus.specs.Phase.{state_of};
-    ghost use Rattle.mmc_bus.specs.Rows.{answered, respond};
-    ghost use Rattle.mmc_bus.specs.RowsTransfer.{transfer_errors};
-    ghost use Rattle.mmc_frame.specs.Status.{state_number};
+    ghost use Rattle.mmc_bus.specs.PlainCard.{Answers, calm, card_of, new_plain_card};
+    ghost use Rattle.mmc_bus.specs.PlainCommands.{is_of_sd};
+    ghost use Rattle.mmc_bus.specs.Rows.{answered, is_identified, is_legal, reached, respond, row};
 
-    /// A card in tran with this many sectors, that are all 00h.
-    #[tactic(auto, using(std::proofs::lemmas::Grind::replicate_next))]
+    /// A card in tran under RCA 1 with this many sectors, at most 65,536, that are all 00h.
     pub fn new(alloc: Global, sectors: usize) -> Result<Chip, NoMemory>
+        requires { sectors ≤ 65536 }
         ensures { IfOk result (λ chip. card_of chip ≡ new_plain_card sectors) }
     {
-        let mut contents = Vec::new(alloc);
-        for _ in 0..sectors {
-            contents.push([0; 512])?;
-        }
         Ok(Chip {
-            contents,
-            phase: Phase::Tran,
+            store: Store::new(alloc, sectors)?,
+            state: State::Tran,
+            rca: 1,
+            width: Width::One,
+            is_app: false,
+            addresses: Addresses::None,
             complaints: 0,
+            errors: 0,
+            asked: 0,
+            is_busy: false,
+            sends_scr: false,
             next: 0,
-            start: 0,
+            left: None,
+            is_single: false,
         })
     }
 
-    // The number of the state that a status shows.
-    fn state(&self) -> u32
-        ensures { result ≡ state_number (state_of self.now.phase) }
+    /// Whether the card is in this state.
+    pub fn is_in(&self, state: State) -> bool
+        ensures { result ≡ is_in self.now.state state }
     {
-        match self.phase {
-            Phase::Tran => 4,
-            Phase::Data => 5,
-            Phase::Rcv => 6,
-            Phase::Prg(_) => 7,
-        }
+        number_of(self.state) == number_of(state)
     }
 
-    // The R1 of a command that is carried out and raises these errors. In prg the card is busy, and not ready for data.
-    #[tactic(auto, using(crate::proofs::PlainLemmas::complaints_few))]
-    fn r1(&mut self, index: u8, errors: u32) -> Reply
-        requires index { index < 64 }
-        requires errors { errors ≤ 0x60000 }
-        ensures answer { Spells (Checked index (status false (raised errors (card_of self.old)))) result }
+    /// The card status.
+    #[tactic(auto, using(crate::proofs::PlainLemmas::complaints_few, crate::proofs::PlainLemmas::errors_few))]
+    pub fn status(&self, is_app: bool) -> u32
+        ensures { result ≡ status is_app (card_of self.now) }
+    {
+        let errors = 0x2000 * (self.complaints + self.errors);
+        let ready = if self.is_busy { 0 } else { 0x100 };
+        let app = if is_app { 0x20 } else { 0 };
+        errors + 0x200 * number_of(self.state) + ready + app
+    }
+
+    /// Raises error bits, which stay until they are shown.
+    #[tactic(auto, using(crate::proofs::Cards::among_more))]
+    pub fn raise(&mut self, errors: u32)
+        requires { AreAmong errors error_bits }
+        ensures { card_of self.new ≡ raised errors (card_of self.old) }
+    {
+        self.errors |= errors;
+    }
+
+    /// All error bits are shown in a response, and cleared.
+    pub fn show(&mut self)
+        ensures { card_of self.new ≡ shown (card_of self.old) }
+    {
+        self.is_app = false;
+        self.complaints = 0;
+        self.errors = 0;
+    }
+
+    /// The response with the status, in which all error bits are shown and cleared.
+    pub fn respond_status(&mut self, index: u8, is_app: bool) -> Reply
+        requires { index < 64 }
+        ensures answer { Spells (Checked index (status is_app (card_of self.old))) result }
         ensures card { card_of self.new ≡ shown (card_of self.old) }
     {
-        let ready = match self.phase {
-            Phase::Prg(_) => 0,
-            _ => 256,
-        };
-        let status = 8192 * (self.complaints + errors) + 512 * self.state() + ready;
-        self.complaints = 0;
+        let status = self.status(is_app);
+        self.show();
         Reply::Short(encode_response(index, status))
     }
 
-    // The errors of an address at which a transfer is to begin.
-    fn errors_at(&self, address: u32) -> u32
-        ensures read { result ≡ transfer_errors false (card_of self.now) address }
-        ensures write { result ≡ transfer_errors true (card_of self.now) address }
-        ensures few { result ≤ 0x60000 }
+    /// A command is carried out that has no status in its response.
+    pub fn finish(&mut self)
+        ensures { card_of self.new ≡ done (card_of self.old) }
     {
-        let beyond = if address as usize / 512 >= self.contents.len() {
-            OUT_OF_RANGE
-        } else {
-            0
-        };
-        let misaligned = if address % 512 != 0 { ADDRESS_ERROR } else { 0 };
-        beyond + misaligned
+        self.is_app = false;
+        self.complaints = 0;
     }
 
-    // CMD13. Where it names another card, this one doesn't see it.
-    fn send_status(&mut self, argument: u32) -> Reply
-        ensures { Answers (respond calm (card_of self.old) 13 argument) self.new result }
-    {
-        if argument / 0x1_0000 != RCA {
-            return Reply::Silent;
-        }
-        self.r1(SEND_STATUS, 0)
-    }
-
-    // A command that isn't carried out.
+    /// A command that isn't carried out.
     #[tactic(auto, using(crate::proofs::Cards::among_more))]
-    fn refuse(&mut self) -> Reply
-        ensures answer { result ≡ Reply.Silent }
-        ensures card { card_of self.new ≡ refused (card_of self.old) }
+    pub fn refuse(&mut self) -> Reply
+        ensures { Answers (refused (card_of self.old), Mute) self.new result }
     {
+        self.is_app = false;
         self.complaints |= ILLEGAL_COMMAND;
         Reply::Silent
     }
 
-    // CMD17.
-    fn read_single_block(&mut self, address: u32) -> Reply
-        ensures { Answers (respond calm (card_of self.old) 17 address) self.new result }
+    // Any command but those of the erase sequence and CMD13 drops held addresses.
+    #[tactic(auto, using(crate::proofs::Cards::among_more))]
+    fn reach(&mut self, command: Command)
+        ensures { card_of self.new ≡ reached command (card_of self.old) }
     {
-        if !matches!(self.phase, Phase::Tran) {
-            return self.refuse();
+        if leaves_erase(command) || matches!(self.addresses, Addresses::None) {
+            return;
         }
-        let errors = self.errors_at(address);
-        let reply = self.r1(READ_SINGLE_BLOCK, errors);
-        if errors == 0 {
-            self.phase = Phase::Data;
-            self.next = address as usize / 512;
-            self.start = self.next;
-        }
-        reply
+        self.errors |= ERASE_RESET;
+        self.addresses = Addresses::None;
     }
 
-    // CMD24.
-    fn write_block(&mut self, address: u32) -> Reply
-        ensures { Answers (respond calm (card_of self.old) 24 address) self.new result }
+    // Whether the card has its RCA.
+    fn is_identified(&self) -> bool
+        ensures { result ≡ is_identified self.now.state }
     {
-        if !matches!(self.phase, Phase::Tran) {
-            return self.refuse();
-        }
-        let errors = self.errors_at(address);
-        let reply = self.r1(WRITE_BLOCK, errors);
-        if errors == 0 {
-            self.phase = Phase::Rcv;
-            self.next = address as usize / 512;
-            self.start = self.next;
-        }
-        reply
+        number_of(self.state) >= 3 && !self.is_in(State::Dis)
     }
 
-    // The response to a sound command. One that the card doesn't know isn't carried out.
+    // Whether a command of an SD card is carried out. This card has no CMD6, CMD8 and CMD23.
+    fn is_legal(&self, command: Command) -> bool
+        requires { is_of_sd command ≡ true }
+        ensures { result ≡ is_legal command (card_of self.now) }
+    {
+        match command {
+            Command::GoIdleState => true,
+            Command::ASendOpCond => self.is_in(State::Idle),
+            Command::AllSendCid => self.is_in(State::Ready),
+            Command::SendRelativeAddr => self.is_in(State::Ident) || self.is_in(State::Stby),
+            Command::SelectCard => self.is_in(State::Stby),
+            Command::SendCsd => self.is_in(State::Stby),
+            Command::StopTransmission => self.is_in(State::Data) || self.is_in(State::Rcv),
+            Command::SendStatus => self.is_identified() && !self.is_app,
+            Command::AppCmd => self.is_in(State::Idle) || self.is_identified(),
+            Command::SendIfCond => false,
+            Command::SetBlockCount => false,
+            Command::SwitchFunc => false,
+            Command::Unknown => false,
+            _ => self.is_in(State::Tran),
+        }
+    }
+
+    // Carries a command of an SD card out, where it is legal.
+    fn carry_out(&mut self, command: Command, index: u8, argument: u32) -> Reply
+        requires of_sd { is_of_sd command ≡ true }
+        requires legal { is_legal command (card_of self.old) ≡ true }
+        requires index { index < 64 }
+        ensures { Answers (row calm command (card_of self.old) index argument) self.new result }
+    {
+        match command {
+            Command::GoIdleState => self.go_idle_state(),
+            Command::ASendOpCond => self.sd_send_op_cond(),
+            Command::AllSendCid => self.all_send_cid(),
+            Command::SendRelativeAddr => self.send_relative_addr(),
+            Command::SelectCard => self.select_card(),
+            Command::SendCsd => self.send_csd(),
+            Command::SendStatus => self.respond_status(SEND_STATUS, false),
+            Command::AppCmd => self.app_cmd(),
+            Command::StopTransmission => self.stop_transmission(),
+            Command::SetBlocklen => self.set_blocklen(argument),
+            Command::ReadSingleBlock => self.read_single_block(argument),
+            Command::ReadMultipleBlock => self.read_multiple_block(argument),
+            Command::WriteBlock => self.write_block(argument),
+            Command::WriteMultipleBlock => self.write_multiple_block(argument),
+            Command::EraseStart => self.hold_first(index, argument),
+            Command::EraseEnd => self.hold_last(index, argument),
+            Command::Erase => self.erase(),
+            Command::ASetBusWidth => self.set_bus_width(argument),
+            Command::ASendScr => self.send_scr(),
+            _ => self.refuse(),
+        }
+    }
+
+    // The response to a sound command. One that names another card changes nothing.
     fn respond(&mut self, index: u8, argument: u32) -> Reply
-        ensures { is_known (Some (index, argument)) ≡ true → Answers (respond calm (card_of self.old) index argument) self.new result }
+        requires { index < 64 }
+        ensures { Answers (respond calm (card_of self.old) index argument) self.new result }
     {
-        if index == SEND_STATUS {
-            return self.send_status(argument);
+        let command = command_of(self.is_app, index);
+        if is_addressed(command) && argument / 0x1_0000 != self.rca {
+            return Reply::Silent;
         }
-        if index == READ_SINGLE_BLOCK {
-            return self.read_single_block(argument);
-        }
-        if index == WRITE_BLOCK {
-            return self.write_block(argument);
-        }
-        self.refuse()
-    }
-
-    /// Whether the card knows what to do with a frame: CMD13, CMD17, CMD24, and what is no command.
-    pub fn knows(frame: &[u8; 6]) -> bool
-        ensures { result ≡ is_known (command_in frame.now) }
-    {
-        match read_command(frame) {
-            Some((index, _)) => {
-                index == SEND_STATUS || index == READ_SINGLE_BLOCK || index == WRITE_BLOCK
-            }
-            None => true,
+        let is_legal = self.is_legal(command);
+        self.reach(command);
+        if is_legal {
+            self.carry_out(command, index, argument)
+        } else {
+            self.refuse()
         }
     }
 
     /// The response to a command. Where its check is wrong, the card notes that and is silent.
     #[tactic(auto, using(crate::proofs::Cards::among_more))]
     pub fn command(&mut self, frame: &[u8; 6]) -> Reply
-        ensures { is_known (command_in frame.now) ≡ true → Answers (answered calm (card_of self.old) (command_in frame.now)) self.new result }
+        ensures { Answers (answered calm (card_of self.old) (command_in frame.now)) self.new result }
     {
         match read_command(frame) {
             Some((index, argument)) => self.respond(index, argument),
@@ -215,71 +271,5 @@ impl Chip {
                 Reply::Silent
             }
         }
-    }
-
-    /// Sends the block that was asked for, if one was, the lines of the host are the card's, and the buffer has its length.
-    pub fn send(&mut self, lines: Lines, buffer: &mut [u8]) -> DataIn
-        ensures len { length buffer.new ≡ length buffer.old }
-        ensures card { card_of self.new ≡ asked_for calm lines (length buffer.old) (card_of self.old) }
-        ensures got { result ≡ (if can_send lines (length buffer.old) (card_of self.old) then DataIn.Good else DataIn.Nothing) }
-        ensures block { result ≡ DataIn.Good → next_block (card_of self.old) ≡ Some buffer.new }
-    {
-        if !matches!(self.phase, Phase::Data) || !is_plain(lines) || buffer.len() != 512 {
-            return DataIn::Nothing;
-        }
-        let Some(block) = self.contents.get(self.next).copied() else {
-            return DataIn::Nothing;
-        };
-        buffer.copy_from_slice(&block);
-        self.phase = Phase::Tran;
-        self.next += 1;
-        DataIn::Good
-    }
-
-    /// Takes a block, if one was announced and the lines of the host are the card's.
-    pub fn take(&mut self, lines: Lines, block: &[u8; 512]) -> DataOut
-        ensures card { card_of self.new ≡ offered lines block.now (card_of self.old) }
-        ensures got { result ≡ (if can_take lines (card_of self.old) then DataOut.Accepted else DataOut.Nothing) }
-    {
-        if matches!(self.phase, Phase::Rcv) && is_plain(lines) && self.start < self.contents.len() {
-            self.phase = Phase::Prg(*block);
-            DataOut::Accepted
-        } else {
-            DataOut::Nothing
-        }
-    }
-
-    /// Stores the block that is being programmed, if one is.
-    #[tactic(auto, using(crate::proofs::PlainLemmas::landed_one))]
-    pub fn store(&mut self)
-        ensures { card_of self.new ≡ rested (card_of self.old) }
-    {
-        if let Phase::Prg(block) = self.phase {
-            put(&mut self.contents, self.start, block);
-            self.phase = Phase::Tran;
-        }
-    }
-}
-
-// Whether these are the card's lines: one line at default speed.
-fn is_plain(lines: Lines) -> bool
-    ensures { result ≡ ((width_number lines.width == 0) && (timing_number lines.timing == 0)) }
-{
-    matches!(
-        lines,
-        Lines {
-            width: Width::One,
-            timing: Timing::Default
-        }
-    )
-}
-
-// Puts a block in the place of a sector, if there is such a sector.
-fn put(sectors: &mut Vec<[u8; 512]>, sector: usize, block: [u8; 512])
-    ensures put { sectors.new.items ≡ slice_set sectors.old.items sector block }
-    ensures size { length block ≡ 512 }
-{
-    if sector < sectors.len() {
-        sectors[sector] = block;
     }
 }

@@ -1,17 +1,8 @@
-use Rattle.std.proofs.Common.{refl}
-use Rattle.mmc_bus.specs.Faults.GiveStep.{faithful}
-use Rattle.mmc_bus.proofs.PlainSteps.{plain_is_card}
+use Rattle.mmc_bus.proofs.PlainSteps.{given}
 use Rattle.mmc_bus.proofs.plain.PlainCardBus.write_data.Goals as goal
 
+pub invariant_of-self : goal.invariant_of-self
+invariant_of-self c = (given _ _ _ _ _ _ c.told-block c.self.invariant c.note.ensures c.take-got.ensures.card c.take-got.ensures.got).1
+
 pub returns-clause-exchanged : goal.returns-clause-exchanged
-returns-clause-exchanged c = record {
-  lines = c.note.ensures.lines;
-  last = c.note.ensures.last;
-  exchanges = c.note.ensures.exchanges;
-  kept = λ kept. record {
-    was_kept = kept;
-    was_card = plain_is_card c.args.self.now.chip;
-    step = faithful refl c.take-got.ensures.card c.take-got.ensures.got;
-    is_card = plain_is_card c.take-got.new.self;
-  };
-}
+returns-clause-exchanged c = rw (← c.self.view_is) (given _ _ _ _ _ _ c.told-block c.self.invariant c.note.ensures c.take-got.ensures.card c.take-got.ensures.got).0
