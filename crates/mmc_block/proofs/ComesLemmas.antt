@@ -5,15 +5,18 @@ use Rattle.mmc_bus.specs.declared.cause.Cause.TheVariants.{Recovery}
 use Rattle.mmc_bus.specs.declared.part.Part.{Part}
 use Rattle.mmc_bus.proofs.SectorLemmas.{maybe_within, old_maybe}
 use Rattle.mmc_bus.specs.Card.{holds}
+use Rattle.mmc_bus.specs.Faults.{NoFault}
+use Rattle.mmc_bus.specs.Learned.{Ran}
 use Rattle.mmc_bus.specs.Sectors.{IsDecided, IsIn, Sector, Sets, Within, touches, value_of}
 use Rattle.mmc_bus.specs.Side.{Side}
 use Rattle.mmc_block.specs.declared.completion.Answer.{Answer}
 use Rattle.mmc_block.specs.declared.completion.Answer.TheVariants.{Data, Done, Failed}
 use Rattle.mmc_block.specs.declared.completion.Completion.{Completion}
+use Rattle.mmc_block.specs.declared.entry.Entry.{Entry}
 use Rattle.mmc_block.specs.declared.info.Info.{Info}
 use Rattle.mmc_block.specs.declared.request.Request.{Request}
 use Rattle.mmc_block.proofs.WriteLemmas.{RestLaw}
-use Rattle.mmc_block.specs.Device.{Agrees, AreInOrder, Comes, DeviceView, DidServe, IsLinked, Queues, is_failed, none_failed}
+use Rattle.mmc_block.specs.Device.{Agrees, AreInOrder, Comes, DeviceOk, DeviceView, DidServe, IsLinked, Queues, is_failed, none_failed}
 use Rattle.mmc_block.specs.Machine.{Accepts, Decides, IsAnswered, IsMerged, Machine, PassesNone, Turns, Waiting, all_refused, effect, refused_effect}
 use Rattle.mmc_block.specs.Place.{IsLoose, IsReady}
 use Rattle.mmc_block.specs.Requests.{change_of, part_of, start_of}
@@ -189,7 +192,33 @@ pub record Served (info : Info) (r : Bool) (request : Request) (old : Side) (ans
   pub was_kept : r ≡ true → new.is_kept ≡ true → old.is_kept ≡ true
   pub linked : old.is_kept ≡ true → IsLinked r info.user_sectors old
   pub did : r ≡ true → new.is_kept ≡ true → IsReady info.user_sectors old → DidServe info request old answer new
+  pub fine : r ≡ true → new.is_kept ≡ true → NoFault old new → is_failed answer ≡ false
   pub recovery : r ≡ false → (new ≡ old) × (answer ≡ Failed Recovery)
+
+ready_then : (r : Bool) (sectors : ℕ) (side : Side) → r ≡ true → IsLinked r sectors side → IsReady sectors side
+ready_then true sectors side h linked = linked
+ready_then false sectors side h linked = cc
+
+-- the oldest of a device was served
+pub served_by : {B : Type 0} (side : B → Side) (old : B) {info : Info} {r : Bool} {entries : List Entry} {next : ℕ} {entry : Entry} {later : List Entry} (answer : Answer) (new : B)
+    → DeviceOk (side old) info r entries next → entries ≡ entry ∷ later
+    → (r ≡ true → (side new).is_kept ≡ true → (i : Info) → IsReady i.user_sectors (side old) → start_of entry.request < i.user_sectors
+    → DidServe i entry.request (side old) answer (side new))
+    → (r ≡ true → (side new).is_kept ≡ true → Ran (side old) (side new)
+    ((sectors : ℕ) → IsReady sectors (side old) → start_of entry.request < sectors → is_failed answer ≡ false))
+    → (r ≡ false → (new ≡ old) × (answer ≡ Failed Recovery))
+    → Served info r entry.request (side old) answer (side new)
+served_by side old {info} {r} answer new ok oldest did ran recovery =
+    let servable = rw oldest at ok.servable in
+    record {
+      was_kept = λ is kept. (ran is kept).was_kept;
+      linked = ok.linked;
+      did = λ is kept ready. did is kept info ready servable.0.in_range;
+      fine = λ is kept same.
+          let k = ran is kept in
+          k.fine same info.user_sectors (ready_then r info.user_sectors (side old) is (ok.linked k.was_kept)) servable.0.in_range;
+      recovery = λ is. (let h = recovery is in (ap side h.0, h.1));
+    }
 
 linked_so : (info : Info) (request : Request) (old new : Side) (answer : Answer) → DidServe info request old answer new → IsLinked (not (is_failed answer)) info.user_sectors new
 linked_so info request old new Done did = did.1
@@ -212,11 +241,6 @@ answering_by info false request old answer new sets rests h kept within =
     let recovery = h.recovery refl in
     subst (λ a. Answering info request sets a (holds new.card)) (sym recovery.1)
     (refusing info request Recovery sets (holds new.card) (subst (λ (s : Side). Within (holds s.card) sets) (sym recovery.0) within))
-
-pub kept_by : (info : Info) (r : Bool) (request : Request) (old : Side) (answer : Answer) (new : Side) → Served info r request old answer new
-    → new.is_kept ≡ true → old.is_kept ≡ true
-kept_by info true request old answer new h kept = h.was_kept refl kept
-kept_by info false request old answer new h kept = ap (λ (s : Side). s.is_kept) (sym (h.recovery refl).0) ∙ kept
 
 -- Devices.
 
@@ -266,7 +290,3 @@ submitted side d e client request ticket idle q m a =
 
 pub none_failed_one : (c : Completion) → is_failed c.answer ≡ false → none_failed (c ∷ []) ≡ true
 none_failed_one c h = rw h refl
-
-pub ready_then : (r : Bool) (sectors : ℕ) (side : Side) → r ≡ true → IsLinked r sectors side → IsReady sectors side
-ready_then true sectors side h linked = linked
-ready_then false sectors side h linked = cc
