@@ -1,7 +1,6 @@
 -- The lines of exchanges from a place on.
-use Rattle.std.proofs.Common.{◌≡◌, ◌+◌, ℕ, zero, suc, List, [], ◌∷◌, ◌++◌, drop, length, Some, sym, ap, ◌∙◌, add-one, arith}
+use Rattle.std.proofs.Common.{◌≡◌, ◌+◌, ℕ, zero, suc, List, [], ◌∷◌, ◌++◌, drop, Some, sym, ap, ◌∙◌, add-one}
 use Rattle.std.specs.Prelude.{slice_get}
-use Rattle.std.proofs.lemmas.List.{at_drop_all}
 use Rattle.mmc_bus.specs.declared.bus.Exchange.{Exchange}
 use Rattle.mmc_bus.specs.ExchangeText.{exchange_text, lines_text}
 
@@ -12,7 +11,3 @@ from_place (x ∷ es) (suc i) e h = from_place es i e h
 
 pub lines_at : (es : List Exchange) (i : ℕ) (e : Exchange) → Some e ≡ slice_get es i → lines_text (drop i es) ≡ exchange_text e ++ lines_text (drop (i + 1) es)
 lines_at es i e h = from_place es i e h ∙ ap (λ n. exchange_text e ++ lines_text (drop n es)) (sym (add-one i))
-
--- nothing is left behind the last
-pub lines_end : (es : List Exchange) (i : ℕ) → length es ≡ i → lines_text (drop i es) ≡ []
-lines_end es i h = at_drop_all lines_text es i (omega arith)
