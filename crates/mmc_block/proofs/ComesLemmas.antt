@@ -1,5 +1,5 @@
 -- A turn of the device comes to a turn of the machine.
-use Rattle.std.proofs.Common.{◌&&◌, ◌+◌, ◌++◌, ◌<◌, ◌∙◌, ◌∷◌, ◌≡◌, ◌≤◌, ◌⊎◌, Bool, List, [], ap, arith, cond, false, inl, inr, not, refl, subst, sym, true, ℕ}
+use Rattle.std.proofs.Common.{◌&&◌, ◌+◌, ◌<◌, ◌∙◌, ◌∷◌, ◌≡◌, ◌≤◌, ◌⊎◌, Bool, List, [], ap, arith, cond, false, inl, inr, not, refl, subst, sym, true, ℕ}
 use Rattle.mmc_bus.specs.declared.cause.Cause.{Cause}
 use Rattle.mmc_bus.specs.declared.cause.Cause.TheVariants.{Recovery}
 use Rattle.mmc_bus.specs.declared.part.Part.{Part}
@@ -16,8 +16,8 @@ use Rattle.mmc_block.specs.declared.entry.Entry.{Entry}
 use Rattle.mmc_block.specs.declared.info.Info.{Info}
 use Rattle.mmc_block.specs.declared.request.Request.{Request}
 use Rattle.mmc_block.proofs.WriteLemmas.{RestLaw}
-use Rattle.mmc_block.specs.Device.{Agrees, AreInOrder, Comes, DeviceOk, DeviceView, DidServe, IsLinked, Queues, is_failed, none_failed}
-use Rattle.mmc_block.specs.Machine.{Accepts, Decides, IsAnswered, IsMerged, Machine, PassesNone, Turns, Waiting, all_refused, effect, refused_effect}
+use Rattle.mmc_block.specs.Device.{Agrees, AreInOrder, Comes, DeviceOk, DeviceView, DidServe, IsLinked, is_failed, none_failed}
+use Rattle.mmc_block.specs.Machine.{Decides, IsAnswered, IsMerged, Machine, PassesNone, Turns, Waiting, all_refused, effect, refused_effect}
 use Rattle.mmc_block.specs.Place.{IsLoose, IsReady}
 use Rattle.mmc_block.specs.Requests.{change_of, part_of, start_of}
 
@@ -270,23 +270,6 @@ comes_idle side d e cs none waits same m a =
 pub in_order_from : (low high : ℕ) (ws : List Waiting) (next : ℕ) → low ≤ high → AreInOrder high ws next → AreInOrder low ws next
 in_order_from low high [] next l h = omega (arith, l, h)
 in_order_from low high (w ∷ ws) next l h = (let a = h.0 in omega (arith, l, a), h.1)
-
-pub submitted : {B : Type 0} (side : B → Side) (d e : DeviceView B) (client : ℕ) (request : Request) (ticket : ℕ) → d.serves ≡ [] → Queues d client request ticket e
-    → Comes side d (λ (m n : Machine). Accepts m client request ticket n) e
-submitted side d e client request ticket idle q m a =
-    let w : Waiting = record { ticket = d.next; client = client; request = request } in
-    let v : Waiting = record { ticket = m.next; client = client; request = request } in
-    let same : v ≡ w = ap (λ (n : ℕ). let x : Waiting = record { ticket = n; client = client; request = request } in x) a.next in
-    let after : DeviceView _ = record d { waits = d.waits ++ w ∷ []; next = d.next + 1 } in (
-      record m { waits = m.waits ++ v ∷ []; next = m.next + 1 },
-      record { ticket_is = q.ticket ∙ sym a.next; waits = refl },
-      subst (λ x. Agrees side x (record m { waits = m.waits ++ v ∷ []; next = m.next + 1 })) (sym q.waits) (record {
-        waits = ap (λ xs. xs ++ v ∷ []) a.waits ∙ ap (λ (x : Waiting). d.waits ++ x ∷ []) same;
-        serves = a.serves;
-        next = ap (λ (n : ℕ). n + 1) a.next;
-        within = a.within;
-      }),
-    )
 
 pub none_failed_one : (c : Completion) → is_failed c.answer ≡ false → none_failed (c ∷ []) ≡ true
 none_failed_one c h = rw h refl
