@@ -202,10 +202,8 @@ ready_then false sectors side h linked = cc
 -- the oldest of a device was served
 pub served_by : {B : Type 0} (side : B → Side) (old : B) {info : Info} {r : Bool} {entries : List Entry} {next : ℕ} {entry : Entry} {later : List Entry} (answer : Answer) (new : B)
     → DeviceOk (side old) info r entries next → entries ≡ entry ∷ later
-    → (r ≡ true → (side new).is_kept ≡ true → (i : Info) → IsReady i.user_sectors (side old) → start_of entry.request < i.user_sectors
-    → DidServe i entry.request (side old) answer (side new))
-    → (r ≡ true → (side new).is_kept ≡ true → Ran (side old) (side new)
-    ((sectors : ℕ) → IsReady sectors (side old) → start_of entry.request < sectors → is_failed answer ≡ false))
+    → (r ≡ true → (side new).is_kept ≡ true → (i : Info) → IsReady i.user_sectors (side old) → start_of entry.request < i.user_sectors → DidServe i entry.request (side old) answer (side new))
+    → (r ≡ true → (side new).is_kept ≡ true → Ran (side old) (side new) ((sectors : ℕ) → IsReady sectors (side old) → start_of entry.request < sectors → is_failed answer ≡ false))
     → (r ≡ false → (new ≡ old) × (answer ≡ Failed Recovery))
     → Served info r entry.request (side old) answer (side new)
 served_by side old {info} {r} answer new ok oldest did ran recovery =
