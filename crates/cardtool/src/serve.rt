@@ -3,7 +3,7 @@ ghost use Rattle.std.specs.Prelude.{◌<◌, ◌≡◌, ◌≤◌, ◌++◌, ◌
 ghost use Rattle.std.specs.Option.{ForSome};
 ghost use Rattle.mmc_block.specs.Place.{IsReady};
 ghost use Rattle.mmc_bus.specs.Card.{holds};
-ghost use Rattle.mmc_bus.specs.PlainCard.{plain_side};
+ghost use Rattle.mmc_bus.specs.PlainSide.{plain_side};
 ghost use Rattle.cardtool.specs.declared.event.Event.TheVariants.{Run, Submit};
 ghost use Rattle.cardtool.specs.Serving.{IsServed, IsUnwritten, Plays, Rests, Turned, answered, outcome_of, plain_info};
 

@@ -46,5 +46,5 @@ pub asked_sector : (lines : Lines) (size : ℕ) (card : Card) (block : Sector) �
 asked_sector lines size card block ready source next fits =
     let comes : next_block card ≡ Some block = ap (λ s. block_to_send s card) source ∙ next in
     let can : can_send lines size card ≡ true =
-        can_by (is_in card.state Data) (lines_fit lines card) _ ready (ap (is_of_length size) comes ∙ same_size (length block) size fits) in
+    can_by (is_in card.state Data) (lines_fit lines card) _ ready (ap (is_of_length size) comes ∙ same_size (length block) size fits) in
     ap (λ b. if b then sent calm card else card) can ∙ ap (λ s. sent_from s calm card) source ∙ calm_sent card

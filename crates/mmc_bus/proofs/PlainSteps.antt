@@ -123,6 +123,6 @@ pub polled : (old new : Card) (before after : Wire) → IsCard old → Notes bef
 polled old new before after k notes same =
     let poll = calm_poll old in
     let step : PollStep (plainly old before) false (plainly new after) =
-        does_poll calm (λ slow. absurd cc) refl (same ∙ ap (λ (p : Card × Bool). p.0) (sym poll)) (ap (λ (p : Card × Bool). p.1) (sym poll)) in
+    does_poll calm (λ slow. absurd cc) refl (same ∙ ap (λ (p : Card × Bool). p.0) (sym poll)) (ap (λ (p : Card × Bool). p.1) (sym poll)) in
     let is = poll_card (plainly old before) false (plainly new after) step k in
     (exchanged old new before after (Busy false) notes k is step, is)

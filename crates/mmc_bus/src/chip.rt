@@ -14,7 +14,9 @@ use std::alloc::Global;
 
 // Error bits of the card status, in units of bit 13.
 const COM_CRC_ERROR: u32 = 0x400;
+
 const ILLEGAL_COMMAND: u32 = 0x200;
+
 const ERASE_RESET: u32 = 0x1;
 
 /// The addresses that an erase is to go by.

@@ -8,6 +8,7 @@ use mmc_frame::commands::ERASE;
 
 // Error bits of the card status, in units of bit 13.
 const ERASE_SEQ_ERROR: u32 = 0x8000;
+
 const ERASE_PARAM: u32 = 0x4000;
 
 impl Chip {
@@ -72,7 +73,8 @@ impl Chip {
             return self.respond_status(ERASE, false);
         }
         let reply = self.respond_status(ERASE, false);
-        self.store.erase(first / 512, (last / 512 - first / 512) as usize + 1);
+        self.store
+            .erase(first / 512, (last / 512 - first / 512) as usize + 1);
         self.state = State::Prg;
         self.is_busy = true;
         reply

@@ -11,8 +11,11 @@ use mmc_frame::{State, encode_r2, encode_r3, encode_response};
 
 // The registers, and the RCA that the card publishes.
 const OCR: u32 = 0x00ff_8000;
+
 const CID: [u8; 16] = [0, 0, 0, 0, 0, 0, 0, 0, 0, 0, 0, 0, 0, 0, 0, 1];
+
 const CSD: [u8; 16] = [0, 0, 0, 0, 0, 9, 0, 0, 0, 0, 0x40, 0, 2, 0x40, 0, 0x9b];
+
 const RCA: u32 = 1;
 
 // Bit 31 of an OCR: the card is ready.

@@ -1,11 +1,11 @@
 //! The bus between a host and one card: the trait that a host stack drives, and what it hands over.
 #![tactic(auto)]
 
+mod block_rows;
 mod bus;
 mod bytes;
 pub mod card_laws;
 mod cause;
-mod block_rows;
 mod chip;
 mod command;
 pub mod erase_laws;

@@ -1,5 +1,8 @@
 use crate::*;
-use mmc_frame::commands::{READ_SINGLE_BLOCK, SEND_STATUS, WRITE_BLOCK};
+use mmc_frame::commands::{
+    APP_CMD, ERASE, READ_MULTIPLE_BLOCK, READ_SINGLE_BLOCK, SD_SEND_OP_COND, SELECT_CARD,
+    SEND_RELATIVE_ADDR, SEND_STATUS, STOP_TRANSMISSION, WRITE_BLOCK, WRITE_MULTIPLE_BLOCK,
+};
 use mmc_frame::encode;
 use std::collections::VecDeque;
 use std::test::Fail;
@@ -106,6 +109,80 @@ fn shows_errors_once(rt: HostRuntime) -> Result<(), Fail> {
         "another length"
     );
     assert_eq!(rt; card.read_data(&mut block), DataIn::Good);
+    Ok(())
+}
+
+// An R1 with this status.
+fn r1(index: u8, status: u32) -> Reply {
+    Reply::Short(mmc_frame::encode_response(index, status))
+}
+
+// From CMD0 to the transfer state: the answers of the standard's table of states, each with the state in which the command
+// came.
+#[test]
+fn is_identified_again(rt: HostRuntime) -> Result<(), Fail> {
+    let mut card = PlainCard::new(rt.alloc(), 4).ok().ok_or("no card")?;
+    assert_eq!(rt; card.command(encode(0, 0), Want::Nothing), Reply::Silent);
+    assert_eq!(rt;
+        card.command(encode(SEND_STATUS, 0), Want::Short),
+        Reply::Silent
+    );
+    let app = card.command(encode(APP_CMD, 0), Want::Short);
+    assert_eq!(rt;
+        app,
+        r1(APP_CMD, 0x0040_0120),
+        "idle, and CMD13 was illegal"
+    );
+    let ocr = card.command(encode(SD_SEND_OP_COND, 0x00ff_8000), Want::Short);
+    assert_eq!(rt; ocr, Reply::Short([0x3f, 0x80, 0xff, 0x80, 0x00, 0xff]));
+    let mut cid = [0; 17];
+    cid[0] = 0x3f;
+    cid[16] = 0x01;
+    assert_eq!(rt; card.command(encode(2, 0), Want::Long), Reply::Long(cid));
+    let published = card.command(encode(SEND_RELATIVE_ADDR, 0), Want::Short);
+    assert_eq!(rt; published, r1(SEND_RELATIVE_ADDR, 0x0001_0500), "ident");
+    let selected = card.command(encode(SELECT_CARD, RCA), Want::Short);
+    assert_eq!(rt; selected, r1(SELECT_CARD, 0x0000_0700), "stby");
+    assert!(rt; !card.busy());
+    let status = card.command(encode(SEND_STATUS, RCA), Want::Short);
+    assert_eq!(rt; status, r1(SEND_STATUS, 0x0000_0900), "tran");
+    Ok(())
+}
+
+// A write, a read and an erase of two sectors.
+#[test]
+fn moves_several_blocks(rt: HostRuntime) -> Result<(), Fail> {
+    let mut card = PlainCard::new(rt.alloc(), 4).ok().ok_or("no card")?;
+    let begun = card.command(encode(WRITE_MULTIPLE_BLOCK, 512), Want::Short);
+    assert_eq!(rt; begun, r1(WRITE_MULTIPLE_BLOCK, 0x0000_0900), "tran");
+    for byte in [0x11, 0x22] {
+        assert_eq!(rt; card.write_data(&[byte; 512]), DataOut::Accepted);
+        assert_eq!(rt; card.write_data(&[byte; 512]), DataOut::Nothing, "busy");
+        assert!(rt; !card.busy());
+    }
+    let stopped = card.command(encode(STOP_TRANSMISSION, 0), Want::Short);
+    assert_eq!(rt; stopped, r1(STOP_TRANSMISSION, 0x0000_0d00), "rcv");
+    assert!(rt; !card.busy());
+
+    let begun = card.command(encode(READ_MULTIPLE_BLOCK, 512), Want::Short);
+    assert_eq!(rt; begun, r1(READ_MULTIPLE_BLOCK, 0x0000_0900), "tran");
+    let mut block = [0; 512];
+    for byte in [0x11, 0x22] {
+        assert_eq!(rt; card.read_data(&mut block), DataIn::Good);
+        assert!(rt; block == [byte; 512]);
+    }
+    let stopped = card.command(encode(STOP_TRANSMISSION, 0), Want::Short);
+    assert_eq!(rt; stopped, r1(STOP_TRANSMISSION, 0x0000_0b00), "data");
+
+    for (index, argument) in [(32, 512), (33, 1024), (ERASE, 0)] {
+        let reply = card.command(encode(index, argument), Want::Short);
+        assert_eq!(rt; reply, r1(index, 0x0000_0900), "CMD{index}");
+    }
+    assert!(rt; !card.busy());
+    let begun = card.command(encode(READ_SINGLE_BLOCK, 1024), Want::Short);
+    assert_eq!(rt; begun, r1(READ_SINGLE_BLOCK, 0x0000_0900), "tran");
+    assert_eq!(rt; card.read_data(&mut block), DataIn::Good);
+    assert!(rt; block == [0; 512]);
     Ok(())
 }
 

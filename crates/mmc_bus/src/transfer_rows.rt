@@ -14,7 +14,9 @@ use mmc_frame::commands::{
 
 // Error bits of the card status, in units of bit 13.
 const OUT_OF_RANGE: u32 = 0x4_0000;
+
 const ADDRESS_ERROR: u32 = 0x2_0000;
+
 const BLOCK_LEN_ERROR: u32 = 0x1_0000;
 
 impl Chip {
