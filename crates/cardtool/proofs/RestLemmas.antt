@@ -1,18 +1,16 @@
 -- The device's calls, from a machine with nothing in service to one with nothing in service.
 use Rattle.std.proofs.Common.{◌≡◌, ◌+◌, ℕ, List, [], ◌∷◌, ◌++◌, None, suc, true, length, sym, refl, ap, ap₂, ◌∙◌, subst, arith, inl, inr, length-append}
-use Rattle.std.specs.Prelude.{◌||◌, Bool, Err, IfErr, IsErr, Ok, Option, Result, false}
-use Rattle.mmc_bus.specs.Card.{holds}
-use Rattle.mmc_bus.specs.Sectors.{Sets, Within}
+use Rattle.std.specs.Prelude.{◌||◌, Bool, IsErr, Option, Result, false}
 use Rattle.mmc_bus.specs.Side.{Side}
 use Rattle.mmc_block.specs.declared.completion.Completion.{Completion}
 use Rattle.mmc_block.specs.declared.info.Info.{Info}
 use Rattle.mmc_block.specs.declared.refused.Refused.{Refused}
 use Rattle.mmc_block.specs.declared.request.Request.{Request}
-use Rattle.mmc_block.specs.Device.{Agrees, AnswersOldest, Comes, DeviceView, Queues, opened}
+use Rattle.mmc_block.specs.Device.{AnswersOldest, Comes, DeviceView, Queues}
 use Rattle.mmc_block.specs.Machine.{Accepts, CompletesAll, IsMerged, Machine, StartsIfIdle, Turns, Waiting}
 use Rattle.mmc_block.specs.Refusal.{IsFirst, first_refusal}
 use Rattle.cardtool.specs.declared.event.Event.{Event}
-use Rattle.cardtool.specs.Serving.{Breaks, Goes, IsServed, IsUnwritten, Plays, Rests, Serves, outcome_of, plain_info, status_of, unanswered}
+use Rattle.cardtool.specs.Serving.{Breaks, Goes, Plays, Rests, unanswered}
 use Rattle.cardtool.proofs.ServingLemmas.{breaks_after, goes_none, goes_then, no_length, plays_broken}
 
 pub waiting_is : {B : Type 0} (side : B → Side) (d : DeviceView B) (m : Machine) (k : ℕ) → k ≡ length d.waits → Rests side d m → k ≡ unanswered m
@@ -111,18 +109,3 @@ pub went_broken : {B E : Type 0} (side : B → Side) (start mid now : DeviceView
 went_broken side start mid now es fs left old between new x r bad went kept breaks k =
     plays_broken start.info (Rests side start) (Rests side now) es old new r bad
     (breaks_after start.info (Rests side start) (Rests side mid) (Rests side now) es fs left old between new x (went.goes (kept k)) (subst (λ i. Breaks i (Rests side mid) (Rests side now) fs between new) went.info (breaks k)))
-
--- The whole, from the machine that a device opens.
-pub is_served : {B E : Type 0} (side : B → Side) (start now : DeviceView B) (sectors : ℕ) (before : Sets) (later : B) (es : List Event) (old new : Option (List ℕ)) (r : Result Bool E)
-    → start.info ≡ plain_info sectors → Agrees side start (opened before) → ((m : Machine) → Agrees side now m → Within (holds (side later).card) m.sets)
-    → Plays start.info (Rests side start) (Rests side now) es old new r → IsServed (plain_info sectors) before (holds (side later).card) es old new (outcome_of r)
-is_served side start now sectors before later es old new (Ok bad) info agrees within plays =
-    let p = plays (opened before) (agrees, refl) in
-    (p.0, p.1, within p.1 p.2.0, subst (λ i. Serves i (opened before) es p.0 p.1 []) info p.3, p.4, ap status_of p.5)
-is_served side start now sectors before later es old new (Err e) info agrees within plays =
-    let p = plays (opened before) (agrees, refl) in
-    (p.0, p.1, p.2, within p.1 p.3.0, subst (λ i. Serves i (opened before) es p.0 p.1 p.2) info p.4, p.5)
-
-pub unwritten : {E : Type 0} (old new : Option (List ℕ)) (r : Result Bool E) → IfErr (outcome_of r) (λ fault. IsUnwritten old new fault)
-unwritten old new (Ok bad) = tt
-unwritten old new (Err e) = λ other. absurd (other refl)

@@ -1,19 +1,16 @@
 -- A script that is served on a device: each event with its answer, where `run` turns until nothing waits.
-use Rattle.std.specs.Prelude.{◌≡◌, ℕ, ◌+◌, ◌<◌, List, [], ◌∷◌, ◌++◌, length, Bool, true, false, ◌||◌, Option, None, Result, Ok, Err, IfOk, if◌then◌else◌}
+use Rattle.std.specs.Prelude.{◌≡◌, ℕ, ◌+◌, ◌<◌, List, [], ◌∷◌, ◌++◌, length, Bool, true, false, ◌||◌, Option, None, Result, Ok, Err, IfOk}
 use Rattle.std.specs.Io.KnownBytes.{Appends}
 use Rattle.text_out.specs.Writing.{AppendsFront, Writes}
-use Rattle.mmc_bus.specs.Sectors.{Sets, Within}
 use Rattle.mmc_bus.specs.Side.{Side}
 use Rattle.mmc_block.specs.declared.completion.Completion.{Completion}
 use Rattle.mmc_block.specs.declared.info.Info.{Info}
 use Rattle.mmc_block.specs.declared.refused.Refused.{Refused}
-use Rattle.mmc_block.specs.Device.{Agrees, DeviceView, opened}
+use Rattle.mmc_block.specs.Device.{Agrees, DeviceView}
 use Rattle.mmc_block.specs.Machine.{Accepts, Machine, Turns}
 use Rattle.mmc_block.specs.Refusal.{IsFirst, first_refusal}
 use Rattle.cardtool.specs.declared.event.Event.{Event}
 use Rattle.cardtool.specs.declared.event.Event.TheVariants.{Submit, Turn, Run}
-use Rattle.cardtool.specs.declared.fault.ServeFault.{ServeFault}
-use Rattle.cardtool.specs.declared.fault.ServeFault.TheVariants.{NoMemory, Write}
 use Rattle.cardtool.specs.Output.{any_failed, completions_text, queued_text, refused_text}
 
 -- what the device answered to an event
@@ -106,36 +103,3 @@ abbrev pub Turned : {E : Type 0} → Info → (Machine → Type 0) → (Machine 
 Turned info before later old new result =
     (completions : List Completion) × ((m : Machine) → before m → (n : Machine) × later n × Turns info m completions n)
     × Writes old new (said result) (completions_text completions) × IfOk result (λ bad. bad ≡ any_failed completions)
-
--- The whole.
-
--- what a device knows of a card of this size that it opens
-abbrev pub plain_info : ℕ → Info
-plain_info sectors = record { user_sectors = sectors; read_only = false }
-
--- 1 where some request was refused or failed
-abbrev pub status_of : Bool → ℕ
-status_of bad = if bad then 1 else 0
-
--- the outcome where the events were served, or where the writer failed
-abbrev pub outcome_of : {E : Type 0} → Result Bool E → Result ℕ ServeFault
-outcome_of (Ok bad) = Ok (status_of bad)
-outcome_of (Err e) = Err Write
-
--- Over sectors that held `before` and then `later`: the events were served from a machine that is opened on the first,
--- their text went out, the status tells what they were answered, and the last machine may hold the others. Where memory
--- was refused nothing was served or printed. After a write fault a front of the events was served, and a front of
--- their text went out.
-abbrev pub IsServed : Info → Sets → Sets → List Event → Option (List ℕ) → Option (List ℕ) → Result ℕ ServeFault → Type 0
-IsServed info before later events old new (Ok status) =
-    (ts : List Told) × (n : Machine) × Within later n.sets × Serves info (opened before) events ts n []
-    × Appends old new (texts events ts) × (status ≡ status_of (any_bad ts))
-IsServed info before later events old new (Err NoMemory) = (later ≡ before) × (new ≡ old)
-IsServed info before later events old new (Err Write) =
-    (ts : List Told) × (n : Machine) × (left : List Event) × Within later n.sets × Serves info (opened before) events ts n left
-    × AppendsFront old new (texts events ts)
-IsServed info before later events old new (Err fault) = ⊥
-
--- nothing went out, unless the writer failed
-abbrev pub IsUnwritten : Option (List ℕ) → Option (List ℕ) → ServeFault → Type 0
-IsUnwritten old new fault = (fault ≡ Write → ⊥) → new ≡ old

@@ -1,11 +1,17 @@
 // Serves a script on a card, and prints what becomes of its requests.
-ghost use Rattle.std.specs.Prelude.{◌<◌, ◌≡◌, ◌≤◌, ◌++◌, ◌∷◌, IfErr, IfOk, [], length, true};
+ghost use Rattle.std.specs.Prelude.{◌<◌, ◌-◌, ◌≡◌, ◌≤◌, ◌++◌, ◌∷◌, ℕ, IfErr, IfOk, List, None, Option, Some, [], drop, length, true};
 ghost use Rattle.std.specs.Option.{ForSome};
+ghost use Rattle.text_out.specs.Writing.{Writes};
+ghost use Rattle.mmc_block.specs.declared.info.Info.{Info};
 ghost use Rattle.mmc_block.specs.Place.{IsReady};
 ghost use Rattle.mmc_bus.specs.Card.{holds};
+ghost use Rattle.mmc_bus.specs.ExchangeText.{lines_text};
 ghost use Rattle.mmc_bus.specs.PlainSide.{plain_side};
+ghost use Rattle.mmc_bus.specs.Sectors.{Sets};
+ghost use Rattle.cardtool.specs.declared.event.Event.{Event};
 ghost use Rattle.cardtool.specs.declared.event.Event.TheVariants.{Run, Submit};
-ghost use Rattle.cardtool.specs.Serving.{IsServed, IsUnwritten, Plays, Rests, Turned, answered, outcome_of, plain_info};
+ghost use Rattle.cardtool.specs.Serving.{Plays, Rests, Turned, answered};
+ghost use Rattle.cardtool.specs.Whole.{IsServed, IsUnwritten, outcome_of, plain_info, trace_text};
 
 use crate::card_file::read_card;
 use crate::event::Event;
@@ -143,14 +149,8 @@ fn outcome(served: io::Result<bool>) -> Result<u8, ServeFault>
     }
 }
 
-/// Serves a script on the card of a bus, and turns until nothing waits, with a line for each answer. The bus is handed
-/// back with the exit status: 0 where every request was answered `Done` or `Data`, 1 where some request failed or was
-/// refused.
-///
-/// # Errors
-/// `NoMemory` where the device can't be opened; nothing was written then. `Write` where a write failed; a front of the
-/// text went out.
-pub fn serve_on<B: Bus + Drop, W: Write>(
+// Serves a script on the card of a bus, and turns until nothing waits, without a trace.
+fn serve_untraced<B: Bus + Drop, W: Write>(
     alloc: Global,
     bus: B,
     sectors: u64,
@@ -160,10 +160,8 @@ pub fn serve_on<B: Bus + Drop, W: Write>(
     requires some { 1 ≤ sectors }
     requires few { sectors ≤ 65536 }
     requires ready { (B.side bus).is_kept ≡ true → IsReady sectors (B.side bus) }
-    // Over a bus that is kept to the end: a run of the sector machine, and its text.
     ensures served { (B.side result.0).is_kept ≡ true
-        → IsServed (plain_info sectors) (holds (B.side bus).card) (holds (B.side result.0).card) (script ++ Run ∷ []) (W.contents out.old) (W.contents out.new) result.1 }
-    // Over any bus.
+        → IsServed (plain_info sectors) (holds (B.side bus).card) (holds (B.side result.0).card) (script ++ Run ∷ []) None (W.contents out.old) (W.contents out.new) result.1 }
     ensures unwritten { IfErr result.1 (λ fault. IsUnwritten (W.contents out.old) (W.contents out.new) fault) }
 {
     let mut device = match BlockDev::open_plain(alloc, bus, sectors) {
@@ -175,44 +173,110 @@ pub fn serve_on<B: Bus + Drop, W: Write>(
     (bus, outcome(served))
 }
 
-// Serves a script, and writes the last `n` exchanges.
-fn serve_traced<W: Write>(
-    alloc: Global,
-    card: PlainCard,
-    sectors: u64,
-    script: Script,
+// Writes a line for each exchange that is kept, from the place `first` on.
+fn put_lines<B: Bus, W: Write>(bus: &TraceBus<B>, first: usize, out: &mut W) -> io::Result<()>
+    ensures { Writes (W.contents out.old) (W.contents out.new) result (lines_text (drop first bus.now.exchanges)) }
+{
+    for i in first..bus.len() {
+        let exchange = bus.exchange(i).unwrap();
+        exchange.write_line(out)?;
+    }
+    Ok(())
+}
+
+// Writes `trace K` and a line for each of the last K exchanges, K at most `n`. A trace that was made for `n` keeps no
+// more; but the calls of a bus don't say that its room stays, so the last `n` are taken here.
+fn put_trace<B: Bus, W: Write>(bus: &TraceBus<B>, n: u32, out: &mut W) -> io::Result<()>
+    ensures { Writes (W.contents out.old) (W.contents out.new) result (trace_text (drop (length bus.now.exchanges - n) bus.now.exchanges)) }
+{
+    let first = bus.len().saturating_sub(n as usize);
+    put_pieces(
+        out,
+        &[
+            Piece::Text(b"trace "),
+            Piece::Number((bus.len() - first) as u64),
+            Piece::Text(b"\n"),
+        ],
+    )?;
+    put_lines(bus, first, out)
+}
+
+// The trace behind what was served without it.
+fn end_with_trace<B: Bus, W: Write>(
+    bus: &TraceBus<B>,
     n: u32,
+    served: Result<u8, ServeFault>,
     out: &mut W,
 ) -> Result<u8, ServeFault>
-    requires some { 1 ≤ sectors }
-    requires few { sectors ≤ 65536 }
-    requires ready { IsReady sectors (plain_side card) }
-    requires one { 1 ≤ n }
-    requires many { n ≤ 65536 }
-    ensures { IfErr result (λ fault. IsUnwritten (W.contents out.old) (W.contents out.new) fault) }
+    ensures served { (info : Info) → (before later : Sets) → (events : List Event) → (start : Option (List ℕ))
+        → IsServed info before later events None start (W.contents out.old) served
+        → IsServed info before later events (Some n) start (W.contents out.new) result }
+    ensures unwritten { (start : Option (List ℕ)) → IfErr served (λ fault. IsUnwritten start (W.contents out.old) fault)
+        → IfErr result (λ fault. IsUnwritten start (W.contents out.new) fault) }
 {
-    let Ok(bus) = TraceBus::new(alloc, card, n as usize) else {
-        return Err(ServeFault::NoMemory);
-    };
-    let (bus, served) = serve_on(alloc, bus, sectors, script, out);
     let status = served?;
-    match put_trace(&bus, out) {
+    match put_trace(bus, n, out) {
         Ok(()) => Ok(status),
         Err(_) => Err(ServeFault::Write),
     }
 }
 
-// Writes `trace K` and a line for each of the K exchanges that are kept.
-fn put_trace<W: Write>(bus: &TraceBus<PlainCard>, out: &mut W) -> io::Result<()> {
-    put_pieces(
-        out,
-        &[
-            Piece::Text(b"trace "),
-            Piece::Number(bus.len() as u64),
-            Piece::Text(b"\n"),
-        ],
-    )?;
-    bus.write_lines(out)
+// Serves a script, and writes the last `n` exchanges.
+fn serve_traced<B: Bus + Drop, W: Write>(
+    alloc: Global,
+    bus: B,
+    sectors: u64,
+    script: Script,
+    n: u32,
+    out: &mut W,
+) -> (B, Result<u8, ServeFault>)
+    requires some { 1 ≤ sectors }
+    requires few { sectors ≤ 65536 }
+    requires ready { (B.side bus).is_kept ≡ true → IsReady sectors (B.side bus) }
+    requires one { 1 ≤ n }
+    requires many { n ≤ 65536 }
+    ensures served { (B.side result.0).is_kept ≡ true
+        → IsServed (plain_info sectors) (holds (B.side bus).card) (holds (B.side result.0).card) (script ++ Run ∷ []) (Some n) (W.contents out.old) (W.contents out.new) result.1 }
+    ensures unwritten { IfErr result.1 (λ fault. IsUnwritten (W.contents out.old) (W.contents out.new) fault) }
+{
+    let bus = match TraceBus::new(alloc, bus, n as usize) {
+        Ok(bus) => bus,
+        Err((bus, _)) => return (bus, Err(ServeFault::NoMemory)),
+    };
+    let (bus, served) = serve_untraced(alloc, bus, sectors, script, out);
+    let ended = end_with_trace(&bus, n, served, out);
+    (bus.into_inner(), ended)
+}
+
+/// Serves a script on the card of a bus, and turns until nothing waits, with a line for each answer. With `trace`, from 1
+/// to 65,536, the last so many exchanges follow. The bus is handed back with the exit status: 0 where every request was
+/// answered `Done` or `Data`, 1 where some request failed or was refused.
+///
+/// # Errors
+/// `NoMemory` where the trace can't be made or the device can't be opened; nothing was written then. `Write` where a
+/// write failed; a front of the text went out.
+pub fn serve_on<B: Bus + Drop, W: Write>(
+    alloc: Global,
+    bus: B,
+    sectors: u64,
+    script: Script,
+    trace: Option<u32>,
+    out: &mut W,
+) -> (B, Result<u8, ServeFault>)
+    requires some { 1 ≤ sectors }
+    requires few { sectors ≤ 65536 }
+    requires ready { (B.side bus).is_kept ≡ true → IsReady sectors (B.side bus) }
+    requires bounded { ForSome trace (λ n. (1 ≤ n) × (n ≤ 65536)) }
+    // Over a bus that is kept to the end: a run of the sector machine, its text, and the trace behind it.
+    ensures served { (B.side result.0).is_kept ≡ true
+        → IsServed (plain_info sectors) (holds (B.side bus).card) (holds (B.side result.0).card) (script ++ Run ∷ []) trace (W.contents out.old) (W.contents out.new) result.1 }
+    // Over any bus.
+    ensures unwritten { IfErr result.1 (λ fault. IsUnwritten (W.contents out.old) (W.contents out.new) fault) }
+{
+    match trace {
+        Some(n) => serve_traced(alloc, bus, sectors, script, n, out),
+        None => serve_untraced(alloc, bus, sectors, script, out),
+    }
 }
 
 // A card of this many sectors, that is ready for a transfer.
@@ -266,8 +330,5 @@ pub fn serve<C: Read, S: Read, W: Write>(
     let text = whole(alloc, script, MAX_SCRIPT, ServeFault::ReadScript)?;
     let script = read_script(alloc, text.as_slice())?;
     let card = new_card(alloc, sectors)?;
-    match trace {
-        Some(n) => serve_traced(alloc, card, sectors, script, n, out),
-        None => serve_on(alloc, card, sectors, script, out).1,
-    }
+    serve_on(alloc, card, sectors, script, trace, out).1
 }

@@ -1,6 +1,6 @@
 use Rattle.std.proofs.Common.{◌≡◌, ap, subst, true}
-use Rattle.cardtool.proofs.RestLemmas.{is_served, unwritten}
-use Rattle.cardtool.proofs.serve.serve_on.Goals as goal
+use Rattle.cardtool.proofs.WholeLemmas.{is_served, unwritten}
+use Rattle.cardtool.proofs.serve.serve_untraced.Goals as goal
 
 pub returns-clause-served : goal.returns-clause-served
 returns-clause-served g c = λ kept.
