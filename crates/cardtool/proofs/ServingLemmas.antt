@@ -1,6 +1,6 @@
 -- Events that were served, one after the other.
 use Rattle.std.proofs.Common.{◌≡◌, ◌<◌, ◌+◌, ℕ, List, [], ◌∷◌, ◌++◌, Option, None, Result, Ok, Err, Bool, true, false, length, sym, refl, ap, ◌∙◌, subst, append_assoc, append-nil, arith}
-use Rattle.std.specs.Prelude.{◌||◌, IsErr}
+use Rattle.std.specs.Prelude.{◌&&◌, ◌||◌, IsErr, not}
 use Rattle.std.proofs.lemmas.Bool.{false≢true}
 use Rattle.std.specs.Io.KnownBytes.{Appends}
 use Rattle.text_out.specs.Writing.{AppendsFront, Writes}
@@ -9,12 +9,13 @@ use Rattle.mmc_block.specs.declared.completion.Completion.{Completion}
 use Rattle.mmc_block.specs.declared.info.Info.{Info}
 use Rattle.mmc_block.specs.declared.refused.Refused.{Refused}
 use Rattle.mmc_block.specs.declared.request.Request.{Request}
+use Rattle.mmc_block.specs.Device.{is_failed, none_failed}
 use Rattle.mmc_block.specs.Machine.{Accepts, Machine, Turns}
 use Rattle.mmc_block.specs.Refusal.{IsFirst, first_refusal}
 use Rattle.cardtool.specs.declared.event.Event.{Event}
 use Rattle.cardtool.specs.declared.event.Event.TheVariants.{Submit, Turn, Run}
 use Rattle.cardtool.specs.Output.{any_failed, completions_text, queued_text, refused_text}
-use Rattle.cardtool.specs.Serving.{Breaks, Does, Goes, Plays, Serves, Told, Turned, after, answered, any_bad, is_bad, text_of, texts, unanswered}
+use Rattle.cardtool.specs.Serving.{Breaks, Does, Goes, IsReadyAfter, Played, Serves, Told, Turned, after, answered, any_bad, any_failure, has_failure, is_bad, text_of, texts, unanswered}
 use Rattle.cardtool.specs.Serving.Told.{Queued, NotTaken, Served, Idle}
 
 -- Joining.
@@ -71,15 +72,32 @@ unfolding any_bad
 bad_then [] us = refl
 bad_then (t ∷ ts) us = ap (λ b. is_bad t || b) (bad_then ts us) ∙ or_more (is_bad t) (any_bad ts) (any_bad us)
 
-pub goes_none : (i : Info) (A : Machine → Type 0) (es : List Event) (old : Option (List ℕ)) → Goes i A A es es old old false
-unfolding Serves texts any_bad
-goes_none i A es old = λ m p. ([], m, p, (refl, refl), appends_none old, refl)
+failure_then : (ts us : List Told) → any_failure (ts ++ us) ≡ (any_failure ts || any_failure us)
+unfolding any_failure
+failure_then [] us = refl
+failure_then (t ∷ ts) us = ap (λ b. has_failure t || b) (failure_then ts us) ∙ or_more (has_failure t) (any_failure ts) (any_failure us)
+
+stays_ready : (r : Bool) → IsReadyAfter r false r
+stays_ready true = refl
+stays_ready false = refl
+
+and_not : (r a b : Bool) → ((r && not a) && not b) ≡ (r && not (a || b))
+and_not true true b = refl
+and_not true false b = refl
+and_not false a b = refl
+
+ready_then : (p q r a b c : Bool) → IsReadyAfter p a q → IsReadyAfter q b r → c ≡ (a || b) → IsReadyAfter p c r
+ready_then p q r a b c first second joined = second ∙ ap (λ x. x && not b) first ∙ and_not p a b ∙ ap (λ x. p && not x) (sym joined)
+
+pub goes_none : (i : Info) (A : Machine → Type 0) (r : Bool) (es : List Event) (old : Option (List ℕ)) → Goes i A r A r es es old old false
+unfolding Serves texts any_bad any_failure
+goes_none i A r es old = λ m p. ([], m, p, (refl, refl), appends_none old, refl, stays_ready r)
 
 -- more events, served after others
-pub goes_then : (i : Info) (A B C : Machine → Type 0) (es fs left rest : List Event) (old mid new : Option (List ℕ)) (x y : Bool)
-    → Goes i A B es (fs ++ left) old mid x → Goes i B C fs rest mid new y → Goes i A C es (rest ++ left) old new (y || x)
-goes_then i A B C es fs left rest old mid new x y first second = λ m p.
-    let f = first m p in
+pub goes_then : (i : Info) (A : Machine → Type 0) (p : Bool) (B : Machine → Type 0) (q : Bool) (C : Machine → Type 0) (r : Bool) (es fs left rest : List Event) (old mid new : Option (List ℕ)) (x y : Bool)
+    → Goes i A p B q es (fs ++ left) old mid x → Goes i B q C r fs rest mid new y → Goes i A p C r es (rest ++ left) old new (y || x)
+goes_then i A p B q C r es fs left rest old mid new x y first second = λ m a.
+    let f = first m a in
     let s = second f.1 f.2 in (
       f.0 ++ s.0,
       s.1,
@@ -87,13 +105,14 @@ goes_then i A B C es fs left rest old mid new x y first second = λ m p.
       serves_then i m es f.0 f.1 fs left s.0 s.1 rest f.3 s.3,
       subst (Appends old new) (sym (texts_then i m es f.0 f.1 fs left s.0 s.1 rest f.3 s.3)) (appends_more old mid new (texts es f.0) (texts fs s.0) f.4 s.4),
       or_swap y x ∙ ap (λ b. b || y) f.5 ∙ ap (λ b. any_bad f.0 || b) s.5 ∙ sym (bad_then f.0 s.0),
+      ready_then p q r (any_failure f.0) (any_failure s.0) (any_failure (f.0 ++ s.0)) f.6 s.6 (failure_then f.0 s.0),
     )
 
 -- a write fault among events that were served after others
-pub breaks_after : (i : Info) (A B C : Machine → Type 0) (es fs left : List Event) (old mid new : Option (List ℕ)) (x : Bool)
-    → Goes i A B es (fs ++ left) old mid x → Breaks i B C fs mid new → Breaks i A C es old new
-breaks_after i A B C es fs left old mid new x first second = λ m p.
-    let f = first m p in
+pub breaks_after : (i : Info) (A : Machine → Type 0) (p : Bool) (B : Machine → Type 0) (q : Bool) (C : Machine → Type 0) (es fs left : List Event) (old mid new : Option (List ℕ)) (x : Bool)
+    → Goes i A p B q es (fs ++ left) old mid x → Breaks i B C fs mid new → Breaks i A C es old new
+breaks_after i A p B q C es fs left old mid new x first second = λ m a.
+    let f = first m a in
     let s = second f.1 f.2 in (
       f.0 ++ s.0,
       s.1,
@@ -103,18 +122,26 @@ breaks_after i A B C es fs left old mid new x first second = λ m p.
       subst (AppendsFront old new) (sym (texts_then i m es f.0 f.1 fs left s.0 s.1 s.2 f.3 s.4)) (front_after old mid new (texts es f.0) (texts fs s.0) f.4 s.5),
     )
 
-pub plays_broken : {E : Type 0} (i : Info) (A C : Machine → Type 0) (es : List Event) (old new : Option (List ℕ)) (r : Result Bool E) → IsErr r → Breaks i A C es old new → Plays i A C es old new r
-plays_broken i A C es old new (Ok y) bad h = absurd (false≢true bad)
-plays_broken i A C es old new (Err e) bad h = h
+pub plays_broken : {E : Type 0} (i : Info) (A : Machine → Type 0) (p : Bool) (C : Machine → Type 0) (q : Bool) (es : List Event) (old new : Option (List ℕ)) (r : Result Bool E)
+    → IsErr r → Breaks i A C es old new → Played i A p C q es old new r
+plays_broken i A p C q es old new (Ok y) bad h = absurd (false≢true bad)
+plays_broken i A p C q es old new (Err e) bad h = h
 
 -- One answer.
 
-goes_one : (i : Info) (A B : Machine → Type 0) (e : Event) (t : Told) (old new : Option (List ℕ))
-    → ((m : Machine) → A m → (n : Machine) × B n × Does i m e t n) → Appends old new (text_of e t) → Goes i A B (e ∷ []) (after e t []) old new (is_bad t)
-unfolding Serves texts any_bad
-goes_one i A B e t old new happens wrote = λ m p.
-    let h = happens m p in
-    (t ∷ [], h.0, h.1, (h.0, h.2, (refl, refl)), subst (Appends old new) (sym (append-nil (text_of e t))) wrote, or_swap false (is_bad t))
+goes_one : (i : Info) (A : Machine → Type 0) (p : Bool) (B : Machine → Type 0) (q : Bool) (e : Event) (t : Told) (old new : Option (List ℕ))
+    → ((m : Machine) → A m → (n : Machine) × B n × Does i m e t n) → Appends old new (text_of e t) → IsReadyAfter p (has_failure t) q → Goes i A p B q (e ∷ []) (after e t []) old new (is_bad t)
+unfolding Serves texts any_bad any_failure
+goes_one i A p B q e t old new happens wrote ready = λ m a.
+    let h = happens m a in (
+      t ∷ [],
+      h.0,
+      h.1,
+      (h.0, h.2, (refl, refl)),
+      subst (Appends old new) (sym (append-nil (text_of e t))) wrote,
+      or_swap false (is_bad t),
+      ready ∙ ap (λ b. p && not b) (or_swap false (has_failure t)),
+    )
 
 broken_one : (i : Info) (A B : Machine → Type 0) (e : Event) (t : Told) (old new : Option (List ℕ))
     → ((m : Machine) → A m → (n : Machine) × B n × Does i m e t n) → AppendsFront old new (text_of e t) → Breaks i A B (e ∷ []) old new
@@ -123,30 +150,41 @@ broken_one i A B e t old new happens wrote = λ m p.
     let h = happens m p in
     (t ∷ [], h.0, after e t [], h.1, (h.0, h.2, (refl, refl)), subst (AppendsFront old new) (sym (append-nil (text_of e t))) wrote)
 
-plays_one : {E : Type 0} (i : Info) (A B : Machine → Type 0) (e : Event) (t : Told) (old new : Option (List ℕ)) (r : Result Unit E)
-    → ((m : Machine) → A m → (n : Machine) × B n × Does i m e t n) → after e t [] ≡ [] → Writes old new r (text_of e t) → Plays i A B (e ∷ []) old new (answered (is_bad t) r)
-plays_one i A B e t old new (Ok x) happens none wrote = subst (λ l. Goes i A B (e ∷ []) l old new (is_bad t)) none (goes_one i A B e t old new happens wrote)
-plays_one i A B e t old new (Err d) happens none wrote = broken_one i A B e t old new happens wrote
+plays_one : {E : Type 0} (i : Info) (A : Machine → Type 0) (p : Bool) (B : Machine → Type 0) (q : Bool) (e : Event) (t : Told) (old new : Option (List ℕ)) (r : Result Unit E)
+    → ((m : Machine) → A m → (n : Machine) × B n × Does i m e t n) → after e t [] ≡ [] → Writes old new r (text_of e t) → IsReadyAfter p (has_failure t) q → Played i A p B q (e ∷ []) old new (answered (is_bad t) r)
+plays_one i A p B q e t old new (Ok x) happens none wrote ready = subst (λ l. Goes i A p B q (e ∷ []) l old new (is_bad t)) none (goes_one i A p B q e t old new happens wrote ready)
+plays_one i A p B q e t old new (Err d) happens none wrote ready = broken_one i A B e t old new happens wrote
 
 -- Turns.
 
-pub turned : {E : Type 0} (i : Info) (A B : Machine → Type 0) (cs : List Completion) (old new : Option (List ℕ)) (r : Result Unit E)
-    → ((m : Machine) → A m → (n : Machine) × B n × Turns i m cs n) → Writes old new r (completions_text cs) → Turned i A B old new (answered (any_failed cs) r)
-turned i A B cs old new (Ok x) turns wrote = (cs, turns, wrote, refl)
-turned i A B cs old new (Err e) turns wrote = (cs, turns, wrote, tt)
+not_both : (failed none some : Bool) → none ≡ not some → (not failed && none) ≡ not (failed || some)
+not_both true none some h = refl
+not_both false none some h = h
+
+-- none failed, or some did
+none_or_some : (cs : List Completion) → none_failed cs ≡ not (any_failed cs)
+none_or_some [] = refl
+none_or_some (c ∷ cs) = not_both (is_failed c.answer) (none_failed cs) (any_failed cs) (none_or_some cs)
+
+pub turned : {E : Type 0} (i : Info) (A : Machine → Type 0) (p : Bool) (B : Machine → Type 0) (q : Bool) (cs : List Completion) (old new : Option (List ℕ)) (r : Result Unit E)
+    → ((m : Machine) → A m → (n : Machine) × B n × Turns i m cs n) → Writes old new r (completions_text cs) → q ≡ (p && none_failed cs) → Turned i A p B q old new (answered (any_failed cs) r)
+turned i A p B q cs old new (Ok x) turns wrote ready = (cs, turns, wrote, refl, ready ∙ ap (λ b. p && b) (none_or_some cs))
+turned i A p B q cs old new (Err e) turns wrote ready = (cs, turns, wrote, tt, ready ∙ ap (λ b. p && b) (none_or_some cs))
 
 -- a turn of a `run`, where something waits
-pub run_turn : (i : Info) (A B : Machine → Type 0) (old new : Option (List ℕ)) (waiting : ℕ) (bad : Bool) → 0 < waiting → ((m : Machine) → A m → waiting ≡ unanswered m)
-    → (cs : List Completion) × ((m : Machine) → A m → (n : Machine) × B n × Turns i m cs n) × Appends old new (completions_text cs) × (bad ≡ any_failed cs) → Goes i A B (Run ∷ []) (Run ∷ []) old new bad
-unfolding Does after text_of is_bad
-run_turn i A B old new waiting bad some counts t =
-    subst (λ b. Goes i A B (Run ∷ []) (Run ∷ []) old new b) (sym t.3)
-    (goes_one i A B Run (Served t.0) old new (λ m p. let h = t.1 m p in (h.0, h.1, (subst (λ k. 0 < k) (counts m p) some, h.2))) t.2)
+pub run_turn : (i : Info) (A : Machine → Type 0) (p : Bool) (B : Machine → Type 0) (q : Bool) (old new : Option (List ℕ)) (waiting : ℕ) (bad : Bool)
+    → 0 < waiting → ((m : Machine) → A m → waiting ≡ unanswered m)
+    → (cs : List Completion) × ((m : Machine) → A m → (n : Machine) × B n × Turns i m cs n) × Appends old new (completions_text cs) × (bad ≡ any_failed cs) × IsReadyAfter p (any_failed cs) q
+    → Goes i A p B q (Run ∷ []) (Run ∷ []) old new bad
+unfolding Does after text_of is_bad has_failure
+run_turn i A p B q old new waiting bad some counts t =
+    subst (λ b. Goes i A p B q (Run ∷ []) (Run ∷ []) old new b) (sym t.3)
+    (goes_one i A p B q Run (Served t.0) old new (λ m a. let h = t.1 m a in (h.0, h.1, (subst (λ k. 0 < k) (counts m a) some, h.2))) t.2 t.4)
 
-pub run_turn_broken : (i : Info) (A B : Machine → Type 0) (old new : Option (List ℕ)) (waiting : ℕ) → 0 < waiting → ((m : Machine) → A m → waiting ≡ unanswered m)
-    → (cs : List Completion) × ((m : Machine) → A m → (n : Machine) × B n × Turns i m cs n) × AppendsFront old new (completions_text cs) × Unit {0} → Breaks i A B (Run ∷ []) old new
+pub run_turn_broken : (i : Info) (A : Machine → Type 0) (p : Bool) (B : Machine → Type 0) (q : Bool) (old new : Option (List ℕ)) (waiting : ℕ) → 0 < waiting → ((m : Machine) → A m → waiting ≡ unanswered m)
+    → (cs : List Completion) × ((m : Machine) → A m → (n : Machine) × B n × Turns i m cs n) × AppendsFront old new (completions_text cs) × Unit {0} × IsReadyAfter p (any_failed cs) q → Breaks i A B (Run ∷ []) old new
 unfolding Does after text_of
-run_turn_broken i A B old new waiting some counts t =
+run_turn_broken i A p B q old new waiting some counts t =
     broken_one i A B Run (Served t.0) old new (λ m p. let h = t.1 m p in (h.0, h.1, (subst (λ k. 0 < k) (counts m p) some, h.2))) t.2
 
 pub no_length : {A : Type 0} (xs : List A) → length xs ≡ 0 → xs ≡ []
@@ -154,29 +192,32 @@ no_length [] none = refl
 no_length (x ∷ xs) none = absurd (omega (arith, none))
 
 -- a `run` ends where nothing waits
-pub run_idle : (i : Info) (A : Machine → Type 0) (old : Option (List ℕ)) (waiting : ℕ) → waiting ≡ 0 → ((m : Machine) → A m → waiting ≡ unanswered m) → Goes i A A (Run ∷ []) [] old old false
-unfolding Does after text_of is_bad
-run_idle i A old waiting none counts =
-    goes_one i A A Run Idle old old
+pub run_idle : (i : Info) (A : Machine → Type 0) (r : Bool) (old : Option (List ℕ)) (waiting : ℕ) → waiting ≡ 0 → ((m : Machine) → A m → waiting ≡ unanswered m) → Goes i A r A r (Run ∷ []) [] old old false
+unfolding Does after text_of is_bad has_failure
+run_idle i A r old waiting none counts =
+    goes_one i A r A r Run Idle old old
     (λ m p. let c : waiting ≡ length m.waits + length m.serves = counts m p in (m, p, (no_length m.waits (omega (arith, none, c)), no_length m.serves (omega (arith, none, c)), refl)))
-    (appends_none old)
+    (appends_none old) (stays_ready r)
 
 -- a single turn
-pub one_turn : {E : Type 0} (i : Info) (A B : Machine → Type 0) (old new : Option (List ℕ)) (r : Result Bool E) → Turned i A B old new r → Plays i A B (Turn ∷ []) old new r
-unfolding Does after text_of is_bad
-one_turn i A B old new (Ok bad) t = subst (λ b. Goes i A B (Turn ∷ []) [] old new b) (sym t.3) (goes_one i A B Turn (Served t.0) old new (λ m p. t.1 m p) t.2)
-one_turn i A B old new (Err e) t = broken_one i A B Turn (Served t.0) old new (λ m p. t.1 m p) t.2
+pub one_turn : {E : Type 0} (i : Info) (A : Machine → Type 0) (p : Bool) (B : Machine → Type 0) (q : Bool) (old new : Option (List ℕ)) (r : Result Bool E)
+    → Turned i A p B q old new r → Played i A p B q (Turn ∷ []) old new r
+unfolding Does after text_of is_bad has_failure
+one_turn i A p B q old new (Ok bad) t = subst (λ b. Goes i A p B q (Turn ∷ []) [] old new b) (sym t.3) (goes_one i A p B q Turn (Served t.0) old new (λ m a. t.1 m a) t.2 t.4)
+one_turn i A p B q old new (Err e) t = broken_one i A B Turn (Served t.0) old new (λ m p. t.1 m p) t.2
 
 -- Submissions.
 
-pub queued : {E : Type 0} (i : Info) (A B : Machine → Type 0) (client ticket : ℕ) (q : Request) (old new : Option (List ℕ)) (r : Result Unit E)
-    → ((m : Machine) → A m → (n : Machine) × B n × ((first_refusal i (unanswered m) m.next q ≡ None) × Accepts m client q ticket n))
-    → Writes old new r (queued_text ticket client) → Plays i A B (Submit client q ∷ []) old new (answered false r)
-unfolding Does after is_bad text_of
-queued i A B client ticket q old new r happens wrote = plays_one i A B (Submit client q) (Queued ticket) old new r happens refl wrote
+pub queued : {E : Type 0} (i : Info) (A : Machine → Type 0) (p : Bool) (B : Machine → Type 0) (q : Bool) (client ticket : ℕ) (request : Request) (old new : Option (List ℕ)) (r : Result Unit E)
+    → ((m : Machine) → A m → (n : Machine) × B n × ((first_refusal i (unanswered m) m.next request ≡ None) × Accepts m client request ticket n))
+    → Writes old new r (queued_text ticket client) → q ≡ p → Played i A p B q (Submit client request ∷ []) old new (answered false r)
+unfolding Does after is_bad text_of has_failure
+queued i A p B q client ticket request old new r happens wrote same =
+    plays_one i A p B q (Submit client request) (Queued ticket) old new r happens refl wrote (same ∙ stays_ready p)
 
-pub not_taken : {E : Type 0} (i : Info) (A B : Machine → Type 0) (client : ℕ) (q : Request) (why : Refused) (old new : Option (List ℕ)) (r : Result Unit E)
-    → ((m : Machine) → A m → B m × IsFirst (first_refusal i (unanswered m) m.next q) why)
-    → Writes old new r (refused_text client why) → Plays i A B (Submit client q ∷ []) old new (answered true r)
-unfolding Does after is_bad text_of
-not_taken i A B client q why old new r happens wrote = plays_one i A B (Submit client q) (NotTaken why) old new r (λ m a. let h = happens m a in (m, h.0, (h.1, refl))) refl wrote
+pub not_taken : {E : Type 0} (i : Info) (A : Machine → Type 0) (p : Bool) (B : Machine → Type 0) (q : Bool) (client : ℕ) (request : Request) (why : Refused) (old new : Option (List ℕ)) (r : Result Unit E)
+    → ((m : Machine) → A m → B m × IsFirst (first_refusal i (unanswered m) m.next request) why)
+    → Writes old new r (refused_text client why) → q ≡ p → Played i A p B q (Submit client request ∷ []) old new (answered true r)
+unfolding Does after is_bad text_of has_failure
+not_taken i A p B q client request why old new r happens wrote same =
+    plays_one i A p B q (Submit client request) (NotTaken why) old new r (λ m a. let h = happens m a in (m, h.0, (h.1, refl))) refl wrote (same ∙ stays_ready p)

@@ -1,7 +1,8 @@
 -- A script that is served on a device: each event with its answer, where `run` turns until nothing waits.
-use Rattle.std.specs.Prelude.{◌≡◌, ℕ, ◌+◌, ◌<◌, List, [], ◌∷◌, ◌++◌, length, Bool, true, false, ◌||◌, Option, None, Result, Ok, Err, IfOk}
+use Rattle.std.specs.Prelude.{◌≡◌, ℕ, ◌+◌, ◌<◌, ◌≤◌, ◌&&◌, List, [], ◌∷◌, ◌++◌, length, Bool, true, false, not, ◌||◌, Option, None, Result, Ok, Err, IfOk}
 use Rattle.std.specs.Io.KnownBytes.{Appends}
 use Rattle.text_out.specs.Writing.{AppendsFront, Writes}
+use Rattle.mmc_bus.specs.Faults.{NoFault}
 use Rattle.mmc_bus.specs.Side.{Side}
 use Rattle.mmc_block.specs.declared.completion.Completion.{Completion}
 use Rattle.mmc_block.specs.declared.info.Info.{Info}
@@ -33,6 +34,11 @@ is_bad (Queued ticket) = false
 is_bad (NotTaken why) = true
 is_bad (Served completions) = any_failed completions
 is_bad Idle = false
+
+-- some request failed
+unfoldable pub has_failure : Told → Bool
+has_failure (Served completions) = any_failed completions
+has_failure told = false
 
 -- how many have no answer yet
 abbrev pub unanswered : Machine → ℕ
@@ -69,15 +75,32 @@ unfoldable pub any_bad : List Told → Bool
 any_bad [] = false
 any_bad (t ∷ ts) = is_bad t || any_bad ts
 
+unfoldable pub any_failure : List Told → Bool
+any_failure [] = false
+any_failure (t ∷ ts) = has_failure t || any_failure ts
+
 -- the machine is the device's, and nothing is in service, as between any two calls
 abbrev pub Rests : {B : Type 0} → (B → Side) → DeviceView B → Machine → Type 0
 Rests side device m = Agrees side device m × (m.serves ≡ [])
 
+-- What a call of a device leaves: what is known of the card, a bus that was kept before where it is, with no fewer faults,
+-- and, where no fault fell, a device that was ready as it was.
+pub record Carries {B : Type 0} (side : B → Side) (old new : DeviceView B) : Type 0 where
+  pub info : new.info ≡ old.info
+  pub kept : (side new.bus).is_kept ≡ true → (side old.bus).is_kept ≡ true
+  pub later : (side new.bus).is_kept ≡ true → (side old.bus).faults ≤ (side new.bus).faults
+  pub fine : (side new.bus).is_kept ≡ true → old.is_ready ≡ true → NoFault (side old.bus) (side new.bus) → new.is_ready ≡ true
+
+-- the device is ready as long as no request has failed
+abbrev pub IsReadyAfter : Bool → Bool → Bool → Type 0
+IsReadyAfter was failed is = is ≡ (was && not failed)
+
 -- From any machine before there is one later, events were served up to those left, with their text printed, and `bad`
--- says whether some request was refused or failed.
-abbrev pub Goes : Info → (Machine → Type 0) → (Machine → Type 0) → List Event → List Event → Option (List ℕ) → Option (List ℕ) → Bool → Type 0
-Goes info before later events left old new bad =
-    (m : Machine) → before m → (ts : List Told) × (n : Machine) × later n × Serves info m events ts n left × Appends old new (texts events ts) × (bad ≡ any_bad ts)
+-- says whether some request was refused or failed. The device was ready before or not, and is later or not.
+abbrev pub Goes : Info → (Machine → Type 0) → Bool → (Machine → Type 0) → Bool → List Event → List Event → Option (List ℕ) → Option (List ℕ) → Bool → Type 0
+Goes info before was later is events left old new bad =
+    (m : Machine) → before m → (ts : List Told) × (n : Machine) × later n × Serves info m events ts n left × Appends old new (texts events ts)
+    × (bad ≡ any_bad ts) × IsReadyAfter was (any_failure ts) is
 
 -- a write fault: a front of the events was served, and a front of their text went out
 abbrev pub Breaks : Info → (Machine → Type 0) → (Machine → Type 0) → List Event → Option (List ℕ) → Option (List ℕ) → Type 0
@@ -85,9 +108,14 @@ Breaks info before later events old new =
     (m : Machine) → before m → (ts : List Told) × (n : Machine) × (left : List Event) × later n × Serves info m events ts n left × AppendsFront old new (texts events ts)
 
 -- all the events were served and printed, or the writer failed
-abbrev pub Plays : {E : Type 0} → Info → (Machine → Type 0) → (Machine → Type 0) → List Event → Option (List ℕ) → Option (List ℕ) → Result Bool E → Type 0
-Plays info before later events old new (Ok bad) = Goes info before later events [] old new bad
-Plays info before later events old new (Err e) = Breaks info before later events old new
+abbrev pub Played : {E : Type 0} → Info → (Machine → Type 0) → Bool → (Machine → Type 0) → Bool → List Event → Option (List ℕ) → Option (List ℕ) → Result Bool E → Type 0
+Played info before was later is events old new (Ok bad) = Goes info before was later is events [] old new bad
+Played info before was later is events old new (Err e) = Breaks info before later events old new
+
+-- so from one device to another
+abbrev pub Plays : {B E : Type 0} → (B → Side) → DeviceView B → DeviceView B → List Event → Option (List ℕ) → Option (List ℕ) → Result Bool E → Type 0
+Plays side old_device new_device events old new result =
+    Played old_device.info (Rests side old_device) old_device.is_ready (Rests side new_device) new_device.is_ready events old new result
 
 -- the answer of a line that was printed
 abbrev pub answered : {E : Type 0} → Bool → Result Unit E → Result Bool E
@@ -99,7 +127,12 @@ said (Ok bad) = Ok tt
 said (Err e) = Err e
 
 -- a turn, its completions, and what was printed of them
-abbrev pub Turned : {E : Type 0} → Info → (Machine → Type 0) → (Machine → Type 0) → Option (List ℕ) → Option (List ℕ) → Result Bool E → Type 0
-Turned info before later old new result =
+abbrev pub Turned : {E : Type 0} → Info → (Machine → Type 0) → Bool → (Machine → Type 0) → Bool → Option (List ℕ) → Option (List ℕ) → Result Bool E → Type 0
+Turned info before was later is old new result =
     (completions : List Completion) × ((m : Machine) → before m → (n : Machine) × later n × Turns info m completions n)
     × Writes old new (said result) (completions_text completions) × IfOk result (λ bad. bad ≡ any_failed completions)
+    × IsReadyAfter was (any_failed completions) is
+
+abbrev pub Turning : {B E : Type 0} → (B → Side) → DeviceView B → DeviceView B → Option (List ℕ) → Option (List ℕ) → Result Bool E → Type 0
+Turning side old_device new_device old new result =
+    Turned old_device.info (Rests side old_device) old_device.is_ready (Rests side new_device) new_device.is_ready old new result

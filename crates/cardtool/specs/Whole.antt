@@ -1,18 +1,23 @@
 -- The whole: a script that is served, the text of its answers, the trace behind it, and the status.
-use Rattle.std.specs.Prelude.{◌≡◌, ℕ, ◌≤◌, List, [], ◌∷◌, ◌++◌, codes, length, Bool, false, Option, None, Some, Result, Ok, Err, if◌then◌else◌}
+use Rattle.std.specs.Prelude.{◌≡◌, ◌⊎◌, ◌<◌, ℕ, IfSome, List, [], ◌∷◌, ◌++◌, codes, length, Bool, false, Option, None, Some, Result, Ok, Err, if◌then◌else◌, ⊤}
 use Rattle.std.specs.Fmt.{decimal}
 use Rattle.std.specs.Io.KnownBytes.{Appends}
 use Rattle.text_out.specs.Writing.{AppendsFront}
 use Rattle.mmc_bus.specs.declared.bus.Exchange.{Exchange}
 use Rattle.mmc_bus.specs.ExchangeText.{lines_text}
+use Rattle.mmc_bus.specs.Card.{holds}
+use Rattle.mmc_bus.specs.PlainCard.{new_plain_card}
 use Rattle.mmc_bus.specs.Sectors.{Sets, Within}
 use Rattle.mmc_block.specs.declared.info.Info.{Info}
 use Rattle.mmc_block.specs.Device.{opened}
 use Rattle.mmc_block.specs.Machine.{Machine}
 use Rattle.cardtool.specs.declared.event.Event.{Event}
 use Rattle.cardtool.specs.declared.fault.ServeFault.{ServeFault}
-use Rattle.cardtool.specs.declared.fault.ServeFault.TheVariants.{NoMemory, Write}
-use Rattle.cardtool.specs.Serving.{Serves, Told, any_bad, texts}
+use Rattle.cardtool.specs.declared.fault.ServeFault.TheVariants.{CardIncomplete, CardLine, NoMemory, ReadCard, ReadScript, ScriptLine, TooLong, Write}
+use Rattle.cardtool.specs.declared.event.Event.TheVariants.{Run}
+use Rattle.cardtool.specs.CardFile.{IsFirstBadCardLine, sectors_in}
+use Rattle.cardtool.specs.Script.{IsFirstBad, Say, lines}
+use Rattle.cardtool.specs.Serving.{Serves, Told, any_bad, any_failure, texts}
 
 -- what a device knows of a card of this size that it opens
 abbrev pub plain_info : ℕ → Info
@@ -35,26 +40,74 @@ trace_line count = codes "trace " ++ (decimal count ++ (10 ∷ []))
 abbrev pub trace_text : List Exchange → List ℕ
 trace_text exchanges = trace_line (length exchanges) ++ lines_text exchanges
 
--- What stands behind the answers: with a trace of n the text of at most n exchanges, but nothing while events are left.
+-- What stands behind the answers: with a trace the text of exchanges, but nothing while events are left.
 abbrev pub IsTraceBehind : Option ℕ → List Event → List ℕ → Type 0
 IsTraceBehind None left text = text ≡ []
 IsTraceBehind (Some n) (event ∷ left) text = text ≡ []
-IsTraceBehind (Some n) [] text = (exchanges : List Exchange) × (length exchanges ≤ n) × (text ≡ trace_text exchanges)
+IsTraceBehind (Some n) [] text = (exchanges : List Exchange) × (text ≡ trace_text exchanges)
 
--- Over sectors that held `before` and then `later`: the events were served from a machine that is opened on the first,
--- their text went out with the trace behind it, the status tells what they were answered, and the last machine may hold
--- the others. Where memory was refused nothing was served or printed. After a write fault a front of the events was
--- served, and a front of what is printed of them went out.
-abbrev pub IsServed : Info → Sets → Sets → List Event → Option ℕ → Option (List ℕ) → Option (List ℕ) → Result ℕ ServeFault → Type 0
-IsServed info before later events trace old new (Ok status) =
+-- Over sectors that held `before` and then `later`, while so many faults fell: the events were served from a machine that is
+-- opened on the first, their text went out with the trace behind it, the status tells what they were answered, without a
+-- fault none failed, and the last machine may hold the others. Where memory was refused nothing was served or printed. After
+-- a write fault a front of the events was served, and a front of what is printed of them went out.
+abbrev pub IsServed : Info → Sets → Sets → ℕ → List Event → Option ℕ → Option (List ℕ) → Option (List ℕ) → Result ℕ ServeFault → Type 0
+IsServed info before later fell events trace old new (Ok status) =
     (ts : List Told) × (n : Machine) × (behind : List ℕ) × Within later n.sets × Serves info (opened before) events ts n []
     × IsTraceBehind trace [] behind × Appends old new (texts events ts ++ behind) × (status ≡ status_of (any_bad ts))
-IsServed info before later events trace old new (Err NoMemory) = (later ≡ before) × (new ≡ old)
-IsServed info before later events trace old new (Err Write) =
+    × (fell ≡ 0 → any_failure ts ≡ false)
+IsServed info before later fell events trace old new (Err NoMemory) = (later ≡ before) × (new ≡ old)
+IsServed info before later fell events trace old new (Err Write) =
     (ts : List Told) × (n : Machine) × (left : List Event) × (behind : List ℕ) × Within later n.sets × Serves info (opened before) events ts n left
     × IsTraceBehind trace left behind × AppendsFront old new (texts events ts ++ behind)
-IsServed info before later events trace old new (Err fault) = ⊥
+IsServed info before later fell events trace old new (Err fault) = ⊥
 
 -- nothing went out, unless the writer failed
 abbrev pub IsUnwritten : Option (List ℕ) → Option (List ℕ) → ServeFault → Type 0
 IsUnwritten old new fault = (fault ≡ Write → ⊥) → new ≡ old
+
+-- The files: why they weren't read, or what they say.
+
+-- a file that is longer than it may be, as far as its reader tells
+abbrev pub IsLonger : Option (List ℕ) → ℕ → Type 0
+IsLonger file limit = IfSome file (λ all. limit < length all)
+
+-- what a fault says of a file that wasn't read
+abbrev pub IsUnread : Option (List ℕ) → ℕ → ServeFault → Type 0
+IsUnread file limit ReadCard = ⊤
+IsUnread file limit ReadScript = ⊤
+IsUnread file limit NoMemory = ⊤
+IsUnread file limit TooLong = IsLonger file limit
+IsUnread file limit fault = ⊥
+
+-- what a fault says of the card file and the script, where they were refused or memory was
+abbrev pub IsRefused : Option (List ℕ) → Option (List ℕ) → ServeFault → Type 0
+IsRefused card script ReadCard = ⊤
+IsRefused card script ReadScript = ⊤
+IsRefused card script NoMemory = ⊤
+IsRefused card script TooLong = IsLonger card 65536 ⊎ IsLonger script 1048576
+IsRefused card script (CardLine n) = IfSome card (λ all. IsFirstBadCardLine (lines all) n)
+IsRefused card script CardIncomplete = IfSome card (λ all. sectors_in (lines all) ≡ Some [])
+IsRefused card script (ScriptLine n) = IfSome script (λ all. IsFirstBad (lines all) n)
+IsRefused card script Write = ⊥
+
+-- The card file's text gives so many sectors, and the script's text these events; they are the files' texts, as far as the
+-- readers tell.
+pub record AreRead (card script : Option (List ℕ)) (sectors : ℕ) (events : List Event) : Type 0 where
+  pub card_text : List ℕ
+  pub script_text : List ℕ
+  pub card_file : IfSome card (λ all. card_text ≡ all)
+  pub script_file : IfSome script (λ all. script_text ≡ all)
+  pub sectors_are : sectors_in (lines card_text) ≡ Some (sectors ∷ [])
+  pub events_are : Say (lines script_text) events
+
+-- the files were read, and the events were served on a new plain card, without a fault
+abbrev pub IsServedAlone : Option (List ℕ) → Option (List ℕ) → Option ℕ → Option (List ℕ) → Option (List ℕ) → Result ℕ ServeFault → Type 0
+IsServedAlone card script trace old new result =
+    (sectors : ℕ) × (events : List Event) × (later : Sets) × AreRead card script sectors events
+    × IsServed (plain_info sectors) (holds (new_plain_card sectors)) later 0 (events ++ Run ∷ []) trace old new result
+
+-- So with an exit status, or a write fault; with any other fault nothing was written.
+abbrev pub IsWhole : Option (List ℕ) → Option (List ℕ) → Option ℕ → Option (List ℕ) → Option (List ℕ) → Result ℕ ServeFault → Type 0
+IsWhole card script trace old new (Ok status) = IsServedAlone card script trace old new (Ok status)
+IsWhole card script trace old new (Err Write) = IsServedAlone card script trace old new (Err Write)
+IsWhole card script trace old new (Err fault) = (new ≡ old) × IsRefused card script fault

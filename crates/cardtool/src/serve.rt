@@ -1,17 +1,17 @@
 // Serves a script on a card, and prints what becomes of its requests.
-ghost use Rattle.std.specs.Prelude.{◌<◌, ◌-◌, ◌≡◌, ◌≤◌, ◌++◌, ◌∷◌, ℕ, IfErr, IfOk, List, None, Option, Some, [], drop, length, true};
+ghost use Rattle.std.specs.Prelude.{◌<◌, ◌-◌, ◌≡◌, ◌≤◌, ◌++◌, ◌∷◌, ℕ, IfErr, IfOk, IfSome, List, None, Option, Some, [], length, true};
 ghost use Rattle.std.specs.Option.{ForSome};
 ghost use Rattle.text_out.specs.Writing.{Writes};
 ghost use Rattle.mmc_block.specs.declared.info.Info.{Info};
 ghost use Rattle.mmc_block.specs.Place.{IsReady};
 ghost use Rattle.mmc_bus.specs.Card.{holds};
-ghost use Rattle.mmc_bus.specs.ExchangeText.{lines_text};
+ghost use Rattle.mmc_bus.specs.PlainCard.{new_plain_card};
 ghost use Rattle.mmc_bus.specs.PlainSide.{plain_side};
 ghost use Rattle.mmc_bus.specs.Sectors.{Sets};
 ghost use Rattle.cardtool.specs.declared.event.Event.{Event};
 ghost use Rattle.cardtool.specs.declared.event.Event.TheVariants.{Run, Submit};
-ghost use Rattle.cardtool.specs.Serving.{Plays, Rests, Turned, answered};
-ghost use Rattle.cardtool.specs.Whole.{IsServed, IsUnwritten, outcome_of, plain_info, trace_text};
+ghost use Rattle.cardtool.specs.Serving.{Carries, Plays, Turning, answered};
+ghost use Rattle.cardtool.specs.Whole.{AreRead, IsRefused, IsServed, IsUnread, IsUnwritten, IsWhole, outcome_of, plain_info, trace_text};
 
 use crate::card_file::read_card;
 use crate::event::Event;
@@ -50,9 +50,8 @@ fn answer(printed: io::Result<()>, bad: bool) -> io::Result<bool>
 // failed or was refused.
 fn turn<B: Bus, W: Write>(device: &mut BlockDev<B>, out: &mut W) -> io::Result<bool>
     ensures turned { (B.side device.new.bus).is_kept ≡ true
-        → Turned device.old.info (Rests B.side device.old) (Rests B.side device.new) (W.contents out.old) (W.contents out.new) result }
-    ensures kept { (B.side device.new.bus).is_kept ≡ true → (B.side device.old.bus).is_kept ≡ true }
-    ensures info { device.new.info ≡ device.old.info }
+        → Turning B.side device.old device.new (W.contents out.old) (W.contents out.new) result }
+    ensures carries { Carries B.side device.old device.new }
     ensures falls { 0 < length device.old.waits → length device.new.waits < length device.old.waits }
 {
     let completions = device.turn();
@@ -63,9 +62,8 @@ fn turn<B: Bus, W: Write>(device: &mut BlockDev<B>, out: &mut W) -> io::Result<b
 // Turns until nothing waits.
 fn run<B: Bus, W: Write>(device: &mut BlockDev<B>, out: &mut W) -> io::Result<bool>
     ensures plays { (B.side device.new.bus).is_kept ≡ true
-        → Plays device.old.info (Rests B.side device.old) (Rests B.side device.new) (Run ∷ []) (W.contents out.old) (W.contents out.new) result }
-    ensures kept { (B.side device.new.bus).is_kept ≡ true → (B.side device.old.bus).is_kept ≡ true }
-    ensures info { device.new.info ≡ device.old.info }
+        → Plays B.side device.old device.new (Run ∷ []) (W.contents out.old) (W.contents out.new) result }
+    ensures carries { Carries B.side device.old device.new }
 {
     let mut bad = false;
     while device.waiting() > 0 {
@@ -83,9 +81,8 @@ fn submit<B: Bus, W: Write>(
     out: &mut W,
 ) -> io::Result<bool>
     ensures plays { (B.side device.new.bus).is_kept ≡ true
-        → Plays device.old.info (Rests B.side device.old) (Rests B.side device.new) (Submit client request ∷ []) (W.contents out.old) (W.contents out.new) result }
-    ensures kept { (B.side device.new.bus).is_kept ≡ true → (B.side device.old.bus).is_kept ≡ true }
-    ensures info { device.new.info ≡ device.old.info }
+        → Plays B.side device.old device.new (Submit client request ∷ []) (W.contents out.old) (W.contents out.new) result }
+    ensures carries { Carries B.side device.old device.new }
 {
     match device.submit(alloc, client, request) {
         Ok(ticket) => {
@@ -107,9 +104,8 @@ fn serve_event<B: Bus, W: Write>(
     out: &mut W,
 ) -> io::Result<bool>
     ensures plays { (B.side device.new.bus).is_kept ≡ true
-        → Plays device.old.info (Rests B.side device.old) (Rests B.side device.new) (event ∷ []) (W.contents out.old) (W.contents out.new) result }
-    ensures kept { (B.side device.new.bus).is_kept ≡ true → (B.side device.old.bus).is_kept ≡ true }
-    ensures info { device.new.info ≡ device.old.info }
+        → Plays B.side device.old device.new (event ∷ []) (W.contents out.old) (W.contents out.new) result }
+    ensures carries { Carries B.side device.old device.new }
 {
     match event {
         Event::Submit { client, request } => submit(alloc, device, client, request, out),
@@ -126,9 +122,8 @@ fn serve_events<B: Bus, W: Write>(
     out: &mut W,
 ) -> io::Result<bool>
     ensures plays { (B.side device.new.bus).is_kept ≡ true
-        → Plays device.old.info (Rests B.side device.old) (Rests B.side device.new) (script ++ Run ∷ []) (W.contents out.old) (W.contents out.new) result }
-    ensures kept { (B.side device.new.bus).is_kept ≡ true → (B.side device.old.bus).is_kept ≡ true }
-    ensures info { device.new.info ≡ device.old.info }
+        → Plays B.side device.old device.new (script ++ Run ∷ []) (W.contents out.old) (W.contents out.new) result }
+    ensures carries { Carries B.side device.old device.new }
 {
     let mut script = script;
     let mut bad = false;
@@ -161,7 +156,7 @@ fn serve_untraced<B: Bus + Drop, W: Write>(
     requires few { sectors ≤ 65536 }
     requires ready { (B.side bus).is_kept ≡ true → IsReady sectors (B.side bus) }
     ensures served { (B.side result.0).is_kept ≡ true
-        → IsServed (plain_info sectors) (holds (B.side bus).card) (holds (B.side result.0).card) (script ++ Run ∷ []) None (W.contents out.old) (W.contents out.new) result.1 }
+        → IsServed (plain_info sectors) (holds (B.side bus).card) (holds (B.side result.0).card) ((B.side result.0).faults - (B.side bus).faults) (script ++ Run ∷ []) None (W.contents out.old) (W.contents out.new) result.1 }
     ensures unwritten { IfErr result.1 (λ fault. IsUnwritten (W.contents out.old) (W.contents out.new) fault) }
 {
     let mut device = match BlockDev::open_plain(alloc, bus, sectors) {
@@ -173,49 +168,35 @@ fn serve_untraced<B: Bus + Drop, W: Write>(
     (bus, outcome(served))
 }
 
-// Writes a line for each exchange that is kept, from the place `first` on.
-fn put_lines<B: Bus, W: Write>(bus: &TraceBus<B>, first: usize, out: &mut W) -> io::Result<()>
-    ensures { Writes (W.contents out.old) (W.contents out.new) result (lines_text (drop first bus.now.exchanges)) }
+// Writes `trace K` and a line for each of the K exchanges that are kept.
+fn put_trace<B: Bus, W: Write>(bus: &TraceBus<B>, out: &mut W) -> io::Result<()>
+    ensures { Writes (W.contents out.old) (W.contents out.new) result (trace_text bus.now.exchanges) }
 {
-    for i in first..bus.len() {
-        let exchange = bus.exchange(i).unwrap();
-        exchange.write_line(out)?;
-    }
-    Ok(())
-}
-
-// Writes `trace K` and a line for each of the last K exchanges, K at most `n`. A trace that was made for `n` keeps no
-// more; but the calls of a bus don't say that its room stays, so the last `n` are taken here.
-fn put_trace<B: Bus, W: Write>(bus: &TraceBus<B>, n: u32, out: &mut W) -> io::Result<()>
-    ensures { Writes (W.contents out.old) (W.contents out.new) result (trace_text (drop (length bus.now.exchanges - n) bus.now.exchanges)) }
-{
-    let first = bus.len().saturating_sub(n as usize);
     put_pieces(
         out,
         &[
             Piece::Text(b"trace "),
-            Piece::Number((bus.len() - first) as u64),
+            Piece::Number(bus.len() as u64),
             Piece::Text(b"\n"),
         ],
     )?;
-    put_lines(bus, first, out)
+    bus.write_lines(out)
 }
 
 // The trace behind what was served without it.
 fn end_with_trace<B: Bus, W: Write>(
     bus: &TraceBus<B>,
-    n: u32,
     served: Result<u8, ServeFault>,
     out: &mut W,
 ) -> Result<u8, ServeFault>
-    ensures served { (info : Info) → (before later : Sets) → (events : List Event) → (start : Option (List ℕ))
-        → IsServed info before later events None start (W.contents out.old) served
-        → IsServed info before later events (Some n) start (W.contents out.new) result }
+    ensures served { (info : Info) → (before later : Sets) → (fell n : ℕ) → (events : List Event) → (start : Option (List ℕ))
+        → IsServed info before later fell events None start (W.contents out.old) served
+        → IsServed info before later fell events (Some n) start (W.contents out.new) result }
     ensures unwritten { (start : Option (List ℕ)) → IfErr served (λ fault. IsUnwritten start (W.contents out.old) fault)
         → IfErr result (λ fault. IsUnwritten start (W.contents out.new) fault) }
 {
     let status = served?;
-    match put_trace(bus, n, out) {
+    match put_trace(bus, out) {
         Ok(()) => Ok(status),
         Err(_) => Err(ServeFault::Write),
     }
@@ -236,7 +217,7 @@ fn serve_traced<B: Bus + Drop, W: Write>(
     requires one { 1 ≤ n }
     requires many { n ≤ 65536 }
     ensures served { (B.side result.0).is_kept ≡ true
-        → IsServed (plain_info sectors) (holds (B.side bus).card) (holds (B.side result.0).card) (script ++ Run ∷ []) (Some n) (W.contents out.old) (W.contents out.new) result.1 }
+        → IsServed (plain_info sectors) (holds (B.side bus).card) (holds (B.side result.0).card) ((B.side result.0).faults - (B.side bus).faults) (script ++ Run ∷ []) (Some n) (W.contents out.old) (W.contents out.new) result.1 }
     ensures unwritten { IfErr result.1 (λ fault. IsUnwritten (W.contents out.old) (W.contents out.new) fault) }
 {
     let bus = match TraceBus::new(alloc, bus, n as usize) {
@@ -244,7 +225,7 @@ fn serve_traced<B: Bus + Drop, W: Write>(
         Err((bus, _)) => return (bus, Err(ServeFault::NoMemory)),
     };
     let (bus, served) = serve_untraced(alloc, bus, sectors, script, out);
-    let ended = end_with_trace(&bus, n, served, out);
+    let ended = end_with_trace(&bus, served, out);
     (bus.into_inner(), ended)
 }
 
@@ -269,7 +250,7 @@ pub fn serve_on<B: Bus + Drop, W: Write>(
     requires bounded { ForSome trace (λ n. (1 ≤ n) × (n ≤ 65536)) }
     // Over a bus that is kept to the end: a run of the sector machine, its text, and the trace behind it.
     ensures served { (B.side result.0).is_kept ≡ true
-        → IsServed (plain_info sectors) (holds (B.side bus).card) (holds (B.side result.0).card) (script ++ Run ∷ []) trace (W.contents out.old) (W.contents out.new) result.1 }
+        → IsServed (plain_info sectors) (holds (B.side bus).card) (holds (B.side result.0).card) ((B.side result.0).faults - (B.side bus).faults) (script ++ Run ∷ []) trace (W.contents out.old) (W.contents out.new) result.1 }
     // Over any bus.
     ensures unwritten { IfErr result.1 (λ fault. IsUnwritten (W.contents out.old) (W.contents out.new) fault) }
 {
@@ -279,11 +260,13 @@ pub fn serve_on<B: Bus + Drop, W: Write>(
     }
 }
 
-// A card of this many sectors, that is ready for a transfer.
+// A new card of this many sectors.
 fn new_card(alloc: Global, sectors: u64) -> Result<PlainCard, ServeFault>
     requires some { 1 ≤ sectors }
     requires few { sectors ≤ 65536 }
-    ensures { IfOk result (λ card. IsReady sectors (plain_side card)) }
+    ensures card { IfOk result (λ plain. plain.card ≡ new_plain_card sectors) }
+    ensures ready { IfOk result (λ plain. IsReady sectors (plain_side plain)) }
+    ensures err { IfErr result (λ fault. fault ≡ ServeFault.NoMemory) }
 {
     a_new_plain_card_is_ready();
     match PlainCard::new(alloc, sectors as usize) {
@@ -298,13 +281,34 @@ fn whole<R: Read>(
     reader: &mut R,
     limit: usize,
     unread: ServeFault,
-) -> Result<Vec<u8>, ServeFault> {
+) -> Result<Vec<u8>, ServeFault>
+    requires { IsUnread (R.remaining reader.old) limit unread }
+    ensures ok { IfOk result (λ bytes. IfSome (R.remaining reader.old) (λ all. bytes.items ≡ all)) }
+    ensures err { IfErr result (λ fault. IsUnread (R.remaining reader.old) limit fault) }
+{
     match read_bounded(alloc, reader, limit) {
         Ok(bytes) => Ok(bytes),
         Err(ReadFault::Reader) => Err(unread),
         Err(ReadFault::TooLong) => Err(ServeFault::TooLong),
         Err(ReadFault::NoMemory) => Err(ServeFault::NoMemory),
     }
+}
+
+// The sectors of a card file, and the events of a script.
+fn read_files<C: Read, S: Read>(
+    alloc: Global,
+    card: &mut C,
+    script: &mut S,
+) -> Result<(u64, Script), ServeFault>
+    ensures range { IfOk result (λ read. (1 ≤ read.0) × (read.0 ≤ 65536)) }
+    ensures ok { IfOk result (λ read. AreRead (C.remaining card.old) (S.remaining script.old) read.0 read.1) }
+    ensures err { IfErr result (λ fault. IsRefused (C.remaining card.old) (S.remaining script.old) fault) }
+{
+    let card_file = whole(alloc, card, MAX_CARD_FILE, ServeFault::ReadCard)?;
+    let sectors = read_card(card_file.as_slice())?;
+    let text = whole(alloc, script, MAX_SCRIPT, ServeFault::ReadScript)?;
+    let script = read_script(alloc, text.as_slice())?;
+    Ok((sectors, script))
 }
 
 /// Serves a script on the card of a card file, with a line for each answer, and gives the exit status: 0 where every
@@ -323,12 +327,9 @@ pub fn serve<C: Read, S: Read, W: Write>(
     out: &mut W,
 ) -> Result<u8, ServeFault>
     requires { ForSome trace (λ n. (1 ≤ n) × (n ≤ 65536)) }
-    ensures { IfErr result (λ fault. IsUnwritten (W.contents out.old) (W.contents out.new) fault) }
+    ensures { IsWhole (C.remaining card.old) (S.remaining script.old) trace (W.contents out.old) (W.contents out.new) result }
 {
-    let card_file = whole(alloc, card, MAX_CARD_FILE, ServeFault::ReadCard)?;
-    let sectors = read_card(card_file.as_slice())?;
-    let text = whole(alloc, script, MAX_SCRIPT, ServeFault::ReadScript)?;
-    let script = read_script(alloc, text.as_slice())?;
+    let (sectors, script) = read_files(alloc, card, script)?;
     let card = new_card(alloc, sectors)?;
     serve_on(alloc, card, sectors, script, trace, out).1
 }
