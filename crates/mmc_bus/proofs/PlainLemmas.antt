@@ -1,14 +1,15 @@
 -- What a plain card keeps true of its fields, and what it does with a block.
-use Rattle.std.proofs.Common.{◌&&◌, ◌+◌, ◌==◌, ◌≡◌, ◌≤◌, ◌∙◌, Bool, None, Some, ap, arith, false, length, refl, true, ℕ}
+use Rattle.std.proofs.Common.{◌&&◌, ◌+◌, ◌==◌, ◌≡◌, ◌≤◌, ◌∙◌, Bool, None, Some, ap, arith, false, length, refl, sym, true, ℕ}
 use Rattle.std.specs.Int.Bits.{or_zero_r}
 use Rattle.std.specs.Prelude.{Option, bit_or, if◌then◌else◌}
 use Rattle.std.proofs.lemmas.Nat.{le_or_l}
 use Rattle.mmc_frame.specs.declared.card_state.State.TheVariants.{Data, Tran}
+use Rattle.mmc_bus.specs.declared.bus.DataIn.TheVariants.{Good, Nothing}
 use Rattle.mmc_bus.specs.declared.bus.Lines.{Lines}
 use Rattle.mmc_bus.specs.Answer.{out_of_range}
-use Rattle.mmc_bus.specs.Blocks.{asked_for, block_to_send, can_send, end_errors, is_last, is_none, is_of_length, lines_fit, next_block, one_less, sent, sent_from}
+use Rattle.mmc_bus.specs.Blocks.{block_to_send, can_send, end_errors, is_last, is_none, is_of_length, lines_fit, next_block, one_less, sent, sent_from}
 use Rattle.mmc_bus.specs.Card.{AreAmong, Card, FromSectors, complaint_bits, error_bits, is_in, stored}
-use Rattle.mmc_bus.specs.PlainCard.{calm}
+use Rattle.mmc_bus.specs.PlainCard.{Sends, calm}
 use Rattle.mmc_bus.specs.Sectors.{Sector}
 
 pub complaints_few : (c : ℕ) → AreAmong c complaint_bits → c ≤ 1536
@@ -41,10 +42,15 @@ same_size : (m n : ℕ) → m ≡ n → (m == n) ≡ true
 same_size m n h = grind arith
 
 -- a sector that a calm card has to send, asked for by its length
-pub asked_sector : (lines : Lines) (size : ℕ) (card : Card) (block : Sector) → (is_in card.state Data && lines_fit lines card) ≡ true
-    → card.source ≡ FromSectors → block_to_send FromSectors card ≡ Some block → length block ≡ size → asked_for calm lines size card ≡ after_sector card
-asked_sector lines size card block ready source next fits =
+pub sends_sector : (lines : Lines) (size : ℕ) (card : Card) (block buffer : Sector) → (is_in card.state Data && lines_fit lines card) ≡ true
+    → card.source ≡ FromSectors → block_to_send FromSectors card ≡ Some block → length block ≡ size → buffer ≡ block → Sends lines card (after_sector card) size Good buffer
+sends_sector lines size card block buffer ready source next fits same =
     let comes : next_block card ≡ Some block = ap (λ s. block_to_send s card) source ∙ next in
     let can : can_send lines size card ≡ true =
     can_by (is_in card.state Data) (lines_fit lines card) _ ready (ap (is_of_length size) comes ∙ same_size (length block) size fits) in
-    ap (λ b. if b then sent calm card else card) can ∙ ap (λ s. sent_from s calm card) source ∙ calm_sent card
+    record {
+      len = ap length same ∙ fits;
+      card = sym (ap (λ b. if b then sent calm card else card) can ∙ ap (λ s. sent_from s calm card) source ∙ calm_sent card);
+      got_is = ap (λ b. if b then Good else Nothing) (sym can);
+      block_is = λ good. comes ∙ ap Some (sym same);
+    }

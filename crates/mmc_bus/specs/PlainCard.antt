@@ -1,5 +1,5 @@
 -- The card that a plain card is: an SD card of standard capacity, with byte addresses and one erase unit a sector.
-use Rattle.std.specs.Prelude.{◌∷◌, ◌≡◌, Bool, [], false, if◌then◌else◌, replicate, true, ℕ}
+use Rattle.std.specs.Prelude.{◌∷◌, ◌≡◌, Bool, List, Some, [], false, if◌then◌else◌, length, replicate, true, ℕ}
 use Rattle.mmc_frame.specs.declared.card_state.State.TheVariants.{Tran}
 use Rattle.mmc_frame.specs.declared.kind.Kind.TheVariants as Kind
 use Rattle.mmc_bus.specs.declared.bus.Reply.{Reply}
@@ -8,7 +8,11 @@ use Rattle.mmc_bus.specs.declared.chip.Addresses.{Addresses}
 use Rattle.mmc_bus.specs.declared.chip.Addresses.TheVariants as Is
 use Rattle.mmc_bus.specs.declared.chip.Chip.{Chip}
 use Rattle.mmc_bus.specs.declared.part.Part.TheVariants as Part
+use Rattle.mmc_bus.specs.declared.bus.DataIn.{DataIn}
+use Rattle.mmc_bus.specs.declared.bus.DataIn.TheVariants as Received
+use Rattle.mmc_bus.specs.declared.bus.Lines.{Lines}
 use Rattle.mmc_bus.specs.Answer.{Answer, Choice}
+use Rattle.mmc_bus.specs.Blocks.{asked_for, can_send, next_block}
 use Rattle.mmc_bus.specs.Card.{Both, Card, First, FromBytes, FromSectors, Held, NoAddress, Source, powered_on}
 use Rattle.mmc_bus.specs.Faults.{Spells}
 use Rattle.mmc_bus.specs.Made.{Made}
@@ -83,3 +87,10 @@ calm = record { is_slow = false; lands = λ i. true; says_end = false; keeps_cou
 -- the chip is the card after a step, and the reply is its answer
 abbrev pub Answers : Card × Answer → Chip → Reply → Type 0
 Answers step chip reply = (card_of chip ≡ step.0) × Spells step.1 reply
+
+-- A block that a calm card was asked for: it sends what it has, if the lines and the length fit.
+pub record Sends (lines : Lines) (old new : Card) (size : ℕ) (got : DataIn) (block : List ℕ) : Type 0 where
+  pub len : length block ≡ size
+  pub card : new ≡ asked_for calm lines size old
+  pub got_is : got ≡ (if can_send lines size old then Received.Good else Received.Nothing)
+  pub block_is : got ≡ Received.Good → next_block old ≡ Some block

@@ -47,7 +47,7 @@ impl Chip {
     ghost use Rattle.std.specs.Prelude.{Some};
     ghost use Rattle.mmc_bus.specs.Blocks.{asked_for, block_to_send, can_send, can_take, lines_fit, next_block, offered, rested};
     ghost use Rattle.mmc_bus.specs.Card.{FromSectors};
-    ghost use Rattle.mmc_bus.specs.PlainCard.{calm, card_of};
+    ghost use Rattle.mmc_bus.specs.PlainCard.{Sends, calm, card_of};
 
     // Whether these are the card's lines.
     fn fits(&self, lines: Lines) -> bool
@@ -61,10 +61,7 @@ impl Chip {
     fn send_register(&mut self, lines: Lines, buffer: &mut [u8]) -> DataIn
         requires source { self.old.sends_scr ≡ true }
         requires ready { (is_in self.old.state Data && lines_fit lines (card_of self.old)) ≡ true }
-        ensures len { length buffer.new ≡ length buffer.old }
-        ensures card { card_of self.new ≡ asked_for calm lines (length buffer.old) (card_of self.old) }
-        ensures got { result ≡ (if can_send lines (length buffer.old) (card_of self.old) then DataIn.Good else DataIn.Nothing) }
-        ensures block { result ≡ DataIn.Good → next_block (card_of self.old) ≡ Some buffer.new }
+        ensures { Sends lines (card_of self.old) (card_of self.new) (length buffer.old) result buffer.new }
     {
         let _ = lines;
         if buffer.len() != SCR.len() {
@@ -87,10 +84,7 @@ impl Chip {
     fn send_sector(&mut self, lines: Lines, buffer: &mut [u8]) -> DataIn
         requires source { self.old.sends_scr ≡ false }
         requires ready { (is_in self.old.state Data && lines_fit lines (card_of self.old)) ≡ true }
-        ensures len { length buffer.new ≡ length buffer.old }
-        ensures card { card_of self.new ≡ asked_for calm lines (length buffer.old) (card_of self.old) }
-        ensures got { result ≡ (if can_send lines (length buffer.old) (card_of self.old) then DataIn.Good else DataIn.Nothing) }
-        ensures block { result ≡ DataIn.Good → next_block (card_of self.old) ≡ Some buffer.new }
+        ensures { Sends lines (card_of self.old) (card_of self.new) (length buffer.old) result buffer.new }
     {
         let _ = lines;
         let Some(block) = self.next_sector() else {
@@ -108,10 +102,7 @@ impl Chip {
 
     /// Sends the block that was asked for, if one was, the lines of the host are the card's, and the buffer has its length.
     pub fn send(&mut self, lines: Lines, buffer: &mut [u8]) -> DataIn
-        ensures len { length buffer.new ≡ length buffer.old }
-        ensures card { card_of self.new ≡ asked_for calm lines (length buffer.old) (card_of self.old) }
-        ensures got { result ≡ (if can_send lines (length buffer.old) (card_of self.old) then DataIn.Good else DataIn.Nothing) }
-        ensures block { result ≡ DataIn.Good → next_block (card_of self.old) ≡ Some buffer.new }
+        ensures { Sends lines (card_of self.old) (card_of self.new) (length buffer.old) result buffer.new }
     {
         if !self.is_in(State::Data) || !self.fits(lines) {
             return DataIn::Nothing;

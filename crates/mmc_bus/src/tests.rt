@@ -1,3 +1,5 @@
+ghost use Rattle.std.specs.Prelude.{◌<◌};
+
 use crate::*;
 use mmc_frame::commands::{
     APP_CMD, ERASE, READ_MULTIPLE_BLOCK, READ_SINGLE_BLOCK, SD_SEND_OP_COND, SELECT_CARD,
@@ -113,7 +115,9 @@ fn shows_errors_once(rt: HostRuntime) -> Result<(), Fail> {
 }
 
 // An R1 with this status.
-fn r1(index: u8, status: u32) -> Reply {
+fn r1(index: u8, status: u32) -> Reply
+    requires { index < 64 }
+{
     Reply::Short(mmc_frame::encode_response(index, status))
 }
 
@@ -149,7 +153,7 @@ fn is_identified_again(rt: HostRuntime) -> Result<(), Fail> {
     Ok(())
 }
 
-// A write, a read and an erase of two sectors.
+// A write and a read of two sectors.
 #[test]
 fn moves_several_blocks(rt: HostRuntime) -> Result<(), Fail> {
     let mut card = PlainCard::new(rt.alloc(), 4).ok().ok_or("no card")?;
@@ -173,14 +177,25 @@ fn moves_several_blocks(rt: HostRuntime) -> Result<(), Fail> {
     }
     let stopped = card.command(encode(STOP_TRANSMISSION, 0), Want::Short);
     assert_eq!(rt; stopped, r1(STOP_TRANSMISSION, 0x0000_0b00), "data");
+    Ok(())
+}
 
-    for (index, argument) in [(32, 512), (33, 1024), (ERASE, 0)] {
-        let reply = card.command(encode(index, argument), Want::Short);
-        assert_eq!(rt; reply, r1(index, 0x0000_0900), "CMD{index}");
-    }
+// A sector is written, and erased with its neighbour.
+#[test]
+fn erases_sectors(rt: HostRuntime) -> Result<(), Fail> {
+    let mut card = PlainCard::new(rt.alloc(), 4).ok().ok_or("no card")?;
+    card.command(encode(WRITE_BLOCK, 512), Want::Short);
+    assert_eq!(rt; card.write_data(&[0x5a; 512]), DataOut::Accepted);
     assert!(rt; !card.busy());
-    let begun = card.command(encode(READ_SINGLE_BLOCK, 1024), Want::Short);
-    assert_eq!(rt; begun, r1(READ_SINGLE_BLOCK, 0x0000_0900), "tran");
+    let first = card.command(encode(32, 512), Want::Short);
+    assert_eq!(rt; first, r1(32, 0x0000_0900), "tran");
+    let last = card.command(encode(33, 1024), Want::Short);
+    assert_eq!(rt; last, r1(33, 0x0000_0900), "tran");
+    let erased = card.command(encode(ERASE, 0), Want::Short);
+    assert_eq!(rt; erased, r1(ERASE, 0x0000_0900), "tran");
+    assert!(rt; !card.busy());
+    card.command(encode(READ_SINGLE_BLOCK, 512), Want::Short);
+    let mut block = [0xff; 512];
     assert_eq!(rt; card.read_data(&mut block), DataIn::Good);
     assert!(rt; block == [0; 512]);
     Ok(())
