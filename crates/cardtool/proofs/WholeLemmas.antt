@@ -1,6 +1,6 @@
 -- The whole: a script that was served from the machine that a device opens, and the trace behind it.
-use Rattle.std.proofs.Common.{◌&&◌, ◌≡◌, ◌-◌, ℕ, List, [], ◌∷◌, ◌++◌, Option, None, Some, Result, Ok, Err, Bool, false, true, sym, refl, ap, subst, arith, append-nil}
-use Rattle.std.specs.Prelude.{IfErr, IsErrAnd, not}
+use Rattle.std.proofs.Common.{◌&&◌, ◌≡◌, ◌-◌, ℕ, List, [], ◌∷◌, ◌++◌, Option, None, Some, Result, Ok, Err, Bool, false, true, inl, inr, sym, refl, ap, subst, arith, append-nil}
+use Rattle.std.specs.Prelude.{IfErr, IfSome, IsErrAnd, not}
 use Rattle.std.specs.Io.KnownBytes.{Appends}
 use Rattle.text_out.specs.Writing.{AppendsFront}
 use Rattle.text_out.proofs.WritingLemmas.{appends_more, front_after, front_before}
@@ -15,9 +15,11 @@ use Rattle.mmc_block.specs.Machine.{Machine}
 use Rattle.cardtool.specs.declared.event.Event.{Event}
 use Rattle.cardtool.specs.declared.event.Event.TheVariants.{Run}
 use Rattle.cardtool.specs.declared.fault.ServeFault.{ServeFault}
-use Rattle.cardtool.specs.declared.fault.ServeFault.TheVariants.{NoMemory, Write}
+use Rattle.cardtool.specs.declared.fault.ServeFault.TheVariants.{NoMemory, ReadCard, ReadScript, Write}
+use Rattle.cardtool.specs.CardFile.{sectors_in}
+use Rattle.cardtool.specs.Script.{lines}
 use Rattle.cardtool.specs.Serving.{Carries, Plays, Serves, any_failure, texts}
-use Rattle.cardtool.specs.Whole.{AreRead, IsServed, IsTraceBehind, IsUnwritten, IsWhole, outcome_of, plain_info, status_of, trace_text}
+use Rattle.cardtool.specs.Whole.{AreRead, HasSectors, IsRefused, IsServed, IsTraceBehind, IsUnread, IsUnwritten, IsWhole, outcome_of, plain_info, status_of, trace_text}
 
 -- a device that is ready after all answers has failed none
 none_failed : (failed was is : Bool) → was ≡ true → is ≡ true → is ≡ (was && not failed) → failed ≡ false
@@ -103,3 +105,24 @@ whole card script trace old new sectors events plain later (Err NoMemory) read s
 whole card script trace old new sectors events plain later (Err Write) read same served =
     (sectors, events, later, read, subst (λ (k : Card). IsServed (plain_info sectors) (holds k) later 0 (events ++ Run ∷ []) trace old new (Err Write)) same served)
 whole card script trace old new sectors events plain later (Err fault) read same served = absurd served
+
+-- Files that weren't read.
+
+-- what holds of a fault holds of one that is handed on
+pub err_is : {X : Type 0} (P : ServeFault → Type 0) (r : Result X ServeFault) (fault : ServeFault) → IsErrAnd r (λ e. e ≡ fault) → P fault → IfErr r P
+err_is P (Ok x) fault same h = tt
+err_is P (Err e) fault same h = subst P (sym same) h
+
+pub has_sectors : (card : Option (List ℕ)) (text : List ℕ) (sectors : ℕ) → IfSome card (λ all. text ≡ all) → sectors_in (lines text) ≡ Some (sectors ∷ []) → HasSectors card
+has_sectors None text sectors same h = tt
+has_sectors (Some all) text sectors same h = (sectors, subst (λ t. sectors_in (lines t) ≡ Some (sectors ∷ [])) same h)
+
+pub card_unread : (card script : Option (List ℕ)) (fault : ServeFault) → IsUnread card 65536 ReadCard fault → IsRefused card script fault
+card_unread card script fault (inl same) = subst (λ f. IsRefused card script f) (sym same) tt
+card_unread card script fault (inr (inl same)) = subst (λ f. IsRefused card script f) (sym same) tt
+card_unread card script fault (inr (inr (same, longer))) = subst (λ f. IsRefused card script f) (sym same) (inl longer)
+
+pub script_unread : (card script : Option (List ℕ)) (fault : ServeFault) → HasSectors card → IsUnread script 1048576 ReadScript fault → IsRefused card script fault
+script_unread card script fault has (inl same) = subst (λ f. IsRefused card script f) (sym same) has
+script_unread card script fault has (inr (inl same)) = subst (λ f. IsRefused card script f) (sym same) tt
+script_unread card script fault has (inr (inr (same, longer))) = subst (λ f. IsRefused card script f) (sym same) (inr (has, longer))

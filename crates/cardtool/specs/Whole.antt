@@ -71,23 +71,24 @@ IsUnwritten old new fault = (fault ≡ Write → ⊥) → new ≡ old
 abbrev pub IsLonger : Option (List ℕ) → ℕ → Type 0
 IsLonger file limit = IfSome file (λ all. limit < length all)
 
--- what a fault says of a file that wasn't read
-abbrev pub IsUnread : Option (List ℕ) → ℕ → ServeFault → Type 0
-IsUnread file limit ReadCard = ⊤
-IsUnread file limit ReadScript = ⊤
-IsUnread file limit NoMemory = ⊤
-IsUnread file limit TooLong = IsLonger file limit
-IsUnread file limit fault = ⊥
+-- a file wasn't read: its reader failed, which this fault says, or it is too long, or memory was refused
+abbrev pub IsUnread : Option (List ℕ) → ℕ → ServeFault → ServeFault → Type 0
+IsUnread file limit unread fault = (fault ≡ unread) ⊎ ((fault ≡ NoMemory) ⊎ ((fault ≡ TooLong) × IsLonger file limit))
 
--- what a fault says of the card file and the script, where they were refused or memory was
+-- the card file gives its sectors, as far as its reader tells
+abbrev pub HasSectors : Option (List ℕ) → Type 0
+HasSectors card = IfSome card (λ all. (sectors : ℕ) × (sectors_in (lines all) ≡ Some (sectors ∷ [])))
+
+-- What a fault says of the card file and the script, where they were refused or memory was. The card file comes first: a
+-- fault of the script comes only where it was taken.
 abbrev pub IsRefused : Option (List ℕ) → Option (List ℕ) → ServeFault → Type 0
 IsRefused card script ReadCard = ⊤
-IsRefused card script ReadScript = ⊤
+IsRefused card script ReadScript = HasSectors card
 IsRefused card script NoMemory = ⊤
-IsRefused card script TooLong = IsLonger card 65536 ⊎ IsLonger script 1048576
+IsRefused card script TooLong = IsLonger card 65536 ⊎ (HasSectors card × IsLonger script 1048576)
 IsRefused card script (CardLine n) = IfSome card (λ all. IsFirstBadCardLine (lines all) n)
 IsRefused card script CardIncomplete = IfSome card (λ all. sectors_in (lines all) ≡ Some [])
-IsRefused card script (ScriptLine n) = IfSome script (λ all. IsFirstBad (lines all) n)
+IsRefused card script (ScriptLine n) = HasSectors card × IfSome script (λ all. IsFirstBad (lines all) n)
 IsRefused card script Write = ⊥
 
 -- The card file's text gives so many sectors, and the script's text these events; they are the files' texts, as far as the

@@ -282,9 +282,8 @@ fn whole<R: Read>(
     limit: usize,
     unread: ServeFault,
 ) -> Result<Vec<u8>, ServeFault>
-    requires { IsUnread (R.remaining reader.old) limit unread }
     ensures ok { IfOk result (λ bytes. IfSome (R.remaining reader.old) (λ all. bytes.items ≡ all)) }
-    ensures err { IfErr result (λ fault. IsUnread (R.remaining reader.old) limit fault) }
+    ensures err { IfErr result (λ fault. IsUnread (R.remaining reader.old) limit unread fault) }
 {
     match read_bounded(alloc, reader, limit) {
         Ok(bytes) => Ok(bytes),
