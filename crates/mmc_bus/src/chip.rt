@@ -6,18 +6,12 @@ ghost use Rattle.mmc_bus.specs.Card.{AreAmong, complaint_bits, error_bits, is_in
 
 use crate::bus::{Reply, Width};
 use crate::command::{Command, command_of, is_addressed, leaves_erase};
+use crate::error_bits::{COM_CRC_ERROR, ERASE_RESET, ILLEGAL_COMMAND};
 use crate::memory::NoMemory;
 use crate::store::Store;
 use mmc_frame::commands::SEND_STATUS;
 use mmc_frame::{State, encode_response, read_command};
 use std::alloc::Global;
-
-// Error bits of the card status, in units of bit 13.
-const COM_CRC_ERROR: u32 = 0x400;
-
-const ILLEGAL_COMMAND: u32 = 0x200;
-
-const ERASE_RESET: u32 = 0x1;
 
 /// The addresses that an erase is to go by.
 #[derive(Clone, Copy, Debug)]

@@ -3,13 +3,9 @@ ghost use Rattle.std.specs.Prelude.{◌/◌, ◌<◌, ◌≡◌, ◌≤◌, leng
 
 use crate::bus::Reply;
 use crate::chip::{Addresses, Chip};
+use crate::error_bits::{ERASE_PARAM, ERASE_SEQ_ERROR};
 use mmc_frame::State;
 use mmc_frame::commands::ERASE;
-
-// Error bits of the card status, in units of bit 13.
-const ERASE_SEQ_ERROR: u32 = 0x8000;
-
-const ERASE_PARAM: u32 = 0x4000;
 
 impl Chip {
     ghost use Rattle.mmc_bus.specs.PlainCard.{Answers, card_of};

@@ -10,6 +10,7 @@ mod chip;
 mod command;
 pub mod erase_laws;
 mod erase_rows;
+mod error_bits;
 mod exchange_text;
 mod host;
 pub mod identify_laws;

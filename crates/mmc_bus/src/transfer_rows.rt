@@ -6,18 +6,12 @@ ghost use Rattle.mmc_bus.specs.Card.{AreAmong, error_bits, is_in};
 
 use crate::bus::{Reply, Width};
 use crate::chip::Chip;
+use crate::error_bits::{ADDRESS_ERROR, BLOCK_LEN_ERROR, OUT_OF_RANGE};
 use mmc_frame::State;
 use mmc_frame::commands::{
     READ_MULTIPLE_BLOCK, READ_SINGLE_BLOCK, SEND_SCR, SET_BLOCKLEN, SET_BUS_WIDTH,
     STOP_TRANSMISSION, WRITE_BLOCK, WRITE_MULTIPLE_BLOCK,
 };
-
-// Error bits of the card status, in units of bit 13.
-const OUT_OF_RANGE: u32 = 0x4_0000;
-
-const ADDRESS_ERROR: u32 = 0x2_0000;
-
-const BLOCK_LEN_ERROR: u32 = 0x1_0000;
 
 impl Chip {
     ghost use Rattle.std.specs.Prelude.{true};
