@@ -2,7 +2,7 @@
 use Rattle.std.proofs.Common.{◌&&◌, ◌≡◌, ◌-◌, ℕ, List, [], ◌∷◌, ◌++◌, Option, None, Some, Result, Ok, Err, Bool, false, true, inl, inr, sym, refl, ap, subst, arith, append-nil}
 use Rattle.std.specs.Prelude.{IfErr, IfSome, IsErrAnd, not}
 use Rattle.std.specs.Io.KnownBytes.{Appends}
-use Rattle.text_out.specs.Writing.{AppendsFront}
+use Rattle.text_out.specs.Writing.{AppendsFront, Writes}
 use Rattle.text_out.proofs.WritingLemmas.{appends_more, front_after, front_before}
 use Rattle.mmc_bus.specs.declared.bus.Exchange.{Exchange}
 use Rattle.mmc_bus.specs.Card.{Card, holds}
@@ -19,7 +19,7 @@ use Rattle.cardtool.specs.declared.fault.ServeFault.TheVariants.{NoMemory, ReadC
 use Rattle.cardtool.specs.CardFile.{sectors_in}
 use Rattle.cardtool.specs.Script.{lines}
 use Rattle.cardtool.specs.Serving.{Carries, Plays, Serves, any_failure, texts}
-use Rattle.cardtool.specs.Whole.{AreRead, HasSectors, IsRefused, IsServed, IsTraceBehind, IsUnread, IsUnwritten, IsWhole, outcome_of, plain_info, status_of, trace_text}
+use Rattle.cardtool.specs.Whole.{AreRead, HasSectors, IsRefused, IsServed, IsTraceBehind, IsUnread, IsUnwritten, IsWhole, ended_by, outcome_of, plain_info, status_of, trace_text}
 
 -- a device that is ready after all answers has failed none
 none_failed : (failed was is : Bool) → was ≡ true → is ≡ true → is ≡ (was && not failed) → failed ≡ false
@@ -58,21 +58,17 @@ pub unwritten : {E : Type 0} (old new : Option (List ℕ)) (r : Result Bool E) �
 unwritten old new (Ok bad) = tt
 unwritten old new (Err e) = λ other. absurd (other refl)
 
--- the trace went out behind the answers
-pub traced : (i : Info) (before later : Sets) (fell : ℕ) (es : List Event) (n : ℕ) (exchanges : List Exchange) (start old new : Option (List ℕ)) (status : ℕ)
-    → IsServed i before later fell es None start old (Ok status) → Appends old new (trace_text exchanges) → IsServed i before later fell es (Some n) start new (Ok status)
-traced i before later fell es n exchanges start old new status served wrote =
-    let answers = subst (λ t. Appends start old (texts es served.0 ++ t)) served.5 served.6 in
-    let first = subst (Appends start old) (append-nil (texts es served.0)) answers in
-    (served.0, served.1, trace_text exchanges, served.3, served.4, (exchanges, refl), appends_more start old new (texts es served.0) (trace_text exchanges) first wrote, served.7, served.8)
+-- nothing stood behind the text
+bare : (old new : Option (List ℕ)) (text behind : List ℕ) → behind ≡ [] → Appends old new (text ++ behind) → Appends old new text
+bare old new text behind none wrote = subst (Appends old new) (append-nil text) (subst (λ t. Appends old new (text ++ t)) none wrote)
 
--- the writer failed within the trace
-pub trace_broken : (i : Info) (before later : Sets) (fell : ℕ) (es : List Event) (n : ℕ) (exchanges : List Exchange) (start old new : Option (List ℕ)) (status : ℕ)
-    → IsServed i before later fell es None start old (Ok status) → AppendsFront old new (trace_text exchanges) → IsServed i before later fell es (Some n) start new (Err Write)
-trace_broken i before later fell es n exchanges start old new status served wrote =
-    let answers = subst (λ t. Appends start old (texts es served.0 ++ t)) served.5 served.6 in
-    let first = subst (Appends start old) (append-nil (texts es served.0)) answers in
-    (served.0, served.1, [], trace_text exchanges, served.3, served.4, (exchanges, refl), front_after start old new (texts es served.0) (trace_text exchanges) first wrote)
+-- the trace went out behind the answers, or the writer failed within it
+pub traced : {E : Type 0} (i : Info) (before later : Sets) (fell : ℕ) (es : List Event) (n : ℕ) (exchanges : List Exchange) (start old new : Option (List ℕ)) (status : ℕ) (r : Result Unit E)
+    → IsServed i before later fell es None start old (Ok status) → Writes old new r (trace_text exchanges) → IsServed i before later fell es (Some n) start new (ended_by status r)
+traced i before later fell es n exchanges start old new status (Ok x) s wrote =
+    (s.0, s.1, trace_text exchanges, s.3, s.4, (exchanges, refl), appends_more start old new (texts es s.0) (trace_text exchanges) (bare start old (texts es s.0) s.2 s.5 s.6) wrote, s.7, s.8)
+traced i before later fell es n exchanges start old new status (Err e) s wrote =
+    (s.0, s.1, [], trace_text exchanges, s.3, s.4, (exchanges, refl), front_after start old new (texts es s.0) (trace_text exchanges) (bare start old (texts es s.0) s.2 s.5 s.6) wrote)
 
 -- a front of the answers' text is a front of what is printed with a trace, too
 none_behind : (n : ℕ) (left : List Event) (old new : Option (List ℕ)) (text behind : List ℕ) → behind ≡ [] → AppendsFront old new (text ++ behind)

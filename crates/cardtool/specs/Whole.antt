@@ -32,6 +32,11 @@ abbrev pub outcome_of : {E : Type 0} → Result Bool E → Result ℕ ServeFault
 outcome_of (Ok bad) = Ok (status_of bad)
 outcome_of (Err e) = Err Write
 
+-- the exit status, or the fault of a write behind it
+abbrev pub ended_by : {E : Type 0} → ℕ → Result Unit E → Result ℕ ServeFault
+ended_by status (Ok x) = Ok status
+ended_by status (Err e) = Err Write
+
 -- trace K
 abbrev pub trace_line : ℕ → List ℕ
 trace_line count = codes "trace " ++ (decimal count ++ (10 ∷ []))

@@ -11,7 +11,7 @@ ghost use Rattle.mmc_bus.specs.Sectors.{Sets};
 ghost use Rattle.cardtool.specs.declared.event.Event.{Event};
 ghost use Rattle.cardtool.specs.declared.event.Event.TheVariants.{Run, Submit};
 ghost use Rattle.cardtool.specs.Serving.{Carries, Plays, Turning, answered};
-ghost use Rattle.cardtool.specs.Whole.{AreRead, IsRefused, IsServed, IsUnread, IsUnwritten, IsWhole, outcome_of, plain_info, trace_text};
+ghost use Rattle.cardtool.specs.Whole.{AreRead, IsRefused, IsServed, IsUnread, IsUnwritten, IsWhole, ended_by, outcome_of, plain_info, trace_text};
 
 use crate::card_file::read_card;
 use crate::event::Event;
@@ -183,6 +183,16 @@ fn put_trace<B: Bus, W: Write>(bus: &TraceBus<B>, out: &mut W) -> io::Result<()>
     bus.write_lines(out)
 }
 
+// The exit status, where what follows it was printed.
+fn ended(status: u8, printed: io::Result<()>) -> Result<u8, ServeFault>
+    ensures { result ≡ ended_by status printed }
+{
+    match printed {
+        Ok(()) => Ok(status),
+        Err(_) => Err(ServeFault::Write),
+    }
+}
+
 // The trace behind what was served without it.
 fn end_with_trace<B: Bus, W: Write>(
     bus: &TraceBus<B>,
@@ -196,10 +206,8 @@ fn end_with_trace<B: Bus, W: Write>(
         → IfErr result (λ fault. IsUnwritten start (W.contents out.new) fault) }
 {
     let status = served?;
-    match put_trace(bus, out) {
-        Ok(()) => Ok(status),
-        Err(_) => Err(ServeFault::Write),
-    }
+    let printed = put_trace(bus, out);
+    ended(status, printed)
 }
 
 // Serves a script, and writes the last `n` exchanges.
