@@ -1,5 +1,5 @@
 -- The device's calls, from a machine with nothing in service to one with nothing in service.
-use Rattle.std.proofs.Common.{◌&&◌, ◌≡◌, ◌≤◌, ◌+◌, ℕ, List, [], ◌∷◌, ◌++◌, None, suc, true, length, sym, refl, ap, ap₂, ◌∙◌, subst, arith, inl, inr, length-append}
+use Rattle.std.proofs.Common.{◌&&◌, ◌≡◌, ◌≤◌, ◌+◌, ℕ, List, [], ◌∷◌, ◌++◌, None, true, length, sym, refl, ap, ap₂, ◌∙◌, subst, arith}
 use Rattle.std.specs.Prelude.{◌||◌, Bool, IsErr, Option, Result, false}
 use Rattle.mmc_bus.specs.Faults.{NoFault}
 use Rattle.mmc_bus.specs.Side.{Side}
@@ -8,11 +8,13 @@ use Rattle.mmc_block.specs.declared.info.Info.{Info}
 use Rattle.mmc_block.specs.declared.refused.Refused.{Refused}
 use Rattle.mmc_block.specs.declared.request.Request.{Request}
 use Rattle.mmc_block.specs.Device.{AnswersOldest, Comes, DeviceView, Queues}
-use Rattle.mmc_block.specs.Machine.{Accepts, CompletesAll, IsMerged, Machine, StartsIfIdle, Turns, Waiting}
+use Rattle.mmc_block.specs.Machine.{Accepts, Machine, Turns, Waiting}
 use Rattle.mmc_block.specs.Refusal.{IsFirst, first_refusal}
 use Rattle.cardtool.specs.declared.event.Event.{Event}
-use Rattle.cardtool.specs.Serving.{Breaks, Carries, Goes, Plays, Rests, unanswered}
-use Rattle.cardtool.proofs.ServingLemmas.{breaks_after, goes_none, goes_then, no_length, plays_broken}
+use Rattle.cardtool.specs.Serving.{Breaks, Carries, Goes, Plays, Rests}
+use Rattle.mmc_block.specs.Run.{unanswered}
+use Rattle.cardtool.proofs.Counts.{turn_count}
+use Rattle.cardtool.proofs.ServingLemmas.{breaks_after, goes_none, goes_then, plays_broken}
 
 pub waiting_is : {B : Type 0} (side : B → Side) (d : DeviceView B) (m : Machine) (k : ℕ) → k ≡ length d.waits → Rests side d m → k ≡ unanswered m
 waiting_is side d m k is h =
@@ -20,33 +22,9 @@ waiting_is side d m k is h =
     let serves : length m.serves ≡ 0 = ap length h.1 in
     omega (arith, is, waits, serves)
 
-merged_length : (zs xs ys : List Waiting) → IsMerged zs xs ys → length zs ≡ length xs + length ys
-merged_length [] xs ys h = omega (arith, ap length h.0, ap length h.1)
-merged_length (z ∷ zs) xs ys (inl (rest, is, h)) = omega (arith, ap length is, merged_length zs rest ys h)
-merged_length (z ∷ zs) xs ys (inr (rest, is, h)) = omega (arith, ap length is, merged_length zs xs rest h)
-
--- a start takes as many as no longer wait into service
-started_length : (m s : Machine) → m.serves ≡ [] → StartsIfIdle m s → length s.serves + length s.waits ≡ length m.waits
-started_length m s none (inl h) =
-    let first : length m.waits ≡ suc (length h.later) = ap length h.first in
-    let group : length s.serves ≡ suc (length h.others) = ap length h.group in
-    omega (arith, first, group, merged_length h.later h.others s.waits h.left)
-started_length m s none (inr h) =
-    let waits : length m.waits ≡ 0 = ap length (h.1 none) in
-    let same : length s.waits ≡ length m.waits = ap (λ k. length k.waits) h.0 in
-    let serves : length s.serves ≡ 0 = ap (λ k. length k.serves) h.0 ∙ ap length none in
-    omega (arith, waits, same, serves)
-
-completed_length : (i : Info) (m : Machine) (cs : List Completion) (n : Machine) → CompletesAll i m cs n → (length n.waits ≡ length m.waits) × (length n.serves + length cs ≡ length m.serves)
-completed_length i m [] n h = (ap (λ k. length k.waits) h, ap (λ k. length k.serves + 0) h ∙ omega arith)
-completed_length i m (c ∷ cs) n (mid, step, h) =
-    let others = completed_length i mid cs n h in
-    let waits : length mid.waits ≡ length m.waits = ap length step.waits in
-    let served : length m.serves ≡ length (step.before ++ step.w ∷ step.after) = ap length step.served in
-    let was : length (step.before ++ step.w ∷ step.after) ≡ length step.before + suc (length step.after) = length-append step.before (step.w ∷ step.after) in
-    let leaves : length mid.serves ≡ length (step.before ++ step.after) = ap length step.leaves in
-    let is : length (step.before ++ step.after) ≡ length step.before + length step.after = length-append step.before step.after in
-    (omega (arith, others.0, waits), omega (arith, others.1, served, was, leaves, is))
+no_length : {A : Type 0} (xs : List A) → length xs ≡ 0 → xs ≡ []
+no_length [] none = refl
+no_length (x ∷ xs) none = absurd (omega (arith, none))
 
 answered_length : (ws : List Waiting) (cs : List Completion) (later : List Waiting) → AnswersOldest ws cs later → length ws ≡ length cs + length later
 answered_length [] cs later h = omega (arith, ap length h.0, ap length h.1)
@@ -55,10 +33,10 @@ answered_length (w ∷ ws) cs later h = omega (arith, ap length h.2, ap length h
 -- a turn that answers the oldest leaves nothing in service
 turn_rests : (i : Info) (m : Machine) (cs : List Completion) (n : Machine) → m.serves ≡ [] → AnswersOldest m.waits cs n.waits → Turns i m cs n → n.serves ≡ []
 turn_rests i m cs n none oldest t =
-    let start = started_length m t.started none t.start in
-    let done = completed_length i (record t.started { sets = t.serves.decided }) cs n t.serves.completes in
+    let idle : length m.serves ≡ 0 = ap length none in
+    let count = turn_count i m cs n t in
     let oldest_length = answered_length m.waits cs n.waits oldest in
-    no_length n.serves (omega (arith, start, done.0, done.1, oldest_length))
+    no_length n.serves (omega (arith, idle, count, oldest_length))
 
 pub rests_turn : {B : Type 0} (side : B → Side) (old new : DeviceView B) (i : Info) (cs : List Completion)
     → AnswersOldest old.waits cs new.waits → Comes side old (λ (m n : Machine). Turns i m cs n) new
@@ -140,9 +118,9 @@ went_then side start mid now es fs left rest old between new x y went carries go
 
 pub went_broken : {B E : Type 0} (side : B → Side) (start mid now : DeviceView B) (es fs left : List Event) (old between new : Option (List ℕ)) (x : Bool) (r : Result Bool E) → IsErr r
     → Went side start mid es (fs ++ left) old between x → Carries side mid now
-    → ((side now.bus).is_kept ≡ true → Breaks mid.info (Rests side mid) (Rests side now) fs between new)
+    → ((side now.bus).is_kept ≡ true → Breaks mid.info (Rests side mid) mid.is_ready (Rests side now) now.is_ready fs between new)
     → (side now.bus).is_kept ≡ true → Plays side start now es old new r
 went_broken side start mid now es fs left old between new x r bad went carries breaks k =
     plays_broken start.info (Rests side start) start.is_ready (Rests side now) now.is_ready es old new r bad
-    (breaks_after start.info (Rests side start) start.is_ready (Rests side mid) mid.is_ready (Rests side now) es fs left old between new x (went.goes (carries.kept k))
-    (subst (λ i. Breaks i (Rests side mid) (Rests side now) fs between new) went.carries.info (breaks k)))
+    (breaks_after start.info (Rests side start) start.is_ready (Rests side mid) mid.is_ready (Rests side now) now.is_ready es fs left old between new x (went.goes (carries.kept k))
+    (subst (λ i. Breaks i (Rests side mid) mid.is_ready (Rests side now) now.is_ready fs between new) went.carries.info (breaks k)))

@@ -1,83 +1,99 @@
--- A script that is served on a device: each event with its answer, where `run` turns until nothing waits.
-use Rattle.std.specs.Prelude.{◌≡◌, ℕ, ◌+◌, ◌<◌, ◌≤◌, ◌&&◌, List, [], ◌∷◌, ◌++◌, length, Bool, true, false, not, ◌||◌, Option, None, Result, Ok, Err, IfOk}
+-- A script that is served on a device: the events of the machine behind it, what they print, and how requests fared.
+use Rattle.std.specs.Prelude.{◌≡◌, ℕ, ◌+◌, ◌-◌, ◌≤◌, ◌==◌, ◌&&◌, if◌then◌else◌, length, List, [], ◌∷◌, ◌++◌, Bool, true, false, not, ◌||◌, Option, Result, Ok, Err, IfOk}
 use Rattle.std.specs.Io.KnownBytes.{Appends}
 use Rattle.text_out.specs.Writing.{AppendsFront, Writes}
 use Rattle.mmc_bus.specs.Faults.{NoFault}
 use Rattle.mmc_bus.specs.Side.{Side}
 use Rattle.mmc_block.specs.declared.completion.Completion.{Completion}
 use Rattle.mmc_block.specs.declared.info.Info.{Info}
-use Rattle.mmc_block.specs.declared.refused.Refused.{Refused}
 use Rattle.mmc_block.specs.Device.{Agrees, DeviceView}
-use Rattle.mmc_block.specs.Machine.{Accepts, Machine, Turns}
-use Rattle.mmc_block.specs.Refusal.{IsFirst, first_refusal}
+use Rattle.mmc_block.specs.Machine.{Machine, Turns}
+use Rattle.mmc_block.specs.Run.{Event as MachineEvent, Follow, Reply, Runs, unanswered}
+use Rattle.mmc_block.specs.Run.Event.{Submit as MachineSubmit, Turn as MachineTurn}
+use Rattle.mmc_block.specs.Run.Reply.{Accepted, Answers, GivenBack, RefusedFor}
 use Rattle.cardtool.specs.declared.event.Event.{Event}
 use Rattle.cardtool.specs.declared.event.Event.TheVariants.{Submit, Turn, Run}
 use Rattle.cardtool.specs.Output.{any_failed, completions_text, queued_text, refused_text}
 
--- what the device answered to an event
-pub data Told : Type 0 where
-  Queued : ℕ → Told
-  NotTaken : Refused → Told
-  Served : List Completion → Told
-  Idle : Told
+-- The events of a script.
 
--- the lines that an event and its answer print
-unfoldable pub text_of : Event → Told → List ℕ
-text_of (Submit client request) (Queued ticket) = queued_text ticket client
-text_of (Submit client request) (NotTaken why) = refused_text client why
-text_of event (Served completions) = completions_text completions
-text_of event told = []
+-- an event of a script, as the machine's; a `run` is turns
+abbrev pub machine_event : Event → MachineEvent
+machine_event (Submit client request) = MachineSubmit client request
+machine_event Turn = MachineTurn
+machine_event Run = MachineTurn
+
+-- what is to be served where so many requests have no answer: a `run` is over where none has none
+abbrev pub due : ℕ → List Event → List Event
+due pending [] = []
+due pending (Run ∷ script) = if pending == 0 then due pending script else Run ∷ script
+due pending (event ∷ script) = event ∷ script
+
+-- what is left behind an event: a `run` goes on
+abbrev pub behind : Event → List Event → List Event
+behind Run script = Run ∷ script
+behind event script = script
+
+-- how many requests have no answer after this reply
+abbrev pub pending_after : ℕ → Reply → ℕ
+pending_after pending (Accepted ticket) = pending + 1
+pending_after pending (Answers completions) = pending - length completions
+pending_after pending (GivenBack request) = pending - 1
+pending_after pending reply = pending
+
+-- where a script stands: how many requests have no answer, and what is to be served
+pub record Standing : Type 0 where
+  pub pending : ℕ
+  pub left : List Event
+
+abbrev pub stands : ℕ → List Event → Standing
+stands pending script = record { pending = pending; left = due pending script }
+
+-- the script's next event, and where it stands after the reply
+pub record IsNext (old : Standing) (event : MachineEvent) (reply : Reply) (new : Standing) : Type 0 where
+  pub next : Event
+  pub later : List Event
+  pub first : old.left ≡ next ∷ later
+  pub event_is : event ≡ machine_event next
+  pub new_is : new ≡ stands (pending_after old.pending reply) (behind next later)
+
+-- These events with their replies are the script's, up to where it stands then.
+abbrev pub Spells : List Event → List MachineEvent → List Reply → Standing → Type 0
+Spells script events replies now = Follow IsNext (stands 0 script) events replies now
+
+-- What is printed, and how requests fared.
+
+-- the lines that an event with its reply prints
+unfoldable pub text_of : MachineEvent → Reply → List ℕ
+text_of (MachineSubmit client request) (Accepted ticket) = queued_text ticket client
+text_of (MachineSubmit client request) (RefusedFor why) = refused_text client why
+text_of MachineTurn (Answers completions) = completions_text completions
+text_of event reply = []
+
+unfoldable pub texts : List MachineEvent → List Reply → List ℕ
+texts (e ∷ es) (r ∷ rs) = text_of e r ++ texts es rs
+texts _ _ = []
 
 -- some request was refused or failed
-unfoldable pub is_bad : Told → Bool
-is_bad (Queued ticket) = false
-is_bad (NotTaken why) = true
-is_bad (Served completions) = any_failed completions
-is_bad Idle = false
+unfoldable pub is_bad : Reply → Bool
+is_bad (RefusedFor why) = true
+is_bad (Answers completions) = any_failed completions
+is_bad reply = false
+
+unfoldable pub any_bad : List Reply → Bool
+any_bad [] = false
+any_bad (r ∷ rs) = is_bad r || any_bad rs
 
 -- some request failed
-unfoldable pub has_failure : Told → Bool
-has_failure (Served completions) = any_failed completions
-has_failure told = false
+unfoldable pub has_failure : Reply → Bool
+has_failure (Answers completions) = any_failed completions
+has_failure reply = false
 
--- how many have no answer yet
-abbrev pub unanswered : Machine → ℕ
-unanswered m = length m.waits + length m.serves
-
--- The machine's step for an event with its answer; `run` ends where nothing waits and nothing is in service.
-unfoldable pub Does : Info → Machine → Event → Told → Machine → Type 0
-Does info m (Submit client request) (Queued ticket) n =
-    (first_refusal info (unanswered m) m.next request ≡ None) × Accepts m client request ticket n
-Does info m (Submit client request) (NotTaken why) n = IsFirst (first_refusal info (unanswered m) m.next request) why × (n ≡ m)
-Does info m Turn (Served completions) n = Turns info m completions n
-Does info m Run (Served completions) n = (0 < unanswered m) × Turns info m completions n
-Does info m Run Idle n = (m.waits ≡ []) × (m.serves ≡ []) × (n ≡ m)
-Does info m event told n = ⊥
-
--- what is left to serve after the answer: a `run` that turned goes on
-unfoldable pub after : Event → Told → List Event → List Event
-after Run (Served completions) events = Run ∷ events
-after event told events = events
-
--- the answers lead from m to n, and the events `left` are not served yet
-unfoldable pub Serves : Info → Machine → List Event → List Told → Machine → List Event → Type 0
-Serves info m events [] n left = (n ≡ m) × (left ≡ events)
-Serves info m [] (t ∷ ts) n left = ⊥
-Serves info m (e ∷ es) (t ∷ ts) n left = (k : Machine) × Does info m e t k × Serves info k (after e t es) ts n left
-
--- what is printed
-unfoldable pub texts : List Event → List Told → List ℕ
-texts events [] = []
-texts [] (t ∷ ts) = []
-texts (e ∷ es) (t ∷ ts) = text_of e t ++ texts (after e t es) ts
-
-unfoldable pub any_bad : List Told → Bool
-any_bad [] = false
-any_bad (t ∷ ts) = is_bad t || any_bad ts
-
-unfoldable pub any_failure : List Told → Bool
+unfoldable pub any_failure : List Reply → Bool
 any_failure [] = false
-any_failure (t ∷ ts) = has_failure t || any_failure ts
+any_failure (r ∷ rs) = has_failure r || any_failure rs
+
+-- From device to device.
 
 -- the machine is the device's, and nothing is in service, as between any two calls
 abbrev pub Rests : {B : Type 0} → (B → Side) → DeviceView B → Machine → Type 0
@@ -95,27 +111,35 @@ pub record Carries {B : Type 0} (side : B → Side) (old new : DeviceView B) : T
 abbrev pub IsReadyAfter : Bool → Bool → Bool → Type 0
 IsReadyAfter was failed is = is ≡ (was && not failed)
 
--- From any machine before there is one later, events were served up to those left, with their text printed, and `bad`
--- says whether some request was refused or failed. The device was ready before or not, and is later or not.
+-- From one machine to another by these events and replies, which are the script's up to what is left. The device was ready
+-- before or not, and is then or not.
+pub record Leads (info : Info) (was is : Bool) (m n : Machine) (script left : List Event) (events : List MachineEvent) (replies : List Reply) : Type 0 where
+  pub runs : Runs info m events replies n
+  pub spells : Follow IsNext (stands (unanswered m) script) events replies (stands (unanswered n) left)
+  pub ready : IsReadyAfter was (any_failure replies) is
+
+-- From any machine before there is one later to which the script leads, with its text printed, and `bad` says whether some
+-- request was refused or failed.
 abbrev pub Goes : Info → (Machine → Type 0) → Bool → (Machine → Type 0) → Bool → List Event → List Event → Option (List ℕ) → Option (List ℕ) → Bool → Type 0
-Goes info before was later is events left old new bad =
-    (m : Machine) → before m → (ts : List Told) × (n : Machine) × later n × Serves info m events ts n left × Appends old new (texts events ts)
-    × (bad ≡ any_bad ts) × IsReadyAfter was (any_failure ts) is
+Goes info before was later is script left old new bad =
+    (m : Machine) → before m → (events : List MachineEvent) × (replies : List Reply) × (n : Machine) × later n
+    × Leads info was is m n script left events replies × Appends old new (texts events replies) × (bad ≡ any_bad replies)
 
--- a write fault: a front of the events was served, and a front of their text went out
-abbrev pub Breaks : Info → (Machine → Type 0) → (Machine → Type 0) → List Event → Option (List ℕ) → Option (List ℕ) → Type 0
-Breaks info before later events old new =
-    (m : Machine) → before m → (ts : List Told) × (n : Machine) × (left : List Event) × later n × Serves info m events ts n left × AppendsFront old new (texts events ts)
+-- a write fault: a front of the script was served, and a front of its text went out
+abbrev pub Breaks : Info → (Machine → Type 0) → Bool → (Machine → Type 0) → Bool → List Event → Option (List ℕ) → Option (List ℕ) → Type 0
+Breaks info before was later is script old new =
+    (m : Machine) → before m → (events : List MachineEvent) × (replies : List Reply) × (n : Machine) × (left : List Event) × later n
+    × Leads info was is m n script left events replies × AppendsFront old new (texts events replies)
 
--- all the events were served and printed, or the writer failed
+-- the whole script was served and printed, or the writer failed
 abbrev pub Played : {E : Type 0} → Info → (Machine → Type 0) → Bool → (Machine → Type 0) → Bool → List Event → Option (List ℕ) → Option (List ℕ) → Result Bool E → Type 0
-Played info before was later is events old new (Ok bad) = Goes info before was later is events [] old new bad
-Played info before was later is events old new (Err e) = Breaks info before later events old new
+Played info before was later is script old new (Ok bad) = Goes info before was later is script [] old new bad
+Played info before was later is script old new (Err e) = Breaks info before was later is script old new
 
 -- so from one device to another
 abbrev pub Plays : {B E : Type 0} → (B → Side) → DeviceView B → DeviceView B → List Event → Option (List ℕ) → Option (List ℕ) → Result Bool E → Type 0
-Plays side old_device new_device events old new result =
-    Played old_device.info (Rests side old_device) old_device.is_ready (Rests side new_device) new_device.is_ready events old new result
+Plays side old_device new_device script old new result =
+    Played old_device.info (Rests side old_device) old_device.is_ready (Rests side new_device) new_device.is_ready script old new result
 
 -- the answer of a line that was printed
 abbrev pub answered : {E : Type 0} → Bool → Result Unit E → Result Bool E

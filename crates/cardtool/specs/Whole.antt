@@ -1,23 +1,28 @@
 -- The whole: a script that is served, the text of its answers, the trace behind it, and the status.
-use Rattle.std.specs.Prelude.{◌≡◌, ◌⊎◌, ◌<◌, ℕ, IfSome, List, [], ◌∷◌, ◌++◌, codes, length, Bool, false, Option, None, Some, Result, Ok, Err, if◌then◌else◌, ⊤}
+use Rattle.std.specs.Prelude.{◌≡◌, ◌⊎◌, ◌<◌, ◌≤◌, ℕ, IfSome, List, [], ◌∷◌, ◌++◌, codes, length, Bool, false, Option, None, Some, Result, Ok, Err, if◌then◌else◌, ⊤}
 use Rattle.std.specs.Fmt.{decimal}
+use Rattle.std.specs.List.{All}
 use Rattle.std.specs.Io.KnownBytes.{Appends}
 use Rattle.text_out.specs.Writing.{AppendsFront}
 use Rattle.mmc_bus.specs.declared.bus.Exchange.{Exchange}
 use Rattle.mmc_bus.specs.ExchangeText.{lines_text}
+use Rattle.mmc_bus.specs.Trace.{HasItsFrame}
 use Rattle.mmc_bus.specs.Card.{holds}
 use Rattle.mmc_bus.specs.PlainCard.{new_plain_card}
-use Rattle.mmc_bus.specs.Sectors.{Sets, Within}
+use Rattle.mmc_bus.specs.declared.part.Part.{Part}
+use Rattle.mmc_bus.specs.Sectors.{Sector, Sets, Within}
 use Rattle.mmc_block.specs.declared.info.Info.{Info}
 use Rattle.mmc_block.specs.Device.{opened}
+use Rattle.mmc_block.specs.InOrder.{EndsInOrder, IsInOrder, MayHold, history}
 use Rattle.mmc_block.specs.Machine.{Machine}
+use Rattle.mmc_block.specs.Run.{Event as MachineEvent, Reply, Runs}
 use Rattle.cardtool.specs.declared.event.Event.{Event}
 use Rattle.cardtool.specs.declared.fault.ServeFault.{ServeFault}
 use Rattle.cardtool.specs.declared.fault.ServeFault.TheVariants.{CardIncomplete, CardLine, NoMemory, ReadCard, ReadScript, ScriptLine, TooLong, Write}
 use Rattle.cardtool.specs.declared.event.Event.TheVariants.{Run}
 use Rattle.cardtool.specs.CardFile.{IsFirstBadCardLine, sectors_in}
 use Rattle.cardtool.specs.Script.{IsFirstBad, Say, lines}
-use Rattle.cardtool.specs.Serving.{Serves, Told, any_bad, any_failure, texts}
+use Rattle.cardtool.specs.Serving.{Spells, any_bad, any_failure, texts}
 
 -- what a device knows of a card of this size that it opens
 abbrev pub plain_info : ℕ → Info
@@ -45,26 +50,40 @@ trace_line count = codes "trace " ++ (decimal count ++ (10 ∷ []))
 abbrev pub trace_text : List Exchange → List ℕ
 trace_text exchanges = trace_line (length exchanges) ++ lines_text exchanges
 
--- What stands behind the answers: with a trace the text of exchanges, but nothing while events are left.
+-- What stands behind the answers: with a trace the text of exchanges, as many as were asked for at most, but nothing while
+-- events are left.
 abbrev pub IsTraceBehind : Option ℕ → List Event → List ℕ → Type 0
 IsTraceBehind None left text = text ≡ []
 IsTraceBehind (Some n) (event ∷ left) text = text ≡ []
-IsTraceBehind (Some n) [] text = (exchanges : List Exchange) × (text ≡ trace_text exchanges)
+IsTraceBehind (Some n) [] text = (exchanges : List Exchange) × (length exchanges ≤ n) × All HasItsFrame exchanges × (text ≡ trace_text exchanges)
 
--- Over sectors that held `before` and then `later`, while so many faults fell: the events were served from a machine that is
--- opened on the first, their text went out with the trace behind it, the status tells what they were answered, without a
--- fault none failed, and the last machine may hold the others. Where memory was refused nothing was served or printed. After
--- a write fault a front of the events was served, and a front of what is printed of them went out.
+-- What serving a script did, up to what is left of it, over sectors that held `before` and then `later`, while so many faults
+-- fell: these events, with these replies.
+pub record Served (info : Info) (before later : Sets) (fell : ℕ) (script left : List Event) (events : List MachineEvent) (replies : List Reply) : Type 0 where
+  pub last : Machine
+  pub pending : ℕ
+  -- a run of the machine that is opened on the first sectors, by the script's events; it allows what the sectors hold then
+  pub runs : Runs info (opened before) events replies last
+  pub spells : Spells script events replies (record { pending = pending; left = left })
+  pub within : Within later last.sets
+  -- the answers are in order, and what the sectors hold then
+  pub in_order : IsInOrder (history info before events replies)
+  pub ends_in_order : (contents : Part → ℕ → Sector) → MayHold later contents → EndsInOrder (history info before events replies) later last.next contents
+  -- without a fault no request failed
+  pub fine : fell ≡ 0 → any_failure replies ≡ false
+
+-- The script was served and its text went out, with the trace behind it, and the status tells how its requests fared. Where
+-- memory was refused nothing was served or printed. After a write fault a front of the script was served, and a front of
+-- what is printed of it went out.
 abbrev pub IsServed : Info → Sets → Sets → ℕ → List Event → Option ℕ → Option (List ℕ) → Option (List ℕ) → Result ℕ ServeFault → Type 0
-IsServed info before later fell events trace old new (Ok status) =
-    (ts : List Told) × (n : Machine) × (behind : List ℕ) × Within later n.sets × Serves info (opened before) events ts n []
-    × IsTraceBehind trace [] behind × Appends old new (texts events ts ++ behind) × (status ≡ status_of (any_bad ts))
-    × (fell ≡ 0 → any_failure ts ≡ false)
-IsServed info before later fell events trace old new (Err NoMemory) = (later ≡ before) × (new ≡ old)
-IsServed info before later fell events trace old new (Err Write) =
-    (ts : List Told) × (n : Machine) × (left : List Event) × (behind : List ℕ) × Within later n.sets × Serves info (opened before) events ts n left
-    × IsTraceBehind trace left behind × AppendsFront old new (texts events ts ++ behind)
-IsServed info before later fell events trace old new (Err fault) = ⊥
+IsServed info before later fell script trace old new (Ok status) =
+    (events : List MachineEvent) × (replies : List Reply) × (text : List ℕ) × Served info before later fell script [] events replies
+    × IsTraceBehind trace [] text × Appends old new (texts events replies ++ text) × (status ≡ status_of (any_bad replies))
+IsServed info before later fell script trace old new (Err NoMemory) = (later ≡ before) × (new ≡ old)
+IsServed info before later fell script trace old new (Err Write) =
+    (events : List MachineEvent) × (replies : List Reply) × (left : List Event) × (text : List ℕ) × Served info before later fell script left events replies
+    × IsTraceBehind trace left text × AppendsFront old new (texts events replies ++ text)
+IsServed info before later fell script trace old new (Err fault) = ⊥
 
 -- nothing went out, unless the writer failed
 abbrev pub IsUnwritten : Option (List ℕ) → Option (List ℕ) → ServeFault → Type 0

@@ -1,5 +1,6 @@
 // Serves a script on a card, and prints what becomes of its requests.
 ghost use Rattle.std.specs.Prelude.{◌<◌, ◌-◌, ◌≡◌, ◌≤◌, ◌++◌, ◌∷◌, ℕ, IfErr, IfOk, IfSome, List, None, Option, Some, [], length, true};
+ghost use Rattle.std.specs.List.{All};
 ghost use Rattle.std.specs.Option.{ForSome};
 ghost use Rattle.text_out.specs.Writing.{Writes};
 ghost use Rattle.mmc_block.specs.declared.info.Info.{Info};
@@ -8,6 +9,7 @@ ghost use Rattle.mmc_bus.specs.Card.{holds};
 ghost use Rattle.mmc_bus.specs.PlainCard.{new_plain_card};
 ghost use Rattle.mmc_bus.specs.PlainSide.{plain_side};
 ghost use Rattle.mmc_bus.specs.Sectors.{Sets};
+ghost use Rattle.mmc_bus.specs.Trace.{HasItsFrame, last_of};
 ghost use Rattle.cardtool.specs.declared.event.Event.{Event};
 ghost use Rattle.cardtool.specs.declared.event.Event.TheVariants.{Run, Submit};
 ghost use Rattle.cardtool.specs.Serving.{Carries, Plays, Turning, answered};
@@ -19,7 +21,8 @@ use crate::fault::ServeFault;
 use crate::input::{ReadFault, read_bounded};
 use crate::output::{has_failure, put_completions, put_queued, put_refused};
 use crate::script::{Script, read_script};
-use mmc_block::plain_laws::a_new_plain_card_is_ready;
+use mmc_block::laws::{answers_are_in_order, contents_are_in_order};
+use mmc_block::plain_laws::{a_new_plain_card_is_ready, a_ready_card_is_decided};
 use mmc_block::{BlockDev, Request};
 use mmc_bus::{Bus, PlainCard, TraceBus};
 use std::alloc::Global;
@@ -159,6 +162,9 @@ fn serve_untraced<B: Bus + Drop, W: Write>(
         → IsServed (plain_info sectors) (holds (B.side bus).card) (holds (B.side result.0).card) ((B.side result.0).faults - (B.side bus).faults) (script ++ Run ∷ []) None (W.contents out.old) (W.contents out.new) result.1 }
     ensures unwritten { IfErr result.1 (λ fault. IsUnwritten (W.contents out.old) (W.contents out.new) fault) }
 {
+    answers_are_in_order();
+    contents_are_in_order();
+    a_ready_card_is_decided();
     let mut device = match BlockDev::open_plain(alloc, bus, sectors) {
         Ok(device) => device,
         Err((bus, _)) => return (bus, Err(ServeFault::NoMemory)),
@@ -168,19 +174,43 @@ fn serve_untraced<B: Bus + Drop, W: Write>(
     (bus, outcome(served))
 }
 
-// Writes `trace K` and a line for each of the K exchanges that are kept.
-fn put_trace<B: Bus, W: Write>(bus: &TraceBus<B>, out: &mut W) -> io::Result<()>
-    ensures { Writes (W.contents out.old) (W.contents out.new) result (trace_text bus.now.exchanges) }
+// A trace of the last `n` exchanges over a bus, or the bus where memory was refused.
+fn traced<B: Bus>(alloc: Global, bus: B, n: u32) -> Result<TraceBus<B>, B>
+    requires one { 1 ≤ n }
+    requires many { n ≤ 65536 }
+    ensures ok { IfOk result (λ trace. trace ≡ record { bus = bus; exchanges = []; capacity = n }) }
+    ensures err { IfErr result (λ back. back ≡ bus) }
 {
+    match TraceBus::new(alloc, bus, n as usize) {
+        Ok(trace) => Ok(trace),
+        Err((bus, _)) => Err(bus),
+    }
+}
+
+// How many lines a trace has that shows the last `n` exchanges.
+#[tactic(auto, using(crate::proofs::WholeLemmas::kept_count))]
+fn shown<B: Bus>(bus: &TraceBus<B>, n: u32) -> u64
+    ensures count { result ≡ length (last_of n bus.now.exchanges) }
+    ensures framed { All HasItsFrame bus.now.exchanges }
+{
+    bus.len().min(n as usize) as u64
+}
+
+// Writes `trace K` and a line for each of the last K exchanges that are kept, `n` of them at most.
+fn put_trace<B: Bus, W: Write>(bus: &TraceBus<B>, n: u32, out: &mut W) -> io::Result<()>
+    ensures written { Writes (W.contents out.old) (W.contents out.new) result (trace_text (last_of n bus.now.exchanges)) }
+    ensures framed { All HasItsFrame bus.now.exchanges }
+{
+    let count = shown(bus, n);
     put_pieces(
         out,
         &[
             Piece::Text(b"trace "),
-            Piece::Number(bus.len() as u64),
+            Piece::Number(count),
             Piece::Text(b"\n"),
         ],
     )?;
-    bus.write_lines(out)
+    bus.write_last(n as usize, out)
 }
 
 // The exit status, where what follows it was printed.
@@ -196,17 +226,18 @@ fn ended(status: u8, printed: io::Result<()>) -> Result<u8, ServeFault>
 // The trace behind what was served without it.
 fn end_with_trace<B: Bus, W: Write>(
     bus: &TraceBus<B>,
+    n: u32,
     served: Result<u8, ServeFault>,
     out: &mut W,
 ) -> Result<u8, ServeFault>
-    ensures served { (info : Info) → (before later : Sets) → (fell n : ℕ) → (events : List Event) → (start : Option (List ℕ))
-        → IsServed info before later fell events None start (W.contents out.old) served
-        → IsServed info before later fell events (Some n) start (W.contents out.new) result }
+    ensures served { (info : Info) → (before later : Sets) → (fell : ℕ) → (script : List Event) → (start : Option (List ℕ))
+        → IsServed info before later fell script None start (W.contents out.old) served
+        → IsServed info before later fell script (Some n) start (W.contents out.new) result }
     ensures unwritten { (start : Option (List ℕ)) → IfErr served (λ fault. IsUnwritten start (W.contents out.old) fault)
         → IfErr result (λ fault. IsUnwritten start (W.contents out.new) fault) }
 {
     let status = served?;
-    let printed = put_trace(bus, out);
+    let printed = put_trace(bus, n, out);
     ended(status, printed)
 }
 
@@ -228,12 +259,12 @@ fn serve_traced<B: Bus + Drop, W: Write>(
         → IsServed (plain_info sectors) (holds (B.side bus).card) (holds (B.side result.0).card) ((B.side result.0).faults - (B.side bus).faults) (script ++ Run ∷ []) (Some n) (W.contents out.old) (W.contents out.new) result.1 }
     ensures unwritten { IfErr result.1 (λ fault. IsUnwritten (W.contents out.old) (W.contents out.new) fault) }
 {
-    let bus = match TraceBus::new(alloc, bus, n as usize) {
+    let bus = match traced(alloc, bus, n) {
         Ok(bus) => bus,
-        Err((bus, _)) => return (bus, Err(ServeFault::NoMemory)),
+        Err(bus) => return (bus, Err(ServeFault::NoMemory)),
     };
     let (bus, served) = serve_untraced(alloc, bus, sectors, script, out);
-    let ended = end_with_trace(&bus, served, out);
+    let ended = end_with_trace(&bus, n, served, out);
     (bus.into_inner(), ended)
 }
 

@@ -59,8 +59,6 @@ turn_of_one info m w ws c decided after idle waits ticket client passes_none dec
     next = refl;
   });
   serves = record {
-    decided = decided;
-    decides = decides;
     completes = (
       answered_by m ws after,
       record {
@@ -72,6 +70,8 @@ turn_of_one info m w ws c decided after idle waits ticket client passes_none dec
         client = client;
         passes_none_waiting = passes_none;
         passes_none_served = (λ less. absurd (omega (arith, less)), tt);
+        decided = decided;
+        decides = decides;
         answered = answered;
         leaves = refl;
         waits = refl;
@@ -87,7 +87,7 @@ pub turn_of_none : (info : Info) (m : Machine) → m.waits ≡ [] → Turns info
 turn_of_none info m none = record {
   started = m;
   start = inr (refl, λ idle. none);
-  serves = record { decided = m.sets; decides = λ p s. inl refl; completes = refl; ascend = tt };
+  serves = record { completes = refl; ascend = tt };
 }
 
 -- The sets.
@@ -166,7 +166,13 @@ answering info request old new (Data bytes) sets rests ready within did =
       decided = decided;
       after = decided;
       decides = λ p s. pick_decides (holds old.card p s) (sets p s) (within p s);
-      answered = (did.0, λ p s. refl, (did.3.0, λ i less. into (part_of request) (start_of request + i) _ (did.3.1 i less)), λ p s others. pick_decided (holds old.card p s) (sets p s));
+      answered = (
+        did.0,
+        λ p s. refl,
+        (did.3.0, λ i less. into (part_of request) (start_of request + i) _ (did.3.1 i less)),
+        λ p s names. pick_decided (holds old.card p s) (sets p s),
+        λ p s others. pick_decided (holds old.card p s) (sets p s),
+      );
       within = λ p s v h. into p s v (subst (λ xs. IsIn xs v) (did.2 p s) h);
     }
 answering info request old new (Failed cause) sets rests ready within did = record {

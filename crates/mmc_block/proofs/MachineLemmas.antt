@@ -1,10 +1,7 @@
--- What steps of the sector machine do to its sets, and when requests conflict.
-use Rattle.std.proofs.Common.{◌&&◌, ◌+◌, ◌∙◌, ◌∷◌, ◌≡◌, ◌⊎◌, Bool, List, [], ap, arith, cond, false, inl, inr, not, refl, subst, sym, true, ℕ}
-use Rattle.std.specs.Prelude.{◌==◌, nat_lt}
-use Rattle.std.proofs.Math.Bool.{and_comm}
-use Rattle.std.proofs.lemmas.Bool.Decides.{nat_tests}
+-- What steps of the sector machine do to its sets.
+use Rattle.std.proofs.Common.{◌∙◌, ◌∷◌, ◌≡◌, ◌⊎◌, Bool, List, [], ap, cond, false, inl, inr, refl, subst, sym, true, ℕ}
 use Rattle.mmc_bus.specs.declared.part.Part.{Part}
-use Rattle.mmc_bus.specs.Sectors.{IsDecided, Sector, Sets, part_number, touches, value_of}
+use Rattle.mmc_bus.specs.Sectors.{IsDecided, Sector, Sets, touches, value_of}
 use Rattle.mmc_block.specs.declared.completion.Answer.{Answer}
 use Rattle.mmc_block.specs.declared.completion.Answer.TheVariants.{Data, Done, Failed}
 use Rattle.mmc_block.specs.declared.completion.Completion.{Completion}
@@ -12,22 +9,7 @@ use Rattle.mmc_block.specs.declared.info.Info.{Info}
 use Rattle.mmc_block.specs.declared.request.Request.{Request}
 use Rattle.mmc_block.specs.Machine.{Completes, CompletesAll, Decides, IsAnswered, Machine, StartsIfIdle, Turns, Waiting}
 use Rattle.mmc_block.specs.MachineLaws.{IsFailure, KeepsValues}
-use Rattle.mmc_block.specs.Requests.{change_of, conflicts, count_of, is_read, part_of, start_of}
-
--- Conflicts.
-
-equal_either_way : (a b : ℕ) → (a == b) ≡ (b == a)
-equal_either_way a b = grind (arith, nat_tests)
-
-three_as : (a b c d e f : Bool) → a ≡ d → b ≡ e → c ≡ f → (a && b && not c) ≡ (d && e && not f)
-three_as a b c d e f p q r = cc
-
-pub conflict_either_way : (a b : Request) → conflicts a b ≡ conflicts b a
-conflict_either_way a b =
-    three_as _ _ _ _ _ _
-    (equal_either_way (part_number (part_of a)) (part_number (part_of b)))
-    (and_comm (nat_lt (start_of a) (start_of b + count_of b)) (nat_lt (start_of b) (start_of a + count_of a)))
-    (and_comm (is_read a) (is_read b))
+use Rattle.mmc_block.specs.Requests.{change_of}
 
 -- Values of one sector.
 
@@ -67,16 +49,6 @@ answer_keeps info request others old (Failed cause) new a part sector some none 
     one_more (touches (change_of info request) part sector) (value_of (change_of info request) sector) (old part sector) some
     (sym (a part sector) ∙ none)
 
-pub completion_keeps : (info : Info) (old : Machine) (completion : Completion) (new : Machine) → Completes info old completion new → KeepsValues old.sets new.sets
-completion_keeps info old completion new c =
-    answer_keeps info c.w.request _ old.sets completion.answer new.sets c.answered
-
-completions_keep : (info : Info) (old : Machine) (completions : List Completion) (new : Machine) → CompletesAll info old completions new
-    → KeepsValues old.sets new.sets
-completions_keep info old [] new same part sector some none = some (ap (λ (m : Machine). m.sets part sector) (sym same) ∙ none)
-completions_keep info old (c ∷ cs) new steps part sector some none =
-    completions_keep info steps.0 cs new steps.2 part sector (completion_keeps info old c steps.0 steps.1 part sector some) none
-
 decision_keeps : (old new : Sets) → Decides old new → KeepsValues old new
 decision_keeps old new d part sector some none =
     elim (d part sector) [
@@ -84,16 +56,25 @@ decision_keeps old new d part sector some none =
       | inr one ↦ absurd cc
     ]
 
-start_keeps : (old started : Machine) → StartsIfIdle old started → started.sets ≡ old.sets
+pub completion_keeps : (info : Info) (old : Machine) (completion : Completion) (new : Machine) → Completes info old completion new → KeepsValues old.sets new.sets
+completion_keeps info old completion new c part sector some =
+    answer_keeps info c.w.request _ c.decided completion.answer new.sets c.answered part sector (decision_keeps old.sets c.decided c.decides part sector some)
+
+completions_keep : (info : Info) (old : Machine) (completions : List Completion) (new : Machine) → CompletesAll info old completions new
+    → KeepsValues old.sets new.sets
+completions_keep info old [] new same part sector some none = some (ap (λ (m : Machine). m.sets part sector) (sym same) ∙ none)
+completions_keep info old (c ∷ cs) new steps part sector some none =
+    completions_keep info steps.0 cs new steps.2 part sector (completion_keeps info old c steps.0 steps.1 part sector some) none
+
+pub start_keeps : (old started : Machine) → StartsIfIdle old started → started.sets ≡ old.sets
 start_keeps old started (inl s) = s.sets
 start_keeps old started (inr same) = ap (λ (m : Machine). m.sets) same.0
 
 pub turn_keeps : (info : Info) (old : Machine) (completions : List Completion) (new : Machine) → Turns info old completions new
     → KeepsValues old.sets new.sets
 turn_keeps info old completions new t part sector some =
-    completions_keep info (record t.started { sets = t.serves.decided }) completions new t.serves.completes part sector
-    (decision_keeps t.started.sets t.serves.decided t.serves.decides part sector
-    (λ none. some (ap (λ (sets : Sets). sets part sector) (sym (start_keeps old t.started t.start)) ∙ none)))
+    completions_keep info t.started completions new t.serves.completes part sector
+    (λ none. some (ap (λ (sets : Sets). sets part sector) (sym (start_keeps old t.started t.start)) ∙ none))
 
 -- What is decided stays decided.
 
@@ -110,15 +91,16 @@ answer_stays info request others old (Failed cause) new a part sector d =
       | inr t ↦ inr (tt, t)
     ]
 
-pub completion_stays : (info : Info) (old : Machine) (completion : Completion) (new : Machine) (step : Completes info old completion new)
-    (part : Part) (sector : ℕ) → IsDecided (old.sets part sector)
-    → IsDecided (new.sets part sector) ⊎ (IsFailure completion.answer × (touches (change_of info step.w.request) part sector ≡ true))
-completion_stays info old completion new step =
-    answer_stays info step.w.request _ old.sets completion.answer new.sets step.answered
-
 pub decision_stays : (old new : Sets) → Decides old new → (part : Part) (sector : ℕ) → IsDecided (old part sector) → IsDecided (new part sector)
 decision_stays old new d part sector decided =
     elim (d part sector) [
       | inl same ↦ decided_as _ _ same decided
       | inr one ↦ decided_as _ _ one.2 (one_is_decided one.0)
     ]
+
+pub completion_stays : (info : Info) (old : Machine) (completion : Completion) (new : Machine) (step : Completes info old completion new)
+    (part : Part) (sector : ℕ) → IsDecided (old.sets part sector)
+    → IsDecided (new.sets part sector) ⊎ (IsFailure completion.answer × (touches (change_of info step.w.request) part sector ≡ true))
+completion_stays info old completion new step part sector decided =
+    answer_stays info step.w.request _ step.decided completion.answer new.sets step.answered part sector
+    (decision_stays old.sets step.decided step.decides part sector decided)

@@ -5,9 +5,9 @@ use Rattle.std.proofs.lemmas.Bool.Decides.{nat_tests}
 use Rattle.mmc_block.specs.declared.completion.Completion.{Completion}
 use Rattle.mmc_block.specs.declared.info.Info.{Info}
 use Rattle.mmc_block.specs.declared.request.Request.{Request}
-use Rattle.mmc_block.specs.Machine.{Accepts, Completes, CompletesAll, GivesBack, IsMerged, Machine, Starts, StartsIfIdle, Waiting}
+use Rattle.mmc_block.specs.Machine.{Accepts, Completes, CompletesAll, GivesBack, IsMerged, Machine, Starts, StartsIfIdle, Turns, Waiting}
 use Rattle.mmc_block.specs.MachineLaws.{AreNew, AreOpen, EachOnce, IsAmong, accepted_by, answered_by, ended_by, noted}
-use Rattle.mmc_block.specs.Run.{Event, Happens, Own, Reply, Runs, TurnsOwn}
+use Rattle.mmc_block.specs.Run.{Event, Reply, Runs, Steps}
 use Rattle.mmc_block.specs.Run.Event.{Cancel, Submit, Turn}
 use Rattle.mmc_block.specs.Run.Reply.{Accepted, Answers, GivenBack, InService, RefusedFor, Unknown}
 
@@ -17,31 +17,31 @@ use Rattle.mmc_block.specs.Run.Reply.{Accepted, Answers, GivenBack, InService, R
 abbrev pub one : ℕ → ℕ → ℕ
 one a t = cond (a == t) 1 0
 
-one_same : (a : ℕ) → one a a ≡ 1
+pub one_same : (a : ℕ) → one a a ≡ 1
 one_same a = grind (arith, nat_tests)
 
-one_or_none : (a t : ℕ) → ((t ≡ a) × (one a t ≡ 1)) ⊎ (one a t ≡ 0)
+pub one_or_none : (a t : ℕ) → ((t ≡ a) × (one a t ≡ 1)) ⊎ (one a t ≡ 0)
 one_or_none a t = grind (arith, nat_tests)
 
 abbrev pub count : List Waiting → ℕ → ℕ
 count [] t = 0
 count (w ∷ ws) t = one w.ticket t + count ws t
 
-count_append : (xs ys : List Waiting) (t : ℕ) → count (xs ++ ys) t ≡ count xs t + count ys t
+pub count_append : (xs ys : List Waiting) (t : ℕ) → count (xs ++ ys) t ≡ count xs t + count ys t
 count_append [] ys t = omega arith
 count_append (x ∷ xs) ys t = let h = count_append xs ys t in omega (arith, h)
 
-count_without : (before : List Waiting) (w : Waiting) (after : List Waiting) (t : ℕ)
+pub count_without : (before : List Waiting) (w : Waiting) (after : List Waiting) (t : ℕ)
     → count (before ++ w ∷ after) t ≡ count (before ++ after) t + one w.ticket t
 count_without before w after t =
     let p = count_append before (w ∷ after) t in
     let q = count_append before after t in
     omega (arith, p, q)
 
-count_with : (ws : List Waiting) (w : Waiting) (t : ℕ) → count (ws ++ w ∷ []) t ≡ count ws t + one w.ticket t
+pub count_with : (ws : List Waiting) (w : Waiting) (t : ℕ) → count (ws ++ w ∷ []) t ≡ count ws t + one w.ticket t
 count_with ws w t = let p = count_append ws (w ∷ []) t in omega (arith, p)
 
-count_merged : (zs xs ys : List Waiting) (t : ℕ) → IsMerged zs xs ys → count zs t ≡ count xs t + count ys t
+pub count_merged : (zs xs ys : List Waiting) (t : ℕ) → IsMerged zs xs ys → count zs t ≡ count xs t + count ys t
 count_merged [] xs ys t m = rw (m.0, m.1) refl
 count_merged (z ∷ zs) xs ys t (inl m) =
     let h = count_merged zs m.0 ys t m.2 in
@@ -136,7 +136,7 @@ held machine t = count machine.waits t + count machine.serves t
 abbrev pub BookOf : List ℕ → List ℕ → Machine → Type 0
 BookOf accepted ended machine = Book accepted ended (held machine) machine.next
 
-group_held : (old new : Machine) → Starts old new → (t : ℕ) → held new t ≡ held old t
+pub group_held : (old new : Machine) → Starts old new → (t : ℕ) → held new t ≡ held old t
 group_held old new s t =
     let idle = ap (λ ws. count ws t) s.idle in
     let group = ap (λ ws. count ws t) s.group in
@@ -148,7 +148,7 @@ start_book : (accepted ended : List ℕ) (old started : Machine) → StartsIfIdl
 start_book accepted ended old started (inl s) b = same_book accepted ended (held old) (held started) old.next started.next (group_held old started s) s.next b
 start_book accepted ended old started (inr same) b = subst (BookOf accepted ended) (sym same.0) b
 
-answered_held : (info : Info) (old : Machine) (completion : Completion) (new : Machine) → Completes info old completion new
+pub answered_held : (info : Info) (old : Machine) (completion : Completion) (new : Machine) → Completes info old completion new
     → (t : ℕ) → held old t ≡ held new t + one completion.ticket t
 answered_held info old completion new c t =
     let served = ap (λ ws. count ws t) c.served in
@@ -172,14 +172,14 @@ all_answered accepted ended info old (c ∷ cs) new steps b =
     let rest = all_answered accepted (c.ticket ∷ ended) info steps.0 cs new steps.2 (answered_book accepted ended info old c steps.0 steps.1 b) in
     ((was.0, was.1, rest.0), rest.1)
 
-turn_book : (accepted ended : List ℕ) (info : Info) (fell : ℕ) (old : Machine) (own : Own) (completions : List Completion) (new : Machine) (own_new : Own)
-    → TurnsOwn info fell old own completions new own_new → BookOf accepted ended old
+turn_book : (accepted ended : List ℕ) (info : Info) (old : Machine) (completions : List Completion) (new : Machine)
+    → Turns info old completions new → BookOf accepted ended old
     → AreOpen accepted ended (answered_by completions) × BookOf accepted (noted (answered_by completions) ended) new
-turn_book accepted ended info fell old own completions new own_new turn b =
-    all_answered accepted ended info (record turn.started { sets = turn.serves.decided }) completions new turn.serves.completes
+turn_book accepted ended info old completions new turn b =
+    all_answered accepted ended info turn.started completions new turn.serves.completes
     (start_book accepted ended old turn.started turn.start b)
 
-accepted_held : (old : Machine) (client : ℕ) (request : Request) (ticket : ℕ) (new : Machine) → Accepts old client request ticket new
+pub accepted_held : (old : Machine) (client : ℕ) (request : Request) (ticket : ℕ) (new : Machine) → Accepts old client request ticket new
     → (t : ℕ) → held new t ≡ held old t + one old.next t
 accepted_held old client request ticket new a t =
     let waits = ap (λ (m : Machine). count m.waits t) a.waits in
@@ -196,7 +196,7 @@ accepted_book accepted ended old client request ticket new a b =
           (opened accepted ended (held old) (held new) old.next (accepted_held old client request ticket new a) b),
     )
 
-given_held : (old : Machine) (ticket : ℕ) (request : Request) (new : Machine) → GivesBack old ticket request new
+pub given_held : (old : Machine) (ticket : ℕ) (request : Request) (new : Machine) → GivesBack old ticket request new
     → (t : ℕ) → held old t ≡ held new t + one ticket t
 given_held old ticket request new g t =
     let waited = ap (λ ws. count ws t) g.waited in
@@ -227,32 +227,32 @@ nothing_noted accepted ended event reply old new none_accepted none_ended same b
   book = rw (none_accepted, none_ended) (subst (BookOf accepted ended) (sym same) b);
 }
 
-event_noted : (accepted ended : List ℕ) (info : Info) (fell : ℕ) (old : Machine) (own : Own) (event : Event) (reply : Reply) (new : Machine) (own_new : Own)
-    → BookOf accepted ended old → Happens info fell old own event reply new own_new → Noted accepted ended event reply new
-event_noted accepted ended info fell old own (Submit client request) (Accepted ticket) new own_new b h =
+event_noted : (accepted ended : List ℕ) (info : Info) (old : Machine) (event : Event) (reply : Reply) (new : Machine)
+    → BookOf accepted ended old → Steps info old event reply new → Noted accepted ended event reply new
+event_noted accepted ended info old (Submit client request) (Accepted ticket) new b h =
     let q = accepted_book accepted ended old client request ticket new h.1 b in
     record { fresh = (q.0, tt); is_open = tt; book = q.1 }
-event_noted accepted ended info fell old own (Submit client request) (RefusedFor why) new own_new b h =
+event_noted accepted ended info old (Submit client request) (RefusedFor why) new b h =
     nothing_noted accepted ended (Submit client request) (RefusedFor why) old new refl refl h.1 b
-event_noted accepted ended info fell old own Turn (Answers completions) new own_new b h =
-    let q = turn_book accepted ended info fell old own completions new own_new h b in
+event_noted accepted ended info old Turn (Answers completions) new b h =
+    let q = turn_book accepted ended info old completions new h b in
     record { fresh = tt; is_open = q.0; book = q.1 }
-event_noted accepted ended info fell old own (Cancel ticket) (GivenBack request) new own_new b h =
-    let was = was_open accepted ended (held old) (held new) old.next ticket (given_held old ticket request new h.0) b in
-    record { fresh = tt; is_open = (was.0, was.1, tt); book = given_book accepted ended old ticket request new h.0 b }
-event_noted accepted ended info fell old own (Cancel ticket) InService new own_new b h =
+event_noted accepted ended info old (Cancel ticket) (GivenBack request) new b h =
+    let was = was_open accepted ended (held old) (held new) old.next ticket (given_held old ticket request new h) b in
+    record { fresh = tt; is_open = (was.0, was.1, tt); book = given_book accepted ended old ticket request new h b }
+event_noted accepted ended info old (Cancel ticket) InService new b h =
     nothing_noted accepted ended (Cancel ticket) InService old new refl refl h.1 b
-event_noted accepted ended info fell old own (Cancel ticket) Unknown new own_new b h =
+event_noted accepted ended info old (Cancel ticket) Unknown new b h =
     nothing_noted accepted ended (Cancel ticket) Unknown old new refl refl h.2 b
-event_noted accepted ended info fell old own _ _ new own_new b h = absurd h
+event_noted accepted ended info old _ _ new b h = absurd h
 
-events_once : (accepted ended : List ℕ) (info : Info) (fell : ℕ) (old : Machine) (own : Own) (events : List Event) (replies : List Reply) (new : Machine) (own_new : Own)
-    → BookOf accepted ended old → Runs info fell old own events replies new own_new → EachOnce accepted ended events replies
-events_once accepted ended info fell old own [] [] new own_new b run = tt
-events_once accepted ended info fell old own (e ∷ es) (r ∷ rs) new own_new b (now, later, sum, (mid, own_mid, first, rest)) =
-    let n = event_noted accepted ended info now old own e r mid own_mid b first in
-    (n.fresh, n.is_open, events_once (noted (accepted_by r) accepted) (noted (ended_by e r) ended) info later mid own_mid es rs new own_new n.book rest)
-events_once accepted ended info fell old own _ _ new own_new b run = absurd run
+events_once : (accepted ended : List ℕ) (info : Info) (old : Machine) (events : List Event) (replies : List Reply) (new : Machine)
+    → BookOf accepted ended old → Runs info old events replies new → EachOnce accepted ended events replies
+events_once accepted ended info old [] [] new b run = tt
+events_once accepted ended info old (e ∷ es) (r ∷ rs) new b (mid, first, rest) =
+    let n = event_noted accepted ended info old e r mid b first in
+    (n.fresh, n.is_open, events_once (noted (accepted_by r) accepted) (noted (ended_by e r) ended) info mid es rs new n.book rest)
+events_once accepted ended info old _ _ new b run = absurd run
 
 empty_book : (old : Machine) → old.waits ≡ [] → old.serves ≡ [] → BookOf [] [] old
 empty_book old no_waits no_serves =
@@ -264,7 +264,7 @@ empty_book old no_waits no_serves =
       once = λ t. (let z = none t in omega (arith, z));
     }
 
-pub run_each_once : (info : Info) (fell : ℕ) (old : Machine) (own : Own) (events : List Event) (replies : List Reply) (new : Machine) (own_new : Own)
-    → old.waits ≡ [] → old.serves ≡ [] → Runs info fell old own events replies new own_new → EachOnce [] [] events replies
-run_each_once info fell old own events replies new own_new no_waits no_serves run =
-    events_once [] [] info fell old own events replies new own_new (empty_book old no_waits no_serves) run
+pub run_each_once : (info : Info) (old : Machine) (events : List Event) (replies : List Reply) (new : Machine)
+    → old.waits ≡ [] → old.serves ≡ [] → Runs info old events replies new → EachOnce [] [] events replies
+run_each_once info old events replies new no_waits no_serves run =
+    events_once [] [] info old events replies new (empty_book old no_waits no_serves) run

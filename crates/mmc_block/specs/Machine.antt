@@ -8,7 +8,7 @@ use Rattle.mmc_block.specs.declared.completion.Answer.TheVariants.{Data, Done, F
 use Rattle.mmc_block.specs.declared.completion.Completion.{Completion}
 use Rattle.mmc_block.specs.declared.info.Info.{Info}
 use Rattle.mmc_block.specs.declared.request.Request.{Request}
-use Rattle.mmc_block.specs.Requests.{change_of, conflicts, count_of, is_read, kind_of, part_of, start_of}
+use Rattle.mmc_block.specs.Requests.{Names, change_of, conflicts, count_of, is_read, kind_of, part_of, start_of}
 
 -- an accepted request that has no answer yet
 pub record Waiting : Type 0 where
@@ -47,6 +47,10 @@ NoneChanges info (w ∷ ws) part sector = (touches (change_of info w.request) pa
 abbrev pub AreDecidedBut : Info → List Waiting → Sets → Type 0
 AreDecidedBut info ws sets = (part : Part) (sector : ℕ) → NoneChanges info ws part sector → IsDecided (sets part sector)
 
+-- each sector that the request names is decided
+abbrev pub HasDecided : Request → Sets → Type 0
+HasDecided request sets = (part : Part) (sector : ℕ) → Names request part sector → IsDecided (sets part sector)
+
 -- the bytes are the request's sectors, joined
 abbrev pub AreJoined : Request → Sets → List ℕ → Type 0
 AreJoined request sets bytes =
@@ -57,7 +61,7 @@ abbrev pub IsAnswered : Info → Request → List Waiting → Sets → Answer �
 IsAnswered info request others old Done new =
     (is_read request ≡ false) × Same new (effect info request old) × AreDecidedBut info others new
 IsAnswered info request others old (Data bytes) new =
-    (is_read request ≡ true) × Same new old × AreJoined request old bytes × AreDecidedBut info others new
+    (is_read request ≡ true) × Same new old × AreJoined request old bytes × HasDecided request new × AreDecidedBut info others new
 IsAnswered info request others old (Failed cause) new = Same new (refused_effect info request old)
 
 -- Steps.
@@ -73,7 +77,7 @@ abbrev pub PassesNone : Waiting → List Waiting → Type 0
 PassesNone w [] = Unit {0}
 PassesNone w (v ∷ vs) = (v.ticket < w.ticket → conflicts v.request w.request ≡ false) × PassesNone w vs
 
--- complete: one in service leaves with its answer, and passes no earlier one that conflicts
+-- complete: sectors are decided, and then one in service leaves with its answer, and passes no earlier one that conflicts
 pub record Completes (info : Info) (old : Machine) (completion : Completion) (new : Machine) : Type 0 where
   pub before : List Waiting
   pub w : Waiting
@@ -83,7 +87,9 @@ pub record Completes (info : Info) (old : Machine) (completion : Completion) (ne
   pub client : completion.client ≡ w.client
   pub passes_none_waiting : PassesNone w old.waits
   pub passes_none_served : PassesNone w old.serves
-  pub answered : IsAnswered info w.request (before ++ after) old.sets completion.answer new.sets
+  pub decided : Sets
+  pub decides : Decides old.sets decided
+  pub answered : IsAnswered info w.request (before ++ after) decided completion.answer new.sets
   pub leaves : new.serves ≡ before ++ after
   pub waits : new.waits ≡ old.waits
   pub next : new.next ≡ old.next
@@ -126,11 +132,9 @@ pub record Starts (old new : Machine) : Type 0 where
 abbrev pub StartsIfIdle : Machine → Machine → Type 0
 StartsIfIdle old new = Starts old new ⊎ ((new ≡ old) × (old.serves ≡ [] → old.waits ≡ []))
 
--- sectors are decided, and then these answers are given
+-- these answers are given, in ascending order of ticket
 pub record Serves (info : Info) (old : Machine) (completions : List Completion) (new : Machine) : Type 0 where
-  pub decided : Sets
-  pub decides : Decides old.sets decided
-  pub completes : CompletesAll info (record old { sets = decided }) completions new
+  pub completes : CompletesAll info old completions new
   pub ascend : Ascend 0 completions
 
 -- a turn: a start if nothing is in service, then answers in ascending order of ticket

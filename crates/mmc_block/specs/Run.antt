@@ -1,4 +1,4 @@
--- A run of the sector machine: events with their answers, one behind the other.
+-- A run of the sector machine: events with their replies, one behind the other.
 use Rattle.std.specs.Prelude.{◌+◌, ◌==◌, ◌∷◌, ◌≡◌, ◌≤◌, List, None, Option, Some, [], if◌then◌else◌, length, ℕ}
 use Rattle.mmc_block.specs.declared.completion.Answer.{Answer}
 use Rattle.mmc_block.specs.declared.completion.Answer.TheVariants.{Data, Done, Failed}
@@ -6,7 +6,7 @@ use Rattle.mmc_block.specs.declared.completion.Completion.{Completion}
 use Rattle.mmc_block.specs.declared.info.Info.{Info}
 use Rattle.mmc_block.specs.declared.refused.Refused.{Refused}
 use Rattle.mmc_block.specs.declared.request.Request.{Request}
-use Rattle.mmc_block.specs.Machine.{Accepts, GivesBack, IsTicketOf, Machine, Serves, StartsIfIdle, Waiting}
+use Rattle.mmc_block.specs.Machine.{Accepts, GivesBack, IsTicketOf, Machine, Serves, StartsIfIdle, Turns, Waiting}
 use Rattle.mmc_block.specs.Refusal.{IsFirst, first_refusal}
 
 -- what a client may do
@@ -24,12 +24,48 @@ pub data Reply : Type 0 where
   InService : Reply
   Unknown : Reply
 
--- Own faults: to each ticket a number, 0 at submission.
-abbrev pub Own : Type 0
-Own = ℕ → ℕ
+-- Steps that follow each other.
+
+-- Each event with its reply is a step, from one state to the next.
+abbrev pub Follow : {S : Type 0} → (S → Event → Reply → S → Type 0) → S → List Event → List Reply → S → Type 0
+Follow {S} Steps old [] [] new = new ≡ old
+Follow {S} Steps old (e ∷ es) (r ∷ rs) new = (mid : S) × Steps old e r mid × Follow Steps mid es rs new
+Follow {S} Steps old _ _ new = ⊥
+
+-- how many have no answer yet
+abbrev pub unanswered : Machine → ℕ
+unanswered machine = length machine.waits + length machine.serves
+
+-- An event with its reply, where this is what a turn with these answers does.
+abbrev pub Happens : Info → Machine → (List Completion → Type 0) → Event → Reply → Machine → Type 0
+Happens info old Turned (Submit client request) (Accepted ticket) new =
+    (first_refusal info (unanswered old) old.next request ≡ None) × Accepts old client request ticket new
+Happens info old Turned (Submit client request) (RefusedFor why) new =
+    IsFirst (first_refusal info (unanswered old) old.next request) why × (new ≡ old)
+Happens info old Turned Turn (Answers completions) new = Turned completions
+Happens info old Turned (Cancel ticket) (GivenBack request) new = GivesBack old ticket request new
+Happens info old Turned (Cancel ticket) InService new = IsTicketOf ticket old.serves × (new ≡ old)
+Happens info old Turned (Cancel ticket) Unknown new = (IsTicketOf ticket old.serves → ⊥) × (IsTicketOf ticket old.waits → ⊥) × (new ≡ old)
+Happens info old Turned _ _ new = ⊥
+
+-- a step of the machine
+abbrev pub Steps : Info → Machine → Event → Reply → Machine → Type 0
+Steps info old event reply new = Happens info old (λ (completions : List Completion). Turns info old completions new) event reply new
+
+-- A run of the sector machine.
+abbrev pub Runs : Info → Machine → List Event → List Reply → Machine → Type 0
+Runs info old events replies new = Follow (Steps info) old events replies new
+
+-- Own faults.
+
+-- A machine, the faults that have fallen, and to each ticket how many of them are its own.
+pub record Counted : Type 0 where
+  pub machine : Machine
+  pub faults : ℕ
+  pub own_faults : ℕ → ℕ
 
 -- so many more for one ticket, or for none
-abbrev pub own_after : ℕ → Option ℕ → Own → Own
+abbrev pub own_after : ℕ → Option ℕ → (ℕ → ℕ) → ℕ → ℕ
 own_after fell None own ticket = own ticket
 own_after fell (Some whose) own ticket = if ticket == whose then own ticket + fell else own ticket
 
@@ -43,42 +79,35 @@ HasFour own Done = Unit {0}
 HasFour own (Data bytes) = Unit {0}
 HasFour own (Failed cause) = 4 ≤ own
 
-abbrev pub AllHaveFour : Own → List Completion → Type 0
+abbrev pub AllHaveFour : (ℕ → ℕ) → List Completion → Type 0
 AllHaveFour own [] = Unit {0}
 AllHaveFour own (c ∷ cs) = HasFour (own c.ticket) c.answer × AllHaveFour own cs
 
 -- A turn in which so many faults fell: they count for at most one request, which is in service.
-pub record TurnsOwn (info : Info) (fell : ℕ) (old : Machine) (own : Own) (completions : List Completion) (new : Machine) (own_new : Own) : Type 0 where
+pub record CountedTurn (info : Info) (old : Counted) (completions : List Completion) (new : Counted) : Type 0 where
   pub started : Machine
-  pub start : StartsIfIdle old started
-  pub serves : Serves info started completions new
+  pub start : StartsIfIdle old.machine started
+  pub serves : Serves info started completions new.machine
+  pub fell : ℕ
+  pub faults : new.faults ≡ old.faults + fell
   pub whose : Option ℕ
   pub in_service : IsNoneOrTicketOf whose started.serves
-  pub counts : (ticket : ℕ) → own_new ticket ≡ own_after fell whose own ticket
-  pub four : AllHaveFour own_new completions
+  pub counts : (ticket : ℕ) → new.own_faults ticket ≡ own_after fell whose old.own_faults ticket
+  pub four : AllHaveFour new.own_faults completions
 
--- how many have no answer yet
-abbrev pub unanswered : Machine → ℕ
-unanswered machine = length machine.waits + length machine.serves
+-- Outside a turn no fault falls, and who is accepted has none of its own.
+abbrev pub AreCounted : Event → Reply → Counted → Counted → Type 0
+AreCounted Turn reply old new = Unit {0}
+AreCounted event (Accepted ticket) old new =
+    (new.faults ≡ old.faults) × ((t : ℕ) → new.own_faults t ≡ (if t == ticket then 0 else old.own_faults t))
+AreCounted event reply old new = (new.faults ≡ old.faults) × ((t : ℕ) → new.own_faults t ≡ old.own_faults t)
 
--- An event with its answer, in which so many faults fell.
-abbrev pub Happens : Info → ℕ → Machine → Own → Event → Reply → Machine → Own → Type 0
-Happens info fell old own (Submit client request) (Accepted ticket) new own_new =
-    (first_refusal info (unanswered old) old.next request ≡ None) × Accepts old client request ticket new
-    × ((t : ℕ) → own_new t ≡ (if t == ticket then 0 else own t))
-Happens info fell old own (Submit client request) (RefusedFor why) new own_new =
-    IsFirst (first_refusal info (unanswered old) old.next request) why × (new ≡ old) × (own_new ≡ own)
-Happens info fell old own Turn (Answers completions) new own_new = TurnsOwn info fell old own completions new own_new
-Happens info fell old own (Cancel ticket) (GivenBack request) new own_new = GivesBack old ticket request new × (own_new ≡ own)
-Happens info fell old own (Cancel ticket) InService new own_new = IsTicketOf ticket old.serves × (new ≡ old) × (own_new ≡ own)
-Happens info fell old own (Cancel ticket) Unknown new own_new =
-    (IsTicketOf ticket old.serves → ⊥) × (IsTicketOf ticket old.waits → ⊥) × (new ≡ old) × (own_new ≡ own)
-Happens info fell old own _ _ new own_new = ⊥
+-- a step of the machine with own faults
+abbrev pub CountedSteps : Info → Counted → Event → Reply → Counted → Type 0
+CountedSteps info old event reply new =
+    Happens info old.machine (λ (completions : List Completion). CountedTurn info old completions new) event reply new.machine
+    × AreCounted event reply old new
 
--- A run, in which so many faults fell.
-abbrev pub Runs : Info → ℕ → Machine → Own → List Event → List Reply → Machine → Own → Type 0
-Runs info fell old own [] [] new own_new = (fell ≡ 0) × (new ≡ old) × (own_new ≡ own)
-Runs info fell old own (e ∷ es) (r ∷ rs) new own_new =
-    (now : ℕ) × (later : ℕ) × (fell ≡ now + later) × ((mid : Machine) × (own_mid : Own)
-    × Happens info now old own e r mid own_mid × Runs info later mid own_mid es rs new own_new)
-Runs info fell old own _ _ new own_new = ⊥
+-- A run with own faults.
+abbrev pub CountedRuns : Info → Counted → List Event → List Reply → Counted → Type 0
+CountedRuns info old events replies new = Follow (CountedSteps info) old events replies new

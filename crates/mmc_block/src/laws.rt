@@ -1,18 +1,25 @@
 //! Laws about the sector machine. Each function does nothing; its contract is the law, which a caller then knows.
-ghost use Rattle.std.specs.Prelude.{◌≡◌, ◌⊎◌, List, [], true, ℕ};
+ghost use Rattle.std.specs.Prelude.{◌≡◌, ◌↔◌, ◌⊎◌, List, [], false, true, ℕ};
 ghost use Rattle.mmc_bus.specs.declared.part.Part.{Part};
-ghost use Rattle.mmc_bus.specs.Sectors.{IsDecided, Sets, touches};
+ghost use Rattle.mmc_bus.specs.Sectors.{IsDecided, Sector, Sets, Within, touches};
 ghost use Rattle.mmc_block.specs.declared.completion.Completion.{Completion};
 ghost use Rattle.mmc_block.specs.declared.info.Info.{Info};
 ghost use Rattle.mmc_block.specs.declared.request.Request.{Request};
 ghost use Rattle.mmc_block.specs.Machine.{Completes, Decides, Machine, Turns};
 ghost use Rattle.mmc_block.specs.MachineLaws.{EachOnce, IsFailure, KeepsValues};
-ghost use Rattle.mmc_block.specs.Requests.{change_of, conflicts};
-ghost use Rattle.mmc_block.specs.Run.{Event, Own, Reply, Runs};
+ghost use Rattle.mmc_block.specs.Requests.{ShareSector, change_of, conflicts, is_read};
+ghost use Rattle.mmc_block.specs.Run.{Counted, CountedRuns, Event, Reply, Runs};
+ghost use Rattle.mmc_block.specs.InOrder.{AreDecided, EndsInOrder, IsInOrder, MayHold, history};
 
 /// Of two requests that conflict either conflicts with the other.
 pub fn conflict_is_symmetric()
     ensures { (a b : Request) → conflicts a b ≡ conflicts b a }
+{}
+
+/// Two requests conflict just where a sector lies in both of them, and one of them isn't a read. A request of no sectors
+/// conflicts with none.
+pub fn a_conflict_is_a_common_sector()
+    ensures { (a b : Request) → (conflicts a b ≡ true) ↔ (ShareSector a b × ((is_read a ≡ false) ⊎ (is_read b ≡ false))) }
 {}
 
 /// A sector that has a value never loses its last one, neither by an answer nor by a turn.
@@ -32,6 +39,28 @@ pub fn a_decided_sector_stays_decided()
 /// In a run from a machine in which no request waits or is in service, each ticket is accepted at most once, and it is
 /// answered or given back at most once, and after it was accepted.
 pub fn a_ticket_is_answered_once_and_after_its_submission()
-    ensures { (info : Info) (fell : ℕ) (old : Machine) (own : Own) (events : List Event) (replies : List Reply) (new : Machine) (own_new : Own)
-        → old.waits ≡ [] → old.serves ≡ [] → Runs info fell old own events replies new own_new → EachOnce [] [] events replies }
+    ensures { (info : Info) (old : Machine) (events : List Event) (replies : List Reply) (new : Machine)
+        → old.waits ≡ [] → old.serves ≡ [] → Runs info old events replies new → EachOnce [] [] events replies }
+{}
+
+/// A run with own faults is a run.
+pub fn a_counted_run_is_a_run()
+    ensures { (info : Info) (old : Counted) (events : List Event) (replies : List Reply) (new : Counted)
+        → CountedRuns info old events replies new → Runs info old.machine events replies new.machine }
+{}
+
+/// In a run from a machine whose sectors are decided, and in which no request waits or is in service, each answer with data
+/// gives for each sector its ordered value below the request's ticket: what the earlier requests leave in it in order of
+/// submission, whichever order the machine completed them in, where of each failed write each sector is old or new.
+pub fn answers_are_in_order()
+    ensures { (info : Info) (old : Machine) (events : List Event) (replies : List Reply) (new : Machine)
+        → AreDecided old.sets → old.waits ≡ [] → old.serves ≡ [] → Runs info old events replies new → IsInOrder (history info old.sets events replies) }
+{}
+
+/// The same with what the sectors hold at the end, where they hold no more than the last machine allows: it is the ordered
+/// value below the next ticket, by the same choices.
+pub fn contents_are_in_order()
+    ensures { (info : Info) (old : Machine) (events : List Event) (replies : List Reply) (new : Machine) (sets : Sets) (contents : Part → ℕ → Sector)
+        → AreDecided old.sets → old.waits ≡ [] → old.serves ≡ [] → Runs info old events replies new → Within sets new.sets → MayHold sets contents
+        → EndsInOrder (history info old.sets events replies) sets new.next contents }
 {}

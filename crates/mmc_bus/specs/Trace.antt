@@ -1,7 +1,19 @@
 -- A bus that keeps its last exchanges.
-use Rattle.std.specs.Prelude.{◌≡◌, ℕ, List, [], ◌∷◌, ◌++◌}
+use Rattle.std.specs.Prelude.{◌≡◌, ◌-◌, ℕ, drop, List, [], ◌∷◌, ◌++◌, length}
 use Rattle.circular_buffer.specs.Buffer.{keep_last}
 use Rattle.mmc_bus.specs.declared.bus.Exchange.{Exchange}
+use Rattle.mmc_bus.specs.declared.bus.Exchange.TheVariants.{Busy, Command, In, Out}
+
+-- a command has its six bytes
+abbrev pub HasItsFrame : Exchange → Type 0
+HasItsFrame (Command frame reply) = length frame ≡ 6
+HasItsFrame (In len got) = Unit {0}
+HasItsFrame (Out got) = Unit {0}
+HasItsFrame (Busy said) = Unit {0}
+
+-- the last n of these exchanges, or all where there are fewer
+abbrev pub last_of : ℕ → List Exchange → List Exchange
+last_of n exchanges = drop (length exchanges - n) exchanges
 
 -- the bus inside, the exchanges that are kept, oldest first, and how many there may be
 pub record TraceView (B : Type 0) : Type 0 where

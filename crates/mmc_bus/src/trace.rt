@@ -19,14 +19,20 @@ pub struct TraceBus<B: Bus> {
 }
 
 impl<B: Bus> Model for TraceBus<B> {
-    ghost use Rattle.mmc_bus.specs.Trace.{TraceView};
+    ghost use Rattle.std.specs.List.{All};
+    ghost use Rattle.mmc_bus.specs.Trace.{HasItsFrame, TraceView};
 
     ghost Value = { TraceView B };
 
     ghost view = { λ t. record { bus = t.bus; exchanges = t.last.items; capacity = t.last.capacity } };
+
+    ghost invariant = { λ t. All HasItsFrame t.last.items };
 }
 
 impl<B: Bus> TraceBus<B> {
+    ghost use Rattle.std.specs.List.{All};
+    ghost use Rattle.mmc_bus.specs.Trace.{HasItsFrame, last_of};
+
     /// A trace that keeps the last `n` exchanges, from 1 to 65,536, and has none yet.
     ///
     /// # Errors
@@ -45,7 +51,9 @@ impl<B: Bus> TraceBus<B> {
 
     /// How many exchanges are kept.
     pub fn len(&self) -> usize
-        ensures { result ≡ length self.now.exchanges }
+        ensures count { result ≡ length self.now.exchanges }
+        // Each command that is kept has its six bytes.
+        ensures framed { All HasItsFrame self.now.exchanges }
     {
         self.last.len()
     }
@@ -64,7 +72,17 @@ impl<B: Bus> TraceBus<B> {
     pub fn write_lines<W: Write>(&self, out: &mut W) -> io::Result<()>
         ensures { Writes (W.contents out.old) (W.contents out.new) result (lines_text self.now.exchanges) }
     {
-        for i in 0..self.len() {
+        self.write_last(self.len(), out)
+    }
+
+    /// Writes a line for each of the last `most` exchanges that are kept, oldest first; where fewer are kept, for each.
+    ///
+    /// # Errors
+    /// The fault of a write; a front of the lines went out then.
+    pub fn write_last<W: Write>(&self, most: usize, out: &mut W) -> io::Result<()>
+        ensures { Writes (W.contents out.old) (W.contents out.new) result (lines_text (last_of most self.now.exchanges)) }
+    {
+        for i in self.len().saturating_sub(most)..self.len() {
             let exchange = self.last.get(i).unwrap();
             exchange.write_line(out)?;
         }

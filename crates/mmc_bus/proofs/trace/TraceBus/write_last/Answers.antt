@@ -2,16 +2,17 @@ use Rattle.std.proofs.Common.{◌≡◌, ◌+◌, ◌++◌, drop, Some, sym, ap,
 use Rattle.std.specs.Prelude.{slice_get}
 use Rattle.std.specs.Option.{option_copied}
 use Rattle.text_out.proofs.WritingLemmas.{appends_more, writes_broken}
+use Rattle.mmc_bus.specs.Trace.{last_of}
 use Rattle.mmc_bus.specs.ExchangeText.{exchange_text, lines_text}
 use Rattle.mmc_bus.proofs.ExchangeLines.{lines_at}
-use Rattle.mmc_bus.proofs.trace.TraceBus.write_lines.Goals as goal
+use Rattle.mmc_bus.proofs.trace.TraceBus.write_last.Goals as goal
 
 pub returns-in_err-write_line : goal.returns-in_err-write_line
 returns-in_err-write_line g c =
     let inv = c.loop-i.invariant in
     let found : Some c.unwrap-exchange.result.now ≡ slice_get c.self.inside.last.items c.loop-i.i = sym (ap option_copied c.unwrap-exchange.ensures) ∙ c.get.ensures in
     writes_broken _ _ _ _ inv.0 _ (lines_text (drop (c.loop-i.i + 1) c.self.inside.last.items)) _ c.from_residual.ensures.0
-    (ap lines_text inv.3 ∙ inv.1 ∙ ap (λ t. inv.0 ++ t) (lines_at c.self.inside.last.items c.loop-i.i _ found)) inv.2 c.in_err-write_line.ensures
+    (ap (λ es. lines_text (last_of c.args.most es)) inv.3 ∙ inv.1 ∙ ap (λ t. inv.0 ++ t) (lines_at c.self.inside.last.items c.loop-i.i _ found)) inv.2 c.in_err-write_line.ensures
 
 pub loop-i-preserved : goal.loop-i-preserved
 loop-i-preserved g c =
