@@ -1,5 +1,5 @@
 -- Each step of a card leaves a card.
-use Rattle.std.proofs.Common.{◌++◌, ◌+◌, ◌∙◌, ◌∷◌, ◌≡◌, ◌⊎◌, Bool, List, [], ap, arith, false, inl, inr, length, refl, suc, sym, true, zero, ℕ}
+use Rattle.std.proofs.Common.{◌++◌, ◌∙◌, ◌∷◌, ◌≡◌, ◌⊎◌, Bool, List, [], ap, arith, false, inl, inr, length, refl, suc, sym, true, zero, ℕ}
 use Rattle.std.specs.Prelude.{bit_or, replicate, slice_index_or}
 use Rattle.mmc_frame.specs.Status.{state_number}
 use Rattle.mmc_frame.specs.declared.card_state.State.{State}
@@ -8,8 +8,8 @@ use Rattle.mmc_bus.specs.declared.part.Part.{Part}
 use Rattle.mmc_bus.proofs.Conditions.{along, by_cond}
 use Rattle.mmc_bus.proofs.Landing.{one_set}
 use Rattle.mmc_bus.specs.Answer.{com_crc_error, done, erase_reset, garbled, illegal_command, raised, refused, reset, shown}
-use Rattle.mmc_bus.specs.Blocks.{programmed, rested}
-use Rattle.mmc_bus.specs.Card.{AreAmong, AreBlocks, Card, IsApart, IsCard, NoAddress, complaint_bits, error_bits, is_in, is_selected, is_writing, landed, landed_in, stored}
+use Rattle.mmc_bus.specs.Blocks.{programmed, rested, waited}
+use Rattle.mmc_bus.specs.Card.{AreAmong, AreBlocks, Card, IsApart, IsBlock, NoAddress, complaint_bits, error_bits, is_in, is_selected, is_writing, landed, landed_in, stored}
 use Rattle.mmc_bus.specs.Made.{HasRegisters, first_block_length}
 use Rattle.mmc_bus.specs.declared.command.Command.{Command}
 use Rattle.mmc_bus.specs.Rows.{leaves_erase, reached}
@@ -65,23 +65,34 @@ apart_rests Rcv h = cc
 apart_rests Prg h = cc
 apart_rests Dis h = refl
 
+-- What holds of each card by itself.
+pub record IsBasic (card : Card) : Type 0 where
+  pub registers : HasRegisters card.made
+  pub apart : is_selected card.state ≡ false → IsApart card
+  pub finished : is_writing card.state ≡ false → card.values ≡ []
+  pub block_length : (card.block_length ≡ 512) ⊎ (card.block_length ≡ first_block_length card.made)
+  pub complaints : AreAmong card.complaints complaint_bits
+  pub errors : AreAmong card.errors error_bits
+  pub blocks : (part : Part) → AreBlocks (stored card part)
+  pub taken : AreBlocks card.values
+
 -- Blocks.
 
 pub blocks_some : (lands : ℕ → Bool) (i : ℕ) (vs xs : List Sector) → AreBlocks vs → AreBlocks xs → AreBlocks (landed_in lands i vs xs)
 blocks_some lands i vs [] v x = tt
 blocks_some lands zero [] (x ∷ xs) v h = h
-blocks_some lands zero (w ∷ vs) (x ∷ xs) v h = (by_cond (λ (block : Sector). length block ≡ 512) (lands (length vs)) (λ _. v.0) (λ _. h.0), blocks_some lands zero vs xs v.1 h.1)
+blocks_some lands zero (w ∷ vs) (x ∷ xs) v h = (by_cond IsBlock (lands (length vs)) (λ _. v.0) (λ _. h.0), blocks_some lands zero vs xs v.1 h.1)
 blocks_some lands (suc i) vs (x ∷ xs) v h = (h.0, blocks_some lands i vs xs v h.1)
 
-pub blocks_snoc : (vs : List Sector) (block : Sector) → AreBlocks vs → length block ≡ 512 → AreBlocks (vs ++ block ∷ [])
+pub blocks_snoc : (vs : List Sector) (block : Sector) → AreBlocks vs → IsBlock block → AreBlocks (vs ++ block ∷ [])
 blocks_snoc [] block v h = (h, tt)
 blocks_snoc (x ∷ vs) block v h = (v.0, blocks_snoc vs block v.1 h)
 
-pub blocks_replicate : (n : ℕ) (x : Sector) → length x ≡ 512 → AreBlocks (replicate n x)
+pub blocks_replicate : (n : ℕ) (x : Sector) → IsBlock x → AreBlocks (replicate n x)
 blocks_replicate zero x h = tt
 blocks_replicate (suc n) x h = (h, blocks_replicate n x h)
 
-blocks_landed : (lands : ℕ → Bool) (c : Card) → IsCard c → (p : Part) → AreBlocks (slice_index_or (landed lands c) (part_number p) [])
+blocks_landed : (lands : ℕ → Bool) (c : Card) → IsBasic c → (p : Part) → AreBlocks (slice_index_or (landed lands c) (part_number p) [])
 blocks_landed lands c k p =
     let new = landed_in lands c.start c.values (stored c c.part) in
     elim (one_set c.sectors (part_number c.part) new [] (part_number p)) [
@@ -89,7 +100,7 @@ blocks_landed lands c k p =
       | inr n ↦ along AreBlocks n.1 (blocks_some lands c.start c.values (stored c c.part) k.taken (k.blocks c.part))
     ]
 
-same_blocks : (c d : Card) → d.sectors ≡ c.sectors → IsCard c → (p : Part) → AreBlocks (stored d p)
+same_blocks : (c d : Card) → d.sectors ≡ c.sectors → IsBasic c → (p : Part) → AreBlocks (stored d p)
 same_blocks c d st k p = along (λ (ss : List (List Sector)). AreBlocks (slice_index_or ss (part_number p) [])) st (k.blocks p)
 
 -- Makers.
@@ -101,7 +112,7 @@ pub record IsLike (c d : Card) : Type 0 where
   pub complaints : AreAmong d.complaints complaint_bits
   pub errors : AreAmong d.errors error_bits
 
-block_length_like : (c d : Card) → IsCard c → IsLike c d → (d.block_length ≡ 512) ⊎ (d.block_length ≡ first_block_length d.made)
+block_length_like : (c d : Card) → IsBasic c → IsLike c d → (d.block_length ≡ 512) ⊎ (d.block_length ≡ first_block_length d.made)
 block_length_like c d k l =
     elim l.block_length [
       | inl same ↦ elim k.block_length [
@@ -111,8 +122,8 @@ block_length_like c d k l =
       | inr h ↦ inl h
     ]
 
-pub made_card : (c d : Card) → IsCard c → IsLike c d → (is_selected d.state ≡ false → IsApart d) → (is_writing d.state ≡ false → d.values ≡ [])
-    → ((p : Part) → AreBlocks (stored d p)) → AreBlocks d.values → IsCard d
+pub made_card : (c d : Card) → IsBasic c → IsLike c d → (is_selected d.state ≡ false → IsApart d) → (is_writing d.state ≡ false → d.values ≡ [])
+    → ((p : Part) → AreBlocks (stored d p)) → AreBlocks d.values → IsBasic d
 made_card c d k l apart finished blocks taken = record {
   registers = along HasRegisters l.made k.registers;
   apart = apart;
@@ -125,9 +136,9 @@ made_card c d k l apart finished blocks taken = record {
 }
 
 -- The state is as it was, and so is all that counts there.
-pub stays_card : (c d : Card) → IsCard c → IsLike c d → d.state ≡ c.state → d.sectors ≡ c.sectors → d.values ≡ c.values
+pub stays_card : (c d : Card) → IsBasic c → IsLike c d → d.state ≡ c.state → d.sectors ≡ c.sectors → d.values ≡ c.values
     → d.width ≡ c.width → d.timing ≡ c.timing → d.erase_group_def ≡ c.erase_group_def → d.part ≡ c.part
-    → (c.is_busy ≡ false → d.is_busy ≡ false) → (c.count ≡ 0 → d.count ≡ 0) → (c.erase ≡ NoAddress → d.erase ≡ NoAddress) → IsCard d
+    → (c.is_busy ≡ false → d.is_busy ≡ false) → (c.count ≡ 0 → d.count ≡ 0) → (c.erase ≡ NoAddress → d.erase ≡ NoAddress) → IsBasic d
 stays_card c d k l state sectors values width timing group part busy count erase =
     made_card c d k l
     (λ h. let a = k.apart (ap is_selected (sym state) ∙ h) in
@@ -145,9 +156,9 @@ stays_card c d k l state sectors values width timing group part busy count erase
     (along AreBlocks values k.taken)
 
 -- From a state with the card not selected to another one.
-pub apart_card : (c d : Card) → IsCard c → IsLike c d → is_selected c.state ≡ false → is_writing d.state ≡ false → d.sectors ≡ c.sectors → d.values ≡ c.values
+pub apart_card : (c d : Card) → IsBasic c → IsLike c d → is_selected c.state ≡ false → is_writing d.state ≡ false → d.sectors ≡ c.sectors → d.values ≡ c.values
     → d.width ≡ c.width → d.timing ≡ c.timing → d.erase_group_def ≡ c.erase_group_def → d.part ≡ c.part
-    → d.is_busy ≡ c.is_busy → d.count ≡ 0 → d.erase ≡ c.erase → IsCard d
+    → d.is_busy ≡ c.is_busy → d.count ≡ 0 → d.erase ≡ c.erase → IsBasic d
 apart_card c d k l down rests sectors values width timing group part busy count erase =
     let a = k.apart down in
     made_card c d k l
@@ -165,8 +176,8 @@ apart_card c d k l down rests sectors values width timing group part busy count 
     (along AreBlocks values k.taken)
 
 -- The card is selected after it.
-pub chosen_card : (c d : Card) → IsCard c → IsLike c d → is_selected d.state ≡ true → d.sectors ≡ c.sectors
-    → (is_writing d.state ≡ false → d.values ≡ []) → AreBlocks d.values → IsCard d
+pub chosen_card : (c d : Card) → IsBasic c → IsLike c d → is_selected d.state ≡ true → d.sectors ≡ c.sectors
+    → (is_writing d.state ≡ false → d.values ≡ []) → AreBlocks d.values → IsBasic d
 chosen_card c d k l up sectors finished taken =
     made_card c d k l (λ h. cc (up, h)) finished (same_blocks c d sectors k) taken
 
@@ -174,67 +185,67 @@ chosen_card c d k l up sectors finished taken =
 pub like_shown : (c d : Card) → d.made ≡ c.made → d.block_length ≡ c.block_length → d.complaints ≡ 0 → d.errors ≡ 0 → IsLike c d
 like_shown c d m b x y = record { made = m; block_length = inl b; complaints = along (λ n. AreAmong n complaint_bits) x refl; errors = along (λ n. AreAmong n error_bits) y refl }
 
-pub like_done : (c d : Card) → IsCard c → d.made ≡ c.made → d.block_length ≡ c.block_length → d.complaints ≡ 0 → d.errors ≡ c.errors → IsLike c d
+pub like_done : (c d : Card) → IsBasic c → d.made ≡ c.made → d.block_length ≡ c.block_length → d.complaints ≡ 0 → d.errors ≡ c.errors → IsLike c d
 like_done c d k m b x y = record { made = m; block_length = inl b; complaints = along (λ n. AreAmong n complaint_bits) x refl; errors = along (λ n. AreAmong n error_bits) y k.errors }
 
-pub like_same : (c d : Card) → IsCard c → d.made ≡ c.made → d.block_length ≡ c.block_length → d.complaints ≡ c.complaints → d.errors ≡ c.errors → IsLike c d
+pub like_same : (c d : Card) → IsBasic c → d.made ≡ c.made → d.block_length ≡ c.block_length → d.complaints ≡ c.complaints → d.errors ≡ c.errors → IsLike c d
 like_same c d k m b x y = record { made = m; block_length = inl b; complaints = along (λ n. AreAmong n complaint_bits) x k.complaints; errors = along (λ n. AreAmong n error_bits) y k.errors }
 
-pub card_shown : (c : Card) → IsCard c → IsCard (shown c)
+pub card_shown : (c : Card) → IsBasic c → IsBasic (shown c)
 card_shown c k = stays_card c (shown c) k (like_shown c _ refl refl refl refl) refl refl refl refl refl refl refl (λ h. h) (λ h. refl) (λ h. h)
 
-pub card_done : (c : Card) → IsCard c → IsCard (done c)
+pub card_done : (c : Card) → IsBasic c → IsBasic (done c)
 card_done c k = stays_card c (done c) k (like_done c _ k refl refl refl refl) refl refl refl refl refl refl refl (λ h. h) (λ h. refl) (λ h. h)
 
-pub card_app : (c : Card) → IsCard c → IsCard (record (shown c) { app = true })
+pub card_app : (c : Card) → IsBasic c → IsBasic (record (shown c) { app = true })
 card_app c k = stays_card c _ k (like_shown c _ refl refl refl refl) refl refl refl refl refl refl refl (λ h. h) (λ h. refl) (λ h. h)
 
-pub card_forgotten : (c : Card) → IsCard c → IsCard (forgotten (shown c))
+pub card_forgotten : (c : Card) → IsBasic c → IsBasic (forgotten (shown c))
 card_forgotten c k = stays_card c _ k (like_shown c _ refl refl refl refl) refl refl refl refl refl refl refl (λ h. h) (λ h. refl) (λ h. refl)
 
-pub card_refused : (c : Card) → IsCard c → IsCard (refused c)
+pub card_refused : (c : Card) → IsBasic c → IsBasic (refused c)
 card_refused c k =
     stays_card c (refused c) k
     (record { made = refl; block_length = inl refl; complaints = among_more c.complaints illegal_command complaint_bits k.complaints refl; errors = k.errors })
     refl refl refl refl refl refl refl (λ h. h) (λ h. refl) (λ h. h)
 
-pub card_garbled : (keeps : Bool) (c : Card) → IsCard c → IsCard (garbled keeps c)
+pub card_garbled : (keeps : Bool) (c : Card) → IsBasic c → IsBasic (garbled keeps c)
 card_garbled keeps c k =
     stays_card c (garbled keeps c) k
     (record { made = refl; block_length = inl refl; complaints = among_more c.complaints com_crc_error complaint_bits k.complaints refl; errors = k.errors })
     refl refl refl refl refl refl refl (λ h. h) (λ h. by_cond (λ n. n ≡ 0) keeps (λ _. h) (λ _. refl)) (λ h. h)
 
 -- error bits are raised
-pub card_raised : (bits : ℕ) (c : Card) → AreAmong bits error_bits → IsCard c → IsCard (raised bits c)
+pub card_raised : (bits : ℕ) (c : Card) → AreAmong bits error_bits → IsBasic c → IsBasic (raised bits c)
 card_raised bits c among k =
     stays_card c (raised bits c) k
     (record { made = refl; block_length = inl refl; complaints = k.complaints; errors = among_more c.errors bits error_bits k.errors among })
     refl refl refl refl refl refl refl (λ h. h) (λ h. h) (λ h. h)
 
-card_dropped : (c : Card) → IsCard c → IsCard (raised erase_reset (forgotten c))
+card_dropped : (c : Card) → IsBasic c → IsBasic (raised erase_reset (forgotten c))
 card_dropped c k =
     stays_card c _ k
     (record { made = refl; block_length = inl refl; complaints = k.complaints; errors = among_more c.errors erase_reset error_bits k.errors refl })
     refl refl refl refl refl refl refl (λ h. h) (λ h. h) (λ h. refl)
 
-pub card_reached : (command : Command) (c : Card) → IsCard c → IsCard (reached command c)
+pub card_reached : (command : Command) (c : Card) → IsBasic c → IsBasic (reached command c)
 card_reached command c k =
-    by_cond IsCard (leaves_erase command) (λ _. k) (λ _. by_cond IsCard (holds_address c.erase) (λ _. card_dropped c k) (λ _. k))
+    by_cond IsBasic (leaves_erase command) (λ _. k) (λ _. by_cond IsBasic (holds_address c.erase) (λ _. card_dropped c k) (λ _. k))
 
-pub card_reset : (lands : ℕ → Bool) (c : Card) → IsCard c → IsCard (reset lands c)
+pub card_reset : (lands : ℕ → Bool) (c : Card) → IsBasic c → IsBasic (reset lands c)
 card_reset lands c k =
     made_card c (reset lands c) k (like_shown c _ refl refl refl refl)
     (λ h. record { width = refl; timing = refl; erase_group_def = refl; part = refl; is_busy = refl; count = refl; erase = refl })
     (λ h. refl) (blocks_landed lands c k) tt
 
-pub card_programmed : (lands : ℕ → Bool) (c : Card) → IsCard c → IsCard (programmed lands c)
+pub card_programmed : (lands : ℕ → Bool) (c : Card) → IsBasic c → IsBasic (programmed lands c)
 card_programmed lands c k =
     made_card c (programmed lands c) k (like_same c _ k refl refl refl refl) (λ h. cc) (λ h. refl) (blocks_landed lands c k) tt
 
-pub card_rested : (c : Card) → IsCard c → IsCard (rested c)
+pub card_rested : (c : Card) → IsBasic c → IsBasic (rested c)
 card_rested c k =
-    by_cond IsCard (is_in c.state Prg) (λ _. card_programmed (λ i. true) c k)
+    by_cond IsBasic (is_in c.state Prg) (λ _. card_programmed (λ i. true) c k)
     (λ _. stays_card c _ k (like_same c _ k refl refl refl refl) refl refl refl refl refl refl refl (λ h. refl) (λ h. h) (λ h. h))
 
-pub card_slow : (c : Card) → IsCard c → IsCard (record c { polled = c.polled + 1 })
+pub card_slow : (c : Card) → IsBasic c → IsBasic (waited c)
 card_slow c k = stays_card c _ k (like_same c _ k refl refl refl refl) refl refl refl refl refl refl refl (λ h. h) (λ h. h) (λ h. h)

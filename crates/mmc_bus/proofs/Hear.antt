@@ -1,5 +1,5 @@
 -- What a host learns, from the step that the bus took.
-use Rattle.std.proofs.Common.{◌&&◌, ◌+◌, ◌<◌, ◌∙◌, ◌≡◌, ◌≤◌, Bool, List, ap, arith, bit_or, cond, false, inl, inr, refl, subst, sym, true, ℕ}
+use Rattle.std.proofs.Common.{◌&&◌, ◌<◌, ◌∙◌, ◌≡◌, ◌≤◌, Bool, List, ap, arith, bit_or, cond, false, inl, inr, refl, subst, sym, true, ℕ}
 use Rattle.std.specs.Prelude.{Ok, Result, Some}
 use Rattle.std.proofs.lemmas.Nat.{le_or_r}
 use Rattle.mmc_frame.specs.Frame.{command_in}
@@ -15,9 +15,10 @@ use Rattle.mmc_bus.proofs.FaultCount.{command_counts, give_counts, poll_counts, 
 use Rattle.mmc_bus.proofs.Narrow.{both}
 use Rattle.mmc_bus.proofs.NarrowSteps.{command_widens, give_adds, poll_keeps, take_keeps}
 use Rattle.mmc_bus.proofs.Readers.{Reads}
+use Rattle.mmc_bus.proofs.Switching.{command_switches}
 use Rattle.mmc_bus.proofs.Standing.{command_stands, give_stands, poll_stands, take_stands}
 use Rattle.mmc_bus.specs.Answer.{Answer, Choice, Mute, general_error, refused}
-use Rattle.mmc_bus.specs.Blocks.{accepted, can_send, can_take, next_block, rested, sent}
+use Rattle.mmc_bus.specs.Blocks.{accepted, can_send, can_take, next_block, rested, sent, waited}
 use Rattle.mmc_bus.specs.Card.{Card, IsCard, holds, is_in, is_selected}
 use Rattle.mmc_bus.specs.Exchanges.{Exchanged}
 use Rattle.mmc_bus.specs.Faults.{CommandStep, GiveStep, IsFlipped, IsPatient, NoFault, OneFault, PollStep, Spells, TakeStep, bad_block, brownout, fail, faithful, flip_command, flip_reply, lose_command, lose_reply, lose_status, reject, slow_inquiry, slow_poll}
@@ -66,6 +67,7 @@ faithfully : {X : Type 0} (answers : Answer → X) (choice : Choice) (old : Card
 faithfully answers choice old index argument heard new patient card answer =
     let obeys : (own : is_foreign (meant old index) old argument ≡ false) (legal : is_legal (meant old index) old ≡ true)
     → respond choice old index argument ≡ carried_out choice old index argument = λ own legal. rw (own, legal) refl in
+    let passes : (foreign : is_foreign (meant old index) old argument ≡ true) → respond choice old index argument ≡ (old, Mute) = λ foreign. rw foreign refl in
     let refuses : (own : is_foreign (meant old index) old argument ≡ false) (legal : is_legal (meant old index) old ≡ false)
     → respond choice old index argument ≡ (refused (reached (meant old index) old), Mute) = λ own legal. rw (own, legal) refl in
     record {
@@ -73,6 +75,7 @@ faithfully answers choice old index argument heard new patient card answer =
       patient = patient;
       obeys = λ own legal. (card ∙ ap (λ (x : Card × Answer). x.0) (obeys own legal), answer ∙ ap (λ (x : Card × Answer). answers x.1) (obeys own legal));
       refuses = λ own legal. (card ∙ ap (λ (x : Card × Answer). x.0) (refuses own legal), answer ∙ ap (λ (x : Card × Answer). answers x.1) (refuses own legal));
+      passes = λ foreign. (card ∙ ap (λ (x : Card × Answer). x.0) (passes foreign), answer ∙ ap (λ (x : Card × Answer). answers x.1) (passes foreign));
     }
 
 -- the command that a frame is
@@ -136,6 +139,7 @@ command_facts Fits hears answers old frame index argument reply new reads fits c
       stays = record { carried = widens.carried; later = later old new (command_counts old frame reply new step) };
       narrows = subst (λ s. Within (holds new.card) (maybe_erased (erased_by old.card s) (holds old.card))) command widens.widens;
       stands = λ run. command_stands old frame reply new (ap (is_frame_of_run old.card) command ∙ run) step;
+      switches = λ part switch. command_switches part old frame index argument reply new switch command step;
       sound = command_sound Fits hears answers old frame index argument reply new reads fits command step;
       fine = command_fine Fits hears answers old frame index argument reply new reads fits command step;
     }
@@ -144,9 +148,9 @@ command_facts Fits hears answers old frame index argument reply new reads fits c
 
 -- by its answer
 polled_ways : (choice : Choice) (old : Card) (b said : Bool) (new : Card) → b ≡ (old.is_busy && choice.is_slow)
-    → new ≡ (cond {A = Card × Bool} b (record old { polled = old.polled + 1 }, true) (rested old, false)).0
-    → said ≡ (cond {A = Card × Bool} b (record old { polled = old.polled + 1 }, true) (rested old, false)).1
-    → (said ≡ true → (old.is_busy ≡ true) × (choice.is_slow ≡ true) × (new ≡ record old { polled = old.polled + 1 })) × (said ≡ false → new ≡ rested old)
+    → new ≡ (cond {A = Card × Bool} b (waited old, true) (rested old, false)).0
+    → said ≡ (cond {A = Card × Bool} b (waited old, true) (rested old, false)).1
+    → (said ≡ true → (old.is_busy ≡ true) × (choice.is_slow ≡ true) × (new ≡ waited old)) × (said ≡ false → new ≡ rested old)
 polled_ways choice old true said new e card answer =
     let busy = both old.is_busy choice.is_slow (sym e) in (λ h. (busy.0, busy.1, card), λ h. cc)
 polled_ways choice old false said new e card answer = (λ h. cc, λ h. card)
@@ -164,7 +168,7 @@ fails card prg switching = rw (prg, switching) refl
 
 -- what the answer of a poll tells
 record PollWays (old : Side) (said : Bool) (new : Side) : Type 0 where
-  yes : said ≡ true → (old.card.is_busy ≡ true) × (new.card ≡ record old.card { polled = old.card.polled + 1 })
+  yes : said ≡ true → (old.card.is_busy ≡ true) × (new.card ≡ waited old.card)
   calm : said ≡ false → is_selected new.card.state ≡ true → may_fail old.card ≡ false → new.card ≡ rested old.card
   shown : said ≡ false → is_selected new.card.state ≡ true → new.card.errors ≡ 0 → new.card ≡ rested old.card
   patient : NoFault old new → said ≡ true → old.card.polled < 8

@@ -1,3 +1,5 @@
+pub mod ByteLemmas
+pub mod CardAll
 pub mod CardRows
 pub mod Cards
 pub mod CommandLemmas
@@ -9,13 +11,17 @@ pub mod InquiryLemmas
 pub mod Landing
 pub mod Narrow
 pub mod NarrowSteps
+pub mod Ordered
 pub mod PlainLemmas
 pub mod PlainSteps
 pub mod RanLemmas
 pub mod Readers
 pub mod SectorLemmas
+pub mod Sending
 pub mod SetLemmas
+pub mod Settled
 pub mod Standing
 pub mod StatusLemmas
 pub mod Steps
 pub mod StoreLemmas
+pub mod Switching

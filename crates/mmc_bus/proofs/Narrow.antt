@@ -1,5 +1,5 @@
 -- No step lets a sector have a value that it might not have before, but for what a write takes and an erase erases.
-use Rattle.std.proofs.Common.{◌&&◌, ◌*◌, ◌++◌, ◌+◌, ◌-◌, ◌∙◌, ◌∷◌, ◌≡◌, Bool, List, [], ap, arith, cond, false, inl, inr, length, not, refl, subst, true, ℕ}
+use Rattle.std.proofs.Common.{◌&&◌, ◌*◌, ◌++◌, ◌+◌, ◌-◌, ◌∙◌, ◌∷◌, ◌≡◌, Bool, List, [], ap, arith, cond, false, inl, inr, length, not, refl, subst, true, ℕ, ◌≤◌}
 use Rattle.std.specs.Prelude.{◌==◌, None, Option, Some, if◌then◌else◌, slice_index_or}
 use Rattle.mmc_frame.specs.Field.{field}
 use Rattle.mmc_frame.specs.declared.card_state.State.{State}
@@ -11,7 +11,7 @@ use Rattle.mmc_bus.proofs.Conditions.{by_cond, first_by_cond}
 use Rattle.mmc_bus.proofs.Landing.{at_snoc, landed_size, landed_within, snoc_length}
 use Rattle.mmc_bus.proofs.SectorLemmas.{by_touch, cond_in_new, cond_in_old, in_cond, maybe_within, old_maybe, same_part, touched_by, untouched, within_same}
 use Rattle.mmc_bus.specs.Answer.{Choice, busied, garbled, general_error, raised, refused, reset, shown}
-use Rattle.mmc_bus.specs.Blocks.{accepted, can_send, can_take, programmed, rejected, rested, sent_from}
+use Rattle.mmc_bus.specs.Blocks.{accepted, can_send, can_take, programmed, rejected, rested, sent_from, waited}
 use Rattle.mmc_bus.specs.Card.{Both, Card, First, FromBytes, FromSectors, Held, NoAddress, Source, at_sector, holds, is_in, known, landed, stored, unfinished}
 use Rattle.mmc_bus.specs.Laws.{Carried, WithinOrTaken, erased_by, erased_by_command, erased_by_held, maybe_erased}
 use Rattle.mmc_bus.specs.declared.command.Command.{Command}
@@ -128,7 +128,7 @@ keeps_failed lands c = over c (raised general_error (programmed lands c)) lands 
 pub keeps_rested : (c : Card) → Keeps c (rested c)
 keeps_rested c = by_cond (Keeps c) (is_in c.state Prg) (λ _. keeps_programmed (λ i. true) c) (λ _. plain c _ refl refl refl)
 
-pub keeps_slow : (c : Card) → Keeps c (record c { polled = c.polled + 1 })
+pub keeps_slow : (c : Card) → Keeps c (waited c)
 keeps_slow c = plain c _ refl refl refl
 
 -- Rows.
@@ -144,7 +144,7 @@ keeps_transferred index errors c after k =
 keeps_begun : (state : State) (is_single : Bool) (left : Option ℕ) (c : Card) (address : ℕ) → Keeps c (begun state is_single left c address)
 keeps_begun state is_single left c address = cleared c _ refl refl refl
 
-keeps_stopped : (b : Bool) (c : Card) → Keeps c (if b then record (busied (shown c)) { state = Prg; is_switching = false } else record (shown c) { state = Tran })
+keeps_stopped : (b : Bool) (c : Card) → Keeps c (if b then record (busied (shown c)) { state = Prg; is_switching = false } else record (shown c) { state = Tran; source = FromSectors })
 keeps_stopped b c = by_cond (Keeps c) b (λ _. plain c _ refl refl refl) (λ _. plain c _ refl refl refl)
 
 keeps_first : (index : ℕ) (c : Card) (address : ℕ) (held : Held) → Keeps c (hold_first index c address held).0
@@ -171,6 +171,11 @@ pub record IsSwitched (c d : Card) : Type 0 where
   pub made : d.made ≡ c.made
   pub sectors : d.sectors ≡ c.sectors
   pub block_length : d.block_length ≡ c.block_length
+  pub rca : d.rca ≡ c.rca
+  pub erase : d.erase ≡ c.erase
+  pub asked : d.asked ≡ c.asked
+  pub source : d.source ≡ c.source
+  pub erase_group_def : c.erase_group_def ≤ 1 → d.erase_group_def ≤ 1
 
 abbrev pub AreSwitched : Card → Option Card → Type 0
 AreSwitched c None = Unit {0}
@@ -179,7 +184,7 @@ AreSwitched c (Some d) = IsSwitched c d
 accessed_switched : (c : Card) (o : Option Part) → AreSwitched c (accessed c o)
 accessed_switched c None = tt
 accessed_switched c (Some part) =
-    by_cond (AreSwitched c) (length (stored c part) == 0) (λ _. tt) (λ _. record { made = refl; sectors = refl; block_length = refl })
+    by_cond (AreSwitched c) (length (stored c part) == 0) (λ _. tt) (λ _. record { made = refl; sectors = refl; block_length = refl; rca = refl; erase = refl; asked = refl; source = refl; erase_group_def = λ h. h })
 
 access_is_switched : (c : Card) (argument : ℕ) → AreSwitched c (access_switched c argument)
 access_is_switched c argument =
@@ -188,11 +193,12 @@ access_is_switched c argument =
 
 pub is_switched : (c : Card) (argument : ℕ) → AreSwitched c (switched c argument)
 is_switched c argument =
-    let same : (d : Card) → d.made ≡ c.made → d.sectors ≡ c.sectors → d.block_length ≡ c.block_length → IsSwitched c d =
-    λ d m s b. record { made = m; sectors = s; block_length = b } in
-    by_cond (AreSwitched c) (argument == write_byte 175 1) (λ _. same _ refl refl refl)
-    (λ _. by_cond (AreSwitched c) (argument == write_byte 183 2) (λ _. same _ refl refl refl)
-    (λ _. by_cond (AreSwitched c) ((argument == write_byte 185 1) && (high_speed_at_52_mhz c.made.ext_csd == 1)) (λ _. same _ refl refl refl)
+    let same : (d : Card) → d.made ≡ c.made → d.sectors ≡ c.sectors → d.block_length ≡ c.block_length → d.rca ≡ c.rca → d.erase ≡ c.erase → d.asked ≡ c.asked → d.source ≡ c.source
+    → (c.erase_group_def ≤ 1 → d.erase_group_def ≤ 1) → IsSwitched c d =
+    λ d m s b r e a f g. record { made = m; sectors = s; block_length = b; rca = r; erase = e; asked = a; source = f; erase_group_def = g } in
+    by_cond (AreSwitched c) (argument == write_byte 175 1) (λ _. same _ refl refl refl refl refl refl refl (λ h. omega arith))
+    (λ _. by_cond (AreSwitched c) (argument == write_byte 183 2) (λ _. same _ refl refl refl refl refl refl refl (λ h. h))
+    (λ _. by_cond (AreSwitched c) ((argument == write_byte 185 1) && (high_speed_at_52_mhz c.made.ext_csd == 1)) (λ _. same _ refl refl refl refl refl refl refl (λ h. h))
     (λ _. access_is_switched c argument)))
 
 keeps_switch : (c : Card) (o : Option Card) → AreSwitched c o → Keeps c (switch_row c o).0

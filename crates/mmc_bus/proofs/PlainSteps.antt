@@ -1,5 +1,5 @@
 -- The exchanges of a plain card are steps of a card, and leave one.
-use Rattle.std.proofs.Common.{◌&&◌, ◌+◌, ◌≡◌, Bool, List, Some, ap, arith, cond, false, inl, length, refl, replicate, suc, sym, true, zero, ◌∙◌, ℕ}
+use Rattle.std.proofs.Common.{◌&&◌, ◌≡◌, Bool, List, Some, ap, arith, cond, false, inl, refl, replicate, suc, sym, true, zero, ◌∙◌, ℕ}
 use Rattle.std.specs.Prelude.{if◌then◌else◌}
 use Rattle.mmc_frame.specs.Check.{power, remainder, times_x}
 use Rattle.mmc_frame.specs.Frame.{command_in}
@@ -14,8 +14,8 @@ use Rattle.mmc_bus.specs.declared.bus.Reply.{Reply}
 use Rattle.mmc_bus.specs.declared.part.Part.{Part}
 use Rattle.mmc_bus.specs.declared.part.Part.TheVariants.{Boot1, Boot2, Gp1, Gp2, Gp3, Gp4, User}
 use Rattle.mmc_bus.specs.declared.wire.Wire.{Wire}
-use Rattle.mmc_bus.specs.Blocks.{asked_for, can_send, can_take, next_block, offered, polled_once, rested}
-use Rattle.mmc_bus.specs.Card.{AreBlocks, Card, IsCard, stored}
+use Rattle.mmc_bus.specs.Blocks.{asked_for, can_send, can_take, next_block, offered, polled_once, rested, waited}
+use Rattle.mmc_bus.specs.Card.{AreBlocks, Card, IsBlock, IsCard, stored}
 use Rattle.mmc_bus.specs.Exchanges.{Commanded, Exchanged, Given, Polled, Taken}
 use Rattle.mmc_bus.specs.Faults.{CommandStep, GiveStep, PollStep, Spells, TakeStep}
 use Rattle.mmc_bus.specs.Faults.CommandStep.{faithful as does_command}
@@ -29,11 +29,12 @@ use Rattle.mmc_bus.specs.Sectors.{Sector}
 use Rattle.mmc_bus.specs.Side.{Side}
 use Rattle.mmc_bus.specs.Store.{blank}
 use Rattle.mmc_bus.specs.Wires.{Notes, side_with}
-use Rattle.mmc_bus.proofs.CardRows.{command_card, give_card, poll_card, take_card}
+use Rattle.mmc_bus.proofs.ByteLemmas.{block_of, bytes_by}
+use Rattle.mmc_bus.proofs.CardAll.{command_card, give_card, poll_card, take_card}
 
 -- A new plain card is a card.
 
-plain_registers : HasRegisters plain_made
+pub plain_registers : HasRegisters plain_made
 unfolding is_sound_register remainder power times_x
 plain_registers = record {
   ocr = omega arith;
@@ -41,14 +42,23 @@ plain_registers = record {
   cid = refl;
   csd = refl;
   cid_check = refl;
+  cid_end = refl;
   csd_check = refl;
+  csd_end = refl;
   scr = λ h. refl;
+  switch_status = λ h. refl;
+  selected = λ h. refl;
   ext_csd = λ h. absurd cc;
+  cid_bytes = bytes_by plain_made.cid refl;
+  csd_bytes = bytes_by plain_made.csd refl;
+  scr_bytes = bytes_by plain_made.scr refl;
+  switch_status_bytes = bytes_by plain_made.switch_status refl;
+  ext_csd_bytes = tt;
 }
 
 blank_blocks : (count : ℕ) → AreBlocks (replicate count blank)
 blank_blocks zero = tt
-blank_blocks (suc count) = (refl, blank_blocks count)
+blank_blocks (suc count) = (block_of 0 (omega arith), blank_blocks count)
 
 new_blocks : (sectors : ℕ) (part : Part) → AreBlocks (stored (new_plain_card sectors) part)
 new_blocks sectors User = blank_blocks sectors
@@ -63,6 +73,18 @@ pub new_is_card : (sectors : ℕ) → IsCard (new_plain_card sectors)
 new_is_card sectors = record {
   registers = plain_registers;
   apart = λ h. absurd cc;
+  held = λ h. refl;
+  busy = λ h. absurd cc;
+  rca = record { first = λ h. absurd cc; published = λ h sd. refl };
+  app = λ h. refl;
+  asked = omega arith;
+  polled = omega arith;
+  fits = λ some. absurd (omega (arith, some));
+  receives = λ h. refl;
+  switches = λ h w. refl;
+  source = λ h. refl;
+  sends = tt;
+  erase_group_def = omega arith;
   finished = λ h. refl;
   block_length = inl refl;
   complaints = refl;
@@ -75,7 +97,7 @@ new_is_card sectors = record {
 
 -- a plain card's side
 abbrev pub plainly : Card → Wire → Side
-plainly card wire = side_with card true wire
+plainly card wire = side_with card 0 true wire
 
 exchanged : {Step : Type 0} (old new : Card) (before after : Wire) (exchange : Exchange) → Notes before exchange after → IsCard old → IsCard new → Step
     → Exchanged (plainly old before) exchange Step (plainly new after)
@@ -102,7 +124,7 @@ taken old new before after size got block k notes same is_got comes =
     let is = take_card (plainly old before) size got block (plainly new after) step k in
     (exchanged old new before after (In size got) notes k is step, is)
 
-pub given : (old new : Card) (before after : Wire) (block : Sector) (got : DataOut) → length block ≡ 512 → IsCard old → Notes before (Out got) after
+pub given : (old new : Card) (before after : Wire) (block : Sector) (got : DataOut) → IsBlock block → IsCard old → Notes before (Out got) after
     → new ≡ offered before.lines block old → got ≡ (if can_take before.lines old then Sent.Accepted else Sent.Nothing)
     → Given (plainly old before) block got (plainly new after) × IsCard new
 given old new before after block got size k notes same is_got =
@@ -116,7 +138,7 @@ never false x y = refl
 
 -- a calm card isn't busy at a poll
 calm_poll : (card : Card) → polled_once calm card ≡ (rested card, false)
-calm_poll card = never card.is_busy (record card { polled = card.polled + 1 }, true) (rested card, false)
+calm_poll card = never card.is_busy (waited card, true) (rested card, false)
 
 pub polled : (old new : Card) (before after : Wire) → IsCard old → Notes before (Busy false) after → new ≡ rested old
     → Polled (plainly old before) false (plainly new after) × IsCard new

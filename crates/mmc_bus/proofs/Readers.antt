@@ -1,11 +1,11 @@
 -- What a reader makes of an answer that comes whole, and that it takes no flipped one.
-use Rattle.std.proofs.Common.{◌&&◌, ◌<◌, ◌∙◌, ◌≡◌, Bool, List, ap, cond, false, refl, sym, true, ℕ}
+use Rattle.std.proofs.Common.{◌&&◌, ◌<◌, ◌∙◌, ◌≡◌, Bool, List, ap, cond, false, length, refl, sym, true, ℕ}
 use Rattle.std.specs.Prelude.{◌==◌, ◌||◌, Err, None, Ok, Option, Result, Some, is_ok, not}
 use Rattle.std.proofs.lemmas.Bool.{agree_below_at, eqb-true}
 use Rattle.mmc_frame.specs.Field.{field}
 use Rattle.mmc_frame.specs.Flips.{RefusesFlips, RefusesFlipsBesideOcr, is_r2, is_response_to}
 use Rattle.mmc_frame.specs.Frame.{argument_in, has_fixed_bits, index_in, is_sound, response_in}
-use Rattle.mmc_frame.specs.RegisterFrame.{ocr_in, register_frame, register_in}
+use Rattle.mmc_frame.specs.RegisterFrame.{RegistersComeBack, has_end_bit, is_sound_register, ocr_in, register_frame, register_in}
 use Rattle.mmc_frame.specs.declared.fault.FrameFault.{FrameFault}
 use Rattle.mmc_frame.specs.declared.fault.FrameFault.TheVariants.{Check, FixedBits, Index}
 use Rattle.mmc_frame.specs.declared.kind.Kind.{Kind}
@@ -14,12 +14,13 @@ use Rattle.mmc_bus.specs.declared.bus.Reply.{Reply}
 use Rattle.mmc_bus.specs.declared.bus.Reply.TheVariants.{Silent}
 use Rattle.mmc_bus.specs.declared.host.Unheard.{Unheard}
 use Rattle.mmc_bus.specs.declared.host.Unheard.TheVariants.{Unsound}
-use Rattle.mmc_bus.proofs.Cards.{card_reached}
+use Rattle.mmc_bus.proofs.CardAll.{card_reached}
 use Rattle.mmc_bus.proofs.Conditions.{by_cond}
 use Rattle.mmc_bus.specs.Answer.{Answer, Checked, Choice, Mute, Open, Register, block_len_error, erase_param, raised, refused, shown, status}
 use Rattle.mmc_bus.specs.Card.{Both, Card, First, Held, IsCard, NoAddress}
 use Rattle.mmc_bus.specs.Faults.{IsFlipped, Spells}
 use Rattle.mmc_bus.specs.Heard.{index_of_inquiry, is_inquiry_index, nothing_heard, nothing_of, ocr_heard, ocr_of, or_unsound, register_heard, register_of, response_heard, response_of}
+use Rattle.mmc_bus.specs.Laws.{erased_by_command}
 use Rattle.mmc_bus.specs.Made.{HasRegisters}
 use Rattle.mmc_bus.specs.declared.command.Command.{Command}
 use Rattle.mmc_bus.specs.declared.command.Command.TheVariants.{ASendOpCond, AllSendCid, Erase, EraseEnd, EraseStart, GoIdleState, ReadMultipleBlock, ReadSingleBlock, SendCsd, SendIfCond, SendOpCond, SetBlocklen, SwitchByte, Unknown, WriteBlock, WriteMultipleBlock}
@@ -36,12 +37,18 @@ asks_for_ocr SendOpCond = true
 asks_for_ocr ASendOpCond = true
 asks_for_ocr _ = false
 
--- an OCR answers an inquiry alone, and a register that is sent is sound
+-- sixteen bytes whose check fits and whose last bit is 1
+pub record IsRegister (bytes : List ℕ) : Type 0 where
+  pub size : length bytes ≡ 16
+  pub check : is_sound_register bytes ≡ true
+  pub end_bit : has_end_bit bytes ≡ true
+
+-- an OCR answers an inquiry alone, and what is sent as a register is one
 abbrev pub IsAnswerTo : Command → Answer → Type 0
 IsAnswerTo command Mute = Unit {0}
 IsAnswerTo command (Checked index argument) = asks_for_ocr command ≡ false
 IsAnswerTo command (Open ocr) = asks_for_ocr command ≡ true
-IsAnswerTo command (Register bytes) = is_r2 (register_frame bytes) ≡ true
+IsAnswerTo command (Register bytes) = IsRegister bytes
 
 answer_cond : (command : Command) (b : Bool) (x y : Card × Answer) → IsAnswerTo command x.1 → IsAnswerTo command y.1 → IsAnswerTo command (cond b x y).1
 answer_cond command b x y p q = by_cond (λ (r : Card × Answer). IsAnswerTo command r.1) b {x = x} {y = y} (λ _. p) (λ _. q)
@@ -80,8 +87,8 @@ row_answer : (choice : Choice) (command : Command) (c : Card) (index argument : 
 row_answer choice GoIdleState c index argument r = tt
 row_answer choice SendOpCond c index argument r = inquired_answer SendOpCond (not choice.is_slow) c refl
 row_answer choice ASendOpCond c index argument r = inquired_answer ASendOpCond (is_served c argument && not choice.is_slow) c refl
-row_answer choice AllSendCid c index argument r = r.cid_check
-row_answer choice SendCsd c index argument r = r.csd_check
+row_answer choice AllSendCid c index argument r = record { size = r.cid; check = r.cid_check; end_bit = r.cid_end }
+row_answer choice SendCsd c index argument r = record { size = r.csd; check = r.csd_check; end_bit = r.csd_end }
 row_answer choice SendIfCond c index argument r = by_cond (IsAnswerTo SendIfCond) (field 11 8 argument == 1) {x = Checked 8 (field 11 0 argument)} {y = Mute} (λ _. refl) (λ _. tt)
 row_answer choice SetBlocklen c index argument r =
     answer_cond SetBlocklen (argument == 512) (record (shown c) { block_length = 512 }, Checked 16 (status false c))
@@ -118,6 +125,30 @@ neither a true h n = cc
 
 pub asks_none : (kind : Kind) (app : Bool) (index : ℕ) → index < 64 → is_inquiry_index index ≡ false → asks_for_ocr (command_of kind app index) ≡ false
 asks_none kind app index h n = neither (is_inquiry_index index) (asks_for_ocr (command_of kind app index)) (named_so kind app index h) n
+
+-- no other index than CMD38's means an erase
+abbrev is_erase : Command → Bool
+is_erase Erase = true
+is_erase _ = false
+
+erase_named : (kind : Kind) (app : Bool) (index : ℕ) → index < 64 → ((index == 38) || not (is_erase (command_of kind app index))) ≡ true
+erase_named Sd true index h = agree_below_at (λ i. (i == 38) || not (is_erase (command_of Sd true i))) (λ i. true) 64 index refl h
+erase_named Sd false index h = agree_below_at (λ i. (i == 38) || not (is_erase (command_of Sd false i))) (λ i. true) 64 index refl h
+erase_named Mmc true index h = agree_below_at (λ i. (i == 38) || not (is_erase (command_of Mmc true i))) (λ i. true) 64 index refl h
+erase_named Mmc false index h = agree_below_at (λ i. (i == 38) || not (is_erase (command_of Mmc false i))) (λ i. true) 64 index refl h
+
+erased_none : (command : Command) (card : Card) (argument : ℕ) → is_erase command ≡ false → erased_by_command command card argument ≡ None
+erased_none Erase card argument h = cc
+erased_none _ card argument h = refl
+
+false_by : (b : Bool) → (b ≡ true → ⊥) → b ≡ false
+false_by true h = absurd (h refl)
+false_by false h = refl
+
+pub erases_none : (card : Card) (kind : Kind) (app : Bool) (index argument : ℕ) → index < 64 → (index ≡ 38 → ⊥) → erased_by_command (command_of kind app index) card argument ≡ None
+erases_none card kind app index argument below other =
+    erased_none (command_of kind app index) card argument
+    (neither (index == 38) (is_erase (command_of kind app index)) (erase_named kind app index below) (false_by (index == 38) (λ e. other (eqb-true index 38 e))))
 
 -- an inquiry is answered by an OCR or not at all
 abbrev pub IsOpen : Answer → Type 0
@@ -234,21 +265,21 @@ register_whole command (Checked index argument) reply fits spells = ap register_
 register_whole command (Open ocr) reply fits spells = ap register_heard spells
 register_whole command (Register bytes) reply fits spells = ap register_heard spells
 
-register_flipped : RefusesFlips 17 is_r2 is_r2 → (command : Command) (answer : Answer) (reply : Reply) → IsAnswerTo command answer → IsFlipped answer reply
+register_flipped : RefusesFlips 17 is_r2 is_r2 → RegistersComeBack → (command : Command) (answer : Answer) (reply : Reply) → IsAnswerTo command answer → IsFlipped answer reply
     → (x : List ℕ) → register_heard reply ≡ Ok x → ⊥
-register_flipped law command Mute reply fits f x h = f
-register_flipped law command (Checked index argument) reply fits f x h = cc (ap register_heard (sym f.4) ∙ h)
-register_flipped law command (Open ocr) reply fits f x h = cc (ap register_heard (sym f.3) ∙ h)
-register_flipped law command (Register bytes) reply fits f x h =
+register_flipped law back command Mute reply fits f x h = f
+register_flipped law back command (Checked index argument) reply fits f x h = cc (ap register_heard (sym f.4) ∙ h)
+register_flipped law back command (Open ocr) reply fits f x h = cc (ap register_heard (sym f.3) ∙ h)
+register_flipped law back command (Register bytes) reply fits f x h =
     taken_ok (register_in f.0) x (ap register_heard (sym f.2) ∙ h)
-    (law (register_frame bytes) f.0 f.1.0 f.1.1 f.1.3 fits)
+    (law (register_frame bytes) f.0 f.1.0 f.1.1 f.1.3 (ap is_ok (back bytes fits.size fits.check fits.end_bit)))
 
-pub register_reads : RefusesFlips 17 is_r2 is_r2 → (command : Command) → Reads (IsAnswerTo command) register_heard register_of
-register_reads law command = record {
+pub register_reads : RefusesFlips 17 is_r2 is_r2 → RegistersComeBack → (command : Command) → Reads (IsAnswerTo command) register_heard register_of
+register_reads law back command = record {
   whole = register_whole command;
   silent = λ x h. cc;
   mute = λ x h. cc;
-  flipped = register_flipped law command;
+  flipped = register_flipped law back command;
 }
 
 pub nothing_reads : (command : Command) → Reads (IsAnswerTo command) nothing_heard nothing_of

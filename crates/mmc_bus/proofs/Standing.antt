@@ -1,5 +1,5 @@
 -- The steps of a run leave a card selected as it was, or as after CMD0.
-use Rattle.std.proofs.Common.{◌+◌, ◌||◌, ◌∙◌, ◌≡◌, ◌⊎◌, Bool, List, ap, false, inl, inr, refl, sym, true, ℕ}
+use Rattle.std.proofs.Common.{◌||◌, ◌∙◌, ◌≡◌, ◌⊎◌, Bool, List, ap, false, inl, inr, refl, sym, true, ℕ}
 use Rattle.std.specs.Prelude.{◌==◌, None, Option, Some}
 use Rattle.mmc_frame.specs.Frame.{command_in}
 use Rattle.mmc_frame.specs.declared.card_state.State.{State}
@@ -14,7 +14,7 @@ use Rattle.mmc_bus.proofs.Conditions.{by_cond, first_by_cond}
 use Rattle.mmc_bus.proofs.Narrow.{both, sends_data, takes_rcv}
 use Rattle.mmc_bus.proofs.Steps.{after_command, after_give, after_poll, after_take}
 use Rattle.mmc_bus.specs.Answer.{Choice, erase_reset, garbled, raised, refused, reset, shown}
-use Rattle.mmc_bus.specs.Blocks.{accepted, is_last, programmed, rejected, rested, sent_from}
+use Rattle.mmc_bus.specs.Blocks.{accepted, is_last, programmed, rejected, rested, sent_from, waited}
 use Rattle.mmc_bus.specs.Card.{Both, Card, First, FromBytes, FromSectors, Held, NoAddress, Source, is_in, is_selected}
 use Rattle.mmc_bus.specs.Faults.{CommandStep, GiveStep, PollStep, TakeStep}
 use Rattle.mmc_bus.specs.Laws.{IsAfterReset, Setting, Stands, StillStands, is_frame_of_run, is_of_run, setting_of, timing_once_sent}
@@ -88,17 +88,17 @@ stands_forgotten s c h =
     stands_like s c (forgotten (shown c)) refl refl refl
     (reset_like c (forgotten (shown c)) refl refl refl (λ b. b) (λ b. refl) (λ b. refl) (λ b. refl) refl (λ b. b) refl) h
 
-stands_refused : (s : Setting) (c : Card) → Stands s c → Stands s (refused c)
+pub stands_refused : (s : Setting) (c : Card) → Stands s c → Stands s (refused c)
 stands_refused s c h =
     stands_like s c (refused c) refl refl refl
     (reset_like c (refused c) refl refl refl (λ b. b) (λ b. refl) (λ b. b) (λ b. refl) refl (λ b. b) refl) h
 
-stands_garbled : (s : Setting) (keeps : Bool) (c : Card) → Stands s c → Stands s (garbled keeps c)
+pub stands_garbled : (s : Setting) (keeps : Bool) (c : Card) → Stands s c → Stands s (garbled keeps c)
 stands_garbled s keeps c h =
     stands_like s c (garbled keeps c) refl refl refl
     (reset_like c (garbled keeps c) refl refl refl (λ b. b) (λ b. by_cond (λ n. n ≡ 0) keeps (λ _. b) (λ _. refl)) (λ b. b) (λ b. b) refl (λ b. b) refl) h
 
-stands_reached : (s : Setting) (command : Command) (c : Card) → Stands s c → Stands s (reached command c)
+pub stands_reached : (s : Setting) (command : Command) (c : Card) → Stands s c → Stands s (reached command c)
 stands_reached s command c h =
     by_cond (Stands s) (leaves_erase command) (λ _. h)
     (λ _. by_cond (Stands s) (holds_address c.erase)
@@ -108,7 +108,7 @@ stands_reached s command c h =
 
 -- Rows.
 
-up_in : (c : Card) (t : State) → is_in c.state t ≡ true → is_selected t ≡ true → is_selected c.state ≡ true
+pub up_in : (c : Card) (t : State) → is_in c.state t ≡ true → is_selected t ≡ true → is_selected c.state ≡ true
 up_in c t e u = ap is_selected (in_state c.state t e) ∙ u
 
 -- in tran a card isn't as after CMD0
@@ -126,7 +126,7 @@ stands_transferred s index errors c after h a =
     first_by_cond (Stands s) (errors == 0) _ _ (λ _. a) (λ _. stands_shown s c h)
 
 -- nothing is sent from there
-stands_quiet : (s : Setting) (c d : Card) → is_selected d.state ≡ true → is_in d.state Data ≡ false → is_selected c.state ≡ true → setting_of d ≡ setting_of c
+pub stands_quiet : (s : Setting) (c d : Card) → is_selected d.state ≡ true → is_in d.state Data ≡ false → is_selected c.state ≡ true → setting_of d ≡ setting_of c
     → Stands s c → Stands s d
 stands_quiet s c d up quiet was same h = stands_up s c d up was same (λ e. cc (e, quiet)) h
 
@@ -196,7 +196,7 @@ stands_rested s c h =
     (λ prg. stands_programmed s (λ i. true) c prg h)
     (λ _. stands_like s c _ refl refl refl (reset_like c _ refl refl refl (λ b. refl) (λ b. b) (λ b. b) (λ b. b) refl (λ b. refl) refl) h)
 
-stands_slow : (s : Setting) (c : Card) → c.is_busy ≡ true → Stands s c → Stands s (record c { polled = c.polled + 1 })
+stands_slow : (s : Setting) (c : Card) → c.is_busy ≡ true → Stands s c → Stands s (waited c)
 stands_slow s c busy h = stands_like s c _ refl refl refl (λ a. cc (busy, a.apart.is_busy)) h
 
 stands_accepted : (s : Setting) (block : Sector) (c : Card) → is_in c.state Rcv ≡ true → Stands s c → Stands s (accepted block c)

@@ -1,5 +1,5 @@
 -- What holds of a card holds after a step, if all that a step may do to the card keeps it.
-use Rattle.std.proofs.Common.{◌&&◌, ◌+◌, ◌≡◌, Bool, List, false, true, ℕ}
+use Rattle.std.proofs.Common.{◌&&◌, ◌≡◌, Bool, List, false, true, ℕ}
 use Rattle.mmc_frame.specs.Frame.{command_in}
 use Rattle.mmc_frame.specs.declared.card_state.State.TheVariants.{Prg}
 use Rattle.mmc_bus.specs.declared.bus.DataIn.{DataIn}
@@ -8,7 +8,7 @@ use Rattle.mmc_bus.specs.declared.bus.Reply.{Reply}
 use Rattle.mmc_bus.proofs.Conditions.{along, by_cond, first_by_cond}
 use Rattle.mmc_bus.proofs.Narrow.{both}
 use Rattle.mmc_bus.specs.Answer.{Choice, garbled, general_error, raised, reset}
-use Rattle.mmc_bus.specs.Blocks.{accepted, asked_for, can_send, can_take, offered, polled_once, programmed, rejected, rested, sent}
+use Rattle.mmc_bus.specs.Blocks.{accepted, asked_for, can_send, can_take, offered, polled_once, programmed, rejected, rested, sent, waited}
 use Rattle.mmc_bus.specs.Card.{Card, is_in}
 use Rattle.mmc_bus.specs.Faults.{CommandStep, GiveStep, PollStep, TakeStep, bad_block, brownout, fail, faithful, flip_command, flip_reply, lose_command, lose_reply, lose_status, reject, slow_inquiry, slow_poll}
 use Rattle.mmc_bus.specs.Rows.{answered}
@@ -34,7 +34,7 @@ after_command P old frame reply new stays answers garbles survives step =
     ]
 
 pub after_poll : (P : Card → Type 0) (old : Side) (said : Bool) (new : Side) → P old.card
-    → P (rested old.card) → (old.card.is_busy ≡ true → P (record old.card { polled = old.card.polled + 1 }))
+    → P (rested old.card) → (old.card.is_busy ≡ true → P (waited old.card))
     → ((lands : ℕ → Bool) → is_in old.card.state Prg ≡ true → old.card.is_switching ≡ false → P (raised general_error (programmed lands old.card))) → Survives P
     → PollStep old said new → P new.card
 after_poll P old said new stays rests slows fails survives step =

@@ -1,8 +1,10 @@
 -- A card: what it is made with, where it is, what it remembers, and its sectors.
-use Rattle.std.specs.Prelude.{◌==◌, ◌∷◌, ◌≡◌, ◌⊎◌, Bool, List, None, Option, [], bit_or, false, if◌then◌else◌, length, nat_lt, slice_index_or, slice_set, suc, true, zero, ℕ}
+use Rattle.std.specs.Prelude.{◌+◌, ◌<◌, ◌==◌, ◌||◌, ◌∷◌, ◌≡◌, ◌≤◌, ◌⊎◌, Bool, List, None, Option, [], bit_or, false, if◌then◌else◌, length, nat_lt, slice_index_or, slice_set, suc, true, zero, ℕ}
+use Rattle.mmc_frame.specs.Flips.{AreBytes}
 use Rattle.mmc_frame.specs.Status.{state_number}
 use Rattle.mmc_frame.specs.declared.card_state.State.{State}
-use Rattle.mmc_frame.specs.declared.card_state.State.TheVariants.{Data, Idle, Prg, Rcv, Tran}
+use Rattle.mmc_frame.specs.declared.card_state.State.TheVariants.{Data, Idle, Prg, Rcv, Stby, Tran}
+use Rattle.mmc_frame.specs.declared.kind.Kind.TheVariants.{Mmc, Sd}
 use Rattle.mmc_bus.specs.declared.bus.Timing.{Timing}
 use Rattle.mmc_bus.specs.declared.bus.Timing.TheVariants.{Default}
 use Rattle.mmc_bus.specs.declared.bus.Width.{Width}
@@ -70,6 +72,10 @@ is_selected Data = true
 is_selected Rcv = true
 is_selected Prg = true
 is_selected _ = false
+
+-- stby, tran, data, rcv and prg: the card goes by an RCA that it published or was given
+abbrev pub is_identified : State → Bool
+is_identified state = is_in state Stby || is_selected state
 
 -- a write or an erase may run
 abbrev pub is_writing : State → Bool
@@ -149,10 +155,14 @@ complaint_bits = 0x600
 abbrev pub error_bits : ℕ
 error_bits = 0x7e9cd
 
--- each has 512 bytes
+-- 512 bytes
+pub record IsBlock (block : Sector) : Type 0 where
+  pub len : length block ≡ 512
+  pub bytes : AreBytes block
+
 abbrev pub AreBlocks : List Sector → Type 0
 AreBlocks [] = Unit {0}
-AreBlocks (x ∷ xs) = (length x ≡ 512) × AreBlocks xs
+AreBlocks (x ∷ xs) = IsBlock x × AreBlocks xs
 
 -- not selected: one line, default speed, ERASE_GROUP_DEF 0, the user partition; not busy, nothing preset, no erase address
 pub record IsApart (card : Card) : Type 0 where
@@ -164,16 +174,48 @@ pub record IsApart (card : Card) : Type 0 where
   pub count : card.count ≡ 0
   pub erase : card.erase ≡ NoAddress
 
+-- The RCA is the first one until one is published or given; an SD card has the one that it publishes.
+pub record HasItsRca (card : Card) : Type 0 where
+  pub first : is_identified card.state ≡ false → card.rca ≡ first_rca card.made.kind
+  pub published : is_identified card.state ≡ true → card.made.kind ≡ Sd → card.rca ≡ card.made.published
+
+-- what is unfinished, if anything is, lies inside its partition
+abbrev pub FitsPart : Card → Type 0
+FitsPart card = 0 < length card.values → card.start + length card.values ≤ length (stored card card.part)
+
+-- what it is to send besides sectors is bytes
+abbrev pub SendsBytes : Source → Type 0
+SendsBytes FromSectors = Unit {0}
+SendsBytes (FromBytes bytes timing) = AreBytes bytes
+
 -- What holds of each card, whatever has happened to it (the project's own).
 pub record IsCard (card : Card) : Type 0 where
   pub registers : HasRegisters card.made
   pub apart : is_selected card.state ≡ false → IsApart card
+  -- erase addresses are held only in tran
+  pub held : is_in card.state Tran ≡ false → card.erase ≡ NoAddress
+  -- while it programs it is busy
+  pub busy : is_in card.state Prg ≡ true → card.is_busy ≡ true
+  pub rca : HasItsRca card
+  -- an eMMC device has no application commands
+  pub app : card.made.kind ≡ Mmc → card.app ≡ false
+  pub asked : card.asked ≤ 8
+  pub polled : card.polled ≤ 8
   -- a write, erase or trim is unfinished only in rcv and prg
   pub finished : is_writing card.state ≡ false → card.values ≡ []
+  pub fits : FitsPart card
+  -- a write takes blocks while nothing switches, and a switch programs nothing
+  pub receives : is_in card.state Rcv ≡ true → card.is_switching ≡ false
+  pub switches : is_in card.state Prg ≡ true → card.is_switching ≡ true → card.values ≡ []
+  -- what is to be sent is forgotten outside data
+  pub source : is_in card.state Data ≡ false → card.source ≡ FromSectors
+  pub sends : SendsBytes card.source
+  -- byte 175 of the EXT_CSD is 0, or 1 by a switch
+  pub erase_group_def : card.erase_group_def ≤ 1
   pub block_length : (card.block_length ≡ 512) ⊎ (card.block_length ≡ first_block_length card.made)
   pub complaints : AreAmong card.complaints complaint_bits
   pub errors : AreAmong card.errors error_bits
-  -- sectors have 512 bytes
+  -- sectors have 512 bytes, and so have the new values that an unfinished transfer has taken
   pub blocks : (part : Part) → AreBlocks (stored card part)
   pub taken : AreBlocks card.values
 

@@ -1,19 +1,20 @@
 -- What a host learns of an exchange over a bus that is kept: what holds whatever fell, what a sound answer tells, fault or
 -- not, and what holds where no fault fell.
-use Rattle.std.specs.Prelude.{◌&&◌, ◌+◌, ◌<◌, ◌≡◌, ◌≤◌, Bool, List, Ok, Result, Some, false, not, true, ℕ}
+use Rattle.std.specs.Prelude.{◌&&◌, ◌<◌, ◌≡◌, ◌≤◌, Bool, List, Ok, Result, Some, false, not, true, ℕ}
 use Rattle.mmc_frame.specs.Frame.{command_in}
 use Rattle.mmc_frame.specs.declared.card_state.State.TheVariants.{Prg}
 use Rattle.mmc_bus.specs.declared.host.Unheard.{Unheard}
+use Rattle.mmc_bus.specs.declared.part.Part.{Part}
 use Rattle.mmc_bus.specs.declared.bus.DataIn.{DataIn}
 use Rattle.mmc_bus.specs.declared.bus.DataOut.{DataOut}
 use Rattle.mmc_bus.specs.declared.bus.Reply.{Reply}
 use Rattle.mmc_bus.specs.Answer.{Answer, Choice, Mute, refused}
-use Rattle.mmc_bus.specs.Blocks.{accepted, can_send, can_take, next_block, rested, sent}
+use Rattle.mmc_bus.specs.Blocks.{accepted, can_send, can_take, next_block, rested, sent, waited}
 use Rattle.mmc_bus.specs.Card.{Card, IsCard, holds, is_in, is_selected}
 use Rattle.mmc_bus.specs.Exchanges.{Exchanged}
 use Rattle.mmc_bus.specs.Faults.{IsPatient, NoFault}
 use Rattle.mmc_bus.specs.Heard.{cause_of, cause_of_command}
-use Rattle.mmc_bus.specs.Laws.{Carried, StillStands, WithinOrTaken, erased_by, is_frame_of_run, maybe_erased}
+use Rattle.mmc_bus.specs.Laws.{Carried, StandsIn, StillStands, SwitchesTo, WithinOrTaken, erased_by, is_frame_of_run, maybe_erased}
 use Rattle.mmc_bus.specs.declared.command.Command.{Command}
 use Rattle.mmc_bus.specs.Rows.{command_of, is_foreign, is_legal, reached, row}
 use Rattle.mmc_bus.specs.Sectors.{Sector, Within}
@@ -34,6 +35,11 @@ pub record Ran (old new : Side) (Fine : Type 0) : Type 0 where
   pub is_card : IsCard new.card
   pub stays : Stays old new
   pub fine : NoFault old new → Fine
+
+-- The same of a host function that offers no block and erases nothing: no sector may hold more.
+pub record RanWithin (old new : Side) (Fine : Type 0) : Type 0 where
+  pub ran : Ran old new Fine
+  pub narrows : Within (holds new.card) (holds old.card)
 
 -- Commands.
 
@@ -62,6 +68,8 @@ pub record Faithful {X : Type 0} (answers : Answer → X) (old : Card) (index ar
       → (new ≡ (carried_out choice old index argument).0) × (heard ≡ answers (carried_out choice old index argument).1)
   pub refuses : is_foreign (meant old index) old argument ≡ false → is_legal (meant old index) old ≡ false
       → (new ≡ refused (reached (meant old index) old)) × (heard ≡ answers Mute)
+  -- it names another card
+  pub passes : is_foreign (meant old index) old argument ≡ true → (new ≡ old) × (heard ≡ answers Mute)
 
 pub record CommandFacts {X : Type 0} (answers : Answer → Result X Unheard) (old : Side) (index argument : ℕ) (heard : Result X Unheard) (new : Side) : Type 0 where
   pub stays : Stays old new
@@ -69,6 +77,8 @@ pub record CommandFacts {X : Type 0} (answers : Answer → Result X Unheard) (ol
   pub narrows : Within (holds new.card) (maybe_erased (erased_by old.card (Some (index, argument))) (holds old.card))
   -- a command of a run, lost or not, leaves the card standing
   pub stands : is_frame_of_run old.card (Some (index, argument)) ≡ true → StillStands old.card new.card
+  -- a switch of the partition, lost or not, leaves it standing, in the old partition or in the new one
+  pub switches : (part : Part) → SwitchesTo part old.card index argument → StandsIn part old.card new.card
   -- a sound answer comes from the card, fault or not
   pub sound : (x : X) → heard ≡ Ok x → Obeyed answers old.card index argument heard new.card
   pub fine : NoFault old new → Faithful answers old.card index argument heard new.card
@@ -94,7 +104,7 @@ pub record PollFacts (old : Side) (said : Bool) (new : Side) : Type 0 where
   pub narrows : Within (holds new.card) (holds old.card)
   pub stands : StillStands old.card new.card
   -- a card that says yes is busy, and stays as it is
-  pub yes : said ≡ true → (old.card.is_busy ≡ true) × (new.card ≡ record old.card { polled = old.card.polled + 1 })
+  pub yes : said ≡ true → (old.card.is_busy ≡ true) × (new.card ≡ waited old.card)
   -- a no is the card's, fault or not, where it is selected still and either can't have failed or holds no error
   pub calm : said ≡ false → is_selected new.card.state ≡ true → may_fail old.card ≡ false → new.card ≡ rested old.card
   pub shown : said ≡ false → is_selected new.card.state ≡ true → new.card.errors ≡ 0 → new.card ≡ rested old.card

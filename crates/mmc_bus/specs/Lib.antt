@@ -14,6 +14,7 @@ pub mod Made
 pub mod PlainCard
 pub mod PlainCommands
 pub mod PlainSide
+pub mod Profile
 pub mod Rows
 pub mod RowsErase
 pub mod RowsIdentify

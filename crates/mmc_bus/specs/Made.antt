@@ -1,7 +1,9 @@
 -- What never changes of a card: its kind and registers, and what they say of it.
 use Rattle.std.specs.Prelude.{◌%◌, ◌&&◌, ◌/◌, ◌<◌, ◌==◌, ◌^◌, ◌≡◌, Bool, Err, List, Ok, Result, false, if◌then◌else◌, length, not, replicate, true, ℕ}
-use Rattle.mmc_frame.specs.Flips.{is_r2}
-use Rattle.mmc_frame.specs.RegisterFrame.{register_frame}
+use Rattle.mmc_frame.specs.Flips.{AreBytes}
+use Rattle.mmc_frame.specs.RegisterFrame.{has_end_bit, is_sound_register}
+use Rattle.mmc_frame.specs.declared.addressing.Addressing.{Addressing}
+use Rattle.mmc_frame.specs.declared.addressing.Addressing.TheVariants as By
 use Rattle.mmc_frame.specs.declared.kind.Kind.{Kind}
 use Rattle.mmc_frame.specs.declared.kind.Kind.TheVariants.{Mmc, Sd}
 use Rattle.mmc_regs.specs.Csd.{csd_of, erase_unit_of, is_protected, sectors_of}
@@ -9,6 +11,7 @@ use Rattle.mmc_regs.specs.CsdFields.{read_bl_len}
 use Rattle.mmc_regs.specs.Ocr.{access_mode, card_capacity_status}
 use Rattle.mmc_regs.specs.Register.{register_number}
 use Rattle.mmc_regs.specs.Scr.{scr_number, sd_spec, set_block_count}
+use Rattle.mmc_regs.specs.SwitchStatus.{access_mode_selected, high_speed_support}
 use Rattle.mmc_regs.specs.declared.csd.Csd.{Csd}
 use Rattle.mmc_regs.specs.declared.fault.RegFault.{RegFault}
 use Rattle.mmc_ext_csd.specs.ExtCsd.{boot_sectors, gp_sectors, sec_count}
@@ -27,26 +30,41 @@ pub record Made : Type 0 where
   pub csd : List ℕ
   -- eight bytes, of an SD card
   pub scr : List ℕ
+  -- 64 bytes, of an SD card: what it sends after CMD6, whether that only asks or switches
+  pub switch_status : List ℕ
   -- 512 bytes, of an eMMC device; where a field can be switched, the card's own field counts in place of its byte
   pub ext_csd : List ℕ
   -- the RCA that an SD card publishes
   pub published : ℕ
   pub is_locked : Bool
-  -- SD: knows CMD8, and has the high speed of CMD6
+  -- SD: knows CMD8
   pub answers_cmd8 : Bool
-  pub has_high_speed : Bool
 
--- The registers have their lengths and, of CID and CSD, their checks (SD Physical Layer 6.00, sections 5.2 and 5.3); the OCR
--- has no bit 31.
+-- SD: its switch status names high speed (SD Physical Layer 6.00, section 4.3.10.4)
+abbrev pub has_high_speed : Made → Bool
+has_high_speed made = high_speed_support made.switch_status == 1
+
+-- The registers are bytes, and have their lengths and, of CID and CSD, their checks (SD Physical Layer 6.00, sections 5.2 and
+-- 5.3); the OCR has no bit 31; the switch status selects high speed where the card has it, and otherwise 15, none (section
+-- 4.3.10.4).
 pub record HasRegisters (made : Made) : Type 0 where
   pub ocr : made.ocr < 2 ^ 31
   pub published : made.published < 2 ^ 16
   pub cid : length made.cid ≡ 16
   pub csd : length made.csd ≡ 16
-  pub cid_check : is_r2 (register_frame made.cid) ≡ true
-  pub csd_check : is_r2 (register_frame made.csd) ≡ true
+  pub cid_check : is_sound_register made.cid ≡ true
+  pub cid_end : has_end_bit made.cid ≡ true
+  pub csd_check : is_sound_register made.csd ≡ true
+  pub csd_end : has_end_bit made.csd ≡ true
   pub scr : made.kind ≡ Sd → length made.scr ≡ 8
+  pub switch_status : made.kind ≡ Sd → length made.switch_status ≡ 64
+  pub selected : made.kind ≡ Sd → access_mode_selected made.switch_status ≡ (if has_high_speed made then 1 else 15)
   pub ext_csd : made.kind ≡ Mmc → length made.ext_csd ≡ 512
+  pub cid_bytes : AreBytes made.cid
+  pub csd_bytes : AreBytes made.csd
+  pub scr_bytes : AreBytes made.scr
+  pub switch_status_bytes : AreBytes made.switch_status
+  pub ext_csd_bytes : AreBytes made.ext_csd
 
 abbrev pub is_sd : Kind → Bool
 is_sd Sd = true
@@ -60,6 +78,9 @@ is_mmc Mmc = true
 abbrev pub has_sector_addresses : Made → Bool
 has_sector_addresses made =
     if is_sd made.kind then card_capacity_status made.ocr == 1 else access_mode made.ocr == 2
+
+abbrev pub addressing_of : Made → Addressing
+addressing_of made = if has_sector_addresses made then By.Sectors else By.Bytes
 
 -- the sector that an argument names
 abbrev pub sector_at : Made → ℕ → ℕ
@@ -121,10 +142,10 @@ abbrev pub mmc_sectors : Made → Part → ℕ
 mmc_sectors made User = user_sectors made
 mmc_sectors made Boot1 = boot_sectors made.ext_csd
 mmc_sectors made Boot2 = boot_sectors made.ext_csd
-mmc_sectors made Gp1 = existing_sectors (gp_sectors 1 made.ext_csd)
-mmc_sectors made Gp2 = existing_sectors (gp_sectors 2 made.ext_csd)
-mmc_sectors made Gp3 = existing_sectors (gp_sectors 3 made.ext_csd)
-mmc_sectors made Gp4 = existing_sectors (gp_sectors 4 made.ext_csd)
+mmc_sectors made Gp1 = existing_sectors (gp_sectors 1 made.ext_csd) (addressing_of made)
+mmc_sectors made Gp2 = existing_sectors (gp_sectors 2 made.ext_csd) (addressing_of made)
+mmc_sectors made Gp3 = existing_sectors (gp_sectors 3 made.ext_csd) (addressing_of made)
+mmc_sectors made Gp4 = existing_sectors (gp_sectors 4 made.ext_csd) (addressing_of made)
 
 -- an SD card has the user partition alone
 abbrev pub sd_sectors : Made → Part → ℕ

@@ -1,5 +1,5 @@
 -- The card that a plain card is: an SD card of standard capacity, with byte addresses and one erase unit a sector.
-use Rattle.std.specs.Prelude.{◌∷◌, ◌≡◌, Bool, List, Some, [], false, if◌then◌else◌, length, replicate, true, ℕ}
+use Rattle.std.specs.Prelude.{◌∷◌, ◌≡◌, Bool, List, Some, [], false, if◌then◌else◌, length, replicate, slice_set, true, ℕ}
 use Rattle.mmc_frame.specs.declared.card_state.State.TheVariants.{Tran}
 use Rattle.mmc_frame.specs.declared.kind.Kind.TheVariants as Kind
 use Rattle.mmc_bus.specs.declared.bus.Reply.{Reply}
@@ -27,11 +27,11 @@ plain_made =
       cid = 0 ∷ 0 ∷ 0 ∷ 0 ∷ 0 ∷ 0 ∷ 0 ∷ 0 ∷ 0 ∷ 0 ∷ 0 ∷ 0 ∷ 0 ∷ 0 ∷ 0 ∷ 1 ∷ [];
       csd = 0 ∷ 0 ∷ 0 ∷ 0 ∷ 0 ∷ 9 ∷ 0 ∷ 0 ∷ 0 ∷ 0 ∷ 0x40 ∷ 0 ∷ 2 ∷ 0x40 ∷ 0 ∷ 0x9b ∷ [];
       scr = 0 ∷ 5 ∷ 0 ∷ 0 ∷ 0 ∷ 0 ∷ 0 ∷ 0 ∷ [];
+      switch_status = slice_set (replicate 64 0) 16 15;
       ext_csd = [];
       published = 1;
       is_locked = false;
       answers_cmd8 = false;
-      has_high_speed = false;
     }
 
 -- as after power on, but selected under RCA 1, with this many sectors, that are all 00h

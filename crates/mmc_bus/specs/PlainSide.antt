@@ -11,4 +11,4 @@ pub record PlainView : Type 0 where
   pub wire : Wire
 
 abbrev pub plain_side : PlainView → Side
-plain_side plain = side_with plain.card true plain.wire
+plain_side plain = side_with plain.card 0 true plain.wire

@@ -1,5 +1,5 @@
 -- What a bus keeps of its exchanges at run time, and the side of a bus that keeps nothing else.
-use Rattle.std.specs.Prelude.{◌+◌, ◌-◌, ◌^◌, ◌≡◌, Bool, None, Some, [], false, min}
+use Rattle.std.specs.Prelude.{◌+◌, ◌-◌, ◌^◌, ◌≡◌, Bool, None, Some, [], false, min, ℕ}
 use Rattle.mmc_frame.specs.declared.kind.Kind.TheVariants.{Sd}
 use Rattle.mmc_bus.specs.declared.bus.Exchange.{Exchange}
 use Rattle.mmc_bus.specs.declared.bus.Timing.TheVariants.{Default}
@@ -15,10 +15,10 @@ pub record Notes (old : Wire) (exchange : Exchange) (new : Wire) : Type 0 where
   pub last : new.last ≡ Some exchange
   pub exchanges : new.exchanges ≡ min (old.exchanges + 1) (2 ^ 64 - 1)
 
--- the side with this card, on which no fault has fallen
-abbrev pub side_with : Card → Bool → Wire → Side
-side_with card is_kept wire =
-    record { card = card; lines = wire.lines; last = wire.last; exchanges = wire.exchanges; faults = 0; is_kept = is_kept }
+-- the side with this card, on which so many faults have fallen
+abbrev pub side_with : Card → ℕ → Bool → Wire → Side
+side_with card faults is_kept wire =
+    record { card = card; lines = wire.lines; last = wire.last; exchanges = wire.exchanges; faults = faults; is_kept = is_kept }
 
 abbrev pub nothing_made : Made
 nothing_made =
@@ -28,11 +28,11 @@ nothing_made =
       cid = [];
       csd = [];
       scr = [];
+      switch_status = [];
       ext_csd = [];
       published = 0;
       is_locked = false;
       answers_cmd8 = false;
-      has_high_speed = false;
     }
 
 -- no exchange so far, and no fault, on one line at default speed
@@ -44,4 +44,4 @@ pub record IsUnused (side : Side) : Type 0 where
 
 -- The side of a bus that never is kept: its card says nothing.
 abbrev pub unkept : Wire → Side
-unkept wire = side_with (powered_on nothing_made []) false wire
+unkept wire = side_with (powered_on nothing_made []) 0 false wire

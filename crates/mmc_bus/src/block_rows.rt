@@ -69,6 +69,7 @@ impl Chip {
         }
         buffer.copy_from_slice(&SCR);
         self.state = State::Tran;
+        self.sends_scr = false;
         DataIn::Good
     }
 

@@ -71,10 +71,11 @@ impl Chip {
     ghost use Rattle.std.specs.Prelude.{◌≤◌};
     ghost use Rattle.mmc_frame.specs.Frame.{command_in};
     ghost use Rattle.mmc_bus.specs.Answer.{Checked, Mute, done, raised, refused, shown, status};
+    ghost use Rattle.mmc_bus.specs.Card.{is_identified};
     ghost use Rattle.mmc_bus.specs.Faults.{Spells};
     ghost use Rattle.mmc_bus.specs.PlainCard.{Answers, calm, card_of, new_plain_card};
     ghost use Rattle.mmc_bus.specs.PlainCommands.{is_of_sd};
-    ghost use Rattle.mmc_bus.specs.Rows.{answered, is_identified, is_legal, reached, respond, row};
+    ghost use Rattle.mmc_bus.specs.Rows.{answered, is_legal, reached, respond, row};
 
     /// A card in tran under RCA 1 with this many sectors, at most 65,536, that are all 00h.
     pub fn new(alloc: Global, sectors: usize) -> Result<Chip, NoMemory>

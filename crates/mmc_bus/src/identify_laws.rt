@@ -3,19 +3,21 @@
 //! caller then knows.
 ghost use Rattle.std.specs.Prelude.{◌≡◌, ◌⊎◌, Bool, List, Ok, Result, false, true, ℕ};
 ghost use Rattle.mmc_frame.specs.Field.{field};
-ghost use Rattle.mmc_frame.specs.RegisterFrame.{register_frame, register_in};
 ghost use Rattle.mmc_frame.specs.declared.card_state.State.TheVariants.{Ident, Idle, Ready, Stby, Tran};
 ghost use Rattle.mmc_frame.specs.declared.kind.Kind.TheVariants.{Mmc, Sd};
 ghost use Rattle.mmc_bus.specs.declared.host.Unheard.{Unheard};
-ghost use Rattle.mmc_bus.specs.Answer.{busied, done, r6_argument, reset, shown, status};
-ghost use Rattle.mmc_bus.specs.Card.{IsCard, NoAddress};
-ghost use Rattle.mmc_bus.specs.CommandLaws.{Does, Inquires, Names, Responded};
+ghost use Rattle.mmc_bus.specs.Answer.{busied, done, r6_argument, refused, reset, shown, status};
+ghost use Rattle.mmc_bus.specs.Card.{IsCard, is_identified};
+ghost use Rattle.mmc_bus.specs.CommandLaws.{Does, Inquires, IsUnheard, Names, Responded};
 ghost use Rattle.mmc_bus.specs.Faults.{NoFault};
 ghost use Rattle.mmc_bus.specs.Heard.{nothing_of, ocr_of, register_of};
 ghost use Rattle.mmc_bus.specs.Learned.{CommandFacts};
-ghost use Rattle.mmc_bus.specs.Rows.{is_identified};
+ghost use Rattle.mmc_bus.specs.Rows.{without_addresses};
+ghost use Rattle.mmc_bus.specs.RowsErase.{forgotten};
 ghost use Rattle.mmc_bus.specs.RowsIdentify.{is_served};
 ghost use Rattle.mmc_bus.specs.Side.{Side};
+
+use mmc_frame::laws;
 
 /// CMD0, GO_IDLE_STATE: where no fault fell, the card is as after power on, and some of an unfinished write or erase has
 /// landed.
@@ -24,52 +26,60 @@ pub fn go_idle_state()
         → NoFault old new → (lands : ℕ → Bool) × (new.card ≡ reset lands old.card) }
 {}
 
-/// CMD1 of eMMC, SEND_OP_COND: a device in idle tells its OCR, and says at most eight times that it isn't ready.
+/// CMD1 of eMMC, SEND_OP_COND: a device in idle tells its OCR, and says at most eight times that it isn't ready. Only an
+/// eMMC device answers.
 pub fn send_op_cond()
     ensures { (old new : Side) (argument : ℕ) (heard : Result ℕ Unheard) → CommandFacts ocr_of old 1 argument heard new → IsCard old.card
-        → old.card.made.kind ≡ Mmc → Inquires Unit old heard new }
+        → Inquires ((old.card.made.kind ≡ Mmc) × (old.card.state ≡ Idle)) Unit old heard new }
 {}
 
 /// CMD2, ALL_SEND_CID: a card in ready tells its CID, and is in ident after it.
 pub fn all_send_cid()
-    ensures { (old new : Side) (argument : ℕ) (heard : Result (List ℕ) Unheard) (bytes : List ℕ) → CommandFacts register_of old 2 argument heard new
-        → old.card.erase ≡ NoAddress → register_in (register_frame old.card.made.cid) ≡ Ok bytes
-        → Does (old.card.state ≡ Ready) bytes (record (done old.card) { state = Ident }) old heard new }
-{}
+    ensures { (old new : Side) (argument : ℕ) (heard : Result (List ℕ) Unheard) → CommandFacts register_of old 2 argument heard new → IsCard old.card
+        → Does (old.card.state ≡ Ready) old.card.made.cid (record (done old.card) { state = Ident }) old heard new }
+{
+    laws::register_comes_back();
+}
 
 /// CMD3 of SD, SEND_RELATIVE_ADDR: a card in ident or stby publishes its RCA, and goes by it in stby.
 pub fn send_relative_addr()
-    ensures { (old new : Side) (argument : ℕ) (heard : Result ℕ Unheard) → Responded 3 old argument heard new
-        → old.card.made.kind ≡ Sd → old.card.erase ≡ NoAddress
+    ensures { (old new : Side) (argument : ℕ) (heard : Result ℕ Unheard) → Responded 3 old argument heard new → IsCard old.card
+        → old.card.made.kind ≡ Sd
         → Does ((old.card.state ≡ Ident) ⊎ (old.card.state ≡ Stby)) (r6_argument old.card) (record (shown old.card) { state = Stby; rca = old.card.made.published }) old heard new }
 {}
 
 /// CMD3 of eMMC, SET_RELATIVE_ADDR: a device in ident takes the RCA of the argument, and goes by it in stby.
 pub fn set_relative_addr()
-    ensures { (old new : Side) (argument : ℕ) (heard : Result ℕ Unheard) → Responded 3 old argument heard new
-        → old.card.made.kind ≡ Mmc → old.card.erase ≡ NoAddress
+    ensures { (old new : Side) (argument : ℕ) (heard : Result ℕ Unheard) → Responded 3 old argument heard new → IsCard old.card
+        → old.card.made.kind ≡ Mmc
         → Does (old.card.state ≡ Ident) (status false old.card) (record (shown old.card) { state = Stby; rca = field 31 16 argument }) old heard new }
 {}
 
 /// CMD7, SELECT_CARD: a card in stby that is named is in tran after it, and may be busy.
 pub fn select_card()
-    ensures { (old new : Side) (argument : ℕ) (heard : Result ℕ Unheard) → Responded 7 old argument heard new → old.card.erase ≡ NoAddress
+    ensures { (old new : Side) (argument : ℕ) (heard : Result ℕ Unheard) → Responded 7 old argument heard new → IsCard old.card
         → Does ((old.card.state ≡ Stby) × Names argument old.card) (status false old.card) (record (busied (shown old.card)) { state = Tran }) old heard new }
 {}
 
-/// CMD8 of SD, SEND_IF_COND, for 2.7 to 3.6 V: a card in idle that knows CMD8 tells the voltage and the pattern again.
+/// CMD8 of SD, SEND_IF_COND, for 2.7 to 3.6 V: a card in idle that knows CMD8 tells the voltage and the pattern again. Of one
+/// that doesn't know it nothing is heard, and neither of an eMMC device in idle.
 pub fn send_if_cond()
-    ensures { (old new : Side) (argument : ℕ) (heard : Result ℕ Unheard) → Responded 8 old argument heard new
-        → old.card.made.kind ≡ Sd → old.card.erase ≡ NoAddress → field 11 8 argument ≡ 1
+    ensures does { (old new : Side) (argument : ℕ) (heard : Result ℕ Unheard) → Responded 8 old argument heard new → IsCard old.card
+        → old.card.made.kind ≡ Sd → field 11 8 argument ≡ 1
         → Does ((old.card.state ≡ Idle) × (old.card.made.answers_cmd8 ≡ true)) (field 11 0 argument) (done old.card) old heard new }
+    ensures unknown { (old new : Side) (argument : ℕ) (heard : Result ℕ Unheard) → Responded 8 old argument heard new → IsCard old.card
+        → old.card.made.kind ≡ Sd → old.card.made.answers_cmd8 ≡ false → old.card.state ≡ Idle → IsUnheard (refused old.card) old heard new }
+    ensures mmc { (old new : Side) (argument : ℕ) (heard : Result ℕ Unheard) → Responded 8 old argument heard new → IsCard old.card
+        → old.card.made.kind ≡ Mmc → old.card.state ≡ Idle → IsUnheard (refused old.card) old heard new }
 {}
 
 /// CMD9, SEND_CSD: a card in stby that is named tells its CSD.
 pub fn send_csd()
-    ensures { (old new : Side) (argument : ℕ) (heard : Result (List ℕ) Unheard) (bytes : List ℕ) → CommandFacts register_of old 9 argument heard new
-        → old.card.erase ≡ NoAddress → register_in (register_frame old.card.made.csd) ≡ Ok bytes
-        → Does ((old.card.state ≡ Stby) × Names argument old.card) bytes (done old.card) old heard new }
-{}
+    ensures { (old new : Side) (argument : ℕ) (heard : Result (List ℕ) Unheard) → CommandFacts register_of old 9 argument heard new → IsCard old.card
+        → Does ((old.card.state ≡ Stby) × Names argument old.card) old.card.made.csd (done old.card) old heard new }
+{
+    laws::register_comes_back();
+}
 
 /// CMD13, SEND_STATUS: an identified card tells its status, and holds no error after it.
 pub fn send_status()
@@ -78,16 +88,25 @@ pub fn send_status()
 {}
 
 /// ACMD41, SD_SEND_OP_COND: a card in idle tells its OCR, and says to a host that serves it at most eight times that it isn't
-/// ready.
+/// ready. Only an SD card answers, and only behind CMD55.
 pub fn sd_send_op_cond()
     ensures { (old new : Side) (argument : ℕ) (heard : Result ℕ Unheard) → CommandFacts ocr_of old 41 argument heard new → IsCard old.card
-        → old.card.made.kind ≡ Sd → old.card.app ≡ true → Inquires (is_served old.card argument ≡ true) old heard new }
+        → Inquires ((old.card.made.kind ≡ Sd) × (old.card.app ≡ true) × (old.card.state ≡ Idle)) (is_served old.card argument ≡ true) old heard new }
 {}
 
 /// CMD55 of SD, APP_CMD: a card in idle, or an identified one, that is named takes the next command as an application
-/// command.
+/// command. Only an SD card answers; an eMMC device isn't heard.
 pub fn app_cmd()
-    ensures { (old new : Side) (argument : ℕ) (heard : Result ℕ Unheard) → Responded 55 old argument heard new
-        → old.card.made.kind ≡ Sd → old.card.erase ≡ NoAddress
-        → Does (((old.card.state ≡ Idle) ⊎ (is_identified old.card.state ≡ true)) × Names argument old.card) (status true old.card) (record (shown old.card) { app = true }) old heard new }
+    ensures idle { (old new : Side) (argument : ℕ) (heard : Result ℕ Unheard) → Responded 55 old argument heard new → IsCard old.card
+        → Does ((old.card.made.kind ≡ Sd) × ((old.card.state ≡ Idle) ⊎ (is_identified old.card.state ≡ true)) × Names argument old.card) (status true (without_addresses old.card)) (record (shown (forgotten old.card)) { app = true }) old heard new }
+    ensures mmc { (old new : Side) (argument : ℕ) (heard : Result ℕ Unheard) → Responded 55 old argument heard new → IsCard old.card
+        → old.card.made.kind ≡ Mmc → Names argument old.card → IsUnheard (refused (without_addresses old.card)) old heard new }
+{}
+
+/// CMD7, CMD9, CMD13 and CMD55 to another card: nothing is heard, and nothing changes.
+pub fn a_command_to_another_card_changes_nothing()
+    ensures select_card { (old new : Side) (argument : ℕ) (heard : Result ℕ Unheard) → Responded 7 old argument heard new → (Names argument old.card → ⊥) → IsUnheard old.card old heard new }
+    ensures send_csd { (old new : Side) (argument : ℕ) (heard : Result (List ℕ) Unheard) → CommandFacts register_of old 9 argument heard new → (Names argument old.card → ⊥) → IsUnheard old.card old heard new }
+    ensures send_status { (old new : Side) (argument : ℕ) (heard : Result ℕ Unheard) → Responded 13 old argument heard new → (Names argument old.card → ⊥) → IsUnheard old.card old heard new }
+    ensures app_cmd { (old new : Side) (argument : ℕ) (heard : Result ℕ Unheard) → Responded 55 old argument heard new → (Names argument old.card → ⊥) → IsUnheard old.card old heard new }
 {}

@@ -1,11 +1,21 @@
-//! Laws about the steps of a card. Each function does nothing; its contract is the law, which a caller then knows.
-ghost use Rattle.std.specs.Prelude.{◌≡◌, Bool, List, length, true, ℕ};
+//! Laws about the steps of a card, and about the cards in profile. Each function does nothing; its contract is the law, which a
+//! caller then knows.
+ghost use Rattle.std.specs.Prelude.{◌≡◌, ◌<◌, Bool, List, None, Ok, Some, length, true, ℕ};
 ghost use Rattle.mmc_frame.specs.Frame.{command_in};
-ghost use Rattle.mmc_bus.specs.Card.{IsCard, holds};
+ghost use Rattle.mmc_frame.specs.declared.addressing.Addressing.{Addressing};
+ghost use Rattle.mmc_frame.specs.declared.kind.Kind.{Kind};
+ghost use Rattle.mmc_frame.specs.declared.kind.Kind.TheVariants as Is;
+ghost use Rattle.mmc_regs.specs.Csd.{csd_in};
+ghost use Rattle.mmc_regs.specs.declared.csd.Csd.TheVariants.{Mmc, V1, V2};
+ghost use Rattle.mmc_ext_csd.specs.ExtCsd.{ext_csd_in};
+ghost use Rattle.mmc_bus.specs.Card.{AreBlocks, Card, IsBlock, IsCard, holds, powered_on, stored};
+ghost use Rattle.mmc_bus.specs.Made.{HasRegisters, Made, addressing_of, csd_number_of};
 ghost use Rattle.mmc_bus.specs.Faults.{CommandStep, GiveStep, PollStep, TakeStep};
-ghost use Rattle.mmc_bus.specs.Laws.{Carried, CountsAtMostOne, StillStands, WithinOrTaken, erased_by, is_frame_of_run, maybe_erased};
+ghost use Rattle.mmc_bus.specs.Laws.{Carried, CountsAtMostOne, StandsIn, StillStands, SwitchesTo, WithinOrTaken, erased_by, is_frame_of_run, maybe_erased};
+ghost use Rattle.mmc_bus.specs.Profile.{InProfile, IsHighCapacity, IsStandardCapacity, MmcInProfile};
 ghost use Rattle.mmc_bus.specs.Sectors.{Sector, Within};
 ghost use Rattle.mmc_bus.specs.Side.{Side};
+ghost use Rattle.mmc_bus.specs.declared.part.Part.{Part};
 ghost use Rattle.mmc_bus.specs.declared.bus.DataIn.{DataIn};
 ghost use Rattle.mmc_bus.specs.declared.bus.DataOut.{DataOut};
 ghost use Rattle.mmc_bus.specs.declared.bus.Reply.{Reply};
@@ -31,7 +41,7 @@ pub fn a_step_narrows_what_sectors_may_hold()
 pub fn a_step_leaves_a_card()
     ensures command { (old new : Side) (frame : List ℕ) (reply : Reply) → CommandStep old frame reply new → IsCard old.card → IsCard new.card }
     ensures poll { (old new : Side) (said : Bool) → PollStep old said new → IsCard old.card → IsCard new.card }
-    ensures write { (old new : Side) (block : Sector) (got : DataOut) → length block ≡ 512 → GiveStep old block got new → IsCard old.card → IsCard new.card }
+    ensures write { (old new : Side) (block : Sector) (got : DataOut) → IsBlock block → GiveStep old block got new → IsCard old.card → IsCard new.card }
     ensures read { (old new : Side) (size : ℕ) (got : DataIn) (block : Sector) → TakeStep old size got block new → IsCard old.card → IsCard new.card }
 {}
 
@@ -44,10 +54,38 @@ pub fn a_step_of_a_run_leaves_the_card_standing()
     ensures read { (old new : Side) (size : ℕ) (got : DataIn) (block : Sector) → TakeStep old size got block new → StillStands old.card new.card }
 {}
 
+/// Whatever happens to a switch of the partition of an eMMC device, it stands as before, in its partition or in the new one.
+pub fn a_switch_of_the_partition_leaves_the_card_standing()
+    ensures { (old new : Side) (part : Part) (frame : List ℕ) (index argument : ℕ) (reply : Reply) → SwitchesTo part old.card index argument → command_in frame ≡ Some (index, argument) → CommandStep old frame reply new → StandsIn part old.card new.card }
+{}
+
+/// No command but CMD38 erases anything, so that no sector may hold more after it.
+pub fn no_command_but_erase_widens()
+    ensures { (card : Card) (index argument : ℕ) → index < 64 → (index ≡ 38 → ⊥) → erased_by card (Some (index, argument)) ≡ None }
+{}
+
+/// A card after power on, with registers that have their form and sectors of 512 bytes, is a card.
+pub fn a_card_after_power_on_is_one()
+    ensures { (made : Made) (sectors : List (List Sector)) → HasRegisters made → ((part : Part) → AreBlocks (stored (powered_on made sectors) part)) → IsCard (powered_on made sectors) }
+{}
+
 /// A step counts no fault, or one.
 pub fn a_step_counts_at_most_one_fault()
     ensures command { (old new : Side) (frame : List ℕ) (reply : Reply) → CommandStep old frame reply new → CountsAtMostOne old new }
     ensures poll { (old new : Side) (said : Bool) → PollStep old said new → CountsAtMostOne old new }
     ensures write { (old new : Side) (block : Sector) (got : DataOut) → GiveStep old block got new → CountsAtMostOne old new }
     ensures read { (old new : Side) (size : ℕ) (got : DataIn) (block : Sector) → TakeStep old size got block new → CountsAtMostOne old new }
+{}
+
+/// Of each kind, and with each addressing, some card is in profile.
+pub fn some_card_is_in_profile()
+    ensures { (kind : Kind) (addressing : Addressing) → (made : Made) × (made.kind ≡ kind) × (addressing_of made ≡ addressing) × HasRegisters made × InProfile made }
+{}
+
+/// The readers of CSD and EXT_CSD take the registers of a card in profile.
+pub fn registers_in_profile_are_taken()
+    ensures standard { (made : Made) → HasRegisters made → IsStandardCapacity made → csd_in Is.Sd made.csd ≡ Ok (V1 (csd_number_of made)) }
+    ensures high { (made : Made) → HasRegisters made → IsHighCapacity made → csd_in Is.Sd made.csd ≡ Ok (V2 (csd_number_of made)) }
+    ensures mmc { (made : Made) → HasRegisters made → csd_in Is.Mmc made.csd ≡ Ok (Mmc (csd_number_of made)) }
+    ensures ext_csd { (made : Made) → MmcInProfile made → ext_csd_in made.ext_csd ≡ Ok made.ext_csd }
 {}

@@ -104,6 +104,7 @@ impl Chip {
             self.is_busy = true;
         } else {
             self.state = State::Tran;
+            self.sends_scr = false;
         }
         reply
     }

@@ -111,7 +111,7 @@ impl ExtCsd {
     }
 
     /// The size of the general purpose partition `i`, 1 to 4, in sectors: 0 where PARTITION_SETTING_COMPLETED has bit 0
-    /// clear. It can be larger than what 32 bits address: see `existing_sectors`.
+    /// clear. It can be larger than what a command's 32 bits of address can name: see `existing_sectors`.
     pub fn gp_sectors(&self, i: u8) -> u64
         requires first { 1 ≤ i }
         requires last { i ≤ 4 }

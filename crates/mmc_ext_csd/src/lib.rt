@@ -7,6 +7,7 @@ mod partition;
 
 pub use ext_csd::ExtCsd;
 pub use fault::ExtFault;
+pub use mmc_frame::Addressing;
 pub use partition::existing_sectors;
 
 #[cfg(test)]

@@ -85,8 +85,19 @@ fn general_purpose_partitions(rt: HostRuntime) -> Result<(), Fail> {
     block[143] = 0xff;
     let too_large = ExtCsd::read(&block)?.gp_sectors(1);
     assert_eq!(rt; too_large, 17_179_868_160);
-    assert_eq!(rt; existing_sectors(too_large), 0);
-    assert_eq!(rt; existing_sectors(4_294_967_296), 4_294_967_296);
-    assert_eq!(rt; existing_sectors(4_294_967_297), 0);
+    assert_eq!(rt; existing_sectors(too_large, Addressing::Bytes), 0);
+    assert_eq!(rt; existing_sectors(too_large, Addressing::Sectors), 0);
     Ok(())
+}
+
+#[test]
+fn sizes_by_addressing(rt: HostRuntime) {
+    assert_eq!(rt; existing_sectors(8_388_608, Addressing::Bytes), 8_388_608);
+    assert_eq!(rt; existing_sectors(8_388_609, Addressing::Bytes), 0);
+    assert_eq!(rt; existing_sectors(8_388_609, Addressing::Sectors), 8_388_609);
+    assert_eq!(rt;
+        existing_sectors(4_294_967_296, Addressing::Sectors),
+        4_294_967_296
+    );
+    assert_eq!(rt; existing_sectors(4_294_967_297, Addressing::Sectors), 0);
 }

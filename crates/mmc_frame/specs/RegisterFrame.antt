@@ -1,6 +1,6 @@
 -- The two responses without an index: R2, the 136 bits that carry a CID or a CSD, and R3, the 48 bits that carry the OCR
 -- (SD Physical Layer 6.00, sections 4.9.3 and 4.9.4; JESD84-B51, section 6.12). A register is its sixteen bytes.
-use Rattle.std.specs.Prelude.{ℕ, ◌*◌, ◌+◌, ◌/◌, ◌%◌, ◌^◌, ◌==◌, ◌&&◌, List, [], ◌∷◌, take, Bool, if◌then◌else◌, slice_index, slice_range, slice_set, Result, Ok, Err}
+use Rattle.std.specs.Prelude.{ℕ, ◌≡◌, ◌*◌, ◌+◌, ◌/◌, ◌%◌, ◌^◌, ◌==◌, ◌&&◌, List, [], ◌∷◌, length, take, Bool, true, if◌then◌else◌, slice_index, slice_range, slice_set, Result, Ok, Err}
 use Rattle.mmc_frame.specs.Check.{remainder, bits_of}
 use Rattle.mmc_frame.specs.Field.{field}
 use Rattle.mmc_frame.specs.Frame.{number, argument_in}
@@ -25,6 +25,12 @@ register_in frame =
 -- the R2 of a register: 00111111 and the register's bits 127 to 1, then the end bit 1 in place of bit 0
 abbrev pub register_frame : List ℕ → List ℕ
 register_frame register = 0x3f ∷ slice_set register 15 (slice_index register 15 / 2 * 2 + 1)
+
+-- each register of sixteen bytes whose check fits and whose last bit is 1 comes back whole from its R2
+abbrev pub RegistersComeBack : Type 0
+RegistersComeBack =
+    (register : List ℕ) → length register ≡ 16 → is_sound_register register ≡ true → has_end_bit register ≡ true
+    → register_in (register_frame register) ≡ Ok register
 
 -- the R3 of an OCR: 00111111, the OCR, 11111111
 abbrev pub ocr_frame : ℕ → List ℕ

@@ -1,6 +1,7 @@
 //! Laws about the frames. Each function does nothing; its contract is the law, which a caller then knows.
 ghost use Rattle.std.specs.Prelude.{ℕ};
 ghost use Rattle.mmc_frame.specs.Flips.{RefusesFlips, RefusesFlipsBesideOcr, is_command, is_r2, is_r6, is_r7, is_response_to};
+ghost use Rattle.mmc_frame.specs.RegisterFrame.{RegistersComeBack};
 
 /// A sound command with one bit or two flipped is no sound command.
 pub fn flipped_command_is_refused()
@@ -22,4 +23,9 @@ pub fn flipped_register_is_refused()
 /// An R3 with one bit or two flipped is refused, as long as none of them is of the OCR, which nothing protects.
 pub fn flipped_beside_the_ocr_is_refused()
     ensures { RefusesFlipsBesideOcr }
+{}
+
+/// A register of sixteen bytes whose check fits and whose last bit is 1 comes back whole from its response, an R2.
+pub fn register_comes_back()
+    ensures { RegistersComeBack }
 {}

@@ -4,6 +4,7 @@
 //! 128 bits comes back in seventeen bytes (SD Physical Layer 6.00, section 4; JESD84-B51, section 6).
 #![tactic(auto)]
 
+mod addressing;
 mod card_state;
 mod check;
 mod command;
@@ -16,6 +17,7 @@ mod register_response;
 mod response;
 mod status;
 
+pub use addressing::Addressing;
 pub use card_state::State;
 pub use command::{encode, read_command};
 pub use fault::FrameFault;

@@ -1,7 +1,10 @@
 use Rattle.std.proofs.Common.{refl, true}
-use Rattle.mmc_bus.proofs.CommandLemmas.{begins, carried}
+use Rattle.std.specs.Prelude.{Some}
+use Rattle.mmc_frame.specs.declared.card_state.State.TheVariants.{Rcv}
+use Rattle.mmc_bus.proofs.CommandLemmas.{begins, transfers}
 use Rattle.mmc_bus.proofs.transfer_laws.write_block.Goals as goal
+use Rattle.mmc_bus.specs.RowsTransfer.{begun}
 
 pub returns : goal.returns
-returns c = λ old new address heard facts card none.
-    begins true 24 _ old address heard new facts card refl refl (λ choice. carried choice old.card 24 address none)
+returns c = λ old new address heard facts card.
+    begins true 24 _ old address heard new facts card refl refl (λ choice. transfers true 24 old.card address (λ d. begun Rcv true (Some 1) d address) refl)
