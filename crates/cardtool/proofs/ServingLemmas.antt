@@ -9,7 +9,7 @@ use Rattle.mmc_block.specs.declared.completion.Completion.{Completion}
 use Rattle.mmc_block.specs.declared.info.Info.{Info}
 use Rattle.mmc_block.specs.declared.refused.Refused.{Refused}
 use Rattle.mmc_block.specs.declared.request.Request.{Request}
-use Rattle.mmc_block.specs.Device.{is_failed, none_failed}
+use Rattle.mmc_block.specs.Answers.{any_failed}
 use Rattle.mmc_block.specs.Machine.{Accepts, Machine, Turns}
 use Rattle.mmc_block.specs.Refusal.{IsFirst, first_refusal}
 use Rattle.mmc_block.specs.Run.{Event as MachineEvent, Follow, Reply, Steps, unanswered}
@@ -17,7 +17,7 @@ use Rattle.mmc_block.specs.Run.Reply.{Accepted, Answers, RefusedFor}
 use Rattle.mmc_block.proofs.RunLemmas.{follow_then}
 use Rattle.cardtool.specs.declared.event.Event.{Event}
 use Rattle.cardtool.specs.declared.event.Event.TheVariants.{Submit, Turn, Run}
-use Rattle.cardtool.specs.Output.{any_failed, completions_text, queued_text, refused_text}
+use Rattle.cardtool.specs.Output.{completions_text, queued_text, refused_text}
 use Rattle.cardtool.specs.Serving.{Breaks, Goes, IsNext, IsReadyAfter, Leads, Played, Standing, Turned, answered, any_bad, any_failure, behind, due, has_failure, is_bad, machine_event, pending_after, stands, text_of, texts}
 use Rattle.cardtool.proofs.Counts.{accepted_count, turn_count}
 
@@ -156,7 +156,7 @@ goes_then i A p B q C r script fs left rest old mid new x y first second = λ m 
       or_swap y x ∙ ap (λ b. b || y) f.6 ∙ ap (λ b. any_bad f.1 || b) s.6 ∙ sym (bad_then f.1 s.1),
     )
 
--- a write fault in a script, of which a front was served before
+-- a write fault in a script, of which a prefix was served before
 pub breaks_after : (i : Info) (A : Machine → Type 0) (p : Bool) (B : Machine → Type 0) (q : Bool) (C : Machine → Type 0) (r : Bool) (script fs left : List Event) (old mid new : Option (List ℕ)) (x : Bool)
     → Goes i A p B q script (fs ++ left) old mid x → Breaks i B q C r fs mid new → Breaks i A p C r script old new
 breaks_after i A p B q C r script fs left old mid new x first second = λ m a.
@@ -234,19 +234,10 @@ plays_one i A p B q e r old new (Err d) happens none wrote ready = broken_one i 
 
 -- Turns.
 
-not_both : (failed none some : Bool) → none ≡ not some → (not failed && none) ≡ not (failed || some)
-not_both true none some h = refl
-not_both false none some h = h
-
--- none failed, or some did
-none_or_some : (cs : List Completion) → none_failed cs ≡ not (any_failed cs)
-none_or_some [] = refl
-none_or_some (c ∷ cs) = not_both (is_failed c.answer) (none_failed cs) (any_failed cs) (none_or_some cs)
-
 pub turned : {E : Type 0} (i : Info) (A : Machine → Type 0) (p : Bool) (B : Machine → Type 0) (q : Bool) (cs : List Completion) (old new : Option (List ℕ)) (r : Result Unit E)
-    → ((m : Machine) → A m → (n : Machine) × B n × Turns i m cs n) → Writes old new r (completions_text cs) → q ≡ (p && none_failed cs) → Turned i A p B q old new (answered (any_failed cs) r)
-turned i A p B q cs old new (Ok x) turns wrote ready = (cs, turns, wrote, refl, ready ∙ ap (λ b. p && b) (none_or_some cs))
-turned i A p B q cs old new (Err e) turns wrote ready = (cs, turns, wrote, tt, ready ∙ ap (λ b. p && b) (none_or_some cs))
+    → ((m : Machine) → A m → (n : Machine) × B n × Turns i m cs n) → Writes old new r (completions_text cs) → q ≡ (p && not (any_failed cs)) → Turned i A p B q old new (answered (any_failed cs) r)
+turned i A p B q cs old new (Ok x) turns wrote ready = (cs, turns, wrote, refl, ready)
+turned i A p B q cs old new (Err e) turns wrote ready = (cs, turns, wrote, tt, ready)
 
 -- a turn of the script, or of a `run` that isn't over
 turn_happened : (i : Info) (A B : Machine → Type 0) (e : Event) (cs : List Completion) → ((m : Machine) → A m → due (unanswered m) (e ∷ []) ≡ e ∷ [])

@@ -117,7 +117,7 @@ kept_few n exchanges = let left = length-drop (length exchanges - n) exchanges i
 pub kept_count : (n : ℕ) (exchanges : List Exchange) → min (length exchanges) n ≡ length (last_of n exchanges)
 kept_count n exchanges = let left = length-drop (length exchanges - n) exchanges in omega (arith, left)
 
--- a front of the answers' text is a front of what is printed with a trace, too
+-- a prefix of the answers' text is a prefix of what is printed with a trace, too
 none_behind : (n : ℕ) (left : List Event) (old new : Option (List ℕ)) (text behind : List ℕ) → behind ≡ [] → AppendsFront old new (text ++ behind)
     → (more : List ℕ) × IsTraceBehind (Some n) left more × AppendsFront old new (text ++ more)
 none_behind n [] old new text behind none front =

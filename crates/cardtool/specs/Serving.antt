@@ -6,6 +6,7 @@ use Rattle.mmc_bus.specs.Faults.{NoFault}
 use Rattle.mmc_bus.specs.Side.{Side}
 use Rattle.mmc_block.specs.declared.completion.Completion.{Completion}
 use Rattle.mmc_block.specs.declared.info.Info.{Info}
+use Rattle.mmc_block.specs.Answers.{any_failed}
 use Rattle.mmc_block.specs.Device.{Agrees, DeviceView}
 use Rattle.mmc_block.specs.Machine.{Machine, Turns}
 use Rattle.mmc_block.specs.Run.{Event as MachineEvent, Follow, Reply, Runs, unanswered}
@@ -13,7 +14,7 @@ use Rattle.mmc_block.specs.Run.Event.{Submit as MachineSubmit, Turn as MachineTu
 use Rattle.mmc_block.specs.Run.Reply.{Accepted, Answers, GivenBack, RefusedFor}
 use Rattle.cardtool.specs.declared.event.Event.{Event}
 use Rattle.cardtool.specs.declared.event.Event.TheVariants.{Submit, Turn, Run}
-use Rattle.cardtool.specs.Output.{any_failed, completions_text, queued_text, refused_text}
+use Rattle.cardtool.specs.Output.{completions_text, queued_text, refused_text}
 
 -- The events of a script.
 
@@ -23,7 +24,7 @@ machine_event (Submit client request) = MachineSubmit client request
 machine_event Turn = MachineTurn
 machine_event Run = MachineTurn
 
--- what is to be served where so many requests have no answer: a `run` is over where none has none
+-- what is still to be served while so many requests await an answer; a `run` is over once none does
 abbrev pub due : ℕ → List Event → List Event
 due pending [] = []
 due pending (Run ∷ script) = if pending == 0 then due pending script else Run ∷ script
@@ -125,7 +126,7 @@ Goes info before was later is script left old new bad =
     (m : Machine) → before m → (events : List MachineEvent) × (replies : List Reply) × (n : Machine) × later n
     × Leads info was is m n script left events replies × Appends old new (texts events replies) × (bad ≡ any_bad replies)
 
--- a write fault: a front of the script was served, and a front of its text went out
+-- a write fault: a prefix of the script was served, and a prefix of its text went out
 abbrev pub Breaks : Info → (Machine → Type 0) → Bool → (Machine → Type 0) → Bool → List Event → Option (List ℕ) → Option (List ℕ) → Type 0
 Breaks info before was later is script old new =
     (m : Machine) → before m → (events : List MachineEvent) × (replies : List Reply) × (n : Machine) × (left : List Event) × later n

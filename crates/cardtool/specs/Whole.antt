@@ -73,7 +73,7 @@ pub record Served (info : Info) (before later : Sets) (fell : ℕ) (script left 
   pub fine : fell ≡ 0 → any_failure replies ≡ false
 
 -- The script was served and its text went out, with the trace behind it, and the status tells how its requests fared. Where
--- memory was refused nothing was served or printed. After a write fault a front of the script was served, and a front of
+-- memory was refused nothing was served or printed. After a write fault a prefix of the script was served, and a prefix of
 -- what is printed of it went out.
 abbrev pub IsServed : Info → Sets → Sets → ℕ → List Event → Option ℕ → Option (List ℕ) → Option (List ℕ) → Result ℕ ServeFault → Type 0
 IsServed info before later fell script trace old new (Ok status) =

@@ -274,7 +274,7 @@ fn serve_traced<B: Bus + Drop, W: Write>(
 ///
 /// # Errors
 /// `NoMemory` where the trace can't be made or the device can't be opened; nothing was written then. `Write` where a
-/// write failed; a front of the text went out.
+/// write failed; a prefix of the text went out.
 pub fn serve_on<B: Bus + Drop, W: Write>(
     alloc: Global,
     bus: B,
@@ -355,7 +355,7 @@ fn read_files<C: Read, S: Read>(
 ///
 /// # Errors
 /// The first fault in this order: the card file is read, then parsed, then the script is read, then parsed, then the
-/// card, the trace and the device are made. Nothing was written then. `Write` comes where a write failed; a front of
+/// card, the trace and the device are made. Nothing was written then. `Write` comes where a write failed; a prefix of
 /// the text went out.
 pub fn serve<C: Read, S: Read, W: Write>(
     alloc: Global,

@@ -16,8 +16,9 @@ use Rattle.mmc_block.specs.declared.entry.Entry.{Entry}
 use Rattle.mmc_block.specs.declared.info.Info.{Info}
 use Rattle.mmc_block.specs.declared.request.Request.{Request}
 use Rattle.mmc_block.proofs.WriteLemmas.{RestLaw}
-use Rattle.mmc_block.specs.Device.{Agrees, AreInOrder, Comes, DeviceOk, DeviceView, DidServe, IsLinked, is_failed, none_failed}
-use Rattle.mmc_block.specs.Machine.{Decides, IsAnswered, IsMerged, Machine, PassesNone, Turns, Waiting, all_refused, effect, refused_effect}
+use Rattle.mmc_block.specs.Device.{Agrees, AreInOrder, Comes, DeviceOk, DeviceView, DidServe, IsLinked}
+use Rattle.mmc_block.specs.Answers.{any_failed, is_failed}
+use Rattle.mmc_block.specs.Machine.{Decides, IsAnswered, IsMerged, Machine, PassesNone, Turns, Waiting, all_failed, effect, failed_effect}
 use Rattle.mmc_block.specs.Place.{IsLoose, IsReady}
 use Rattle.mmc_block.specs.Requests.{change_of, part_of, start_of}
 
@@ -177,17 +178,17 @@ answering info request old new (Data bytes) sets rests ready within did =
     }
 answering info request old new (Failed cause) sets rests ready within did = record {
   decided = sets;
-  after = refused_effect info request sets;
+  after = failed_effect info request sets;
   decides = λ p s. inl refl;
   answered = λ p s. refl;
   within = λ p s v h. maybe_within (change_of info request) (holds old.card) sets within p s v (did.within p s v h);
 }
 
 -- without an exchange
-refusing : (info : Info) (request : Request) (cause : Cause) (sets now : Sets) → Within now sets → Answering info request sets (Failed cause) now
-refusing info request cause sets now within = record {
+failing : (info : Info) (request : Request) (cause : Cause) (sets now : Sets) → Within now sets → Answering info request sets (Failed cause) now
+failing info request cause sets now within = record {
   decided = sets;
-  after = refused_effect info request sets;
+  after = failed_effect info request sets;
   decides = λ p s. inl refl;
   answered = λ p s. refl;
   within = λ p s v h. old_maybe (change_of info request) sets p s v (within p s v h);
@@ -244,7 +245,7 @@ answering_by info true request old answer new sets rests h kept within =
 answering_by info false request old answer new sets rests h kept within =
     let recovery = h.recovery refl in
     subst (λ a. Answering info request sets a (holds new.card)) (sym recovery.1)
-    (refusing info request Recovery sets (holds new.card) (subst (λ (s : Side). Within (holds s.card) sets) (sym recovery.0) within))
+    (failing info request Recovery sets (holds new.card) (subst (λ (s : Side). Within (holds s.card) sets) (sym recovery.0) within))
 
 -- Devices.
 
@@ -253,7 +254,7 @@ pub comes : {B : Type 0} (side : B → Side) (d e : DeviceView B) (w : Waiting) 
     → ((sets : Sets) → Within (holds (side d.bus).card) sets → Answering d.info w.request sets c.answer (holds (side e.bus).card))
     → Comes side d (λ (m n : Machine). Turns d.info m cs n) e
 comes side d e w ws c cs one waits left next info idle idle_after order ticket client answers m a =
-    let within : Within (holds (side d.bus).card) m.sets = subst (λ vs. Within (holds (side d.bus).card) (all_refused d.info vs m.sets)) idle a.within in
+    let within : Within (holds (side d.bus).card) m.sets = subst (λ vs. Within (holds (side d.bus).card) (all_failed d.info vs m.sets)) idle a.within in
     let x = answers m.sets within in (
       answered_by m ws x.after,
       subst (λ ys. Turns d.info m ys (answered_by m ws x.after)) (sym one)
@@ -262,7 +263,7 @@ comes side d e w ws c cs one waits left next info idle idle_after order ticket c
         waits = sym left;
         serves = sym idle_after;
         next = a.next ∙ sym next;
-        within = subst (λ vs. Within (holds (side e.bus).card) (all_refused e.info vs x.after)) (sym idle_after) x.within;
+        within = subst (λ vs. Within (holds (side e.bus).card) (all_failed e.info vs x.after)) (sym idle_after) x.within;
       },
     )
 
@@ -275,5 +276,5 @@ pub in_order_from : (low high : ℕ) (ws : List Waiting) (next : ℕ) → low �
 in_order_from low high [] next l h = omega (arith, l, h)
 in_order_from low high (w ∷ ws) next l h = (let a = h.0 in omega (arith, l, a), h.1)
 
-pub none_failed_one : (c : Completion) → is_failed c.answer ≡ false → none_failed (c ∷ []) ≡ true
-none_failed_one c h = rw h refl
+pub one_failed : (c : Completion) → is_failed c.answer ≡ false → any_failed (c ∷ []) ≡ false
+one_failed c h = rw h refl

@@ -7,8 +7,9 @@ use Rattle.mmc_block.specs.declared.completion.Answer.TheVariants.{Data, Done, F
 use Rattle.mmc_block.specs.declared.completion.Completion.{Completion}
 use Rattle.mmc_block.specs.declared.info.Info.{Info}
 use Rattle.mmc_block.specs.declared.request.Request.{Request}
+use Rattle.mmc_block.specs.Answers.{is_failed}
 use Rattle.mmc_block.specs.Machine.{Completes, CompletesAll, Decides, IsAnswered, Machine, StartsIfIdle, Turns, Waiting}
-use Rattle.mmc_block.specs.MachineLaws.{IsFailure, KeepsValues}
+use Rattle.mmc_block.specs.MachineLaws.{KeepsValues}
 use Rattle.mmc_block.specs.Requests.{change_of}
 
 -- Values of one sector.
@@ -80,7 +81,7 @@ turn_keeps info old completions new t part sector some =
 
 answer_stays : (info : Info) (request : Request) (others : List Waiting) (old : Sets) (answer : Answer) (new : Sets)
     → IsAnswered info request others old answer new → (part : Part) (sector : ℕ) → IsDecided (old part sector)
-    → IsDecided (new part sector) ⊎ (IsFailure answer × (touches (change_of info request) part sector ≡ true))
+    → IsDecided (new part sector) ⊎ ((is_failed answer ≡ true) × (touches (change_of info request) part sector ≡ true))
 answer_stays info request others old Done new a part sector d =
     inl (decided_as _ _ (a.1 part sector)
     (new_is_decided (touches (change_of info request) part sector) (value_of (change_of info request) sector) (old part sector) d))
@@ -88,7 +89,7 @@ answer_stays info request others old (Data bytes) new a part sector d = inl (dec
 answer_stays info request others old (Failed cause) new a part sector d =
     elim (still_decided (touches (change_of info request) part sector) (value_of (change_of info request) sector) (old part sector) d) [
       | inl k ↦ inl (decided_as _ _ (a part sector) k)
-      | inr t ↦ inr (tt, t)
+      | inr t ↦ inr (refl, t)
     ]
 
 pub decision_stays : (old new : Sets) → Decides old new → (part : Part) (sector : ℕ) → IsDecided (old part sector) → IsDecided (new part sector)
@@ -100,7 +101,7 @@ decision_stays old new d part sector decided =
 
 pub completion_stays : (info : Info) (old : Machine) (completion : Completion) (new : Machine) (step : Completes info old completion new)
     (part : Part) (sector : ℕ) → IsDecided (old.sets part sector)
-    → IsDecided (new.sets part sector) ⊎ (IsFailure completion.answer × (touches (change_of info step.w.request) part sector ≡ true))
+    → IsDecided (new.sets part sector) ⊎ ((is_failed completion.answer ≡ true) × (touches (change_of info step.w.request) part sector ≡ true))
 completion_stays info old completion new step part sector decided =
     answer_stays info step.w.request _ step.decided completion.answer new.sets step.answered part sector
     (decision_stays old.sets step.decided step.decides part sector decided)

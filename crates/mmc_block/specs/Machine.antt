@@ -29,14 +29,14 @@ pub record Machine : Type 0 where
 abbrev pub effect : Info → Request → Sets → Sets
 effect info request sets = changed (change_of info request) sets
 
--- one that is refused leaves each of them old or new
-abbrev pub refused_effect : Info → Request → Sets → Sets
-refused_effect info request sets = maybe_changed (change_of info request) sets
+-- one that fails leaves each of them old or new
+abbrev pub failed_effect : Info → Request → Sets → Sets
+failed_effect info request sets = maybe_changed (change_of info request) sets
 
--- each of these refused
-abbrev pub all_refused : Info → List Waiting → Sets → Sets
-all_refused info [] sets = sets
-all_refused info (w ∷ ws) sets = all_refused info ws (refused_effect info w.request sets)
+-- each of these failed
+abbrev pub all_failed : Info → List Waiting → Sets → Sets
+all_failed info [] sets = sets
+all_failed info (w ∷ ws) sets = all_failed info ws (failed_effect info w.request sets)
 
 -- none of these changes the sector
 abbrev pub NoneChanges : Info → List Waiting → Part → ℕ → Type 0
@@ -62,7 +62,7 @@ IsAnswered info request others old Done new =
     (is_read request ≡ false) × Same new (effect info request old) × AreDecidedBut info others new
 IsAnswered info request others old (Data bytes) new =
     (is_read request ≡ true) × Same new old × AreJoined request old bytes × HasDecided request new × AreDecidedBut info others new
-IsAnswered info request others old (Failed cause) new = Same new (refused_effect info request old)
+IsAnswered info request others old (Failed cause) new = Same new (failed_effect info request old)
 
 -- Steps.
 

@@ -5,8 +5,9 @@ ghost use Rattle.mmc_bus.specs.Sectors.{IsDecided, Sector, Sets, Within, touches
 ghost use Rattle.mmc_block.specs.declared.completion.Completion.{Completion};
 ghost use Rattle.mmc_block.specs.declared.info.Info.{Info};
 ghost use Rattle.mmc_block.specs.declared.request.Request.{Request};
+ghost use Rattle.mmc_block.specs.Answers.{is_failed};
 ghost use Rattle.mmc_block.specs.Machine.{Completes, Decides, Machine, Turns};
-ghost use Rattle.mmc_block.specs.MachineLaws.{EachOnce, IsFailure, KeepsValues};
+ghost use Rattle.mmc_block.specs.MachineLaws.{EachOnce, KeepsValues};
 ghost use Rattle.mmc_block.specs.Requests.{ShareSector, change_of, conflicts, is_read};
 ghost use Rattle.mmc_block.specs.Run.{Counted, CountedRuns, Event, Reply, Runs};
 ghost use Rattle.mmc_block.specs.InOrder.{AreDecided, EndsInOrder, IsInOrder, MayHold, history};
@@ -32,7 +33,7 @@ pub fn a_set_is_never_empty()
 pub fn a_decided_sector_stays_decided()
     ensures completes { (info : Info) (old : Machine) (completion : Completion) (new : Machine) (step : Completes info old completion new)
         (part : Part) (sector : ℕ) → IsDecided (old.sets part sector)
-        → IsDecided (new.sets part sector) ⊎ (IsFailure completion.answer × (touches (change_of info step.w.request) part sector ≡ true)) }
+        → IsDecided (new.sets part sector) ⊎ ((is_failed completion.answer ≡ true) × (touches (change_of info step.w.request) part sector ≡ true)) }
     ensures decides { (old new : Sets) → Decides old new → (part : Part) (sector : ℕ) → IsDecided (old part sector) → IsDecided (new part sector) }
 {}
 

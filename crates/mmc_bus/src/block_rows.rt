@@ -133,7 +133,7 @@ impl Chip {
     }
 
     /// The card isn't busy any more, and what it was programming is stored.
-    pub fn rest(&mut self)
+    pub fn end_busy(&mut self)
         ensures { card_of self.new ≡ rested (card_of self.old) }
     {
         if self.is_in(State::Prg) {

@@ -128,7 +128,7 @@ impl Chip {
     }
 
     /// All error bits are shown in a response, and cleared.
-    pub fn show(&mut self)
+    pub fn clear_errors(&mut self)
         ensures { card_of self.new ≡ shown (card_of self.old) }
     {
         self.is_app = false;
@@ -143,7 +143,7 @@ impl Chip {
         ensures card { card_of self.new ≡ shown (card_of self.old) }
     {
         let status = self.status(is_app);
-        self.show();
+        self.clear_errors();
         Reply::Short(encode_response(index, status))
     }
 
@@ -167,7 +167,7 @@ impl Chip {
 
     // Any command but those of the erase sequence and CMD13 drops held addresses.
     #[tactic(auto, using(crate::proofs::Cards::among_more))]
-    fn reach(&mut self, command: Command)
+    fn drop_erase_addresses(&mut self, command: Command)
         ensures { card_of self.new ≡ reached command (card_of self.old) }
     {
         if leaves_erase(command) || matches!(self.addresses, Addresses::None) {
@@ -248,7 +248,7 @@ impl Chip {
             return Reply::Silent;
         }
         let is_legal = self.is_legal(command);
-        self.reach(command);
+        self.drop_erase_addresses(command);
         if is_legal {
             self.carry_out(command, index, argument)
         } else {

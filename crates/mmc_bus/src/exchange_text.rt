@@ -49,7 +49,7 @@ impl Exchange {
     /// `out accepted|rejected|nothing` or `busy yes|no`.
     ///
     /// # Errors
-    /// The fault of a write; a front of the line went out then.
+    /// The fault of a write; a prefix of the line went out then.
     #[tactic(auto, unfolding(crate::specs::ExchangeText::exchange_text))]
     pub fn write_line<W: Write>(&self, out: &mut W) -> io::Result<()>
         ensures { Writes (W.contents out.old) (W.contents out.new) result (exchange_text self.now) }

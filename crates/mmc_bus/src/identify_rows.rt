@@ -84,7 +84,7 @@ impl Chip {
         ensures { Answers (send_relative_addr (card_of self.old)) self.new result }
     {
         let argument = self.r6_argument();
-        self.show();
+        self.clear_errors();
         self.state = State::Stby;
         self.rca = RCA;
         Reply::Short(encode_response(SEND_RELATIVE_ADDR, argument))

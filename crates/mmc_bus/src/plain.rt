@@ -91,7 +91,7 @@ impl Bus for PlainCard {
         ensures exchanged { Polled (plain_side self.old) result (plain_side self.new) }
         ensures no_fault { NoFault (plain_side self.old) (plain_side self.new) }
     {
-        self.chip.rest();
+        self.chip.end_busy();
         self.wire.note(Exchange::Busy { yes: false });
         false
     }

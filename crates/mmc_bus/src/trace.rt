@@ -68,7 +68,7 @@ impl<B: Bus> TraceBus<B> {
     /// Writes a line for each exchange that is kept, oldest first.
     ///
     /// # Errors
-    /// The fault of a write; a front of the lines went out then.
+    /// The fault of a write; a prefix of the lines went out then.
     pub fn write_lines<W: Write>(&self, out: &mut W) -> io::Result<()>
         ensures { Writes (W.contents out.old) (W.contents out.new) result (lines_text self.now.exchanges) }
     {
@@ -78,7 +78,7 @@ impl<B: Bus> TraceBus<B> {
     /// Writes a line for each of the last `most` exchanges that are kept, oldest first; where fewer are kept, for each.
     ///
     /// # Errors
-    /// The fault of a write; a front of the lines went out then.
+    /// The fault of a write; a prefix of the lines went out then.
     pub fn write_last<W: Write>(&self, most: usize, out: &mut W) -> io::Result<()>
         ensures { Writes (W.contents out.old) (W.contents out.new) result (lines_text (last_of most self.now.exchanges)) }
     {

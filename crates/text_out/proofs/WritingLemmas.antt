@@ -15,7 +15,7 @@ appends_more (Some x) None c bs cs p q = absurd p
 appends_more (Some x) (Some y) None bs cs p q = absurd q
 appends_more (Some x) (Some y) (Some z) bs cs p q = q ∙ ap (λ l. l ++ cs) p ∙ append_assoc x bs cs
 
--- what went out before, and then a front of what follows, is a front of both
+-- what went out before, and then a prefix of what follows, is a prefix of both
 pub front_after : (a b c : Option (List ℕ)) (first text : List ℕ) → Appends a b first → AppendsFront b c text → AppendsFront a c (first ++ text)
 front_after a b c first text p q = (first ++ q.0, q.1, ap (λ l. first ++ l) q.2 ∙ sym (append_assoc first q.0 q.1), appends_more a b c first q.0 p q.3)
 
@@ -32,7 +32,7 @@ pub writes_failed : {E : Type 0} (a b : Option (List ℕ)) (r : Result Unit E) (
 writes_failed a b (Ok x) text failed p = absurd (false≢true failed)
 writes_failed a b (Err e) text failed p = p
 
--- after a front of the whole went out, a fault within what follows it
+-- after a prefix of the whole went out, a fault within what follows it
 pub writes_broken : {E : Type 0} (a b c : Option (List ℕ)) (r : Result Unit E) (front text rest whole : List ℕ) → IsErr r → whole ≡ front ++ (text ++ rest) → Appends a b front → AppendsFront b c text → Writes a c r whole
 writes_broken a b c r front text rest whole failed e p q = subst (Writes a c r) (sym e) (writes_failed a c r (front ++ (text ++ rest)) failed (front_after a b c front (text ++ rest) p (front_before b c text rest q)))
 

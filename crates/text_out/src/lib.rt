@@ -2,7 +2,7 @@
 //! what went out, also after a fault.
 //!
 //! One function touches the writer, `put`. It takes an `Err` of a write as it comes, so that an interrupted write
-//! is a fault, and passes it on. After a fault a front of the text went out.
+//! is a fault, and passes it on. After a fault a prefix of the text went out.
 #![tactic(auto)]
 
 mod hex;
