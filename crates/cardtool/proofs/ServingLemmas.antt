@@ -1,99 +1,123 @@
 -- A script that is served, one call of the device behind the other.
-use Rattle.std.proofs.Common.{◌≡◌, ◌<◌, ◌∙◌, ℕ, List, [], ◌∷◌, ◌++◌, Option, None, Result, Ok, Err, Bool, true, false, cond, sym, refl, ap, subst, append_assoc, append-nil, arith}
+use Rattle.std.proofs.Common.{◌≡◌, ◌<◌, ◌∙◌, ℕ, List, [], ◌∷◌, ◌++◌, Option, Result, Ok, Err, Bool, true, false, cond}
+use Rattle.std.proofs.Common.{sym, refl, ap, subst, append_assoc, append-nil, arith}
 use Rattle.std.specs.Prelude.{◌&&◌, ◌||◌, ◌==◌, IsErr, not}
 use Rattle.std.proofs.lemmas.Bool.{false≢true, ne_eqb}
 use Rattle.std.specs.Io.KnownBytes.{Appends}
 use Rattle.text_out.specs.Writing.{AppendsFront, Writes}
 use Rattle.text_out.proofs.WritingLemmas.{appends_none, appends_more, front_after}
+use Rattle.mmc_card.specs.BusView.{BusView}
 use Rattle.mmc_block.specs.declared.completion.Completion.{Completion}
 use Rattle.mmc_block.specs.declared.info.Info.{Info}
 use Rattle.mmc_block.specs.declared.refused.Refused.{Refused}
 use Rattle.mmc_block.specs.declared.request.Request.{Request}
 use Rattle.mmc_block.specs.Answers.{any_failed}
-use Rattle.mmc_block.specs.Machine.{Accepts, Machine, Turns}
-use Rattle.mmc_block.specs.Refusal.{IsFirst, first_refusal}
+use Rattle.mmc_block.specs.Device.{DeviceView}
+use Rattle.mmc_block.specs.Machine.{Machine, Turns}
 use Rattle.mmc_block.specs.Run.{Event as MachineEvent, Follow, Reply, Steps, unanswered}
+use Rattle.mmc_block.specs.Run.Event.{Submit as MachineSubmit}
 use Rattle.mmc_block.specs.Run.Reply.{Accepted, Answers, RefusedFor}
 use Rattle.mmc_block.proofs.RunLemmas.{follow_then}
-use Rattle.cardtool.specs.declared.event.Event.{Event}
-use Rattle.cardtool.specs.declared.event.Event.TheVariants.{Submit, Turn, Run}
+use Rattle.cardtool.specs.declared.event.ScriptEvent.{ScriptEvent}
+use Rattle.cardtool.specs.declared.event.ScriptEvent.TheVariants.{Submit, Turn, Run}
 use Rattle.cardtool.specs.Output.{completions_text, queued_text, refused_text}
-use Rattle.cardtool.specs.Serving.{Breaks, Goes, IsNext, IsReadyAfter, Leads, Played, Standing, Turned, answered, any_bad, any_failure, behind, due, has_failure, is_bad, machine_event, pending_after, stands, text_of, texts}
+use Rattle.cardtool.specs.Serving.{IdleStep, IsIdleMachineOf, IsNext, IsReadyAfter, RunsScript, ServesPrefix}
+use Rattle.cardtool.specs.Serving.{ServesScript, ServesUpTo, Standing, TurnsAndPrints, answer_if_printed, any_bad}
+use Rattle.cardtool.specs.Serving.{any_failure, events_behind, due_events, has_failure, is_bad, machine_event}
+use Rattle.cardtool.specs.Serving.{pending_after, standing_of}
+use Rattle.cardtool.specs.Serving.{text_of, texts}
 use Rattle.cardtool.proofs.Counts.{accepted_count, turn_count}
 
 -- Where a script stands.
 
 -- a `run` isn't over where a request has no answer
-due_run : (pending : ℕ) (script : List Event) → 0 < pending → due pending (Run ∷ script) ≡ Run ∷ script
-due_run pending script some = ap (λ b. cond b (due pending script) (Run ∷ script)) (ne_eqb pending 0 (λ none. omega (arith, some, none)))
+due_run : (pending : ℕ) (script : List ScriptEvent) → 0 < pending → due_events pending (Run ∷ script) ≡ Run ∷ script
+due_run pending script some =
+    ap (λ b. cond b (due_events pending script) (Run ∷ script)) (ne_eqb pending 0 (λ none. omega (arith, some, none)))
 
-run_over : (pending : ℕ) → pending ≡ 0 → stands pending [] ≡ stands pending (Run ∷ [])
-run_over pending none = subst (λ k. stands k [] ≡ stands k (Run ∷ [])) (sym none) refl
+run_over : (pending : ℕ) → pending ≡ 0 → standing_of pending [] ≡ standing_of pending (Run ∷ [])
+run_over pending none = subst (λ k. standing_of k [] ≡ standing_of k (Run ∷ [])) (sym none) refl
 
-again_so : (b : Bool) (pending : ℕ) (script more : List Event) → (pending == 0) ≡ b → due pending (due pending script ++ more) ≡ due pending (script ++ more)
-    → due pending (cond b (due pending script) (Run ∷ script) ++ more) ≡ cond b (due pending (script ++ more)) (Run ∷ (script ++ more))
+again_so : (b : Bool) (pending : ℕ) (script more : List ScriptEvent) → (pending == 0) ≡ b
+    → due_events pending (due_events pending script ++ more) ≡ due_events pending (script ++ more)
+    → due_events pending (cond b (due_events pending script) (Run ∷ script) ++ more)
+    ≡ cond b (due_events pending (script ++ more)) (Run ∷ (script ++ more))
 again_so true pending script more is again = again
-again_so false pending script more is again = ap (λ b. cond b (due pending (script ++ more)) (Run ∷ (script ++ more))) is
+again_so false pending script more is again =
+    ap (λ b. cond b (due_events pending (script ++ more)) (Run ∷ (script ++ more))) is
 
-due_again : (pending : ℕ) (script more : List Event) → due pending (due pending script ++ more) ≡ due pending (script ++ more)
+due_again : (pending : ℕ) (script more : List ScriptEvent)
+    → due_events pending (due_events pending script ++ more) ≡ due_events pending (script ++ more)
 due_again pending [] more = refl
 due_again pending (Submit c r ∷ script) more = refl
 due_again pending (Turn ∷ script) more = refl
 due_again pending (Run ∷ script) more = again_so (pending == 0) pending script more refl (due_again pending script more)
 
-more_so : (b : Bool) (pending : ℕ) (script : List Event) (next : Event) (later more : List Event)
-    → (due pending script ≡ next ∷ later → due pending (script ++ more) ≡ next ∷ (later ++ more))
-    → cond b (due pending script) (Run ∷ script) ≡ next ∷ later → cond b (due pending (script ++ more)) (Run ∷ (script ++ more)) ≡ next ∷ (later ++ more)
+more_so : (b : Bool) (pending : ℕ) (script : List ScriptEvent) (next : ScriptEvent) (later more : List ScriptEvent)
+    → (due_events pending script ≡ next ∷ later → due_events pending (script ++ more) ≡ next ∷ (later ++ more))
+    → cond b (due_events pending script) (Run ∷ script) ≡ next ∷ later
+    → cond b (due_events pending (script ++ more)) (Run ∷ (script ++ more)) ≡ next ∷ (later ++ more)
 more_so true pending script next later more so h = so h
 more_so false pending script next later more so h = ap (λ l. l ++ more) h
 
-due_more : (pending : ℕ) (script : List Event) (next : Event) (later more : List Event) → due pending script ≡ next ∷ later
-    → due pending (script ++ more) ≡ next ∷ (later ++ more)
+due_more : (pending : ℕ) (script : List ScriptEvent) (next : ScriptEvent) (later more : List ScriptEvent)
+    → due_events pending script ≡ next ∷ later
+    → due_events pending (script ++ more) ≡ next ∷ (later ++ more)
 due_more pending [] next later more h = absurd cc
 due_more pending (Submit c r ∷ script) next later more h = ap (λ l. l ++ more) h
 due_more pending (Turn ∷ script) next later more h = ap (λ l. l ++ more) h
-due_more pending (Run ∷ script) next later more h = more_so (pending == 0) pending script next later more (due_more pending script next later more) h
+due_more pending (Run ∷ script) next later more h =
+    more_so (pending == 0) pending script next later more (due_more pending script next later more) h
 
-behind_more : (next : Event) (later more : List Event) → behind next later ++ more ≡ behind next (later ++ more)
+behind_more : (next : ScriptEvent) (later more : List ScriptEvent)
+    → events_behind next later ++ more ≡ events_behind next (later ++ more)
 behind_more (Submit c r) later more = refl
 behind_more Turn later more = refl
 behind_more Run later more = refl
 
 -- with more to come behind it
-abbrev with_more : List Event → Standing → Standing
-with_more more s = stands s.pending (s.left ++ more)
+abbrev with_more : List ScriptEvent → Standing → Standing
+with_more more s = standing_of s.pending (s.left ++ more)
 
-with_more_stands : (pending : ℕ) (script more : List Event) → with_more more (stands pending script) ≡ stands pending (script ++ more)
-with_more_stands pending script more = ap (λ (l : List Event). let s : Standing = record { pending = pending; left = l } in s) (due_again pending script more)
+with_more_stands : (pending : ℕ) (script more : List ScriptEvent)
+    → with_more more (standing_of pending script) ≡ standing_of pending (script ++ more)
+with_more_stands pending script more =
+    ap (λ (l : List ScriptEvent). let s : Standing = record { pending = pending; left = l } in s)
+    (due_again pending script more)
 
 -- what is to come changes nothing
-spells_more : (pending : ℕ) (script : List Event) (es : List MachineEvent) (rs : List Reply) (then : ℕ) (left more : List Event)
-    → Follow IsNext (stands pending script) es rs (stands then left) → Follow IsNext (stands pending (script ++ more)) es rs (stands then (left ++ more))
-spells_more pending script [] [] then left more h =
+script_goes_on : (pending : ℕ) (script : List ScriptEvent) (es : List MachineEvent) (rs : List Reply) (then : ℕ)
+    (left more : List ScriptEvent)
+    → Follow IsNext (standing_of pending script) es rs (standing_of then left)
+    → Follow IsNext (standing_of pending (script ++ more)) es rs (standing_of then (left ++ more))
+script_goes_on pending script [] [] then left more h =
     sym (with_more_stands then left more) ∙ ap (with_more more) h ∙ with_more_stands pending script more
-spells_more pending script (e ∷ es) (r ∷ rs) then left more (mid, step, h) =
+script_goes_on pending script (e ∷ es) (r ∷ rs) then left more (mid, step, h) =
     let now = pending_after pending r in
-    let rest = behind step.next step.later in (
-      stands now (rest ++ more),
+    let rest = events_behind step.next step.later in (
+      standing_of now (rest ++ more),
       record {
         next = step.next;
         later = step.later ++ more;
         first = due_more pending script step.next step.later more step.first;
         event_is = step.event_is;
-        new_is = ap (stands now) (behind_more step.next step.later more);
+        new_is = ap (standing_of now) (behind_more step.next step.later more);
       },
-      spells_more now rest es rs then left more (subst (λ s. Follow IsNext s es rs (stands then left)) step.new_is h),
+      script_goes_on now rest es rs then left more
+          (subst (λ s. Follow IsNext s es rs (standing_of then left)) step.new_is h),
     )
-spells_more pending script _ _ then left more h = absurd h
+script_goes_on pending script _ _ then left more h = absurd h
 
 -- Joining.
 
-texts_then : {S : Type 0} (Does : S → MachineEvent → Reply → S → Type 0) (old : S) (es : List MachineEvent) (rs : List Reply) (new : S) (fs : List MachineEvent) (ss : List Reply)
+texts_then : {S : Type 0} (Does : S → MachineEvent → Reply → S → Type 0) (old : S) (es : List MachineEvent)
+    (rs : List Reply) (new : S) (fs : List MachineEvent) (ss : List Reply)
     → Follow Does old es rs new → texts (es ++ fs) (rs ++ ss) ≡ texts es rs ++ texts fs ss
 unfolding texts
 texts_then Does old [] [] new fs ss h = refl
 texts_then Does old (e ∷ es) (r ∷ rs) new fs ss (mid, step, h) =
-    ap (λ t. text_of e r ++ t) (texts_then Does mid es rs new fs ss h) ∙ sym (append_assoc (text_of e r) (texts es rs) (texts fs ss))
+    ap (λ t. text_of e r ++ t) (texts_then Does mid es rs new fs ss h)
+    ∙ sym (append_assoc (text_of e r) (texts es rs) (texts fs ss))
 texts_then Does old _ _ new fs ss h = absurd h
 
 or_more : (a b c : Bool) → (a || (b || c)) ≡ ((a || b) || c)
@@ -114,7 +138,8 @@ bad_then (r ∷ rs) ss = ap (λ b. is_bad r || b) (bad_then rs ss) ∙ or_more (
 failure_then : (rs ss : List Reply) → any_failure (rs ++ ss) ≡ (any_failure rs || any_failure ss)
 unfolding any_failure
 failure_then [] ss = refl
-failure_then (r ∷ rs) ss = ap (λ b. has_failure r || b) (failure_then rs ss) ∙ or_more (has_failure r) (any_failure rs) (any_failure ss)
+failure_then (r ∷ rs) ss =
+    ap (λ b. has_failure r || b) (failure_then rs ss) ∙ or_more (has_failure r) (any_failure rs) (any_failure ss)
 
 stays_ready : (r : Bool) → IsReadyAfter r false r
 stays_ready true = refl
@@ -126,177 +151,283 @@ and_not true false b = refl
 and_not false a b = refl
 
 ready_then : (p q r a b c : Bool) → IsReadyAfter p a q → IsReadyAfter q b r → c ≡ (a || b) → IsReadyAfter p c r
-ready_then p q r a b c first second joined = second ∙ ap (λ x. x && not b) first ∙ and_not p a b ∙ ap (λ x. p && not x) (sym joined)
+ready_then p q r a b c first second joined =
+    second ∙ ap (λ x. x && not b) first ∙ and_not p a b ∙ ap (λ x. p && not x) (sym joined)
 
-leads_then : (i : Info) (p q r : Bool) (m k n : Machine) (script fs left rest : List Event) (es : List MachineEvent) (rs : List Reply) (us : List MachineEvent) (vs : List Reply)
-    → Leads i p q m k script (fs ++ left) es rs → Leads i q r k n fs rest us vs → Leads i p r m n script (rest ++ left) (es ++ us) (rs ++ vs)
-leads_then i p q r m k n script fs left rest es rs us vs first second = record {
+runs_then : (i : Info) (p q r : Bool) (m k n : Machine) (script fs left rest : List ScriptEvent)
+    (es : List MachineEvent) (rs : List Reply) (us : List MachineEvent) (vs : List Reply)
+    → RunsScript i p q m k script (fs ++ left) es rs → RunsScript i q r k n fs rest us vs
+    → RunsScript i p r m n script (rest ++ left) (es ++ us) (rs ++ vs)
+runs_then i p q r m k n script fs left rest es rs us vs first second = record {
   runs = follow_then (Steps i) m es rs k us vs n first.runs second.runs;
-  spells = follow_then IsNext (stands (unanswered m) script) es rs (stands (unanswered k) (fs ++ left)) us vs (stands (unanswered n) (rest ++ left)) first.spells
-      (spells_more (unanswered k) fs us vs (unanswered n) rest left second.spells);
-  ready = ready_then p q r (any_failure rs) (any_failure vs) (any_failure (rs ++ vs)) first.ready second.ready (failure_then rs vs);
+  of_script = follow_then IsNext (standing_of (unanswered m) script) es rs
+      (standing_of (unanswered k) (fs ++ left)) us vs
+      (standing_of (unanswered n) (rest ++ left)) first.of_script
+      (script_goes_on (unanswered k) fs us vs (unanswered n) rest left second.of_script);
+  ready = ready_then p q r (any_failure rs) (any_failure vs) (any_failure (rs ++ vs)) first.ready second.ready
+      (failure_then rs vs);
 }
 
-pub goes_none : (i : Info) (A : Machine → Type 0) (r : Bool) (script : List Event) (old : Option (List ℕ)) → Goes i A r A r script script old old false
+pub serves_none : {B : Type 0} (view : B → BusView) (d : DeviceView B) (script : List ScriptEvent) (old : Option (List ℕ))
+    → ServesUpTo view d d script script old old false
 unfolding texts any_bad any_failure
-goes_none i A r script old = λ m a. ([], [], m, a, record { runs = refl; spells = refl; ready = stays_ready r }, appends_none old, refl)
+serves_none view d script old = λ m of_device. record {
+  events = [];
+  replies = [];
+  last = m;
+  of_device = of_device;
+  run = record { runs = refl; of_script = refl; ready = stays_ready d.is_ready };
+  printed = appends_none old;
+  bad_is = refl;
+}
 
 -- more of a script, served after the rest
-pub goes_then : (i : Info) (A : Machine → Type 0) (p : Bool) (B : Machine → Type 0) (q : Bool) (C : Machine → Type 0) (r : Bool) (script fs left rest : List Event) (old mid new : Option (List ℕ)) (x y : Bool)
-    → Goes i A p B q script (fs ++ left) old mid x → Goes i B q C r fs rest mid new y → Goes i A p C r script (rest ++ left) old new (y || x)
-goes_then i A p B q C r script fs left rest old mid new x y first second = λ m a.
-    let f = first m a in
-    let s = second f.2 f.3 in (
-      f.0 ++ s.0,
-      f.1 ++ s.1,
-      s.2,
-      s.3,
-      leads_then i p q r m f.2 s.2 script fs left rest f.0 f.1 s.0 s.1 f.4 s.4,
-      subst (Appends old new) (sym (texts_then (Steps i) m f.0 f.1 f.2 s.0 s.1 f.4.runs)) (appends_more old mid new (texts f.0 f.1) (texts s.0 s.1) f.5 s.5),
-      or_swap y x ∙ ap (λ b. b || y) f.6 ∙ ap (λ b. any_bad f.1 || b) s.6 ∙ sym (bad_then f.1 s.1),
-    )
+pub serves_then : {B : Type 0} (view : B → BusView) (start mid now : DeviceView B) (script fs left rest : List ScriptEvent)
+    (old between new : Option (List ℕ)) (x y : Bool) → mid.info ≡ start.info
+    → ServesUpTo view start mid script (fs ++ left) old between x → ServesUpTo view mid now fs rest between new y
+    → ServesUpTo view start now script (rest ++ left) old new (y || x)
+serves_then view start mid now script fs left rest old between new x y same first second = λ m of_device.
+    let f = first m of_device in
+    let s = second f.last f.of_device in
+    let text_is = texts_then (Steps start.info) m f.events f.replies f.last s.events s.replies f.run.runs in
+    record {
+      events = f.events ++ s.events;
+      replies = f.replies ++ s.replies;
+      last = s.last;
+      of_device = s.of_device;
+      run = runs_then start.info start.is_ready mid.is_ready now.is_ready m f.last s.last script fs left rest
+          f.events f.replies s.events s.replies f.run
+          (subst (λ i. RunsScript i mid.is_ready now.is_ready f.last s.last fs rest s.events s.replies) same s.run);
+      printed = subst (Appends old new) (sym text_is)
+          (appends_more old between new (texts f.events f.replies) (texts s.events s.replies) f.printed s.printed);
+      bad_is = or_swap y x ∙ ap (λ b. b || y) f.bad_is ∙ ap (λ b. any_bad f.replies || b) s.bad_is
+          ∙ sym (bad_then f.replies s.replies);
+    }
 
 -- a write fault in a script, of which a prefix was served before
-pub breaks_after : (i : Info) (A : Machine → Type 0) (p : Bool) (B : Machine → Type 0) (q : Bool) (C : Machine → Type 0) (r : Bool) (script fs left : List Event) (old mid new : Option (List ℕ)) (x : Bool)
-    → Goes i A p B q script (fs ++ left) old mid x → Breaks i B q C r fs mid new → Breaks i A p C r script old new
-breaks_after i A p B q C r script fs left old mid new x first second = λ m a.
-    let f = first m a in
-    let s = second f.2 f.3 in (
-      f.0 ++ s.0,
-      f.1 ++ s.1,
-      s.2,
-      s.3 ++ left,
-      s.4,
-      leads_then i p q r m f.2 s.2 script fs left s.3 f.0 f.1 s.0 s.1 f.4 s.5,
-      subst (AppendsFront old new) (sym (texts_then (Steps i) m f.0 f.1 f.2 s.0 s.1 f.4.runs)) (front_after old mid new (texts f.0 f.1) (texts s.0 s.1) f.5 s.6),
-    )
+pub breaks_then : {B : Type 0} (view : B → BusView) (start mid now : DeviceView B) (script fs left : List ScriptEvent)
+    (old between new : Option (List ℕ)) (x : Bool) → mid.info ≡ start.info
+    → ServesUpTo view start mid script (fs ++ left) old between x → ServesPrefix view mid now fs between new
+    → ServesPrefix view start now script old new
+breaks_then view start mid now script fs left old between new x same first second = λ m of_device.
+    let f = first m of_device in
+    let s = second f.last f.of_device in
+    let text_is = texts_then (Steps start.info) m f.events f.replies f.last s.events s.replies f.run.runs in
+    record {
+      events = f.events ++ s.events;
+      replies = f.replies ++ s.replies;
+      last = s.last;
+      left = s.left ++ left;
+      of_device = s.of_device;
+      run = runs_then start.info start.is_ready mid.is_ready now.is_ready m f.last s.last script fs left s.left
+          f.events f.replies s.events s.replies f.run
+          (subst (λ i. RunsScript i mid.is_ready now.is_ready f.last s.last fs s.left s.events s.replies) same s.run);
+      printed = subst (AppendsFront old new) (sym text_is)
+          (front_after old between new (texts f.events f.replies) (texts s.events s.replies) f.printed s.printed);
+    }
 
-pub plays_broken : {E : Type 0} (i : Info) (A : Machine → Type 0) (p : Bool) (C : Machine → Type 0) (q : Bool) (script : List Event) (old new : Option (List ℕ)) (r : Result Bool E)
-    → IsErr r → Breaks i A p C q script old new → Played i A p C q script old new r
-plays_broken i A p C q script old new (Ok y) bad h = absurd (false≢true bad)
-plays_broken i A p C q script old new (Err e) bad h = h
+-- a write fault, whichever it is
+pub serves_broken : {B E : Type 0} (view : B → BusView) (start now : DeviceView B) (script : List ScriptEvent)
+    (old new : Option (List ℕ)) (r : Result Bool E)
+    → IsErr r → ServesPrefix view start now script old new → ServesScript view start now script old new r
+serves_broken view start now script old new (Ok y) failed h = absurd (false≢true failed)
+serves_broken view start now script old new (Err e) failed h = h
 
 -- One event.
 
--- a script's event that is due happens, and leaves so many without an answer
-abbrev Happened : Info → Machine → Event → Reply → Machine → Type 0
-Happened i m e r n =
-    Steps i m (machine_event e) r n × (due (unanswered m) (e ∷ []) ≡ e ∷ []) × (unanswered n ≡ pending_after (unanswered m) r)
+-- an event of a script is due and a step of the machine, and leaves so many without an answer
+record IsStepOfScript (i : Info) (m : Machine) (e : ScriptEvent) (r : Reply) (n : Machine) : Type 0 where
+  step : Steps i m (machine_event e) r n
+  is_due : due_events (unanswered m) (e ∷ []) ≡ e ∷ []
+  count : unanswered n ≡ pending_after (unanswered m) r
 
-leads_one : (i : Info) (p q : Bool) (m n : Machine) (e : Event) (r : Reply) → Happened i m e r n → IsReadyAfter p (has_failure r) q
-    → Leads i p q m n (e ∷ []) (behind e []) (machine_event e ∷ []) (r ∷ [])
+run_one : (i : Info) (p q : Bool) (m n : Machine) (e : ScriptEvent) (r : Reply)
+    → IsStepOfScript i m e r n → IsReadyAfter p (has_failure r) q
+    → RunsScript i p q m n (e ∷ []) (events_behind e []) (machine_event e ∷ []) (r ∷ [])
 unfolding any_failure
-leads_one i p q m n e r h ready = record {
-  runs = (n, h.0, refl);
-  spells = (
-    stands (unanswered n) (behind e []),
-    record { next = e; later = []; first = h.1; event_is = refl; new_is = ap (λ k. stands k (behind e [])) h.2 },
+run_one i p q m n e r h ready = record {
+  runs = (n, h.step, refl);
+  of_script = (
+    standing_of (unanswered n) (events_behind e []),
+    record {
+      next = e;
+      later = [];
+      first = h.is_due;
+      event_is = refl;
+      new_is = ap (λ k. standing_of k (events_behind e [])) h.count;
+    },
     refl,
   );
   ready = ready ∙ ap (λ b. p && not b) (or_swap false (has_failure r));
 }
 
-goes_one : (i : Info) (A : Machine → Type 0) (p : Bool) (B : Machine → Type 0) (q : Bool) (e : Event) (r : Reply) (old new : Option (List ℕ))
-    → ((m : Machine) → A m → (n : Machine) × B n × Happened i m e r n) → Appends old new (text_of (machine_event e) r) → IsReadyAfter p (has_failure r) q
-    → Goes i A p B q (e ∷ []) (behind e []) old new (is_bad r)
+serves_one : {B : Type 0} (view : B → BusView) (start now : DeviceView B) (e : ScriptEvent) (r : Reply)
+    (old new : Option (List ℕ)) → IdleStep view start (λ (m n : Machine). IsStepOfScript start.info m e r n) now
+    → Appends old new (text_of (machine_event e) r) → IsReadyAfter start.is_ready (has_failure r) now.is_ready
+    → ServesUpTo view start now (e ∷ []) (events_behind e []) old new (is_bad r)
 unfolding texts any_bad
-goes_one i A p B q e r old new happens wrote ready = λ m a.
-    let h = happens m a in (
-      machine_event e ∷ [],
-      r ∷ [],
-      h.0,
-      h.1,
-      leads_one i p q m h.0 e r h.2 ready,
-      subst (Appends old new) (sym (append-nil (text_of (machine_event e) r))) wrote,
-      or_swap false (is_bad r),
-    )
+serves_one view start now e r old new steps wrote ready = λ m of_device.
+    let s = steps m of_device in
+    record {
+      events = machine_event e ∷ [];
+      replies = r ∷ [];
+      last = s.machine;
+      of_device = s.of_device;
+      run = run_one start.info start.is_ready now.is_ready m s.machine e r s.property ready;
+      printed = subst (Appends old new) (sym (append-nil (text_of (machine_event e) r))) wrote;
+      bad_is = or_swap false (is_bad r);
+    }
 
-broken_one : (i : Info) (A : Machine → Type 0) (p : Bool) (B : Machine → Type 0) (q : Bool) (e : Event) (r : Reply) (old new : Option (List ℕ))
-    → ((m : Machine) → A m → (n : Machine) × B n × Happened i m e r n) → AppendsFront old new (text_of (machine_event e) r) → IsReadyAfter p (has_failure r) q
-    → Breaks i A p B q (e ∷ []) old new
+breaks_one : {B : Type 0} (view : B → BusView) (start now : DeviceView B) (e : ScriptEvent) (r : Reply)
+    (old new : Option (List ℕ)) → IdleStep view start (λ (m n : Machine). IsStepOfScript start.info m e r n) now
+    → AppendsFront old new (text_of (machine_event e) r) → IsReadyAfter start.is_ready (has_failure r) now.is_ready
+    → ServesPrefix view start now (e ∷ []) old new
 unfolding texts
-broken_one i A p B q e r old new happens wrote ready = λ m a.
-    let h = happens m a in (
-      machine_event e ∷ [],
-      r ∷ [],
-      h.0,
-      behind e [],
-      h.1,
-      leads_one i p q m h.0 e r h.2 ready,
-      subst (AppendsFront old new) (sym (append-nil (text_of (machine_event e) r))) wrote,
-    )
+breaks_one view start now e r old new steps wrote ready = λ m of_device.
+    let s = steps m of_device in
+    record {
+      events = machine_event e ∷ [];
+      replies = r ∷ [];
+      last = s.machine;
+      left = events_behind e [];
+      of_device = s.of_device;
+      run = run_one start.info start.is_ready now.is_ready m s.machine e r s.property ready;
+      printed = subst (AppendsFront old new) (sym (append-nil (text_of (machine_event e) r))) wrote;
+    }
 
-plays_one : {E : Type 0} (i : Info) (A : Machine → Type 0) (p : Bool) (B : Machine → Type 0) (q : Bool) (e : Event) (r : Reply) (old new : Option (List ℕ)) (said : Result Unit E)
-    → ((m : Machine) → A m → (n : Machine) × B n × Happened i m e r n) → behind e [] ≡ [] → Writes old new said (text_of (machine_event e) r) → IsReadyAfter p (has_failure r) q
-    → Played i A p B q (e ∷ []) old new (answered (is_bad r) said)
-plays_one i A p B q e r old new (Ok x) happens none wrote ready = subst (λ l. Goes i A p B q (e ∷ []) l old new (is_bad r)) none (goes_one i A p B q e r old new happens wrote ready)
-plays_one i A p B q e r old new (Err d) happens none wrote ready = broken_one i A p B q e r old new happens wrote ready
+one_event : {B E : Type 0} (view : B → BusView) (start now : DeviceView B) (e : ScriptEvent) (r : Reply)
+    (old new : Option (List ℕ)) (printed : Result Unit E)
+    → IdleStep view start (λ (m n : Machine). IsStepOfScript start.info m e r n) now → events_behind e [] ≡ []
+    → Writes old new printed (text_of (machine_event e) r) → IsReadyAfter start.is_ready (has_failure r) now.is_ready
+    → ServesScript view start now (e ∷ []) old new (answer_if_printed (is_bad r) printed)
+one_event view start now e r old new (Ok x) steps none wrote ready =
+    subst (λ l. ServesUpTo view start now (e ∷ []) l old new (is_bad r)) none
+    (serves_one view start now e r old new steps wrote ready)
+one_event view start now e r old new (Err d) steps none wrote ready =
+    breaks_one view start now e r old new steps wrote ready
 
 -- Turns.
 
-pub turned : {E : Type 0} (i : Info) (A : Machine → Type 0) (p : Bool) (B : Machine → Type 0) (q : Bool) (cs : List Completion) (old new : Option (List ℕ)) (r : Result Unit E)
-    → ((m : Machine) → A m → (n : Machine) × B n × Turns i m cs n) → Writes old new r (completions_text cs) → q ≡ (p && not (any_failed cs)) → Turned i A p B q old new (answered (any_failed cs) r)
-turned i A p B q cs old new (Ok x) turns wrote ready = (cs, turns, wrote, refl, ready)
-turned i A p B q cs old new (Err e) turns wrote ready = (cs, turns, wrote, tt, ready)
+pub turned : {B E : Type 0} (view : B → BusView) (start now : DeviceView B) (cs : List Completion)
+    (old new : Option (List ℕ)) (r : Result Unit E)
+    → IdleStep view start (λ (m n : Machine). Turns start.info m cs n) now → Writes old new r (completions_text cs)
+    → now.is_ready ≡ (start.is_ready && not (any_failed cs))
+    → TurnsAndPrints view start now old new (answer_if_printed (any_failed cs) r)
+turned view start now cs old new (Ok x) turns wrote ready =
+    record { completions = cs; turns = turns; printed = wrote; bad_is = refl; ready = ready }
+turned view start now cs old new (Err e) turns wrote ready =
+    record { completions = cs; turns = turns; printed = wrote; bad_is = tt; ready = ready }
 
 -- a turn of the script, or of a `run` that isn't over
-turn_happened : (i : Info) (A B : Machine → Type 0) (e : Event) (cs : List Completion) → ((m : Machine) → A m → due (unanswered m) (e ∷ []) ≡ e ∷ [])
-    → ((m : Machine) (n : Machine) → Turns i m cs n → Steps i m (machine_event e) (Answers cs) n)
-    → ((m : Machine) → A m → (n : Machine) × B n × Turns i m cs n) → (m : Machine) → A m → (n : Machine) × B n × Happened i m e (Answers cs) n
-turn_happened i A B e cs is_due steps turns m a =
-    let h = turns m a in
-    let count = turn_count i m cs h.0 h.2 in
-    (h.0, h.1, (steps m h.0 h.2, is_due m a, omega (arith, count)))
+turn_is_step : {B : Type 0} (view : B → BusView) (start now : DeviceView B) (e : ScriptEvent) (cs : List Completion)
+    → ((m : Machine) → IsIdleMachineOf view start m → due_events (unanswered m) (e ∷ []) ≡ e ∷ [])
+    → ((m n : Machine) → Turns start.info m cs n → Steps start.info m (machine_event e) (Answers cs) n)
+    → IdleStep view start (λ (m n : Machine). Turns start.info m cs n) now
+    → IdleStep view start (λ (m n : Machine). IsStepOfScript start.info m e (Answers cs) n) now
+turn_is_step view start now e cs is_due steps turns = λ m of_device.
+    let s = turns m of_device in
+    let count = turn_count start.info m cs s.machine s.property in
+    record {
+      machine = s.machine;
+      of_device = s.of_device;
+      property = record {
+        step = steps m s.machine s.property;
+        is_due = is_due m of_device;
+        count = omega (arith, count);
+      };
+    }
 
-run_happened : (i : Info) (A B : Machine → Type 0) (waiting : ℕ) (cs : List Completion) → 0 < waiting → ((m : Machine) → A m → waiting ≡ unanswered m)
-    → ((m : Machine) → A m → (n : Machine) × B n × Turns i m cs n) → (m : Machine) → A m → (n : Machine) × B n × Happened i m Run (Answers cs) n
-run_happened i A B waiting cs some counts turns =
-    turn_happened i A B Run cs (λ m a. due_run (unanswered m) [] (subst (λ k. 0 < k) (counts m a) some)) (λ m n t. t) turns
+run_is_step : {B : Type 0} (view : B → BusView) (start now : DeviceView B) (waiting : ℕ) (cs : List Completion)
+    → 0 < waiting → ((m : Machine) → IsIdleMachineOf view start m → waiting ≡ unanswered m)
+    → IdleStep view start (λ (m n : Machine). Turns start.info m cs n) now
+    → IdleStep view start (λ (m n : Machine). IsStepOfScript start.info m Run (Answers cs) n) now
+run_is_step view start now waiting cs some counts turns =
+    turn_is_step view start now Run cs
+    (λ m of_device. due_run (unanswered m) [] (subst (λ k. 0 < k) (counts m of_device) some)) (λ m n t. t) turns
 
-pub run_turn : (i : Info) (A : Machine → Type 0) (p : Bool) (B : Machine → Type 0) (q : Bool) (old new : Option (List ℕ)) (waiting : ℕ) (bad : Bool)
-    → 0 < waiting → ((m : Machine) → A m → waiting ≡ unanswered m)
-    → (cs : List Completion) × ((m : Machine) → A m → (n : Machine) × B n × Turns i m cs n) × Appends old new (completions_text cs) × (bad ≡ any_failed cs) × IsReadyAfter p (any_failed cs) q
-    → Goes i A p B q (Run ∷ []) (Run ∷ []) old new bad
-unfolding text_of is_bad has_failure
-run_turn i A p B q old new waiting bad some counts t =
-    subst (λ b. Goes i A p B q (Run ∷ []) (Run ∷ []) old new b) (sym t.3)
-    (goes_one i A p B q Run (Answers t.0) old new (run_happened i A B waiting t.0 some counts t.1) t.2 t.4)
+pub run_turn : {B E : Type 0} (view : B → BusView) (start now : DeviceView B) (old new : Option (List ℕ))
+    (waiting : ℕ) (bad : Bool) → 0 < waiting
+    → ((m : Machine) → IsIdleMachineOf view start m → waiting ≡ unanswered m)
+    → TurnsAndPrints {B = B} {E = E} view start now old new (Ok bad)
+    → ServesUpTo view start now (Run ∷ []) (Run ∷ []) old new bad
+unfolding text_of is_bad
+run_turn view start now old new waiting bad some counts t =
+    subst (λ b. ServesUpTo view start now (Run ∷ []) (Run ∷ []) old new b) (sym t.bad_is)
+    (serves_one view start now Run (Answers t.completions) old new
+    (run_is_step view start now waiting t.completions some counts t.turns) t.printed t.ready)
 
-pub run_turn_broken : (i : Info) (A : Machine → Type 0) (p : Bool) (B : Machine → Type 0) (q : Bool) (old new : Option (List ℕ)) (waiting : ℕ) → 0 < waiting → ((m : Machine) → A m → waiting ≡ unanswered m)
-    → (cs : List Completion) × ((m : Machine) → A m → (n : Machine) × B n × Turns i m cs n) × AppendsFront old new (completions_text cs) × Unit {0} × IsReadyAfter p (any_failed cs) q
-    → Breaks i A p B q (Run ∷ []) old new
-unfolding text_of has_failure
-run_turn_broken i A p B q old new waiting some counts t =
-    broken_one i A p B q Run (Answers t.0) old new (run_happened i A B waiting t.0 some counts t.1) t.2 t.4
+pub run_turn_broken : {B E : Type 0} (view : B → BusView) (start now : DeviceView B) (old new : Option (List ℕ))
+    (waiting : ℕ) (e : E) → 0 < waiting
+    → ((m : Machine) → IsIdleMachineOf view start m → waiting ≡ unanswered m)
+    → TurnsAndPrints view start now old new (Err e) → ServesPrefix view start now (Run ∷ []) old new
+unfolding text_of
+run_turn_broken view start now old new waiting e some counts t =
+    breaks_one view start now Run (Answers t.completions) old new
+    (run_is_step view start now waiting t.completions some counts t.turns) t.printed t.ready
 
 -- a `run` is over where nothing waits
-pub run_idle : (i : Info) (A : Machine → Type 0) (r : Bool) (old : Option (List ℕ)) (waiting : ℕ) → waiting ≡ 0 → ((m : Machine) → A m → waiting ≡ unanswered m) → Goes i A r A r (Run ∷ []) [] old old false
+pub run_idle : {B : Type 0} (view : B → BusView) (d : DeviceView B) (old : Option (List ℕ)) (waiting : ℕ) → waiting ≡ 0
+    → ((m : Machine) → IsIdleMachineOf view d m → waiting ≡ unanswered m)
+    → ServesUpTo view d d (Run ∷ []) [] old old false
 unfolding texts any_bad any_failure
-run_idle i A r old waiting none counts = λ m a.
-    ([], [], m, a, record { runs = refl; spells = run_over (unanswered m) (sym (counts m a) ∙ none); ready = stays_ready r }, appends_none old, refl)
+run_idle view d old waiting none counts = λ m of_device. record {
+  events = [];
+  replies = [];
+  last = m;
+  of_device = of_device;
+  run = record {
+    runs = refl;
+    of_script = run_over (unanswered m) (sym (counts m of_device) ∙ none);
+    ready = stays_ready d.is_ready;
+  };
+  printed = appends_none old;
+  bad_is = refl;
+}
 
 -- a single turn
-pub one_turn : {E : Type 0} (i : Info) (A : Machine → Type 0) (p : Bool) (B : Machine → Type 0) (q : Bool) (old new : Option (List ℕ)) (r : Result Bool E)
-    → Turned i A p B q old new r → Played i A p B q (Turn ∷ []) old new r
-unfolding text_of is_bad has_failure
-one_turn i A p B q old new (Ok bad) t =
-    subst (λ b. Goes i A p B q (Turn ∷ []) [] old new b) (sym t.3)
-    (goes_one i A p B q Turn (Answers t.0) old new (turn_happened i A B Turn t.0 (λ m a. refl) (λ m n h. h) t.1) t.2 t.4)
-one_turn i A p B q old new (Err e) t = broken_one i A p B q Turn (Answers t.0) old new (turn_happened i A B Turn t.0 (λ m a. refl) (λ m n h. h) t.1) t.2 t.4
+pub one_turn : {B E : Type 0} (view : B → BusView) (start now : DeviceView B) (old new : Option (List ℕ))
+    (r : Result Bool E) → TurnsAndPrints view start now old new r → ServesScript view start now (Turn ∷ []) old new r
+unfolding text_of is_bad
+one_turn view start now old new (Ok bad) t =
+    subst (λ b. ServesUpTo view start now (Turn ∷ []) [] old new b) (sym t.bad_is)
+    (serves_one view start now Turn (Answers t.completions) old new
+    (turn_is_step view start now Turn t.completions (λ m of_device. refl) (λ m n h. h) t.turns) t.printed t.ready)
+one_turn view start now old new (Err e) t =
+    breaks_one view start now Turn (Answers t.completions) old new
+    (turn_is_step view start now Turn t.completions (λ m of_device. refl) (λ m n h. h) t.turns) t.printed t.ready
 
 -- Submissions.
 
-pub queued : {E : Type 0} (i : Info) (A : Machine → Type 0) (p : Bool) (B : Machine → Type 0) (q : Bool) (client ticket : ℕ) (request : Request) (old new : Option (List ℕ)) (r : Result Unit E)
-    → ((m : Machine) → A m → (n : Machine) × B n × ((first_refusal i (unanswered m) m.next request ≡ None) × Accepts m client request ticket n))
-    → Writes old new r (queued_text ticket client) → q ≡ p → Played i A p B q (Submit client request ∷ []) old new (answered false r)
-unfolding text_of is_bad has_failure
-queued i A p B q client ticket request old new r happens wrote same =
-    plays_one i A p B q (Submit client request) (Accepted ticket) old new r
-    (λ m a. let h = happens m a in (h.0, h.1, (h.2, refl, accepted_count m client request ticket h.0 h.2.1))) refl wrote (same ∙ stays_ready p)
+pub queued : {B E : Type 0} (view : B → BusView) (start now : DeviceView B) (client ticket : ℕ) (request : Request)
+    (old new : Option (List ℕ)) (r : Result Unit E)
+    → IdleStep view start (λ (m n : Machine). Steps start.info m (MachineSubmit client request) (Accepted ticket) n) now
+    → Writes old new r (queued_text ticket client) → now.is_ready ≡ start.is_ready
+    → ServesScript view start now (Submit client request ∷ []) old new (answer_if_printed false r)
+unfolding text_of is_bad
+queued view start now client ticket request old new r steps wrote same =
+    one_event view start now (Submit client request) (Accepted ticket) old new r
+    (λ m of_device. let s = steps m of_device in record {
+      machine = s.machine;
+      of_device = s.of_device;
+      property = record {
+        step = s.property;
+        is_due = refl;
+        count = accepted_count m client request ticket s.machine s.property.1;
+      };
+    })
+    refl wrote (same ∙ stays_ready start.is_ready)
 
-pub not_taken : {E : Type 0} (i : Info) (A : Machine → Type 0) (p : Bool) (B : Machine → Type 0) (q : Bool) (client : ℕ) (request : Request) (why : Refused) (old new : Option (List ℕ)) (r : Result Unit E)
-    → ((m : Machine) → A m → B m × IsFirst (first_refusal i (unanswered m) m.next request) why)
-    → Writes old new r (refused_text client why) → q ≡ p → Played i A p B q (Submit client request ∷ []) old new (answered true r)
-unfolding text_of is_bad has_failure
-not_taken i A p B q client request why old new r happens wrote same =
-    plays_one i A p B q (Submit client request) (RefusedFor why) old new r (λ m a. let h = happens m a in (m, h.0, ((h.1, refl), refl, refl))) refl wrote (same ∙ stays_ready p)
+pub refused : {B E : Type 0} (view : B → BusView) (start now : DeviceView B) (client : ℕ) (request : Request)
+    (why : Refused) (old new : Option (List ℕ)) (r : Result Unit E)
+    → IdleStep view start (λ (m n : Machine). Steps start.info m (MachineSubmit client request) (RefusedFor why) n) now
+    → Writes old new r (refused_text client why) → now.is_ready ≡ start.is_ready
+    → ServesScript view start now (Submit client request ∷ []) old new (answer_if_printed true r)
+unfolding text_of is_bad
+refused view start now client request why old new r steps wrote same =
+    one_event view start now (Submit client request) (RefusedFor why) old new r
+    (λ m of_device. let s = steps m of_device in record {
+      machine = s.machine;
+      of_device = s.of_device;
+      property = record { step = s.property; is_due = refl; count = ap unanswered s.property.1 };
+    })
+    refl wrote (same ∙ stays_ready start.is_ready)

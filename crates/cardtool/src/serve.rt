@@ -5,43 +5,46 @@ ghost use Rattle.std.specs.Option.{ForSome};
 ghost use Rattle.text_out.specs.Writing.{Writes};
 ghost use Rattle.mmc_block.specs.declared.info.Info.{Info};
 ghost use Rattle.mmc_block.specs.Place.{IsReady};
-ghost use Rattle.mmc_bus.specs.Card.{holds};
-ghost use Rattle.mmc_bus.specs.PlainCard.{new_plain_card};
-ghost use Rattle.mmc_bus.specs.PlainSide.{plain_side};
-ghost use Rattle.mmc_bus.specs.Sectors.{Sets};
+ghost use Rattle.mmc_card.specs.Card.{holds};
+ghost use Rattle.mmc_card_sim.specs.PlainCard.{new_plain_card};
+ghost use Rattle.mmc_card_sim.specs.PlainView.{plain_bus_view};
+ghost use Rattle.mmc_card.specs.Sectors.{Sets};
 ghost use Rattle.mmc_bus.specs.Trace.{HasItsFrame, last_of};
-ghost use Rattle.cardtool.specs.declared.event.Event.{Event};
-ghost use Rattle.cardtool.specs.declared.event.Event.TheVariants.{Run, Submit};
-ghost use Rattle.cardtool.specs.Serving.{Carries, Plays, Turning, answered};
-ghost use Rattle.cardtool.specs.Whole.{AreRead, IsRefused, IsServed, IsUnread, IsUnwritten, IsWhole, ended_by, outcome_of, plain_info, trace_text};
+ghost use Rattle.cardtool.specs.declared.event.ScriptEvent.{ScriptEvent};
+ghost use Rattle.cardtool.specs.declared.event.ScriptEvent.TheVariants.{Run, Submit};
+ghost use Rattle.mmc_bus.specs.declared.trace.TheConstants.{MAX_KEPT};
+ghost use Rattle.mmc_card_sim.specs.declared.store.TheConstants.{MAX_SECTORS};
+ghost use Rattle.cardtool.specs.Serving.{IsLaterDevice, ServesScript, TurnsAndPrints, answer_if_printed};
+ghost use Rattle.cardtool.specs.Whole.{AreRead, AreRefused, IsOutcomeOfFiles, IsServed, IsUnread, IsUnwritten, ended_by, outcome_of, plain_info, trace_text};
 
 use crate::card_file::read_card;
-use crate::event::Event;
+use crate::event::ScriptEvent;
 use crate::fault::ServeFault;
 use crate::input::{ReadFault, read_bounded};
+use crate::laws::a_new_plain_card_is_ready;
 use crate::output::{has_failure, put_completions, put_queued, put_refused};
 use crate::script::{Script, read_script};
-use mmc_block::laws::{answers_are_in_order, contents_are_in_order};
-use mmc_block::plain_laws::{a_new_plain_card_is_ready, a_ready_card_is_decided};
+use mmc_block::laws::{a_ready_card_is_decided, answers_are_in_order, contents_are_in_order};
 use mmc_block::{BlockDev, Request};
-use mmc_bus::{Bus, PlainCard, TraceBus};
+use mmc_bus::{Bus, TraceBus};
+use mmc_card_sim::PlainCard;
 use std::alloc::Global;
 use std::io::{self, Read, Write};
 use text_out::{Piece, put_pieces};
 
 /// The most bytes of a card file.
-const MAX_CARD_FILE: usize = 65_536;
+pub const MAX_CARD_FILE: usize = 65_536;
 /// The most bytes of a script.
-const MAX_SCRIPT: usize = 1_048_576;
+pub const MAX_SCRIPT: usize = 1_048_576;
 
-/// The exit status where every request was answered `Done` or `Data`.
+// The exit status where every request was answered `Done` or `Data`.
 const ALL_WELL: u8 = 0;
-/// The exit status where some request failed or was refused.
+// The exit status where some request failed or was refused.
 const SOME_FAILED: u8 = 1;
 
 // The answer of lines that were printed, or were not.
 fn answer(printed: io::Result<()>, bad: bool) -> io::Result<bool>
-    ensures { result ≡ answered bad printed }
+    ensures { result ≡ answer_if_printed bad printed }
 {
     match printed {
         Ok(()) => Ok(bad),
@@ -52,9 +55,9 @@ fn answer(printed: io::Result<()>, bad: bool) -> io::Result<bool>
 // One turn, and a line for each completion. The answer of this and the next functions says whether some request
 // failed or was refused.
 fn turn<B: Bus, W: Write>(device: &mut BlockDev<B>, out: &mut W) -> io::Result<bool>
-    ensures turned { (B.side device.new.bus).is_kept ≡ true
-        → Turning B.side device.old device.new (W.contents out.old) (W.contents out.new) result }
-    ensures carries { Carries B.side device.old device.new }
+    ensures turns { (B.view device.new.bus).is_kept ≡ true
+        → TurnsAndPrints B.view device.old device.new (W.contents out.old) (W.contents out.new) result }
+    ensures later_device { IsLaterDevice B.view device.old device.new }
     ensures falls { 0 < length device.old.waits → length device.new.waits < length device.old.waits }
 {
     let completions = device.turn();
@@ -64,9 +67,9 @@ fn turn<B: Bus, W: Write>(device: &mut BlockDev<B>, out: &mut W) -> io::Result<b
 
 // Turns until nothing waits.
 fn run<B: Bus, W: Write>(device: &mut BlockDev<B>, out: &mut W) -> io::Result<bool>
-    ensures plays { (B.side device.new.bus).is_kept ≡ true
-        → Plays B.side device.old device.new (Run ∷ []) (W.contents out.old) (W.contents out.new) result }
-    ensures carries { Carries B.side device.old device.new }
+    ensures serves { (B.view device.new.bus).is_kept ≡ true
+        → ServesScript B.view device.old device.new (Run ∷ []) (W.contents out.old) (W.contents out.new) result }
+    ensures later_device { IsLaterDevice B.view device.old device.new }
 {
     let mut bad = false;
     while device.waiting() > 0 {
@@ -83,9 +86,9 @@ fn submit<B: Bus, W: Write>(
     request: Request,
     out: &mut W,
 ) -> io::Result<bool>
-    ensures plays { (B.side device.new.bus).is_kept ≡ true
-        → Plays B.side device.old device.new (Submit client request ∷ []) (W.contents out.old) (W.contents out.new) result }
-    ensures carries { Carries B.side device.old device.new }
+    ensures serves { (B.view device.new.bus).is_kept ≡ true
+        → ServesScript B.view device.old device.new (Submit client request ∷ []) (W.contents out.old) (W.contents out.new) result }
+    ensures later_device { IsLaterDevice B.view device.old device.new }
 {
     match device.submit(alloc, client, request) {
         Ok(ticket) => {
@@ -103,17 +106,17 @@ fn submit<B: Bus, W: Write>(
 fn serve_event<B: Bus, W: Write>(
     alloc: Global,
     device: &mut BlockDev<B>,
-    event: Event,
+    event: ScriptEvent,
     out: &mut W,
 ) -> io::Result<bool>
-    ensures plays { (B.side device.new.bus).is_kept ≡ true
-        → Plays B.side device.old device.new (event ∷ []) (W.contents out.old) (W.contents out.new) result }
-    ensures carries { Carries B.side device.old device.new }
+    ensures serves { (B.view device.new.bus).is_kept ≡ true
+        → ServesScript B.view device.old device.new (event ∷ []) (W.contents out.old) (W.contents out.new) result }
+    ensures later_device { IsLaterDevice B.view device.old device.new }
 {
     match event {
-        Event::Submit { client, request } => submit(alloc, device, client, request, out),
-        Event::Turn => turn(device, out),
-        Event::Run => run(device, out),
+        ScriptEvent::Submit { client, request } => submit(alloc, device, client, request, out),
+        ScriptEvent::Turn => turn(device, out),
+        ScriptEvent::Run => run(device, out),
     }
 }
 
@@ -124,9 +127,9 @@ fn serve_events<B: Bus, W: Write>(
     script: Script,
     out: &mut W,
 ) -> io::Result<bool>
-    ensures plays { (B.side device.new.bus).is_kept ≡ true
-        → Plays B.side device.old device.new (script ++ Run ∷ []) (W.contents out.old) (W.contents out.new) result }
-    ensures carries { Carries B.side device.old device.new }
+    ensures serves { (B.view device.new.bus).is_kept ≡ true
+        → ServesScript B.view device.old device.new (script ++ Run ∷ []) (W.contents out.old) (W.contents out.new) result }
+    ensures later_device { IsLaterDevice B.view device.old device.new }
 {
     let mut script = script;
     let mut bad = false;
@@ -156,10 +159,10 @@ fn serve_untraced<B: Bus + Drop, W: Write>(
     out: &mut W,
 ) -> (B, Result<u8, ServeFault>)
     requires some { 1 ≤ sectors }
-    requires few { sectors ≤ 65536 }
-    requires ready { (B.side bus).is_kept ≡ true → IsReady sectors (B.side bus) }
-    ensures served { (B.side result.0).is_kept ≡ true
-        → IsServed (plain_info sectors) (holds (B.side bus).card) (holds (B.side result.0).card) ((B.side result.0).faults - (B.side bus).faults) (script ++ Run ∷ []) None (W.contents out.old) (W.contents out.new) result.1 }
+    requires few { sectors ≤ MAX_SECTORS }
+    requires ready { (B.view bus).is_kept ≡ true → IsReady sectors (B.view bus) }
+    ensures served { (B.view result.0).is_kept ≡ true
+        → IsServed (plain_info sectors) (holds (B.view bus).card) (holds (B.view result.0).card) ((B.view result.0).faults - (B.view bus).faults) (script ++ Run ∷ []) None (W.contents out.old) (W.contents out.new) result.1 }
     ensures unwritten { IfErr result.1 (λ fault. IsUnwritten (W.contents out.old) (W.contents out.new) fault) }
 {
     answers_are_in_order();
@@ -177,7 +180,7 @@ fn serve_untraced<B: Bus + Drop, W: Write>(
 // A trace of the last `n` exchanges over a bus, or the bus where memory was refused.
 fn traced<B: Bus>(alloc: Global, bus: B, n: u32) -> Result<TraceBus<B>, B>
     requires one { 1 ≤ n }
-    requires many { n ≤ 65536 }
+    requires many { n ≤ MAX_KEPT }
     ensures ok { IfOk result (λ trace. trace ≡ record { bus = bus; exchanges = []; capacity = n }) }
     ensures err { IfErr result (λ back. back ≡ bus) }
 {
@@ -230,7 +233,7 @@ fn end_with_trace<B: Bus, W: Write>(
     served: Result<u8, ServeFault>,
     out: &mut W,
 ) -> Result<u8, ServeFault>
-    ensures served { (info : Info) → (before later : Sets) → (fell : ℕ) → (script : List Event) → (start : Option (List ℕ))
+    ensures served { (info : Info) → (before later : Sets) → (fell : ℕ) → (script : List ScriptEvent) → (start : Option (List ℕ))
         → IsServed info before later fell script None start (W.contents out.old) served
         → IsServed info before later fell script (Some n) start (W.contents out.new) result }
     ensures unwritten { (start : Option (List ℕ)) → IfErr served (λ fault. IsUnwritten start (W.contents out.old) fault)
@@ -251,12 +254,12 @@ fn serve_traced<B: Bus + Drop, W: Write>(
     out: &mut W,
 ) -> (B, Result<u8, ServeFault>)
     requires some { 1 ≤ sectors }
-    requires few { sectors ≤ 65536 }
-    requires ready { (B.side bus).is_kept ≡ true → IsReady sectors (B.side bus) }
+    requires few { sectors ≤ MAX_SECTORS }
+    requires ready { (B.view bus).is_kept ≡ true → IsReady sectors (B.view bus) }
     requires one { 1 ≤ n }
-    requires many { n ≤ 65536 }
-    ensures served { (B.side result.0).is_kept ≡ true
-        → IsServed (plain_info sectors) (holds (B.side bus).card) (holds (B.side result.0).card) ((B.side result.0).faults - (B.side bus).faults) (script ++ Run ∷ []) (Some n) (W.contents out.old) (W.contents out.new) result.1 }
+    requires many { n ≤ MAX_KEPT }
+    ensures served { (B.view result.0).is_kept ≡ true
+        → IsServed (plain_info sectors) (holds (B.view bus).card) (holds (B.view result.0).card) ((B.view result.0).faults - (B.view bus).faults) (script ++ Run ∷ []) (Some n) (W.contents out.old) (W.contents out.new) result.1 }
     ensures unwritten { IfErr result.1 (λ fault. IsUnwritten (W.contents out.old) (W.contents out.new) fault) }
 {
     let bus = match traced(alloc, bus, n) {
@@ -284,12 +287,12 @@ pub fn serve_on<B: Bus + Drop, W: Write>(
     out: &mut W,
 ) -> (B, Result<u8, ServeFault>)
     requires some { 1 ≤ sectors }
-    requires few { sectors ≤ 65536 }
-    requires ready { (B.side bus).is_kept ≡ true → IsReady sectors (B.side bus) }
-    requires bounded { ForSome trace (λ n. (1 ≤ n) × (n ≤ 65536)) }
+    requires few { sectors ≤ MAX_SECTORS }
+    requires ready { (B.view bus).is_kept ≡ true → IsReady sectors (B.view bus) }
+    requires bounded { ForSome trace (λ n. (1 ≤ n) × (n ≤ MAX_KEPT)) }
     // Over a bus that is kept to the end: a run of the sector machine, its text, and the trace behind it.
-    ensures served { (B.side result.0).is_kept ≡ true
-        → IsServed (plain_info sectors) (holds (B.side bus).card) (holds (B.side result.0).card) ((B.side result.0).faults - (B.side bus).faults) (script ++ Run ∷ []) trace (W.contents out.old) (W.contents out.new) result.1 }
+    ensures served { (B.view result.0).is_kept ≡ true
+        → IsServed (plain_info sectors) (holds (B.view bus).card) (holds (B.view result.0).card) ((B.view result.0).faults - (B.view bus).faults) (script ++ Run ∷ []) trace (W.contents out.old) (W.contents out.new) result.1 }
     // Over any bus.
     ensures unwritten { IfErr result.1 (λ fault. IsUnwritten (W.contents out.old) (W.contents out.new) fault) }
 {
@@ -299,12 +302,12 @@ pub fn serve_on<B: Bus + Drop, W: Write>(
     }
 }
 
-// A new card of this many sectors.
-fn new_card(alloc: Global, sectors: u64) -> Result<PlainCard, ServeFault>
+/// A new card of this many sectors, from 1 to `MAX_SECTORS`.
+pub fn new_card(alloc: Global, sectors: u64) -> Result<PlainCard, ServeFault>
     requires some { 1 ≤ sectors }
-    requires few { sectors ≤ 65536 }
+    requires few { sectors ≤ MAX_SECTORS }
     ensures card { IfOk result (λ plain. plain.card ≡ new_plain_card sectors) }
-    ensures ready { IfOk result (λ plain. IsReady sectors (plain_side plain)) }
+    ensures ready { IfOk result (λ plain. IsReady sectors (plain_bus_view plain)) }
     ensures err { IfErr result (λ fault. fault ≡ ServeFault.NoMemory) }
 {
     a_new_plain_card_is_ready();
@@ -338,9 +341,9 @@ fn read_files<C: Read, S: Read>(
     card: &mut C,
     script: &mut S,
 ) -> Result<(u64, Script), ServeFault>
-    ensures range { IfOk result (λ read. (1 ≤ read.0) × (read.0 ≤ 65536)) }
+    ensures range { IfOk result (λ read. (1 ≤ read.0) × (read.0 ≤ MAX_SECTORS)) }
     ensures ok { IfOk result (λ read. AreRead (C.remaining card.old) (S.remaining script.old) read.0 read.1) }
-    ensures err { IfErr result (λ fault. IsRefused (C.remaining card.old) (S.remaining script.old) fault) }
+    ensures err { IfErr result (λ fault. AreRefused (C.remaining card.old) (S.remaining script.old) fault) }
 {
     let card_file = whole(alloc, card, MAX_CARD_FILE, ServeFault::ReadCard)?;
     let sectors = read_card(card_file.as_slice())?;
@@ -364,8 +367,8 @@ pub fn serve<C: Read, S: Read, W: Write>(
     trace: Option<u32>,
     out: &mut W,
 ) -> Result<u8, ServeFault>
-    requires { ForSome trace (λ n. (1 ≤ n) × (n ≤ 65536)) }
-    ensures { IsWhole (C.remaining card.old) (S.remaining script.old) trace (W.contents out.old) (W.contents out.new) result }
+    requires { ForSome trace (λ n. (1 ≤ n) × (n ≤ MAX_KEPT)) }
+    ensures { IsOutcomeOfFiles (C.remaining card.old) (S.remaining script.old) trace (W.contents out.old) (W.contents out.new) result }
 {
     let (sectors, script) = read_files(alloc, card, script)?;
     let card = new_card(alloc, sectors)?;

@@ -1,7 +1,8 @@
 -- In order: what reads must give, whatever order requests were completed in.
-use Rattle.std.specs.Prelude.{◌*◌, ◌+◌, ◌++◌, ◌<◌, ◌==◌, ◌∷◌, ◌≡◌, ◌⊎◌, Bool, List, None, Option, Some, [], if◌then◌else◌, length, nat_lt, slice_index_or, ℕ}
-use Rattle.mmc_bus.specs.declared.part.Part.{Part}
-use Rattle.mmc_bus.specs.Sectors.{IsDecided, IsIn, Sector, Sets, pieces, touches, value_of}
+use Rattle.std.specs.Prelude.{◌*◌, ◌+◌, ◌++◌, ◌<◌, ◌==◌, ◌∷◌, ◌≡◌, ◌⊎◌, Bool, List, None, Option, Some, []}
+use Rattle.std.specs.Prelude.{if◌then◌else◌, length, nat_lt, slice_index_or, ℕ}
+use Rattle.mmc_card.specs.declared.part.Part.{Part}
+use Rattle.mmc_card.specs.Sectors.{IsDecided, IsIn, Sector, Sets, pieces, touches, value_of}
 use Rattle.mmc_block.specs.declared.completion.Answer.{Answer}
 use Rattle.mmc_block.specs.declared.completion.Answer.TheVariants.{Data, Done, Failed}
 use Rattle.mmc_block.specs.declared.completion.Completion.{Completion}
@@ -17,7 +18,8 @@ use Rattle.mmc_block.specs.Run.Reply.{Accepted, Answers}
 
 -- the request that an event with its reply submitted, if it did
 abbrev pub submitted_by : Event → Reply → List Waiting
-submitted_by (Submit client request) (Accepted ticket) = record { ticket = ticket; client = client; request = request } ∷ []
+submitted_by (Submit client request) (Accepted ticket) =
+    record { ticket = ticket; client = client; request = request } ∷ []
 submitted_by _ _ = []
 
 -- the requests that were submitted, in order
@@ -43,7 +45,13 @@ pub record History : Type 0 where
   pub given : List Completion
 
 abbrev pub history : Info → Sets → List Event → List Reply → History
-history info start events replies = record { info = info; start = start; requests = submitted events replies; given = answers replies }
+history info start events replies = record {
+  info = info;
+  start = start;
+  requests = submitted events replies;
+  given =
+      answers replies;
+}
 
 -- what these answer to a ticket
 abbrev pub answer_to : List Completion → ℕ → Option Answer
@@ -87,7 +95,8 @@ first_value sets part sector = slice_index_or (sets part sector) 0 []
 -- it, in order of submission.
 abbrev pub ordered_value : History → Choices → ℕ → Part → ℕ → Sector
 ordered_value h choices ticket part sector =
-    in_turn (below ticket (effect_at h.info part sector (answer_to h.given) (choices part sector))) h.requests (first_value h.start part sector)
+    in_turn (below ticket (effect_at h.info part sector (answer_to h.given) (choices part sector))) h.requests
+    (first_value h.start part sector)
 
 -- The law.
 
@@ -100,7 +109,8 @@ abbrev pub GivesOrdered : History → Choices → Waiting → List ℕ → Type 
 GivesOrdered h choices w bytes =
     (length bytes ≡ 512 * count_of w.request)
     × ((i : ℕ) → i < count_of w.request
-    → slice_index_or (pieces (count_of w.request) bytes) i [] ≡ ordered_value h choices w.ticket (part_of w.request) (start_of w.request + i))
+    → slice_index_or (pieces (count_of w.request) bytes) i [] ≡ ordered_value h choices w.ticket (part_of w.request)
+    (start_of w.request + i))
 
 -- each answer with data is that of a request that was submitted, and gives ordered values
 abbrev pub AreOrdered : History → Choices → Type 0
@@ -114,11 +124,13 @@ IsInOrder h = (choices : Choices) × AreOrdered h choices
 
 -- each sector may hold this value, or has none
 abbrev pub MayHold : Sets → (Part → ℕ → Sector) → Type 0
-MayHold sets contents = (part : Part) (sector : ℕ) → IsIn (sets part sector) (contents part sector) ⊎ (sets part sector ≡ [])
+MayHold sets contents = (part : Part) (sector : ℕ) → IsIn (sets part sector) (contents part sector)
+    ⊎ (sets part sector ≡ [])
 
 -- There are choices by which the answers are in order, and these contents are the ordered values below this ticket, where a
 -- sector holds one.
 abbrev pub EndsInOrder : History → Sets → ℕ → (Part → ℕ → Sector) → Type 0
 EndsInOrder h sets next contents =
     (choices : Choices) × AreOrdered h choices
-    × ((part : Part) (sector : ℕ) → IsIn (sets part sector) (contents part sector) → contents part sector ≡ ordered_value h choices next part sector)
+    × ((part : Part) (sector : ℕ) → IsIn (sets part sector) (contents part sector) → contents part sector
+    ≡ ordered_value h choices next part sector)

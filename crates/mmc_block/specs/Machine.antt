@@ -1,8 +1,9 @@
 -- The sector machine: what clients may see of a device, request by request. It knows no frame, no state of a card, no
 -- attempt and no recovery. The rules are the project's own.
 use Rattle.std.specs.Prelude.{◌*◌, ◌+◌, ◌++◌, ◌<◌, ◌∷◌, ◌≡◌, ◌≤◌, ◌⊎◌, List, [], false, length, true, ℕ}
-use Rattle.mmc_bus.specs.declared.part.Part.{Part}
-use Rattle.mmc_bus.specs.Sectors.{AreRead, IsDecided, IsIn, Same, Sector, Sets, changed, maybe_changed, pieces, touches}
+use Rattle.mmc_card.specs.declared.part.Part.{Part}
+use Rattle.mmc_card.specs.Sectors.{AreRead, IsDecided, IsIn, Same, Sector, Sets, changed, maybe_changed, pieces}
+use Rattle.mmc_card.specs.Sectors.{touches}
 use Rattle.mmc_block.specs.declared.completion.Answer.{Answer}
 use Rattle.mmc_block.specs.declared.completion.Answer.TheVariants.{Data, Done, Failed}
 use Rattle.mmc_block.specs.declared.completion.Completion.{Completion}
@@ -20,7 +21,7 @@ pub record Waiting : Type 0 where
 pub record Machine : Type 0 where
   pub sets : Sets
   pub waits : List Waiting
-  pub serves : List Waiting
+  pub in_service : List Waiting
   pub next : ℕ
 
 -- Effects.
@@ -41,7 +42,8 @@ all_failed info (w ∷ ws) sets = all_failed info ws (failed_effect info w.reque
 -- none of these changes the sector
 abbrev pub NoneChanges : Info → List Waiting → Part → ℕ → Type 0
 NoneChanges info [] part sector = Unit {0}
-NoneChanges info (w ∷ ws) part sector = (touches (change_of info w.request) part sector ≡ false) × NoneChanges info ws part sector
+NoneChanges info (w ∷ ws) part sector = (touches (change_of info w.request) part sector ≡ false)
+    × NoneChanges info ws part sector
 
 -- each sector is decided that none of these changes
 abbrev pub AreDecidedBut : Info → List Waiting → Sets → Type 0
@@ -54,14 +56,16 @@ HasDecided request sets = (part : Part) (sector : ℕ) → Names request part se
 -- the bytes are the request's sectors, joined
 abbrev pub AreJoined : Request → Sets → List ℕ → Type 0
 AreJoined request sets bytes =
-    (length bytes ≡ 512 * count_of request) × AreRead sets (part_of request) (start_of request) (pieces (count_of request) bytes)
+    (length bytes ≡ 512 * count_of request) × AreRead sets (part_of request) (start_of request)
+    (pieces (count_of request) bytes)
 
 -- What an answer means for the sectors, while these others stay in service.
 abbrev pub IsAnswered : Info → Request → List Waiting → Sets → Answer → Sets → Type 0
 IsAnswered info request others old Done new =
     (is_read request ≡ false) × Same new (effect info request old) × AreDecidedBut info others new
 IsAnswered info request others old (Data bytes) new =
-    (is_read request ≡ true) × Same new old × AreJoined request old bytes × HasDecided request new × AreDecidedBut info others new
+    (is_read request ≡ true) × Same new old × AreJoined request old bytes × HasDecided request new
+    × AreDecidedBut info others new
 IsAnswered info request others old (Failed cause) new = Same new (failed_effect info request old)
 
 -- Steps.
@@ -70,7 +74,8 @@ IsAnswered info request others old (Failed cause) new = Same new (failed_effect 
 abbrev pub Decides : Sets → Sets → Type 0
 Decides old new =
     (part : Part) (sector : ℕ)
-    → (new part sector ≡ old part sector) ⊎ ((value : Sector) × IsIn (old part sector) value × (new part sector ≡ value ∷ []))
+    → (new part sector ≡ old part sector) ⊎ ((value : Sector) × IsIn (old part sector) value
+    × (new part sector ≡ value ∷ []))
 
 -- none of these came earlier and conflicts
 abbrev pub PassesNone : Waiting → List Waiting → Type 0
@@ -82,15 +87,15 @@ pub record Completes (info : Info) (old : Machine) (completion : Completion) (ne
   pub before : List Waiting
   pub w : Waiting
   pub after : List Waiting
-  pub served : old.serves ≡ before ++ w ∷ after
+  pub served : old.in_service ≡ before ++ w ∷ after
   pub ticket : completion.ticket ≡ w.ticket
   pub client : completion.client ≡ w.client
   pub passes_none_waiting : PassesNone w old.waits
-  pub passes_none_served : PassesNone w old.serves
+  pub passes_none_served : PassesNone w old.in_service
   pub decided : Sets
   pub decides : Decides old.sets decided
   pub answered : IsAnswered info w.request (before ++ after) decided completion.answer new.sets
-  pub leaves : new.serves ≡ before ++ after
+  pub leaves : new.in_service ≡ before ++ after
   pub waits : new.waits ≡ old.waits
   pub next : new.next ≡ old.next
 
@@ -107,20 +112,22 @@ Ascend low (c ∷ cs) = (low ≤ c.ticket) × Ascend (c.ticket + 1) cs
 abbrev pub IsMerged : List Waiting → List Waiting → List Waiting → Type 0
 IsMerged [] xs ys = (xs ≡ []) × (ys ≡ [])
 IsMerged (z ∷ zs) xs ys =
-    ((rest : List Waiting) × (xs ≡ z ∷ rest) × IsMerged zs rest ys) ⊎ ((rest : List Waiting) × (ys ≡ z ∷ rest) × IsMerged zs xs rest)
+    ((rest : List Waiting) × (xs ≡ z ∷ rest) × IsMerged zs rest ys)
+    ⊎ ((rest : List Waiting) × (ys ≡ z ∷ rest) × IsMerged zs xs rest)
 
 -- all of one partition and kind
 abbrev pub AreAlike : Request → List Waiting → Type 0
 AreAlike request [] = Unit {0}
-AreAlike request (w ∷ ws) = (part_of w.request ≡ part_of request) × (kind_of w.request ≡ kind_of request) × AreAlike request ws
+AreAlike request (w ∷ ws) = (part_of w.request ≡ part_of request) × (kind_of w.request ≡ kind_of request)
+    × AreAlike request ws
 
 -- start: where nothing is in service, one to sixteen alike go into service, the oldest among them
 pub record Starts (old new : Machine) : Type 0 where
   pub oldest : Waiting
   pub others : List Waiting
   pub later : List Waiting
-  pub idle : old.serves ≡ []
-  pub group : new.serves ≡ oldest ∷ others
+  pub idle : old.in_service ≡ []
+  pub group : new.in_service ≡ oldest ∷ others
   pub alike : AreAlike oldest.request others
   pub few : length others < 16
   pub first : old.waits ≡ oldest ∷ later
@@ -130,10 +137,10 @@ pub record Starts (old new : Machine) : Type 0 where
 
 -- a start where nothing is in service and something waits
 abbrev pub StartsIfIdle : Machine → Machine → Type 0
-StartsIfIdle old new = Starts old new ⊎ ((new ≡ old) × (old.serves ≡ [] → old.waits ≡ []))
+StartsIfIdle old new = Starts old new ⊎ ((new ≡ old) × (old.in_service ≡ [] → old.waits ≡ []))
 
 -- these answers are given, in ascending order of ticket
-pub record Serves (info : Info) (old : Machine) (completions : List Completion) (new : Machine) : Type 0 where
+pub record AnswersAll (info : Info) (old : Machine) (completions : List Completion) (new : Machine) : Type 0 where
   pub completes : CompletesAll info old completions new
   pub ascend : Ascend 0 completions
 
@@ -141,12 +148,20 @@ pub record Serves (info : Info) (old : Machine) (completions : List Completion) 
 pub record Turns (info : Info) (old : Machine) (completions : List Completion) (new : Machine) : Type 0 where
   pub started : Machine
   pub start : StartsIfIdle old started
-  pub serves : Serves info started completions new
+  pub answers : AnswersAll info started completions new
 
 -- a submission is accepted under the next ticket
 pub record Accepts (old : Machine) (client : ℕ) (request : Request) (ticket : ℕ) (new : Machine) : Type 0 where
   pub ticket_is : ticket ≡ old.next
-  pub waits : new ≡ record old { waits = old.waits ++ record { ticket = old.next; client = client; request = request } ∷ []; next = old.next + 1 }
+  pub waits : new ≡ record old {
+    waits = old.waits ++ record {
+      ticket = old.next;
+      client = client;
+      request =
+          request;
+    } ∷ [];
+    next = old.next + 1;
+  }
 
 -- cancel: a request that waits leaves without effect
 pub record GivesBack (old : Machine) (ticket : ℕ) (request : Request) (new : Machine) : Type 0 where

@@ -6,7 +6,7 @@ use Rattle.mmc_block.specs.declared.completion.Completion.{Completion}
 use Rattle.mmc_block.specs.declared.info.Info.{Info}
 use Rattle.mmc_block.specs.declared.refused.Refused.{Refused}
 use Rattle.mmc_block.specs.declared.request.Request.{Request}
-use Rattle.mmc_block.specs.Machine.{Accepts, GivesBack, IsTicketOf, Machine, Serves, StartsIfIdle, Turns, Waiting}
+use Rattle.mmc_block.specs.Machine.{Accepts, GivesBack, IsTicketOf, Machine, AnswersAll, StartsIfIdle, Turns, Waiting}
 use Rattle.mmc_block.specs.Refusal.{IsFirst, first_refusal}
 
 -- what a client may do
@@ -34,7 +34,7 @@ Follow {S} Steps old _ _ new = ⊥
 
 -- how many have no answer yet
 abbrev pub unanswered : Machine → ℕ
-unanswered machine = length machine.waits + length machine.serves
+unanswered machine = length machine.waits + length machine.in_service
 
 -- An event with its reply, where this is what a turn with these answers does.
 abbrev pub Happens : Info → Machine → (List Completion → Type 0) → Event → Reply → Machine → Type 0
@@ -44,13 +44,15 @@ Happens info old Turned (Submit client request) (RefusedFor why) new =
     IsFirst (first_refusal info (unanswered old) old.next request) why × (new ≡ old)
 Happens info old Turned Turn (Answers completions) new = Turned completions
 Happens info old Turned (Cancel ticket) (GivenBack request) new = GivesBack old ticket request new
-Happens info old Turned (Cancel ticket) InService new = IsTicketOf ticket old.serves × (new ≡ old)
-Happens info old Turned (Cancel ticket) Unknown new = (IsTicketOf ticket old.serves → ⊥) × (IsTicketOf ticket old.waits → ⊥) × (new ≡ old)
+Happens info old Turned (Cancel ticket) InService new = IsTicketOf ticket old.in_service × (new ≡ old)
+Happens info old Turned (Cancel ticket) Unknown new = (IsTicketOf ticket old.in_service → ⊥)
+    × (IsTicketOf ticket old.waits → ⊥) × (new ≡ old)
 Happens info old Turned _ _ new = ⊥
 
 -- a step of the machine
 abbrev pub Steps : Info → Machine → Event → Reply → Machine → Type 0
-Steps info old event reply new = Happens info old (λ (completions : List Completion). Turns info old completions new) event reply new
+Steps info old event reply new = Happens info old (λ (completions : List Completion). Turns info old completions new)
+    event reply new
 
 -- A run of the sector machine.
 abbrev pub Runs : Info → Machine → List Event → List Reply → Machine → Type 0
@@ -87,11 +89,11 @@ AllHaveFour own (c ∷ cs) = HasFour (own c.ticket) c.answer × AllHaveFour own 
 pub record CountedTurn (info : Info) (old : Counted) (completions : List Completion) (new : Counted) : Type 0 where
   pub started : Machine
   pub start : StartsIfIdle old.machine started
-  pub serves : Serves info started completions new.machine
+  pub answers : AnswersAll info started completions new.machine
   pub fell : ℕ
   pub faults : new.faults ≡ old.faults + fell
   pub whose : Option ℕ
-  pub in_service : IsNoneOrTicketOf whose started.serves
+  pub in_service : IsNoneOrTicketOf whose started.in_service
   pub counts : (ticket : ℕ) → new.own_faults ticket ≡ own_after fell whose old.own_faults ticket
   pub four : AllHaveFour new.own_faults completions
 
@@ -105,7 +107,8 @@ AreCounted event reply old new = (new.faults ≡ old.faults) × ((t : ℕ) → n
 -- a step of the machine with own faults
 abbrev pub CountedSteps : Info → Counted → Event → Reply → Counted → Type 0
 CountedSteps info old event reply new =
-    Happens info old.machine (λ (completions : List Completion). CountedTurn info old completions new) event reply new.machine
+    Happens info old.machine (λ (completions : List Completion). CountedTurn info old completions new) event reply
+    new.machine
     × AreCounted event reply old new
 
 -- A run with own faults.

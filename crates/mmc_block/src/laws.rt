@@ -1,13 +1,16 @@
 //! Laws about the sector machine. Each function does nothing; its contract is the law, which a caller then knows.
 ghost use Rattle.std.specs.Prelude.{◌≡◌, ◌↔◌, ◌⊎◌, List, [], false, true, ℕ};
-ghost use Rattle.mmc_bus.specs.declared.part.Part.{Part};
-ghost use Rattle.mmc_bus.specs.Sectors.{IsDecided, Sector, Sets, Within, touches};
+ghost use Rattle.mmc_card.specs.declared.part.Part.{Part};
+ghost use Rattle.mmc_card.specs.Card.{holds};
+ghost use Rattle.mmc_card.specs.BusView.{BusView};
+ghost use Rattle.mmc_card.specs.Sectors.{IsDecided, Sector, Sets, Within, touches};
 ghost use Rattle.mmc_block.specs.declared.completion.Completion.{Completion};
 ghost use Rattle.mmc_block.specs.declared.info.Info.{Info};
 ghost use Rattle.mmc_block.specs.declared.request.Request.{Request};
 ghost use Rattle.mmc_block.specs.Answers.{is_failed};
 ghost use Rattle.mmc_block.specs.Machine.{Completes, Decides, Machine, Turns};
 ghost use Rattle.mmc_block.specs.MachineLaws.{EachOnce, KeepsValues};
+ghost use Rattle.mmc_block.specs.Place.{IsReady};
 ghost use Rattle.mmc_block.specs.Requests.{ShareSector, change_of, conflicts, is_read};
 ghost use Rattle.mmc_block.specs.Run.{Counted, CountedRuns, Event, Reply, Runs};
 ghost use Rattle.mmc_block.specs.InOrder.{AreDecided, EndsInOrder, IsInOrder, MayHold, history};
@@ -41,7 +44,7 @@ pub fn a_decided_sector_stays_decided()
 /// answered or given back at most once, and after it was accepted.
 pub fn a_ticket_is_answered_once_and_after_its_submission()
     ensures { (info : Info) (old : Machine) (events : List Event) (replies : List Reply) (new : Machine)
-        → old.waits ≡ [] → old.serves ≡ [] → Runs info old events replies new → EachOnce [] [] events replies }
+        → old.waits ≡ [] → old.in_service ≡ [] → Runs info old events replies new → EachOnce [] [] events replies }
 {}
 
 /// A run with own faults is a run.
@@ -55,13 +58,18 @@ pub fn a_counted_run_is_a_run()
 /// submission, whichever order the machine completed them in, where of each failed write each sector is old or new.
 pub fn answers_are_in_order()
     ensures { (info : Info) (old : Machine) (events : List Event) (replies : List Reply) (new : Machine)
-        → AreDecided old.sets → old.waits ≡ [] → old.serves ≡ [] → Runs info old events replies new → IsInOrder (history info old.sets events replies) }
+        → AreDecided old.sets → old.waits ≡ [] → old.in_service ≡ [] → Runs info old events replies new → IsInOrder (history info old.sets events replies) }
 {}
 
 /// The same with what the sectors hold at the end, where they hold no more than the last machine allows: it is the ordered
 /// value below the next ticket, by the same choices.
 pub fn contents_are_in_order()
     ensures { (info : Info) (old : Machine) (events : List Event) (replies : List Reply) (new : Machine) (sets : Sets) (contents : Part → ℕ → Sector)
-        → AreDecided old.sets → old.waits ≡ [] → old.serves ≡ [] → Runs info old events replies new → Within sets new.sets → MayHold sets contents
+        → AreDecided old.sets → old.waits ≡ [] → old.in_service ≡ [] → Runs info old events replies new → Within sets new.sets → MayHold sets contents
         → EndsInOrder (history info old.sets events replies) sets new.next contents }
+{}
+
+/// Each sector of a ready card is decided.
+pub fn a_ready_card_is_decided()
+    ensures { (sectors : ℕ) (view : BusView) → IsReady sectors view → AreDecided (holds view.card) }
 {}

@@ -1,135 +1,191 @@
 -- What a host learns, from the step that the bus took.
-use Rattle.std.proofs.Common.{◌&&◌, ◌<◌, ◌∙◌, ◌≡◌, ◌≤◌, Bool, List, ap, arith, bit_or, cond, false, inl, inr, refl, subst, sym, true, ℕ}
+use Rattle.std.proofs.Common.{◌&&◌, ◌<◌, ◌∙◌, ◌≡◌, ◌≤◌, Bool, List, ap, arith, bit_or, cond, false, inl, inr, refl}
+use Rattle.std.proofs.Common.{subst, sym, true, ℕ}
 use Rattle.std.specs.Prelude.{Ok, Result, Some}
 use Rattle.std.proofs.lemmas.Nat.{le_or_r}
 use Rattle.mmc_frame.specs.Frame.{command_in}
 use Rattle.mmc_frame.specs.declared.card_state.State.{State}
 use Rattle.mmc_frame.specs.declared.card_state.State.TheVariants.{Idle, Prg}
-use Rattle.mmc_bus.specs.declared.bus.DataIn.{DataIn}
-use Rattle.mmc_bus.specs.declared.bus.DataOut.{DataOut}
-use Rattle.mmc_bus.specs.declared.bus.Exchange.{Exchange}
-use Rattle.mmc_bus.specs.declared.bus.Exchange.TheVariants.{Command}
-use Rattle.mmc_bus.specs.declared.bus.Reply.{Reply}
+use Rattle.mmc_card.specs.declared.exchange.DataIn.{DataIn}
+use Rattle.mmc_card.specs.declared.exchange.DataOut.{DataOut}
+use Rattle.mmc_card.specs.declared.exchange.Exchange.{Exchange}
+use Rattle.mmc_card.specs.declared.exchange.Exchange.TheVariants.{Command}
+use Rattle.mmc_card.specs.declared.exchange.Reply.{Reply}
 use Rattle.mmc_bus.specs.declared.host.Unheard.{Unheard}
-use Rattle.mmc_bus.proofs.FaultCount.{command_counts, give_counts, poll_counts, take_counts}
-use Rattle.mmc_bus.proofs.Narrow.{both}
-use Rattle.mmc_bus.proofs.NarrowSteps.{command_widens, give_adds, poll_keeps, take_keeps}
+use Rattle.mmc_card.proofs.FaultCount.{command_counts, write_counts, poll_counts, read_counts}
+use Rattle.mmc_card.proofs.Narrow.{both}
+use Rattle.mmc_card.proofs.NarrowSteps.{command_widens, write_adds, poll_keeps, read_keeps}
 use Rattle.mmc_bus.proofs.Readers.{Reads}
-use Rattle.mmc_bus.proofs.Switching.{command_switches}
-use Rattle.mmc_bus.proofs.Standing.{command_stands, give_stands, poll_stands, take_stands}
-use Rattle.mmc_bus.specs.Answer.{Answer, Choice, Mute, general_error, refused}
-use Rattle.mmc_bus.specs.Blocks.{accepted, can_send, can_take, next_block, rested, sent, waited}
-use Rattle.mmc_bus.specs.Card.{Card, IsCard, holds, is_in, is_selected}
+use Rattle.mmc_card.proofs.Switching.{command_switches}
+use Rattle.mmc_card.proofs.Standing.{command_stands, write_stands, poll_stands, read_stands}
+use Rattle.mmc_card.specs.CardAnswer.{CardAnswer, Choice, Silent, refused}
+use Rattle.mmc_card.specs.ErrorBits.{general_error}
+use Rattle.mmc_card.specs.Blocks.{accepted, can_send, can_accept, next_block, rested, sent, waited}
+use Rattle.mmc_card.specs.Card.{Card, IsCard, holds, is_in, is_selected}
 use Rattle.mmc_bus.specs.Exchanges.{Exchanged}
-use Rattle.mmc_bus.specs.Faults.{CommandStep, GiveStep, IsFlipped, IsPatient, NoFault, OneFault, PollStep, Spells, TakeStep, bad_block, brownout, fail, faithful, flip_command, flip_reply, lose_command, lose_reply, lose_status, reject, slow_inquiry, slow_poll}
+use Rattle.mmc_card.specs.Faults.{CommandStep, WriteStep, IsFlipped, IsPatient, NoFault, OneFault, PollStep, Spells}
+use Rattle.mmc_card.specs.Faults.{ReadStep, bad_block, brownout, fail, faithful, flip_command, flip_reply, lose_command}
+use Rattle.mmc_card.specs.Faults.{lose_reply, lose_status, reject, slow_inquiry, slow_poll}
 use Rattle.mmc_bus.specs.Heard.{cause_of, cause_of_command}
-use Rattle.mmc_bus.specs.Laws.{CountsAtMostOne, erased_by, is_frame_of_run, maybe_erased}
-use Rattle.mmc_bus.specs.Learned.{Asked, CommandFacts, Faithful, GiveFacts, Obeyed, PollFacts, TakeFacts, carried_out, may_fail, meant}
-use Rattle.mmc_bus.specs.Rows.{answered, is_foreign, is_legal, reached, respond}
-use Rattle.mmc_bus.specs.Sectors.{Sector, Within}
-use Rattle.mmc_bus.specs.Side.{Side}
-use Rattle.mmc_bus.specs.declared.bus.DataIn.TheVariants as Received
-use Rattle.mmc_bus.specs.declared.bus.DataOut.TheVariants as Sent
+use Rattle.mmc_card.specs.Laws.{CountsAtMostOne, erased_by, is_frame_of_run, maybe_erased}
+use Rattle.mmc_bus.specs.Learned.{Asked, CommandFacts, Faithful, WriteFacts, Obeyed, PollFacts, ReadFacts, carried_out}
+use Rattle.mmc_bus.specs.Learned.{may_fail, meant}
+use Rattle.mmc_card.specs.Rows.{answered, is_foreign, is_legal, reached, respond}
+use Rattle.mmc_card.specs.Sectors.{Sector, Within}
+use Rattle.mmc_card.specs.BusView.{BusView}
+use Rattle.mmc_card.specs.declared.exchange.DataIn.TheVariants as Received
+use Rattle.mmc_card.specs.declared.exchange.DataOut.TheVariants as Sent
 
 -- Faults.
 
-later : (old new : Side) → CountsAtMostOne old new → old.faults ≤ new.faults
+later : (old new : BusView) → CountsAtMostOne old new → old.faults ≤ new.faults
 later old new (inl same) = omega (arith, same)
 later old new (inr more) = omega (arith, more)
 
 -- where a fault fell, none didn't
-fell : {X : Type 0} (old new : Side) → OneFault old new → NoFault old new → X
+fell : {X : Type 0} (old new : BusView) → OneFault old new → NoFault old new → X
 fell old new more same = absurd (omega (arith, more, same))
 
 -- Commands.
 
-obeyed_by : {X : Type 0} (answers : Answer → Result X Unheard) (choice : Choice) (old : Card) (index argument : ℕ) (heard : Result X Unheard) (new : Card)
-    (foreign legal : Bool) → foreign ≡ is_foreign (meant old index) old argument → legal ≡ is_legal (meant old index) old
-    → ((x : X) → answers Mute ≡ Ok x → ⊥)
-    → new ≡ (cond foreign (old, Mute) (cond legal (carried_out choice old index argument) (refused (reached (meant old index) old), Mute))).0
-    → heard ≡ answers (cond foreign (old, Mute) (cond legal (carried_out choice old index argument) (refused (reached (meant old index) old), Mute))).1
+obeyed_by : {X : Type 0} (answers : CardAnswer → Result X Unheard) (choice : Choice) (old : Card) (index argument : ℕ)
+    (heard : Result X Unheard) (new : Card)
+    (foreign legal : Bool) → foreign ≡ is_foreign (meant old index) old argument
+    → legal ≡ is_legal (meant old index) old
+    → ((x : X) → answers Silent ≡ Ok x → ⊥)
+    → new ≡ (cond foreign (old, Silent) (cond legal (carried_out choice old index argument)
+    (refused (reached (meant old index) old), Silent))).0
+    → heard ≡ answers (cond foreign (old, Silent)
+    (cond legal (carried_out choice old index argument) (refused (reached (meant old index) old), Silent))).1
     → (x : X) → heard ≡ Ok x → Obeyed answers old index argument heard new
-obeyed_by answers choice old index argument heard new true legal f l mute card answer x h = absurd (mute x (sym answer ∙ h))
+obeyed_by answers choice old index argument heard new true legal f l mute card answer x h =
+    absurd (mute x (sym answer ∙ h))
 obeyed_by answers choice old index argument heard new false true f l mute card answer x h =
     record { choice = choice; own = sym f; legal = sym l; card = card; answer = answer }
-obeyed_by answers choice old index argument heard new false false f l mute card answer x h = absurd (mute x (sym answer ∙ h))
+obeyed_by answers choice old index argument heard new false false f l mute card answer x h =
+    absurd (mute x (sym answer ∙ h))
 
-obeyed : {X : Type 0} (answers : Answer → Result X Unheard) (choice : Choice) (old : Card) (index argument : ℕ) (heard : Result X Unheard) (new : Card)
-    → ((x : X) → answers Mute ≡ Ok x → ⊥) → new ≡ (respond choice old index argument).0 → heard ≡ answers (respond choice old index argument).1
+obeyed : {X : Type 0} (answers : CardAnswer → Result X Unheard) (choice : Choice) (old : Card) (index argument : ℕ)
+    (heard : Result X Unheard) (new : Card)
+    → ((x : X) → answers Silent ≡ Ok x → ⊥) → new ≡ (respond choice old index argument).0
+    → heard ≡ answers (respond choice old index argument).1
     → (x : X) → heard ≡ Ok x → Obeyed answers old index argument heard new
 obeyed answers choice old index argument heard new mute card answer x h =
-    obeyed_by answers choice old index argument heard new (is_foreign (meant old index) old argument) (is_legal (meant old index) old)
+    obeyed_by answers choice old index argument heard new (is_foreign (meant old index) old argument)
+    (is_legal (meant old index) old)
     refl refl mute card answer x h
 
-faithfully : {X : Type 0} (answers : Answer → X) (choice : Choice) (old : Card) (index argument : ℕ) (heard : X) (new : Card)
-    → IsPatient choice old.asked → new ≡ (respond choice old index argument).0 → heard ≡ answers (respond choice old index argument).1
+faithfully : {X : Type 0} (answers : CardAnswer → X) (choice : Choice) (old : Card) (index argument : ℕ) (heard : X)
+    (new : Card)
+    → IsPatient choice old.inquiries → new ≡ (respond choice old index argument).0
+    → heard ≡ answers (respond choice old index argument).1
     → Faithful answers old index argument heard new
 faithfully answers choice old index argument heard new patient card answer =
-    let obeys : (own : is_foreign (meant old index) old argument ≡ false) (legal : is_legal (meant old index) old ≡ true)
+    let obeys : (own : is_foreign (meant old index) old argument ≡ false)
+    (legal : is_legal (meant old index) old ≡ true)
     → respond choice old index argument ≡ carried_out choice old index argument = λ own legal. rw (own, legal) refl in
-    let passes : (foreign : is_foreign (meant old index) old argument ≡ true) → respond choice old index argument ≡ (old, Mute) = λ foreign. rw foreign refl in
-    let refuses : (own : is_foreign (meant old index) old argument ≡ false) (legal : is_legal (meant old index) old ≡ false)
-    → respond choice old index argument ≡ (refused (reached (meant old index) old), Mute) = λ own legal. rw (own, legal) refl in
+    let passes : (foreign : is_foreign (meant old index) old argument ≡ true) → respond choice old index argument
+    ≡ (old, Silent) = λ foreign. rw foreign refl in
+    let refuses : (own : is_foreign (meant old index) old argument ≡ false)
+    (legal : is_legal (meant old index) old ≡ false)
+    → respond choice old index argument ≡ (refused (reached (meant old index) old), Silent) =
+    λ own legal. rw (own, legal) refl in
     record {
       choice = choice;
       patient = patient;
-      obeys = λ own legal. (card ∙ ap (λ (x : Card × Answer). x.0) (obeys own legal), answer ∙ ap (λ (x : Card × Answer). answers x.1) (obeys own legal));
-      refuses = λ own legal. (card ∙ ap (λ (x : Card × Answer). x.0) (refuses own legal), answer ∙ ap (λ (x : Card × Answer). answers x.1) (refuses own legal));
-      passes = λ foreign. (card ∙ ap (λ (x : Card × Answer). x.0) (passes foreign), answer ∙ ap (λ (x : Card × Answer). answers x.1) (passes foreign));
+      obeys = λ own legal. (
+        card ∙ ap (λ (x : Card × CardAnswer). x.0) (obeys own legal),
+        answer
+            ∙ ap (λ (x : Card × CardAnswer). answers x.1) (obeys own legal),
+      );
+      refuses = λ own legal. (
+        card ∙ ap (λ (x : Card × CardAnswer). x.0) (refuses own legal),
+        answer
+            ∙ ap (λ (x : Card × CardAnswer). answers x.1) (refuses own legal),
+      );
+      passes = λ foreign. (
+        card ∙ ap (λ (x : Card × CardAnswer). x.0) (passes foreign),
+        answer
+            ∙ ap (λ (x : Card × CardAnswer). answers x.1) (passes foreign),
+      );
     }
 
 -- the command that a frame is
-card_at : (choice : Choice) (old new : Card) (frame : List ℕ) (index argument : ℕ) → command_in frame ≡ Some (index, argument)
+card_at : (choice : Choice) (old new : Card) (frame : List ℕ) (index argument : ℕ)
+    → command_in frame ≡ Some (index, argument)
     → new ≡ (answered choice old (command_in frame)).0 → new ≡ (respond choice old index argument).0
 card_at choice old new frame index argument command card = card ∙ ap (λ s. (answered choice old s).0) command
 
-heard_at : {X : Type 0} (Fits : Answer → Type 0) (hears : Reply → Result X Unheard) (answers : Answer → Result X Unheard)
+heard_at : {X : Type 0} (Fits : CardAnswer → Type 0) (hears : Reply → Result X Unheard)
+    (answers : CardAnswer → Result X Unheard)
     (choice : Choice) (old : Card) (frame : List ℕ) (index argument : ℕ) (reply : Reply) → Reads Fits hears answers
     → Fits (respond choice old index argument).1 → command_in frame ≡ Some (index, argument)
-    → Spells (answered choice old (command_in frame)).1 reply → hears reply ≡ answers (respond choice old index argument).1
+    → Spells (answered choice old (command_in frame)).1 reply
+    → hears reply ≡ answers (respond choice old index argument).1
 heard_at Fits hears answers choice old frame index argument reply reads fits command spells =
-    reads.whole (respond choice old index argument).1 reply fits (subst (λ s. Spells (answered choice old s).1 reply) command spells)
+    reads.whole (respond choice old index argument).1 reply fits
+    (subst (λ s. Spells (answered choice old s).1 reply) command spells)
 
-command_sound : {X : Type 0} (Fits : Answer → Type 0) (hears : Reply → Result X Unheard) (answers : Answer → Result X Unheard)
-    (old : Side) (frame : List ℕ) (index argument : ℕ) (reply : Reply) (new : Side)
+command_sound : {X : Type 0} (Fits : CardAnswer → Type 0) (hears : Reply → Result X Unheard)
+    (answers : CardAnswer → Result X Unheard)
+    (old : BusView) (frame : List ℕ) (index argument : ℕ) (reply : Reply) (new : BusView)
     → Reads Fits hears answers → ((choice : Choice) → Fits (respond choice old.card index argument).1)
     → command_in frame ≡ Some (index, argument) → CommandStep old frame reply new
     → (x : X) → hears reply ≡ Ok x → Obeyed answers old.card index argument (hears reply) new.card
-command_sound Fits hears answers old frame index argument reply new reads fits command (faithful choice patient count card spells) x h =
-    obeyed answers choice old.card index argument (hears reply) new.card reads.mute (card_at choice old.card new.card frame index argument command card)
+command_sound Fits hears answers old frame index argument reply new reads fits command
+    (faithful choice patient count card spells) x h =
+    obeyed answers choice old.card index argument (hears reply) new.card reads.mute
+    (card_at choice old.card new.card frame index argument command card)
     (heard_at Fits hears answers choice old.card frame index argument reply reads (fits choice) command spells) x h
-command_sound Fits hears answers old frame index argument reply new reads fits command (lose_command count card silent) x h =
+command_sound Fits hears answers old frame index argument reply new reads fits command
+    (lose_command count card silent) x h =
     absurd (reads.silent x (ap hears (sym silent) ∙ h))
-command_sound Fits hears answers old frame index argument reply new reads fits command (flip_command keeps_count count card silent) x h =
+command_sound Fits hears answers old frame index argument reply new reads fits command
+    (flip_command keeps_count count card silent) x h =
     absurd (reads.silent x (ap hears (sym silent) ∙ h))
-command_sound Fits hears answers old frame index argument reply new reads fits command (lose_reply choice patient count card answers_it silent) x h =
+command_sound Fits hears answers old frame index argument reply new reads fits command
+    (lose_reply choice patient count card answers_it silent) x h =
     absurd (reads.silent x (ap hears (sym silent) ∙ h))
-command_sound Fits hears answers old frame index argument reply new reads fits command (flip_reply choice patient count card flipped) x h =
+command_sound Fits hears answers old frame index argument reply new reads fits command
+    (flip_reply choice patient count card flipped) x h =
     absurd (reads.flipped (respond choice old.card index argument).1 reply (fits choice)
     (subst (λ s. IsFlipped (answered choice old.card s).1 reply) command flipped) x h)
-command_sound Fits hears answers old frame index argument reply new reads fits command (slow_inquiry choice slow late inquiry count card spells) x h =
-    obeyed answers choice old.card index argument (hears reply) new.card reads.mute (card_at choice old.card new.card frame index argument command card)
+command_sound Fits hears answers old frame index argument reply new reads fits command
+    (slow_inquiry choice slow late inquiry count card spells) x h =
+    obeyed answers choice old.card index argument (hears reply) new.card reads.mute
+    (card_at choice old.card new.card frame index argument command card)
     (heard_at Fits hears answers choice old.card frame index argument reply reads (fits choice) command spells) x h
-command_sound Fits hears answers old frame index argument reply new reads fits command (brownout choice lands after patient count card silent) x h =
+command_sound Fits hears answers old frame index argument reply new reads fits command
+    (brownout choice lands after patient count card silent) x h =
     absurd (reads.silent x (ap hears (sym silent) ∙ h))
 
-command_fine : {X : Type 0} (Fits : Answer → Type 0) (hears : Reply → Result X Unheard) (answers : Answer → Result X Unheard)
-    (old : Side) (frame : List ℕ) (index argument : ℕ) (reply : Reply) (new : Side)
+command_fine : {X : Type 0} (Fits : CardAnswer → Type 0) (hears : Reply → Result X Unheard)
+    (answers : CardAnswer → Result X Unheard)
+    (old : BusView) (frame : List ℕ) (index argument : ℕ) (reply : Reply) (new : BusView)
     → Reads Fits hears answers → ((choice : Choice) → Fits (respond choice old.card index argument).1)
     → command_in frame ≡ Some (index, argument) → CommandStep old frame reply new
     → NoFault old new → Faithful answers old.card index argument (hears reply) new.card
-command_fine Fits hears answers old frame index argument reply new reads fits command (faithful choice patient count card spells) same =
-    faithfully answers choice old.card index argument (hears reply) new.card patient (card_at choice old.card new.card frame index argument command card)
+command_fine Fits hears answers old frame index argument reply new reads fits command
+    (faithful choice patient count card spells) same =
+    faithfully answers choice old.card index argument (hears reply) new.card patient
+    (card_at choice old.card new.card frame index argument command card)
     (heard_at Fits hears answers choice old.card frame index argument reply reads (fits choice) command spells)
-command_fine Fits hears answers old frame index argument reply new reads fits command (lose_command count card silent) same = fell old new count same
-command_fine Fits hears answers old frame index argument reply new reads fits command (flip_command keeps_count count card silent) same = fell old new count same
-command_fine Fits hears answers old frame index argument reply new reads fits command (lose_reply choice patient count card answers_it silent) same = fell old new count same
-command_fine Fits hears answers old frame index argument reply new reads fits command (flip_reply choice patient count card flipped) same = fell old new count same
-command_fine Fits hears answers old frame index argument reply new reads fits command (slow_inquiry choice slow late inquiry count card spells) same = fell old new count same
-command_fine Fits hears answers old frame index argument reply new reads fits command (brownout choice lands after patient count card silent) same = fell old new count same
+command_fine Fits hears answers old frame index argument reply new reads fits command
+    (lose_command count card silent) same = fell old new count same
+command_fine Fits hears answers old frame index argument reply new reads fits command
+    (flip_command keeps_count count card silent) same = fell old new count same
+command_fine Fits hears answers old frame index argument reply new reads fits command
+    (lose_reply choice patient count card answers_it silent) same = fell old new count same
+command_fine Fits hears answers old frame index argument reply new reads fits command
+    (flip_reply choice patient count card flipped) same = fell old new count same
+command_fine Fits hears answers old frame index argument reply new reads fits command
+    (slow_inquiry choice slow late inquiry count card spells) same = fell old new count same
+command_fine Fits hears answers old frame index argument reply new reads fits command
+    (brownout choice lands after patient count card silent) same = fell old new count same
 
-pub command_facts : {X : Type 0} (Fits : Answer → Type 0) (hears : Reply → Result X Unheard) (answers : Answer → Result X Unheard)
-    (old : Side) (frame : List ℕ) (index argument : ℕ) (reply : Reply) (new : Side)
+pub command_facts : {X : Type 0} (Fits : CardAnswer → Type 0) (hears : Reply → Result X Unheard)
+    (answers : CardAnswer → Result X Unheard)
+    (old : BusView) (frame : List ℕ) (index argument : ℕ) (reply : Reply) (new : BusView)
     → Reads Fits hears answers → ((choice : Choice) → Fits (respond choice old.card index argument).1)
     → command_in frame ≡ Some (index, argument) → CommandStep old frame reply new
     → CommandFacts answers old index argument (hears reply) new
@@ -137,7 +193,8 @@ command_facts Fits hears answers old frame index argument reply new reads fits c
     let widens = command_widens old frame reply new step in
     record {
       stays = record { carried = widens.carried; later = later old new (command_counts old frame reply new step) };
-      narrows = subst (λ s. Within (holds new.card) (maybe_erased (erased_by old.card s) (holds old.card))) command widens.widens;
+      narrows = subst (λ s. Within (holds new.card) (maybe_erased (erased_by old.card s) (holds old.card))) command
+          widens.widens;
       stands = λ run. command_stands old frame reply new (ap (is_frame_of_run old.card) command ∙ run) step;
       switches = λ part switch. command_switches part old frame index argument reply new switch command step;
       sound = command_sound Fits hears answers old frame index argument reply new reads fits command step;
@@ -150,7 +207,8 @@ command_facts Fits hears answers old frame index argument reply new reads fits c
 polled_ways : (choice : Choice) (old : Card) (b said : Bool) (new : Card) → b ≡ (old.is_busy && choice.is_slow)
     → new ≡ (cond {A = Card × Bool} b (waited old, true) (rested old, false)).0
     → said ≡ (cond {A = Card × Bool} b (waited old, true) (rested old, false)).1
-    → (said ≡ true → (old.is_busy ≡ true) × (choice.is_slow ≡ true) × (new ≡ waited old)) × (said ≡ false → new ≡ rested old)
+    → (said ≡ true → (old.is_busy ≡ true) × (choice.is_slow ≡ true) × (new ≡ waited old))
+    × (said ≡ false → new ≡ rested old)
 polled_ways choice old true said new e card answer =
     let busy = both old.is_busy choice.is_slow (sym e) in (λ h. (busy.0, busy.1, card), λ h. cc)
 polled_ways choice old false said new e card answer = (λ h. cc, λ h. card)
@@ -167,14 +225,14 @@ fails : (card : Card) → is_in card.state Prg ≡ true → card.is_switching �
 fails card prg switching = rw (prg, switching) refl
 
 -- what the answer of a poll tells
-record PollWays (old : Side) (said : Bool) (new : Side) : Type 0 where
+record PollWays (old : BusView) (said : Bool) (new : BusView) : Type 0 where
   yes : said ≡ true → (old.card.is_busy ≡ true) × (new.card ≡ waited old.card)
   calm : said ≡ false → is_selected new.card.state ≡ true → may_fail old.card ≡ false → new.card ≡ rested old.card
   shown : said ≡ false → is_selected new.card.state ≡ true → new.card.errors ≡ 0 → new.card ≡ rested old.card
   patient : NoFault old new → said ≡ true → old.card.polled < 8
   fine : NoFault old new → said ≡ false → new.card ≡ rested old.card
 
-poll_ways : (old : Side) (said : Bool) (new : Side) → PollStep old said new → PollWays old said new
+poll_ways : (old : BusView) (said : Bool) (new : BusView) → PollStep old said new → PollWays old said new
 poll_ways old said new (faithful choice patient count card answer) =
     let ways = polled_ways choice old.card (old.card.is_busy && choice.is_slow) said new.card refl card answer in
     record {
@@ -210,7 +268,7 @@ poll_ways old said new (brownout choice lands after patient count card answer) =
       fine = λ same h. fell old new count same;
     }
 
-pub poll_facts : (old : Side) (said : Bool) (new : Side) → PollStep old said new → PollFacts old said new
+pub poll_facts : (old : BusView) (said : Bool) (new : BusView) → PollStep old said new → PollFacts old said new
 poll_facts old said new step =
     let keeps = poll_keeps old said new step in
     let ways = poll_ways old said new step in
@@ -228,20 +286,27 @@ poll_facts old said new step =
 -- Blocks.
 
 by_offer : (b : Bool) (x y new : Card) (got : DataOut) → new ≡ cond b x y → got ≡ cond b Sent.Accepted Sent.Nothing
-    → (got ≡ Sent.Accepted → (b ≡ true) × (new ≡ x)) × (b ≡ true → got ≡ Sent.Accepted) × (b ≡ false → (got ≡ Sent.Nothing) × (new ≡ y))
+    → (got ≡ Sent.Accepted → (b ≡ true) × (new ≡ x)) × (b ≡ true → got ≡ Sent.Accepted)
+    × (b ≡ false → (got ≡ Sent.Nothing) × (new ≡ y))
 by_offer true x y new got card answer = (λ h. (refl, card), λ t. answer, λ f. cc)
 by_offer false x y new got card answer = (λ h. cc, λ t. cc, λ f. (answer, card))
 
 -- what the answer to a block that is offered tells
-record GiveWays (old : Side) (block : Sector) (got : DataOut) (new : Side) : Type 0 where
-  taken : got ≡ Sent.Accepted → (can_take old.lines old.card ≡ true) × (new.card ≡ accepted block old.card)
-  fine : NoFault old new → can_take old.lines old.card ≡ true → got ≡ Sent.Accepted
-  refuses : NoFault old new → can_take old.lines old.card ≡ false → (got ≡ Sent.Nothing) × (new.card ≡ old.card)
+record WriteWays (old : BusView) (block : Sector) (got : DataOut) (new : BusView) : Type 0 where
+  accepts : got ≡ Sent.Accepted → (can_accept old.lines old.card ≡ true) × (new.card ≡ accepted block old.card)
+  fine : NoFault old new → can_accept old.lines old.card ≡ true → got ≡ Sent.Accepted
+  refuses : NoFault old new → can_accept old.lines old.card ≡ false → (got ≡ Sent.Nothing) × (new.card ≡ old.card)
 
 -- with a fault it isn't accepted
-unaccepted : (old : Side) (block : Sector) (got : DataOut) (new : Side) → OneFault old new → (got ≡ Sent.Accepted → ⊥) → GiveWays old block got new
+unaccepted : (old : BusView) (block : Sector) (got : DataOut) (new : BusView) → OneFault old new
+    → (got ≡ Sent.Accepted → ⊥) → WriteWays old block got new
 unaccepted old block got new count none =
-    record { taken = λ h. absurd (none h); fine = λ same t. fell old new count same; refuses = λ same t. fell old new count same }
+    record {
+      accepts = λ h. absurd (none h);
+      fine = λ same t. fell old new count same;
+      refuses =
+          λ same t. fell old new count same;
+    }
 
 not_nothing : (got : DataOut) → got ≡ Sent.Nothing → got ≡ Sent.Accepted → ⊥
 not_nothing got e h = cc
@@ -249,67 +314,86 @@ not_nothing got e h = cc
 not_rejected : (got : DataOut) → got ≡ Sent.Rejected → got ≡ Sent.Accepted → ⊥
 not_rejected got e h = cc
 
-give_ways : (old : Side) (block : Sector) (got : DataOut) (new : Side) → GiveStep old block got new → GiveWays old block got new
-give_ways old block got new (faithful count card answer) =
-    let ways = by_offer (can_take old.lines old.card) (accepted block old.card) old.card new.card got card answer in
-    record { taken = ways.0; fine = λ same t. ways.1 t; refuses = λ same f. ways.2 f }
-give_ways old block got new (reject takes count card answer) = unaccepted old block got new count (not_rejected got answer)
-give_ways old block got new (lose_status taken takes count card answer) = unaccepted old block got new count (not_nothing got answer)
-give_ways old block got new (brownout lands after count card answer) = unaccepted old block got new count (not_nothing got answer)
+write_ways : (old : BusView) (block : Sector) (got : DataOut) (new : BusView) → WriteStep old block got new
+    → WriteWays old block got new
+write_ways old block got new (faithful count card answer) =
+    let ways = by_offer (can_accept old.lines old.card) (accepted block old.card) old.card new.card got card answer in
+    record { accepts = ways.0; fine = λ same t. ways.1 t; refuses = λ same f. ways.2 f }
+write_ways old block got new (reject can count card answer) = unaccepted old block got new count
+    (not_rejected got answer)
+write_ways old block got new (lose_status is_accepted can count card answer) = unaccepted old block got new count
+    (not_nothing got answer)
+write_ways old block got new (brownout lands after count card answer) = unaccepted old block got new count
+    (not_nothing got answer)
 
-pub give_facts : (old : Side) (block : Sector) (got : DataOut) (new : Side) → GiveStep old block got new → GiveFacts old block got new
-give_facts old block got new step =
-    let adds = give_adds old block got new step in
-    let ways = give_ways old block got new step in
+pub write_facts : (old : BusView) (block : Sector) (got : DataOut) (new : BusView) → WriteStep old block got new
+    → WriteFacts old block got new
+write_facts old block got new step =
+    let adds = write_adds old block got new step in
+    let ways = write_ways old block got new step in
     record {
-      stays = record { carried = adds.carried; later = later old new (give_counts old block got new step) };
+      stays = record { carried = adds.carried; later = later old new (write_counts old block got new step) };
       widens = adds.adds;
-      stands = give_stands old block got new step;
-      taken = ways.taken;
+      stands = write_stands old block got new step;
+      accepts = ways.accepts;
       fine = ways.fine;
       refuses = ways.refuses;
     }
 
 by_ask : (b : Bool) (x y new : Card) (got : DataIn) → new ≡ cond b x y → got ≡ cond b Received.Good Received.Nothing
-    → (got ≡ Received.Good → (b ≡ true) × (new ≡ x)) × (b ≡ true → got ≡ Received.Good) × (b ≡ false → (got ≡ Received.Nothing) × (new ≡ y))
+    → (got ≡ Received.Good → (b ≡ true) × (new ≡ x)) × (b ≡ true → got ≡ Received.Good)
+    × (b ≡ false → (got ≡ Received.Nothing) × (new ≡ y))
 by_ask true x y new got card answer = (λ h. (refl, card), λ t. answer, λ f. cc)
 by_ask false x y new got card answer = (λ h. cc, λ t. cc, λ f. (answer, card))
 
 -- what the answer to a block that is asked for tells
-record TakeWays (old : Side) (size : ℕ) (got : DataIn) (block : List ℕ) (new : Side) : Type 0 where
+record ReadWays (old : BusView) (size : ℕ) (got : DataIn) (block : List ℕ) (new : BusView) : Type 0 where
   good : got ≡ Received.Good
-      → (can_send old.lines size old.card ≡ true) × (next_block old.card ≡ Some block) × ((choice : Choice) × (new.card ≡ sent choice old.card))
+      → (can_send old.lines size old.card ≡ true) × (next_block old.card ≡ Some block)
+      × ((choice : Choice) × (new.card ≡ sent choice old.card))
   fine : NoFault old new → can_send old.lines size old.card ≡ true → got ≡ Received.Good
-  refuses : NoFault old new → can_send old.lines size old.card ≡ false → (got ≡ Received.Nothing) × (new.card ≡ old.card)
+  refuses : NoFault old new → can_send old.lines size old.card ≡ false → (got ≡ Received.Nothing)
+      × (new.card ≡ old.card)
 
 -- with a fault it isn't good
-not_good : (old : Side) (size : ℕ) (got : DataIn) (block : List ℕ) (new : Side) → OneFault old new → (got ≡ Received.Good → ⊥) → TakeWays old size got block new
+not_good : (old : BusView) (size : ℕ) (got : DataIn) (block : List ℕ) (new : BusView) → OneFault old new
+    → (got ≡ Received.Good → ⊥) → ReadWays old size got block new
 not_good old size got block new count none =
-    record { good = λ h. absurd (none h); fine = λ same t. fell old new count same; refuses = λ same t. fell old new count same }
+    record {
+      good = λ h. absurd (none h);
+      fine = λ same t. fell old new count same;
+      refuses =
+          λ same t. fell old new count same;
+    }
 
-bad_or_nothing : (comes : Bool) (got : DataIn) → got ≡ cond comes Received.Bad Received.Nothing → got ≡ Received.Good → ⊥
+bad_or_nothing : (comes : Bool) (got : DataIn) → got ≡ cond comes Received.Bad Received.Nothing → got ≡ Received.Good
+    → ⊥
 bad_or_nothing true got e h = cc
 bad_or_nothing false got e h = cc
 
-take_ways : (old : Side) (size : ℕ) (got : DataIn) (block : List ℕ) (new : Side) → TakeStep old size got block new → TakeWays old size got block new
-take_ways old size got block new (faithful choice count card answer is) =
+read_ways : (old : BusView) (size : ℕ) (got : DataIn) (block : List ℕ) (new : BusView) → ReadStep old size got block new
+    → ReadWays old size got block new
+read_ways old size got block new (faithful choice count card answer is) =
     let ways = by_ask (can_send old.lines size old.card) (sent choice old.card) old.card new.card got card answer in
     record {
       good = λ h. let w = ways.0 h in (w.0, is h, (choice, w.1));
       fine = λ same t. ways.1 t;
       refuses = λ same f. ways.2 f;
     }
-take_ways old size got block new (bad_block choice comes sends count card answer) = not_good old size got block new count (bad_or_nothing comes got answer)
-take_ways old size got block new (brownout choice lands after count card answer) = not_good old size got block new count (bad_or_nothing false got answer)
+read_ways old size got block new (bad_block choice comes sends count card answer) =
+    not_good old size got block new count (bad_or_nothing comes got answer)
+read_ways old size got block new (brownout choice lands after count card answer) = not_good old size got block new count
+    (bad_or_nothing false got answer)
 
-pub take_facts : (old : Side) (size : ℕ) (got : DataIn) (block : List ℕ) (new : Side) → TakeStep old size got block new → TakeFacts old size got block new
-take_facts old size got block new step =
-    let keeps = take_keeps old size got block new step in
-    let ways = take_ways old size got block new step in
+pub read_facts : (old : BusView) (size : ℕ) (got : DataIn) (block : List ℕ) (new : BusView)
+    → ReadStep old size got block new → ReadFacts old size got block new
+read_facts old size got block new step =
+    let keeps = read_keeps old size got block new step in
+    let ways = read_ways old size got block new step in
     record {
-      stays = record { carried = keeps.carried; later = later old new (take_counts old size got block new step) };
+      stays = record { carried = keeps.carried; later = later old new (read_counts old size got block new step) };
       narrows = keeps.narrows;
-      stands = take_stands old size got block new step;
+      stands = read_stands old size got block new step;
       good = ways.good;
       fine = ways.fine;
       refuses = ways.refuses;
@@ -318,17 +402,24 @@ take_facts old size got block new step =
 -- Exchanges.
 
 -- what is known of a step is known of the exchange
-pub with_facts : {Step Facts : Type 0} (old : Side) (exchange : Exchange) (new : Side) → Exchanged old exchange Step new → (IsCard old.card → Step → Facts)
+pub with_facts : {Step Facts : Type 0} (old : BusView) (exchange : Exchange) (new : BusView)
+    → Exchanged old exchange Step new → (IsCard old.card → Step → Facts)
     → Exchanged old exchange Facts new
 with_facts old exchange new e facts = record {
   lines = e.lines;
   last = e.last;
   exchanges = e.exchanges;
-  kept = λ k. let s = e.kept k in record { was_kept = s.was_kept; was_card = s.was_card; step = facts s.was_card s.step; is_card = s.is_card };
+  kept = λ k. let s = e.kept k in record {
+    was_kept = s.was_kept;
+    was_card = s.was_card;
+    step = facts s.was_card s.step;
+    is_card = s.is_card;
+  };
 }
 
-pub asked : {X : Type 0} (Fits : Answer → Type 0) (hears : Reply → Result X Unheard) (answers : Answer → Result X Unheard)
-    (old : Side) (frame : List ℕ) (index argument : ℕ) (reply : Reply) (heard : Result X Unheard) (new : Side)
+pub asked : {X : Type 0} (Fits : CardAnswer → Type 0) (hears : Reply → Result X Unheard)
+    (answers : CardAnswer → Result X Unheard)
+    (old : BusView) (frame : List ℕ) (index argument : ℕ) (reply : Reply) (heard : Result X Unheard) (new : BusView)
     → Reads Fits hears answers → (IsCard old.card → (choice : Choice) → Fits (respond choice old.card index argument).1)
     → command_in frame ≡ Some (index, argument) → heard ≡ hears reply
     → Exchanged old (Command frame reply) (CommandStep old frame reply new) new

@@ -5,36 +5,42 @@ use Rattle.std.proofs.lemmas.Bool.{agree_below_at, eqb-true}
 use Rattle.mmc_frame.specs.Field.{field}
 use Rattle.mmc_frame.specs.Flips.{RefusesFlips, RefusesFlipsBesideOcr, is_r2, is_response_to}
 use Rattle.mmc_frame.specs.Frame.{argument_in, has_fixed_bits, index_in, is_sound, response_in}
-use Rattle.mmc_frame.specs.RegisterFrame.{RegistersComeBack, has_end_bit, is_sound_register, ocr_in, register_frame, register_in}
+use Rattle.mmc_frame.specs.RegisterFrame.{RegistersComeBack, has_end_bit, is_sound_register, ocr_in, register_frame}
+use Rattle.mmc_frame.specs.RegisterFrame.{register_in}
 use Rattle.mmc_frame.specs.declared.fault.FrameFault.{FrameFault}
 use Rattle.mmc_frame.specs.declared.fault.FrameFault.TheVariants.{Check, FixedBits, Index}
 use Rattle.mmc_frame.specs.declared.kind.Kind.{Kind}
 use Rattle.mmc_frame.specs.declared.kind.Kind.TheVariants.{Mmc, Sd}
-use Rattle.mmc_bus.specs.declared.bus.Reply.{Reply}
-use Rattle.mmc_bus.specs.declared.bus.Reply.TheVariants.{Silent}
+use Rattle.mmc_card.specs.declared.exchange.Reply.{Reply}
+use Rattle.mmc_card.specs.declared.exchange.Reply.TheVariants as Came
 use Rattle.mmc_bus.specs.declared.host.Unheard.{Unheard}
 use Rattle.mmc_bus.specs.declared.host.Unheard.TheVariants.{Unsound}
-use Rattle.mmc_bus.proofs.CardAll.{card_reached}
-use Rattle.mmc_bus.proofs.Conditions.{by_cond}
-use Rattle.mmc_bus.specs.Answer.{Answer, Checked, Choice, Mute, Open, Register, block_len_error, erase_param, raised, refused, shown, status}
-use Rattle.mmc_bus.specs.Card.{Both, Card, First, Held, IsCard, NoAddress}
-use Rattle.mmc_bus.specs.Faults.{IsFlipped, Spells}
-use Rattle.mmc_bus.specs.Heard.{index_of_inquiry, is_inquiry_index, nothing_heard, nothing_of, ocr_heard, ocr_of, or_unsound, register_heard, register_of, response_heard, response_of}
-use Rattle.mmc_bus.specs.Laws.{erased_by_command}
-use Rattle.mmc_bus.specs.Made.{HasRegisters}
-use Rattle.mmc_bus.specs.declared.command.Command.{Command}
-use Rattle.mmc_bus.specs.declared.command.Command.TheVariants.{ASendOpCond, AllSendCid, Erase, EraseEnd, EraseStart, GoIdleState, ReadMultipleBlock, ReadSingleBlock, SendCsd, SendIfCond, SendOpCond, SetBlocklen, SwitchByte, Unknown, WriteBlock, WriteMultipleBlock}
-use Rattle.mmc_bus.specs.Rows.{command_of, is_foreign, is_legal, reached, responded, row}
-use Rattle.mmc_bus.specs.RowsErase.{erase_held, erases, erasing, forgotten, hold_first, hold_last, is_no_range, is_trim}
-use Rattle.mmc_bus.specs.RowsIdentify.{inquired, is_served}
-use Rattle.mmc_bus.specs.RowsSwitch.{switch_row, switched}
-use Rattle.mmc_bus.specs.RowsTransfer.{transfer_errors, transferred}
+use Rattle.mmc_card.proofs.CardAll.{card_reached}
+use Rattle.mmc_card.proofs.Conditions.{by_cond, neither}
+use Rattle.mmc_card.specs.CardAnswer.{CardAnswer, Checked, Choice, Silent, R3, R2, raised, refused, shown, status}
+use Rattle.mmc_card.specs.ErrorBits.{block_len_error, erase_param}
+use Rattle.mmc_card.specs.Card.{Both, Card, First, Held, IsCard, NoAddress}
+use Rattle.mmc_card.specs.Faults.{IsFlipped, Spells}
+use Rattle.mmc_bus.specs.Heard.{index_of_inquiry, is_inquiry_index, nothing_heard, nothing_of, ocr_heard, ocr_of}
+use Rattle.mmc_bus.specs.Heard.{or_unsound, register_heard, register_of, response_heard, response_of}
+use Rattle.mmc_card.specs.Made.{HasRegisters}
+use Rattle.mmc_card.specs.declared.command.Command.{Command}
+use Rattle.mmc_card.specs.declared.command.Command.TheVariants.{SdSendOpCond, AllSendCid, Erase, EraseEnd, EraseStart}
+use Rattle.mmc_card.specs.declared.command.Command.TheVariants.{GoIdleState, ReadMultipleBlock, ReadSingleBlock}
+use Rattle.mmc_card.specs.declared.command.Command.TheVariants.{SendCsd, SendIfCond, SendOpCond, SetBlocklen, Switch}
+use Rattle.mmc_card.specs.declared.command.Command.TheVariants.{Unknown, WriteBlock, WriteMultipleBlock}
+use Rattle.mmc_card.specs.Rows.{command_of, is_foreign, is_legal, reached, responded, row}
+use Rattle.mmc_card.specs.RowsErase.{erase_held, erases, erasing, forgotten, hold_first, hold_last, is_no_range}
+use Rattle.mmc_card.specs.RowsErase.{is_trim}
+use Rattle.mmc_card.specs.RowsIdentify.{inquired, is_served}
+use Rattle.mmc_card.specs.RowsSwitch.{switch_row, switched}
+use Rattle.mmc_card.specs.RowsTransfer.{transfer_errors, transferred}
 
 -- The kinds of answer.
 
 abbrev pub asks_for_ocr : Command → Bool
 asks_for_ocr SendOpCond = true
-asks_for_ocr ASendOpCond = true
+asks_for_ocr SdSendOpCond = true
 asks_for_ocr _ = false
 
 -- sixteen bytes whose check fits and whose last bit is 1
@@ -44,29 +50,36 @@ pub record IsRegister (bytes : List ℕ) : Type 0 where
   pub end_bit : has_end_bit bytes ≡ true
 
 -- an OCR answers an inquiry alone, and what is sent as a register is one
-abbrev pub IsAnswerTo : Command → Answer → Type 0
-IsAnswerTo command Mute = Unit {0}
+abbrev pub IsAnswerTo : Command → CardAnswer → Type 0
+IsAnswerTo command Silent = Unit {0}
 IsAnswerTo command (Checked index argument) = asks_for_ocr command ≡ false
-IsAnswerTo command (Open ocr) = asks_for_ocr command ≡ true
-IsAnswerTo command (Register bytes) = IsRegister bytes
+IsAnswerTo command (R3 ocr) = asks_for_ocr command ≡ true
+IsAnswerTo command (R2 bytes) = IsRegister bytes
 
-answer_cond : (command : Command) (b : Bool) (x y : Card × Answer) → IsAnswerTo command x.1 → IsAnswerTo command y.1 → IsAnswerTo command (cond b x y).1
-answer_cond command b x y p q = by_cond (λ (r : Card × Answer). IsAnswerTo command r.1) b {x = x} {y = y} (λ _. p) (λ _. q)
+answer_cond : (command : Command) (b : Bool) (x y : Card × CardAnswer) → IsAnswerTo command x.1 → IsAnswerTo command y.1
+    → IsAnswerTo command (cond b x y).1
+answer_cond command b x y p q = by_cond (λ (r : Card × CardAnswer). IsAnswerTo command r.1) b {x = x} {y = y} (λ _. p)
+    (λ _. q)
 
-inquired_answer : (command : Command) (is_ready : Bool) (c : Card) → asks_for_ocr command ≡ true → IsAnswerTo command (inquired is_ready c).1
+inquired_answer : (command : Command) (is_ready : Bool) (c : Card) → asks_for_ocr command ≡ true
+    → IsAnswerTo command (inquired is_ready c).1
 inquired_answer command true c asks = asks
 inquired_answer command false c asks = asks
 
-transferred_answer : (command : Command) (index errors : ℕ) (c after : Card) → asks_for_ocr command ≡ false → IsAnswerTo command (transferred index errors c after).1
+transferred_answer : (command : Command) (index errors : ℕ) (c after : Card) → asks_for_ocr command ≡ false
+    → IsAnswerTo command (transferred index errors c after).1
 transferred_answer command index errors c after asks =
-    answer_cond command (errors == 0) (after, Checked index (status false c)) (shown c, Checked index (status false (raised errors c))) asks asks
+    answer_cond command (errors == 0) (after, Checked index (status false c))
+    (shown c, Checked index (status false (raised errors c))) asks asks
 
-first_answer : (index : ℕ) (c : Card) (address : ℕ) (held : Held) → IsAnswerTo EraseStart (hold_first index c address held).1
+first_answer : (index : ℕ) (c : Card) (address : ℕ) (held : Held)
+    → IsAnswerTo EraseStart (hold_first index c address held).1
 first_answer index c address NoAddress = refl
 first_answer index c address (First first) = refl
 first_answer index c address (Both first last) = refl
 
-last_answer : (index : ℕ) (c : Card) (address : ℕ) (held : Held) → IsAnswerTo EraseEnd (hold_last index c address held).1
+last_answer : (index : ℕ) (c : Card) (address : ℕ) (held : Held)
+    → IsAnswerTo EraseEnd (hold_last index c address held).1
 last_answer index c address NoAddress = refl
 last_answer index c address (First first) = refl
 last_answer index c address (Both first last) = refl
@@ -79,115 +92,106 @@ erase_answer c argument (Both first last) =
     (forgotten (shown c), Checked 38 (status false (raised erase_param c)))
     (erases (erasing c (is_trim c argument) first last) c, Checked 38 (status false c)) refl refl
 
-switch_answer : (c : Card) (after : Option Card) → IsAnswerTo SwitchByte (switch_row c after).1
+switch_answer : (c : Card) (after : Option Card) → IsAnswerTo Switch (switch_row c after).1
 switch_answer c (Some after) = refl
 switch_answer c None = refl
 
-row_answer : (choice : Choice) (command : Command) (c : Card) (index argument : ℕ) → HasRegisters c.made → IsAnswerTo command (row choice command c index argument).1
+row_answer : (choice : Choice) (command : Command) (c : Card) (index argument : ℕ) → HasRegisters c.made
+    → IsAnswerTo command (row choice command c index argument).1
 row_answer choice GoIdleState c index argument r = tt
 row_answer choice SendOpCond c index argument r = inquired_answer SendOpCond (not choice.is_slow) c refl
-row_answer choice ASendOpCond c index argument r = inquired_answer ASendOpCond (is_served c argument && not choice.is_slow) c refl
+row_answer choice SdSendOpCond c index argument r = inquired_answer SdSendOpCond
+    (is_served c argument && not choice.is_slow) c refl
 row_answer choice AllSendCid c index argument r = record { size = r.cid; check = r.cid_check; end_bit = r.cid_end }
 row_answer choice SendCsd c index argument r = record { size = r.csd; check = r.csd_check; end_bit = r.csd_end }
-row_answer choice SendIfCond c index argument r = by_cond (IsAnswerTo SendIfCond) (field 11 8 argument == 1) {x = Checked 8 (field 11 0 argument)} {y = Mute} (λ _. refl) (λ _. tt)
+row_answer choice SendIfCond c index argument r = by_cond (IsAnswerTo SendIfCond)
+    (field 11 8 argument == 1) {x = Checked 8 (field 11 0 argument)} {y = Silent} (λ _. refl) (λ _. tt)
 row_answer choice SetBlocklen c index argument r =
     answer_cond SetBlocklen (argument == 512) (record (shown c) { block_length = 512 }, Checked 16 (status false c))
     (shown c, Checked 16 (status false (raised block_len_error c))) refl refl
-row_answer choice ReadSingleBlock c index argument r = transferred_answer ReadSingleBlock 17 (transfer_errors false c argument) c _ refl
-row_answer choice ReadMultipleBlock c index argument r = transferred_answer ReadMultipleBlock 18 (transfer_errors false c argument) c _ refl
-row_answer choice WriteBlock c index argument r = transferred_answer WriteBlock 24 (transfer_errors true c argument) c _ refl
-row_answer choice WriteMultipleBlock c index argument r = transferred_answer WriteMultipleBlock 25 (transfer_errors true c argument) c _ refl
+row_answer choice ReadSingleBlock c index argument r = transferred_answer ReadSingleBlock 17
+    (transfer_errors false c argument) c _ refl
+row_answer choice ReadMultipleBlock c index argument r = transferred_answer ReadMultipleBlock 18
+    (transfer_errors false c argument) c _ refl
+row_answer choice WriteBlock c index argument r = transferred_answer WriteBlock 24
+    (transfer_errors true c argument) c _ refl
+row_answer choice WriteMultipleBlock c index argument r = transferred_answer WriteMultipleBlock 25
+    (transfer_errors true c argument) c _ refl
 row_answer choice EraseStart c index argument r = first_answer index c argument c.erase
 row_answer choice EraseEnd c index argument r = last_answer index c argument c.erase
 row_answer choice Erase c index argument r = erase_answer c argument c.erase
-row_answer choice SwitchByte c index argument r = switch_answer c (switched c argument)
+row_answer choice Switch c index argument r = switch_answer c (switched c argument)
 row_answer choice Unknown c index argument r = tt
 row_answer choice _ c index argument r = refl
 
 pub responded_answer : (choice : Choice) (command : Command) (c : Card) (index argument : ℕ) → IsCard c
     → IsAnswerTo command (responded choice command c index argument).1
 responded_answer choice command c index argument k =
-    answer_cond command (is_foreign command c argument) (c, Mute)
-    (cond (is_legal command c) (row choice command (reached command c) index argument) (refused (reached command c), Mute)) tt
-    (answer_cond command (is_legal command c) (row choice command (reached command c) index argument) (refused (reached command c), Mute)
+    answer_cond command (is_foreign command c argument) (c, Silent)
+    (cond (is_legal command c) (row choice command (reached command c) index argument)
+    (refused (reached command c), Silent)) tt
+    (answer_cond command (is_legal command c) (row choice command (reached command c) index argument)
+    (refused (reached command c), Silent)
     (row_answer choice command (reached command c) index argument (card_reached command c k).registers) tt)
 
 -- no other index than those of the inquiries means one
-named_so : (kind : Kind) (app : Bool) (index : ℕ) → index < 64 → (is_inquiry_index index || not (asks_for_ocr (command_of kind app index))) ≡ true
-named_so Sd true index h = agree_below_at (λ i. is_inquiry_index i || not (asks_for_ocr (command_of Sd true i))) (λ i. true) 64 index refl h
-named_so Sd false index h = agree_below_at (λ i. is_inquiry_index i || not (asks_for_ocr (command_of Sd false i))) (λ i. true) 64 index refl h
-named_so Mmc true index h = agree_below_at (λ i. is_inquiry_index i || not (asks_for_ocr (command_of Mmc true i))) (λ i. true) 64 index refl h
-named_so Mmc false index h = agree_below_at (λ i. is_inquiry_index i || not (asks_for_ocr (command_of Mmc false i))) (λ i. true) 64 index refl h
+named_so : (kind : Kind) (app : Bool) (index : ℕ) → index < 64
+    → (is_inquiry_index index || not (asks_for_ocr (command_of kind app index))) ≡ true
+named_so Sd true index h = agree_below_at (λ i. is_inquiry_index i || not (asks_for_ocr (command_of Sd true i)))
+    (λ i. true) 64 index refl h
+named_so Sd false index h = agree_below_at (λ i. is_inquiry_index i || not (asks_for_ocr (command_of Sd false i)))
+    (λ i. true) 64 index refl h
+named_so Mmc true index h = agree_below_at (λ i. is_inquiry_index i || not (asks_for_ocr (command_of Mmc true i)))
+    (λ i. true) 64 index refl h
+named_so Mmc false index h = agree_below_at (λ i. is_inquiry_index i || not (asks_for_ocr (command_of Mmc false i)))
+    (λ i. true) 64 index refl h
 
-neither : (a b : Bool) → (a || not b) ≡ true → a ≡ false → b ≡ false
-neither a false h n = refl
-neither a true h n = cc
-
-pub asks_none : (kind : Kind) (app : Bool) (index : ℕ) → index < 64 → is_inquiry_index index ≡ false → asks_for_ocr (command_of kind app index) ≡ false
-asks_none kind app index h n = neither (is_inquiry_index index) (asks_for_ocr (command_of kind app index)) (named_so kind app index h) n
-
--- no other index than CMD38's means an erase
-abbrev is_erase : Command → Bool
-is_erase Erase = true
-is_erase _ = false
-
-erase_named : (kind : Kind) (app : Bool) (index : ℕ) → index < 64 → ((index == 38) || not (is_erase (command_of kind app index))) ≡ true
-erase_named Sd true index h = agree_below_at (λ i. (i == 38) || not (is_erase (command_of Sd true i))) (λ i. true) 64 index refl h
-erase_named Sd false index h = agree_below_at (λ i. (i == 38) || not (is_erase (command_of Sd false i))) (λ i. true) 64 index refl h
-erase_named Mmc true index h = agree_below_at (λ i. (i == 38) || not (is_erase (command_of Mmc true i))) (λ i. true) 64 index refl h
-erase_named Mmc false index h = agree_below_at (λ i. (i == 38) || not (is_erase (command_of Mmc false i))) (λ i. true) 64 index refl h
-
-erased_none : (command : Command) (card : Card) (argument : ℕ) → is_erase command ≡ false → erased_by_command command card argument ≡ None
-erased_none Erase card argument h = cc
-erased_none _ card argument h = refl
-
-false_by : (b : Bool) → (b ≡ true → ⊥) → b ≡ false
-false_by true h = absurd (h refl)
-false_by false h = refl
-
-pub erases_none : (card : Card) (kind : Kind) (app : Bool) (index argument : ℕ) → index < 64 → (index ≡ 38 → ⊥) → erased_by_command (command_of kind app index) card argument ≡ None
-erases_none card kind app index argument below other =
-    erased_none (command_of kind app index) card argument
-    (neither (index == 38) (is_erase (command_of kind app index)) (erase_named kind app index below) (false_by (index == 38) (λ e. other (eqb-true index 38 e))))
+pub asks_none : (kind : Kind) (app : Bool) (index : ℕ) → index < 64 → is_inquiry_index index ≡ false
+    → asks_for_ocr (command_of kind app index) ≡ false
+asks_none kind app index h n = neither (is_inquiry_index index) (asks_for_ocr (command_of kind app index))
+    (named_so kind app index h) n
 
 -- an inquiry is answered by an OCR or not at all
-abbrev pub IsOpen : Answer → Type 0
-IsOpen Mute = Unit {0}
-IsOpen (Checked index argument) = ⊥
-IsOpen (Open ocr) = Unit {0}
-IsOpen (Register bytes) = ⊥
+abbrev pub IsOcrOrNone : CardAnswer → Type 0
+IsOcrOrNone Silent = Unit {0}
+IsOcrOrNone (Checked index argument) = ⊥
+IsOcrOrNone (R3 ocr) = Unit {0}
+IsOcrOrNone (R2 bytes) = ⊥
 
-open_legal : (b : Bool) (c : Card) (x : Card × Answer) → IsOpen x.1 → IsOpen (cond {A = Card × Answer} b x (c, Mute)).1
-open_legal true c x h = h
-open_legal false c x h = tt
+ocr_where_legal : (b : Bool) (c : Card) (x : Card × CardAnswer) → IsOcrOrNone x.1
+    → IsOcrOrNone (cond {A = Card × CardAnswer} b x (c, Silent)).1
+ocr_where_legal true c x h = h
+ocr_where_legal false c x h = tt
 
-open_inquired : (is_ready : Bool) (c : Card) → IsOpen (inquired is_ready c).1
-open_inquired true c = tt
-open_inquired false c = tt
+ocr_inquired : (is_ready : Bool) (c : Card) → IsOcrOrNone (inquired is_ready c).1
+ocr_inquired true c = tt
+ocr_inquired false c = tt
 
 pub inquiry_answer : (kind own : Kind) (app : Bool) (choice : Choice) (c : Card) (argument : ℕ)
-    → IsOpen (responded choice (command_of own app (index_of_inquiry kind)) c (index_of_inquiry kind) argument).1
+    → IsOcrOrNone (responded choice (command_of own app (index_of_inquiry kind)) c (index_of_inquiry kind) argument).1
 inquiry_answer Sd Sd true choice c argument =
-    open_legal (is_legal ASendOpCond c) _ (row choice ASendOpCond (reached ASendOpCond c) 41 argument)
-    (open_inquired (is_served (reached ASendOpCond c) argument && not choice.is_slow) (reached ASendOpCond c))
+    ocr_where_legal (is_legal SdSendOpCond c) _ (row choice SdSendOpCond (reached SdSendOpCond c) 41 argument)
+    (ocr_inquired (is_served (reached SdSendOpCond c) argument && not choice.is_slow) (reached SdSendOpCond c))
 inquiry_answer Sd Sd false choice c argument = tt
 inquiry_answer Sd Mmc app choice c argument = tt
 inquiry_answer Mmc Sd app choice c argument = tt
 inquiry_answer Mmc Mmc app choice c argument =
-    open_legal (is_legal SendOpCond c) _ (row choice SendOpCond (reached SendOpCond c) 1 argument)
-    (open_inquired (not choice.is_slow) (reached SendOpCond c))
+    ocr_where_legal (is_legal SendOpCond c) _ (row choice SendOpCond (reached SendOpCond c) 1 argument)
+    (ocr_inquired (not choice.is_slow) (reached SendOpCond c))
 
 -- Readers.
 
-pub record Reads {X : Type 0} (Fits : Answer → Type 0) (hears : Reply → Result X Unheard) (answers : Answer → Result X Unheard) : Type 0 where
-  pub whole : (answer : Answer) (reply : Reply) → Fits answer → Spells answer reply → hears reply ≡ answers answer
-  pub silent : (x : X) → hears Silent ≡ Ok x → ⊥
-  pub mute : (x : X) → answers Mute ≡ Ok x → ⊥
-  pub flipped : (answer : Answer) (reply : Reply) → Fits answer → IsFlipped answer reply → (x : X) → hears reply ≡ Ok x → ⊥
+pub record Reads {X : Type 0} (Fits : CardAnswer → Type 0) (hears : Reply → Result X Unheard)
+    (answers : CardAnswer → Result X Unheard) : Type 0 where
+  pub whole : (answer : CardAnswer) (reply : Reply) → Fits answer → Spells answer reply → hears reply ≡ answers answer
+  pub silent : (x : X) → hears Came.Silent ≡ Ok x → ⊥
+  pub mute : (x : X) → answers Silent ≡ Ok x → ⊥
+  pub flipped : (answer : CardAnswer) (reply : Reply) → Fits answer → IsFlipped answer reply → (x : X)
+      → hears reply ≡ Ok x → ⊥
 
-taken_ok : {X : Type 0} (r : Result X FrameFault) (x : X) → or_unsound r ≡ Ok x → is_ok r ≡ false → ⊥
-taken_ok (Ok y) x h n = cc
-taken_ok (Err e) x h n = cc
+received_ok : {X : Type 0} (r : Result X FrameFault) (x : X) → or_unsound r ≡ Ok x → is_ok r ≡ false → ⊥
+received_ok (Ok y) x h n = cc
+received_ok (Err e) x h n = cc
 
 fits_ok : {X : Type 0} (r : Result X FrameFault) (x : X) → r ≡ Ok x → is_ok r ≡ true
 fits_ok r x h = ap is_ok h
@@ -205,31 +209,38 @@ other_by true i j k x y e h =
 other_by false i j k x y e h = absurd cc
 
 -- a sound response to one index, read as one to another
-other_index : (a b : Bool) (i j k x y : ℕ) → cond a (cond b (cond (i == j) (Ok x) (Err Index)) (Err Check)) (Err FixedBits) ≡ Ok y
-    → or_unsound (cond a (cond b (cond (i == k) (Ok x) (Err Index)) (Err Check)) (Err FixedBits)) ≡ cond (j == k) (Ok y) (Err Unsound)
+other_index : (a b : Bool) (i j k x y : ℕ) → cond a (cond b (cond (i == j) (Ok x) (Err Index)) (Err Check))
+    (Err FixedBits) ≡ Ok y
+    → or_unsound (cond a (cond b (cond (i == k) (Ok x) (Err Index)) (Err Check)) (Err FixedBits)) ≡ cond (j == k) (Ok y)
+    (Err Unsound)
 other_index true true i j k x y h = other_by (i == j) i j k x y refl h
 other_index true false i j k x y h = absurd cc
 other_index false b i j k x y h = absurd cc
 
-response_whole : (index : ℕ) (command : Command) → asks_for_ocr command ≡ false → (answer : Answer) (reply : Reply) → IsAnswerTo command answer
+response_whole : (index : ℕ) (command : Command) → asks_for_ocr command ≡ false → (answer : CardAnswer) (reply : Reply)
+    → IsAnswerTo command answer
     → Spells answer reply → response_heard index reply ≡ response_of index answer
-response_whole index command asks Mute reply fits spells = ap (response_heard index) spells
+response_whole index command asks Silent reply fits spells = ap (response_heard index) spells
 response_whole index command asks (Checked other argument) reply fits spells =
     ap (response_heard index) spells.1
-    ∙ other_index (has_fixed_bits 0 spells.0) (is_sound spells.0) (index_in spells.0) other index (argument_in spells.0) argument spells.2
-response_whole index command asks (Open ocr) reply fits spells = cc
-response_whole index command asks (Register bytes) reply fits spells = ap (response_heard index) spells
+    ∙ other_index (has_fixed_bits 0 spells.0) (is_sound spells.0) (index_in spells.0) other index
+    (argument_in spells.0) argument spells.2
+response_whole index command asks (R3 ocr) reply fits spells = cc
+response_whole index command asks (R2 bytes) reply fits spells = ap (response_heard index) spells
 
-response_flipped : ((index other : ℕ) → RefusesFlips 6 (is_response_to index) (is_response_to other)) → (index : ℕ) (command : Command) → asks_for_ocr command ≡ false
-    → (answer : Answer) (reply : Reply) → IsAnswerTo command answer → IsFlipped answer reply → (x : ℕ) → response_heard index reply ≡ Ok x → ⊥
-response_flipped law index command asks Mute reply fits f x h = f
+response_flipped : ((index other : ℕ) → RefusesFlips 6 (is_response_to index) (is_response_to other))
+    → (index : ℕ) (command : Command) → asks_for_ocr command ≡ false
+    → (answer : CardAnswer) (reply : Reply) → IsAnswerTo command answer → IsFlipped answer reply → (x : ℕ)
+    → response_heard index reply ≡ Ok x → ⊥
+response_flipped law index command asks Silent reply fits f x h = f
 response_flipped law index command asks (Checked other argument) reply fits f x h =
-    taken_ok (response_in f.1 index) x (ap (response_heard index) (sym f.4) ∙ h)
+    received_ok (response_in f.1 index) x (ap (response_heard index) (sym f.4) ∙ h)
     (law other index f.0 f.1 f.3.0 f.3.1 f.3.3 (fits_ok (response_in f.0 other) argument f.2))
-response_flipped law index command asks (Open ocr) reply fits f x h = cc
-response_flipped law index command asks (Register bytes) reply fits f x h = cc (ap (response_heard index) (sym f.2) ∙ h)
+response_flipped law index command asks (R3 ocr) reply fits f x h = cc
+response_flipped law index command asks (R2 bytes) reply fits f x h = cc (ap (response_heard index) (sym f.2) ∙ h)
 
-pub response_reads : ((index other : ℕ) → RefusesFlips 6 (is_response_to index) (is_response_to other)) → (index : ℕ) (command : Command) → asks_for_ocr command ≡ false
+pub response_reads : ((index other : ℕ) → RefusesFlips 6 (is_response_to index) (is_response_to other))
+    → (index : ℕ) (command : Command) → asks_for_ocr command ≡ false
     → Reads (IsAnswerTo command) (response_heard index) (response_of index)
 response_reads law index command asks = record {
   whole = response_whole index command asks;
@@ -238,20 +249,22 @@ response_reads law index command asks = record {
   flipped = response_flipped law index command asks;
 }
 
-ocr_whole : (answer : Answer) (reply : Reply) → IsOpen answer → Spells answer reply → ocr_heard reply ≡ ocr_of answer
-ocr_whole Mute reply fits spells = ap ocr_heard spells
+ocr_whole : (answer : CardAnswer) (reply : Reply) → IsOcrOrNone answer → Spells answer reply
+    → ocr_heard reply ≡ ocr_of answer
+ocr_whole Silent reply fits spells = ap ocr_heard spells
 ocr_whole (Checked index argument) reply fits spells = absurd fits
-ocr_whole (Open ocr) reply fits spells = ap ocr_heard spells
-ocr_whole (Register bytes) reply fits spells = absurd fits
+ocr_whole (R3 ocr) reply fits spells = ap ocr_heard spells
+ocr_whole (R2 bytes) reply fits spells = absurd fits
 
-ocr_flipped : RefusesFlipsBesideOcr → (answer : Answer) (reply : Reply) → IsOpen answer → IsFlipped answer reply → (x : ℕ) → ocr_heard reply ≡ Ok x → ⊥
-ocr_flipped law Mute reply fits f x h = f
+ocr_flipped : RefusesFlipsBesideOcr → (answer : CardAnswer) (reply : Reply) → IsOcrOrNone answer
+    → IsFlipped answer reply → (x : ℕ) → ocr_heard reply ≡ Ok x → ⊥
+ocr_flipped law Silent reply fits f x h = f
 ocr_flipped law (Checked index argument) reply fits f x h = fits
-ocr_flipped law (Open ocr) reply fits f x h =
-    taken_ok (ocr_in f.0) x (ap ocr_heard (sym f.3) ∙ h) (law ocr f.0 f.1.1 f.1.2 f.1.3 f.2)
-ocr_flipped law (Register bytes) reply fits f x h = fits
+ocr_flipped law (R3 ocr) reply fits f x h =
+    received_ok (ocr_in f.0) x (ap ocr_heard (sym f.3) ∙ h) (law ocr f.0 f.1.1 f.1.2 f.1.3 f.2)
+ocr_flipped law (R2 bytes) reply fits f x h = fits
 
-pub ocr_reads : RefusesFlipsBesideOcr → Reads IsOpen ocr_heard ocr_of
+pub ocr_reads : RefusesFlipsBesideOcr → Reads IsOcrOrNone ocr_heard ocr_of
 ocr_reads law = record {
   whole = ocr_whole;
   silent = λ x h. cc;
@@ -259,22 +272,25 @@ ocr_reads law = record {
   flipped = ocr_flipped law;
 }
 
-register_whole : (command : Command) (answer : Answer) (reply : Reply) → IsAnswerTo command answer → Spells answer reply → register_heard reply ≡ register_of answer
-register_whole command Mute reply fits spells = ap register_heard spells
+register_whole : (command : Command) (answer : CardAnswer) (reply : Reply) → IsAnswerTo command answer
+    → Spells answer reply → register_heard reply ≡ register_of answer
+register_whole command Silent reply fits spells = ap register_heard spells
 register_whole command (Checked index argument) reply fits spells = ap register_heard spells.1
-register_whole command (Open ocr) reply fits spells = ap register_heard spells
-register_whole command (Register bytes) reply fits spells = ap register_heard spells
+register_whole command (R3 ocr) reply fits spells = ap register_heard spells
+register_whole command (R2 bytes) reply fits spells = ap register_heard spells
 
-register_flipped : RefusesFlips 17 is_r2 is_r2 → RegistersComeBack → (command : Command) (answer : Answer) (reply : Reply) → IsAnswerTo command answer → IsFlipped answer reply
+register_flipped : RefusesFlips 17 is_r2 is_r2 → RegistersComeBack → (command : Command) (answer : CardAnswer)
+    (reply : Reply) → IsAnswerTo command answer → IsFlipped answer reply
     → (x : List ℕ) → register_heard reply ≡ Ok x → ⊥
-register_flipped law back command Mute reply fits f x h = f
+register_flipped law back command Silent reply fits f x h = f
 register_flipped law back command (Checked index argument) reply fits f x h = cc (ap register_heard (sym f.4) ∙ h)
-register_flipped law back command (Open ocr) reply fits f x h = cc (ap register_heard (sym f.3) ∙ h)
-register_flipped law back command (Register bytes) reply fits f x h =
-    taken_ok (register_in f.0) x (ap register_heard (sym f.2) ∙ h)
+register_flipped law back command (R3 ocr) reply fits f x h = cc (ap register_heard (sym f.3) ∙ h)
+register_flipped law back command (R2 bytes) reply fits f x h =
+    received_ok (register_in f.0) x (ap register_heard (sym f.2) ∙ h)
     (law (register_frame bytes) f.0 f.1.0 f.1.1 f.1.3 (ap is_ok (back bytes fits.size fits.check fits.end_bit)))
 
-pub register_reads : RefusesFlips 17 is_r2 is_r2 → RegistersComeBack → (command : Command) → Reads (IsAnswerTo command) register_heard register_of
+pub register_reads : RefusesFlips 17 is_r2 is_r2 → RegistersComeBack → (command : Command)
+    → Reads (IsAnswerTo command) register_heard register_of
 register_reads law back command = record {
   whole = register_whole command;
   silent = λ x h. cc;

@@ -2,14 +2,14 @@
 use Rattle.std.specs.Prelude.{ℕ, Bool, true, false, List, [], ◌∷◌, ◌++◌, codes}
 use Rattle.std.specs.Fmt.{decimal}
 use Rattle.text_out.specs.Hex.{hex_text}
-use Rattle.mmc_bus.specs.declared.bus.Reply.{Reply}
-use Rattle.mmc_bus.specs.declared.bus.Reply.TheVariants.{Silent, Short, Long}
-use Rattle.mmc_bus.specs.declared.bus.DataIn.{DataIn}
-use Rattle.mmc_bus.specs.declared.bus.DataIn.TheVariants as Received
-use Rattle.mmc_bus.specs.declared.bus.DataOut.{DataOut}
-use Rattle.mmc_bus.specs.declared.bus.DataOut.TheVariants as Sent
-use Rattle.mmc_bus.specs.declared.bus.Exchange.{Exchange}
-use Rattle.mmc_bus.specs.declared.bus.Exchange.TheVariants.{Command, In, Out, Busy}
+use Rattle.mmc_card.specs.declared.exchange.Reply.{Reply}
+use Rattle.mmc_card.specs.declared.exchange.Reply.TheVariants.{Silent, Short, Long}
+use Rattle.mmc_card.specs.declared.exchange.DataIn.{DataIn}
+use Rattle.mmc_card.specs.declared.exchange.DataIn.TheVariants as Received
+use Rattle.mmc_card.specs.declared.exchange.DataOut.{DataOut}
+use Rattle.mmc_card.specs.declared.exchange.DataOut.TheVariants as Sent
+use Rattle.mmc_card.specs.declared.exchange.Exchange.{Exchange}
+use Rattle.mmc_card.specs.declared.exchange.Exchange.TheVariants.{Command, In, Out, Busy}
 
 abbrev pub reply_text : Reply → List ℕ
 reply_text Silent = codes "none"
@@ -32,7 +32,8 @@ poll_text false = codes "no"
 
 -- a line, with its line feed
 unfoldable pub exchange_text : Exchange → List ℕ
-exchange_text (Command frame reply) = codes "cmd " ++ (hex_text frame ++ (codes " rsp " ++ (reply_text reply ++ (10 ∷ []))))
+exchange_text (Command frame reply) =
+    codes "cmd " ++ (hex_text frame ++ (codes " rsp " ++ (reply_text reply ++ (10 ∷ []))))
 exchange_text (In len got) = codes "in " ++ (decimal len ++ (codes " " ++ (received_text got ++ (10 ∷ []))))
 exchange_text (Out got) = codes "out " ++ (sent_text got ++ (10 ∷ []))
 exchange_text (Busy said) = codes "busy " ++ (poll_text said ++ (10 ∷ []))

@@ -4,42 +4,30 @@ use Rattle.std.specs.Prelude.{◌&&◌, ◌<◌, ◌≡◌, ◌≤◌, Bool, Lis
 use Rattle.mmc_frame.specs.Frame.{command_in}
 use Rattle.mmc_frame.specs.declared.card_state.State.TheVariants.{Prg}
 use Rattle.mmc_bus.specs.declared.host.Unheard.{Unheard}
-use Rattle.mmc_bus.specs.declared.part.Part.{Part}
-use Rattle.mmc_bus.specs.declared.bus.DataIn.{DataIn}
-use Rattle.mmc_bus.specs.declared.bus.DataOut.{DataOut}
-use Rattle.mmc_bus.specs.declared.bus.Reply.{Reply}
-use Rattle.mmc_bus.specs.Answer.{Answer, Choice, Mute, refused}
-use Rattle.mmc_bus.specs.Blocks.{accepted, can_send, can_take, next_block, rested, sent, waited}
-use Rattle.mmc_bus.specs.Card.{Card, IsCard, holds, is_in, is_selected}
+use Rattle.mmc_card.specs.declared.part.Part.{Part}
+use Rattle.mmc_card.specs.declared.exchange.DataIn.{DataIn}
+use Rattle.mmc_card.specs.declared.exchange.DataOut.{DataOut}
+use Rattle.mmc_card.specs.declared.exchange.Reply.{Reply}
+use Rattle.mmc_card.specs.CardAnswer.{CardAnswer, Choice, Silent, refused}
+use Rattle.mmc_card.specs.Blocks.{accepted, can_send, can_accept, next_block, rested, sent, waited}
+use Rattle.mmc_card.specs.Card.{Card, holds, is_in, is_selected}
 use Rattle.mmc_bus.specs.Exchanges.{Exchanged}
-use Rattle.mmc_bus.specs.Faults.{IsPatient, NoFault}
+use Rattle.mmc_card.specs.Faults.{IsPatient, NoFault}
 use Rattle.mmc_bus.specs.Heard.{cause_of, cause_of_command}
-use Rattle.mmc_bus.specs.Laws.{Carried, StandsIn, StillStands, SwitchesTo, WithinOrTaken, erased_by, is_frame_of_run, maybe_erased}
-use Rattle.mmc_bus.specs.declared.command.Command.{Command}
-use Rattle.mmc_bus.specs.Rows.{command_of, is_foreign, is_legal, reached, row}
-use Rattle.mmc_bus.specs.Sectors.{Sector, Within}
-use Rattle.mmc_bus.specs.Side.{Side}
-use Rattle.mmc_bus.specs.declared.bus.DataIn.TheVariants as Received
-use Rattle.mmc_bus.specs.declared.bus.DataOut.TheVariants as Sent
-use Rattle.mmc_bus.specs.declared.bus.Exchange.TheVariants as Did
+use Rattle.mmc_card.specs.Laws.{Carried, StandsIn, StillStands, SwitchesTo, WithinOrAccepted, erased_by}
+use Rattle.mmc_card.specs.Laws.{is_frame_of_run, maybe_erased}
+use Rattle.mmc_card.specs.declared.command.Command.{Command}
+use Rattle.mmc_card.specs.Rows.{command_of, is_foreign, is_legal, reached, row}
+use Rattle.mmc_card.specs.Sectors.{Sector, Within}
+use Rattle.mmc_card.specs.BusView.{BusView}
+use Rattle.mmc_card.specs.declared.exchange.DataIn.TheVariants as Received
+use Rattle.mmc_card.specs.declared.exchange.DataOut.TheVariants as Sent
+use Rattle.mmc_card.specs.declared.exchange.Exchange.TheVariants as Did
 
 -- What the card is made with stays, and the sizes of its partitions; the count of faults doesn't fall.
-pub record Stays (old new : Side) : Type 0 where
+pub record Stays (old new : BusView) : Type 0 where
   pub carried : Carried old.card new.card
   pub later : old.faults ≤ new.faults
-
--- A part of a host's work over a bus that is kept: what it leaves, and that `Fine` holds where no fault fell in it.
-pub record Ran (old new : Side) (Fine : Type 0) : Type 0 where
-  pub was_kept : old.is_kept ≡ true
-  pub was_card : IsCard old.card
-  pub is_card : IsCard new.card
-  pub stays : Stays old new
-  pub fine : NoFault old new → Fine
-
--- The same of a host function that offers no block and erases nothing: no sector may hold more.
-pub record RanWithin (old new : Side) (Fine : Type 0) : Type 0 where
-  pub ran : Ran old new Fine
-  pub narrows : Within (holds new.card) (holds old.card)
 
 -- Commands.
 
@@ -48,12 +36,13 @@ abbrev pub meant : Card → ℕ → Command
 meant card index = command_of card.made.kind card.app index
 
 -- what the card does with the command where it is legal
-abbrev pub carried_out : Choice → Card → ℕ → ℕ → Card × Answer
+abbrev pub carried_out : Choice → Card → ℕ → ℕ → Card × CardAnswer
 carried_out choice card index argument =
     row choice (meant card index) (reached (meant card index) card) index argument
 
 -- The card has carried the command out, and this is its answer.
-pub record Obeyed {X : Type 0} (answers : Answer → X) (old : Card) (index argument : ℕ) (heard : X) (new : Card) : Type 0 where
+pub record Obeyed {X : Type 0} (answers : CardAnswer → X) (old : Card) (index argument : ℕ) (heard : X)
+    (new : Card) : Type 0 where
   pub choice : Choice
   pub own : is_foreign (meant old index) old argument ≡ false
   pub legal : is_legal (meant old index) old ≡ true
@@ -61,17 +50,19 @@ pub record Obeyed {X : Type 0} (answers : Answer → X) (old : Card) (index argu
   pub answer : heard ≡ answers (carried_out choice old index argument).1
 
 -- The card did as the table says, no slower than it may, and all of its answer came.
-pub record Faithful {X : Type 0} (answers : Answer → X) (old : Card) (index argument : ℕ) (heard : X) (new : Card) : Type 0 where
+pub record Faithful {X : Type 0} (answers : CardAnswer → X) (old : Card) (index argument : ℕ) (heard : X)
+    (new : Card) : Type 0 where
   pub choice : Choice
-  pub patient : IsPatient choice old.asked
+  pub patient : IsPatient choice old.inquiries
   pub obeys : is_foreign (meant old index) old argument ≡ false → is_legal (meant old index) old ≡ true
       → (new ≡ (carried_out choice old index argument).0) × (heard ≡ answers (carried_out choice old index argument).1)
   pub refuses : is_foreign (meant old index) old argument ≡ false → is_legal (meant old index) old ≡ false
-      → (new ≡ refused (reached (meant old index) old)) × (heard ≡ answers Mute)
+      → (new ≡ refused (reached (meant old index) old)) × (heard ≡ answers Silent)
   -- it names another card
-  pub passes : is_foreign (meant old index) old argument ≡ true → (new ≡ old) × (heard ≡ answers Mute)
+  pub passes : is_foreign (meant old index) old argument ≡ true → (new ≡ old) × (heard ≡ answers Silent)
 
-pub record CommandFacts {X : Type 0} (answers : Answer → Result X Unheard) (old : Side) (index argument : ℕ) (heard : Result X Unheard) (new : Side) : Type 0 where
+pub record CommandFacts {X : Type 0} (answers : CardAnswer → Result X Unheard) (old : BusView) (index argument : ℕ)
+    (heard : Result X Unheard) (new : BusView) : Type 0 where
   pub stays : Stays old new
   -- no sector may hold more, but what CMD38 erases
   pub narrows : Within (holds new.card) (maybe_erased (erased_by old.card (Some (index, argument))) (holds old.card))
@@ -84,7 +75,8 @@ pub record CommandFacts {X : Type 0} (answers : Answer → Result X Unheard) (ol
   pub fine : NoFault old new → Faithful answers old.card index argument heard new.card
 
 -- One exchange: a command with this index and argument, and what was heard.
-pub record Asked {X : Type 0} (hears : Reply → Result X Unheard) (answers : Answer → Result X Unheard) (old : Side) (index argument : ℕ) (heard : Result X Unheard) (new : Side) : Type 0 where
+pub record Asked {X : Type 0} (hears : Reply → Result X Unheard) (answers : CardAnswer → Result X Unheard)
+    (old : BusView) (index argument : ℕ) (heard : Result X Unheard) (new : BusView) : Type 0 where
   pub frame : List ℕ
   pub reply : Reply
   pub command : command_in frame ≡ Some (index, argument)
@@ -99,7 +91,7 @@ pub record Asked {X : Type 0} (hears : Reply → Result X Unheard) (answers : An
 abbrev pub may_fail : Card → Bool
 may_fail card = is_in card.state Prg && not card.is_switching
 
-pub record PollFacts (old : Side) (said : Bool) (new : Side) : Type 0 where
+pub record PollFacts (old : BusView) (said : Bool) (new : BusView) : Type 0 where
   pub stays : Stays old new
   pub narrows : Within (holds new.card) (holds old.card)
   pub stands : StillStands old.card new.card
@@ -113,17 +105,17 @@ pub record PollFacts (old : Side) (said : Bool) (new : Side) : Type 0 where
 
 -- Blocks.
 
-pub record GiveFacts (old : Side) (block : Sector) (got : DataOut) (new : Side) : Type 0 where
+pub record WriteFacts (old : BusView) (block : Sector) (got : DataOut) (new : BusView) : Type 0 where
   pub stays : Stays old new
   -- the next sector of the write may hold the block too
-  pub widens : WithinOrTaken old.card block new.card
+  pub widens : WithinOrAccepted old.card block new.card
   pub stands : StillStands old.card new.card
   -- an accepted block was taken, fault or not
-  pub taken : got ≡ Sent.Accepted → (can_take old.lines old.card ≡ true) × (new.card ≡ accepted block old.card)
-  pub fine : NoFault old new → can_take old.lines old.card ≡ true → got ≡ Sent.Accepted
-  pub refuses : NoFault old new → can_take old.lines old.card ≡ false → (got ≡ Sent.Nothing) × (new.card ≡ old.card)
+  pub accepts : got ≡ Sent.Accepted → (can_accept old.lines old.card ≡ true) × (new.card ≡ accepted block old.card)
+  pub fine : NoFault old new → can_accept old.lines old.card ≡ true → got ≡ Sent.Accepted
+  pub refuses : NoFault old new → can_accept old.lines old.card ≡ false → (got ≡ Sent.Nothing) × (new.card ≡ old.card)
 
-pub record TakeFacts (old : Side) (size : ℕ) (got : DataIn) (block : List ℕ) (new : Side) : Type 0 where
+pub record ReadFacts (old : BusView) (size : ℕ) (got : DataIn) (block : List ℕ) (new : BusView) : Type 0 where
   pub stays : Stays old new
   pub narrows : Within (holds new.card) (holds old.card)
   pub stands : StillStands old.card new.card
@@ -132,4 +124,5 @@ pub record TakeFacts (old : Side) (size : ℕ) (got : DataIn) (block : List ℕ)
       → (can_send old.lines size old.card ≡ true) × (next_block old.card ≡ Some block)
       × ((choice : Choice) × (new.card ≡ sent choice old.card))
   pub fine : NoFault old new → can_send old.lines size old.card ≡ true → got ≡ Received.Good
-  pub refuses : NoFault old new → can_send old.lines size old.card ≡ false → (got ≡ Received.Nothing) × (new.card ≡ old.card)
+  pub refuses : NoFault old new → can_send old.lines size old.card ≡ false → (got ≡ Received.Nothing)
+      × (new.card ≡ old.card)

@@ -1,12 +1,12 @@
 -- Which answer of a list an exchange gets, and the answers that are left. An exchange takes the next answer if it is of its
 -- kind; otherwise nothing comes, and nothing is taken.
 use Rattle.std.specs.Prelude.{◌≡◌, ◌<◌, ℕ, Bool, false, List, [], ◌∷◌, length, slice_index, slice_index_or}
-use Rattle.mmc_bus.specs.declared.bus.DataIn.{DataIn}
-use Rattle.mmc_bus.specs.declared.bus.DataIn.TheVariants as Received
-use Rattle.mmc_bus.specs.declared.bus.DataOut.{DataOut}
-use Rattle.mmc_bus.specs.declared.bus.DataOut.TheVariants as Sent
-use Rattle.mmc_bus.specs.declared.bus.Reply.{Reply}
-use Rattle.mmc_bus.specs.declared.bus.Reply.TheVariants.{Silent}
+use Rattle.mmc_card.specs.declared.exchange.DataIn.{DataIn}
+use Rattle.mmc_card.specs.declared.exchange.DataIn.TheVariants as Received
+use Rattle.mmc_card.specs.declared.exchange.DataOut.{DataOut}
+use Rattle.mmc_card.specs.declared.exchange.DataOut.TheVariants as Sent
+use Rattle.mmc_card.specs.declared.exchange.Reply.{Reply}
+use Rattle.mmc_card.specs.declared.exchange.Reply.TheVariants.{Silent}
 use Rattle.mmc_bus.specs.declared.scripted.BusAnswer.{BusAnswer}
 use Rattle.mmc_bus.specs.declared.scripted.BusAnswer.TheVariants.{Command, In, Out, Busy}
 

@@ -1,8 +1,8 @@
 -- A bus that keeps its last exchanges.
 use Rattle.std.specs.Prelude.{◌≡◌, ◌-◌, ℕ, drop, List, [], ◌∷◌, ◌++◌, length}
 use Rattle.circular_buffer.specs.Buffer.{keep_last}
-use Rattle.mmc_bus.specs.declared.bus.Exchange.{Exchange}
-use Rattle.mmc_bus.specs.declared.bus.Exchange.TheVariants.{Busy, Command, In, Out}
+use Rattle.mmc_card.specs.declared.exchange.Exchange.{Exchange}
+use Rattle.mmc_card.specs.declared.exchange.Exchange.TheVariants.{Busy, Command, In, Out}
 
 -- a command has its six bytes
 abbrev pub HasItsFrame : Exchange → Type 0

@@ -1,13 +1,13 @@
 -- What a bus keeps of its exchanges at run time, and the side of a bus that keeps nothing else.
 use Rattle.std.specs.Prelude.{◌+◌, ◌-◌, ◌^◌, ◌≡◌, Bool, None, Some, [], false, min, ℕ}
 use Rattle.mmc_frame.specs.declared.kind.Kind.TheVariants.{Sd}
-use Rattle.mmc_bus.specs.declared.bus.Exchange.{Exchange}
-use Rattle.mmc_bus.specs.declared.bus.Timing.TheVariants.{Default}
-use Rattle.mmc_bus.specs.declared.bus.Width.TheVariants.{One}
+use Rattle.mmc_card.specs.declared.exchange.Exchange.{Exchange}
+use Rattle.mmc_card.specs.declared.exchange.Timing.TheVariants.{Default}
+use Rattle.mmc_card.specs.declared.exchange.Width.TheVariants.{One}
 use Rattle.mmc_bus.specs.declared.wire.Wire.{Wire}
-use Rattle.mmc_bus.specs.Card.{Card, powered_on}
-use Rattle.mmc_bus.specs.Made.{Made}
-use Rattle.mmc_bus.specs.Side.{Side}
+use Rattle.mmc_card.specs.Card.{Card, powered_on}
+use Rattle.mmc_card.specs.Made.{Made}
+use Rattle.mmc_card.specs.BusView.{BusView}
 
 -- an exchange is noted
 pub record Notes (old : Wire) (exchange : Exchange) (new : Wire) : Type 0 where
@@ -16,9 +16,17 @@ pub record Notes (old : Wire) (exchange : Exchange) (new : Wire) : Type 0 where
   pub exchanges : new.exchanges ≡ min (old.exchanges + 1) (2 ^ 64 - 1)
 
 -- the side with this card, on which so many faults have fallen
-abbrev pub side_with : Card → ℕ → Bool → Wire → Side
-side_with card faults is_kept wire =
-    record { card = card; lines = wire.lines; last = wire.last; exchanges = wire.exchanges; faults = faults; is_kept = is_kept }
+abbrev pub bus_view_with : Card → ℕ → Bool → Wire → BusView
+bus_view_with card faults is_kept wire =
+    record {
+      card = card;
+      lines = wire.lines;
+      last = wire.last;
+      exchanges = wire.exchanges;
+      faults = faults;
+      is_kept =
+          is_kept;
+    }
 
 abbrev pub nothing_made : Made
 nothing_made =
@@ -36,12 +44,12 @@ nothing_made =
     }
 
 -- no exchange so far, and no fault, on one line at default speed
-pub record IsUnused (side : Side) : Type 0 where
-  pub lines : side.lines ≡ record { width = One; timing = Default }
-  pub last : side.last ≡ None
-  pub exchanges : side.exchanges ≡ 0
-  pub faults : side.faults ≡ 0
+pub record IsUnused (view : BusView) : Type 0 where
+  pub lines : view.lines ≡ record { width = One; timing = Default }
+  pub last : view.last ≡ None
+  pub exchanges : view.exchanges ≡ 0
+  pub faults : view.faults ≡ 0
 
 -- The side of a bus that never is kept: its card says nothing.
-abbrev pub unkept : Wire → Side
-unkept wire = side_with (powered_on nothing_made []) 0 false wire
+abbrev pub unkept : Wire → BusView
+unkept wire = bus_view_with (powered_on nothing_made []) 0 false wire

@@ -4,7 +4,7 @@ ghost use Rattle.mmc_bus.specs.ExchangeText.{exchange_text, poll_text, received_
 ghost use Rattle.text_out.specs.Pieces.{piece_text};
 ghost use Rattle.text_out.specs.Writing.{Writes};
 
-use crate::bus::{DataIn, DataOut, Exchange, Reply};
+use mmc_card::{DataIn, DataOut, Exchange, Reply};
 use std::io::{self, Write};
 use text_out::{Piece, put_pieces};
 
@@ -44,57 +44,55 @@ fn poll_name(yes: bool) -> &'static [u8]
     if yes { b"yes" } else { b"no" }
 }
 
-impl Exchange {
-    /// Writes the exchange as a line: `cmd HEX rsp HEX` (or `rsp none`), `in LEN good|bad|nothing`,
-    /// `out accepted|rejected|nothing` or `busy yes|no`.
-    ///
-    /// # Errors
-    /// The fault of a write; a prefix of the line went out then.
-    #[tactic(auto, unfolding(crate::specs::ExchangeText::exchange_text))]
-    pub fn write_line<W: Write>(&self, out: &mut W) -> io::Result<()>
-        ensures { Writes (W.contents out.old) (W.contents out.new) result (exchange_text self.now) }
-    {
-        match self {
-            Exchange::Command { frame, reply } => {
-                let answer = reply_piece(reply);
-                put_pieces(
-                    out,
-                    &[
-                        Piece::Text(b"cmd "),
-                        Piece::Hex(frame),
-                        Piece::Text(b" rsp "),
-                        answer,
-                        Piece::Text(b"\n"),
-                    ],
-                )
-            }
-            Exchange::In { len, got } => {
-                let name = received_name(*got);
-                put_pieces(
-                    out,
-                    &[
-                        Piece::Text(b"in "),
-                        Piece::Number(*len as u64),
-                        Piece::Text(b" "),
-                        Piece::Text(name),
-                        Piece::Text(b"\n"),
-                    ],
-                )
-            }
-            Exchange::Out { got } => {
-                let name = sent_name(*got);
-                put_pieces(
-                    out,
-                    &[Piece::Text(b"out "), Piece::Text(name), Piece::Text(b"\n")],
-                )
-            }
-            Exchange::Busy { yes } => {
-                let name = poll_name(*yes);
-                put_pieces(
-                    out,
-                    &[Piece::Text(b"busy "), Piece::Text(name), Piece::Text(b"\n")],
-                )
-            }
+/// Writes an exchange as a line: `cmd HEX rsp HEX` (or `rsp none`), `in LEN good|bad|nothing`,
+/// `out accepted|rejected|nothing` or `busy yes|no`.
+///
+/// # Errors
+/// The fault of a write; a prefix of the line went out then.
+#[tactic(auto, unfolding(crate::specs::ExchangeText::exchange_text))]
+pub fn write_exchange<W: Write>(exchange: &Exchange, out: &mut W) -> io::Result<()>
+    ensures { Writes (W.contents out.old) (W.contents out.new) result (exchange_text exchange.now) }
+{
+    match exchange {
+        Exchange::Command { frame, reply } => {
+            let answer = reply_piece(reply);
+            put_pieces(
+                out,
+                &[
+                    Piece::Text(b"cmd "),
+                    Piece::Hex(frame),
+                    Piece::Text(b" rsp "),
+                    answer,
+                    Piece::Text(b"\n"),
+                ],
+            )
+        }
+        Exchange::In { len, got } => {
+            let name = received_name(*got);
+            put_pieces(
+                out,
+                &[
+                    Piece::Text(b"in "),
+                    Piece::Number(*len as u64),
+                    Piece::Text(b" "),
+                    Piece::Text(name),
+                    Piece::Text(b"\n"),
+                ],
+            )
+        }
+        Exchange::Out { got } => {
+            let name = sent_name(*got);
+            put_pieces(
+                out,
+                &[Piece::Text(b"out "), Piece::Text(name), Piece::Text(b"\n")],
+            )
+        }
+        Exchange::Busy { yes } => {
+            let name = poll_name(*yes);
+            put_pieces(
+                out,
+                &[Piece::Text(b"busy "), Piece::Text(name), Piece::Text(b"\n")],
+            )
         }
     }
 }

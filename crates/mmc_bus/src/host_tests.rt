@@ -164,14 +164,14 @@ fn moves_blocks(rt: HostRuntime) -> Result<(), Fail> {
         let bytes = Bytes::new(vec![in rt.alloc(); 1, 2, 3, 4]?);
         let mut bus = answering(rt.alloc(), BusAnswer::In(got, bytes), BusAnswer::Busy(true))?;
         let mut buffer = [9; 4];
-        assert_eq!(rt; take_block(&mut bus, &mut buffer), got);
+        assert_eq!(rt; read_block(&mut bus, &mut buffer), got);
         assert!(rt; got != DataIn::Good || buffer == [1, 2, 3, 4]);
         assert_eq!(rt; bus.len(), 1);
         assert_eq!(rt; bus.exchange(0), Some(Exchange::In { len: 4, got }));
     }
     for got in [DataOut::Accepted, DataOut::Rejected, DataOut::Nothing] {
         let mut bus = answering(rt.alloc(), BusAnswer::Out(got), BusAnswer::Busy(true))?;
-        assert_eq!(rt; give_block(&mut bus, &[0x5a; 512]), got);
+        assert_eq!(rt; write_block(&mut bus, &[0x5a; 512]), got);
         assert_eq!(rt; bus.len(), 1);
         assert_eq!(rt; bus.exchange(0), Some(Exchange::Out { got }));
     }
@@ -186,9 +186,9 @@ struct Wanting {
 }
 
 impl Bus for Wanting {
-    ghost use Rattle.mmc_bus.specs.ScriptedBus.{side_of_scripted};
+    ghost use Rattle.mmc_bus.specs.ScriptedBus.{scripted_bus_view};
 
-    ghost side = { λ b. side_of_scripted b.bus };
+    ghost view = { λ b. scripted_bus_view b.bus };
 
     fn command(&mut self, frame: [u8; 6], want: Want) -> Reply {
         self.want = want;

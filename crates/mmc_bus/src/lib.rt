@@ -1,41 +1,33 @@
-//! The bus between a host and one card: the trait that a host stack drives, and what it hands over.
+//! The bus between a host and one card: the trait that a host stack drives, the host's calls, and what they tell.
 #![tactic(auto)]
 
-mod block_rows;
 mod bus;
 mod bytes;
-pub mod card_laws;
 mod cause;
-mod chip;
-mod command;
 pub mod erase_laws;
-mod erase_rows;
-mod error_bits;
 mod exchange_text;
 mod host;
 pub mod identify_laws;
-mod identify_rows;
-pub mod laws;
 mod memory;
-mod part;
-mod plain;
 mod scripted;
-mod store;
+mod status;
 pub mod switch_laws;
 mod trace;
 pub mod transfer_laws;
-mod transfer_rows;
+mod wait;
 mod wire;
 
-pub use bus::{Bus, DataIn, DataOut, Exchange, Lines, Reply, Timing, Want, Width};
+pub use bus::Bus;
 pub use bytes::Bytes;
 pub use cause::Cause;
-pub use host::{Unheard, ask, ask_ocr, ask_register, give_block, poll, take_block, tell};
+pub use exchange_text::write_exchange;
+pub use host::{Unheard, ask, ask_ocr, ask_register, poll, read_block, tell, write_block};
 pub use memory::NoMemory;
-pub use part::Part;
-pub use plain::PlainCard;
+pub use mmc_card::{DataIn, DataOut, Exchange, Lines, Part, Reply, Timing, Want, Width, card_laws};
 pub use scripted::{BusAnswer, ScriptedBus};
-pub use trace::TraceBus;
+pub use status::{check_r1, confirm};
+pub use trace::{MAX_KEPT, TraceBus};
+pub use wait::{MAX_POLLS, wait_while_busy};
 pub use wire::Wire;
 
 #[cfg(test)]

@@ -1,11 +1,12 @@
 ghost use Rattle.std.specs.Prelude.{◌≡◌, [], length};
-ghost use Rattle.mmc_bus.specs.Exchanges.{Commanded, Given, Polled, Taken};
+ghost use Rattle.mmc_bus.specs.Exchanges.{Commanded, DataWritten, Polled, DataRead};
 ghost use Rattle.mmc_bus.specs.Scripted.{IsFilled, PollsNext, ReadsNext, RepliesNext, WritesNext};
 ghost use Rattle.mmc_bus.specs.Wires.{unkept};
 
-use crate::bus::{Bus, DataIn, DataOut, Exchange, Reply, Timing, Want, Width};
+use crate::bus::Bus;
 use crate::bytes::Bytes;
 use crate::wire::Wire;
+use mmc_card::{DataIn, DataOut, Exchange, Reply, Timing, Want, Width};
 use std::collections::VecDeque;
 
 /// An answer that a `ScriptedBus` has ready, for one kind of exchange.
@@ -89,13 +90,13 @@ fn next_block(answers: &mut VecDeque<BusAnswer>, buffer: &mut [u8]) -> DataIn
 }
 
 impl ScriptedBus {
-    ghost use Rattle.mmc_bus.specs.ScriptedBus.{answers_of, side_of_scripted};
+    ghost use Rattle.mmc_bus.specs.ScriptedBus.{answers_of, scripted_bus_view};
     ghost use Rattle.mmc_bus.specs.Wires.{IsUnused};
 
     /// A bus that gives these answers, with one line at default speed.
     pub fn new(answers: VecDeque<BusAnswer>) -> ScriptedBus
         ensures answers { answers_of result ≡ answers.items }
-        ensures unused { IsUnused (side_of_scripted result) }
+        ensures unused { IsUnused (scripted_bus_view result) }
     {
         ScriptedBus {
             answers,
@@ -105,12 +106,12 @@ impl ScriptedBus {
 }
 
 impl Bus for ScriptedBus {
-    ghost use Rattle.mmc_bus.specs.ScriptedBus.{answers_of, side_of_scripted};
+    ghost use Rattle.mmc_bus.specs.ScriptedBus.{answers_of, scripted_bus_view};
 
-    ghost side = { side_of_scripted };
+    ghost view = { scripted_bus_view };
 
     fn command(&mut self, frame: [u8; 6], want: Want) -> Reply
-        ensures exchanged { Commanded (side_of_scripted self.old) frame result (side_of_scripted self.new) }
+        ensures exchanged { Commanded (scripted_bus_view self.old) frame result (scripted_bus_view self.new) }
         ensures next { RepliesNext (answers_of self.old) result (answers_of self.new) }
     {
         let _ = want;
@@ -120,7 +121,7 @@ impl Bus for ScriptedBus {
     }
 
     fn read_data(&mut self, buffer: &mut [u8]) -> DataIn
-        ensures exchanged { Taken (side_of_scripted self.old) (length buffer.old) result buffer.new (side_of_scripted self.new) }
+        ensures exchanged { DataRead (scripted_bus_view self.old) (length buffer.old) result buffer.new (scripted_bus_view self.new) }
         ensures next { ReadsNext (answers_of self.old) result buffer.new (answers_of self.new) }
     {
         let got = next_block(&mut self.answers, buffer);
@@ -132,7 +133,7 @@ impl Bus for ScriptedBus {
     }
 
     fn write_data(&mut self, block: &[u8; 512]) -> DataOut
-        ensures exchanged { Given (side_of_scripted self.old) block.now result (side_of_scripted self.new) }
+        ensures exchanged { DataWritten (scripted_bus_view self.old) block.now result (scripted_bus_view self.new) }
         ensures next { WritesNext (answers_of self.old) result (answers_of self.new) }
     {
         let _ = block;
@@ -142,7 +143,7 @@ impl Bus for ScriptedBus {
     }
 
     fn busy(&mut self) -> bool
-        ensures exchanged { Polled (side_of_scripted self.old) result (side_of_scripted self.new) }
+        ensures exchanged { Polled (scripted_bus_view self.old) result (scripted_bus_view self.new) }
         ensures next { PollsNext (answers_of self.old) result (answers_of self.new) }
     {
         let yes = next_poll(&mut self.answers);

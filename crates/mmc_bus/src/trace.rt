@@ -1,15 +1,20 @@
 ghost use Rattle.std.specs.Prelude.{◌≡◌, ◌≤◌, [], length, slice_get, IfErr, IfOk};
 ghost use Rattle.mmc_bus.specs.ExchangeText.{lines_text};
-ghost use Rattle.mmc_bus.specs.Exchanges.{Commanded, Given, Polled, SetsLines, Taken};
-ghost use Rattle.mmc_bus.specs.declared.bus.Exchange.TheVariants.{Busy, Command, In, Out};
+ghost use Rattle.mmc_bus.specs.Exchanges.{Commanded, DataWritten, Polled, SetsLines, DataRead};
+ghost use Rattle.mmc_card.specs.declared.exchange.Exchange.TheVariants.{Busy, Command, In, Out};
 ghost use Rattle.text_out.specs.Writing.{Writes};
 
-use crate::bus::{Bus, DataIn, DataOut, Exchange, Reply, Timing, Want, Width};
+use crate::bus::Bus;
+use crate::exchange_text::write_exchange;
 use crate::memory::NoMemory;
 use circular_buffer::HeapCircularBuffer;
+use mmc_card::{DataIn, DataOut, Exchange, Reply, Timing, Want, Width};
 use std::alloc::Global;
 use std::io::{self, Write};
 use std::marker::Model;
+
+/// The most exchanges that a trace may keep.
+pub const MAX_KEPT: usize = 65_536;
 
 /// A bus that hands every operation on to the bus inside, and keeps the last exchanges.
 #[derive(Drop)]
@@ -32,14 +37,15 @@ impl<B: Bus> Model for TraceBus<B> {
 impl<B: Bus> TraceBus<B> {
     ghost use Rattle.std.specs.List.{All};
     ghost use Rattle.mmc_bus.specs.Trace.{HasItsFrame, last_of};
+    ghost use Rattle.mmc_bus.specs.declared.trace.TheConstants.{MAX_KEPT};
 
-    /// A trace that keeps the last `n` exchanges, from 1 to 65,536, and has none yet.
+    /// A trace that keeps the last `n` exchanges, from 1 to `MAX_KEPT`, and has none yet.
     ///
     /// # Errors
     /// `NoMemory` where the room for them is refused, with the bus.
     pub fn new(alloc: Global, bus: B, n: usize) -> Result<TraceBus<B>, (B, NoMemory)>
         requires some { 1 ≤ n }
-        requires few { n ≤ 65536 }
+        requires few { n ≤ MAX_KEPT }
         ensures ok { IfOk result (λ t. t ≡ record { bus = bus; exchanges = []; capacity = n }) }
         ensures err { IfErr result (λ e. e.0 ≡ bus) }
     {
@@ -84,7 +90,7 @@ impl<B: Bus> TraceBus<B> {
     {
         for i in self.len().saturating_sub(most)..self.len() {
             let exchange = self.last.get(i).unwrap();
-            exchange.write_line(out)?;
+            write_exchange(exchange, out)?;
         }
         Ok(())
     }
@@ -101,10 +107,10 @@ impl<B: Bus> TraceBus<B> {
 impl<B: Bus> Bus for TraceBus<B> {
     ghost use Rattle.mmc_bus.specs.Trace.{Traces, TracesNothing};
 
-    ghost side = { λ t. B.side t.bus };
+    ghost view = { λ t. B.view t.bus };
 
     fn command(&mut self, frame: [u8; 6], want: Want) -> Reply
-        ensures exchanged { Commanded (B.side self.old.bus) frame result (B.side self.new.bus) }
+        ensures exchanged { Commanded (B.view self.old.bus) frame result (B.view self.new.bus) }
         ensures traced { Traces self.old (Command frame result) self.new }
     {
         let reply = self.bus.command(frame, want);
@@ -113,7 +119,7 @@ impl<B: Bus> Bus for TraceBus<B> {
     }
 
     fn read_data(&mut self, buffer: &mut [u8]) -> DataIn
-        ensures exchanged { Taken (B.side self.old.bus) (length buffer.old) result buffer.new (B.side self.new.bus) }
+        ensures exchanged { DataRead (B.view self.old.bus) (length buffer.old) result buffer.new (B.view self.new.bus) }
         ensures traced { Traces self.old (In (length buffer.old) result) self.new }
     {
         let got = self.bus.read_data(buffer);
@@ -125,7 +131,7 @@ impl<B: Bus> Bus for TraceBus<B> {
     }
 
     fn write_data(&mut self, block: &[u8; 512]) -> DataOut
-        ensures exchanged { Given (B.side self.old.bus) block.now result (B.side self.new.bus) }
+        ensures exchanged { DataWritten (B.view self.old.bus) block.now result (B.view self.new.bus) }
         ensures traced { Traces self.old (Out result) self.new }
     {
         let got = self.bus.write_data(block);
@@ -134,7 +140,7 @@ impl<B: Bus> Bus for TraceBus<B> {
     }
 
     fn busy(&mut self) -> bool
-        ensures exchanged { Polled (B.side self.old.bus) result (B.side self.new.bus) }
+        ensures exchanged { Polled (B.view self.old.bus) result (B.view self.new.bus) }
         ensures traced { Traces self.old (Busy result) self.new }
     {
         let yes = self.bus.busy();
@@ -143,7 +149,7 @@ impl<B: Bus> Bus for TraceBus<B> {
     }
 
     fn set_lines(&mut self, width: Width, timing: Timing)
-        ensures set { SetsLines (B.side self.old.bus) width timing (B.side self.new.bus) }
+        ensures set { SetsLines (B.view self.old.bus) width timing (B.view self.new.bus) }
         ensures traced { TracesNothing self.old self.new }
     {
         self.bus.set_lines(width, timing);

@@ -1,7 +1,7 @@
 ghost use Rattle.std.specs.Prelude.{◌≡◌, None};
 ghost use Rattle.mmc_bus.specs.Wires.{Notes};
 
-use crate::bus::{Exchange, Lines, Timing, Width};
+use mmc_card::{Exchange, Lines, Timing, Width};
 
 /// What a bus keeps of its exchanges, so that contracts can speak of them.
 #[derive(Clone, Copy, Debug, PartialEq, Eq)]

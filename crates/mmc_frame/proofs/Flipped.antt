@@ -1,5 +1,7 @@
 -- A sound string of at most 127 bits with one bit or two flipped isn't sound.
-use Rattle.std.proofs.Common.{◌≡◌, ℕ, zero, suc, ◌+◌, ◌-◌, ◌<◌, ◌≤◌, ◌⊎◌, inl, inr, List, [], ◌∷◌, length, take, drop, Bool, true, false, not, refl, sym, ◌∙◌, ap, arith, bit_xor, length-drop, length-take-le, zero-add}
+use Rattle.std.proofs.Common.{◌≡◌, ℕ, zero, suc, ◌+◌, ◌-◌, ◌<◌, ◌≤◌, ◌⊎◌, inl, inr, List, [], ◌∷◌, length, take, drop}
+use Rattle.std.proofs.Common.{Bool, true, false, not, refl, sym, ◌∙◌, ap, arith, bit_xor, length-drop, length-take-le}
+use Rattle.std.proofs.Common.{zero-add}
 use Rattle.std.specs.Int.Bits.{xor_self, xor_zero_l, xor_zero_r, xor_assoc}
 use Rattle.std.proofs.lemmas.Nat.{xor_comm}
 use Rattle.std.proofs.lemmas.Bool.{cases_lt}
@@ -21,10 +23,12 @@ length-flip_at zero (b ∷ bs) = refl
 length-flip_at (suc p) (b ∷ bs) = ap suc (length-flip_at p bs)
 
 -- a flipped bit adds its power, where k bits stand behind it
-flip_adds : (p k : ℕ) (bs : List Bool) → length bs ≡ p + suc k → remainder (flip_at p bs) ≡ bit_xor (power k) (remainder bs)
+flip_adds : (p k : ℕ) (bs : List Bool) → length bs ≡ p + suc k → remainder (flip_at p bs)
+    ≡ bit_xor (power k) (remainder bs)
 unfolding remainder
 flip_adds p k [] h = absurd (omega arith)
-flip_adds zero k (true ∷ bs) h = (let e : k ≡ length bs = omega arith in rw e (added_twice (power (length bs)) (remainder bs)))
+flip_adds zero k (true ∷ bs) h = (let e : k ≡ length bs = omega arith in
+    rw e (added_twice (power (length bs)) (remainder bs)))
 flip_adds zero k (false ∷ bs) h = (let e : k ≡ length bs = omega arith in rw e refl)
 flip_adds (suc p) k (true ∷ bs) h =
     ap (λ n. bit_xor (power n) (remainder (flip_at p bs))) (length-flip_at p bs)
@@ -32,21 +36,26 @@ flip_adds (suc p) k (true ∷ bs) h =
     ∙ exchanged (power (length bs)) (power k) (remainder bs)
 flip_adds (suc p) k (false ∷ bs) h = flip_adds p k bs (omega arith)
 
-one_unsound : (p : ℕ) (bs : List Bool) → p < length bs → length bs ≤ 127 → remainder bs ≡ 0 → remainder (flip_at p bs) ≡ 0 → ⊥
+one_unsound : (p : ℕ) (bs : List Bool) → p < length bs → length bs ≤ 127 → remainder bs ≡ 0 → remainder (flip_at p bs)
+    ≡ 0 → ⊥
 one_unsound p bs l n sound again =
     let k = length bs - 1 - p in
     let e : remainder (flip_at p bs) ≡ bit_xor (power k) (remainder bs) = flip_adds p k bs (omega arith) in
     power_nonzero k (omega arith) (sym (xor_zero_r (power k)) ∙ ap (bit_xor (power k)) (sym sound) ∙ sym e ∙ again)
 
-two_unsound : (p q : ℕ) (bs : List Bool) → p < q → q < length bs → length bs ≤ 127 → remainder bs ≡ 0 → remainder (flip_at q (flip_at p bs)) ≡ 0 → ⊥
+two_unsound : (p q : ℕ) (bs : List Bool) → p < q → q < length bs → length bs ≤ 127 → remainder bs ≡ 0
+    → remainder (flip_at q (flip_at p bs)) ≡ 0 → ⊥
 two_unsound p q bs less l n sound again =
     let j = length bs - 1 - p in
     let k = length bs - 1 - q in
     let e : remainder (flip_at p bs) ≡ bit_xor (power j) (remainder bs) = flip_adds p j bs (omega arith) in
     let m = length-flip_at p bs in
-    let f : remainder (flip_at q (flip_at p bs)) ≡ bit_xor (power k) (remainder (flip_at p bs)) = flip_adds q k (flip_at p bs) (omega (arith, m)) in
-    let z : bit_xor (power k) (bit_xor (power j) 0) ≡ 0 = ap (λ r. bit_xor (power k) (bit_xor (power j) r)) (sym sound) ∙ ap (bit_xor (power k)) (sym e) ∙ sym f ∙ again in
-    powers_other j k (omega arith) (omega arith) (same_from_xor (power k) (power j) (ap (bit_xor (power k)) (sym (xor_zero_r (power j))) ∙ z))
+    let f : remainder (flip_at q (flip_at p bs)) ≡ bit_xor (power k) (remainder (flip_at p bs)) =
+    flip_adds q k (flip_at p bs) (omega (arith, m)) in
+    let z : bit_xor (power k) (bit_xor (power j) 0) ≡ 0 = ap (λ r. bit_xor (power k) (bit_xor (power j) r)) (sym sound)
+    ∙ ap (bit_xor (power k)) (sym e) ∙ sym f ∙ again in
+    powers_other j k (omega arith) (omega arith)
+    (same_from_xor (power k) (power j) (ap (bit_xor (power k)) (sym (xor_zero_r (power j))) ∙ z))
 
 -- the bit at this position
 abbrev pub bit_of : ℕ → List Bool → Bool
@@ -87,10 +96,12 @@ drop_flip (suc m) p (b ∷ bs) =
 abbrev pub covered : ℕ → ℕ → List Bool → List Bool
 covered m k bs = take k (drop m bs)
 
-covered_flip : (m k p : ℕ) (bs : List Bool) → m ≤ p → p < m + k → covered m k (flip_at p bs) ≡ flip_at (p - m) (covered m k bs)
+covered_flip : (m k p : ℕ) (bs : List Bool) → m ≤ p → p < m + k → covered m k (flip_at p bs)
+    ≡ flip_at (p - m) (covered m k bs)
 covered_flip m k p bs low high =
     let e : p ≡ m + (p - m) = omega arith in
-    ap (λ i. covered m k (flip_at i bs)) e ∙ ap (take k) (drop_flip m (p - m) bs) ∙ take_flip k (p - m) (drop m bs) (omega arith)
+    ap (λ i. covered m k (flip_at i bs)) e ∙ ap (take k) (drop_flip m (p - m) bs)
+    ∙ take_flip k (p - m) (drop m bs) (omega arith)
 
 length-covered : (m k : ℕ) (bs : List Bool) → m + k ≤ length bs → length (covered m k bs) ≡ k
 length-covered m k bs fits = length-take-le k (drop m bs) (omega (arith, length-drop m bs))
@@ -100,7 +111,8 @@ abbrev pub SameOutside : ℕ → ℕ → List Bool → List Bool → Type 0
 SameOutside m k xs ys = (i : ℕ) → i < length xs → (i < m) ⊎ (m + k ≤ i) → bit_of i ys ≡ bit_of i xs
 
 -- so a position that changed is a covered one
-changed_is_covered : (m k i : ℕ) (xs ys : List Bool) → SameOutside m k xs ys → i < length xs → bit_of i ys ≡ not (bit_of i xs)
+changed_is_covered : (m k i : ℕ) (xs ys : List Bool) → SameOutside m k xs ys → i < length xs
+    → bit_of i ys ≡ not (bit_of i xs)
     → (m ≤ i) × (i < m + k)
 changed_is_covered m k i xs ys fixed inside changed =
     elim (cases_lt i m) [
@@ -133,7 +145,8 @@ flips_show m k xs ys small fits fixed sound heard (two p q less inside is) =
     let two_inside : covered m k ys ≡ flip_at (q - m) (flip_at (p - m) (covered m k xs)) =
     ap (covered m k) is ∙ covered_flip m k q (flip_at p xs) (omega arith) high
     ∙ ap (flip_at (q - m)) (covered_flip m k p xs low (omega arith)) in
-    two_unsound (p - m) (q - m) (covered m k xs) (omega arith) (omega arith) (omega arith) sound (ap remainder (sym two_inside) ∙ heard)
+    two_unsound (p - m) (q - m) (covered m k xs) (omega arith) (omega arith) (omega arith) sound
+    (ap remainder (sym two_inside) ∙ heard)
 
 -- it isn't xs itself either
 pub flips_differ : (xs : List Bool) → Flips xs xs → ⊥

@@ -1,5 +1,6 @@
 -- The test of a check, over any number of bytes: 5 of a frame, 15 of a register.
-use Rattle.std.proofs.Common.{◌≡◌, ℕ, ◌+◌, ◌*◌, ◌/◌, ◌%◌, ◌<◌, List, [], ◌∷◌, ◌++◌, length, take, Bool, true, refl, sym, ◌∙◌, ap, arith, append_assoc, length-append, length-take-le, cond, Ok, Err, false}
+use Rattle.std.proofs.Common.{◌≡◌, ℕ, ◌+◌, ◌*◌, ◌/◌, ◌%◌, ◌<◌, List, [], ◌∷◌, ◌++◌, length, take, Bool, true, refl, sym}
+use Rattle.std.proofs.Common.{◌∙◌, ap, arith, append_assoc, length-append, length-take-le, cond, Ok, Err, false}
 use Rattle.std.specs.Prelude.{nat_eq, slice_index, slice_set, ◌==◌}
 use Rattle.std.proofs.lemmas.List.{take_more, take_all, take_at, set-get_or}
 use Rattle.std.proofs.lemmas.Bool.{eq-eqb, eqb-true}
@@ -15,7 +16,8 @@ last_apart n bytes size =
     sym (take_all (n + 1) bytes (omega arith)) ∙ take_more bytes n 0 (omega arith)
 
 -- all bits but the last
-all_but_last : (n : ℕ) (xs : List ℕ) (l : ℕ) → length xs ≡ n → take (8 * n + 7) (bits_of (xs ++ l ∷ [])) ≡ bits_of xs ++ seven l
+all_but_last : (n : ℕ) (xs : List ℕ) (l : ℕ) → length xs ≡ n → take (8 * n + 7) (bits_of (xs ++ l ∷ []))
+    ≡ bits_of xs ++ seven l
 all_but_last n xs l size =
     let whole : bits_of (xs ++ l ∷ []) ≡ (bits_of xs ++ seven l) ++ (l % 2 == 1) ∷ [] =
     bits_pushed xs l ∙ sym (append_assoc (bits_of xs) (seven l) ((l % 2 == 1) ∷ [])) in
@@ -25,7 +27,8 @@ all_but_last n xs l size =
 
 -- the check of all bytes but the last is compared with the last byte's upper seven bits
 pub sound_test : (n : ℕ) (bytes : List ℕ) → length bytes ≡ n + 1 → slice_index bytes n < 256
-    → nat_eq (remainder (bits_of (take n bytes) ++ zeros)) (slice_index bytes n / 2) ≡ nat_eq (remainder (take (8 * n + 7) (bits_of bytes))) 0
+    → nat_eq (remainder (bits_of (take n bytes) ++ zeros)) (slice_index bytes n / 2)
+    ≡ nat_eq (remainder (take (8 * n + 7) (bits_of bytes))) 0
 sound_test n bytes size fits =
     let xs = take n bytes in
     let l = slice_index bytes n in
@@ -52,7 +55,8 @@ pub made_sound : (a b c d e check : ℕ) → check < 128 → check ≡ remainder
 made_sound a b c d e check small is =
     let f = a ∷ b ∷ c ∷ d ∷ e ∷ (check * 2 + 1) ∷ [] in
     let half : (check * 2 + 1) / 2 ≡ check = omega arith in
-    let test : nat_eq (remainder (bits_of (a ∷ b ∷ c ∷ d ∷ e ∷ []) ++ zeros)) ((check * 2 + 1) / 2) ≡ is_sound f = frame_test f refl (omega arith) in
+    let test : nat_eq (remainder (bits_of (a ∷ b ∷ c ∷ d ∷ e ∷ []) ++ zeros)) ((check * 2 + 1) / 2) ≡ is_sound f =
+    frame_test f refl (omega arith) in
     sym test ∙ eq-eqb _ _ (sym is ∙ sym half)
 
 ok_where : (end sound : Bool) (x y : List ℕ) → end ≡ true → sound ≡ true → x ≡ y
@@ -62,11 +66,13 @@ ok_where true false x y h k e = cc
 ok_where false sound x y h k e = cc
 
 -- a sound register comes back from its R2
-pub register_comes_back : (r : List ℕ) → length r ≡ 16 → is_sound_register r ≡ true → has_end_bit r ≡ true → register_in (register_frame r) ≡ Ok r
+pub register_comes_back : (r : List ℕ) → length r ≡ 16 → is_sound_register r ≡ true → has_end_bit r ≡ true
+    → register_in (register_frame r) ≡ Ok r
 register_comes_back r size sound odd =
     let low : slice_index r 15 % 2 ≡ 1 = eqb-true _ 1 odd in
     let same : slice_index r 15 / 2 * 2 + 1 ≡ slice_index r 15 = omega arith in
     let kept : slice_set r 15 (slice_index r 15 / 2 * 2 + 1) ≡ r = ap (slice_set r 15) same ∙ set-get_or r 15 0 in
     let all : take 16 r ≡ r = take_all 16 r (omega arith) in
     ap (λ x. register_in (0x3f ∷ x)) kept
-    ∙ ok_where (slice_index r 15 % 2 == 1) (is_sound_register (take 16 r)) (take 16 r) r odd (ap is_sound_register all ∙ sound) all
+    ∙ ok_where (slice_index r 15 % 2 == 1) (is_sound_register (take 16 r)) (take 16 r) r odd
+    (ap is_sound_register all ∙ sound) all

@@ -1,5 +1,6 @@
 -- Remainders are linear, and a string's remainder is got bit by bit from its front.
-use Rattle.std.proofs.Common.{◌≡◌, ℕ, zero, suc, ◌+◌, ◌-◌, ◌*◌, ◌/◌, ◌^◌, ◌<◌, inl, inr, List, [], ◌∷◌, ◌++◌, length, Bool, true, false, cond, refl, sym, ◌∙◌, ap, arith, zero-add, bit_xor}
+use Rattle.std.proofs.Common.{◌≡◌, ℕ, zero, suc, ◌+◌, ◌-◌, ◌*◌, ◌/◌, ◌^◌, ◌<◌, inl, inr, List, [], ◌∷◌, ◌++◌, length}
+use Rattle.std.proofs.Common.{Bool, true, false, cond, refl, sym, ◌∙◌, ap, arith, zero-add, bit_xor}
 use Rattle.std.specs.Int.Bits.{xor_self, xor_zero_l, xor_zero_r, xor_assoc}
 use Rattle.std.proofs.lemmas.Nat.{xor_lt, xor_shr, xor_block}
 use Rattle.std.proofs.lemmas.Nat.Bits.{same_from_bits, bit_at_xor}
@@ -14,7 +15,8 @@ xor_swap a b c d =
 
 pub same_from_xor : (a b : ℕ) → bit_xor a b ≡ 0 → a ≡ b
 same_from_xor a b h =
-    sym (xor_zero_r a) ∙ ap (bit_xor a) (sym (xor_self b)) ∙ sym (xor_assoc a b b) ∙ ap (λ x. bit_xor x b) h ∙ xor_zero_l b
+    sym (xor_zero_r a) ∙ ap (bit_xor a) (sym (xor_self b)) ∙ sym (xor_assoc a b b) ∙ ap (λ x. bit_xor x b) h
+    ∙ xor_zero_l b
 
 -- the remainder of a number of eight bits
 abbrev pub eight : ℕ → ℕ
@@ -43,8 +45,10 @@ eight-lt n h =
       | inr high ↦
           (let d : n / 128 ≡ 1 = omega arith in
           let e : n ≡ 1 * 2 ^ 7 + (n - 128) = omega arith in
-          let x : bit_xor (1 * 2 ^ 7 + (n - 128)) (1 * 2 ^ 7 + 9) ≡ bit_xor 1 1 * 2 ^ 7 + bit_xor (n - 128) 9 = xor_block 7 1 1 (n - 128) 9 (omega arith) (omega arith) in
-          let f : bit_xor n 137 ≡ bit_xor (n - 128) 9 = ap (λ m. bit_xor m 137) e ∙ x ∙ zero-add (bit_xor (n - 128) 9) in
+          let x : bit_xor (1 * 2 ^ 7 + (n - 128)) (1 * 2 ^ 7 + 9) ≡ bit_xor 1 1 * 2 ^ 7 + bit_xor (n - 128) 9 =
+          xor_block 7 1 1 (n - 128) 9 (omega arith) (omega arith) in
+          let f : bit_xor n 137 ≡ bit_xor (n - 128) 9 = ap (λ m. bit_xor m 137) e ∙ x
+          ∙ zero-add (bit_xor (n - 128) 9) in
           let g : bit_xor (n - 128) 9 < 128 = xor_lt 7 (n - 128) 9 (omega arith) (omega arith) in
           rw d (rw f g))
     ]
@@ -53,7 +57,8 @@ pub times_x_is : (p : ℕ) → p < 128 → times_x p ≡ eight (2 * p)
 unfolding times_x
 times_x_is p h =
     elim (cases_lt p 64) [
-      | inl low ↦ (let e : ltb p 64 ≡ true = lt-ltb p 64 low in let d : 2 * p / 128 ≡ 0 = omega arith in rw (e, d) (sym (xor_zero_r (2 * p))))
+      | inl low ↦ (let e : ltb p 64 ≡ true = lt-ltb p 64 low in let d : 2 * p / 128 ≡ 0 = omega arith in
+          rw (e, d) (sym (xor_zero_r (2 * p))))
       | inr high ↦ (let e : ltb p 64 ≡ false = le-ltb p 64 high in let d : 2 * p / 128 ≡ 1 = omega arith in rw (e, d))
     ]
 
@@ -72,7 +77,8 @@ times_x_linear p q h k =
     times_x_is (bit_xor p q) (xor_lt 7 p q h k)
     ∙ ap eight (doubled p q)
     ∙ eight_linear (2 * p) (2 * q) (omega arith) (omega arith)
-    ∙ (let e : bit_xor (times_x p) (times_x q) ≡ bit_xor (eight (2 * p)) (eight (2 * q)) = rw (times_x_is p h, times_x_is q k) in sym e)
+    ∙ (let e : bit_xor (times_x p) (times_x q) ≡ bit_xor (eight (2 * p)) (eight (2 * q)) =
+    rw (times_x_is p h, times_x_is q k) in sym e)
 
 pub power-lt : (i : ℕ) → power i < 128
 unfolding power
@@ -105,5 +111,6 @@ remainder-push (true ∷ bs) b =
     ap (λ n. bit_xor (power n) (remainder (bs ++ b ∷ []))) (length_pushed bs b)
     ∙ ap (bit_xor (times_x (power (length bs)))) (remainder-push bs b)
     ∙ sym (xor_assoc (times_x (power (length bs))) (times_x (remainder bs)) (cond b 1 0))
-    ∙ ap (λ x. bit_xor x (cond b 1 0)) (sym (times_x_linear (power (length bs)) (remainder bs) (power-lt (length bs)) (remainder-lt bs)))
+    ∙ ap (λ x. bit_xor x (cond b 1 0)) (sym
+    (times_x_linear (power (length bs)) (remainder bs) (power-lt (length bs)) (remainder-lt bs)))
 remainder-push (false ∷ bs) b = remainder-push bs b

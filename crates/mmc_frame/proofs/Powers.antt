@@ -33,4 +33,5 @@ power_nonzero i l h =
 pub powers_other : (i j : ℕ) → j < i → i < 127 → power j ≡ power i → ⊥
 powers_other i j less l h =
     let test = at_below 127 (λ k. not (nat_eq (power k) 0) && is_new_below (power k) k) all_differ i l in
-    not_false _ (at_below i (λ k. not (nat_eq (power k) (power i))) (and_true _ _ test).1 j less) (eq-eqb (power j) (power i) h)
+    not_false _ (at_below i (λ k. not (nat_eq (power k) (power i))) (and_true _ _ test).1 j less)
+    (eq-eqb (power j) (power i) h)

@@ -1,6 +1,7 @@
 -- CRC7 (SD Physical Layer 6.00, section 4.5; JESD84-B51, section 8.2): strings of bits as polynomials over {0, 1},
 -- modulo x^7 + x^3 + 1. A number below 128 stands for a remainder: its bit i for x^i.
-use Rattle.std.specs.Prelude.{ℕ, zero, suc, ◌*◌, ◌/◌, ◌%◌, ◌==◌, List, [], ◌∷◌, ◌++◌, length, Bool, if◌then◌else◌, nat_lt, bit_xor}
+use Rattle.std.specs.Prelude.{ℕ, zero, suc, ◌*◌, ◌/◌, ◌%◌, ◌==◌, List, [], ◌∷◌, ◌++◌, length, Bool, if◌then◌else◌}
+use Rattle.std.specs.Prelude.{nat_lt, bit_xor}
 
 -- x times p: what reaches x^7 is x^7 + x^3 + 1, which is 137, less
 unfoldable pub times_x : ℕ → ℕ

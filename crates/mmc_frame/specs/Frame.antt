@@ -1,6 +1,7 @@
 -- Frames of 48 bits (SD Physical Layer 6.00, sections 4.7.2 and 4.9; JESD84-B51, sections 6.10.1 and 6.12).
 -- A frame is six bytes, and as a number its bit 47 is sent first.
-use Rattle.std.specs.Prelude.{ℕ, ◌+◌, ◌*◌, ◌^◌, ◌==◌, ◌&&◌, List, take, Bool, if◌then◌else◌, slice_index, Option, Some, None, Result, Ok, Err}
+use Rattle.std.specs.Prelude.{ℕ, ◌+◌, ◌*◌, ◌^◌, ◌==◌, ◌&&◌, List, take, Bool, if◌then◌else◌, slice_index, Option, Some}
+use Rattle.std.specs.Prelude.{None, Result, Ok, Err}
 use Rattle.mmc_frame.specs.Check.{remainder, bits_of}
 use Rattle.mmc_frame.specs.Field.{field}
 use Rattle.mmc_frame.specs.declared.fault.FrameFault.{FrameFault}

@@ -1,9 +1,11 @@
 -- The CSD of an SD card or an eMMC device, and what it says of the card (SD Physical Layer 6.00, sections 5.3.2 and 5.3.3;
 -- JESD84-B51, section 7.3).
-use Rattle.std.specs.Prelude.{ℕ, ◌+◌, ◌-◌, ◌*◌, ◌/◌, ◌^◌, ◌==◌, ◌&&◌, ◌||◌, nat_le, Bool, List, if◌then◌else◌, Result, Ok, Err}
+use Rattle.std.specs.Prelude.{ℕ, ◌+◌, ◌-◌, ◌*◌, ◌/◌, ◌^◌, ◌==◌, ◌&&◌, ◌||◌, nat_le, Bool, List, if◌then◌else◌, Result}
+use Rattle.std.specs.Prelude.{Ok, Err}
 use Rattle.mmc_frame.specs.declared.kind.Kind.{Kind}
 use Rattle.mmc_frame.specs.declared.kind.Kind.TheVariants.{Sd, Mmc as MmcDevice}
-use Rattle.mmc_regs.specs.CsdFields.{csd_structure, read_bl_len, c_size, c_size_mult, perm_write_protect, tmp_write_protect, erase_blk_en, sector_size, write_bl_len, c_size_v2}
+use Rattle.mmc_regs.specs.CsdFields.{csd_structure, read_bl_len, c_size, c_size_mult, perm_write_protect}
+use Rattle.mmc_regs.specs.CsdFields.{tmp_write_protect, erase_blk_en, sector_size, write_bl_len, c_size_v2}
 use Rattle.mmc_regs.specs.Register.{checked_number}
 use Rattle.mmc_regs.specs.declared.fault.RegFault.{RegFault}
 use Rattle.mmc_regs.specs.declared.fault.RegFault.TheVariants.{Structure, Range}

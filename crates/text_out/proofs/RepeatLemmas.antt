@@ -1,5 +1,6 @@
 -- The longest repeats of bytes, taken from the front.
-use Rattle.std.proofs.Common.{Result, Ok, Err, ◌≡◌, ℕ, ◌+◌, ◌<◌, List, [], ◌∷◌, ◌++◌, length, drop, get_or, Bool, true, false, cond, suc, sym, refl, ap, ◌∙◌, subst, arith, append-nil, inl, inr, add-one}
+use Rattle.std.proofs.Common.{Result, Ok, Err, ◌≡◌, ℕ, ◌+◌, ◌<◌, List, [], ◌∷◌, ◌++◌, length, drop, get_or, Bool, true}
+use Rattle.std.proofs.Common.{false, cond, suc, sym, refl, ap, ◌∙◌, subst, arith, append-nil, inl, inr, add-one}
 use Rattle.std.specs.Prelude.{OnErr, map, replicate, ◌==◌, ◌⊎◌}
 use Rattle.std.specs.List.{prefix_len, join_with_byte}
 use Rattle.std.proofs.lemmas.Bool.{eq-eqb, ne_eqb, cases_eq}
@@ -20,11 +21,13 @@ Front b bs = repeats (b ∷ bs) ≡ (b, suc (len b bs)) ∷ repeats (drop (len b
 
 front_same : (c : ℕ) (cs : List ℕ) → Front c cs → Front c (c ∷ cs)
 unfolding repeats
-front_same c cs h = ap (with_byte c) h ∙ rw (len_same c cs, eq-eqb c c refl) (ap (λ n. (c, n) ∷ repeats (drop (len c cs) cs)) (omega arith))
+front_same c cs h = ap (with_byte c) h ∙ rw (len_same c cs, eq-eqb c c refl)
+    (ap (λ n. (c, n) ∷ repeats (drop (len c cs) cs)) (omega arith))
 
 front_other : (b c : ℕ) (cs : List ℕ) → (b ≡ c → ⊥) → Front c cs → Front b (c ∷ cs)
 unfolding repeats
-front_other b c cs ne h = ap (with_byte b) h ∙ rw (len_other b c cs (λ e. ne (sym e)), ne_eqb b c ne) (ap (λ rs. (b, 1) ∷ rs) (sym h))
+front_other b c cs ne h = ap (with_byte b) h ∙ rw (len_other b c cs (λ e. ne (sym e)), ne_eqb b c ne)
+    (ap (λ rs. (b, 1) ∷ rs) (sym h))
 
 front_by : (b c : ℕ) (cs : List ℕ) → (b ≡ c) ⊎ (b ≡ c → ⊥) → Front c cs → Front b (c ∷ cs)
 front_by b c cs (inl e) h = subst (λ x. Front x (c ∷ cs)) (sym e) (front_same c cs h)
@@ -36,14 +39,17 @@ front b [] = refl
 front b (c ∷ cs) = front_by b c cs (cases_eq b c) (front c cs)
 
 -- the front of one byte is the first repeat, and what follows has the other repeats
-pub repeats_front : (b : ℕ) (bs : List ℕ) (n : ℕ) → n ≡ len b (b ∷ bs) → repeats (b ∷ bs) ≡ (b, n) ∷ repeats (drop n (b ∷ bs))
+pub repeats_front : (b : ℕ) (bs : List ℕ) (n : ℕ) → n ≡ len b (b ∷ bs)
+    → repeats (b ∷ bs) ≡ (b, n) ∷ repeats (drop n (b ∷ bs))
 repeats_front b bs n e = rw (e ∙ len_same b bs) (front b bs)
 
-join_more : (text : List ℕ) (rs : List Repeat) → (rs ≡ [] → ⊥) → join_with_byte 44 (text ∷ map repeat_text rs) ≡ text ++ (44 ∷ join_with_byte 44 (map repeat_text rs))
+join_more : (text : List ℕ) (rs : List Repeat) → (rs ≡ [] → ⊥) → join_with_byte 44 (text ∷ map repeat_text rs)
+    ≡ text ++ (44 ∷ join_with_byte 44 (map repeat_text rs))
 join_more text [] some = absurd (some refl)
 join_more text (r ∷ rs) some = refl
 
-with_some_by : (t : Bool) (b : ℕ) (r : Repeat) (rs : List Repeat) → cond t ((b, r.1 + 1) ∷ rs) ((b, 1) ∷ r ∷ rs) ≡ [] → ⊥
+with_some_by : (t : Bool) (b : ℕ) (r : Repeat) (rs : List Repeat) → cond t ((b, r.1 + 1) ∷ rs) ((b, 1) ∷ r ∷ rs) ≡ []
+    → ⊥
 with_some_by true b r rs h = cc
 with_some_by false b r rs h = cc
 
@@ -62,31 +68,42 @@ unfolding repeats_text repeats
 text_none = refl
 
 -- the last repeat
-pub text_last : (b : ℕ) (bs : List ℕ) (n : ℕ) → n ≡ len b (b ∷ bs) → drop n (b ∷ bs) ≡ [] → repeats_text (b ∷ bs) ≡ repeat_text (b, n)
+pub text_last : (b : ℕ) (bs : List ℕ) (n : ℕ) → n ≡ len b (b ∷ bs) → drop n (b ∷ bs) ≡ [] → repeats_text (b ∷ bs)
+    ≡ repeat_text (b, n)
 unfolding repeats_text repeats
-text_last b bs n e last = ap (λ rs. join_with_byte 44 (map repeat_text rs)) (repeats_front b bs n e ∙ ap (λ l. (b, n) ∷ repeats l) last)
+text_last b bs n e last = ap (λ rs. join_with_byte 44 (map repeat_text rs))
+    (repeats_front b bs n e ∙ ap (λ l. (b, n) ∷ repeats l) last)
 
 -- a repeat, a comma, and the others
-pub text_more : (b : ℕ) (bs : List ℕ) (n : ℕ) → n ≡ len b (b ∷ bs) → (drop n (b ∷ bs) ≡ [] → ⊥) → repeats_text (b ∷ bs) ≡ repeat_text (b, n) ++ (44 ∷ repeats_text (drop n (b ∷ bs)))
+pub text_more : (b : ℕ) (bs : List ℕ) (n : ℕ) → n ≡ len b (b ∷ bs) → (drop n (b ∷ bs) ≡ [] → ⊥) → repeats_text (b ∷ bs)
+    ≡ repeat_text (b, n) ++ (44 ∷ repeats_text (drop n (b ∷ bs)))
 unfolding repeats_text
-text_more b bs n e more = ap (λ rs. join_with_byte 44 (map repeat_text rs)) (repeats_front b bs n e) ∙ join_more (repeat_text (b, n)) (repeats (drop n (b ∷ bs))) (repeats_some _ more)
+text_more b bs n e more = ap (λ rs. join_with_byte 44 (map repeat_text rs)) (repeats_front b bs n e)
+    ∙ join_more (repeat_text (b, n)) (repeats (drop n (b ∷ bs))) (repeats_some _ more)
 
 -- the same of bytes that are not taken apart
-pub first_last : (bytes : List ℕ) (b n : ℕ) → 0 < length bytes → b ≡ get_or bytes 0 0 → n ≡ len b bytes → drop n bytes ≡ [] → repeats_text bytes ≡ repeat_text (b, n)
+pub first_last : (bytes : List ℕ) (b n : ℕ) → 0 < length bytes → b ≡ get_or bytes 0 0 → n ≡ len b bytes
+    → drop n bytes ≡ [] → repeats_text bytes ≡ repeat_text (b, n)
 first_last [] b n some e k last = absurd (omega arith)
-first_last (c ∷ cs) b n some e k last = subst (λ x. n ≡ len x (c ∷ cs) → repeats_text (c ∷ cs) ≡ repeat_text (x, n)) (sym e) (λ h. text_last c cs n h last) k
+first_last (c ∷ cs) b n some e k last = subst (λ x. n ≡ len x (c ∷ cs) → repeats_text (c ∷ cs) ≡ repeat_text (x, n))
+    (sym e) (λ h. text_last c cs n h last) k
 
-pub first_more : (bytes : List ℕ) (b n : ℕ) → 0 < length bytes → b ≡ get_or bytes 0 0 → n ≡ len b bytes → (drop n bytes ≡ [] → ⊥) → repeats_text bytes ≡ repeat_text (b, n) ++ (44 ∷ repeats_text (drop n bytes))
+pub first_more : (bytes : List ℕ) (b n : ℕ) → 0 < length bytes → b ≡ get_or bytes 0 0 → n ≡ len b bytes
+    → (drop n bytes ≡ [] → ⊥) → repeats_text bytes ≡ repeat_text (b, n) ++ (44 ∷ repeats_text (drop n bytes))
 first_more [] b n some e k more = absurd (omega arith)
-first_more (c ∷ cs) b n some e k more = subst (λ x. n ≡ len x (c ∷ cs) → repeats_text (c ∷ cs) ≡ repeat_text (x, n) ++ (44 ∷ repeats_text (drop n (c ∷ cs)))) (sym e) (λ h. text_more c cs n h more) k
+first_more (c ∷ cs) b n some e k more =
+    subst (λ x. n ≡ len x (c ∷ cs) → repeats_text (c ∷ cs)
+    ≡ repeat_text (x, n) ++ (44 ∷ repeats_text (drop n (c ∷ cs)))) (sym e) (λ h. text_more c cs n h more) k
 
 pub first_some : (bytes : List ℕ) (b n : ℕ) → 0 < length bytes → b ≡ get_or bytes 0 0 → n ≡ len b bytes → 0 < n
 first_some [] b n some e k = absurd (omega arith)
-first_some (c ∷ cs) b n some e k = let h : n ≡ suc (len c cs) = subst (λ x. n ≡ len x (c ∷ cs)) e k ∙ len_same c cs in omega (arith, h)
+first_some (c ∷ cs) b n some e k = let h : n ≡ suc (len c cs) = subst (λ x. n ≡ len x (c ∷ cs)) e k ∙ len_same c cs in
+    omega (arith, h)
 
 -- ---- laws: the repeats stand for the bytes, and no repeat goes on in the next
 
-spread_by : (b : ℕ) (r : Repeat) (rs : List Repeat) → (b ≡ r.0) ⊎ (b ≡ r.0 → ⊥) → spread (with_byte b (r ∷ rs)) ≡ b ∷ spread (r ∷ rs)
+spread_by : (b : ℕ) (r : Repeat) (rs : List Repeat) → (b ≡ r.0) ⊎ (b ≡ r.0 → ⊥) → spread (with_byte b (r ∷ rs))
+    ≡ b ∷ spread (r ∷ rs)
 unfolding spread
 spread_by b r rs (inl e) = rw (eq-eqb b r.0 e, add-one r.1) (ap (λ x. b ∷ (replicate r.1 x ++ spread rs)) e)
 spread_by b r rs (inr ne) = rw (ne_eqb b r.0 ne) refl
@@ -105,12 +122,18 @@ pub text_empty : (bs : List ℕ) → length bs ≡ 0 → repeats_text bs ≡ []
 text_empty [] h = text_none
 text_empty (b ∷ bs) h = absurd (omega arith)
 
-begins_by : (bytes : List ℕ) (b n : ℕ) → 0 < length bytes → b ≡ get_or bytes 0 0 → n ≡ len b bytes → (left : List ℕ) → drop n bytes ≡ left → (rest : List ℕ) × (repeats_text bytes ≡ repeat_text (b, n) ++ rest)
+begins_by : (bytes : List ℕ) (b n : ℕ) → 0 < length bytes → b ≡ get_or bytes 0 0 → n ≡ len b bytes → (left : List ℕ)
+    → drop n bytes ≡ left → (rest : List ℕ) × (repeats_text bytes ≡ repeat_text (b, n) ++ rest)
 begins_by bytes b n some e k [] h = ([], first_last bytes b n some e k h ∙ sym (append-nil (repeat_text (b, n))))
-begins_by bytes b n some e k (x ∷ xs) h = (44 ∷ repeats_text (drop n bytes), first_more bytes b n some e k (λ none. let bad : x ∷ xs ≡ [] = sym h ∙ none in cc))
+begins_by bytes b n some e k (x ∷ xs) h = (
+  44 ∷ repeats_text (drop n bytes),
+  first_more bytes b n some e k
+      (λ none. let bad : x ∷ xs ≡ [] = sym h ∙ none in cc),
+)
 
 -- the first repeat begins the text
-pub first_begins : (bytes : List ℕ) (b n : ℕ) → 0 < length bytes → b ≡ get_or bytes 0 0 → n ≡ len b bytes → (rest : List ℕ) × (repeats_text bytes ≡ repeat_text (b, n) ++ rest)
+pub first_begins : (bytes : List ℕ) (b n : ℕ) → 0 < length bytes → b ≡ get_or bytes 0 0 → n ≡ len b bytes
+    → (rest : List ℕ) × (repeats_text bytes ≡ repeat_text (b, n) ++ rest)
 first_begins bytes b n some e k = begins_by bytes b n some e k (drop n bytes) refl
 
 pub on_err : {T E P : Type 0} (r : Result T E) → P → OnErr r P
@@ -123,12 +146,14 @@ nothing (b ∷ bs) h = absurd (omega arith)
 
 -- ---- neighbours differ, and each repeat has a byte
 
-apart_same : (b : ℕ) (r : Repeat) (rs : List Repeat) → b ≡ r.0 → NeighboursDiffer (r ∷ rs) → NeighboursDiffer ((b, r.1 + 1) ∷ rs)
+apart_same : (b : ℕ) (r : Repeat) (rs : List Repeat) → b ≡ r.0 → NeighboursDiffer (r ∷ rs)
+    → NeighboursDiffer ((b, r.1 + 1) ∷ rs)
 unfolding NeighboursDiffer
 apart_same b r [] e h = tt
 apart_same b r (q ∷ rs) e h = (λ s. h.0 (sym e ∙ s), h.1)
 
-apart_by : (b : ℕ) (r : Repeat) (rs : List Repeat) → (b ≡ r.0) ⊎ (b ≡ r.0 → ⊥) → NeighboursDiffer (r ∷ rs) → NeighboursDiffer (with_byte b (r ∷ rs))
+apart_by : (b : ℕ) (r : Repeat) (rs : List Repeat) → (b ≡ r.0) ⊎ (b ≡ r.0 → ⊥) → NeighboursDiffer (r ∷ rs)
+    → NeighboursDiffer (with_byte b (r ∷ rs))
 unfolding NeighboursDiffer
 apart_by b r rs (inl e) h = rw (eq-eqb b r.0 e) (apart_same b r rs e h)
 apart_by b r rs (inr ne) h = rw (ne_eqb b r.0 ne) (ne, h)

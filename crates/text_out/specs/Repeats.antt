@@ -1,5 +1,6 @@
 -- Bytes as their longest repeats: a byte, and how often it comes in a row.
-use Rattle.std.specs.Prelude.{◌≡◌, replicate, ℕ, ◌+◌, ◌/◌, ◌%◌, ◌==◌, ◌<◌, ◌++◌, List, [], ◌∷◌, Option, if◌then◌else◌, length, map}
+use Rattle.std.specs.Prelude.{◌≡◌, replicate, ℕ, ◌+◌, ◌/◌, ◌%◌, ◌==◌, ◌<◌, ◌++◌, List, [], ◌∷◌, Option, if◌then◌else◌}
+use Rattle.std.specs.Prelude.{length, map}
 use Rattle.std.specs.List.{join_with_byte}
 use Rattle.std.specs.Fmt.{decimal}
 use Rattle.std.specs.Io.KnownBytes.{Appends}
@@ -40,4 +41,5 @@ NeighboursDiffer (r ∷ q ∷ rs) = (r.0 ≡ q.0 → ⊥) × NeighboursDiffer (q
 
 -- the first repeat went out, and `rest` is behind it
 abbrev pub PutsFirst : Option (List ℕ) → Option (List ℕ) → List ℕ → List ℕ → Type 0
-PutsFirst old new bytes rest = (length rest < length bytes) × (front : List ℕ) × (repeats_text bytes ≡ front ++ repeats_text rest) × Appends old new front
+PutsFirst old new bytes rest = (length rest < length bytes) × (front : List ℕ)
+    × (repeats_text bytes ≡ front ++ repeats_text rest) × Appends old new front

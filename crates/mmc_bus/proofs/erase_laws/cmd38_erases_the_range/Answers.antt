@@ -2,12 +2,13 @@ use Rattle.std.proofs.Common.{◌∙◌, ap, false, refl}
 use Rattle.mmc_frame.specs.declared.card_state.State.TheVariants.{Tran}
 use Rattle.mmc_bus.proofs.CommandLemmas.{does_in}
 use Rattle.mmc_bus.proofs.erase_laws.cmd38_erases_the_range.Goals as goal
-use Rattle.mmc_bus.specs.Answer.{Checked, status}
+use Rattle.mmc_card.specs.CardAnswer.{Checked, status}
 use Rattle.mmc_bus.specs.Heard.{response_of}
-use Rattle.mmc_bus.specs.declared.command.Command.TheVariants.{Erase}
-use Rattle.mmc_bus.specs.RowsErase.{erase_held}
+use Rattle.mmc_card.specs.declared.command.Command.TheVariants.{Erase}
+use Rattle.mmc_card.specs.RowsErase.{erase_held}
 
 pub returns : goal.returns
 returns c = λ old new argument first last heard facts two range.
-    does_in (response_of 38) Tran (status false old.card) _ (Checked 38 (status false old.card)) Erase old 38 argument heard new facts refl
+    does_in (response_of 38) Tran (status false old.card) _
+    (Checked 38 (status false old.card)) Erase old 38 argument heard new facts refl
     refl refl (λ choice there. ap (λ held. erase_held old.card argument held) two ∙ rw range refl) refl

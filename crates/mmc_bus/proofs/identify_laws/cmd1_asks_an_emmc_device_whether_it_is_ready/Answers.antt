@@ -2,7 +2,7 @@ use Rattle.std.proofs.Common.{not, refl}
 use Rattle.mmc_bus.proofs.CommandLemmas.{not_false}
 use Rattle.mmc_bus.proofs.InquiryLemmas.{inquires, told_mmc}
 use Rattle.mmc_bus.proofs.identify_laws.cmd1_asks_an_emmc_device_whether_it_is_ready.Goals as goal
-use Rattle.mmc_bus.specs.declared.command.Command.TheVariants.{SendOpCond}
+use Rattle.mmc_card.specs.declared.command.Command.TheVariants.{SendOpCond}
 
 pub returns : goal.returns
 returns c = λ old new argument heard facts k.

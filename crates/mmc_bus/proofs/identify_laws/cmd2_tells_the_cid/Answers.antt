@@ -2,14 +2,16 @@ use Rattle.std.proofs.Common.{ap, refl}
 use Rattle.mmc_frame.specs.declared.card_state.State.TheVariants.{Ready}
 use Rattle.mmc_bus.proofs.CommandLemmas.{does_in, low_reached}
 use Rattle.mmc_bus.proofs.identify_laws.cmd2_tells_the_cid.Goals as goal
-use Rattle.mmc_bus.specs.Answer.{Register}
+use Rattle.mmc_card.specs.CardAnswer.{R2}
 use Rattle.mmc_bus.specs.Heard.{or_unsound, register_of}
-use Rattle.mmc_bus.specs.declared.command.Command.TheVariants.{AllSendCid}
-use Rattle.mmc_bus.specs.Card.{Card}
-use Rattle.mmc_bus.specs.Rows.{row}
+use Rattle.mmc_card.specs.declared.command.Command.TheVariants.{AllSendCid}
+use Rattle.mmc_card.specs.Card.{Card}
+use Rattle.mmc_card.specs.Rows.{row}
 
 pub returns : goal.returns
 returns c = λ old new argument heard facts k.
-    does_in register_of Ready old.card.made.cid _ (Register old.card.made.cid) AllSendCid old 2 argument heard new facts refl
-    refl refl (λ choice there. ap (λ (c : Card). row choice AllSendCid c 2 argument) (low_reached AllSendCid old.card Ready k there refl))
-    (ap or_unsound (c.register_comes_back.ensures old.card.made.cid k.registers.cid k.registers.cid_check k.registers.cid_end))
+    does_in register_of Ready old.card.made.cid _ (R2 old.card.made.cid) AllSendCid old 2 argument heard new facts refl
+    refl refl (λ choice there. ap (λ (c : Card). row choice AllSendCid c 2 argument)
+    (low_reached AllSendCid old.card Ready k there refl))
+    (ap or_unsound (c.register_comes_back.ensures old.card.made.cid k.registers.cid k.registers.cid_check
+    k.registers.cid_end))

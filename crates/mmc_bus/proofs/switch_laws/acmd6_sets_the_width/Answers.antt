@@ -2,15 +2,18 @@ use Rattle.std.proofs.Common.{ap, refl, true}
 use Rattle.mmc_frame.specs.declared.card_state.State.TheVariants.{Tran}
 use Rattle.mmc_bus.proofs.CommandLemmas.{does_in, dropped}
 use Rattle.mmc_bus.proofs.switch_laws.acmd6_sets_the_width.Goals as goal
-use Rattle.mmc_bus.specs.Answer.{Checked, shown, status}
-use Rattle.mmc_bus.specs.Card.{Card}
-use Rattle.mmc_bus.specs.Rows.{without_addresses}
-use Rattle.mmc_bus.specs.RowsSwitch.{width_by}
+use Rattle.mmc_card.specs.CardAnswer.{Checked, shown, status}
+use Rattle.mmc_card.specs.Card.{Card}
+use Rattle.mmc_card.specs.Rows.{without_addresses}
+use Rattle.mmc_card.specs.RowsSwitch.{width_by}
 use Rattle.mmc_frame.specs.Field.{field}
 use Rattle.mmc_bus.specs.Heard.{response_of}
-use Rattle.mmc_bus.specs.declared.command.Command.TheVariants.{ASetBusWidth}
+use Rattle.mmc_card.specs.declared.command.Command.TheVariants.{SetBusWidth}
 
 pub returns : goal.returns
 returns c = λ old new argument heard facts kind app.
-    does_in (response_of 6) Tran (status true (without_addresses old.card)) _ (Checked 6 (status true (without_addresses old.card))) ASetBusWidth old 6 argument heard new facts (rw (kind, app) refl)
-    refl refl (λ choice there. ap (λ (d : Card). (d, Checked 6 (status true (without_addresses old.card)))) (dropped (λ d. record (shown d) { width = width_by (field 1 0 argument) d.width }) old.card refl)) refl
+    does_in (response_of 6) Tran (status true (without_addresses old.card)) _
+    (Checked 6 (status true (without_addresses old.card))) SetBusWidth old 6 argument heard new facts
+    (rw (kind, app) refl)
+    refl refl (λ choice there. ap (λ (d : Card). (d, Checked 6 (status true (without_addresses old.card))))
+    (dropped (λ d. record (shown d) { width = width_by (field 1 0 argument) d.width }) old.card refl)) refl

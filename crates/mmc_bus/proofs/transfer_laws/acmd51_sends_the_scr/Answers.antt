@@ -2,16 +2,19 @@ use Rattle.std.proofs.Common.{ap, refl, true}
 use Rattle.mmc_frame.specs.declared.card_state.State.TheVariants.{Tran}
 use Rattle.mmc_bus.proofs.CommandLemmas.{dropped, in_is, tells_kind}
 use Rattle.mmc_bus.proofs.InquiryLemmas.{told_app}
-use Rattle.mmc_bus.specs.Card.{Card}
-use Rattle.mmc_bus.specs.Rows.{without_addresses}
-use Rattle.mmc_bus.specs.RowsTransfer.{sending}
+use Rattle.mmc_card.specs.Card.{Card}
+use Rattle.mmc_card.specs.Rows.{without_addresses}
+use Rattle.mmc_card.specs.RowsTransfer.{sending}
 use Rattle.mmc_bus.proofs.transfer_laws.acmd51_sends_the_scr.Goals as goal
-use Rattle.mmc_bus.specs.Answer.{Checked, status}
+use Rattle.mmc_card.specs.CardAnswer.{Checked, status}
 use Rattle.mmc_bus.specs.Heard.{response_of}
-use Rattle.mmc_bus.specs.declared.command.Command.TheVariants.{ASendScr}
+use Rattle.mmc_card.specs.declared.command.Command.TheVariants.{SendScr}
 
 pub returns : goal.returns
 returns c = λ old new argument heard facts.
-    tells_kind (response_of 51) _ (status true (without_addresses old.card)) _ (Checked 51 (status true (without_addresses old.card))) ASendScr old 51 argument heard new facts
-    (told_app old.card.made.kind old.card.app old.card) (λ there. rw (there.0, there.1) refl) refl (λ there. in_is old.card.state Tran there.2)
-    (λ choice. ap (λ (d : Card). (d, Checked 51 (status true (without_addresses old.card)))) (dropped (λ d. sending d.made.scr d.timing d) old.card refl)) refl
+    tells_kind (response_of 51) _ (status true (without_addresses old.card)) _
+    (Checked 51 (status true (without_addresses old.card))) SendScr old 51 argument heard new facts
+    (told_app old.card.made.kind old.card.app old.card) (λ there. rw (there.0, there.1) refl) refl
+    (λ there. in_is old.card.state Tran there.2)
+    (λ choice. ap (λ (d : Card). (d, Checked 51 (status true (without_addresses old.card))))
+    (dropped (λ d. sending d.made.scr d.timing d) old.card refl)) refl

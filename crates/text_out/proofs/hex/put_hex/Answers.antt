@@ -8,7 +8,8 @@ pub returns-in_err-put_byte : goal.returns-in_err-put_byte
 returns-in_err-put_byte g c =
     let inv = c.loop-byte.invariant in
     let lt : c.loop-byte.byte-index < length c.args.bytes.now = omega arith in
-    writes_broken _ _ _ _ inv.0 _ (hex_text (drop (c.loop-byte.byte-index + 1) c.args.bytes.now)) _ c.from_residual.ensures.0
+    writes_broken _ _ _ _ inv.0 _ (hex_text (drop (c.loop-byte.byte-index + 1) c.args.bytes.now)) _
+    c.from_residual.ensures.0
     (inv.1 ∙ ap (λ t. inv.0 ++ t) (hex_at c.args.bytes.now c.loop-byte.byte-index lt)) inv.2 c.in_err-put_byte.ensures
 
 pub loop-byte-preserved : goal.loop-byte-preserved

@@ -9,6 +9,7 @@ loop-rest-preserved g c =
     let rest = c.loop-rest.rest.now in
     let n = c.in-Ok.count in (
       inv.0 ++ take n rest,
-      inv.1 ∙ ap (λ l. inv.0 ++ l) (sym (take-append-drop n rest) ∙ ap (λ l. take n rest ++ l) (sym (take_rest rest n))) ∙ sym (append_assoc inv.0 (take n rest) _),
+      inv.1 ∙ ap (λ l. inv.0 ++ l) (sym (take-append-drop n rest) ∙ ap (λ l. take n rest ++ l) (sym (take_rest rest n)))
+          ∙ sym (append_assoc inv.0 (take n rest) _),
       appends_more _ _ _ inv.0 (take n rest) inv.2 c.in-Ok.ensures.bytes,
     )

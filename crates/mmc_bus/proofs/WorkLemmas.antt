@@ -1,0 +1,102 @@
+-- Parts of a host's work, and two of them one behind the other.
+use Rattle.std.proofs.Common.{◌<◌, ◌∙◌, ◌≡◌, arith, inl, inr, true, ℕ}
+use Rattle.std.proofs.lemmas.Bool.{cases_lt}
+use Rattle.std.specs.Prelude.{None, Result, Some}
+use Rattle.mmc_card.specs.BusView.{BusView}
+use Rattle.mmc_card.specs.CardAnswer.{CardAnswer}
+use Rattle.mmc_card.specs.Faults.{NoFault}
+use Rattle.mmc_card.specs.Laws.{erased_by, is_frame_of_run}
+use Rattle.mmc_card.specs.declared.exchange.Reply.{Reply}
+use Rattle.mmc_bus.specs.declared.host.Unheard.{Unheard}
+use Rattle.mmc_bus.specs.Exchanges.{Kept}
+use Rattle.mmc_bus.specs.Learned.{Asked, Stays}
+use Rattle.mmc_bus.specs.Work.{Narrows, StaysSet, Worked}
+
+pub stays_then : (a b c : BusView) → Stays a b → Stays b c → Stays a c
+stays_then a b c p q =
+    let l = p.later in
+    let m = q.later in
+    record {
+      carried = record { made = q.carried.made ∙ p.carried.made; sizes = λ i. q.carried.sizes i ∙ p.carried.sizes i };
+      later = omega (arith, l, m);
+    }
+
+pub set_then : (a b c : BusView) → StaysSet a b → StaysSet b c → StaysSet a c
+set_then a b c p q = record { lines = q.lines ∙ p.lines; stands = λ setting s. q.stands setting (p.stands setting s) }
+
+pub narrows_then : (a b c : BusView) → Narrows a b → Narrows b c → Narrows a c
+narrows_then a b c p q part sector value h = p part sector value (q part sector value h)
+
+-- no fault in the whole is none in its parts
+pub quiet_parts : (a b c : BusView) → Stays a b → Stays b c → NoFault a c → NoFault a b × NoFault b c
+quiet_parts a b c p q same =
+    let l = p.later in
+    let m = q.later in
+    (omega (arith, l, m, same), omega (arith, l, m, same))
+
+-- Work is done by one exchange.
+pub worked : {Facts : Type 0} {Holds Own Fine : BusView → BusView → Type 0} (old new : BusView) → Kept old Facts new
+    → Stays old new → StaysSet old new → Holds old new → Own old new → (NoFault old new → Fine old new)
+    → Worked Holds Own Fine old new
+worked old new k stays set sectors own fine = record {
+  was_kept = k.was_kept;
+  was_card = k.was_card;
+  is_card = k.is_card;
+  stays = stays;
+  set = set;
+  sectors = sectors;
+  own = own;
+  fine = fine;
+}
+
+-- A command of a run, other than one that erases.
+pub command_worked : {X : Type 0} {hears : Reply → Result X Unheard} {answers : CardAnswer → Result X Unheard}
+    {Own Fine : BusView → BusView → Type 0} {old : BusView} {index argument : ℕ} {heard : Result X Unheard}
+    {new : BusView}
+    → Asked hears answers old index argument heard new → erased_by old.card (Some (index, argument)) ≡ None
+    → is_frame_of_run old.card (Some (index, argument)) ≡ true → new.is_kept ≡ true → Own old new
+    → (NoFault old new → Fine old new) → Worked Narrows Own Fine old new
+command_worked {old} {new} asked none of_run kept own fine =
+    let e = asked.exchanged in
+    let k = e.kept kept in
+    worked old new k k.step.stays (record { lines = e.lines; stands = k.step.stands of_run })
+    (rw none at k.step.narrows) own fine
+
+-- Work in two parts.
+pub joined : {Holds Own Fine More Gained Easy All Whole Calm : BusView → BusView → Type 0} (a b c : BusView)
+    → Worked Holds Own Fine a b
+    → Worked More Gained Easy b c → All a c → Whole a c → (NoFault a c → Calm a c) → Worked All Whole Calm a c
+joined a b c p q sectors own fine = record {
+  was_kept = p.was_kept;
+  was_card = p.was_card;
+  is_card = q.is_card;
+  stays = stays_then a b c p.stays q.stays;
+  set = set_then a b c p.set q.set;
+  sectors = sectors;
+  own = own;
+  fine = fine;
+}
+
+-- Of the same work something else holds.
+pub worked_as : {Holds Own Fine All Whole Calm : BusView → BusView → Type 0} (a b : BusView) → Worked Holds Own Fine a b
+    → All a b → Whole a b → (NoFault a b → Calm a b) → Worked All Whole Calm a b
+worked_as a b p sectors own fine = record {
+  was_kept = p.was_kept;
+  was_card = p.was_card;
+  is_card = p.is_card;
+  stays = p.stays;
+  set = p.set;
+  sectors = sectors;
+  own = own;
+  fine = fine;
+}
+
+-- what can't be without a fault takes one
+pub fell : (a b : BusView) → Stays a b → (NoFault a b → ⊥) → a.faults < b.faults
+fell a b stays not =
+    let l = stays.later in
+    elim (cases_lt a.faults b.faults) [
+      | inl less ↦ less
+      | inr more
+          ↦ (let same : b.faults ≡ a.faults = omega (arith, l, more) in absurd (not same))
+    ]

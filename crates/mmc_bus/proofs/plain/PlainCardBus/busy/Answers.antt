@@ -1,8 +1,0 @@
-use Rattle.mmc_bus.proofs.PlainSteps.{polled}
-use Rattle.mmc_bus.proofs.plain.PlainCardBus.busy.Goals as goal
-
-pub invariant_of-self : goal.invariant_of-self
-invariant_of-self c = (polled _ _ _ _ c.self.invariant c.note.ensures c.end_busy.ensures).1
-
-pub returns-clause-exchanged : goal.returns-clause-exchanged
-returns-clause-exchanged c = rw (← c.self.view_is) (polled _ _ _ _ c.self.invariant c.note.ensures c.end_busy.ensures).0

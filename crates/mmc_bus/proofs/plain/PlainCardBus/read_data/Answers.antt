@@ -1,8 +1,0 @@
-use Rattle.mmc_bus.proofs.PlainSteps.{taken}
-use Rattle.mmc_bus.proofs.plain.PlainCardBus.read_data.Goals as goal
-
-pub invariant_of-self : goal.invariant_of-self
-invariant_of-self c = (taken _ _ _ _ _ _ _ c.self.invariant (rw c.send-got.ensures.len at c.note.ensures) c.send-got.ensures.card c.send-got.ensures.got_is c.send-got.ensures.block_is).1
-
-pub returns-clause-exchanged : goal.returns-clause-exchanged
-returns-clause-exchanged c = rw (← c.self.view_is) (taken _ _ _ _ _ _ _ c.self.invariant (rw c.send-got.ensures.len at c.note.ensures) c.send-got.ensures.card c.send-got.ensures.got_is c.send-got.ensures.block_is).0

@@ -1,0 +1,101 @@
+-- Lists of numbers below 256.
+use Rattle.std.proofs.Common.{◌&&◌, ◌*◌, ◌+◌, ◌<◌, ◌≡◌, ◌≤◌, ◌∷◌, Bool, List, [], arith, false, length, suc, true, zero}
+use Rattle.std.proofs.Common.{ℕ}
+use Rattle.std.specs.Prelude.{◌==◌, if◌then◌else◌, nat_lt, replicate, slice_index, slice_set}
+use Rattle.std.proofs.lemmas.Bool.Decides.{nat_tests}
+use Rattle.std.proofs.lemmas.List.{length-replicate}
+use Rattle.mmc_frame.specs.Field.{field}
+use Rattle.mmc_frame.specs.Flips.{AreBytes}
+use Rattle.mmc_regs.specs.Scr.{data_stat_after_erase, scr_number}
+use Rattle.mmc_ext_csd.specs.ExtCsd.{erased_mem_cont}
+use Rattle.mmc_card.proofs.Conditions.{by_cond}
+use Rattle.mmc_card.proofs.Narrow.{both}
+use Rattle.mmc_card.specs.Card.{Card, IsBlock}
+use Rattle.mmc_card.specs.Made.{Made, erased_byte_of_card, erased_sector, is_sd}
+use Rattle.mmc_card.specs.RowsSwitch.{access_number, ext_csd_now, partition_config_for, timing_number, width_number}
+use Rattle.mmc_card.specs.declared.exchange.Timing.{Timing}
+use Rattle.mmc_card.specs.declared.exchange.Timing.TheVariants.{Default, High}
+use Rattle.mmc_card.specs.declared.exchange.Width.{Width}
+use Rattle.mmc_card.specs.declared.exchange.Width.TheVariants.{Eight, Four, One}
+use Rattle.mmc_card.specs.declared.part.Part.{Part}
+use Rattle.mmc_card.specs.declared.part.Part.TheVariants.{Boot1, Boot2, Gp1, Gp2, Gp3, Gp4, User}
+
+-- a test, for bytes that are written out
+abbrev pub are_bytes : List ℕ → Bool
+are_bytes [] = true
+are_bytes (x ∷ xs) = nat_lt x 256 && are_bytes xs
+
+below_byte : (x : ℕ) → nat_lt x 256 ≡ true → x < 256
+below_byte x h = grind (arith, nat_tests, h)
+
+pub bytes_by : (xs : List ℕ) → are_bytes xs ≡ true → AreBytes xs
+bytes_by [] h = tt
+bytes_by (x ∷ xs) h = let parts = both (nat_lt x 256) (are_bytes xs) h in (below_byte x parts.0, bytes_by xs parts.1)
+
+-- what is known of an array
+pub bytes_at : (xs : List ℕ) → ((i : ℕ) → slice_index xs i < 256) → AreBytes xs
+bytes_at [] h = tt
+bytes_at (x ∷ xs) h = (h 0, bytes_at xs (λ i. h (suc i)))
+
+pub bytes_replicate : (n x : ℕ) → x < 256 → AreBytes (replicate n x)
+bytes_replicate zero x h = tt
+bytes_replicate (suc n) x h = (h, bytes_replicate n x h)
+
+pub bytes_set : (xs : List ℕ) (i x : ℕ) → x < 256 → AreBytes xs → AreBytes (slice_set xs i x)
+bytes_set [] i x h bytes = tt
+bytes_set (y ∷ xs) zero x h bytes = (h, bytes.1)
+bytes_set (y ∷ xs) (suc i) x h bytes = (bytes.0, bytes_set xs i x h bytes.1)
+
+-- The EXT_CSD as it is.
+
+width_below : (width : Width) → width_number width < 256
+width_below One = omega arith
+width_below Four = omega arith
+width_below Eight = omega arith
+
+timing_below : (timing : Timing) → timing_number timing < 256
+timing_below Default = omega arith
+timing_below High = omega arith
+
+access_below : (part : Part) → access_number part < 8
+access_below User = omega arith
+access_below Boot1 = omega arith
+access_below Boot2 = omega arith
+access_below Gp1 = omega arith
+access_below Gp2 = omega arith
+access_below Gp3 = omega arith
+access_below Gp4 = omega arith
+
+config_below : (config access : ℕ) → access < 8 → 8 * field 7 3 config + access < 256
+config_below config access h = omega (arith, h)
+
+byte_of_group : (n : ℕ) → n ≤ 1 → n < 256
+byte_of_group n h = omega (arith, h)
+
+pub ext_csd_bytes : (c : Card) → c.erase_group_def ≤ 1 → AreBytes c.made.ext_csd → AreBytes (ext_csd_now c)
+ext_csd_bytes c group bytes =
+    bytes_set _ 185 (timing_number c.timing) (timing_below c.timing)
+    (bytes_set _ 183 (width_number c.width) (width_below c.width)
+    (bytes_set _ 179 (partition_config_for c.made c.part) (config_below _ (access_number c.part) (access_below c.part))
+    (bytes_set c.made.ext_csd 175 c.erase_group_def (byte_of_group c.erase_group_def group) bytes)))
+
+-- Blocks.
+
+pub block_of : (x : ℕ) → x < 256 → IsBlock (replicate 512 x)
+block_of x h = record { len = length-replicate 512 x; bytes = bytes_replicate 512 x h }
+
+pub block_at : (xs : List ℕ) → length xs ≡ 512 → ((i : ℕ) → slice_index xs i < 256) → IsBlock xs
+block_at xs len h = record { len = len; bytes = bytes_at xs h }
+
+erased_below : (b : Bool) → (if b then 0 else 0xff) < 256
+erased_below true = omega arith
+erased_below false = omega arith
+
+erased_byte_below : (made : Made) → erased_byte_of_card made < 256
+erased_byte_below made =
+    by_cond (λ x. x < 256) (is_sd made.kind)
+    (λ _. erased_below (data_stat_after_erase (scr_number made.scr) == 0))
+    (λ _. erased_below (erased_mem_cont made.ext_csd == 0))
+
+pub erased_block : (made : Made) → IsBlock (erased_sector made)
+erased_block made = block_of (erased_byte_of_card made) (erased_byte_below made)

@@ -1,0 +1,207 @@
+-- Each step of a card leaves a card: all parts of what holds of it.
+use Rattle.std.proofs.Common.{Bool, List, arith, inr, refl, ℕ}
+use Rattle.mmc_frame.specs.Frame.{command_in}
+use Rattle.mmc_card.specs.declared.exchange.DataIn.{DataIn}
+use Rattle.mmc_card.specs.declared.exchange.DataOut.{DataOut}
+use Rattle.mmc_card.specs.declared.exchange.Reply.{Reply}
+use Rattle.mmc_card.proofs.CardRows as rows
+use Rattle.mmc_card.proofs.Cards as cards
+use Rattle.mmc_card.proofs.Cards.{IsBasic}
+use Rattle.mmc_card.proofs.Narrow.{sends_data, accepts_in_rcv}
+use Rattle.mmc_card.proofs.Ordered.{IsOrdered, ordered_accepted, ordered_answered, ordered_garbled, ordered_programmed}
+use Rattle.mmc_card.proofs.Ordered.{ordered_raised, ordered_reached, ordered_rejected, ordered_reset, ordered_rested}
+use Rattle.mmc_card.proofs.Ordered.{ordered_sent_from, ordered_waited}
+use Rattle.mmc_card.proofs.Sending.{IsSending, sending_accepted, sending_answered, sending_garbled, sending_programmed}
+use Rattle.mmc_card.proofs.Sending.{sending_raised, sending_reached, sending_rejected, sending_reset, sending_rested}
+use Rattle.mmc_card.proofs.Sending.{sending_sent_from, sending_waited}
+use Rattle.mmc_card.proofs.Settled.{IsSettled, settled_accepted, settled_answered, settled_garbled, settled_programmed}
+use Rattle.mmc_card.proofs.Settled.{settled_raised, settled_reached, settled_rejected, settled_reset, settled_rested}
+use Rattle.mmc_card.proofs.Settled.{settled_sent_from, settled_waited}
+use Rattle.mmc_card.proofs.Steps.{after_command, after_write, after_poll, after_read}
+use Rattle.mmc_card.specs.CardAnswer.{raised}
+use Rattle.mmc_card.specs.Blocks.{programmed}
+use Rattle.mmc_card.specs.Card.{AreAmong, AreBlocks, Card, IsBlock, IsCard, powered_on, stored}
+use Rattle.mmc_card.specs.ErrorBits.{error_bits, general_error}
+use Rattle.mmc_card.specs.Made.{HasRegisters, Made}
+use Rattle.mmc_card.specs.declared.part.Part.{Part}
+use Rattle.mmc_card.specs.Faults.{CommandStep, WriteStep, PollStep, ReadStep}
+use Rattle.mmc_card.specs.declared.command.Command.{Command}
+use Rattle.mmc_card.specs.Rows.{reached}
+use Rattle.mmc_card.specs.Sectors.{Sector}
+use Rattle.mmc_card.specs.BusView.{BusView}
+
+basic : (c : Card) → IsCard c → IsBasic c
+basic c k = record {
+  registers = k.registers;
+  apart = k.apart;
+  finished = k.finished;
+  block_length = k.block_length;
+  command_errors = k.command_errors;
+  errors = k.errors;
+  blocks = k.blocks;
+  new_values = k.new_values;
+}
+
+ordered : (c : Card) → IsCard c → IsOrdered c
+ordered c k = record {
+  held = k.held;
+  busy = k.busy;
+  rca = k.rca;
+  app = k.app;
+  inquiries = k.inquiries;
+  polled = k.polled;
+}
+
+settled : (c : Card) → IsCard c → IsSettled c
+settled c k = record { fits = k.fits; receives = k.receives; switches = k.switches; source = k.source }
+
+sending : (c : Card) → IsCard c → IsSending c
+sending c k = record { registers = k.registers; erase_group_def = k.erase_group_def; sends = k.sends }
+
+whole : (c : Card) → IsBasic c → IsOrdered c → IsSettled c → IsSending c → IsCard c
+whole c b o s g = record {
+  sends = g.sends;
+  erase_group_def = g.erase_group_def;
+  fits = s.fits;
+  receives = s.receives;
+  switches = s.switches;
+  source = s.source;
+  registers = b.registers;
+  apart = b.apart;
+  held = o.held;
+  busy = o.busy;
+  rca = o.rca;
+  app = o.app;
+  inquiries = o.inquiries;
+  polled = o.polled;
+  finished = b.finished;
+  block_length = b.block_length;
+  command_errors = b.command_errors;
+  errors = b.errors;
+  blocks = b.blocks;
+  new_values = b.new_values;
+}
+
+pub card_reached : (command : Command) (c : Card) → IsCard c → IsCard (reached command c)
+card_reached command c k =
+    whole _ (cards.card_reached command c (basic c k)) (ordered_reached command c (ordered c k))
+    (settled_reached command c (settled c k)) (sending_reached command c (sending c k))
+
+pub card_raised : (bits : ℕ) (c : Card) → AreAmong bits error_bits → IsCard c → IsCard (raised bits c)
+card_raised bits c among k =
+    whole _ (cards.card_raised bits c among (basic c k)) (ordered_raised bits c (ordered c k))
+    (settled_raised bits c (settled c k)) (sending_raised bits c (sending c k))
+
+-- Steps.
+
+pub command_leaves_card : (old : BusView) (frame : List ℕ) (reply : Reply) (new : BusView)
+    → CommandStep old frame reply new → IsCard old.card → IsCard new.card
+command_leaves_card old frame reply new step k =
+    let o = ordered old.card k in
+    let s = settled old.card k in
+    let g = sending old.card k in
+    whole new.card
+    (rows.command_leaves_card old frame reply new step (basic old.card k))
+    (after_command IsOrdered old frame reply new o
+    (λ choice. ordered_answered choice old.card (command_in frame) o)
+    (λ keeps. ordered_garbled keeps old.card o)
+    (λ lands card _. ordered_reset lands card) step)
+    (after_command IsSettled old frame reply new s
+    (λ choice. settled_answered choice old.card (command_in frame) s)
+    (λ keeps. settled_garbled keeps old.card s)
+    (λ lands card _. settled_reset lands card) step)
+    (after_command IsSending old frame reply new g
+    (λ choice. sending_answered choice old.card (command_in frame) g)
+    (λ keeps. sending_garbled keeps old.card g) sending_reset step)
+
+pub poll_leaves_card : (old : BusView) (said : Bool) (new : BusView) → PollStep old said new → IsCard old.card
+    → IsCard new.card
+poll_leaves_card old said new step k =
+    let o = ordered old.card k in
+    let s = settled old.card k in
+    let g = sending old.card k in
+    whole new.card (rows.poll_leaves_card old said new step (basic old.card k))
+    (after_poll IsOrdered old said new o (ordered_rested old.card o) (λ _. ordered_waited old.card o)
+    (λ lands prg _. ordered_raised general_error (programmed lands old.card)
+    (ordered_programmed lands old.card prg o))
+    (λ lands card _. ordered_reset lands card) step)
+    (after_poll IsSettled old said new s (settled_rested old.card s) (λ _. settled_waited old.card s)
+    (λ lands prg _. settled_raised general_error (programmed lands old.card)
+    (settled_programmed lands old.card prg s))
+    (λ lands card _. settled_reset lands card) step)
+    (after_poll IsSending old said new g (sending_rested old.card g) (λ _. sending_waited old.card g)
+    (λ lands _ _. sending_raised general_error (programmed lands old.card)
+    (sending_programmed lands old.card g))
+    sending_reset step)
+
+pub write_leaves_card : (old : BusView) (block : Sector) (got : DataOut) (new : BusView) → IsBlock block
+    → WriteStep old block got new → IsCard old.card → IsCard new.card
+write_leaves_card old block got new h step k =
+    let o = ordered old.card k in
+    let s = settled old.card k in
+    let g = sending old.card k in
+    whole new.card
+    (rows.write_leaves_card old block got new h step (basic old.card k))
+    (after_write IsOrdered old block got new o
+    (λ accepts. ordered_accepted block old.card (accepts_in_rcv old.lines old.card accepts) o)
+    (λ accepts. ordered_rejected old.card (accepts_in_rcv old.lines old.card accepts) o)
+    (λ lands card _. ordered_reset lands card) step)
+    (after_write IsSettled old block got new s
+    (λ accepts. settled_accepted block old.lines old.card accepts s)
+    (λ accepts. settled_rejected old.card (accepts_in_rcv old.lines old.card accepts) s)
+    (λ lands card _. settled_reset lands card) step)
+    (after_write IsSending old block got new g (λ _. sending_accepted block old.card g)
+    (λ _. sending_rejected old.card g) sending_reset step)
+
+pub read_leaves_card : (old : BusView) (size : ℕ) (got : DataIn) (block : Sector) (new : BusView)
+    → ReadStep old size got block new → IsCard old.card → IsCard new.card
+read_leaves_card old size got block new step k =
+    let o = ordered old.card k in
+    let s = settled old.card k in
+    let g = sending old.card k in
+    whole new.card
+    (rows.read_leaves_card old size got block new step (basic old.card k))
+    (after_read IsOrdered old size got block new o
+    (λ choice sends. ordered_sent_from old.card.source choice old.card
+    (sends_data old.lines size old.card sends) o)
+    (λ lands card _. ordered_reset lands card) step)
+    (after_read IsSettled old size got block new s
+    (λ choice sends. settled_sent_from old.card.source choice old.card refl s)
+    (λ lands card _. settled_reset lands card) step)
+    (after_read IsSending old size got block new g
+    (λ choice _. sending_sent_from old.card.source choice old.card g) sending_reset step)
+
+-- After power on.
+
+pub new_card : (made : Made) (sectors : List (List Sector)) → HasRegisters made
+    → ((part : Part) → AreBlocks (stored (powered_on made sectors) part)) → IsCard (powered_on made sectors)
+new_card made sectors registers blocks = record {
+  registers = registers;
+  apart = λ h. record {
+    width = refl;
+    timing = refl;
+    erase_group_def = refl;
+    part = refl;
+    is_busy = refl;
+    count = refl;
+    erase = refl;
+  };
+  held = λ h. refl;
+  busy = λ h. cc;
+  rca = record { first = λ h. refl; published = λ h sd. cc };
+  app = λ h. refl;
+  inquiries = omega arith;
+  polled = omega arith;
+  fits = λ some. absurd (omega (arith, some));
+  receives = λ h. cc;
+  switches = λ h w. refl;
+  source = λ h. refl;
+  sends = tt;
+  erase_group_def = omega arith;
+  finished = λ h. refl;
+  block_length = inr refl;
+  command_errors = refl;
+  errors = refl;
+  blocks = blocks;
+  new_values = tt;
+}

@@ -1,0 +1,76 @@
+-- The law of narrowing, step by step.
+use Rattle.std.proofs.Common.{◌≡◌, Bool, List, inl, true, ℕ}
+use Rattle.std.specs.Prelude.{Option}
+use Rattle.mmc_frame.specs.Frame.{command_in}
+use Rattle.mmc_card.specs.declared.exchange.DataIn.{DataIn}
+use Rattle.mmc_card.specs.declared.exchange.DataOut.{DataOut}
+use Rattle.mmc_card.specs.declared.exchange.Lines.{Lines}
+use Rattle.mmc_card.specs.declared.exchange.Reply.{Reply}
+use Rattle.mmc_card.proofs.Narrow.{Keeps, Widens, accepted_adds, carried_accepted, carried_then, keeps_failed}
+use Rattle.mmc_card.proofs.Narrow.{keeps_garbled, keeps_rejected, keeps_reset, keeps_rested, keeps_same}
+use Rattle.mmc_card.proofs.Narrow.{keeps_sent_from, keeps_slow, keeps_then, accepts_in_rcv, wide, widens_answered}
+use Rattle.mmc_card.proofs.Steps.{after_command, after_write, after_poll, after_read}
+use Rattle.mmc_card.specs.Blocks.{accepted, can_accept}
+use Rattle.mmc_card.specs.Card.{Card}
+use Rattle.mmc_card.specs.Faults.{CommandStep, WriteStep, PollStep, ReadStep}
+use Rattle.mmc_card.specs.Laws.{Carried, WithinOrAccepted, erased_by}
+use Rattle.mmc_card.specs.Sectors.{Change, Sector}
+use Rattle.mmc_card.specs.BusView.{BusView}
+
+-- what a write may add
+pub record Adds (block : Sector) (old new : Card) : Type 0 where
+  pub carried : Carried old new
+  pub adds : WithinOrAccepted old block new
+
+-- nothing is added
+adds_none : (block : Sector) (c d : Card) → Keeps c d → Adds block c d
+adds_none block c d k = record { carried = k.carried; adds = λ p s v h. inl (k.narrows p s v h) }
+
+-- what was added is settled after it
+adds_then : (block : Sector) (a b c : Card) → Adds block a b → Keeps b c → Adds block a c
+adds_then block a b c p q = record {
+  carried = carried_then p.carried q.carried;
+  adds = λ i s v h. p.adds i s v (q.narrows i s v h);
+}
+
+adds_accepted : (block : Sector) (lines : Lines) (c : Card) → can_accept lines c ≡ true
+    → Adds block c (accepted block c)
+adds_accepted block lines c t = record {
+  carried = carried_accepted block c;
+  adds = accepted_adds block c (accepts_in_rcv lines c t);
+}
+
+wide_after : (change : Option Change) (a b c : Card) → Widens change a b → Keeps b c → Widens change a c
+wide_after change a b c p q = record {
+  carried = carried_then p.carried q.carried;
+  widens = λ i s v h. p.widens i s v (q.narrows i s v h);
+}
+
+pub command_widens : (old : BusView) (frame : List ℕ) (reply : Reply) (new : BusView) → CommandStep old frame reply new
+    → Widens (erased_by old.card (command_in frame)) old.card new.card
+command_widens old frame reply new step =
+    let change = erased_by old.card (command_in frame) in
+    after_command (Widens change old.card) old frame reply new (wide change old.card _ (keeps_same old.card))
+    (λ choice. widens_answered choice old.card (command_in frame))
+    (λ keeps. wide change old.card _ (keeps_garbled keeps old.card))
+    (λ lands card w. wide_after change old.card card _ w (keeps_reset lands card)) step
+
+pub poll_keeps : (old : BusView) (said : Bool) (new : BusView) → PollStep old said new → Keeps old.card new.card
+poll_keeps old said new step =
+    after_poll (Keeps old.card) old said new (keeps_same old.card) (keeps_rested old.card) (λ _. keeps_slow old.card)
+    (λ lands _ _. keeps_failed lands old.card) (λ lands card k. keeps_then k (keeps_reset lands card)) step
+
+pub write_adds : (old : BusView) (block : Sector) (got : DataOut) (new : BusView) → WriteStep old block got new
+    → Adds block old.card new.card
+write_adds old block got new step =
+    after_write (Adds block old.card) old block got new (adds_none block old.card _ (keeps_same old.card))
+    (λ accepts. adds_accepted block old.lines old.card accepts)
+    (λ _. adds_none block old.card _ (keeps_rejected old.card))
+    (λ lands card a. adds_then block old.card card _ a (keeps_reset lands card)) step
+
+pub read_keeps : (old : BusView) (size : ℕ) (got : DataIn) (block : Sector) (new : BusView)
+    → ReadStep old size got block new → Keeps old.card new.card
+read_keeps old size got block new step =
+    after_read (Keeps old.card) old size got block new (keeps_same old.card)
+    (λ choice _. keeps_sent_from old.card.source choice old.card)
+    (λ lands card k. keeps_then k (keeps_reset lands card)) step

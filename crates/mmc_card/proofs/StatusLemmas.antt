@@ -1,0 +1,185 @@
+-- What a status says of its card.
+use Rattle.std.proofs.Common.{◌*◌, ◌+◌, ◌<◌, ◌∙◌, ◌≡◌, ◌≤◌, ◌↔◌, ◌^◌, Bool, ap, arith, bit_or, false, refl, sym, true}
+use Rattle.std.proofs.Common.{ℕ}
+use Rattle.std.specs.Prelude.{◌==◌, not}
+use Rattle.std.specs.Int.{bit_at}
+use Rattle.std.specs.Int.RustNames.{bit_and}
+use Rattle.std.proofs.lemmas.Nat.{and_block, and_le_r, and_or_apart, or_disjoint}
+use Rattle.std.proofs.lemmas.Nat.Bits.{and_pow, bit_at_and, bit_at_or, bit_at-zero, same_from_bits}
+use Rattle.mmc_frame.specs.Field.{field}
+use Rattle.mmc_frame.specs.Status.{IsClean, error_bits, state_number}
+use Rattle.mmc_frame.specs.declared.card_state.State.{State}
+use Rattle.mmc_frame.specs.declared.card_state.State.TheVariants.{Data, Dis, Ident, Idle, Prg, Rcv, Ready, Stby, Tran}
+use Rattle.mmc_frame.specs.declared.kind.Kind.{Kind}
+use Rattle.mmc_frame.specs.declared.kind.Kind.TheVariants.{Mmc, Sd}
+use Rattle.mmc_card.proofs.Cards.{among_more, in_state}
+use Rattle.mmc_card.specs.CardAnswer.{bit, status}
+use Rattle.mmc_card.specs.Card.{AreAmong, Card, IsCard}
+use Rattle.mmc_card.specs.ErrorBits.{card_is_locked, command_error_bits, error_bits as held_bits}
+use Rattle.mmc_card.specs.CardLaws.{HasNoError, IsInOrder}
+
+-- Bits.
+
+bit_among : (a m i : ℕ) → AreAmong a m → bit_at a i ≤ bit_at m i
+bit_among a m i h = omega (arith, bit_at_or a m i, ap (λ n. bit_at n i) h)
+
+among_then : (a b c : ℕ) → AreAmong a b → AreAmong b c → AreAmong a c
+among_then a b c h k =
+    same_from_bits _ _ (λ i. omega (arith, bit_at_or a c i, bit_among a b i h, bit_among b c i k))
+
+and_among : (a m : ℕ) → AreAmong a m → bit_and a m ≡ a
+and_among a m h =
+    same_from_bits _ _ (λ i. omega (arith, bit_at_and a m i, bit_among a m i h))
+
+among_apart : (a b m n : ℕ) → AreAmong a m → AreAmong b n → bit_and m n ≡ 0 → bit_and a b ≡ 0
+among_apart a b m n h k apart =
+    same_from_bits _ _
+    (λ i. omega (
+      arith,
+      bit_at_and a b i,
+      bit_at_and m n i,
+      bit_among a m i h,
+      bit_among b n i k,
+      ap (λ x. bit_at x i) apart,
+      bit_at-zero i,
+    ))
+
+-- The mask of errors from bit 13 on, in units of bit 13: both kinds of error bits, and not CARD_IS_LOCKED.
+
+abbrev high_mask : ℕ
+high_mask = command_error_bits + held_bits
+
+locked_among : (b : Bool) → AreAmong (card_is_locked * bit b) card_is_locked
+locked_among true = refl
+locked_among false = refl
+
+masked_held : (c e : ℕ) (locked : Bool) → AreAmong c command_error_bits → AreAmong e held_bits
+    → bit_and (c + e + card_is_locked * bit locked) high_mask ≡ c + e
+masked_held c e locked h k =
+    let held = bit_or c e in
+    let other = card_is_locked * bit locked in
+    let among : AreAmong held high_mask =
+    among_more c e high_mask (among_then c command_error_bits high_mask h refl)
+    (among_then e held_bits high_mask k refl) in
+    let sum : held ≡ c + e = or_disjoint c e (among_apart c e command_error_bits held_bits h k refl) in
+    let whole : bit_or held other ≡ held + other =
+    or_disjoint held other (among_apart held other high_mask card_is_locked among (locked_among locked) refl) in
+    ap (λ n. bit_and n high_mask) (ap (λ n. n + other) (sym sum) ∙ sym whole)
+    ∙ and_or_apart high_mask held other
+    (among_apart other high_mask card_is_locked high_mask (locked_among locked) refl refl)
+    ∙ and_among held high_mask among ∙ sum
+
+-- The error bits of a status.
+
+bit_below : (b : Bool) → bit b < 2
+bit_below true = omega arith
+bit_below false = omega arith
+
+state_below : (s : State) → state_number s < 9
+state_below Idle = omega arith
+state_below Ready = omega arith
+state_below Ident = omega arith
+state_below Stby = omega arith
+state_below Tran = omega arith
+state_below Data = omega arith
+state_below Rcv = omega arith
+state_below Prg = omega arith
+state_below Dis = omega arith
+
+-- a number by its bits above 12 and those below
+masked_parts : (x low m : ℕ) → low < 2 ^ 13 → m < 2 ^ 13
+    → bit_and (2 ^ 13 * x + low) (high_mask * 2 ^ 13 + m) ≡ bit_and x high_mask * 2 ^ 13 + bit_and low m
+masked_parts x low m h k =
+    let e : 2 ^ 13 * x + low ≡ x * 2 ^ 13 + low = omega arith in
+    ap (λ n. bit_and n (high_mask * 2 ^ 13 + m)) e ∙ and_block 13 x high_mask low m h k
+
+-- the status below bit 13
+abbrev low_status : Bool → Card → ℕ
+low_status app card =
+    2 ^ 9 * state_number card.state + 2 ^ 8 * bit (not card.is_busy) + 2 ^ 7 * bit card.switch_error + 2 ^ 5 * bit app
+
+low_below : (app : Bool) (c : Card) → low_status app c < 2 ^ 13
+low_below app c =
+    omega (arith, state_below c.state, bit_below (not c.is_busy), bit_below c.switch_error, bit_below app)
+
+low_switch : (app : Bool) (c : Card) → bit_at (low_status app c) 7 ≡ bit c.switch_error
+low_switch app c =
+    omega (arith, state_below c.state, bit_below (not c.is_busy), bit_below c.switch_error, bit_below app)
+
+abbrev high_status : Card → ℕ
+high_status card = card.command_errors + card.errors + card_is_locked * bit card.made.is_locked
+
+status_parts : (app : Bool) (c : Card) → status app c ≡ 2 ^ 13 * high_status c + low_status app c
+status_parts app c = omega arith
+
+masked : (app : Bool) (c : Card) (m : ℕ) → IsCard c → m < 2 ^ 13
+    → bit_and (status app c) (high_mask * 2 ^ 13 + m)
+    ≡ (c.command_errors + c.errors) * 2 ^ 13 + bit_and (low_status app c) m
+masked app c m k small =
+    ap (λ n. bit_and n (high_mask * 2 ^ 13 + m)) (status_parts app c)
+    ∙ masked_parts (high_status c) (low_status app c) m (low_below app c) small
+    ∙ ap (λ n. n * 2 ^ 13 + bit_and (low_status app c) m)
+    (masked_held c.command_errors c.errors c.made.is_locked k.command_errors k.errors)
+
+sd_errors : (app : Bool) (c : Card) → IsCard c → error_bits Sd (status app c) ≡ (c.command_errors + c.errors) * 2 ^ 13
+sd_errors app c k = omega (arith, masked app c 0 k (omega arith), and_le_r (low_status app c) 0)
+
+mmc_errors : (app : Bool) (c : Card) → IsCard c
+    → error_bits Mmc (status app c) ≡ (c.command_errors + c.errors) * 2 ^ 13 + bit c.switch_error * 2 ^ 7
+mmc_errors app c k =
+    omega (arith, masked app c 128 k (omega arith), and_pow (low_status app c) 7, low_switch app c)
+
+no_bit : (b : Bool) → bit b ≡ 0 → b ≡ false
+no_bit true h = absurd (omega (arith, h))
+no_bit false h = refl
+
+one_bit : (b : Bool) → bit (not b) ≡ 1 → b ≡ false
+one_bit true h = absurd (omega (arith, h))
+one_bit false h = refl
+
+pub status_errors : (kind : Kind) (app : Bool) (card : Card) → IsCard card
+    → ((error_bits kind (status app card) ≡ 0) ↔ HasNoError kind card)
+status_errors Sd app c k =
+    let e = sd_errors app c k in (
+      λ h. record { command_errors = omega (arith, e, h); errors = omega (arith, e, h); switch_error = λ other. cc },
+      λ h. (let command_errors = h.command_errors in let errors = h.errors in omega (arith, e, command_errors, errors)),
+    )
+status_errors Mmc app c k =
+    let e = mmc_errors app c k in (
+      λ h. record {
+        command_errors = omega (arith, e, h);
+        errors = omega (arith, e, h);
+        switch_error = λ same. no_bit c.switch_error (omega (arith, e, h));
+      },
+      λ h.
+          (let command_errors = h.command_errors in
+          let errors = h.errors in
+          let none = ap bit (h.switch_error refl) in
+          omega (arith, e, command_errors, errors, none)),
+    )
+
+-- The fields of a status.
+
+pub status_state : (app : Bool) (c : Card) → field 12 9 (status app c) ≡ state_number c.state
+status_state app c =
+    omega (arith, state_below c.state, bit_below (not c.is_busy), bit_below c.switch_error, bit_below app)
+
+status_ready : (app : Bool) (c : Card) → field 8 8 (status app c) ≡ bit (not c.is_busy)
+status_ready app c =
+    omega (arith, state_below c.state, bit_below (not c.is_busy), bit_below c.switch_error, bit_below app)
+
+pub clean_status : (kind : Kind) (app : Bool) (card : Card) → IsCard card
+    → (IsClean kind (status app card) ↔ IsInOrder kind card)
+clean_status kind app c k =
+    let errors = status_errors kind app c k in (
+      λ h. record {
+        no_error = errors.0 h.no_error;
+        tran = in_state c.state Tran (ap (λ n. n == 4) (sym (status_state app c) ∙ h.in_tran));
+        rests = one_bit c.is_busy (sym (status_ready app c) ∙ h.ready_for_data);
+      },
+      λ h. record {
+        no_error = errors.1 h.no_error;
+        in_tran = status_state app c ∙ ap state_number h.tran;
+        ready_for_data = status_ready app c ∙ ap (λ b. bit (not b)) h.rests;
+      },
+    )

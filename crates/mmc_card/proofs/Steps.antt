@@ -1,0 +1,85 @@
+-- What holds of a card holds after a step, if all that a step may do to the card keeps it.
+use Rattle.std.proofs.Common.{◌&&◌, ◌≡◌, Bool, List, false, true, ℕ}
+use Rattle.mmc_frame.specs.Frame.{command_in}
+use Rattle.mmc_frame.specs.declared.card_state.State.TheVariants.{Prg}
+use Rattle.mmc_card.specs.declared.exchange.DataIn.{DataIn}
+use Rattle.mmc_card.specs.declared.exchange.DataOut.{DataOut}
+use Rattle.mmc_card.specs.declared.exchange.Reply.{Reply}
+use Rattle.mmc_card.proofs.Conditions.{along, by_cond, first_by_cond}
+use Rattle.mmc_card.proofs.Narrow.{both}
+use Rattle.mmc_card.specs.CardAnswer.{Choice, garbled, raised, reset}
+use Rattle.mmc_card.specs.ErrorBits.{general_error}
+use Rattle.mmc_card.specs.Blocks.{accepted, asked_for, can_send, can_accept, offered, polled_once, programmed, rejected}
+use Rattle.mmc_card.specs.Blocks.{rested, sent, waited}
+use Rattle.mmc_card.specs.Card.{Card, is_in}
+use Rattle.mmc_card.specs.Faults.{CommandStep, WriteStep, PollStep, ReadStep, bad_block, brownout, fail, faithful}
+use Rattle.mmc_card.specs.Faults.{flip_command, flip_reply, lose_command, lose_reply, lose_status, reject, slow_inquiry}
+use Rattle.mmc_card.specs.Faults.{slow_poll}
+use Rattle.mmc_card.specs.Rows.{answered}
+use Rattle.mmc_card.specs.Sectors.{Sector}
+use Rattle.mmc_card.specs.BusView.{BusView}
+
+-- it survives a failure of the power
+abbrev pub Survives : (Card → Type 0) → Type 0
+Survives P = (lands : ℕ → Bool) (card : Card) → P card → P (reset lands card)
+
+pub after_command : (P : Card → Type 0) (old : BusView) (frame : List ℕ) (reply : Reply) (new : BusView) → P old.card
+    → ((choice : Choice) → P (answered choice old.card (command_in frame)).0)
+    → ((keeps : Bool) → P (garbled keeps old.card)) → Survives P → CommandStep old frame reply new → P new.card
+after_command P old frame reply new stays answers garbles survives step =
+    elim step [
+      | faithful choice patient count card spells ↦ along P card (answers choice)
+      | lose_command count card silent ↦ along P card stays
+      | flip_command keeps_count count card silent ↦ along P card (garbles keeps_count)
+      | lose_reply choice patient count card heard silent ↦ along P card (answers choice)
+      | flip_reply choice patient count card flipped ↦ along P card (answers choice)
+      | slow_inquiry choice slow late inquiry count card spells ↦ along P card (answers choice)
+      | brownout choice lands after patient count card silent ↦ along P card
+          (survives lands _ (by_cond P after (λ _. answers choice) (λ _. stays)))
+    ]
+
+pub after_poll : (P : Card → Type 0) (old : BusView) (said : Bool) (new : BusView) → P old.card → P (rested old.card)
+    → (old.card.is_busy ≡ true → P (waited old.card))
+    → ((lands : ℕ → Bool) → is_in old.card.state Prg ≡ true → old.card.is_switching ≡ false
+    → P (raised general_error (programmed lands old.card)))
+    → Survives P → PollStep old said new → P new.card
+after_poll P old said new stays rests slows fails survives step =
+    let polls : (choice : Choice) → P (polled_once choice old.card).0 =
+    λ choice. first_by_cond P (old.card.is_busy && choice.is_slow) _ _
+    (λ b. slows (both old.card.is_busy choice.is_slow b).0) (λ _. rests) in
+    elim step [
+      | faithful choice patient count card answer ↦ along P card (polls choice)
+      | slow_poll busy late count card answer ↦ along P card (slows busy)
+      | fail lands prg switching count card answer ↦ along P card (fails lands prg switching)
+      | brownout choice lands after patient count card answer ↦ along P card
+          (survives lands _ (by_cond P after (λ _. polls choice) (λ _. stays)))
+    ]
+
+pub after_write : (P : Card → Type 0) (old : BusView) (block : Sector) (got : DataOut) (new : BusView) → P old.card
+    → (can_accept old.lines old.card ≡ true → P (accepted block old.card))
+    → (can_accept old.lines old.card ≡ true → P (rejected old.card)) → Survives P → WriteStep old block got new
+    → P new.card
+after_write P old block got new stays accepts rejects survives step =
+    let offers : P (offered old.lines block old.card) =
+    by_cond P (can_accept old.lines old.card) accepts (λ _. stays) in
+    elim step [
+      | faithful count card answer ↦ along P card offers
+      | reject can count card answer ↦ along P card (rejects can)
+      | lose_status is_accepted can count card answer ↦ along P card
+          (by_cond P is_accepted (λ _. accepts can) (λ _. rejects can))
+      | brownout lands after count card answer ↦ along P card
+          (survives lands _ (by_cond P after (λ _. offers) (λ _. stays)))
+    ]
+
+pub after_read : (P : Card → Type 0) (old : BusView) (size : ℕ) (got : DataIn) (block : Sector) (new : BusView)
+    → P old.card → ((choice : Choice) → can_send old.lines size old.card ≡ true → P (sent choice old.card)) → Survives P
+    → ReadStep old size got block new → P new.card
+after_read P old size got block new stays sends survives step =
+    let asks : (choice : Choice) → P (asked_for choice old.lines size old.card) =
+    λ choice. by_cond P (can_send old.lines size old.card) (sends choice) (λ _. stays) in
+    elim step [
+      | faithful choice count card answer good ↦ along P card (asks choice)
+      | bad_block choice comes can count card answer ↦ along P card (sends choice can)
+      | brownout choice lands after count card answer ↦ along P card
+          (survives lands _ (by_cond P after (λ _. asks choice) (λ _. stays)))
+    ]

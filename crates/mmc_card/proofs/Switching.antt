@@ -1,0 +1,148 @@
+-- A switch of the partition leaves a card standing, in the old partition or in the new one.
+use Rattle.std.proofs.Common.{◌*◌, ◌+◌, ◌<◌, ◌∙◌, ◌≡◌, ◌≤◌, ◌⊎◌, Bool, List, ap, arith, false, inl, inr, length, refl}
+use Rattle.std.proofs.Common.{subst, sym, true, ℕ}
+use Rattle.std.specs.Prelude.{◌&&◌, ◌==◌, None, Option, Some}
+use Rattle.std.proofs.lemmas.Bool.{eqb-true}
+use Rattle.mmc_frame.specs.Field.{field}
+use Rattle.mmc_frame.specs.Frame.{command_in}
+use Rattle.mmc_frame.specs.declared.card_state.State.TheVariants.{Tran}
+use Rattle.mmc_frame.specs.declared.kind.Kind.{Kind}
+use Rattle.mmc_frame.specs.declared.kind.Kind.TheVariants.{Mmc}
+use Rattle.mmc_ext_csd.specs.ExtCsd.{high_speed_at_52_mhz, partition_config}
+use Rattle.mmc_card.specs.declared.exchange.Reply.{Reply}
+use Rattle.mmc_card.specs.declared.part.Part.{Part}
+use Rattle.mmc_card.specs.declared.part.Part.TheVariants.{Boot1, Boot2, Gp1, Gp2, Gp3, Gp4, User}
+use Rattle.mmc_card.proofs.CardRows.{legal_reached}
+use Rattle.mmc_card.proofs.Conditions.{by_cond, first_by_cond}
+use Rattle.mmc_card.proofs.Standing.{stands_garbled, stands_quiet, stands_reached, stands_refused, stands_reset, up_in}
+use Rattle.mmc_card.proofs.Steps.{after_command}
+use Rattle.mmc_card.specs.CardAnswer.{Choice}
+use Rattle.mmc_card.specs.Card.{Card, is_in, stored}
+use Rattle.mmc_card.specs.Faults.{CommandStep}
+use Rattle.mmc_card.specs.Laws.{Setting, Stands, StandsIn, SwitchesTo}
+use Rattle.mmc_card.specs.Made.{Made}
+use Rattle.mmc_card.specs.declared.command.Command.TheVariants.{Switch}
+use Rattle.mmc_card.specs.Rows.{answered, command_of, is_legal, reached, respond, responded}
+use Rattle.mmc_card.specs.RowsSwitch.{access_number, accessed, part_accessed, partition_config_for, programs_switch}
+use Rattle.mmc_card.specs.RowsSwitch.{switch_row, switched, write_byte}
+use Rattle.mmc_card.specs.BusView.{BusView}
+
+-- What a switch of the partition makes of a card: nothing, or the partition.
+abbrev IsAccess : Part → Card → Option Card → Type 0
+IsAccess part c None = Unit {0}
+IsAccess part c (Some d) = d ≡ record c { part = part }
+
+access_below : (part : Part) → access_number part < 8
+access_below User = omega arith
+access_below Boot1 = omega arith
+access_below Boot2 = omega arith
+access_below Gp1 = omega arith
+access_below Gp2 = omega arith
+access_below Gp3 = omega arith
+access_below Gp4 = omega arith
+
+part_back : (part : Part) → part_accessed (access_number part) ≡ Some part
+part_back User = refl
+part_back Boot1 = refl
+part_back Boot2 = refl
+part_back Gp1 = refl
+part_back Gp2 = refl
+part_back Gp3 = refl
+part_back Gp4 = refl
+
+low_field : (high access argument : ℕ) → access < 8 → argument ≡ write_byte 179 (8 * high + access) → high < 32
+    → field 10 8 argument ≡ access
+low_field high access argument below is small = omega arith
+
+other_byte : (index value argument other written : ℕ) → argument ≡ write_byte 179 written
+    → (argument == write_byte index value) ≡ true → index * 256 + value < 179 * 256 → ⊥
+other_byte index value argument other written is same below =
+    let e = eqb-true argument (write_byte index value) same in omega (arith, e, is, below)
+
+past_byte : (index value argument written : ℕ) → argument ≡ write_byte 179 written → written < 256
+    → (argument == write_byte index value) ≡ true → 180 ≤ index → ⊥
+past_byte index value argument written is small same above =
+    let e = eqb-true argument (write_byte index value) same in omega (arith, e, is, small, above)
+
+first_true : (a b : Bool) → (a && b) ≡ true → a ≡ true
+first_true true b h = refl
+first_true false b h = cc
+
+is_accessed : (part : Part) (c : Card) (o : Option Part) → o ≡ Some part → IsAccess part c (accessed c o)
+is_accessed part c o e =
+    subst (λ x. IsAccess part c (accessed c x)) (sym e)
+    (by_cond (IsAccess part c) (length (stored c part) == 0) (λ _. tt) (λ _. refl))
+
+is_switch : (part : Part) (c : Card) (argument : ℕ) → argument ≡ write_byte 179 (partition_config_for c.made part)
+    → IsAccess part c (switched c argument)
+is_switch part c argument is =
+    let high = field 7 3 (partition_config c.made.ext_csd) in
+    let small : high < 32 = omega arith in
+    let is_byte : partition_config_for c.made part < 256 = omega (arith, access_below part, small) in
+    by_cond (IsAccess part c) (argument == write_byte 175 1)
+    (λ t. absurd (other_byte 175 1 argument 0 (partition_config_for c.made part) is t (omega arith)))
+    (λ _. by_cond (IsAccess part c) (argument == write_byte 183 2)
+    (λ t. absurd (past_byte 183 2 argument (partition_config_for c.made part) is is_byte t (omega arith)))
+    (λ _. by_cond (IsAccess part c)
+    ((argument == write_byte 185 1) && (high_speed_at_52_mhz c.made.ext_csd == 1))
+    (λ t. absurd (past_byte 185 1 argument (partition_config_for c.made part) is is_byte
+    (first_true (argument == write_byte 185 1) _ t) (omega arith)))
+    (λ _. by_cond (IsAccess part c)
+    (argument == write_byte 179 (8 * high + field 10 8 argument))
+    (λ _. is_accessed part c (part_accessed (field 10 8 argument))
+    (ap part_accessed (low_field high (access_number part) argument (access_below part) is small)
+    ∙ part_back part))
+    (λ _. tt))))
+
+-- a card that stands as before, but that this partition may be the one that is accessed
+abbrev Switched : Part → Setting → Card → Type 0
+Switched part s d = Stands s d ⊎ Stands (record s { part = part }) d
+
+programs_there : (s : Setting) (part : Part) (c : Card) → is_in c.state Tran ≡ true → Stands s c
+    → Stands (record s { part = part }) (programs_switch (record c { part = part }))
+programs_there s part c tran h = record {
+  selected = λ _. ap (λ (x : Setting). record x { part = part }) (h.selected (up_in c Tran tran refl));
+  sends = λ e. cc;
+  reset = λ e. cc;
+}
+
+switch_stands : (s : Setting) (part : Part) (c : Card) (o : Option Card) → IsAccess part c o → is_in c.state Tran ≡ true
+    → Stands s c → Switched part s (switch_row c o).0
+switch_stands s part c None is tran h = inl (stands_quiet s c _ refl refl (up_in c Tran tran refl) refl h)
+switch_stands s part c (Some d) is tran h =
+    inr (subst (λ x. Stands (record s { part = part }) (programs_switch x)) (sym is) (programs_there s part c tran h))
+
+same_made : (c : Card) → (reached Switch c).made ≡ c.made
+same_made c = by_cond (λ (d : Card). d.made ≡ c.made) _ (λ _. refl) (λ _. refl)
+
+switch_responds : (s : Setting) (part : Part) (choice : Choice) (c : Card) (argument : ℕ)
+    → argument ≡ write_byte 179 (partition_config_for c.made part) → Stands s c
+    → Switched part s (responded choice Switch c 6 argument).0
+switch_responds s part choice c argument is h =
+    let d = reached Switch c in
+    let held = stands_reached s Switch c h in
+    first_by_cond (Switched part s) (is_legal Switch c) _ _
+    (λ l. switch_stands s part d (switched d argument)
+    (is_switch part d argument
+    (is ∙ ap (λ (m : Made). write_byte 179 (partition_config_for m part)) (sym (same_made c))))
+    (legal_reached Switch c ∙ l) held)
+    (λ _. inl (stands_refused s d held))
+
+switch_answers : (s : Setting) (part : Part) (choice : Choice) (kind : Kind) (c : Card) (argument : ℕ) → kind ≡ Mmc
+    → argument ≡ write_byte 179 (partition_config_for c.made part) → Stands s c
+    → Switched part s (responded choice (command_of kind c.app 6) c 6 argument).0
+switch_answers s part choice kind c argument mmc is h =
+    subst (λ k. Switched part s (responded choice (command_of k c.app 6) c 6 argument).0) (sym mmc)
+    (switch_responds s part choice c argument is h)
+
+pub command_switches : (part : Part) (old : BusView) (frame : List ℕ) (index argument : ℕ) (reply : Reply)
+    (new : BusView) → SwitchesTo part old.card index argument → command_in frame ≡ Some (index, argument)
+    → CommandStep old frame reply new → StandsIn part old.card new.card
+command_switches part old frame index argument reply new switch command step s h =
+    let answers : (choice : Choice) → Switched part s (answered choice old.card (command_in frame)).0 =
+    λ choice. subst (λ x. Switched part s (answered choice old.card x).0) (sym command)
+    (subst (λ i. Switched part s (respond choice old.card i argument).0) (sym switch.switch)
+    (switch_answers s part choice old.card.made.kind old.card argument switch.mmc switch.access h)) in
+    after_command (Switched part s) old frame reply new (inl h) answers
+    (λ keeps. inl (stands_garbled s keeps old.card h))
+    (λ lands card _. inl (stands_reset s lands card)) step

@@ -1,0 +1,9 @@
+use Rattle.mmc_card.proofs.StatusLemmas.{clean_status, status_errors, status_state}
+use Rattle.mmc_card.proofs.card_laws.a_status_tells_of_its_card.Goals as goal
+
+pub returns : goal.returns
+returns c = record {
+  state = status_state;
+  errors = status_errors;
+  clean = clean_status;
+}

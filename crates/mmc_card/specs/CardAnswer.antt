@@ -1,0 +1,80 @@
+-- What a card shows of itself in a response, and what it does with the error bits that it has shown.
+-- When error bits are raised, shown and cleared is the project's own choice, made here once.
+use Rattle.std.specs.Prelude.{◌*◌, ◌+◌, ◌^◌, Bool, List, bit_or, false, if◌then◌else◌, min, not, true, ℕ}
+use Rattle.mmc_frame.specs.Field.{field}
+use Rattle.mmc_frame.specs.Status.{state_number}
+use Rattle.mmc_card.specs.Card.{Card, landed, powered_on}
+use Rattle.mmc_card.specs.ErrorBits.{card_is_locked, com_crc_error, illegal_command}
+
+-- What a card answers: nothing; a response with a check, to the command with this index, with this argument (R1, R6,
+-- R7); an OCR (R3); a register of sixteen bytes (R2).
+pub data CardAnswer : Type 0 where
+  Silent : CardAnswer
+  Checked : ℕ → ℕ → CardAnswer
+  R3 : ℕ → CardAnswer
+  R2 : List ℕ → CardAnswer
+
+-- Where a card is free to choose.
+pub record Choice : Type 0 where
+  -- not ready yet, or busy still
+  pub is_slow : Bool
+  -- which values of an unfinished transfer have landed, each by how many stand behind it
+  pub lands : ℕ → Bool
+  -- OUT_OF_RANGE behind the last sector of a partition
+  pub says_end : Bool
+  -- the preset count outlives a command with a bad check
+  pub keeps_count : Bool
+
+abbrev pub bit : Bool → ℕ
+bit b = if b then 1 else 0
+
+-- The status with APP_CMD or not. CURRENT_STATE is the state in which the command came; READY_FOR_DATA is 0 only while
+-- busy; CARD_IS_LOCKED is in each status of a locked card.
+abbrev pub status : Bool → Card → ℕ
+status app card =
+    2 ^ 13 * (card.command_errors + card.errors + card_is_locked * bit card.made.is_locked)
+    + 2 ^ 9 * state_number card.state + 2 ^ 8 * bit (not card.is_busy) + 2 ^ 7 * bit card.switch_error + 2 ^ 5 * bit app
+
+-- The argument of an R6: the RCA, and status bits 23, 22, 19 and 12 to 0 (SD Physical Layer 6.00, section 4.9.5).
+abbrev pub r6_argument : Card → ℕ
+r6_argument card =
+    2 ^ 16 * card.made.published + 2 ^ 14 * field 23 22 (status false card) + 2 ^ 13 * field 19 19 (status false card)
+    + field 12 0 (status false card)
+
+-- error bits are raised, and stay until they are shown
+abbrev pub raised : ℕ → Card → Card
+raised bits card = record card { errors = bit_or card.errors bits }
+
+-- A command is carried out: it is no longer an application command, a preset count was for it alone, and bits 23 and 22
+-- are cleared, whatever its response.
+abbrev pub done : Card → Card
+done card = record card { app = false; count = 0; command_errors = 0 }
+
+-- it has a response with a status: all error bits are shown, and cleared, whether the host receives them or not
+abbrev pub shown : Card → Card
+shown card = record card { app = false; count = 0; command_errors = 0; errors = 0; switch_error = false }
+
+-- A command that isn't carried out: no response, and ILLEGAL_COMMAND.
+abbrev pub refused : Card → Card
+refused card = record card { app = false; count = 0; command_errors = bit_or card.command_errors illegal_command }
+
+-- A command with a bad check: no response, and COM_CRC_ERROR; the preset count stays or goes, and nothing else changes.
+abbrev pub garbled : Bool → Card → Card
+garbled keeps_count card =
+    record card {
+      command_errors = bit_or card.command_errors com_crc_error;
+      count = if keeps_count then card.count else 0;
+    }
+
+-- As after CMD0 (SD Physical Layer 6.00, section 4.3; JESD84-B51, section 6.4.1): each block or sector of an unfinished
+-- write, erase or trim is old or new. The block length stays (the project's own).
+abbrev pub reset : (ℕ → Bool) → Card → Card
+reset lands card = record (powered_on card.made (landed lands card)) { block_length = card.block_length }
+
+-- one time more, counted up to eight
+abbrev pub counted : ℕ → ℕ
+counted times = min (times + 1) 8
+
+-- the card is made busy, until the poll that it answers no
+abbrev pub busied : Card → Card
+busied card = record card { is_busy = true; polled = 0 }

@@ -1,0 +1,18 @@
+-- What a status says of its card, and what is unfinished in it.
+use Rattle.std.specs.Prelude.{◌≡◌, false}
+use Rattle.mmc_frame.specs.declared.card_state.State.TheVariants.{Tran}
+use Rattle.mmc_frame.specs.declared.kind.Kind.{Kind}
+use Rattle.mmc_frame.specs.declared.kind.Kind.TheVariants.{Mmc}
+use Rattle.mmc_card.specs.Card.{Card}
+
+-- no error bit is held; of eMMC, SWITCH_ERROR is one of them
+pub record HasNoError (kind : Kind) (card : Card) : Type 0 where
+  pub command_errors : card.command_errors ≡ 0
+  pub errors : card.errors ≡ 0
+  pub switch_error : kind ≡ Mmc → card.switch_error ≡ false
+
+-- what a clean status says of a card
+pub record IsInOrder (kind : Kind) (card : Card) : Type 0 where
+  pub no_error : HasNoError kind card
+  pub tran : card.state ≡ Tran
+  pub rests : card.is_busy ≡ false

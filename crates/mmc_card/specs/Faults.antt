@@ -1,0 +1,151 @@
+-- The steps of a kept bus: each exchange is a faithful step, or one fault, which adds one to the count of faults. What
+-- may go wrong, and what a card does then, is the project's own.
+use Rattle.std.specs.Prelude.{◌&&◌, ◌+◌, ◌<◌, ◌≡◌, ◌≤◌, Bool, List, None, Ok, Option, Some, false, if◌then◌else◌}
+use Rattle.std.specs.Prelude.{length, true, ℕ}
+use Rattle.mmc_frame.specs.Check.{bits_of}
+use Rattle.mmc_frame.specs.Flips.{AreBytes, Flips}
+use Rattle.mmc_frame.specs.Frame.{argument_in, command_in, response_in}
+use Rattle.mmc_frame.specs.RegisterFrame.{ocr_frame, register_frame}
+use Rattle.mmc_frame.specs.declared.card_state.State.TheVariants.{Idle, Prg}
+use Rattle.mmc_card.specs.declared.exchange.DataIn.{DataIn}
+use Rattle.mmc_card.specs.declared.exchange.DataOut.{DataOut}
+use Rattle.mmc_card.specs.declared.exchange.Reply.{Reply}
+use Rattle.mmc_card.specs.CardAnswer.{CardAnswer, Checked, Choice, Silent, R3, R2, garbled, raised, reset}
+use Rattle.mmc_card.specs.ErrorBits.{general_error}
+use Rattle.mmc_card.specs.Blocks.{accepted, asked_for, can_send, can_accept, next_block, offered, polled_once}
+use Rattle.mmc_card.specs.Blocks.{programmed, rejected, sent, waited}
+use Rattle.mmc_card.specs.Card.{Card, is_in}
+use Rattle.mmc_card.specs.declared.command.Command.{Command}
+use Rattle.mmc_card.specs.declared.command.Command.TheVariants.{SdSendOpCond, SendOpCond}
+use Rattle.mmc_card.specs.Rows.{answered, command_of}
+use Rattle.mmc_card.specs.RowsIdentify.{is_served}
+use Rattle.mmc_card.specs.BusView.{BusView}
+use Rattle.mmc_card.specs.declared.exchange.DataIn.TheVariants as Received
+use Rattle.mmc_card.specs.declared.exchange.DataOut.TheVariants as Sent
+use Rattle.mmc_card.specs.declared.exchange.Reply.TheVariants as Came
+
+-- no fault falls, or one
+abbrev pub NoFault : BusView → BusView → Type 0
+NoFault old new = new.faults ≡ old.faults
+
+abbrev pub OneFault : BusView → BusView → Type 0
+OneFault old new = new.faults ≡ old.faults + 1
+
+-- the reply is this answer
+abbrev pub Spells : CardAnswer → Reply → Type 0
+Spells Silent reply = reply ≡ Came.Silent
+Spells (Checked index argument) reply =
+    (frame : List ℕ) × (reply ≡ Came.Short frame) × (response_in frame index ≡ Ok argument)
+Spells (R3 ocr) reply = reply ≡ Came.Short (ocr_frame ocr)
+Spells (R2 bytes) reply = reply ≡ Came.Long (register_frame bytes)
+
+-- a frame of this many bytes, of which one bit or two are flipped
+abbrev pub AreFlipped : ℕ → List ℕ → List ℕ → Type 0
+AreFlipped size frame heard =
+    (length frame ≡ size) × (length heard ≡ size) × AreBytes heard × Flips (bits_of frame) (bits_of heard)
+
+-- The reply is this answer with one bit or two flipped; of an R3 never those of the OCR, which nothing protects.
+abbrev pub IsFlipped : CardAnswer → Reply → Type 0
+IsFlipped Silent reply = ⊥
+IsFlipped (Checked index argument) reply =
+    (frame : List ℕ) × (heard : List ℕ) × (response_in frame index ≡ Ok argument) × AreFlipped 6 frame heard
+    × (reply ≡ Came.Short heard)
+IsFlipped (R3 ocr) reply =
+    (heard : List ℕ) × AreFlipped 6 (ocr_frame ocr) heard × (argument_in heard ≡ ocr) × (reply ≡ Came.Short heard)
+IsFlipped (R2 bytes) reply =
+    (heard : List ℕ) × AreFlipped 17 (register_frame bytes) heard × (reply ≡ Came.Long heard)
+
+-- a readiness inquiry that the card could answer with ready
+abbrev pub is_inquiry : Command → Card → ℕ → Bool
+is_inquiry SendOpCond card argument = is_in card.state Idle
+is_inquiry SdSendOpCond card argument = is_in card.state Idle && is_served card argument
+is_inquiry _ card argument = false
+
+abbrev pub is_inquiry_frame : Card → Option (ℕ × ℕ) → Bool
+is_inquiry_frame card (Some command) = is_inquiry (command_of card.made.kind card.app command.0) card command.1
+is_inquiry_frame card None = false
+
+-- not ready, and busy, at most eight times each
+abbrev pub IsPatient : Choice → ℕ → Type 0
+IsPatient choice times = choice.is_slow ≡ true → times < 8
+
+-- A command.
+pub data CommandStep (old : BusView) (frame : List ℕ) (reply : Reply) (new : BusView) : Type 0 where
+  faithful : (choice : Choice) → IsPatient choice old.card.inquiries → NoFault old new
+      → new.card ≡ (answered choice old.card (command_in frame)).0
+      → Spells (answered choice old.card (command_in frame)).1 reply
+      → CommandStep old frame reply new
+  -- the card doesn't see it
+  lose_command : OneFault old new → new.card ≡ old.card → reply ≡ Came.Silent → CommandStep old frame reply new
+  -- one bit or two of it are flipped, so its check is bad
+  flip_command : (keeps_count : Bool) → OneFault old new → new.card ≡ garbled keeps_count old.card → reply ≡ Came.Silent
+      → CommandStep old frame reply new
+  -- the card answers, and the host hears nothing
+  lose_reply : (choice : Choice) → IsPatient choice old.card.inquiries → OneFault old new
+      → new.card ≡ (answered choice old.card (command_in frame)).0
+      → ((answered choice old.card (command_in frame)).1 ≡ Silent → ⊥) → reply ≡ Came.Silent
+      → CommandStep old frame reply new
+  -- one bit or two of the answer are flipped
+  flip_reply : (choice : Choice) → IsPatient choice old.card.inquiries → OneFault old new
+      → new.card ≡ (answered choice old.card (command_in frame)).0
+      → IsFlipped (answered choice old.card (command_in frame)).1 reply
+      → CommandStep old frame reply new
+  -- not ready a ninth time
+  slow_inquiry : (choice : Choice) → choice.is_slow ≡ true → 8 ≤ old.card.inquiries
+      → is_inquiry_frame old.card (command_in frame) ≡ true → OneFault old new
+      → new.card ≡ (answered choice old.card (command_in frame)).0
+      → Spells (answered choice old.card (command_in frame)).1 reply
+      → CommandStep old frame reply new
+  -- the power fails before the step or after it
+  brownout : (choice : Choice) (lands : ℕ → Bool) (after : Bool) → IsPatient choice old.card.inquiries
+      → OneFault old new
+      → new.card ≡ reset lands (if after then (answered choice old.card (command_in frame)).0 else old.card)
+      → reply ≡ Came.Silent → CommandStep old frame reply new
+
+-- A poll.
+pub data PollStep (old : BusView) (said : Bool) (new : BusView) : Type 0 where
+  faithful : (choice : Choice) → IsPatient choice old.card.polled → NoFault old new
+      → new.card ≡ (polled_once choice old.card).0 → said ≡ (polled_once choice old.card).1
+      → PollStep old said new
+  -- busy a ninth time, or more often
+  slow_poll : old.card.is_busy ≡ true → 8 ≤ old.card.polled → OneFault old new
+      → new.card ≡ waited old.card → said ≡ true
+      → PollStep old said new
+  -- programming of a write, erase or trim fails: ERROR, and some of it has landed
+  fail : (lands : ℕ → Bool) → is_in old.card.state Prg ≡ true → old.card.is_switching ≡ false → OneFault old new
+      → new.card ≡ raised general_error (programmed lands old.card) → said ≡ false
+      → PollStep old said new
+  brownout : (choice : Choice) (lands : ℕ → Bool) (after : Bool) → IsPatient choice old.card.polled → OneFault old new
+      → new.card ≡ reset lands (if after then (polled_once choice old.card).0 else old.card) → said ≡ false
+      → PollStep old said new
+
+-- A block that is offered.
+pub data WriteStep (old : BusView) (block : List ℕ) (got : DataOut) (new : BusView) : Type 0 where
+  faithful : NoFault old new → new.card ≡ offered old.lines block old.card
+      → got ≡ (if can_accept old.lines old.card then Sent.Accepted else Sent.Nothing)
+      → WriteStep old block got new
+  -- the card rejects it
+  reject : can_accept old.lines old.card ≡ true → OneFault old new → new.card ≡ rejected old.card → got ≡ Sent.Rejected
+      → WriteStep old block got new
+  -- the card's status is lost, whether it accepted the block or rejected it
+  lose_status : (is_accepted : Bool) → can_accept old.lines old.card ≡ true → OneFault old new
+      → new.card ≡ (if is_accepted then accepted block old.card else rejected old.card) → got ≡ Sent.Nothing
+      → WriteStep old block got new
+  brownout : (lands : ℕ → Bool) (after : Bool) → OneFault old new
+      → new.card ≡ reset lands (if after then offered old.lines block old.card else old.card) → got ≡ Sent.Nothing
+      → WriteStep old block got new
+
+-- A block of this length that is asked for.
+pub data ReadStep (old : BusView) (size : ℕ) (got : DataIn) (block : List ℕ) (new : BusView) : Type 0 where
+  faithful : (choice : Choice) → NoFault old new → new.card ≡ asked_for choice old.lines size old.card
+      → got ≡ (if can_send old.lines size old.card then Received.Good else Received.Nothing)
+      → (got ≡ Received.Good → next_block old.card ≡ Some block)
+      → ReadStep old size got block new
+  -- the card sends it, and a bad block comes, or none
+  bad_block : (choice : Choice) (comes : Bool) → can_send old.lines size old.card ≡ true → OneFault old new
+      → new.card ≡ sent choice old.card → got ≡ (if comes then Received.Bad else Received.Nothing)
+      → ReadStep old size got block new
+  brownout : (choice : Choice) (lands : ℕ → Bool) (after : Bool) → OneFault old new
+      → new.card ≡ reset lands (if after then asked_for choice old.lines size old.card else old.card)
+      → got ≡ Received.Nothing
+      → ReadStep old size got block new

@@ -1,0 +1,16 @@
+pub mod Blocks
+pub mod BusView
+pub mod Card
+pub mod CardAnswer
+pub mod CardLaws
+pub mod ErrorBits
+pub mod Faults
+pub mod Laws
+pub mod Made
+pub mod Profile
+pub mod Rows
+pub mod RowsErase
+pub mod RowsIdentify
+pub mod RowsSwitch
+pub mod RowsTransfer
+pub mod Sectors

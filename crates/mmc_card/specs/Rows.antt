@@ -1,0 +1,163 @@
+-- What a faithful card does with a command. Which states carry out a command is the project's own choice, made here
+-- once after the standard's tables (SD Physical Layer 6.00, table 4-35; JESD84-B51, table 60).
+use Rattle.std.specs.Prelude.{◌&&◌, ◌==◌, ◌||◌, Bool, None, Option, Some, false, if◌then◌else◌, not, true, ℕ}
+use Rattle.mmc_frame.specs.Field.{field}
+use Rattle.mmc_frame.specs.declared.card_state.State.TheVariants.{Data, Ident, Idle, Rcv, Ready, Stby, Tran}
+use Rattle.mmc_frame.specs.declared.kind.Kind.{Kind}
+use Rattle.mmc_frame.specs.declared.kind.Kind.TheVariants.{Mmc, Sd}
+use Rattle.mmc_card.specs.declared.command.Command.{Command}
+use Rattle.mmc_card.specs.declared.command.Command.TheVariants.{SdSendOpCond, SendScr, SetBusWidth, AllSendCid, AppCmd}
+use Rattle.mmc_card.specs.declared.command.Command.TheVariants.{Erase, EraseEnd, EraseStart, GoIdleState}
+use Rattle.mmc_card.specs.declared.command.Command.TheVariants.{ReadMultipleBlock, ReadSingleBlock, SelectCard, SendCsd}
+use Rattle.mmc_card.specs.declared.command.Command.TheVariants.{SendExtCsd, SendIfCond, SendOpCond, SendRelativeAddr}
+use Rattle.mmc_card.specs.declared.command.Command.TheVariants.{SendStatus, SetBlockCount, SetBlocklen, SetRelativeAddr}
+use Rattle.mmc_card.specs.declared.command.Command.TheVariants.{StopTransmission, Switch, SwitchFunc, Unknown}
+use Rattle.mmc_card.specs.declared.command.Command.TheVariants.{WriteBlock, WriteMultipleBlock}
+use Rattle.mmc_card.specs.CardAnswer.{CardAnswer, Choice, Silent, garbled, raised, refused}
+use Rattle.mmc_card.specs.ErrorBits.{erase_reset}
+use Rattle.mmc_card.specs.Card.{Card, is_identified, is_in}
+use Rattle.mmc_card.specs.Made.{has_cmd23, has_switch_function, is_mmc, is_sd}
+use Rattle.mmc_card.specs.RowsErase.{erase_held, forgotten, hold_first, hold_last, holds_address}
+use Rattle.mmc_card.specs.RowsIdentify.{all_send_cid, app_cmd, go_idle_state, sd_send_op_cond, select_card, send_csd}
+use Rattle.mmc_card.specs.RowsIdentify.{send_if_cond, send_op_cond, send_relative_addr, send_status, set_relative_addr}
+use Rattle.mmc_card.specs.RowsSwitch.{send_ext_csd, set_bus_width, switch_byte, switch_func}
+use Rattle.mmc_card.specs.RowsTransfer.{read_multiple_block, read_single_block, send_scr, set_block_count_to}
+use Rattle.mmc_card.specs.RowsTransfer.{set_blocklen, stop_transmission, write_block, write_multiple_block}
+
+abbrev pub by_kind : Kind → Command → Command → Command
+by_kind Sd sd mmc = sd
+by_kind Mmc sd mmc = mmc
+
+-- what an index means to a card of this kind, behind CMD55 or not; one with no application command is ordinary there
+abbrev pub command_of : Kind → Bool → ℕ → Command
+command_of kind app index =
+    if index == 0 then GoIdleState
+    else if index == 1 then by_kind kind Unknown SendOpCond
+    else if index == 2 then AllSendCid
+    else if index == 3 then by_kind kind SendRelativeAddr SetRelativeAddr
+    else if index == 6 then by_kind kind (if app then SetBusWidth else SwitchFunc) Switch
+    else if index == 7 then SelectCard
+    else if index == 8 then by_kind kind SendIfCond SendExtCsd
+    else if index == 9 then SendCsd
+    else if index == 12 then StopTransmission
+    else if index == 13 then SendStatus
+    else if index == 16 then SetBlocklen
+    else if index == 17 then ReadSingleBlock
+    else if index == 18 then ReadMultipleBlock
+    else if index == 23 then SetBlockCount
+    else if index == 24 then WriteBlock
+    else if index == 25 then WriteMultipleBlock
+    else if index == 32 then by_kind kind EraseStart Unknown
+    else if index == 33 then by_kind kind EraseEnd Unknown
+    else if index == 35 then by_kind kind Unknown EraseStart
+    else if index == 36 then by_kind kind Unknown EraseEnd
+    else if index == 38 then Erase
+    else if index == 41 then by_kind kind (if app then SdSendOpCond else Unknown) Unknown
+    else if index == 51 then by_kind kind (if app then SendScr else Unknown) Unknown
+    else if index == 55 then AppCmd
+    else Unknown
+
+-- The commands that name a card in argument bits 31 to 16. Deselecting by CMD7 is left out.
+abbrev pub is_addressed : Command → Bool
+is_addressed SelectCard = true
+is_addressed SendCsd = true
+is_addressed SendStatus = true
+is_addressed AppCmd = true
+is_addressed _ = false
+
+-- it names another card
+abbrev pub is_foreign : Command → Card → ℕ → Bool
+is_foreign command card argument = is_addressed command && not (field 31 16 argument == card.rca)
+
+-- where a command is carried out
+abbrev pub is_legal : Command → Card → Bool
+is_legal GoIdleState card = true
+is_legal SendOpCond card = is_in card.state Idle
+is_legal SdSendOpCond card = is_in card.state Idle
+is_legal AllSendCid card = is_in card.state Ready
+is_legal SendRelativeAddr card = is_in card.state Ident || is_in card.state Stby
+is_legal SetRelativeAddr card = is_mmc card.made.kind && is_in card.state Ident
+is_legal SelectCard card = is_in card.state Stby
+is_legal SendIfCond card = is_in card.state Idle && card.made.answers_cmd8
+is_legal SendExtCsd card = is_in card.state Tran
+is_legal SendCsd card = is_in card.state Stby
+is_legal StopTransmission card = is_in card.state Data || is_in card.state Rcv
+-- ACMD13 is left out
+is_legal SendStatus card = is_identified card.state && not card.app
+is_legal SetBlocklen card = is_in card.state Tran
+is_legal ReadSingleBlock card = is_in card.state Tran
+is_legal ReadMultipleBlock card = is_in card.state Tran
+is_legal SetBlockCount card = is_in card.state Tran && has_cmd23 card.made
+is_legal WriteBlock card = is_in card.state Tran
+is_legal WriteMultipleBlock card = is_in card.state Tran
+is_legal EraseStart card = is_in card.state Tran
+is_legal EraseEnd card = is_in card.state Tran
+is_legal Erase card = is_in card.state Tran
+is_legal Switch card = is_in card.state Tran
+is_legal SwitchFunc card = is_in card.state Tran && has_switch_function card.made
+is_legal SetBusWidth card = is_in card.state Tran
+is_legal SendScr card = is_in card.state Tran
+is_legal AppCmd card = is_sd card.made.kind && (is_in card.state Idle || is_identified card.state)
+is_legal Unknown card = false
+
+-- what it does there, and its answer
+abbrev pub row : Choice → Command → Card → ℕ → ℕ → Card × CardAnswer
+row choice GoIdleState card index argument = go_idle_state choice card
+row choice SendOpCond card index argument = send_op_cond choice card
+row choice SdSendOpCond card index argument = sd_send_op_cond choice card argument
+row choice AllSendCid card index argument = all_send_cid card
+row choice SendRelativeAddr card index argument = send_relative_addr card
+row choice SetRelativeAddr card index argument = set_relative_addr card argument
+row choice SelectCard card index argument = select_card card
+row choice SendIfCond card index argument = send_if_cond card argument
+row choice SendExtCsd card index argument = send_ext_csd card
+row choice SendCsd card index argument = send_csd card
+row choice StopTransmission card index argument = stop_transmission card
+row choice SendStatus card index argument = send_status card
+row choice SetBlocklen card index argument = set_blocklen card argument
+row choice ReadSingleBlock card index argument = read_single_block card argument
+row choice ReadMultipleBlock card index argument = read_multiple_block card argument
+row choice SetBlockCount card index argument = set_block_count_to card argument
+row choice WriteBlock card index argument = write_block card argument
+row choice WriteMultipleBlock card index argument = write_multiple_block card argument
+row choice EraseStart card index argument = hold_first index card argument card.erase
+row choice EraseEnd card index argument = hold_last index card argument card.erase
+row choice Erase card index argument = erase_held card argument card.erase
+row choice Switch card index argument = switch_byte card argument
+row choice SwitchFunc card index argument = switch_func card argument
+row choice SetBusWidth card index argument = set_bus_width card argument
+row choice SendScr card index argument = send_scr card
+row choice AppCmd card index argument = app_cmd card
+row choice Unknown card index argument = (refused card, Silent)
+
+-- CMD13 leaves held erase addresses as they are, and the erase commands judge them.
+abbrev pub leaves_erase : Command → Bool
+leaves_erase SendStatus = true
+leaves_erase EraseStart = true
+leaves_erase EraseEnd = true
+leaves_erase Erase = true
+leaves_erase _ = false
+
+-- Any other command drops them with ERASE_RESET, also one that isn't carried out
+-- (SD Physical Layer 6.00, section 4.3.5).
+abbrev pub without_addresses : Card → Card
+without_addresses card = if holds_address card.erase then raised erase_reset (forgotten card) else card
+
+abbrev pub reached : Command → Card → Card
+reached command card = if leaves_erase command then card else without_addresses card
+
+-- A sound command: the card after it, and its answer. One that names another card changes nothing.
+abbrev pub responded : Choice → Command → Card → ℕ → ℕ → Card × CardAnswer
+responded choice command card index argument =
+    if is_foreign command card argument then (card, Silent)
+    else if is_legal command card then row choice command (reached command card) index argument
+    else (refused (reached command card), Silent)
+
+abbrev pub respond : Choice → Card → ℕ → ℕ → Card × CardAnswer
+respond choice card index argument =
+    responded choice (command_of card.made.kind card.app index) card index argument
+
+-- A frame: what a card does with the command in it, or with a frame that is none.
+abbrev pub answered : Choice → Card → Option (ℕ × ℕ) → Card × CardAnswer
+answered choice card (Some command) = respond choice card command.0 command.1
+answered choice card None = (garbled choice.keeps_count card, Silent)

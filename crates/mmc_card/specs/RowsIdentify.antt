@@ -1,0 +1,67 @@
+-- Identification and status (SD Physical Layer 6.00, sections 4.2 and 4.3; JESD84-B51, sections 6.4 and 6.6.1).
+-- Each row is what a card does with a command in a state where it is legal, and its answer.
+use Rattle.std.specs.Prelude.{◌&&◌, ◌+◌, ◌==◌, ◌^◌, ◌||◌, Bool, false, if◌then◌else◌, not, true, ℕ}
+use Rattle.mmc_frame.specs.Field.{field}
+use Rattle.mmc_frame.specs.declared.card_state.State.TheVariants.{Ident, Ready, Stby, Tran}
+use Rattle.mmc_regs.specs.Ocr.{card_capacity_status}
+use Rattle.mmc_card.specs.CardAnswer.{CardAnswer, Checked, Choice, Silent, R3, R2, busied, counted, done, r6_argument}
+use Rattle.mmc_card.specs.CardAnswer.{reset, shown, status}
+use Rattle.mmc_card.specs.Card.{Card}
+
+-- CMD0, GO_IDLE_STATE
+abbrev pub go_idle_state : Choice → Card → Card × CardAnswer
+go_idle_state choice card = (reset choice.lands card, Silent)
+
+-- A readiness inquiry: not ready yet, or ready, which bit 31 of the OCR says (SD Physical Layer 6.00, section 5.1;
+-- JESD84-B51, section 7.1).
+abbrev pub inquired : Bool → Card → Card × CardAnswer
+inquired is_ready card =
+    if is_ready
+    then (record (done card) { state = Ready; inquiries = counted card.inquiries }, R3 (2 ^ 31 + card.made.ocr))
+    else (record (done card) { inquiries = counted card.inquiries }, R3 card.made.ocr)
+
+-- A card with CCS 1 is never ready for a host that doesn't say HCS, bit 30 (SD Physical Layer 6.00, section 4.2.3).
+abbrev pub is_served : Card → ℕ → Bool
+is_served card argument = not (card_capacity_status card.made.ocr == 1) || (field 30 30 argument == 1)
+
+-- CMD1 of eMMC, SEND_OP_COND
+abbrev pub send_op_cond : Choice → Card → Card × CardAnswer
+send_op_cond choice card = inquired (not choice.is_slow) card
+
+-- ACMD41, SD_SEND_OP_COND
+abbrev pub sd_send_op_cond : Choice → Card → ℕ → Card × CardAnswer
+sd_send_op_cond choice card argument = inquired (is_served card argument && not choice.is_slow) card
+
+-- CMD2, ALL_SEND_CID
+abbrev pub all_send_cid : Card → Card × CardAnswer
+all_send_cid card = (record (done card) { state = Ident }, R2 card.made.cid)
+
+-- CMD3 of SD, SEND_RELATIVE_ADDR; in stby the same RCA again (the project's own)
+abbrev pub send_relative_addr : Card → Card × CardAnswer
+send_relative_addr card =
+    (record (shown card) { state = Stby; rca = card.made.published }, Checked 3 (r6_argument card))
+
+-- CMD3 of eMMC, SET_RELATIVE_ADDR
+abbrev pub set_relative_addr : Card → ℕ → Card × CardAnswer
+set_relative_addr card argument =
+    (record (shown card) { state = Stby; rca = field 31 16 argument }, Checked 3 (status false card))
+
+-- CMD7, SELECT_CARD; an eMMC device may be busy after it too (the project's own)
+abbrev pub select_card : Card → Card × CardAnswer
+select_card card = (record (busied (shown card)) { state = Tran }, Checked 7 (status false card))
+
+-- CMD8 of SD, SEND_IF_COND: voltage 1, 2.7 to 3.6 V, is the only one (SD Physical Layer 6.00, section 4.3.13)
+abbrev pub send_if_cond : Card → ℕ → Card × CardAnswer
+send_if_cond card argument = (done card, if field 11 8 argument == 1 then Checked 8 (field 11 0 argument) else Silent)
+
+-- CMD9, SEND_CSD
+abbrev pub send_csd : Card → Card × CardAnswer
+send_csd card = (done card, R2 card.made.csd)
+
+-- CMD13, SEND_STATUS
+abbrev pub send_status : Card → Card × CardAnswer
+send_status card = (shown card, Checked 13 (status false card))
+
+-- CMD55 of SD, APP_CMD (SD Physical Layer 6.00, section 4.3.9)
+abbrev pub app_cmd : Card → Card × CardAnswer
+app_cmd card = (record (shown card) { app = true }, Checked 55 (status true card))

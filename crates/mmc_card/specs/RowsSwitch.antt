@@ -1,0 +1,110 @@
+-- Width, speed and partition (SD Physical Layer 6.00, sections 4.3.10 and 4.7.4; JESD84-B51, sections 6.6.1 and 7.4).
+-- Each row is what a card does with a command in tran, and its answer.
+use Rattle.std.specs.Prelude.{◌&&◌, ◌*◌, ◌+◌, ◌==◌, ◌^◌, List, None, Option, Some, [], false, if◌then◌else◌, length}
+use Rattle.std.specs.Prelude.{slice_set, true, ℕ}
+use Rattle.mmc_frame.specs.Field.{field}
+use Rattle.mmc_frame.specs.declared.card_state.State.TheVariants.{Prg}
+use Rattle.mmc_ext_csd.specs.ExtCsd.{high_speed_at_52_mhz, partition_config}
+use Rattle.mmc_card.specs.declared.exchange.Timing.{Timing}
+use Rattle.mmc_card.specs.declared.exchange.Timing.TheVariants.{Default, High}
+use Rattle.mmc_card.specs.declared.exchange.Width.{Width}
+use Rattle.mmc_card.specs.declared.exchange.Width.TheVariants.{Eight, Four, One}
+use Rattle.mmc_card.specs.declared.part.Part.{Part}
+use Rattle.mmc_card.specs.declared.part.Part.TheVariants.{Boot1, Boot2, Gp1, Gp2, Gp3, Gp4, User}
+use Rattle.mmc_card.specs.CardAnswer.{CardAnswer, Checked, busied, shown, status}
+use Rattle.mmc_card.specs.Card.{Card, stored}
+use Rattle.mmc_card.specs.Made.{Made, has_high_speed}
+use Rattle.mmc_card.specs.RowsTransfer.{sending}
+
+-- ACMD6, SET_BUS_WIDTH: bits 1..0 are 0 for one line and 2 for four; with others the lines stay (the project's own)
+abbrev pub width_by : ℕ → Width → Width
+width_by bits width = if bits == 0 then One else if bits == 2 then Four else width
+
+abbrev pub set_bus_width : Card → ℕ → Card × CardAnswer
+set_bus_width card argument =
+    (record (shown card) { width = width_by (field 1 0 argument) card.width }, Checked 6 (status true card))
+
+-- CMD6 of SD, SWITCH_FUNC: the card sends its switch status, and with bit 31 it switches once that is sent
+abbrev pub timing_after : Card → ℕ → Timing
+timing_after card argument = if (field 31 31 argument == 1) && has_high_speed card.made then High else card.timing
+
+abbrev pub switch_func : Card → ℕ → Card × CardAnswer
+switch_func card argument =
+    (sending card.made.switch_status (timing_after card argument) card, Checked 6 (status false card))
+
+-- PARTITION_ACCESS (JESD84-B51, section 7.4.69)
+abbrev pub access_number : Part → ℕ
+access_number User = 0
+access_number Boot1 = 1
+access_number Boot2 = 2
+access_number Gp1 = 4
+access_number Gp2 = 5
+access_number Gp3 = 6
+access_number Gp4 = 7
+
+abbrev pub part_accessed : ℕ → Option Part
+part_accessed access =
+    if access == 0 then Some User else if access == 1 then Some Boot1 else if access == 2 then Some Boot2
+    else if access == 4 then Some Gp1 else if access == 5 then Some Gp2 else if access == 6 then Some Gp3
+    else if access == 7 then Some Gp4 else None
+
+-- Byte 179 by the partition that is accessed; its bits 7 to 3 never change.
+abbrev pub partition_config_for : Made → Part → ℕ
+partition_config_for made part = 8 * field 7 3 (partition_config made.ext_csd) + access_number part
+
+-- BUS_WIDTH and HS_TIMING (JESD84-B51, sections 7.4.67 and 7.4.65)
+abbrev pub width_number : Width → ℕ
+width_number One = 0
+width_number Four = 1
+width_number Eight = 2
+
+abbrev pub timing_number : Timing → ℕ
+timing_number Default = 0
+timing_number High = 1
+
+-- the EXT_CSD as it is, with the bytes that can be switched
+abbrev pub ext_csd_now : Card → List ℕ
+ext_csd_now card =
+    slice_set (slice_set (slice_set (slice_set card.made.ext_csd 175 card.erase_group_def)
+    179 (partition_config_for card.made card.part)) 183 (width_number card.width)) 185 (timing_number card.timing)
+
+-- CMD8 of eMMC, SEND_EXT_CSD
+abbrev pub send_ext_csd : Card → Card × CardAnswer
+send_ext_csd card = (sending (ext_csd_now card) card.timing card, Checked 8 (status false card))
+
+-- the argument of CMD6 of eMMC that writes a byte (JESD84-B51, section 6.6.1): access 3 in bits 25 and 24
+abbrev pub write_byte : ℕ → ℕ → ℕ
+write_byte index value = 3 * 2 ^ 24 + index * 2 ^ 16 + value * 2 ^ 8
+
+-- a partition with no sector isn't selected
+abbrev pub accessed : Card → Option Part → Option Card
+accessed card (Some part) = if length (stored card part) == 0 then None else Some (record card { part = part })
+accessed card None = None
+
+-- Byte 179 with another access number.
+abbrev pub access_switched : Card → ℕ → Option Card
+access_switched card argument =
+    if argument == write_byte 179 (8 * field 7 3 (partition_config card.made.ext_csd) + field 10 8 argument)
+    then accessed card (part_accessed (field 10 8 argument))
+    else None
+
+-- The switches that the card knows: ERASE_GROUP_DEF 1, eight lines, high speed at 52 MHz where it has it, and a
+-- partition. Others change no byte (the project's own: the host sends no others).
+abbrev pub switched : Card → ℕ → Option Card
+switched card argument =
+    if argument == write_byte 175 1 then Some (record card { erase_group_def = 1 })
+    else if argument == write_byte 183 2 then Some (record card { width = Eight })
+    else if (argument == write_byte 185 1) && (high_speed_at_52_mhz card.made.ext_csd == 1)
+    then Some (record card { timing = High })
+    else access_switched card argument
+
+-- CMD6 of eMMC, SWITCH: SWITCH_ERROR where no byte changed, and programming in any case
+abbrev pub programs_switch : Card → Card
+programs_switch card = record (busied (shown card)) { state = Prg; is_switching = true; values = [] }
+
+abbrev pub switch_row : Card → Option Card → Card × CardAnswer
+switch_row card (Some after) = (programs_switch after, Checked 6 (status false card))
+switch_row card None = (programs_switch card, Checked 6 (status false (record card { switch_error = true })))
+
+abbrev pub switch_byte : Card → ℕ → Card × CardAnswer
+switch_byte card argument = switch_row card (switched card argument)

@@ -1,0 +1,37 @@
+//! Laws about what a card shows and what it holds. Each function does nothing; its contract is the law, which a caller then
+//! knows.
+ghost use Rattle.std.specs.Prelude.{◌≡◌, ◌↔◌, Bool, []};
+ghost use Rattle.mmc_frame.specs.Field.{field};
+ghost use Rattle.mmc_frame.specs.Status.{IsClean, error_bits, state_number};
+ghost use Rattle.mmc_frame.specs.declared.card_state.State.TheVariants.{Prg};
+ghost use Rattle.mmc_frame.specs.declared.kind.Kind.{Kind};
+ghost use Rattle.mmc_card.specs.CardAnswer.{status};
+ghost use Rattle.mmc_card.specs.Blocks.{rested};
+ghost use Rattle.mmc_card.specs.Card.{Card, FitsPart, IsCard, holds, known, unfinished};
+ghost use Rattle.mmc_card.specs.CardLaws.{HasNoError, IsInOrder};
+ghost use Rattle.mmc_card.specs.Sectors.{AreRead, Change, Same, Sets, changed};
+
+/// A status has the state of its card. Its error bits are 0 just where the card holds no error, and it is clean just where,
+/// besides, the card is in tran and not busy.
+pub fn a_status_tells_of_its_card()
+    ensures state { (app : Bool) (card : Card) → field 12 9 (status app card) ≡ state_number card.state }
+    ensures errors { (kind : Kind) (app : Bool) (card : Card) → IsCard card → ((error_bits kind (status app card) ≡ 0) ↔ HasNoError kind card) }
+    ensures clean { (kind : Kind) (app : Bool) (card : Card) → IsCard card → (IsClean kind (status app card) ↔ IsInOrder kind card) }
+{}
+
+/// Where no write, erase or trim is unfinished, each sector holds what is stored, and nothing else.
+pub fn a_card_at_rest_holds_what_it_stores()
+    ensures { (card : Card) → card.values ≡ [] → Same (holds card) (known card) }
+{}
+
+/// Once programming has ended, what was unfinished is carried out: each of its sectors holds its new value alone, and each
+/// other one what was stored.
+pub fn programming_carries_a_change_out()
+    ensures changes { (card : Card) → card.state ≡ Prg → FitsPart card → Same (holds (rested card)) (changed (unfinished card) (known card)) }
+    ensures nothing { (card : Card) → card.state ≡ Prg → card.values ≡ [] → Same (holds (rested card)) (holds card) }
+{}
+
+/// After a change that was carried out, its values are read from its sectors.
+pub fn a_change_that_was_carried_out_is_read_back()
+    ensures { (change : Change) (sets : Sets) → AreRead (changed change sets) change.part change.start change.values }
+{}

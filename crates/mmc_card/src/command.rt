@@ -1,0 +1,82 @@
+ghost use Rattle.std.specs.Prelude.{◌≡◌};
+ghost use Rattle.mmc_card.specs.Rows.{is_addressed, leaves_erase};
+
+/// The commands of the card relation, by the standards' names (SD Physical Layer 6.00, section 4.7.4; JESD84-B51, section
+/// 6.10.4). `SdSendOpCond`, `SetBusWidth` and `SendScr` are application commands: the host sends each behind CMD55.
+#[derive(Clone, Copy, Debug, PartialEq, Eq)]
+pub enum Command {
+    /// CMD0.
+    GoIdleState,
+    /// CMD1 of eMMC.
+    SendOpCond,
+    /// ACMD41 of SD: CMD41 behind CMD55.
+    SdSendOpCond,
+    /// CMD2.
+    AllSendCid,
+    /// CMD3 of SD.
+    SendRelativeAddr,
+    /// CMD3 of eMMC.
+    SetRelativeAddr,
+    /// CMD7.
+    SelectCard,
+    /// CMD8 of SD.
+    SendIfCond,
+    /// CMD8 of eMMC.
+    SendExtCsd,
+    /// CMD9.
+    SendCsd,
+    /// CMD12.
+    StopTransmission,
+    /// CMD13.
+    SendStatus,
+    /// CMD16.
+    SetBlocklen,
+    /// CMD17.
+    ReadSingleBlock,
+    /// CMD18.
+    ReadMultipleBlock,
+    /// CMD23.
+    SetBlockCount,
+    /// CMD24.
+    WriteBlock,
+    /// CMD25.
+    WriteMultipleBlock,
+    /// CMD32 of SD, CMD35 of eMMC.
+    EraseStart,
+    /// CMD33 of SD, CMD36 of eMMC.
+    EraseEnd,
+    /// CMD38.
+    Erase,
+    /// CMD6 of eMMC.
+    Switch,
+    /// CMD6 of SD, not behind CMD55.
+    SwitchFunc,
+    /// ACMD6 of SD: CMD6 behind CMD55.
+    SetBusWidth,
+    /// ACMD51 of SD: CMD51 behind CMD55.
+    SendScr,
+    /// CMD55 of SD: the next command is an application command.
+    AppCmd,
+    /// Any other.
+    Unknown,
+}
+
+/// Whether a command names a card in argument bits 31 to 16.
+pub fn is_addressed(command: Command) -> bool
+    ensures { result ≡ is_addressed command }
+{
+    matches!(
+        command,
+        Command::SelectCard | Command::SendCsd | Command::SendStatus | Command::AppCmd
+    )
+}
+
+/// Whether a command leaves held erase addresses as they are, or judges them.
+pub fn leaves_erase(command: Command) -> bool
+    ensures { result ≡ leaves_erase command }
+{
+    matches!(
+        command,
+        Command::SendStatus | Command::EraseStart | Command::EraseEnd | Command::Erase
+    )
+}

@@ -1,0 +1,103 @@
+// The plain types of an exchange between a host and a card.
+
+/// The response that a command is to have (SD Physical Layer 6.00, section 4.9; JESD84-B51, section 6.12).
+#[derive(Clone, Copy, Debug, PartialEq, Eq)]
+pub enum Want {
+    /// No response.
+    Nothing,
+    /// A response of 48 bits.
+    Short,
+    /// A response of 136 bits.
+    Long,
+}
+
+/// What came back of a command.
+#[derive(Clone, Copy, Debug, PartialEq, Eq)]
+pub enum Reply {
+    /// Nothing came.
+    Silent,
+    /// 48 bits came, sound or not.
+    Short([u8; 6]),
+    /// 136 bits came, sound or not.
+    Long([u8; 17]),
+}
+
+/// What became of a block that was to be read.
+#[derive(Clone, Copy, Debug, PartialEq, Eq)]
+pub enum DataIn {
+    /// The block came with a good check.
+    Good,
+    /// A block came with a bad check.
+    Bad,
+    /// No block came.
+    Nothing,
+}
+
+/// What became of a block that was written.
+#[derive(Clone, Copy, Debug, PartialEq, Eq)]
+pub enum DataOut {
+    /// The card accepted the block.
+    Accepted,
+    /// The card rejected the block, because its check was bad.
+    Rejected,
+    /// The card sent no status.
+    Nothing,
+}
+
+/// How many data lines carry a block.
+#[derive(Clone, Copy, Debug, PartialEq, Eq)]
+pub enum Width {
+    /// One line.
+    One,
+    /// Four lines.
+    Four,
+    /// Eight lines.
+    Eight,
+}
+
+/// The timing of the bus.
+#[derive(Clone, Copy, Debug, PartialEq, Eq)]
+pub enum Timing {
+    /// Default speed.
+    Default,
+    /// High speed.
+    High,
+}
+
+/// The lines of the host, as last set.
+#[derive(Clone, Copy, Debug, PartialEq, Eq)]
+pub struct Lines {
+    /// How many data lines are in use.
+    pub width: Width,
+    /// The timing in use.
+    pub timing: Timing,
+}
+
+/// An exchange with the card, and how it was answered.
+#[derive(Clone, Copy, Debug, PartialEq, Eq)]
+pub enum Exchange {
+    /// A command.
+    Command {
+        /// The six bytes that were sent.
+        frame: [u8; 6],
+        /// What came back.
+        reply: Reply,
+    },
+    /// A block that was to be read.
+    In {
+        /// The length of the block, in bytes.
+        len: usize,
+        /// What became of it.
+        got: DataIn,
+    },
+    /// A block of 512 bytes that was written.
+    Out {
+        /// What became of it.
+        got: DataOut,
+    },
+    /// A poll.
+    Busy {
+        /// Whether the card was busy.
+        yes: bool,
+    },
+}

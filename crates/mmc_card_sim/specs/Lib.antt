@@ -1,0 +1,4 @@
+pub mod PlainCard
+pub mod PlainCommands
+pub mod PlainView
+pub mod Store
