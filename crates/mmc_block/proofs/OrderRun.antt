@@ -65,7 +65,7 @@ whole_length : (request : Request) (answer : Answer) (bytes : List ℕ) → IsWh
     → length bytes ≡ 512 * count_of request
 whole_length request answer bytes h e = subst (IsWhole request) e h
 
--- What holds of a machine once these requests were submitted and these answers given.
+-- What holds of a machine once these requests were submitted and answered so.
 pub record Stands (info : Info) (start : Sets) (ws : List Waiting) (cs : List Completion) (m : Machine) : Type 0 where
   pub books : Books ws (answer_to cs) m
   pub given : (c : Completion) → IsAmong cs c → (answer_to cs c.ticket ≡ Some c.answer)
@@ -97,7 +97,8 @@ module _ (info : Info) (start : Sets) where
                 step.w,
                 s.books.known step.w (inr was),
                 sym step.ticket,
-                answered_whole info step.w.request (step.before ++ step.after) step.decided c.answer new.sets step.answered,
+                answered_whole info step.w.request (step.before ++ step.after) step.decided c.answer new.sets
+                    step.answered,
               ),
             )
       ]
@@ -318,7 +319,8 @@ held_by info part sector start ws answer values held v within (inr none) e =
 
 pub run_ends_in_order : (info : Info) (old : Machine) (events : List Event) (replies : List Reply) (new : Machine)
     (sets : Sets) (contents : Part → ℕ → Sector)
-    → AreDecided old.sets → old.waits ≡ [] → old.in_service ≡ [] → Runs info old events replies new → Within sets new.sets
+    → AreDecided old.sets → old.waits ≡ [] → old.in_service ≡ [] → Runs info old events replies new
+    → Within sets new.sets
     → MayHold sets contents
     → EndsInOrder (history info old.sets events replies) sets new.next contents
 run_ends_in_order info old events replies new sets contents decided no_waits no_serves run within holds =

@@ -49,8 +49,7 @@ history info start events replies = record {
   info = info;
   start = start;
   requests = submitted events replies;
-  given =
-      answers replies;
+  given = answers replies;
 }
 
 -- what these answer to a ticket

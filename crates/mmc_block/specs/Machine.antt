@@ -139,7 +139,7 @@ pub record Starts (old new : Machine) : Type 0 where
 abbrev pub StartsIfIdle : Machine → Machine → Type 0
 StartsIfIdle old new = Starts old new ⊎ ((new ≡ old) × (old.in_service ≡ [] → old.waits ≡ []))
 
--- these answers are given, in ascending order of ticket
+-- requests are answered so, in ascending order of ticket
 pub record AnswersAll (info : Info) (old : Machine) (completions : List Completion) (new : Machine) : Type 0 where
   pub completes : CompletesAll info old completions new
   pub ascend : Ascend 0 completions
@@ -157,8 +157,7 @@ pub record Accepts (old : Machine) (client : ℕ) (request : Request) (ticket : 
     waits = old.waits ++ record {
       ticket = old.next;
       client = client;
-      request =
-          request;
+      request = request;
     } ∷ [];
     next = old.next + 1;
   }

@@ -1,4 +1,4 @@
--- What a host learns, from the step that the bus took.
+-- What a host learns, from the step that its exchange was.
 use Rattle.std.proofs.Common.{◌&&◌, ◌<◌, ◌∙◌, ◌≡◌, ◌≤◌, Bool, List, ap, arith, bit_or, cond, false, inl, inr, refl}
 use Rattle.std.proofs.Common.{subst, sym, true, ℕ}
 use Rattle.std.specs.Prelude.{Ok, Result, Some}
@@ -304,8 +304,7 @@ unaccepted old block got new count none =
     record {
       accepts = λ h. absurd (none h);
       fine = λ same t. fell old new count same;
-      refuses =
-          λ same t. fell old new count same;
+      refuses = λ same t. fell old new count same;
     }
 
 not_nothing : (got : DataOut) → got ≡ Sent.Nothing → got ≡ Sent.Accepted → ⊥
@@ -362,8 +361,7 @@ not_good old size got block new count none =
     record {
       good = λ h. absurd (none h);
       fine = λ same t. fell old new count same;
-      refuses =
-          λ same t. fell old new count same;
+      refuses = λ same t. fell old new count same;
     }
 
 bad_or_nothing : (comes : Bool) (got : DataIn) → got ≡ cond comes Received.Bad Received.Nothing → got ≡ Received.Good

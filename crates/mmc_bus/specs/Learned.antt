@@ -110,7 +110,7 @@ pub record WriteFacts (old : BusView) (block : Sector) (got : DataOut) (new : Bu
   -- the next sector of the write may hold the block too
   pub widens : WithinOrAccepted old.card block new.card
   pub stands : StillStands old.card new.card
-  -- an accepted block was taken, fault or not
+  -- an accepted block was accepted by the card, fault or not
   pub accepts : got ≡ Sent.Accepted → (can_accept old.lines old.card ≡ true) × (new.card ≡ accepted block old.card)
   pub fine : NoFault old new → can_accept old.lines old.card ≡ true → got ≡ Sent.Accepted
   pub refuses : NoFault old new → can_accept old.lines old.card ≡ false → (got ≡ Sent.Nothing) × (new.card ≡ old.card)

@@ -1,4 +1,4 @@
--- What a bus keeps of its exchanges at run time, and the side of a bus that keeps nothing else.
+-- What a bus keeps of its exchanges at run time, and the view of a bus that keeps nothing else.
 use Rattle.std.specs.Prelude.{◌+◌, ◌-◌, ◌^◌, ◌≡◌, Bool, None, Some, [], false, min, ℕ}
 use Rattle.mmc_frame.specs.declared.kind.Kind.TheVariants.{Sd}
 use Rattle.mmc_card.specs.declared.exchange.Exchange.{Exchange}
@@ -15,7 +15,7 @@ pub record Notes (old : Wire) (exchange : Exchange) (new : Wire) : Type 0 where
   pub last : new.last ≡ Some exchange
   pub exchanges : new.exchanges ≡ min (old.exchanges + 1) (2 ^ 64 - 1)
 
--- the side with this card, on which so many faults have fallen
+-- the view with this card, on which so many faults have fallen
 abbrev pub bus_view_with : Card → ℕ → Bool → Wire → BusView
 bus_view_with card faults is_kept wire =
     record {
@@ -24,8 +24,7 @@ bus_view_with card faults is_kept wire =
       last = wire.last;
       exchanges = wire.exchanges;
       faults = faults;
-      is_kept =
-          is_kept;
+      is_kept = is_kept;
     }
 
 abbrev pub nothing_made : Made
@@ -50,6 +49,6 @@ pub record IsUnused (view : BusView) : Type 0 where
   pub exchanges : view.exchanges ≡ 0
   pub faults : view.faults ≡ 0
 
--- The side of a bus that never is kept: its card says nothing.
+-- The view of a bus that never is kept: its card says nothing.
 abbrev pub unkept : Wire → BusView
 unkept wire = bus_view_with (powered_on nothing_made []) 0 false wire

@@ -8,6 +8,7 @@ use mmc_card::{DataIn, DataOut, Exchange, Reply};
 use std::io::{self, Write};
 use text_out::{Piece, put_pieces};
 
+// What a reply is in a line.
 fn reply_piece(reply: &Reply) -> Piece<'_>
     ensures { piece_text result ≡ reply_text reply.now }
 {
@@ -18,6 +19,7 @@ fn reply_piece(reply: &Reply) -> Piece<'_>
     }
 }
 
+// What became of a block that was read.
 fn received_name(got: DataIn) -> &'static [u8]
     ensures { result.now ≡ received_text got }
 {
@@ -28,6 +30,7 @@ fn received_name(got: DataIn) -> &'static [u8]
     }
 }
 
+// What became of a block that was written.
 fn sent_name(got: DataOut) -> &'static [u8]
     ensures { result.now ≡ sent_text got }
 {
@@ -38,6 +41,7 @@ fn sent_name(got: DataOut) -> &'static [u8]
     }
 }
 
+// What a poll was answered.
 fn poll_name(yes: bool) -> &'static [u8]
     ensures { result.now ≡ poll_text yes }
 {

@@ -24,7 +24,7 @@ pub enum BusAnswer {
 
 /// A bus for tests: it gives the answers of a list, in their order. It is never kept to a card.
 ///
-/// An exchange whose kind is that of the next answer takes it. Any other takes nothing, and gets `Silent`, `Nothing` or no.
+/// An exchange whose kind is that of the next answer uses it up. Any other leaves it, and gets `Silent`, `Nothing` or no.
 #[derive(Debug, Drop)]
 pub struct ScriptedBus {
     answers: VecDeque<BusAnswer>,

@@ -75,7 +75,7 @@ fn writes_each_exchange(rt: HostRuntime) -> Result<(), Fail> {
     Ok(())
 }
 
-// Each kind of exchange takes the next answer only where it is of that kind.
+// Each kind of exchange uses up the next answer only where it is of that kind.
 #[test]
 fn scripted_answers_go_by_kind(rt: HostRuntime) -> Result<(), Fail> {
     let mut answers = VecDeque::new(rt.alloc());

@@ -18,6 +18,7 @@ use Rattle.mmc_card.specs.Rows.{command_of}
 use Rattle.mmc_card.specs.RowsErase.{erasing, is_trim}
 use Rattle.mmc_card.specs.RowsSwitch.{partition_config_for, write_byte}
 use Rattle.mmc_frame.specs.declared.kind.Kind.TheVariants.{Mmc}
+use Rattle.mmc_frame.specs.declared.commands.TheConstants as Index
 use Rattle.mmc_card.specs.Sectors.{Change, IsIn, Sector, Sets, maybe_changed}
 use Rattle.mmc_card.specs.BusView.{BusView}
 
@@ -132,7 +133,7 @@ StandsIn part old new =
 -- CMD6 of eMMC that writes byte 179 with the access number of this partition
 pub record SwitchesTo (part : Part) (card : Card) (index argument : ℕ) : Type 0 where
   pub mmc : card.made.kind ≡ Mmc
-  pub switch : index ≡ 6
+  pub switch : index ≡ Index.SWITCH_FUNC
   pub access : argument ≡ write_byte 179 (partition_config_for card.made part)
 
 -- no fault falls, or one

@@ -5,6 +5,7 @@ use Rattle.mmc_frame.specs.Field.{field}
 use Rattle.mmc_frame.specs.declared.card_state.State.TheVariants.{Data, Ident, Idle, Rcv, Ready, Stby, Tran}
 use Rattle.mmc_frame.specs.declared.kind.Kind.{Kind}
 use Rattle.mmc_frame.specs.declared.kind.Kind.TheVariants.{Mmc, Sd}
+use Rattle.mmc_frame.specs.declared.commands.TheConstants as Index
 use Rattle.mmc_card.specs.declared.command.Command.{Command}
 use Rattle.mmc_card.specs.declared.command.Command.TheVariants.{SdSendOpCond, SendScr, SetBusWidth, AllSendCid, AppCmd}
 use Rattle.mmc_card.specs.declared.command.Command.TheVariants.{Erase, EraseEnd, EraseStart, GoIdleState}
@@ -31,30 +32,30 @@ by_kind Mmc sd mmc = mmc
 -- what an index means to a card of this kind, behind CMD55 or not; one with no application command is ordinary there
 abbrev pub command_of : Kind → Bool → ℕ → Command
 command_of kind app index =
-    if index == 0 then GoIdleState
-    else if index == 1 then by_kind kind Unknown SendOpCond
-    else if index == 2 then AllSendCid
-    else if index == 3 then by_kind kind SendRelativeAddr SetRelativeAddr
-    else if index == 6 then by_kind kind (if app then SetBusWidth else SwitchFunc) Switch
-    else if index == 7 then SelectCard
-    else if index == 8 then by_kind kind SendIfCond SendExtCsd
-    else if index == 9 then SendCsd
-    else if index == 12 then StopTransmission
-    else if index == 13 then SendStatus
-    else if index == 16 then SetBlocklen
-    else if index == 17 then ReadSingleBlock
-    else if index == 18 then ReadMultipleBlock
-    else if index == 23 then SetBlockCount
-    else if index == 24 then WriteBlock
-    else if index == 25 then WriteMultipleBlock
-    else if index == 32 then by_kind kind EraseStart Unknown
-    else if index == 33 then by_kind kind EraseEnd Unknown
-    else if index == 35 then by_kind kind Unknown EraseStart
-    else if index == 36 then by_kind kind Unknown EraseEnd
-    else if index == 38 then Erase
-    else if index == 41 then by_kind kind (if app then SdSendOpCond else Unknown) Unknown
-    else if index == 51 then by_kind kind (if app then SendScr else Unknown) Unknown
-    else if index == 55 then AppCmd
+    if index == Index.GO_IDLE_STATE then GoIdleState
+    else if index == Index.SEND_OP_COND then by_kind kind Unknown SendOpCond
+    else if index == Index.ALL_SEND_CID then AllSendCid
+    else if index == Index.SEND_RELATIVE_ADDR then by_kind kind SendRelativeAddr SetRelativeAddr
+    else if index == Index.SWITCH_FUNC then by_kind kind (if app then SetBusWidth else SwitchFunc) Switch
+    else if index == Index.SELECT_CARD then SelectCard
+    else if index == Index.SEND_IF_COND then by_kind kind SendIfCond SendExtCsd
+    else if index == Index.SEND_CSD then SendCsd
+    else if index == Index.STOP_TRANSMISSION then StopTransmission
+    else if index == Index.SEND_STATUS then SendStatus
+    else if index == Index.SET_BLOCKLEN then SetBlocklen
+    else if index == Index.READ_SINGLE_BLOCK then ReadSingleBlock
+    else if index == Index.READ_MULTIPLE_BLOCK then ReadMultipleBlock
+    else if index == Index.SET_BLOCK_COUNT then SetBlockCount
+    else if index == Index.WRITE_BLOCK then WriteBlock
+    else if index == Index.WRITE_MULTIPLE_BLOCK then WriteMultipleBlock
+    else if index == Index.ERASE_WR_BLK_START then by_kind kind EraseStart Unknown
+    else if index == Index.ERASE_WR_BLK_END then by_kind kind EraseEnd Unknown
+    else if index == Index.ERASE_GROUP_START then by_kind kind Unknown EraseStart
+    else if index == Index.ERASE_GROUP_END then by_kind kind Unknown EraseEnd
+    else if index == Index.ERASE then Erase
+    else if index == Index.SD_SEND_OP_COND then by_kind kind (if app then SdSendOpCond else Unknown) Unknown
+    else if index == Index.SEND_SCR then by_kind kind (if app then SendScr else Unknown) Unknown
+    else if index == Index.APP_CMD then AppCmd
     else Unknown
 
 -- The commands that name a card in argument bits 31 to 16. Deselecting by CMD7 is left out.

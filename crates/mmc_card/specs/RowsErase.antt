@@ -3,6 +3,7 @@
 use Rattle.std.specs.Prelude.{◌&&◌, ◌*◌, ◌+◌, ◌-◌, ◌/◌, ◌==◌, ◌||◌, Bool, false, if◌then◌else◌, length, min, nat_le}
 use Rattle.std.specs.Prelude.{nat_lt, replicate, true, ℕ}
 use Rattle.mmc_frame.specs.declared.card_state.State.TheVariants.{Prg}
+use Rattle.mmc_frame.specs.declared.commands.TheConstants as Index
 use Rattle.mmc_card.specs.declared.part.Part.{Part}
 use Rattle.mmc_card.specs.declared.part.Part.TheVariants.{Boot1, Boot2}
 use Rattle.mmc_card.specs.CardAnswer.{CardAnswer, Checked, busied, raised, shown, status}
@@ -86,6 +87,6 @@ erases change card =
 abbrev pub erase_held : Card → ℕ → Held → Card × CardAnswer
 erase_held card argument (Both first last) =
     if is_no_range card first last
-    then (forgotten (shown card), Checked 38 (status false (raised erase_param card)))
-    else (erases (erasing card (is_trim card argument) first last) card, Checked 38 (status false card))
+    then (forgotten (shown card), Checked Index.ERASE (status false (raised erase_param card)))
+    else (erases (erasing card (is_trim card argument) first last) card, Checked Index.ERASE (status false card))
 erase_held card argument _ = out_of_sequence 38 card

@@ -3,6 +3,7 @@
 use Rattle.std.specs.Prelude.{◌&&◌, ◌+◌, ◌==◌, ◌^◌, ◌||◌, Bool, false, if◌then◌else◌, not, true, ℕ}
 use Rattle.mmc_frame.specs.Field.{field}
 use Rattle.mmc_frame.specs.declared.card_state.State.TheVariants.{Ident, Ready, Stby, Tran}
+use Rattle.mmc_frame.specs.declared.commands.TheConstants as Index
 use Rattle.mmc_regs.specs.Ocr.{card_capacity_status}
 use Rattle.mmc_card.specs.CardAnswer.{CardAnswer, Checked, Choice, Silent, R3, R2, busied, counted, done, r6_argument}
 use Rattle.mmc_card.specs.CardAnswer.{reset, shown, status}
@@ -38,21 +39,31 @@ all_send_cid card = (record (done card) { state = Ident }, R2 card.made.cid)
 
 -- CMD3 of SD, SEND_RELATIVE_ADDR; in stby the same RCA again (the project's own)
 abbrev pub send_relative_addr : Card → Card × CardAnswer
-send_relative_addr card =
-    (record (shown card) { state = Stby; rca = card.made.published }, Checked 3 (r6_argument card))
+send_relative_addr card = (
+  record (shown card) { state = Stby; rca = card.made.published },
+  Checked Index.SEND_RELATIVE_ADDR
+      (r6_argument card),
+)
 
 -- CMD3 of eMMC, SET_RELATIVE_ADDR
 abbrev pub set_relative_addr : Card → ℕ → Card × CardAnswer
-set_relative_addr card argument =
-    (record (shown card) { state = Stby; rca = field 31 16 argument }, Checked 3 (status false card))
+set_relative_addr card argument = (
+  record (shown card) { state = Stby; rca = field 31 16 argument },
+  Checked Index.SEND_RELATIVE_ADDR
+      (status false card),
+)
 
 -- CMD7, SELECT_CARD; an eMMC device may be busy after it too (the project's own)
 abbrev pub select_card : Card → Card × CardAnswer
-select_card card = (record (busied (shown card)) { state = Tran }, Checked 7 (status false card))
+select_card card = (record (busied (shown card)) { state = Tran }, Checked Index.SELECT_CARD (status false card))
 
 -- CMD8 of SD, SEND_IF_COND: voltage 1, 2.7 to 3.6 V, is the only one (SD Physical Layer 6.00, section 4.3.13)
 abbrev pub send_if_cond : Card → ℕ → Card × CardAnswer
-send_if_cond card argument = (done card, if field 11 8 argument == 1 then Checked 8 (field 11 0 argument) else Silent)
+send_if_cond card argument = (
+  done card,
+  if field 11 8 argument == 1 then Checked Index.SEND_IF_COND
+      (field 11 0 argument) else Silent,
+)
 
 -- CMD9, SEND_CSD
 abbrev pub send_csd : Card → Card × CardAnswer
@@ -60,8 +71,8 @@ send_csd card = (done card, R2 card.made.csd)
 
 -- CMD13, SEND_STATUS
 abbrev pub send_status : Card → Card × CardAnswer
-send_status card = (shown card, Checked 13 (status false card))
+send_status card = (shown card, Checked Index.SEND_STATUS (status false card))
 
 -- CMD55 of SD, APP_CMD (SD Physical Layer 6.00, section 4.3.9)
 abbrev pub app_cmd : Card → Card × CardAnswer
-app_cmd card = (record (shown card) { app = true }, Checked 55 (status true card))
+app_cmd card = (record (shown card) { app = true }, Checked Index.APP_CMD (status true card))

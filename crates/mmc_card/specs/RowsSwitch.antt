@@ -4,6 +4,7 @@ use Rattle.std.specs.Prelude.{◌&&◌, ◌*◌, ◌+◌, ◌==◌, ◌^◌, Lis
 use Rattle.std.specs.Prelude.{slice_set, true, ℕ}
 use Rattle.mmc_frame.specs.Field.{field}
 use Rattle.mmc_frame.specs.declared.card_state.State.TheVariants.{Prg}
+use Rattle.mmc_frame.specs.declared.commands.TheConstants as Index
 use Rattle.mmc_ext_csd.specs.ExtCsd.{high_speed_at_52_mhz, partition_config}
 use Rattle.mmc_card.specs.declared.exchange.Timing.{Timing}
 use Rattle.mmc_card.specs.declared.exchange.Timing.TheVariants.{Default, High}
@@ -21,8 +22,11 @@ abbrev pub width_by : ℕ → Width → Width
 width_by bits width = if bits == 0 then One else if bits == 2 then Four else width
 
 abbrev pub set_bus_width : Card → ℕ → Card × CardAnswer
-set_bus_width card argument =
-    (record (shown card) { width = width_by (field 1 0 argument) card.width }, Checked 6 (status true card))
+set_bus_width card argument = (
+  record (shown card) { width = width_by (field 1 0 argument) card.width },
+  Checked Index.SET_BUS_WIDTH
+      (status true card),
+)
 
 -- CMD6 of SD, SWITCH_FUNC: the card sends its switch status, and with bit 31 it switches once that is sent
 abbrev pub timing_after : Card → ℕ → Timing
@@ -30,7 +34,7 @@ timing_after card argument = if (field 31 31 argument == 1) && has_high_speed ca
 
 abbrev pub switch_func : Card → ℕ → Card × CardAnswer
 switch_func card argument =
-    (sending card.made.switch_status (timing_after card argument) card, Checked 6 (status false card))
+    (sending card.made.switch_status (timing_after card argument) card, Checked Index.SWITCH_FUNC (status false card))
 
 -- PARTITION_ACCESS (JESD84-B51, section 7.4.69)
 abbrev pub access_number : Part → ℕ
@@ -70,7 +74,7 @@ ext_csd_now card =
 
 -- CMD8 of eMMC, SEND_EXT_CSD
 abbrev pub send_ext_csd : Card → Card × CardAnswer
-send_ext_csd card = (sending (ext_csd_now card) card.timing card, Checked 8 (status false card))
+send_ext_csd card = (sending (ext_csd_now card) card.timing card, Checked Index.SEND_IF_COND (status false card))
 
 -- the argument of CMD6 of eMMC that writes a byte (JESD84-B51, section 6.6.1): access 3 in bits 25 and 24
 abbrev pub write_byte : ℕ → ℕ → ℕ
@@ -103,8 +107,12 @@ abbrev pub programs_switch : Card → Card
 programs_switch card = record (busied (shown card)) { state = Prg; is_switching = true; values = [] }
 
 abbrev pub switch_row : Card → Option Card → Card × CardAnswer
-switch_row card (Some after) = (programs_switch after, Checked 6 (status false card))
-switch_row card None = (programs_switch card, Checked 6 (status false (record card { switch_error = true })))
+switch_row card (Some after) = (programs_switch after, Checked Index.SWITCH_FUNC (status false card))
+switch_row card None = (
+  programs_switch card,
+  Checked Index.SWITCH_FUNC
+      (status false (record card { switch_error = true })),
+)
 
 abbrev pub switch_byte : Card → ℕ → Card × CardAnswer
 switch_byte card argument = switch_row card (switched card argument)

@@ -6,6 +6,7 @@ use Rattle.std.specs.Prelude.{nat_le, not, true, ℕ}
 use Rattle.mmc_frame.specs.Field.{field}
 use Rattle.mmc_frame.specs.declared.card_state.State.{State}
 use Rattle.mmc_frame.specs.declared.card_state.State.TheVariants.{Data, Prg, Rcv, Tran}
+use Rattle.mmc_frame.specs.declared.commands.TheConstants as Index
 use Rattle.mmc_card.specs.declared.exchange.Timing.{Timing}
 use Rattle.mmc_card.specs.CardAnswer.{CardAnswer, Checked, bit, busied, raised, shown, status}
 use Rattle.mmc_card.specs.ErrorBits.{address_error, block_len_error, out_of_range, wp_violation}
@@ -21,14 +22,14 @@ stopped card =
 
 -- CMD12, STOP_TRANSMISSION
 abbrev pub stop_transmission : Card → Card × CardAnswer
-stop_transmission card = (stopped card, Checked 12 (status false card))
+stop_transmission card = (stopped card, Checked Index.STOP_TRANSMISSION (status false card))
 
 -- CMD16, SET_BLOCKLEN: 512 alone (the project's own: the host sends no other)
 abbrev pub set_blocklen : Card → ℕ → Card × CardAnswer
 set_blocklen card argument =
     if argument == 512
-    then (record (shown card) { block_length = 512 }, Checked 16 (status false card))
-    else (shown card, Checked 16 (status false (raised block_len_error card)))
+    then (record (shown card) { block_length = 512 }, Checked Index.SET_BLOCKLEN (status false card))
+    else (shown card, Checked Index.SET_BLOCKLEN (status false (raised block_len_error card)))
 
 -- a card after CMD23: 32 bits of SD (SD Physical Layer 6.00, section 4.7.4), 16 of eMMC (JESD84-B51, section 6.6.7)
 abbrev pub preset_to : Card → ℕ → Card
@@ -36,7 +37,7 @@ preset_to card argument = record (shown card) { count = if is_sd card.made.kind 
 
 -- CMD23, SET_BLOCK_COUNT
 abbrev pub set_block_count_to : Card → ℕ → Card × CardAnswer
-set_block_count_to card argument = (preset_to card argument, Checked 23 (status false card))
+set_block_count_to card argument = (preset_to card argument, Checked Index.SET_BLOCK_COUNT (status false card))
 
 -- a preset count of 0 is none (the project's own)
 abbrev pub preset : Card → Option ℕ
@@ -75,22 +76,25 @@ transferred index errors card after =
 -- CMD17, READ_SINGLE_BLOCK
 abbrev pub read_single_block : Card → ℕ → Card × CardAnswer
 read_single_block card address =
-    transferred 17 (transfer_errors false card address) card (begun Data true (Some 1) card address)
+    transferred Index.READ_SINGLE_BLOCK (transfer_errors false card address) card
+    (begun Data true (Some 1) card address)
 
 -- CMD18, READ_MULTIPLE_BLOCK
 abbrev pub read_multiple_block : Card → ℕ → Card × CardAnswer
 read_multiple_block card address =
-    transferred 18 (transfer_errors false card address) card (begun Data false (preset card) card address)
+    transferred Index.READ_MULTIPLE_BLOCK (transfer_errors false card address) card
+    (begun Data false (preset card) card address)
 
 -- CMD24, WRITE_BLOCK
 abbrev pub write_block : Card → ℕ → Card × CardAnswer
 write_block card address =
-    transferred 24 (transfer_errors true card address) card (begun Rcv true (Some 1) card address)
+    transferred Index.WRITE_BLOCK (transfer_errors true card address) card (begun Rcv true (Some 1) card address)
 
 -- CMD25, WRITE_MULTIPLE_BLOCK
 abbrev pub write_multiple_block : Card → ℕ → Card × CardAnswer
 write_multiple_block card address =
-    transferred 25 (transfer_errors true card address) card (begun Rcv false (preset card) card address)
+    transferred Index.WRITE_MULTIPLE_BLOCK (transfer_errors true card address) card
+    (begun Rcv false (preset card) card address)
 
 -- the card sends these bytes as one block, and has this timing then
 abbrev pub sending : List ℕ → Timing → Card → Card
@@ -98,4 +102,4 @@ sending bytes timing card = record (shown card) { state = Data; source = FromByt
 
 -- ACMD51, SEND_SCR (SD Physical Layer 6.00, section 5.6)
 abbrev pub send_scr : Card → Card × CardAnswer
-send_scr card = (sending card.made.scr card.timing card, Checked 51 (status true card))
+send_scr card = (sending card.made.scr card.timing card, Checked Index.SEND_SCR (status true card))

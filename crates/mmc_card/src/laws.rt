@@ -5,6 +5,7 @@ ghost use Rattle.mmc_frame.specs.Frame.{command_in};
 ghost use Rattle.mmc_frame.specs.declared.addressing.Addressing.{Addressing};
 ghost use Rattle.mmc_frame.specs.declared.kind.Kind.{Kind};
 ghost use Rattle.mmc_frame.specs.declared.kind.Kind.TheVariants as Is;
+ghost use Rattle.mmc_frame.specs.declared.commands.TheConstants as Index;
 ghost use Rattle.mmc_regs.specs.Csd.{csd_in};
 ghost use Rattle.mmc_regs.specs.declared.csd.Csd.TheVariants.{Mmc, V1, V2};
 ghost use Rattle.mmc_ext_csd.specs.ExtCsd.{ext_csd_in};
@@ -61,7 +62,7 @@ pub fn a_switch_of_the_partition_leaves_the_card_standing()
 
 /// No command but CMD38 erases anything, so that no sector may hold more after it.
 pub fn no_command_but_erase_widens()
-    ensures { (card : Card) (index argument : ℕ) → index < 64 → (index ≡ 38 → ⊥) → erased_by card (Some (index, argument)) ≡ None }
+    ensures { (card : Card) (index argument : ℕ) → index < 64 → (index ≡ Index.ERASE → ⊥) → erased_by card (Some (index, argument)) ≡ None }
 {}
 
 /// A card after power on, with registers that have their form and sectors of 512 bytes, is a card.

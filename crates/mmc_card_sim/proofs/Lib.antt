@@ -1,3 +1,4 @@
 pub mod PlainLemmas
 pub mod PlainSteps
+pub mod PlanLemmas
 pub mod StoreLemmas

@@ -1,4 +1,5 @@
 pub mod PlainCard
 pub mod PlainCommands
 pub mod PlainView
+pub mod Plan
 pub mod Store

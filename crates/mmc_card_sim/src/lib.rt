@@ -6,13 +6,19 @@ mod chip;
 mod command;
 mod erase_rows;
 mod error_bits;
+mod fault;
 mod identify_rows;
 mod plain;
+mod plan;
 mod store;
 mod transfer_rows;
 
+pub use fault::{Fault, Flips, Outcome};
 pub use plain::PlainCard;
+pub use plan::{MAX_PLANNED, Plan, PlanFault, Planned};
 pub use store::MAX_SECTORS;
 
+#[cfg(test)]
+mod plan_tests;
 #[cfg(test)]
 mod tests;

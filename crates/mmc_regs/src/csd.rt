@@ -116,6 +116,7 @@ fn has_block_length(exponent: u128) -> bool
     9 <= exponent && exponent <= 11
 }
 
+// A CSD of version 1.0: its two block lengths have to be ones that a card may have.
 fn read_v1(register: u128) -> Result<Csd, RegFault>
     ensures { result ≡ v1_of register }
 {
@@ -125,6 +126,7 @@ fn read_v1(register: u128) -> Result<Csd, RegFault>
     Ok(Csd::V1(CsdV1::new(register)))
 }
 
+// The CSD of an SD card, by its version.
 fn read_sd_csd(register: u128) -> Result<Csd, RegFault>
     ensures { result ≡ sd_csd_of register }
 {

@@ -50,19 +50,21 @@ impl Model for CsdMmc {
     ghost inverse = { λ n. record { register = n } };
 }
 
-// Three fields that version 1.0 and the CSD of an eMMC device have in common.
+// READ_BL_LEN, which version 1.0 and the CSD of an eMMC device have in common.
 fn read_bl_len(register: u128) -> u8
     ensures { result ≡ read_bl_len register }
 {
     bits(register, 83, 80) as u8
 }
 
+// C_SIZE of these two.
 fn c_size(register: u128) -> u16
     ensures { result ≡ c_size register }
 {
     bits(register, 73, 62) as u16
 }
 
+// C_SIZE_MULT of these two.
 fn c_size_mult(register: u128) -> u8
     ensures { result ≡ c_size_mult register }
 {

@@ -18,7 +18,7 @@ pub(crate) fn digit_of(number: u8) -> u8
     }
 }
 
-/// Writes a byte in two digits.
+// Writes a byte in two digits.
 fn put_byte<W: Write>(out: &mut W, byte: u8) -> io::Result<()>
     ensures { Writes (W.contents out.old) (W.contents out.new) result (hex_text (byte ∷ [])) }
 {

@@ -20,7 +20,7 @@ pub enum Piece<'a> {
     Repeats(&'a [u8]),
 }
 
-/// Writes one piece.
+// Writes one piece.
 fn put_piece<W: Write>(out: &mut W, piece: Piece<'_>) -> io::Result<()>
     ensures { Writes (W.contents out.old) (W.contents out.new) result (piece_text piece.entry) }
 {

@@ -8,7 +8,7 @@ use crate::hex::digit_of;
 use crate::put::{put, put_number};
 use std::io::{self, Write};
 
-/// How many bytes at the front are `byte`.
+// How many bytes at the front are `byte`.
 fn repeat_len(bytes: &[u8], byte: u8) -> usize
     ensures count { result ≡ prefix_len (λ b. b == byte) bytes.now }
     ensures within { result ≤ length bytes.now }
@@ -20,7 +20,7 @@ fn repeat_len(bytes: &[u8], byte: u8) -> usize
     count
 }
 
-/// Writes one repeat.
+// Writes one repeat.
 fn put_repeat<W: Write>(out: &mut W, byte: u8, count: u64) -> io::Result<()>
     ensures { Writes (W.contents out.old) (W.contents out.new) result (repeat_text (byte, count)) }
 {
@@ -28,7 +28,7 @@ fn put_repeat<W: Write>(out: &mut W, byte: u8, count: u64) -> io::Result<()>
     put_number(out, count)
 }
 
-/// Writes the first repeat, with a comma where others follow, and gives the bytes behind it.
+// Writes the first repeat, with a comma where others follow, and gives the bytes behind it.
 fn put_first<'a, W: Write>(out: &mut W, bytes: &'a [u8]) -> io::Result<&'a [u8]>
     requires { 0 < length bytes.now }
     ensures ok { IfOk result (λ rest. PutsFirst (W.contents out.old) (W.contents out.new) bytes.now rest.now) }

@@ -1,0 +1,46 @@
+/// How an unfinished write, erase or trim turns out where a fault leaves it open.
+#[derive(Clone, Copy, Debug, PartialEq, Eq)]
+pub enum Outcome {
+    /// Each block or sector of it has its old value.
+    Old,
+    /// Each has its new value.
+    New,
+}
+
+/// Which bits of a frame are flipped, by their positions in order of sending: 0 to 47 in a frame of six bytes, 0 to 135 in
+/// one of seventeen. Two equal positions, or one past the frame, fit no exchange.
+#[derive(Clone, Copy, Debug, PartialEq, Eq)]
+pub struct Flips {
+    /// The first one.
+    pub first: u8,
+    /// The other one, where two are flipped.
+    pub second: Option<u8>,
+}
+
+/// A fault that a card in memory can be told to have. Each is a fault of the card relation, and falls only where it fits its
+/// exchange.
+#[derive(Clone, Copy, Debug, PartialEq, Eq)]
+pub enum Fault {
+    /// The card doesn't see the command.
+    LoseCommand,
+    /// The card sees the command with flipped bits, so that its check is bad.
+    FlipCommand(Flips),
+    /// The card answers, and nothing comes.
+    LoseReply,
+    /// The answer comes with flipped bits; of an R3 never those of the OCR.
+    FlipReply(Flips),
+    /// A block that is read comes with a bad check.
+    BadBlock,
+    /// A block that is read doesn't come.
+    NoBlock,
+    /// A block that is written is rejected.
+    Reject,
+    /// The status of a block that is written doesn't come: the card has rejected it, or accepted it.
+    LoseStatus(Outcome),
+    /// Programming of a write, erase or trim fails at a poll.
+    Fail(Outcome),
+    /// A busy card says so once more.
+    Busy,
+    /// The power fails: no answer, and then the card is as after CMD0.
+    Brownout(Outcome),
+}

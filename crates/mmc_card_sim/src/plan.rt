@@ -1,0 +1,134 @@
+// The faults that are planned for the exchanges of a card in memory.
+ghost use Rattle.std.specs.Prelude.{◌≡◌, ◌<◌, ◌≤◌, ◌==◌, IfErr, IfNone, IfSome, IsOk, None, OnErr, Some, [], false, if◌then◌else◌, length, slice_index_or, take, ℕ};
+ghost use Rattle.mmc_card_sim.specs.declared.plan.Planned.{Planned};
+ghost use Rattle.mmc_card_sim.specs.Plan.{fault_at, is_full, refusal_of};
+
+use crate::fault::Fault;
+use arrayvec::ArrayVec;
+use std::marker::Model;
+use thiserror::Error;
+
+/// The most exchanges for which a fault may be planned.
+pub const MAX_PLANNED: usize = 256;
+
+/// Why a fault isn't planned. Where both hold, the first is named.
+#[derive(Clone, Copy, Debug, PartialEq, Eq, Error)]
+pub enum PlanFault {
+    /// `MAX_PLANNED` other exchanges have been planned, past ones too.
+    #[error("too many planned faults")]
+    PlanFull,
+    /// The exchange has been made already, or its number is 2^64 - 1, at which the count of exchanges stays.
+    #[error("the exchange is past")]
+    InThePast,
+}
+
+/// A fault, and the exchange for which it is planned, counted from 0.
+#[derive(Clone, Copy, Debug, PartialEq, Eq)]
+pub struct Planned {
+    /// The number of the exchange.
+    pub exchange: u64,
+    /// What is to happen in it.
+    pub fault: Fault,
+}
+
+impl Default for Planned {
+    fn default() -> Planned {
+        Planned {
+            exchange: 0,
+            fault: Fault::LoseCommand,
+        }
+    }
+}
+
+/// The faults that are planned, one an exchange.
+#[derive(Debug, Drop)]
+pub struct Plan {
+    planned: ArrayVec<Planned, MAX_PLANNED>,
+}
+
+impl Model for Plan {
+    ghost use Rattle.std.specs.Prelude.{List};
+    ghost use Rattle.mmc_card_sim.specs.declared.plan.Planned.{Planned};
+
+    ghost Value = { List Planned };
+
+    ghost view = { λ plan. plan.planned.items };
+}
+
+impl Plan {
+    /// No fault is planned.
+    pub fn new() -> Plan
+        ensures { result ≡ [] }
+    {
+        Plan {
+            planned: ArrayVec::new(),
+        }
+    }
+
+    // The place of an exchange among those that are planned.
+    fn place_of(&self, exchange: u64) -> Option<usize>
+        ensures there { IfSome result (λ i. (i < length self.now) × (fault_at (take i self.now) exchange ≡ None)) }
+        ensures same { IfSome result (λ i. (default : Planned) → (slice_index_or self.now i default).exchange ≡ exchange) }
+        ensures none { IfNone result (fault_at self.now exchange ≡ None) }
+    {
+        for i in 0..self.planned.len() {
+            if self.planned[i].exchange == exchange {
+                return Some(i);
+            }
+        }
+        None
+    }
+
+    /// The fault that is planned for this exchange.
+    pub fn fault(&self, exchange: u64) -> Option<Fault>
+        ensures { result ≡ fault_at self.now exchange }
+    {
+        match self.place_of(exchange) {
+            Some(i) => Some(self.planned[i].fault),
+            None => None,
+        }
+    }
+
+    // Why a fault isn't planned for this exchange, where so many have been made.
+    fn refusal(&self, exchange: u64, made: u64) -> Option<PlanFault>
+        ensures { result ≡ refusal_of self.now exchange made }
+    {
+        if self.fault(exchange).is_none() && self.planned.is_full() {
+            Some(PlanFault::PlanFull)
+        } else if exchange < made || exchange == u64::MAX {
+            Some(PlanFault::InThePast)
+        } else {
+            None
+        }
+    }
+
+    // Puts a fault in the place of the one for this exchange, or behind all others.
+    fn put(&mut self, exchange: u64, fault: Fault)
+        requires { is_full self.old (fault_at self.old exchange) ≡ false }
+        ensures { (e : ℕ) → fault_at self.new e ≡ (if exchange == e then Some fault else fault_at self.old e) }
+    {
+        let planned = Planned { exchange, fault };
+        match self.place_of(exchange) {
+            Some(i) => self.planned[i] = planned,
+            None => self.planned.push(planned),
+        }
+    }
+
+    /// Plans a fault for an exchange, where so many exchanges have been made; a second one for the same exchange replaces the
+    /// first.
+    ///
+    /// # Errors
+    /// `PlanFull`, then `InThePast`; nothing has changed then.
+    pub fn plan(&mut self, exchange: u64, fault: Fault, made: u64) -> Result<(), PlanFault>
+        ensures refused { IfErr result (λ why. refusal_of self.old exchange made ≡ Some why) }
+        ensures unchanged { OnErr result (self.new ≡ self.old) }
+        ensures planned { IsOk result → refusal_of self.old exchange made ≡ None }
+        ensures replaced { IsOk result → (e : ℕ) → fault_at self.new e ≡ (if exchange == e then Some fault else fault_at self.old e) }
+    {
+        if let Some(why) = self.refusal(exchange, made) {
+            return Err(why);
+        }
+        self.put(exchange, fault);
+        Ok(())
+    }
+}
