@@ -139,12 +139,14 @@ pub record ServedSoFar {B : Type 0} (view : B → BusView) (start now : DeviceVi
   pub later_device : IsLaterDevice view start now
   pub serves : (view now.bus).is_kept ≡ true → ServesUpTo view start now script left old new bad
 
-pub so_far_none : {B : Type 0} (view : B → BusView) (d : DeviceView B) (script : List ScriptEvent) (old : Option (List ℕ))
+pub so_far_none : {B : Type 0} (view : B → BusView) (d : DeviceView B) (script : List ScriptEvent)
+    (old : Option (List ℕ))
     → ServedSoFar view d d script script old old false
 so_far_none view d script old =
     record { later_device = later_none view d; serves = λ k. serves_none view d script old }
 
-pub so_far_then : {B : Type 0} (view : B → BusView) (start mid now : DeviceView B) (script fs left rest : List ScriptEvent)
+pub so_far_then : {B : Type 0} (view : B → BusView) (start mid now : DeviceView B)
+    (script fs left rest : List ScriptEvent)
     (old between new : Option (List ℕ)) (x y : Bool)
     → ServedSoFar view start mid script (fs ++ left) old between x → IsLaterDevice view mid now
     → ((view now.bus).is_kept ≡ true → ServesUpTo view mid now fs rest between new y)
@@ -155,7 +157,8 @@ so_far_then view start mid now script fs left rest old between new x y so_far la
       (so_far.serves (later.kept k)) (serves k);
 }
 
-pub so_far_broken : {B E : Type 0} (view : B → BusView) (start mid now : DeviceView B) (script fs left : List ScriptEvent)
+pub so_far_broken : {B E : Type 0} (view : B → BusView) (start mid now : DeviceView B)
+    (script fs left : List ScriptEvent)
     (old between new : Option (List ℕ)) (x : Bool) (r : Result Bool E) → IsErr r
     → ServedSoFar view start mid script (fs ++ left) old between x → IsLaterDevice view mid now
     → ((view now.bus).is_kept ≡ true → ServesPrefix view mid now fs between new)

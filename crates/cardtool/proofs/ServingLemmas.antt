@@ -168,7 +168,8 @@ runs_then i p q r m k n script fs left rest es rs us vs first second = record {
       (failure_then rs vs);
 }
 
-pub serves_none : {B : Type 0} (view : B → BusView) (d : DeviceView B) (script : List ScriptEvent) (old : Option (List ℕ))
+pub serves_none : {B : Type 0} (view : B → BusView) (d : DeviceView B) (script : List ScriptEvent)
+    (old : Option (List ℕ))
     → ServesUpTo view d d script script old old false
 unfolding texts any_bad any_failure
 serves_none view d script old = λ m of_device. record {
@@ -182,7 +183,8 @@ serves_none view d script old = λ m of_device. record {
 }
 
 -- more of a script, served after the rest
-pub serves_then : {B : Type 0} (view : B → BusView) (start mid now : DeviceView B) (script fs left rest : List ScriptEvent)
+pub serves_then : {B : Type 0} (view : B → BusView) (start mid now : DeviceView B)
+    (script fs left rest : List ScriptEvent)
     (old between new : Option (List ℕ)) (x y : Bool) → mid.info ≡ start.info
     → ServesUpTo view start mid script (fs ++ left) old between x → ServesUpTo view mid now fs rest between new y
     → ServesUpTo view start now script (rest ++ left) old new (y || x)

@@ -56,7 +56,8 @@ abbrev pub EndLaw : Type 0
 EndLaw =
     (info : Info) (old : Machine) (events : List MachineEvent) (replies : List Reply) (new : Machine) (sets : Sets)
     (contents : Part → ℕ → Sector)
-    → AreDecided old.sets → old.waits ≡ [] → old.in_service ≡ [] → Runs info old events replies new → Within sets new.sets
+    → AreDecided old.sets → old.waits ≡ [] → old.in_service ≡ [] → Runs info old events replies new
+    → Within sets new.sets
     → MayHold sets contents
     → EndsInOrder (history info old.sets events replies) sets new.next contents
 

@@ -139,7 +139,8 @@ pub record RunsScript (info : Info) (was_ready is_ready : Bool) (old new : Machi
 
 -- A run of a script from this machine to one of the new device, up to what is left. Its lines went out, and `bad` says
 -- whether some request was refused or failed.
-pub record PrintedRun {B : Type 0} (view : B → BusView) (old_device new_device : DeviceView B) (script left : List ScriptEvent)
+pub record PrintedRun {B : Type 0} (view : B → BusView) (old_device new_device : DeviceView B)
+    (script left : List ScriptEvent)
     (old new : Option (List ℕ)) (bad : Bool) (first : Machine) : Type 0 where
   pub events : List MachineEvent
   pub replies : List Reply
@@ -150,7 +151,8 @@ pub record PrintedRun {B : Type 0} (view : B → BusView) (old_device new_device
   pub bad_is : bad ≡ any_bad replies
 
 -- A run of a prefix of a script, in which the writer failed: a prefix of its lines went out.
-pub record BrokenRun {B : Type 0} (view : B → BusView) (old_device new_device : DeviceView B) (script : List ScriptEvent)
+pub record BrokenRun {B : Type 0} (view : B → BusView) (old_device new_device : DeviceView B)
+    (script : List ScriptEvent)
     (old new : Option (List ℕ)) (first : Machine) : Type 0 where
   pub events : List MachineEvent
   pub replies : List Reply

@@ -85,7 +85,8 @@ pub record RunOverSectors (info : Info) (before later : Sets) (fell : ℕ) (scri
   pub none_failed : fell ≡ 0 → any_failure replies ≡ false
 
 -- The script was served and its text went out, with the trace behind it, and the status tells how its requests fared.
-pub record IsServedToItsEnd (info : Info) (before later : Sets) (fell : ℕ) (script : List ScriptEvent) (trace : Option ℕ)
+pub record IsServedToItsEnd (info : Info) (before later : Sets) (fell : ℕ) (script : List ScriptEvent)
+    (trace : Option ℕ)
     (old new : Option (List ℕ)) (status : ℕ) : Type 0 where
   pub events : List MachineEvent
   pub replies : List Reply

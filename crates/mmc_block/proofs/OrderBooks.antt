@@ -21,8 +21,8 @@ Pends m w = IsAmong m.waits w ⊎ IsAmong m.in_service w
 abbrev pub IsPassed : Option Answer → Request → Request → Type 0
 IsPassed answer late early = (answer ≡ None) ⊎ (conflicts early late ≡ false)
 
--- These were submitted, in order of ticket; each that waits or is in service is one of them and has no answer; none that
--- was answered has passed one that waits or is in service and conflicts.
+-- These were submitted, in order of ticket; each that waits or is in service is one of them and has no answer; none
+-- that was answered has passed one that waits or is in service and conflicts.
 pub record Books (ws : List Waiting) (answer : ℕ → Option Answer) (m : Machine) : Type 0 where
   pub below_next : (w : Waiting) → IsAmong ws w → w.ticket < m.next
   pub ascending : Ascending ws

@@ -43,7 +43,8 @@ ReadsRight info part sector start ws answer is_new =
     (w : Waiting) (bytes : List ℕ) → IsAmong ws w → answer w.ticket ≡ Some (Data bytes)
     → Reads info part sector start ws answer is_new w bytes
 
--- Some choices make each answer with data right; and for each value that the sector may hold some make the sector it, too.
+-- Some choices make each answer with data right; and for each value that the sector may hold some make the sector it,
+-- too.
 pub record Explained (info : Info) (part : Part) (sector : ℕ) (start : Sector) (ws : List Waiting)
     (answer : ℕ → Option Answer) (values : List Sector) : Type 0 where
   pub some : (is_new : ℕ → Bool) × ReadsRight info part sector start ws answer is_new

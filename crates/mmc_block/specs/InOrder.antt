@@ -90,8 +90,8 @@ in_turn effect (w ∷ ws) value = in_turn effect ws (effect w value)
 abbrev pub first_value : Sets → Part → ℕ → Sector
 first_value sets part sector = slice_index_or (sets part sector) 0 []
 
--- The ordered value of a sector below a ticket: from its value at the start on, what the requests below the ticket leave in
--- it, in order of submission.
+-- The ordered value of a sector below a ticket: from its value at the start on, what the requests below the ticket
+-- leave in it, in order of submission.
 abbrev pub ordered_value : History → Choices → ℕ → Part → ℕ → Sector
 ordered_value h choices ticket part sector =
     in_turn (below ticket (effect_at h.info part sector (answer_to h.given) (choices part sector))) h.requests
@@ -126,8 +126,8 @@ abbrev pub MayHold : Sets → (Part → ℕ → Sector) → Type 0
 MayHold sets contents = (part : Part) (sector : ℕ) → IsIn (sets part sector) (contents part sector)
     ⊎ (sets part sector ≡ [])
 
--- There are choices by which the answers are in order, and these contents are the ordered values below this ticket, where a
--- sector holds one.
+-- There are choices by which the answers are in order, and these contents are the ordered values below this ticket,
+-- where a sector holds one.
 abbrev pub EndsInOrder : History → Sets → ℕ → (Part → ℕ → Sector) → Type 0
 EndsInOrder h sets next contents =
     (choices : Choices) × AreOrdered h choices

@@ -82,7 +82,8 @@ abbrev pub PassesNone : Waiting → List Waiting → Type 0
 PassesNone w [] = Unit {0}
 PassesNone w (v ∷ vs) = (v.ticket < w.ticket → conflicts v.request w.request ≡ false) × PassesNone w vs
 
--- complete: sectors are decided, and then one in service leaves with its answer, and passes no earlier one that conflicts
+-- complete: sectors are decided, and then one in service leaves with its answer, and passes no earlier one that
+-- conflicts
 pub record Completes (info : Info) (old : Machine) (completion : Completion) (new : Machine) : Type 0 where
   pub before : List Waiting
   pub w : Waiting

@@ -1,5 +1,5 @@
--- What a host learns of an exchange over a bus that is kept: what holds whatever fell, what a sound answer tells, fault or
--- not, and what holds where no fault fell.
+-- What a host learns of an exchange over a bus that is kept: what holds whatever fell, what a sound answer tells, fault
+-- or not, and what holds where no fault fell.
 use Rattle.std.specs.Prelude.{◌&&◌, ◌<◌, ◌≡◌, ◌≤◌, Bool, List, Ok, Result, Some, false, not, true, ℕ}
 use Rattle.mmc_frame.specs.Frame.{command_in}
 use Rattle.mmc_frame.specs.declared.card_state.State.TheVariants.{Prg}

@@ -1,5 +1,5 @@
--- Which answer of a list an exchange gets, and the answers that are left. An exchange uses up the next answer if it is of its
--- kind; otherwise nothing comes, and every answer is left.
+-- Which answer of a list an exchange gets, and the answers that are left. An exchange uses up the next answer if it is
+-- of its kind; otherwise nothing comes, and every answer is left.
 use Rattle.std.specs.Prelude.{◌≡◌, ◌<◌, ℕ, Bool, false, List, [], ◌∷◌, length, slice_index, slice_index_or}
 use Rattle.mmc_card.specs.declared.exchange.DataIn.{DataIn}
 use Rattle.mmc_card.specs.declared.exchange.DataIn.TheVariants as Received

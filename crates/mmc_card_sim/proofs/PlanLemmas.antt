@@ -57,12 +57,14 @@ added (x ∷ xs) p e none =
     ∙ either_way (x.exchange == e) (p.exchange == e) x.fault p.fault (fault_at xs e)
     (apart_from e x.exchange p.exchange apart.0)
 
-same_test : (b : Bool) (f g : Fault) (rest : Option Fault) → cond b (Some f) rest ≡ cond b (Some f) (cond b (Some g) rest)
+same_test : (b : Bool) (f g : Fault) (rest : Option Fault) → cond b (Some f) rest
+    ≡ cond b (Some f) (cond b (Some g) rest)
 same_test true f g rest = refl
 same_test false f g rest = refl
 
 -- an entry in the place of the one for the same exchange
-pub replaced : (xs : List Planned) (i : ℕ) (d p : Planned) (e : ℕ) → i < length xs → fault_at (take i xs) p.exchange ≡ None
+pub replaced : (xs : List Planned) (i : ℕ) (d p : Planned) (e : ℕ) → i < length xs → fault_at (take i xs) p.exchange
+    ≡ None
     → (slice_index_or xs i d).exchange ≡ p.exchange
     → fault_at (slice_set xs i p) e ≡ cond (p.exchange == e) (Some p.fault) (fault_at xs e)
 replaced [] i d p e less none same = absurd (omega (arith, less))

@@ -1,5 +1,6 @@
 -- Blocks that land in sectors, one after the other.
-use Rattle.std.proofs.Common.{◌+◌, ◌++◌, ◌<◌, ◌∷◌, ◌≡◌, List, [], ap, arith, get_or, length, refl, subst, suc, take}
+use Rattle.std.proofs.Common.{◌+◌, ◌++◌, ◌<◌, ◌∷◌, ◌≡◌, List, [], ap, arith, false, get_or, length, refl, subst, suc}
+use Rattle.std.proofs.Common.{take}
 use Rattle.std.proofs.Common.{true, zero, ℕ}
 use native.Mathlib.Numerals.{unary_clauses}
 use Rattle.std.proofs.lemmas.List.{length-take-le, take_more}
@@ -34,3 +35,10 @@ landed_more start i blocks block old now new h before put =
     let size : length (take i blocks) ≡ i = length-take-le i blocks (omega (arith, h)) in
     let more : take (i + 1) blocks ≡ take i blocks ++ get_or blocks i block ∷ [] = take_more blocks i block h in
     rw (more, landed_last start (take i blocks) (get_or blocks i block) old, size, put, before) refl
+
+-- where nothing lands every sector stays
+pub none_lands : (start : ℕ) (values xs : List Sector) → landed_in (λ i. false) start values xs ≡ xs
+none_lands start values [] = refl
+none_lands zero [] (x ∷ xs) = refl
+none_lands zero (v ∷ values) (x ∷ xs) = ap (λ ys. x ∷ ys) (none_lands zero values xs)
+none_lands (suc start) values (x ∷ xs) = ap (λ ys. x ∷ ys) (none_lands start values xs)

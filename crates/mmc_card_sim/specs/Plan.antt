@@ -1,5 +1,6 @@
 -- Faults that are planned for exchanges.
-use Rattle.std.specs.Prelude.{◌||◌, ◌-◌, ◌==◌, ◌^◌, Bool, List, None, Option, Some, [], ◌∷◌, false, if◌then◌else◌, length, nat_le, nat_lt, ℕ}
+use Rattle.std.specs.Prelude.{◌||◌, ◌-◌, ◌==◌, ◌^◌, Bool, List, None, Option, Some, [], ◌∷◌, false, if◌then◌else◌}
+use Rattle.std.specs.Prelude.{length, nat_le, nat_lt, ℕ}
 use Rattle.mmc_card_sim.specs.declared.fault.Fault.{Fault}
 use Rattle.mmc_card_sim.specs.declared.plan.Planned.{Planned}
 use Rattle.mmc_card_sim.specs.declared.plan.PlanFault.{PlanFault}

@@ -115,14 +115,21 @@ impl Chip {
         }
     }
 
+    /// Whether the card would accept a block: one is to come, it isn't busy, the lines of the host are its own, and there is such a
+    /// sector.
+    pub fn can_accept(&self, lines: Lines) -> bool
+        ensures { result ≡ can_accept lines (card_of self.now) }
+    {
+        self.is_in(State::Rcv) && !self.is_busy && self.fits(lines) && self.store.has_next()
+    }
+
     /// Accepts a block, if one is to come, the card isn't busy, the lines of the host are the card's, and there is such a
     /// sector. The card is busy then.
     pub fn accept(&mut self, lines: Lines, block: &[u8; 512]) -> DataOut
         ensures card { card_of self.new ≡ offered lines block.now (card_of self.old) }
         ensures got { result ≡ (if can_accept lines (card_of self.old) then DataOut.Accepted else DataOut.Nothing) }
     {
-        let is_ready = self.is_in(State::Rcv) && !self.is_busy;
-        if !is_ready || !self.fits(lines) || !self.store.has_next() {
+        if !self.can_accept(lines) {
             return DataOut::Nothing;
         }
         self.store.accept(block);

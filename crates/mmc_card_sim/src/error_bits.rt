@@ -14,5 +14,7 @@ pub const ERASE_PARAM: u32 = 1 << (27 - 13);
 pub const COM_CRC_ERROR: u32 = 1 << (23 - 13);
 /// Bit 22: a command that isn't carried out.
 pub const ILLEGAL_COMMAND: u32 = 1 << (22 - 13);
+/// Bit 19: a general error, as where programming fails.
+pub const GENERAL_ERROR: u32 = 1 << (19 - 13);
 /// Bit 13: an erase sequence was broken off.
 pub const ERASE_RESET: u32 = 1 << (13 - 13);

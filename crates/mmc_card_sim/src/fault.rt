@@ -27,8 +27,6 @@ pub enum Fault {
     FlipCommand(Flips),
     /// The card answers, and nothing comes.
     LoseReply,
-    /// The answer comes with flipped bits; of an R3 never those of the OCR.
-    FlipReply(Flips),
     /// A block that is read comes with a bad check.
     BadBlock,
     /// A block that is read doesn't come.
@@ -39,8 +37,6 @@ pub enum Fault {
     LoseStatus(Outcome),
     /// Programming of a write, erase or trim fails at a poll.
     Fail(Outcome),
-    /// A busy card says so once more.
-    Busy,
     /// The power fails: no answer, and then the card is as after CMD0.
     Brownout(Outcome),
 }

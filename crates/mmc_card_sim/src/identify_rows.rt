@@ -24,13 +24,13 @@ const IS_READY: u32 = 0x8000_0000;
 impl Chip {
     ghost use Rattle.mmc_card.specs.CardAnswer.{Checked, r6_argument};
     ghost use Rattle.mmc_card_sim.specs.PlainCard.{Answers, calm, card_of};
+    ghost use Rattle.mmc_card.specs.Card.{powered_on};
     ghost use Rattle.mmc_card.specs.RowsIdentify.{all_send_cid, app_cmd, go_idle_state, sd_send_op_cond, select_card, send_csd, send_relative_addr};
 
-    /// CMD0.
-    pub fn go_idle_state(&mut self) -> Reply
-        ensures { Answers (go_idle_state calm (card_of self.old)) self.new result }
+    /// All but the sectors is as after power on; what was unfinished is over.
+    pub fn start_over(&mut self)
+        ensures { card_of self.new ≡ record (powered_on (card_of self.old).made (card_of self.old).sectors) { block_length = 512 } }
     {
-        self.store.land();
         self.store.begin(0);
         self.state = State::Idle;
         self.rca = 0;
@@ -45,6 +45,14 @@ impl Chip {
         self.next = 0;
         self.left = None;
         self.is_single = false;
+    }
+
+    /// CMD0.
+    pub fn go_idle_state(&mut self) -> Reply
+        ensures { Answers (go_idle_state calm (card_of self.old)) self.new result }
+    {
+        self.store.land();
+        self.start_over();
         Reply::Silent
     }
 

@@ -3,6 +3,7 @@ ghost use Rattle.std.specs.Prelude.{◌+◌, ◌++◌, ◌<◌, ◌∷◌, ◌�
 ghost use Rattle.mmc_card.specs.Card.{landed_in};
 ghost use Rattle.mmc_card_sim.specs.declared.store.TheConstants.{MAX_SECTORS};
 
+use crate::fault::Outcome;
 use mmc_bus::NoMemory;
 use std::alloc::Global;
 
@@ -67,7 +68,7 @@ fn put_all(sectors: &mut Vec<[u8; 512]>, start: u32, blocks: &[[u8; 512]])
 }
 
 impl Store {
-    ghost use Rattle.mmc_card_sim.specs.Store.{blank, values_of};
+    ghost use Rattle.mmc_card_sim.specs.Store.{blank, lands_by, values_of};
 
     /// So many sectors, at most `MAX_SECTORS`, that are all 00h.
     pub fn new(alloc: Global, sectors: usize) -> Result<Store, NoMemory>
@@ -122,6 +123,27 @@ impl Store {
         clear(&mut self.new_values, count);
         self.start = start;
         self.count = count;
+    }
+
+    /// What is unfinished is over, and nothing of it has landed.
+    pub fn drop_values(&mut self)
+        ensures sectors { self.new.sectors.items ≡ self.old.sectors.items }
+        ensures start { self.new.start ≡ self.old.start }
+        ensures values { values_of self.new ≡ [] }
+    {
+        self.count = 0;
+    }
+
+    /// What is unfinished is over, and all of it has landed or nothing.
+    pub fn settle(&mut self, outcome: Outcome)
+        ensures sectors { self.new.sectors.items ≡ landed_in (lands_by outcome) self.old.start (values_of self.old) self.old.sectors.items }
+        ensures start { self.new.start ≡ self.old.start }
+        ensures values { values_of self.new ≡ [] }
+    {
+        match outcome {
+            Outcome::Old => self.drop_values(),
+            Outcome::New => self.land(),
+        }
     }
 
     /// What is unfinished is carried out.

@@ -1,4 +1,5 @@
--- The EXT_CSD of an eMMC device, 512 bytes (JESD84-B51, section 7.4). A field of several bytes has its lowest byte first.
+-- The EXT_CSD of an eMMC device, 512 bytes (JESD84-B51, section 7.4). A field of several bytes has its lowest byte
+-- first.
 use Rattle.std.specs.Prelude.{ℕ, ◌+◌, ◌-◌, ◌*◌, ◌==◌, nat_lt, List, if◌then◌else◌, slice_index, Result, Ok, Err}
 use Rattle.byteorder.specs.Endian.{little_from}
 use Rattle.mmc_frame.specs.Field.{field}

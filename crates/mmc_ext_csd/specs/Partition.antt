@@ -14,6 +14,7 @@ abbrev pub addressable_sectors : Addressing → ℕ
 addressable_sectors Bytes = addresses / 512
 addressable_sectors Sectors = addresses
 
--- the sectors of a partition of this size that exist: all of them, or none where the last address needs more than 32 bits
+-- the sectors of a partition of this size that exist: all of them, or none where the last address needs more than 32
+-- bits
 abbrev pub existing_sectors : ℕ → Addressing → ℕ
 existing_sectors size addressing = if nat_le size (addressable_sectors addressing) then size else 0

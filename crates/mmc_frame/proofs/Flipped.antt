@@ -123,7 +123,8 @@ changed_is_covered m k i xs ys fixed inside changed =
       ]
     ]
 
--- Where the bits outside the covered ones are fixed, and those have the remainder 0 in both, ys isn't xs with one or two bits flipped.
+-- Where the bits outside the covered ones are fixed, and those have the remainder 0 in both, ys isn't xs with one or
+-- two bits flipped.
 pub flips_show : (m k : ℕ) (xs ys : List Bool) → k ≤ 127 → m + k ≤ length xs → SameOutside m k xs ys
     → remainder (covered m k xs) ≡ 0 → remainder (covered m k ys) ≡ 0 → Flips xs ys → ⊥
 flips_show m k xs ys small fits fixed sound heard (one p inside is) =

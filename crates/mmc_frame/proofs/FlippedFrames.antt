@@ -1,5 +1,5 @@
--- Frames with one or two bits flipped are refused: 48 bits, of which the check covers all but the end bit, and 136 bits,
--- of which it covers all but the first eight and the end bit.
+-- Frames with one or two bits flipped are refused: 48 bits, of which the check covers all but the end bit, and 136
+-- bits, of which it covers all but the first eight and the end bit.
 use Rattle.std.proofs.Common.{◌≡◌, ℕ, zero, suc, ◌+◌, ◌*◌, ◌/◌, ◌%◌, ◌^◌, ◌<◌, inl, inr, List, [], ◌∷◌, ◌++◌, length}
 use Rattle.std.proofs.Common.{take, drop, Bool, true, false, cond, ◌&&◌, refl, sym, ◌∙◌, ap, subst, arith, is_ok}
 use Rattle.std.proofs.Common.{is_some, Some, None, Result, Ok, Err}

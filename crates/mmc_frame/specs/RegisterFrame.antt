@@ -1,5 +1,5 @@
--- The two responses without an index: R2, the 136 bits that carry a CID or a CSD, and R3, the 48 bits that carry the OCR
--- (SD Physical Layer 6.00, sections 4.9.3 and 4.9.4; JESD84-B51, section 6.12). A register is its sixteen bytes.
+-- The two responses without an index: R2, the 136 bits that carry a CID or a CSD, and R3, the 48 bits that carry the
+-- OCR (SD Physical Layer 6.00, sections 4.9.3 and 4.9.4; JESD84-B51, section 6.12). A register is its sixteen bytes.
 use Rattle.std.specs.Prelude.{ℕ, ◌≡◌, ◌*◌, ◌+◌, ◌/◌, ◌%◌, ◌^◌, ◌==◌, ◌&&◌, List, [], ◌∷◌, length, take, Bool, true}
 use Rattle.std.specs.Prelude.{if◌then◌else◌, slice_index, slice_range, slice_set, Result, Ok, Err}
 use Rattle.mmc_frame.specs.Check.{remainder, bits_of}

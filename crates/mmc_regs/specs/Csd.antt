@@ -1,5 +1,5 @@
--- The CSD of an SD card or an eMMC device, and what it says of the card (SD Physical Layer 6.00, sections 5.3.2 and 5.3.3;
--- JESD84-B51, section 7.3).
+-- The CSD of an SD card or an eMMC device, and what it says of the card (SD Physical Layer 6.00, sections 5.3.2 and
+-- 5.3.3; JESD84-B51, section 7.3).
 use Rattle.std.specs.Prelude.{ℕ, ◌+◌, ◌-◌, ◌*◌, ◌/◌, ◌^◌, ◌==◌, ◌&&◌, ◌||◌, nat_le, Bool, List, if◌then◌else◌, Result}
 use Rattle.std.specs.Prelude.{Ok, Err}
 use Rattle.mmc_frame.specs.declared.kind.Kind.{Kind}
@@ -59,7 +59,8 @@ sectors_of (Mmc csd) = bytes_by_blocks csd / 512
 abbrev pub erase_unit_v1 : ℕ → ℕ
 erase_unit_v1 csd = if erase_blk_en csd == 1 then 1 else (sector_size csd + 1) * 2 ^ (write_bl_len csd - 9)
 
--- the erase unit of an SD card in sectors; that of an eMMC device stands in its EXT_CSD, and 0 says that there is none here
+-- the erase unit of an SD card in sectors; that of an eMMC device stands in its EXT_CSD, and 0 says that there is none
+-- here
 abbrev pub erase_unit_of : Csd → ℕ
 erase_unit_of (V1 csd) = erase_unit_v1 csd
 erase_unit_of (V2 csd) = 1

@@ -14,8 +14,10 @@ returns-in-Some c e =
     let new = slice_set old c.in-Some.i p in
     let there = rw (← c.self.view_is) at c.in-Some.ensures.there in
     let same = rw (← c.self.view_is) at c.in-Some.ensures.same in
-    let back = subst (λ n. take n (new ++ drop (length new) old) ≡ new) (length-set old c.in-Some.i p) (take-append_seam new _) in
-    rw (← c.self.view_is, c.deref_mut.ensures.value) (ap (λ xs. fault_at xs e) back ∙ replaced old c.in-Some.i p p e there.0 there.1 (same p))
+    let back = subst (λ n. take n (new ++ drop (length new) old) ≡ new) (length-set old c.in-Some.i p)
+    (take-append_seam new _) in
+    rw (← c.self.view_is, c.deref_mut.ensures.value)
+    (ap (λ xs. fault_at xs e) back ∙ replaced old c.in-Some.i p p e there.0 there.1 (same p))
 
 pub returns-in-None : goal.returns-in-None
 returns-in-None c e =

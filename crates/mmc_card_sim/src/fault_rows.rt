@@ -1,0 +1,55 @@
+// What the card behind `PlainCard` does in a fault: a function for each row of the card relation that leaves the card otherwise than
+// a faithful step.
+ghost use Rattle.std.specs.Prelude.{◌≡◌, false, true};
+ghost use Rattle.mmc_frame.specs.declared.card_state.State.TheVariants.{Prg};
+ghost use Rattle.mmc_card.specs.Card.{is_in};
+ghost use Rattle.mmc_card_sim.specs.Store.{lands_by};
+
+use crate::chip::Chip;
+use crate::error_bits::{COM_CRC_ERROR, GENERAL_ERROR};
+use crate::fault::Outcome;
+use mmc_frame::State;
+
+impl Chip {
+    ghost use Rattle.mmc_card.specs.Blocks.{programmed, rejected};
+    ghost use Rattle.mmc_card.specs.CardAnswer.{garbled, raised, reset};
+    ghost use Rattle.mmc_card.specs.ErrorBits.{general_error};
+    ghost use Rattle.mmc_card_sim.specs.PlainCard.{card_of};
+
+    /// A command with a bad check: the card notes that, and drops a preset count, which it never has.
+    #[tactic(auto, using(mmc_card::proofs::Cards::among_more))]
+    pub fn garble(&mut self)
+        ensures { card_of self.new ≡ garbled false (card_of self.old) }
+    {
+        self.command_errors |= COM_CRC_ERROR;
+    }
+
+    /// A block is rejected: a write of one block is over then.
+    pub fn reject(&mut self)
+        ensures { card_of self.new ≡ rejected (card_of self.old) }
+    {
+        if self.is_single {
+            self.state = State::Tran;
+            self.store.drop_values();
+        }
+    }
+
+    /// Programming of a write or an erase fails.
+    pub fn fail(&mut self, outcome: Outcome)
+        requires { is_in self.old.state Prg ≡ true }
+        ensures { card_of self.new ≡ raised general_error (programmed (lands_by outcome) (card_of self.old)) }
+    {
+        self.store.settle(outcome);
+        self.state = State::Tran;
+        self.is_busy = false;
+        self.raise(GENERAL_ERROR);
+    }
+
+    /// The power fails: the card is as after CMD0.
+    pub fn lose_power(&mut self, outcome: Outcome)
+        ensures { card_of self.new ≡ reset (lands_by outcome) (card_of self.old) }
+    {
+        self.store.settle(outcome);
+        self.start_over();
+    }
+}
