@@ -1,7 +1,7 @@
 // The device over a card in memory.
 ghost use Rattle.std.specs.Prelude.{IfSome};
 ghost use Rattle.mmc_block.specs.Place.{IsReady};
-ghost use Rattle.mmc_card_sim.specs.PlainView.{plain_bus_view};
+ghost use Rattle.mmc_card_sim.specs.PlainCard.{plain_bus_view};
 
 use crate::serve::new_card;
 use mmc_block::*;

@@ -7,7 +7,7 @@ ghost use Rattle.mmc_block.specs.declared.info.Info.{Info};
 ghost use Rattle.mmc_block.specs.Place.{IsReady};
 ghost use Rattle.mmc_card.specs.Card.{holds};
 ghost use Rattle.mmc_card_sim.specs.PlainCard.{new_plain_card};
-ghost use Rattle.mmc_card_sim.specs.PlainView.{plain_bus_view};
+ghost use Rattle.mmc_card_sim.specs.PlainCard.{plain_bus_view};
 ghost use Rattle.mmc_card.specs.Sectors.{Sets};
 ghost use Rattle.mmc_bus.specs.Trace.{HasItsFrame, last_of};
 ghost use Rattle.cardtool.specs.declared.event.ScriptEvent.{ScriptEvent};

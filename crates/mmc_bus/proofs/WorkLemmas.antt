@@ -10,7 +10,7 @@ use Rattle.mmc_card.specs.declared.exchange.Reply.{Reply}
 use Rattle.mmc_bus.specs.declared.host.Unheard.{Unheard}
 use Rattle.mmc_bus.specs.Exchanges.{Kept}
 use Rattle.mmc_bus.specs.Learned.{Asked, Stays}
-use Rattle.mmc_bus.specs.Work.{Narrows, StaysSet, Worked}
+use Rattle.mmc_bus.specs.Work.{Anything, Narrows, StaysSet, Worked}
 
 pub stays_then : (a b c : BusView) → Stays a b → Stays b c → Stays a c
 stays_then a b c p q =
@@ -76,6 +76,11 @@ joined a b c p q sectors own fine = record {
   own = own;
   fine = fine;
 }
+
+-- work in two parts, of which nothing is said but that it is work
+pub in_two : {Holds Own Fine More Gained Easy : BusView → BusView → Type 0} (a b c : BusView) → Worked Holds Own Fine a b
+    → Worked More Gained Easy b c → Worked Anything Anything Anything a c
+in_two a b c p q = joined a b c p q tt tt (λ same. tt)
 
 -- Of the same work something else holds.
 pub worked_as : {Holds Own Fine All Whole Calm : BusView → BusView → Type 0} (a b : BusView) → Worked Holds Own Fine a b

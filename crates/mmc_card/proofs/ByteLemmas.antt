@@ -57,7 +57,7 @@ timing_below : (timing : Timing) → timing_number timing < 256
 timing_below Default = omega arith
 timing_below High = omega arith
 
-access_below : (part : Part) → access_number part < 8
+pub access_below : (part : Part) → access_number part < 8
 access_below User = omega arith
 access_below Boot1 = omega arith
 access_below Boot2 = omega arith

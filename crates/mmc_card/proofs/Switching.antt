@@ -12,6 +12,7 @@ use Rattle.mmc_ext_csd.specs.ExtCsd.{high_speed_at_52_mhz, partition_config}
 use Rattle.mmc_card.specs.declared.exchange.Reply.{Reply}
 use Rattle.mmc_card.specs.declared.part.Part.{Part}
 use Rattle.mmc_card.specs.declared.part.Part.TheVariants.{Boot1, Boot2, Gp1, Gp2, Gp3, Gp4, User}
+use Rattle.mmc_card.proofs.ByteLemmas.{access_below}
 use Rattle.mmc_card.proofs.CardRows.{legal_reached}
 use Rattle.mmc_card.proofs.Conditions.{by_cond, first_by_cond}
 use Rattle.mmc_card.proofs.Standing.{stands_garbled, stands_quiet, stands_reached, stands_refused, stands_reset, up_in}
@@ -31,15 +32,6 @@ use Rattle.mmc_card.specs.BusView.{BusView}
 abbrev IsAccess : Part → Card → Option Card → Type 0
 IsAccess part c None = Unit {0}
 IsAccess part c (Some d) = d ≡ record c { part = part }
-
-access_below : (part : Part) → access_number part < 8
-access_below User = omega arith
-access_below Boot1 = omega arith
-access_below Boot2 = omega arith
-access_below Gp1 = omega arith
-access_below Gp2 = omega arith
-access_below Gp3 = omega arith
-access_below Gp4 = omega arith
 
 part_back : (part : Part) → part_accessed (access_number part) ≡ Some part
 part_back User = refl

@@ -1,6 +1,9 @@
+pub mod BuildLemmas
+pub mod ChipLemmas
 pub mod FaultLemmas
+pub mod FlipLemmas
 pub mod PlainLemmas
-pub mod PlainSteps
 pub mod PlanLemmas
 pub mod SimSteps
+pub mod SpecLemmas
 pub mod StoreLemmas

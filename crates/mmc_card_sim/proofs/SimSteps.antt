@@ -1,39 +1,41 @@
 -- The exchanges of a card in memory, with a fault or without one, are steps of a card, and leave one.
-use Rattle.std.proofs.Common.{◌&&◌, ◌+◌, ◌-◌, ◌^◌, ◌≡◌, ◌≤◌, ◌∙◌, Bool, List, None, Some, ap, arith, cond, false}
-use Rattle.std.proofs.Common.{refl, sym, true, ℕ}
-use Rattle.std.specs.Prelude.{Option, if◌then◌else◌, min}
+use Rattle.std.proofs.Common.{◌&&◌, ◌+◌, ◌-◌, ◌<◌, ◌^◌, ◌||◌, ◌≡◌, ◌≤◌, ◌∙◌, Bool, List, None, Some, ap, arith}
+use Rattle.std.proofs.Common.{false, not, refl, sym, true, ℕ}
+use Rattle.std.specs.Prelude.{Option, if◌then◌else◌, min, nat_le, nat_lt}
+use Rattle.std.proofs.lemmas.Bool.Decides.{nat_tests}
+use Rattle.mmc_frame.proofs.Bytes.{and_true}
 use Rattle.mmc_card.specs.declared.exchange.DataIn.{DataIn}
 use Rattle.mmc_card.specs.declared.exchange.DataOut.{DataOut}
 use Rattle.mmc_card.specs.declared.exchange.Exchange.{Exchange}
 use Rattle.mmc_card.specs.declared.exchange.Exchange.TheVariants.{Busy, Command, In, Out}
 use Rattle.mmc_card.specs.declared.exchange.Reply.{Reply}
-use Rattle.mmc_card.specs.declared.exchange.Reply.TheVariants as Came
-use Rattle.mmc_card.specs.Blocks.{polled_once, rested, waited}
 use Rattle.mmc_card.specs.BusView.{BusView}
-use Rattle.mmc_card.specs.Card.{Card, IsBlock, IsCard}
-use Rattle.mmc_card.specs.Faults.{CommandStep, PollStep, ReadStep, WriteStep}
+use Rattle.mmc_card.specs.Card.{Card, IsBlock, IsCard, is_in}
+use Rattle.mmc_card.specs.Faults.{CommandStep, IsPatient, PollStep, ReadStep, WriteStep}
 use Rattle.mmc_card.specs.Faults.CommandStep.{brownout as command_brownout, faithful as does_command, flip_command}
-use Rattle.mmc_card.specs.Faults.CommandStep.{lose_command, lose_reply}
-use Rattle.mmc_card.specs.Faults.PollStep.{brownout as poll_brownout, fail, faithful as does_poll}
+use Rattle.mmc_card.specs.Faults.CommandStep.{flip_reply, lose_command, lose_reply}
+use Rattle.mmc_card.specs.Faults.PollStep.{brownout as poll_brownout, fail, faithful as does_poll, slow_poll}
 use Rattle.mmc_card.specs.Faults.ReadStep.{bad_block, brownout as read_brownout, faithful as does_read}
 use Rattle.mmc_card.specs.Faults.WriteStep.{brownout as write_brownout, faithful as does_write, lose_status, reject}
 use Rattle.mmc_card.specs.Sectors.{Sector}
+use Rattle.mmc_frame.specs.declared.card_state.State.TheVariants.{Prg}
 use Rattle.mmc_card.proofs.CardAll.{command_leaves_card, poll_leaves_card, read_leaves_card, write_leaves_card}
 use Rattle.mmc_bus.specs.declared.wire.Wire.{Wire}
 use Rattle.mmc_bus.specs.Exchanges.{Commanded, DataRead, DataWritten, Exchanged, Polled}
 use Rattle.mmc_bus.specs.Wires.{Notes, bus_view_with}
-use Rattle.mmc_card_sim.specs.FaultyExchanges.{Commands, Polls, Reads, Writes, after_command, after_poll, after_read}
-use Rattle.mmc_card_sim.specs.FaultyExchanges.{after_write}
-use Rattle.mmc_card_sim.specs.FaultyExchanges.{fits_command, fits_poll, fits_read, fits_write, is_answer, read_in}
-use Rattle.mmc_card_sim.specs.FaultyExchanges.{written_out}
+use Rattle.mmc_card_sim.specs.Chip.{choice_of, inquiry_choice}
+use Rattle.mmc_card_sim.specs.FaultyExchanges.{Commands, IsHeard, Polls, Reads, Writes, after_command, after_poll}
+use Rattle.mmc_card_sim.specs.FaultyExchanges.{after_read, after_write, fits_command, fits_poll, fits_read, fits_write}
+use Rattle.mmc_card_sim.specs.FaultyExchanges.{heeded, is_answer, is_busy_fault, poll_choice, read_in, written_out}
+use Rattle.mmc_card_sim.specs.Plan.{fault_at}
+use Rattle.mmc_card_sim.specs.SimView.{SimOk, SimView}
+use Rattle.mmc_card_sim.specs.Store.{lands_by}
+use Rattle.mmc_card_sim.specs.declared.delays.Delays.{Delays}
 use Rattle.mmc_card_sim.specs.declared.fault.Fault.{Fault}
 use Rattle.mmc_card_sim.specs.declared.fault.Fault.TheVariants as Is
 use Rattle.mmc_card_sim.specs.declared.fault.Outcome.TheVariants.{New, Old}
-use Rattle.mmc_card_sim.specs.PlainCard.{calm}
-use Rattle.mmc_card_sim.specs.Plan.{fault_at}
-use Rattle.mmc_card_sim.specs.SimView.{SimOk}
-use Rattle.mmc_card_sim.specs.Store.{lands_by}
 use Rattle.mmc_card_sim.specs.declared.plan.Planned.{Planned}
+use Rattle.mmc_card_sim.proofs.FlipLemmas.{is_flipped}
 
 -- a bus with this card, that is kept
 abbrev pub kept_with : Card → ℕ → Wire → BusView
@@ -49,37 +51,50 @@ exchanged old new faults later before after exchange notes was is step = record 
   kept = λ kept. record { was_kept = refl; was_card = was; step = step; is_card = is };
 }
 
-module _ (old new : Card) (faults later : ℕ) (before after : Wire) where
-  -- Commands.
+-- Commands.
 
+few_times : (limit times : ℕ) → limit ≤ 8 → nat_lt times limit ≡ true → times < 8
+few_times limit times few less = grind (arith, nat_tests, few, less)
+
+soon_ready : (delays : Delays) (card : Card) → delays.ready ≤ 8
+    → IsPatient (inquiry_choice delays.ready card) card.inquiries
+soon_ready delays card few slow = few_times delays.ready card.inquiries few slow
+
+module _ (old new : Card) (delays : Delays) (soon : delays.ready ≤ 8) (faults later : ℕ) (before after : Wire) where
   command_fault : (fault : Option Fault) (frame : List ℕ) (reply : Reply) → later ≡ faults + 1
-      → fits_command fault old frame ≡ true
-      → new ≡ after_command fault old frame → reply ≡ Came.Silent
+      → fits_command fault delays old frame ≡ true
+      → new ≡ after_command fault delays old frame → IsHeard fault (heeded delays old frame).1 reply
       → CommandStep (kept_with old faults before) frame reply (kept_with new later after)
-  command_fault None frame reply one fits card silent = cc
-  command_fault (Some Is.LoseCommand) frame reply one fits card silent = lose_command one card silent
-  command_fault (Some (Is.FlipCommand flips)) frame reply one fits card silent = flip_command false one card silent
-  command_fault (Some Is.LoseReply) frame reply one fits card silent =
-      lose_reply calm (λ slow. absurd cc) one card (λ none. cc (ap is_answer none, fits)) silent
-  command_fault (Some (Is.Brownout outcome)) frame reply one fits card silent =
-      command_brownout calm (lands_by outcome) false (λ slow. absurd cc) one card silent
-  command_fault (Some Is.BadBlock) frame reply one fits card silent = cc
-  command_fault (Some Is.NoBlock) frame reply one fits card silent = cc
-  command_fault (Some Is.Reject) frame reply one fits card silent = cc
-  command_fault (Some (Is.LoseStatus outcome)) frame reply one fits card silent = cc
-  command_fault (Some (Is.Fail outcome)) frame reply one fits card silent = cc
+  command_fault None frame reply one fits card heard = cc
+  command_fault (Some Is.LoseCommand) frame reply one fits card heard = lose_command one card heard
+  command_fault (Some (Is.FlipCommand flips)) frame reply one fits card heard = flip_command false one card heard
+  command_fault (Some Is.LoseReply) frame reply one fits card heard =
+      lose_reply (inquiry_choice delays.ready old) (soon_ready delays old soon) one card
+      (λ none. cc (ap is_answer none, fits)) heard
+  command_fault (Some (Is.FlipReply flips)) frame reply one fits card heard =
+      flip_reply (inquiry_choice delays.ready old) (soon_ready delays old soon) one card
+      (is_flipped flips (heeded delays old frame).1 reply fits heard)
+  command_fault (Some (Is.Brownout outcome)) frame reply one fits card heard =
+      command_brownout (choice_of false) (lands_by outcome) false (λ slow. absurd cc) one card heard
+  command_fault (Some Is.BadBlock) frame reply one fits card heard = cc
+  command_fault (Some Is.NoBlock) frame reply one fits card heard = cc
+  command_fault (Some Is.Reject) frame reply one fits card heard = cc
+  command_fault (Some (Is.LoseStatus outcome)) frame reply one fits card heard = cc
+  command_fault (Some (Is.Fail outcome)) frame reply one fits card heard = cc
+  command_fault (Some Is.Busy) frame reply one fits card heard = cc
 
   command_step : (fault : Option Fault) (frame : List ℕ) (reply : Reply) (fell : Bool)
       → later ≡ (if fell then faults + 1 else faults)
-      → Commands fault old frame reply fell new → CommandStep (kept_with old faults before) frame reply
-      (kept_with new later after)
-  command_step fault frame reply false counts does = does_command calm (λ slow. absurd cc) counts (does.card refl)
+      → Commands fault delays old frame reply fell new
+      → CommandStep (kept_with old faults before) frame reply (kept_with new later after)
+  command_step fault frame reply false counts does =
+      does_command (inquiry_choice delays.ready old) (soon_ready delays old soon) counts (does.card refl)
       (does.answer refl)
   command_step fault frame reply true counts does =
       command_fault fault frame reply counts (sym does.fell_is) (does.fault_card refl) (does.fault_reply refl)
 
   pub commanded : (fault : Option Fault) (frame : List ℕ) (reply : Reply) (fell : Bool)
-      → later ≡ (if fell then faults + 1 else faults) → Commands fault old frame reply fell new
+      → later ≡ (if fell then faults + 1 else faults) → Commands fault delays old frame reply fell new
       → IsCard old → Notes before (Command frame reply) after
       → Commanded (kept_with old faults before) frame reply (kept_with new later after) × IsCard new
   commanded fault frame reply fell counts does k notes =
@@ -87,20 +102,25 @@ module _ (old new : Card) (faults later : ℕ) (before after : Wire) where
       let is = command_leaves_card (kept_with old faults before) frame reply (kept_with new later after) step k in
       (exchanged old new faults later before after (Command frame reply) notes k is step, is)
 
+-- Blocks.
+
+module _ (old new : Card) (faults later : ℕ) (before after : Wire) where
   -- Blocks that the host reads.
 
   read_fault : (fault : Option Fault) (size : ℕ) (got : DataIn) (block : List ℕ) → later ≡ faults + 1
       → fits_read fault old before.lines size ≡ true
       → new ≡ after_read fault old → got ≡ read_in fault → ReadStep (kept_with old faults before) size got block
       (kept_with new later after)
-  read_fault (Some Is.BadBlock) size got block one fits card answer = bad_block calm true fits one card answer
-  read_fault (Some Is.NoBlock) size got block one fits card answer = bad_block calm false fits one card answer
+  read_fault (Some Is.BadBlock) size got block one fits card answer = bad_block (choice_of false) true fits one card answer
+  read_fault (Some Is.NoBlock) size got block one fits card answer = bad_block (choice_of false) false fits one card answer
   read_fault (Some (Is.Brownout outcome)) size got block one fits card answer =
-      read_brownout calm (lands_by outcome) false one card answer
+      read_brownout (choice_of false) (lands_by outcome) false one card answer
   read_fault None size got block one fits card answer = cc
   read_fault (Some Is.LoseCommand) size got block one fits card answer = cc
   read_fault (Some (Is.FlipCommand flips)) size got block one fits card answer = cc
   read_fault (Some Is.LoseReply) size got block one fits card answer = cc
+  read_fault (Some (Is.FlipReply flips)) size got block one fits card answer = cc
+  read_fault (Some Is.Busy) size got block one fits card answer = cc
   read_fault (Some Is.Reject) size got block one fits card answer = cc
   read_fault (Some (Is.LoseStatus outcome)) size got block one fits card answer = cc
   read_fault (Some (Is.Fail outcome)) size got block one fits card answer = cc
@@ -110,7 +130,7 @@ module _ (old new : Card) (faults later : ℕ) (before after : Wire) where
       → Reads fault old before.lines size got block fell new → ReadStep (kept_with old faults before) size got block
       (kept_with new later after)
   read_step fault size got block false counts does =
-      let s = does.sends refl in does_read calm counts s.card s.got_is s.block_is
+      let s = does.sends refl in does_read (choice_of false) counts s.card s.got_is s.block_is
   read_step fault size got block true counts does =
       read_fault fault size got block counts (sym does.fell_is) (does.fault_card refl) (does.fault_got refl)
 
@@ -138,6 +158,8 @@ module _ (old new : Card) (faults later : ℕ) (before after : Wire) where
   write_fault (Some Is.LoseCommand) block got one fits card answer = cc
   write_fault (Some (Is.FlipCommand flips)) block got one fits card answer = cc
   write_fault (Some Is.LoseReply) block got one fits card answer = cc
+  write_fault (Some (Is.FlipReply flips)) block got one fits card answer = cc
+  write_fault (Some Is.Busy) block got one fits card answer = cc
   write_fault (Some Is.BadBlock) block got one fits card answer = cc
   write_fault (Some Is.NoBlock) block got one fits card answer = cc
   write_fault (Some (Is.Fail outcome)) block got one fits card answer = cc
@@ -161,47 +183,63 @@ module _ (old new : Card) (faults later : ℕ) (before after : Wire) where
 
 -- Polls.
 
-no_wait : {X : Type 0} (b : Bool) (x y : X) → cond (b && false) x y ≡ y
-no_wait true x y = refl
-no_wait false x y = refl
+slow_within : (early planned : Bool) (busy polled : ℕ) → busy ≤ 8 → early ≡ nat_lt polled busy
+    → (early || (planned && nat_lt polled 8)) ≡ true
+    → polled < 8
+slow_within true planned busy polled few early slow = few_times busy polled few (sym early)
+slow_within false true busy polled few early slow = few_times 8 polled (omega arith) slow
+slow_within false false busy polled few early slow = cc
 
--- a calm card isn't busy at a poll
-calm_poll : (card : Card) → polled_once calm card ≡ (rested card, false)
-calm_poll card = no_wait card.is_busy (waited card, true) (rested card, false)
+soon_rested : (fault : Option Fault) (delays : Delays) (card : Card) → delays.busy ≤ 8
+    → IsPatient (poll_choice fault delays card) card.polled
+soon_rested fault delays card few slow =
+    slow_within (nat_lt card.polled delays.busy) (is_busy_fault fault) delays.busy card.polled few refl slow
 
-module _ (old new : Card) (faults later : ℕ) (before after : Wire) where
-  poll_fault : (fault : Option Fault) → later ≡ faults + 1 → old.is_switching ≡ false → fits_poll fault old ≡ true
-      → new ≡ after_poll fault old
-      → PollStep (kept_with old faults before) false (kept_with new later after)
-  poll_fault (Some (Is.Fail outcome)) one programs fits card = fail (lands_by outcome) fits programs one card refl
-  poll_fault (Some (Is.Brownout outcome)) one programs fits card =
-      poll_brownout calm (lands_by outcome) false (λ slow. absurd cc) one card refl
-  poll_fault None one programs fits card = cc
-  poll_fault (Some Is.LoseCommand) one programs fits card = cc
-  poll_fault (Some (Is.FlipCommand flips)) one programs fits card = cc
-  poll_fault (Some Is.LoseReply) one programs fits card = cc
-  poll_fault (Some Is.BadBlock) one programs fits card = cc
-  poll_fault (Some Is.NoBlock) one programs fits card = cc
-  poll_fault (Some Is.Reject) one programs fits card = cc
-  poll_fault (Some (Is.LoseStatus outcome)) one programs fits card = cc
+is_false : (b : Bool) → not b ≡ true → b ≡ false
+is_false true h = cc
+is_false false h = refl
 
-  poll_step : (fault : Option Fault) (fell : Bool) → later ≡ (if fell then faults + 1 else faults)
-      → old.is_switching ≡ false → Polls fault old fell new
-      → PollStep (kept_with old faults before) false (kept_with new later after)
-  poll_step fault false counts programs does =
-      let poll = calm_poll old in
-      does_poll calm (λ slow. absurd cc) counts (does.card refl ∙ ap (λ (p : Card × Bool). p.0) (sym poll))
-      (ap (λ (p : Card × Bool). p.1) (sym poll))
-  poll_step fault true counts programs does = poll_fault fault counts programs (sym does.fell_is) (does.fault_card refl)
+at_least : (limit times : ℕ) → nat_le limit times ≡ true → limit ≤ times
+at_least limit times h = grind (arith, nat_tests, h)
 
-  pub polled : (fault : Option Fault) (fell : Bool) → later ≡ (if fell then faults + 1 else faults)
-      → old.is_switching ≡ false → Polls fault old fell new → IsCard old
-      → Notes before (Busy false) after → Polled (kept_with old faults before) false (kept_with new later after)
-      × IsCard new
-  polled fault fell counts programs does k notes =
-      let step = poll_step fault fell counts programs does in
-      let is = poll_leaves_card (kept_with old faults before) false (kept_with new later after) step k in
-      (exchanged old new faults later before after (Busy false) notes k is step, is)
+module _ (old new : Card) (delays : Delays) (soon : delays.busy ≤ 8) (faults later : ℕ) (before after : Wire) where
+  poll_fault : (fault : Option Fault) (said : Bool) → later ≡ faults + 1 → fits_poll fault old ≡ true
+      → new ≡ after_poll fault old → said ≡ is_busy_fault fault
+      → PollStep (kept_with old faults before) said (kept_with new later after)
+  poll_fault (Some (Is.Fail outcome)) said one fits card is =
+      let parts = and_true (is_in old.state Prg) (not old.is_switching) fits in
+      fail (lands_by outcome) parts.0 (is_false old.is_switching parts.1) one card is
+  poll_fault (Some Is.Busy) said one fits card is =
+      let parts = and_true old.is_busy (nat_le 8 old.polled) fits in
+      slow_poll parts.0 (at_least 8 old.polled parts.1) one card is
+  poll_fault (Some (Is.Brownout outcome)) said one fits card is =
+      poll_brownout (choice_of false) (lands_by outcome) false (λ slow. absurd cc) one card is
+  poll_fault None said one fits card is = cc
+  poll_fault (Some Is.LoseCommand) said one fits card is = cc
+  poll_fault (Some (Is.FlipCommand flips)) said one fits card is = cc
+  poll_fault (Some Is.LoseReply) said one fits card is = cc
+  poll_fault (Some (Is.FlipReply flips)) said one fits card is = cc
+  poll_fault (Some Is.BadBlock) said one fits card is = cc
+  poll_fault (Some Is.NoBlock) said one fits card is = cc
+  poll_fault (Some Is.Reject) said one fits card is = cc
+  poll_fault (Some (Is.LoseStatus outcome)) said one fits card is = cc
+
+  poll_step : (fault : Option Fault) (said fell : Bool) → later ≡ (if fell then faults + 1 else faults)
+      → Polls fault delays old said fell new
+      → PollStep (kept_with old faults before) said (kept_with new later after)
+  poll_step fault said false counts does =
+      does_poll (poll_choice fault delays old) (soon_rested fault delays old soon) counts (does.card refl)
+      (does.said_is refl)
+  poll_step fault said true counts does =
+      poll_fault fault said counts (sym does.fell_is) (does.fault_card refl) (does.fault_said refl)
+
+  pub polled : (fault : Option Fault) (said fell : Bool) → later ≡ (if fell then faults + 1 else faults)
+      → Polls fault delays old said fell new → IsCard old → Notes before (Busy said) after
+      → Polled (kept_with old faults before) said (kept_with new later after) × IsCard new
+  polled fault said fell counts does k notes =
+      let step = poll_step fault said fell counts does in
+      let is = poll_leaves_card (kept_with old faults before) said (kept_with new later after) step k in
+      (exchanged old new faults later before after (Busy said) notes k is step, is)
 
 -- What holds of the card in memory.
 
@@ -220,15 +258,27 @@ few_more true faults later exchanges made few small apart counts is =
     omega (arith, few, small, other, counts, is)
 few_more false faults later exchanges made few small apart counts is = omega (arith, few, small, counts, is)
 
-pub still_ok : (old new : Card) (fault : Option _) (fell : Bool) (plan : List Planned) (faults later : ℕ)
-    (before after : Wire) (exchange : Exchange)
-    → SimOk old before.exchanges plan faults → fault ≡ fault_at plan before.exchanges → (fault ≡ None → fell ≡ false)
-    → later ≡ (if fell then faults + 1 else faults) → Notes before exchange after → IsCard new
-    → SimOk new after.exchanges plan later
-still_ok old new fault fell plan faults later before after exchange ok is unplanned counts notes card = record {
+-- a fault that falls can be counted
+pub room : (sim : SimView) (fault : Option Fault) (fell : Bool) → SimOk sim
+    → fault ≡ fault_at sim.plan sim.wire.exchanges → (fault ≡ None → fell ≡ false) → fell ≡ true
+    → sim.faults < 2 ^ 64 - 1
+room sim fault fell ok is unplanned did =
+    let other : sim.wire.exchanges ≡ 2 ^ 64 - 1 → ⊥ =
+    λ last. fell_some fell fault sim.plan sim.wire.exchanges is unplanned ok.never did last in
+    omega (arith, ok.few, ok.bounded, other)
+
+-- the card in memory after an exchange
+pub still_ok : (old new : SimView) (fault : Option Fault) (fell : Bool) (exchange : Exchange)
+    → SimOk old → new.delays ≡ old.delays → new.plan ≡ old.plan → fault ≡ fault_at old.plan old.wire.exchanges
+    → (fault ≡ None → fell ≡ false) → new.faults ≡ (if fell then old.faults + 1 else old.faults)
+    → Notes old.wire exchange new.wire → IsCard new.card → SimOk new
+still_ok old new fault fell exchange ok delays plan is unplanned counts notes card = record {
   is_card = card;
-  few = few_more fell faults later before.exchanges after.exchanges ok.few ok.bounded
-      (λ did last. fell_some fell fault plan before.exchanges is unplanned ok.never did last) counts notes.exchanges;
+  soon_ready = rw delays ok.soon_ready;
+  soon_rested = rw delays ok.soon_rested;
+  few = few_more fell old.faults new.faults old.wire.exchanges new.wire.exchanges ok.few ok.bounded
+      (λ did last. fell_some fell fault old.plan old.wire.exchanges is unplanned ok.never did last) counts
+      notes.exchanges;
   bounded = (let made = notes.exchanges in omega (arith, made));
-  never = ok.never;
+  never = rw plan ok.never;
 }

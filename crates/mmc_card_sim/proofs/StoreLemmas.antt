@@ -1,40 +1,197 @@
--- Blocks that land in sectors, one after the other.
-use Rattle.std.proofs.Common.{◌+◌, ◌++◌, ◌<◌, ◌∷◌, ◌≡◌, List, [], ap, arith, false, get_or, length, refl, subst, suc}
-use Rattle.std.proofs.Common.{take}
-use Rattle.std.proofs.Common.{true, zero, ℕ}
-use native.Mathlib.Numerals.{unary_clauses}
-use Rattle.std.proofs.lemmas.List.{length-take-le, take_more}
-use Rattle.std.specs.Prelude.{slice_set}
-use Rattle.mmc_card.specs.Card.{landed_in}
-use Rattle.mmc_card.specs.Sectors.{Sector}
+-- Partitions that stand one behind the other, and blocks that land in one of them.
+use Rattle.std.proofs.Common.{◌*◌, ◌+◌, ◌-◌, ◌<◌, ◌∙◌, ◌∷◌, ◌≡◌, ◌≤◌, List, [], ap, arith, drop, false, length, min}
+use Rattle.std.proofs.Common.{ap₂, refl, rules, suc, sym, take, true, zero, ℕ}
+use Rattle.std.proofs.lemmas.List.{drop-drop, length-drop, length-replicate, length-take, length-take-le, places}
+use Rattle.std.proofs.lemmas.List.{same_lists, take-replicate, take-take}
+use Rattle.std.proofs.lemmas.Slice.{drop-put_mid, take-put_mid_below}
+use Rattle.std.specs.Prelude.{IfSome, None, Option, Some, replicate, slice_index_or, slice_set}
+use borrow.Rule.Slice.PartMut.{put_mid}
+use Rattle.mmc_frame.specs.Flips.{AreBytes}
+use Rattle.mmc_card.proofs.ByteLemmas.{block_of}
+use Rattle.mmc_card.proofs.Cards.{blocks_replicate}
+use Rattle.mmc_card.specs.Card.{AreBlocks, landed_in}
+use Rattle.mmc_card.specs.Sectors.{Sector, part_number, pieces}
+use Rattle.mmc_card.specs.declared.part.Part.{Part}
+use Rattle.mmc_card.specs.declared.part.Part.TheVariants.{Boot1, Boot2, Gp1, Gp2, Gp3, Gp4, User}
+use Rattle.mmc_card_sim.specs.Sizes.{total}
+use Rattle.mmc_card_sim.specs.Store.{first_sectors, split}
 
-pub landed_none : (start : ℕ) (xs : List Sector) → landed_in (λ i. true) start [] xs ≡ xs
-landed_none start [] = refl
-landed_none zero (x ∷ xs) = refl
-landed_none (suc start) (x ∷ xs) = ap (λ ys. x ∷ ys) (landed_none start xs)
+-- Where a partition stands.
 
--- the last one lands behind the others
-pub landed_last : (start : ℕ) (blocks : List Sector) (block : Sector) (xs : List Sector)
-    → landed_in (λ i. true) start (blocks ++ block ∷ []) xs
-    ≡ slice_set (landed_in (λ i. true) start blocks xs) (start + length blocks) block
-landed_last start blocks block [] = refl
-landed_last zero [] block (x ∷ xs) = ap (λ ys. block ∷ ys) (landed_none zero xs)
-landed_last zero (b ∷ bs) block (x ∷ xs) = simp unary_clauses (ap (λ ys. b ∷ ys) (landed_last zero bs block xs))
-landed_last (suc start) blocks block (x ∷ xs) =
-    let next : suc (start + length blocks) ≡ suc start + length blocks = omega arith in
-    subst
-    (λ n. x ∷ landed_in (λ i. true) start (blocks ++ block ∷ []) xs
-    ≡ slice_set (x ∷ landed_in (λ i. true) start blocks xs) n block)
-    next (ap (λ ys. x ∷ ys) (landed_last start blocks block xs))
+pub number_below : (part : Part) → part_number part < 7
+number_below User = omega arith
+number_below Boot1 = omega arith
+number_below Boot2 = omega arith
+number_below Gp1 = omega arith
+number_below Gp2 = omega arith
+number_below Gp3 = omega arith
+number_below Gp4 = omega arith
 
--- one block more
-pub landed_more : (start i : ℕ) (blocks : List Sector) (block : Sector) (old now new : List Sector) → i < length blocks
-    → now ≡ landed_in (λ i. true) start (take i blocks) old → new ≡ slice_set now (start + i) (get_or blocks i block)
-    → new ≡ landed_in (λ i. true) start (take (i + 1) blocks) old
-landed_more start i blocks block old now new h before put =
-    let size : length (take i blocks) ≡ i = length-take-le i blocks (omega (arith, h)) in
-    let more : take (i + 1) blocks ≡ take i blocks ++ get_or blocks i block ∷ [] = take_more blocks i block h in
-    rw (more, landed_last start (take i blocks) (get_or blocks i block) old, size, put, before) refl
+pub length_split : (sizes : List ℕ) (xs : List Sector) → length (split sizes xs) ≡ length sizes
+length_split [] xs = refl
+length_split (n ∷ sizes) xs = ap suc (length_split sizes (drop n xs))
+
+pub split_part : (sizes : List ℕ) (xs : List Sector) (p : ℕ) → p < length sizes
+    → slice_index_or (split sizes xs) p [] ≡ take (slice_index_or sizes p 0) (drop (total (take p sizes)) xs)
+split_part [] xs p h = absurd (omega (arith, h))
+split_part (n ∷ sizes) xs zero h = refl
+split_part (n ∷ sizes) xs (suc p) h =
+    split_part sizes (drop n xs) p (omega (arith, h))
+    ∙ ap (take (slice_index_or sizes p 0)) (drop-drop (total (take p sizes)) n xs)
+
+-- it ends within the whole
+pub place_within : (sizes : List ℕ) (p : ℕ) → total (take p sizes) + slice_index_or sizes p 0 ≤ total sizes
+place_within [] zero = omega arith
+place_within [] (suc p) = omega arith
+place_within (n ∷ sizes) zero = omega arith
+place_within (n ∷ sizes) (suc p) = let h = place_within sizes p in omega (arith, h)
+
+pub split_part_length : (sizes : List ℕ) (xs : List Sector) (p : ℕ) → p < length sizes → total sizes ≡ length xs
+    → length (slice_index_or (split sizes xs) p []) ≡ slice_index_or sizes p 0
+split_part_length sizes xs p h all =
+    let within = place_within sizes p in
+    let left = length-drop (total (take p sizes)) xs in
+    ap length (split_part sizes xs p h)
+    ∙ length-take-le (slice_index_or sizes p 0) (drop (total (take p sizes)) xs) (omega (arith, within, left, all))
+
+pub part_within : (sizes : List ℕ) (xs : List Sector) (p : ℕ)
+    → length (slice_index_or (split sizes xs) p []) ≤ length xs
+part_within [] xs p = omega arith
+part_within (n ∷ sizes) xs zero = omega (arith, length-take n xs)
+part_within (n ∷ sizes) xs (suc p) =
+    let h = part_within sizes (drop n xs) p in
+    let left = length-drop n xs in
+    omega (arith, h, left)
+
+put_within : (n s k : ℕ) (xs ys : List Sector) → s + k ≤ n → n ≤ length xs → length ys ≡ k
+    → take n (put_mid s k xs ys) ≡ put_mid s k (take n xs) ys
+put_within n s k xs ys fits all len =
+    same_lists _ _ (search (rules, places)) (λ j d h. grind (arith, places))
+
+put_behind : (n s at k : ℕ) (xs ys : List Sector) → at ≡ n + s → at ≤ length xs
+    → drop n (put_mid at k xs ys) ≡ put_mid s k (drop n xs) ys
+put_behind n s at k xs ys e within =
+    same_lists _ _ (search (rules, places)) (λ j d h. grind (arith, places))
+
+-- the whole, with other values from the sector `s` of a partition on
+split_put : (sizes : List ℕ) (xs ys : List Sector) (p s k at : ℕ) → p < length sizes → total sizes ≤ length xs
+    → s + k ≤ slice_index_or sizes p 0 → length ys ≡ k → at ≡ total (take p sizes) + s
+    → split sizes (put_mid at k xs ys)
+    ≡ slice_set (split sizes xs) p (put_mid s k (slice_index_or (split sizes xs) p []) ys)
+split_put [] xs ys p s k at h all fits len e = absurd (omega (arith, h))
+split_put (n ∷ sizes) xs ys zero s k at h all fits len e =
+    let same : at ≡ s = omega (arith, e) in
+    rw same (ap₂ (λ zs rest. zs ∷ split sizes rest) (put_within n s k xs ys fits (omega (arith, all)) len)
+    (drop-put_mid s k xs ys n fits (omega (arith, all, fits)) len))
+split_put (n ∷ sizes) xs ys (suc p) s k at h all fits len e =
+    let within = place_within sizes p in
+    let left = length-drop n xs in
+    let behind : at - n ≡ total (take p sizes) + s = omega (arith, e) in
+    let place : at ≡ n + (at - n) = omega (arith, e) in
+    let inside : at ≤ length xs = omega (arith, e, all, within, fits) in
+    ap₂ (λ zs rest. zs ∷ rest) (take-put_mid_below at k xs ys n (omega (arith, e)) inside)
+    (ap (split sizes) (put_behind n (at - n) at k xs ys place inside)
+    ∙ split_put sizes (drop n xs) ys p s k (at - n) (omega (arith, h)) (omega (arith, all, left)) fits len behind)
+
+-- What is known of each partition.
+
+blocks_take : (n : ℕ) (xs : List Sector) → AreBlocks xs → AreBlocks (take n xs)
+blocks_take zero xs h = tt
+blocks_take (suc n) [] h = tt
+blocks_take (suc n) (x ∷ xs) h = (h.0, blocks_take n xs h.1)
+
+blocks_drop : (n : ℕ) (xs : List Sector) → AreBlocks xs → AreBlocks (drop n xs)
+blocks_drop zero xs h = h
+blocks_drop (suc n) [] h = tt
+blocks_drop (suc n) (x ∷ xs) h = blocks_drop n xs h.1
+
+pub split_blocks : (sizes : List ℕ) (xs : List Sector) → AreBlocks xs → (p : ℕ)
+    → AreBlocks (slice_index_or (split sizes xs) p [])
+split_blocks [] xs h p = tt
+split_blocks (n ∷ sizes) xs h zero = blocks_take n xs h
+split_blocks (n ∷ sizes) xs h (suc p) = split_blocks sizes (drop n xs) (blocks_drop n xs h) p
+
+-- The sectors of a new card.
+
+bytes_take : (n : ℕ) (xs : List ℕ) → AreBytes xs → AreBytes (take n xs)
+bytes_take zero xs h = tt
+bytes_take (suc n) [] h = tt
+bytes_take (suc n) (x ∷ xs) h = (h.0, bytes_take n xs h.1)
+
+bytes_drop : (n : ℕ) (xs : List ℕ) → AreBytes xs → AreBytes (drop n xs)
+bytes_drop zero xs h = h
+bytes_drop (suc n) [] h = tt
+bytes_drop (suc n) (x ∷ xs) h = bytes_drop n xs h.1
+
+pieces_blocks : (count : ℕ) (bytes : List ℕ) → AreBytes bytes → length bytes ≡ 512 * count
+    → AreBlocks (pieces count bytes)
+pieces_blocks zero bytes h len = tt
+pieces_blocks (suc count) bytes h len =
+    let left = length-drop 512 bytes in (
+      record { len = length-take-le 512 bytes (omega (arith, len)); bytes = bytes_take 512 bytes h },
+      pieces_blocks count (drop 512 bytes) (bytes_drop 512 bytes h) (omega (arith, left, len)),
+    )
+
+pub first_blocks : (image : Option (List ℕ)) (count erased : ℕ) → IfSome image AreBytes
+    → IfSome image (λ bytes. length bytes ≡ 512 * count) → erased < 256 → AreBlocks (first_sectors image count erased)
+first_blocks (Some image) count erased bytes len below = pieces_blocks count image bytes len
+first_blocks None count erased bytes len below =
+    blocks_replicate count (replicate 512 erased) (block_of erased below)
+
+length_pieces : (count : ℕ) (bytes : List ℕ) → length (pieces count bytes) ≡ count
+length_pieces zero bytes = refl
+length_pieces (suc count) bytes = ap suc (length_pieces count (drop 512 bytes))
+
+pub first_length : (image : Option (List ℕ)) (count erased : ℕ) → length (first_sectors image count erased) ≡ count
+first_length (Some image) count erased = length_pieces count image
+first_length None count erased = length-replicate count (replicate 512 erased)
+
+-- a card with one partition only
+pub alone : (n : ℕ) (v : Sector)
+    → split (n ∷ 0 ∷ 0 ∷ 0 ∷ 0 ∷ 0 ∷ 0 ∷ []) (replicate n v) ≡ replicate n v ∷ [] ∷ [] ∷ [] ∷ [] ∷ [] ∷ [] ∷ []
+alone n v = ap (λ xs. xs ∷ [] ∷ [] ∷ [] ∷ [] ∷ [] ∷ [] ∷ []) (take-replicate n n v (omega arith))
+
+-- Blocks that land.
+
+-- all of them, as far as the sectors go
+landed_put : (start : ℕ) (vs xs : List Sector) (s k : ℕ) → s ≡ min start (length xs)
+    → k ≡ min (length vs) (length xs - s) → landed_in (λ i. true) start vs xs ≡ put_mid s k xs (take k vs)
+landed_put start vs [] s k hs hk =
+    let no_place : s ≡ 0 = omega (arith, hs) in
+    let none : k ≡ 0 = omega (arith, hk) in
+    rw (none, no_place) refl
+landed_put zero [] (x ∷ xs) s k hs hk =
+    let no_place : s ≡ 0 = omega (arith, hs) in
+    let none : k ≡ 0 = omega (arith, hk) in
+    rw (none, no_place) refl
+landed_put zero (v ∷ vs) (x ∷ xs) s k hs hk =
+    let no_place : s ≡ 0 = omega (arith, hs) in
+    let more : k ≡ suc (min (length vs) (length xs)) = omega (arith, hk, no_place) in
+    rw (more, no_place) (ap (λ ys. v ∷ ys)
+    (landed_put zero vs xs 0 (min (length vs) (length xs)) (omega arith) (omega arith)))
+landed_put (suc start) vs (x ∷ xs) s k hs hk =
+    let next : s ≡ suc (min start (length xs)) = omega (arith, hs) in
+    rw next (ap (λ ys. x ∷ ys)
+    (landed_put start vs xs (min start (length xs)) k refl (omega (arith, hk, next))))
+
+-- all that is unfinished lands in a partition
+pub split_land : (sizes : List ℕ) (xs vs : List Sector) (p start count s k at : ℕ) → p < length sizes
+    → total sizes ≡ length xs → count ≤ length vs → s ≡ min start (length (slice_index_or (split sizes xs) p []))
+    → k ≡ min count (length (slice_index_or (split sizes xs) p []) - s) → at ≡ total (take p sizes) + s
+    → split sizes (put_mid at k xs (take k vs))
+    ≡ slice_set (split sizes xs) p
+    (landed_in (λ i. true) start (take count vs) (slice_index_or (split sizes xs) p []))
+split_land sizes xs vs p start count s k at h all room hs hk e =
+    let part = slice_index_or (split sizes xs) p [] in
+    let size = split_part_length sizes xs p h all in
+    let fewer : k ≤ count = omega (arith, hk) in
+    let fits : s + k ≤ slice_index_or sizes p 0 = omega (arith, hs, hk, size) in
+    let len : length (take k vs) ≡ k = length-take-le k vs (omega (arith, fewer, room)) in
+    let values = length-take-le count vs room in
+    let landing : k ≡ min (length (take count vs)) (length part - s) = omega (arith, hk, values) in
+    split_put sizes xs (take k vs) p s k at h (omega (arith, all)) fits len e
+    ∙ ap (slice_set (split sizes xs) p)
+    (sym (landed_put start (take count vs) part s k hs landing ∙ ap (put_mid s k part) (take-take k count vs fewer)))
 
 -- where nothing lands every sector stays
 pub none_lands : (start : ℕ) (values xs : List Sector) → landed_in (λ i. false) start values xs ≡ xs

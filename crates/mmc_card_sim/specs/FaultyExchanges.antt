@@ -1,7 +1,7 @@
 -- What the card in memory does in an exchange for which a fault may be planned: the fault falls where it fits, and
 -- otherwise the exchange is a faithful step.
-use Rattle.std.specs.Prelude.{◌&&◌, ◌==◌, ◌≡◌, Bool, List, None, Option, Some, false, if◌then◌else◌, nat_lt, not}
-use Rattle.std.specs.Prelude.{true, ℕ}
+use Rattle.std.specs.Prelude.{◌&&◌, ◌||◌, ◌≡◌, Bool, List, Option, Some, false, if◌then◌else◌, nat_le, nat_lt}
+use Rattle.std.specs.Prelude.{not, true, ℕ}
 use Rattle.mmc_frame.specs.Frame.{command_in}
 use Rattle.mmc_frame.specs.declared.card_state.State.TheVariants.{Prg}
 use Rattle.mmc_card.specs.declared.exchange.DataIn.{DataIn}
@@ -11,57 +11,61 @@ use Rattle.mmc_card.specs.declared.exchange.DataOut.TheVariants as Sent
 use Rattle.mmc_card.specs.declared.exchange.Lines.{Lines}
 use Rattle.mmc_card.specs.declared.exchange.Reply.{Reply}
 use Rattle.mmc_card.specs.declared.exchange.Reply.TheVariants as Came
-use Rattle.mmc_card.specs.Blocks.{accepted, can_accept, can_send, offered, programmed, rejected, rested, sent}
+use Rattle.mmc_card.specs.Blocks.{accepted, can_accept, can_send, offered, polled_once, programmed, rejected, sent}
+use Rattle.mmc_card.specs.Blocks.{waited}
 use Rattle.mmc_card.specs.Card.{Card, is_in}
-use Rattle.mmc_card.specs.CardAnswer.{CardAnswer, Silent, garbled, raised, reset}
+use Rattle.mmc_card.specs.CardAnswer.{CardAnswer, Choice, Silent, garbled, raised, reset}
 use Rattle.mmc_card.specs.ErrorBits.{general_error}
 use Rattle.mmc_card.specs.Faults.{Spells}
 use Rattle.mmc_card.specs.Rows.{answered}
-use Rattle.mmc_card_sim.specs.declared.fault.Fault.{Fault}
-use Rattle.mmc_card_sim.specs.declared.fault.Fault.TheVariants.{BadBlock, Brownout, Fail, FlipCommand, LoseCommand}
-use Rattle.mmc_card_sim.specs.declared.fault.Fault.TheVariants.{LoseReply}
-use Rattle.mmc_card_sim.specs.declared.fault.Fault.TheVariants.{LoseStatus, NoBlock, Reject}
-use Rattle.mmc_card_sim.specs.declared.fault.Flips.{Flips}
-use Rattle.mmc_card_sim.specs.declared.fault.Outcome.TheVariants.{New}
-use Rattle.mmc_card_sim.specs.PlainCard.{Sends, calm}
+use Rattle.mmc_card_sim.specs.Answer.{IsHeardFlipped, can_flip, is_flip}
+use Rattle.mmc_card_sim.specs.Chip.{Sends, choice_of, inquiry_choice}
 use Rattle.mmc_card_sim.specs.Store.{lands_by}
+use Rattle.mmc_card_sim.specs.declared.delays.Delays.{Delays}
+use Rattle.mmc_card_sim.specs.declared.fault.Fault.{Fault}
+use Rattle.mmc_card_sim.specs.declared.fault.Fault.TheVariants.{BadBlock, Brownout, Busy, Fail, FlipCommand, FlipReply}
+use Rattle.mmc_card_sim.specs.declared.fault.Fault.TheVariants.{LoseCommand, LoseReply, LoseStatus, NoBlock, Reject}
+use Rattle.mmc_card_sim.specs.declared.fault.Outcome.TheVariants.{New}
 
 -- Commands.
 
--- one position in a frame of so many bits, or two
-abbrev pub is_flip_of : ℕ → Option ℕ → ℕ → Bool
-is_flip_of first None bits = nat_lt first bits
-is_flip_of first (Some second) bits = nat_lt first bits && (nat_lt second bits && not (first == second))
-
-abbrev pub is_flip : Flips → ℕ → Bool
-is_flip flips bits = is_flip_of flips.first flips.second bits
+-- the faithful step of the card with this frame
+abbrev pub heeded : Delays → Card → List ℕ → Card × CardAnswer
+heeded delays card frame = answered (inquiry_choice delays.ready card) card (command_in frame)
 
 abbrev pub is_answer : CardAnswer → Bool
 is_answer Silent = false
 is_answer _ = true
 
 -- the fault fits a command
-abbrev pub fits_command : Option Fault → Card → List ℕ → Bool
-fits_command (Some LoseCommand) card frame = true
-fits_command (Some (FlipCommand flips)) card frame = is_flip flips 48
-fits_command (Some LoseReply) card frame = is_answer (answered calm card (command_in frame)).1
-fits_command (Some (Brownout outcome)) card frame = true
-fits_command _ card frame = false
+abbrev pub fits_command : Option Fault → Delays → Card → List ℕ → Bool
+fits_command (Some LoseCommand) delays card frame = true
+fits_command (Some (FlipCommand flips)) delays card frame = is_flip flips 48
+fits_command (Some LoseReply) delays card frame = is_answer (heeded delays card frame).1
+fits_command (Some (FlipReply flips)) delays card frame = can_flip flips (heeded delays card frame).1
+fits_command (Some (Brownout outcome)) delays card frame = true
+fits_command _ delays card frame = false
 
--- the card after it; nothing comes of the command
-abbrev pub after_command : Option Fault → Card → List ℕ → Card
-after_command (Some (FlipCommand flips)) card frame = garbled false card
-after_command (Some LoseReply) card frame = (answered calm card (command_in frame)).0
-after_command (Some (Brownout outcome)) card frame = reset (lands_by outcome) card
-after_command _ card frame = card
+-- the card after it
+abbrev pub after_command : Option Fault → Delays → Card → List ℕ → Card
+after_command (Some (FlipCommand flips)) delays card frame = garbled false card
+after_command (Some LoseReply) delays card frame = (heeded delays card frame).0
+after_command (Some (FlipReply flips)) delays card frame = (heeded delays card frame).0
+after_command (Some (Brownout outcome)) delays card frame = reset (lands_by outcome) card
+after_command _ delays card frame = card
 
-pub record Commands (fault : Option Fault) (old : Card) (frame : List ℕ) (reply : Reply) (fell : Bool)
-    (new : Card) : Type 0 where
-  pub fell_is : fell ≡ fits_command fault old frame
-  pub fault_card : fell ≡ true → new ≡ after_command fault old frame
-  pub fault_reply : fell ≡ true → reply ≡ Came.Silent
-  pub card : fell ≡ false → new ≡ (answered calm old (command_in frame)).0
-  pub answer : fell ≡ false → Spells (answered calm old (command_in frame)).1 reply
+-- what is heard of the answer: nothing, or all but the bits that are flipped
+abbrev pub IsHeard : Option Fault → CardAnswer → Reply → Type 0
+IsHeard (Some (FlipReply flips)) answer reply = IsHeardFlipped flips answer reply
+IsHeard _ answer reply = reply ≡ Came.Silent
+
+pub record Commands (fault : Option Fault) (delays : Delays) (old : Card) (frame : List ℕ) (reply : Reply)
+    (fell : Bool) (new : Card) : Type 0 where
+  pub fell_is : fell ≡ fits_command fault delays old frame
+  pub fault_card : fell ≡ true → new ≡ after_command fault delays old frame
+  pub fault_reply : fell ≡ true → IsHeard fault (heeded delays old frame).1 reply
+  pub card : fell ≡ false → new ≡ (heeded delays old frame).0
+  pub answer : fell ≡ false → Spells (heeded delays old frame).1 reply
 
 -- Blocks that the host reads.
 
@@ -73,12 +77,20 @@ fits_read _ card lines size = false
 
 abbrev pub after_read : Option Fault → Card → Card
 after_read (Some (Brownout outcome)) card = reset (lands_by outcome) card
-after_read _ card = sent calm card
+after_read _ card = sent (choice_of false) card
 
 -- what comes of the block
 abbrev pub read_in : Option Fault → DataIn
 read_in (Some BadBlock) = Received.Bad
 read_in _ = Received.Nothing
+
+-- where the card sends a block, it comes as this
+pub record Spoils (comes : DataIn) (old : Card) (lines : Lines) (size : ℕ) (got : DataIn) (block : List ℕ) (fell : Bool)
+    (new : Card) : Type 0 where
+  pub fell_is : fell ≡ can_send lines size old
+  pub fault_card : fell ≡ true → new ≡ sent (choice_of false) old
+  pub fault_got : fell ≡ true → got ≡ comes
+  pub sends : fell ≡ false → Sends lines old new size got block
 
 pub record Reads (fault : Option Fault) (old : Card) (lines : Lines) (size : ℕ) (got : DataIn) (block : List ℕ)
     (fell : Bool) (new : Card) : Type 0 where
@@ -112,19 +124,34 @@ pub record Writes (fault : Option Fault) (old : Card) (lines : Lines) (block : L
   pub card : fell ≡ false → new ≡ offered lines block old
   pub got_is : fell ≡ false → got ≡ (if can_accept lines old then Sent.Accepted else Sent.Nothing)
 
--- Polls, which are always answered no.
+-- Polls.
+
+abbrev pub is_busy_fault : Option Fault → Bool
+is_busy_fault (Some Busy) = true
+is_busy_fault _ = false
+
+-- The card is slow at the first polls of a busy time; a planned yes is one of them while it is no fault.
+abbrev pub is_slow_at : Option Fault → Delays → Card → Bool
+is_slow_at fault delays card = nat_lt card.polled delays.busy || (is_busy_fault fault && nat_lt card.polled 8)
+
+abbrev pub poll_choice : Option Fault → Delays → Card → Choice
+poll_choice fault delays card = choice_of (is_slow_at fault delays card)
 
 abbrev pub fits_poll : Option Fault → Card → Bool
-fits_poll (Some (Fail outcome)) card = is_in card.state Prg
+fits_poll (Some (Fail outcome)) card = is_in card.state Prg && not card.is_switching
+fits_poll (Some Busy) card = card.is_busy && nat_le 8 card.polled
 fits_poll (Some (Brownout outcome)) card = true
 fits_poll _ card = false
 
 abbrev pub after_poll : Option Fault → Card → Card
 after_poll (Some (Fail outcome)) card = raised general_error (programmed (lands_by outcome) card)
+after_poll (Some Busy) card = waited card
 after_poll (Some (Brownout outcome)) card = reset (lands_by outcome) card
 after_poll _ card = card
 
-pub record Polls (fault : Option Fault) (old : Card) (fell : Bool) (new : Card) : Type 0 where
+pub record Polls (fault : Option Fault) (delays : Delays) (old : Card) (said fell : Bool) (new : Card) : Type 0 where
   pub fell_is : fell ≡ fits_poll fault old
   pub fault_card : fell ≡ true → new ≡ after_poll fault old
-  pub card : fell ≡ false → new ≡ rested old
+  pub fault_said : fell ≡ true → said ≡ is_busy_fault fault
+  pub card : fell ≡ false → new ≡ (polled_once (poll_choice fault delays old) old).0
+  pub said_is : fell ≡ false → said ≡ (polled_once (poll_choice fault delays old) old).1

@@ -1,7 +1,11 @@
+pub mod Answer
+pub mod CardSpec
+pub mod Chip
 pub mod FaultyExchanges
 pub mod PlainCard
-pub mod PlainCommands
-pub mod PlainView
 pub mod Plan
+pub mod Registers
 pub mod SimView
+pub mod Sizes
 pub mod Store
+pub mod Switches

@@ -5,13 +5,21 @@ use Rattle.mmc_bus.specs.declared.wire.Wire.{Wire}
 use Rattle.mmc_bus.specs.Wires.{bus_view_with}
 use Rattle.mmc_card.specs.BusView.{BusView}
 use Rattle.mmc_card.specs.Card.{Card, IsCard}
+use Rattle.mmc_card.specs.Made.{erased_byte_of_card}
+use Rattle.mmc_card_sim.specs.CardSpec.{sizes_of}
+use Rattle.mmc_card_sim.specs.Plan.{fault_at}
+use Rattle.mmc_card_sim.specs.Registers.{made_of}
+use Rattle.mmc_card_sim.specs.Sizes.{total}
+use Rattle.mmc_card_sim.specs.Store.{first_sectors, split}
+use Rattle.mmc_card_sim.specs.declared.delays.Delays.{Delays}
 use Rattle.mmc_card_sim.specs.declared.fault.Fault.{Fault}
 use Rattle.mmc_card_sim.specs.declared.plan.Planned.{Planned}
-use Rattle.mmc_card_sim.specs.Plan.{fault_at}
+use Rattle.mmc_card_sim.specs.declared.spec.CardSpec.{CardSpec}
 
--- the card, what is kept of the exchanges, the plan, and how many faults have fallen
+-- the card, how long it takes, what is kept of the exchanges, the plan, and how many faults have fallen
 pub record SimView : Type 0 where
   pub card : Card
+  pub delays : Delays
   pub wire : Wire
   pub plan : List Planned
   pub faults : ℕ
@@ -23,10 +31,18 @@ sim_bus_view sim = bus_view_with sim.card sim.faults true sim.wire
 abbrev pub planned_fault : SimView → Option Fault
 planned_fault sim = fault_at sim.plan sim.wire.exchanges
 
--- it is a card, no more faults have fallen than exchanges were made, and none is planned for the number at which their
--- count stays
-pub record SimOk (card : Card) (exchanges : ℕ) (plan : List Planned) (faults : ℕ) : Type 0 where
-  pub is_card : IsCard card
-  pub few : faults ≤ exchanges
-  pub bounded : exchanges ≤ 2 ^ 64 - 1
-  pub never : fault_at plan (2 ^ 64 - 1) ≡ None
+-- It is a card, which is slow at most eight times, no more faults have fallen than exchanges were made, and none is
+-- planned for the number at which their count stays.
+pub record SimOk (sim : SimView) : Type 0 where
+  pub is_card : IsCard sim.card
+  pub soon_ready : sim.delays.ready ≤ 8
+  pub soon_rested : sim.delays.busy ≤ 8
+  pub few : sim.faults ≤ sim.wire.exchanges
+  pub bounded : sim.wire.exchanges ≤ 2 ^ 64 - 1
+  pub never : fault_at sim.plan (2 ^ 64 - 1) ≡ None
+
+-- The sectors that a spec tells of, partition by partition: those of its image, or all with the erased byte.
+abbrev pub first_parts : CardSpec → List (List (List ℕ))
+first_parts spec =
+    split (sizes_of spec.registers)
+    (first_sectors spec.image (total (sizes_of spec.registers)) (erased_byte_of_card (made_of spec.registers)))

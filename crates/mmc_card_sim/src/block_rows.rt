@@ -1,27 +1,16 @@
-// What the card behind `PlainCard` does with blocks and polls (SD Physical Layer 6.00, sections 4.3.3 and 4.3.4).
-ghost use Rattle.std.specs.Prelude.{◌&&◌, ◌<◌, ◌≡◌, IsSome, false, if◌then◌else◌, length, true};
+// What the card in memory does with blocks and polls (SD Physical Layer 6.00, sections 4.3.3 and 4.3.4).
+ghost use Rattle.std.specs.Prelude.{◌&&◌, ◌<◌, ◌≡◌, if◌then◌else◌, false, length, true};
 ghost use Rattle.mmc_frame.specs.declared.card_state.State.TheVariants.{Data};
 ghost use Rattle.mmc_card.specs.Blocks.{is_last, one_less};
-ghost use Rattle.mmc_card.specs.Card.{is_in};
-ghost use Rattle.mmc_card.specs.RowsSwitch.{width_number};
+ghost use Rattle.mmc_card.specs.Card.{AreAmong, is_in};
+ghost use Rattle.mmc_card.specs.ErrorBits.{error_bits};
+ghost use Rattle.mmc_card_sim.specs.declared.store.TheConstants.{MAX_SECTORS};
 
-use crate::chip::Chip;
-use mmc_card::{DataIn, DataOut, Lines, Timing, Width};
+use crate::chip::{Chip, Source};
+use crate::error_bits::OUT_OF_RANGE;
+use crate::switch_rows::{timing_number, width_number};
+use mmc_card::{DataIn, DataOut, Lines};
 use mmc_frame::State;
-
-// The register that the card sends as a block.
-const SCR: [u8; 8] = [0, 5, 0, 0, 0, 0, 0, 0];
-
-// The number of a width in BUS_WIDTH.
-fn width_number(width: Width) -> u8
-    ensures { result ≡ width_number width }
-{
-    match width {
-        Width::One => 0,
-        Width::Four => 1,
-        Width::Eight => 2,
-    }
-}
 
 // The blocks to come after one more.
 fn one_less(left: Option<u32>) -> Option<u32>
@@ -44,60 +33,80 @@ fn state_after(left: Option<u32>, goes_on: State, ends: State) -> State
 }
 
 impl Chip {
-    ghost use Rattle.std.specs.Prelude.{Some};
-    ghost use Rattle.mmc_card.specs.Blocks.{asked_for, block_to_send, can_send, can_accept, lines_fit, next_block, offered, rested};
-    ghost use Rattle.mmc_card.specs.Card.{FromSectors};
-    ghost use Rattle.mmc_card_sim.specs.PlainCard.{Sends, calm, card_of};
+    ghost use Rattle.mmc_card.specs.Blocks.{can_accept, end_errors, lines_fit, offered, polled_once, rested, sent_from, waited};
+    ghost use Rattle.mmc_card.specs.Card.{FromSectors, stored};
+    ghost use Rattle.mmc_card_sim.specs.Chip.{IsBlockSource, Sends, card_of, choice_of};
 
     // Whether these are the card's lines.
     fn fits(&self, lines: Lines) -> bool
         ensures { result ≡ lines_fit lines (card_of self.now) }
     {
         width_number(lines.width) == width_number(self.width)
-            && matches!(lines.timing, Timing::Default)
+            && timing_number(lines.timing) == timing_number(self.timing)
     }
 
-    // Sends the SCR, if the buffer has its length.
-    fn send_register(&mut self, lines: Lines, buffer: &mut [u8]) -> DataIn
-        requires source { self.old.sends_scr ≡ true }
+    // Sends a block that isn't a sector, if the buffer has its length.
+    fn send_block_of(&mut self, lines: Lines, buffer: &mut [u8]) -> DataIn
+        requires source { IsBlockSource self.old.source }
         requires ready { (is_in self.old.state Data && lines_fit lines (card_of self.old)) ≡ true }
         ensures { Sends lines (card_of self.old) (card_of self.new) (length buffer.old) result buffer.new }
     {
         let _ = lines;
-        if buffer.len() != SCR.len() {
+        let Source::Block(block, timing) = &self.source else {
+            return DataIn::Nothing;
+        };
+        if buffer.len() != block.len() {
             return DataIn::Nothing;
         }
-        buffer.copy_from_slice(&SCR);
+        buffer.copy_from_slice(block);
+        self.timing = *timing;
         self.state = State::Tran;
-        self.sends_scr = false;
+        self.source = Source::Sectors;
         DataIn::Good
     }
 
-    // The sector that is sent next, if there is such a sector.
-    fn next_sector(&self) -> Option<[u8; 512]>
-        ensures next { result ≡ block_to_send FromSectors (card_of self.now) }
-        ensures below { IsSome result → self.now.next < length self.now.store.sectors.items }
+    // Behind the last sector of the partition an uncounted read shows OUT_OF_RANGE.
+    fn end_errors(&self) -> u32
+        requires { self.now.next < length (stored (card_of self.now) self.now.part) }
+        ensures errors { result ≡ end_errors true (card_of self.now) }
+        ensures known { AreAmong result error_bits }
+        ensures few { self.now.next < MAX_SECTORS }
     {
-        self.store.sectors.get(self.next as usize).copied()
+        let size = self.store.size(self.part);
+        if self.left.is_none() && self.next + 1 == size {
+            OUT_OF_RANGE
+        } else {
+            0
+        }
+    }
+
+    // The card has sent its next sector.
+    fn pass_sector(&mut self)
+        requires { self.old.next < length (stored (card_of self.old) self.old.part) }
+        ensures { card_of self.new ≡ sent_from FromSectors (choice_of false) (card_of self.old) }
+    {
+        let errors = self.end_errors();
+        self.raise(errors);
+        self.next += 1;
+        self.state = state_after(self.left, State::Data, State::Tran);
+        self.left = one_less(self.left);
     }
 
     // Sends the next sector, if there is one and the buffer has its length.
     fn send_sector(&mut self, lines: Lines, buffer: &mut [u8]) -> DataIn
-        requires source { self.old.sends_scr ≡ false }
+        requires source { self.old.source ≡ Source.Sectors }
         requires ready { (is_in self.old.state Data && lines_fit lines (card_of self.old)) ≡ true }
         ensures { Sends lines (card_of self.old) (card_of self.new) (length buffer.old) result buffer.new }
     {
         let _ = lines;
-        let Some(block) = self.next_sector() else {
+        let Some(block) = self.store.sector(self.part, self.next) else {
             return DataIn::Nothing;
         };
         if buffer.len() != block.len() {
             return DataIn::Nothing;
         }
         buffer.copy_from_slice(&block);
-        self.next += 1;
-        self.state = state_after(self.left, State::Data, State::Tran);
-        self.left = one_less(self.left);
+        self.pass_sector();
         DataIn::Good
     }
 
@@ -108,23 +117,24 @@ impl Chip {
         if !self.is_in(State::Data) || !self.fits(lines) {
             return DataIn::Nothing;
         }
-        if self.sends_scr {
-            self.send_register(lines, buffer)
-        } else {
-            self.send_sector(lines, buffer)
+        match self.source {
+            Source::Sectors => self.send_sector(lines, buffer),
+            Source::Block(..) => self.send_block_of(lines, buffer),
         }
     }
 
-    /// Whether the card would accept a block: one is to come, it isn't busy, the lines of the host are its own, and there is such a
-    /// sector.
+    /// Whether the card would accept a block: one is to come, it isn't busy, the lines of the host are its own, and there
+    /// is such a sector.
     pub fn can_accept(&self, lines: Lines) -> bool
         ensures { result ≡ can_accept lines (card_of self.now) }
     {
-        self.is_in(State::Rcv) && !self.is_busy && self.fits(lines) && self.store.has_next()
+        self.is_in(State::Rcv)
+            && !self.is_busy
+            && self.fits(lines)
+            && self.store.has_next(self.part)
     }
 
-    /// Accepts a block, if one is to come, the card isn't busy, the lines of the host are the card's, and there is such a
-    /// sector. The card is busy then.
+    /// Accepts a block, if the card can. It is busy then.
     pub fn accept(&mut self, lines: Lines, block: &[u8; 512]) -> DataOut
         ensures card { card_of self.new ≡ offered lines block.now (card_of self.old) }
         ensures got { result ≡ (if can_accept lines (card_of self.old) then DataOut.Accepted else DataOut.Nothing) }
@@ -132,21 +142,42 @@ impl Chip {
         if !self.can_accept(lines) {
             return DataOut::Nothing;
         }
-        self.store.accept(block);
+        self.store.accept(self.part, block);
         self.state = state_after(self.left, State::Rcv, State::Prg);
         self.left = one_less(self.left);
-        self.is_busy = true;
+        self.make_busy();
         DataOut::Accepted
     }
 
-    /// The card isn't busy any more, and what it was programming is stored.
-    pub fn end_busy(&mut self)
+    // The card isn't busy any more, and what it was programming is stored.
+    fn end_busy(&mut self)
         ensures { card_of self.new ≡ rested (card_of self.old) }
     {
         if self.is_in(State::Prg) {
-            self.store.land();
+            self.store.land(self.part);
             self.state = State::Tran;
         }
         self.is_busy = false;
+        self.polled = 0;
+    }
+
+    /// A poll of a card that is slow or not: whether it is busy.
+    pub fn poll(&mut self, is_slow: bool) -> bool
+        ensures card { card_of self.new ≡ (polled_once (choice_of is_slow) (card_of self.old)).0 }
+        ensures busy { result ≡ (polled_once (choice_of is_slow) (card_of self.old)).1 }
+    {
+        if self.is_busy && is_slow {
+            self.wait();
+            return true;
+        }
+        self.end_busy();
+        false
+    }
+
+    /// A poll that is answered yes.
+    pub fn wait(&mut self)
+        ensures { card_of self.new ≡ waited (card_of self.old) }
+    {
+        self.polled = (self.polled + 1).min(8);
     }
 }

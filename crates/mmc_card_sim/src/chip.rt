@@ -1,55 +1,86 @@
-// The card behind `PlainCard`: an SD card of standard capacity with all the commands of such a card.
-ghost use Rattle.std.specs.Prelude.{◌<◌, ◌≡◌, IfOk, true};
+// The card in memory: where it is, what it remembers, and what it does with a command.
+ghost use Rattle.std.specs.Prelude.{◌<◌, ◌≡◌, ◌≤◌, ◌^◌};
 ghost use Rattle.mmc_frame.specs.Status.{state_number};
-ghost use Rattle.mmc_frame.specs.declared.card_state.State.TheVariants.{Idle};
-ghost use Rattle.mmc_card.specs.Card.{AreAmong, is_in};
+ghost use Rattle.mmc_card.specs.Card.{AreAmong};
 ghost use Rattle.mmc_card.specs.ErrorBits.{command_error_bits, error_bits};
+ghost use Rattle.mmc_card.specs.Made.{erase_unit_of_card, first_rca, is_read_only};
+ghost use Rattle.mmc_card_sim.specs.Registers.{made_of};
 
+use crate::answer::Answer;
 use crate::command::command_of;
-use crate::error_bits::{COM_CRC_ERROR, ERASE_RESET, ILLEGAL_COMMAND};
+use crate::error_bits::{CARD_IS_LOCKED, COM_CRC_ERROR, ERASE_RESET, ILLEGAL_COMMAND};
+use crate::registers::Registers;
 use crate::store::Store;
-use mmc_bus::{NoMemory, Reply, Width};
-use mmc_card::{Command, is_addressed, leaves_erase};
+use arrayvec::ArrayVec;
+use mmc_card::{Command, Part, Timing, Width, is_addressed, leaves_erase};
 use mmc_frame::commands::SEND_STATUS;
-use mmc_frame::{State, encode_response, read_command};
-use std::alloc::Global;
+use mmc_frame::{Kind, State, read_command};
 
 /// The addresses that an erase is to go by.
 #[derive(Clone, Copy, Debug)]
 pub enum Addresses {
     /// No address.
     None,
-    /// That of CMD32.
+    /// That of CMD32 or CMD35.
     First(u32),
-    /// Those of CMD32 and CMD33.
+    /// That, and the one of CMD33 or CMD36.
     Both(u32, u32),
 }
 
-/// A card as it is: where it is, what it remembers, and its sectors. It has blocks of 512 bytes, and default speed.
+/// What the card sends to a host that reads.
+#[derive(Debug, Drop)]
+pub enum Source {
+    /// Sectors.
+    Sectors,
+    /// This block alone, and then it has this timing.
+    Block(ArrayVec<u8, 512>, Timing),
+}
+
+/// A card as it is.
 #[derive(Debug, Drop)]
 pub struct Chip {
+    pub registers: Registers,
+    // What the registers say, read once: the erase unit in sectors, and write protection.
+    pub erase_unit: usize,
+    pub is_protected: bool,
     pub store: Store,
     pub state: State,
-    pub rca: u32,
+    pub rca: u16,
+    pub part: Part,
     pub width: Width,
+    pub timing: Timing,
+    // Byte 175 of the EXT_CSD.
+    pub erase_group_def: u8,
+    pub block_length: u32,
+    // The count that CMD23 has preset for the next command; 0 is none.
+    pub count: u32,
     // The next command is an application command.
     pub is_app: bool,
     pub addresses: Addresses,
     // Error bits that are to be shown, in units of bit 13: COM_CRC_ERROR and ILLEGAL_COMMAND, and the others.
     pub command_errors: u32,
     pub errors: u32,
-    // Readiness inquiries since CMD0.
+    pub has_switch_error: bool,
+    // Readiness inquiries since CMD0 and polls that were answered yes in this busy time, both up to 8.
     pub inquiries: u8,
     pub is_busy: bool,
-    // It sends its SCR and not sectors.
-    pub sends_scr: bool,
-    // The next sector that it sends; the blocks to come, of an uncounted transfer none; a transfer of one block.
-    pub next: u32,
+    pub polled: u8,
+    // What it sends, its next sector, the blocks to come, of an uncounted transfer none, and a transfer of one block.
+    pub source: Source,
+    pub next: usize,
     pub left: Option<u32>,
     pub is_single: bool,
+    // The programming is that of CMD6 of eMMC.
+    pub is_switching: bool,
+    pub ghost unit: { erase_unit ≡ erase_unit_of_card (made_of registers) },
+    pub ghost some_unit: { 1 ≤ erase_unit },
+    pub ghost small_unit: { erase_unit ≤ 2 ^ 20 },
+    pub ghost protected: { is_protected ≡ is_read_only (made_of registers) },
+    pub ghost ocr: { registers.ocr < 2 ^ 31 },
     pub ghost known: { AreAmong command_errors command_error_bits },
     pub ghost raised: { AreAmong errors error_bits },
-    pub ghost no_inquiries: { is_in state Idle ≡ true → inquiries ≡ 0 },
+    pub ghost asked: { inquiries ≤ 8 },
+    pub ghost waited: { polled ≤ 8 },
 }
 
 // The number of a state in a status.
@@ -69,38 +100,72 @@ fn number_of(state: State) -> u32
     }
 }
 
+/// The RCA while none was published or assigned: 0 of SD, 1 of eMMC.
+pub fn first_rca(kind: Kind) -> u16
+    ensures { result ≡ first_rca kind }
+{
+    match kind {
+        Kind::Sd => 0,
+        Kind::Mmc => 1,
+    }
+}
+
 impl Chip {
-    ghost use Rattle.std.specs.Prelude.{◌≤◌};
     ghost use Rattle.mmc_frame.specs.Frame.{command_in};
-    ghost use Rattle.mmc_card.specs.CardAnswer.{Checked, Silent, done, raised, refused, shown, status};
-    ghost use Rattle.mmc_card.specs.Card.{is_identified};
-    ghost use Rattle.mmc_card.specs.Faults.{Spells};
-    ghost use Rattle.mmc_card_sim.specs.PlainCard.{Answers, calm, card_of, new_plain_card};
-    ghost use Rattle.mmc_card_sim.specs.PlainCommands.{is_of_sd};
-    ghost use Rattle.mmc_card_sim.specs.declared.store.TheConstants.{MAX_SECTORS};
+    ghost use Rattle.mmc_card.specs.CardAnswer.{Checked, Choice, Silent, done, raised, refused, shown, status};
+    ghost use Rattle.mmc_card.specs.Card.{is_identified, is_in, powered_on};
+    ghost use Rattle.mmc_card.specs.Made.{first_block_length};
+    ghost use Rattle.mmc_card_sim.specs.Chip.{Answers, card_of, inquiry_choice};
+    ghost use Rattle.mmc_card_sim.specs.Store.{parts_of, values_of};
+    ghost use Rattle.std.specs.Prelude.{[]};
     ghost use Rattle.mmc_card.specs.Rows.{answered, is_legal, reached, respond, row};
 
-    /// A card in tran under RCA 1 with this many sectors, at most `MAX_SECTORS`, that are all 00h.
-    pub fn new(alloc: Global, sectors: usize) -> Result<Chip, NoMemory>
-        requires { sectors ≤ MAX_SECTORS }
-        ensures { IfOk result (λ chip. card_of chip ≡ new_plain_card sectors) }
+    /// A card after power on. What its registers say is given beside them: the erase unit in sectors, write protection,
+    /// and the first block length in bytes.
+    pub fn powered_on(
+        registers: Registers,
+        erase_unit: usize,
+        is_protected: bool,
+        block_length: u32,
+        store: Store,
+    ) -> Chip
+        requires unit { erase_unit ≡ erase_unit_of_card (made_of registers) }
+        requires some_unit { 1 ≤ erase_unit }
+        requires small_unit { erase_unit ≤ 2 ^ 20 }
+        requires protected { is_protected ≡ is_read_only (made_of registers) }
+        requires block_length { block_length ≡ first_block_length (made_of registers) }
+        requires ocr { registers.ocr < 2 ^ 31 }
+        requires start { store.start ≡ 0 }
+        requires values { values_of store ≡ [] }
+        ensures card { card_of result ≡ powered_on (made_of registers) (parts_of store) }
     {
-        Ok(Chip {
-            store: Store::new(alloc, sectors)?,
-            state: State::Tran,
-            rca: 1,
+        Chip {
+            rca: first_rca(registers.kind()),
+            registers,
+            erase_unit,
+            is_protected,
+            store,
+            state: State::Idle,
+            part: Part::User,
             width: Width::One,
+            timing: Timing::Default,
+            erase_group_def: 0,
+            block_length,
+            count: 0,
             is_app: false,
             addresses: Addresses::None,
             command_errors: 0,
             errors: 0,
+            has_switch_error: false,
             inquiries: 0,
             is_busy: false,
-            sends_scr: false,
+            polled: 0,
+            source: Source::Sectors,
             next: 0,
             left: None,
             is_single: false,
-        })
+            is_switching: false,
+        }
     }
 
     /// Whether the card is in this state.
@@ -111,14 +176,20 @@ impl Chip {
     }
 
     /// The card status.
-    #[tactic(auto, using(crate::proofs::PlainLemmas::command_errors_few, crate::proofs::PlainLemmas::errors_few))]
+    #[tactic(auto, using(crate::proofs::ChipLemmas::command_errors_few, crate::proofs::ChipLemmas::errors_few))]
     pub fn status(&self, is_app: bool) -> u32
         ensures { result ≡ status is_app (card_of self.now) }
     {
-        let errors = 0x2000 * (self.command_errors + self.errors);
+        let locked = if self.registers.is_locked {
+            CARD_IS_LOCKED
+        } else {
+            0
+        };
+        let errors = 0x2000 * (self.command_errors + self.errors + locked);
         let ready = if self.is_busy { 0 } else { 0x100 };
+        let switch_error = if self.has_switch_error { 0x80 } else { 0 };
         let app = if is_app { 0x20 } else { 0 };
-        errors + 0x200 * number_of(self.state) + ready + app
+        errors + 0x200 * number_of(self.state) + ready + switch_error + app
     }
 
     /// Raises error bits, which stay until they are shown.
@@ -134,20 +205,19 @@ impl Chip {
     pub fn clear_errors(&mut self)
         ensures { card_of self.new ≡ shown (card_of self.old) }
     {
-        self.is_app = false;
-        self.command_errors = 0;
+        self.finish();
         self.errors = 0;
+        self.has_switch_error = false;
     }
 
     /// The response with the status, in which all error bits are shown and cleared.
-    pub fn respond_status(&mut self, index: u8, is_app: bool) -> Reply
+    pub fn respond_status(&mut self, index: u8, is_app: bool) -> Answer
         requires { index < 64 }
-        ensures answer { Spells (Checked index (status is_app (card_of self.old))) result }
-        ensures card { card_of self.new ≡ shown (card_of self.old) }
+        ensures { Answers (shown (card_of self.old), Checked index (status is_app (card_of self.old))) self.new result }
     {
-        let status = self.status(is_app);
+        let argument = self.status(is_app);
         self.clear_errors();
-        Reply::Short(encode_response(index, status))
+        Answer::Checked { index, argument }
     }
 
     /// A command is carried out that has no status in its response.
@@ -155,23 +225,26 @@ impl Chip {
         ensures { card_of self.new ≡ done (card_of self.old) }
     {
         self.is_app = false;
+        self.count = 0;
         self.command_errors = 0;
     }
 
     /// A command that isn't carried out.
     #[tactic(auto, using(mmc_card::proofs::Cards::among_more))]
-    pub fn refuse(&mut self) -> Reply
+    pub fn refuse(&mut self) -> Answer
         ensures { Answers (refused (card_of self.old), Silent) self.new result }
     {
         self.is_app = false;
+        self.count = 0;
         self.command_errors |= ILLEGAL_COMMAND;
-        Reply::Silent
+        Answer::Silent
     }
 
     // Any command but those of the erase sequence and CMD13 drops held addresses.
     #[tactic(auto, using(mmc_card::proofs::Cards::among_more))]
     fn drop_erase_addresses(&mut self, command: Command)
-        ensures { card_of self.new ≡ reached command (card_of self.old) }
+        ensures card { card_of self.new ≡ reached command (card_of self.old) }
+        ensures inquiries { self.new.inquiries ≡ self.old.inquiries }
     {
         if leaves_erase(command) || matches!(self.addresses, Addresses::None) {
             return;
@@ -187,88 +260,97 @@ impl Chip {
         number_of(self.state) >= 3 && !self.is_in(State::Dis)
     }
 
-    // Whether a command of an SD card is carried out. This card has no CMD6, CMD8 and CMD23.
+    // Whether a command is carried out.
     fn is_legal(&self, command: Command) -> bool
-        requires { is_of_sd command ≡ true }
         ensures { result ≡ is_legal command (card_of self.now) }
     {
         match command {
             Command::GoIdleState => true,
-            Command::SdSendOpCond => self.is_in(State::Idle),
+            Command::SendOpCond | Command::SdSendOpCond => self.is_in(State::Idle),
             Command::AllSendCid => self.is_in(State::Ready),
             Command::SendRelativeAddr => self.is_in(State::Ident) || self.is_in(State::Stby),
-            Command::SelectCard => self.is_in(State::Stby),
-            Command::SendCsd => self.is_in(State::Stby),
+            Command::SetRelativeAddr => {
+                matches!(self.registers.kind(), Kind::Mmc) && self.is_in(State::Ident)
+            }
+            Command::SelectCard | Command::SendCsd => self.is_in(State::Stby),
+            Command::SendIfCond => self.is_in(State::Idle) && self.registers.answers_cmd8(),
             Command::StopTransmission => self.is_in(State::Data) || self.is_in(State::Rcv),
             Command::SendStatus => self.is_identified() && !self.is_app,
-            Command::AppCmd => self.is_in(State::Idle) || self.is_identified(),
-            Command::SendIfCond => false,
-            Command::SetBlockCount => false,
-            Command::SwitchFunc => false,
+            Command::SetBlockCount => self.is_in(State::Tran) && self.registers.has_cmd23(),
+            Command::SwitchFunc => self.is_in(State::Tran) && self.registers.has_switch_function(),
+            Command::AppCmd => {
+                matches!(self.registers.kind(), Kind::Sd)
+                    && (self.is_in(State::Idle) || self.is_identified())
+            }
             Command::Unknown => false,
             _ => self.is_in(State::Tran),
         }
     }
 
-    // Carries a command of an SD card out, where it is legal.
-    fn carry_out(&mut self, command: Command, index: u8, argument: u32) -> Reply
-        requires of_sd { is_of_sd command ≡ true }
-        requires legal { is_legal command (card_of self.old) ≡ true }
-        requires index { index < 64 }
-        ensures { Answers (row calm command (card_of self.old) index argument) self.new result }
+    // Carries a command out. The first `ready` inquiries are answered with not ready.
+    fn carry_out(&mut self, ready: u8, command: Command, index: u8, argument: u32) -> Answer
+        requires { index < 64 }
+        ensures { Answers (row (inquiry_choice ready (card_of self.old)) command (card_of self.old) index argument) self.new result }
     {
         match command {
             Command::GoIdleState => self.go_idle_state(),
-            Command::SdSendOpCond => self.sd_send_op_cond(),
+            Command::SendOpCond => self.send_op_cond(ready),
+            Command::SdSendOpCond => self.sd_send_op_cond(ready, argument),
             Command::AllSendCid => self.all_send_cid(),
             Command::SendRelativeAddr => self.send_relative_addr(),
+            Command::SetRelativeAddr => self.set_relative_addr(argument),
             Command::SelectCard => self.select_card(),
+            Command::SendIfCond => self.send_if_cond(argument),
+            Command::SendExtCsd => self.send_ext_csd(),
             Command::SendCsd => self.send_csd(),
-            Command::SendStatus => self.respond_status(SEND_STATUS, false),
-            Command::AppCmd => self.app_cmd(),
             Command::StopTransmission => self.stop_transmission(),
+            Command::SendStatus => self.respond_status(SEND_STATUS, false),
             Command::SetBlocklen => self.set_blocklen(argument),
             Command::ReadSingleBlock => self.read_single_block(argument),
             Command::ReadMultipleBlock => self.read_multiple_block(argument),
+            Command::SetBlockCount => self.set_block_count(argument),
             Command::WriteBlock => self.write_block(argument),
             Command::WriteMultipleBlock => self.write_multiple_block(argument),
             Command::EraseStart => self.hold_first(index, argument),
             Command::EraseEnd => self.hold_last(index, argument),
-            Command::Erase => self.erase(),
+            Command::Erase => self.erase(argument),
+            Command::Switch => self.switch_byte(argument),
+            Command::SwitchFunc => self.switch_func(argument),
             Command::SetBusWidth => self.set_bus_width(argument),
             Command::SendScr => self.send_scr(),
-            _ => self.refuse(),
+            Command::AppCmd => self.app_cmd(),
+            Command::Unknown => self.refuse(),
         }
     }
 
-    // The response to a sound command. One that names another card changes nothing.
-    fn respond(&mut self, index: u8, argument: u32) -> Reply
+    // The answer to a sound command. One that names another card changes nothing.
+    fn respond(&mut self, ready: u8, index: u8, argument: u32) -> Answer
         requires { index < 64 }
-        ensures { Answers (respond calm (card_of self.old) index argument) self.new result }
+        ensures { Answers (respond (inquiry_choice ready (card_of self.old)) (card_of self.old) index argument) self.new result }
     {
-        let command = command_of(self.is_app, index);
-        if is_addressed(command) && argument / 0x1_0000 != self.rca {
-            return Reply::Silent;
+        let command = command_of(self.registers.kind(), self.is_app, index);
+        if is_addressed(command) && argument / 0x1_0000 != u32::from(self.rca) {
+            return Answer::Silent;
         }
         let is_legal = self.is_legal(command);
         self.drop_erase_addresses(command);
         if is_legal {
-            self.carry_out(command, index, argument)
+            self.carry_out(ready, command, index, argument)
         } else {
             self.refuse()
         }
     }
 
-    /// The response to a command. Where its check is wrong, the card notes that and is silent.
-    #[tactic(auto, using(mmc_card::proofs::Cards::among_more))]
-    pub fn command(&mut self, frame: &[u8; 6]) -> Reply
-        ensures { Answers (answered calm (card_of self.old) (command_in frame.now)) self.new result }
+    /// The answer to a command. The first `ready` readiness inquiries are answered with not ready. Where the check of the
+    /// command is wrong, the card notes that, drops a preset count, and is silent.
+    pub fn command(&mut self, ready: u8, frame: &[u8; 6]) -> Answer
+        ensures { Answers (answered (inquiry_choice ready (card_of self.old)) (card_of self.old) (command_in frame.now)) self.new result }
     {
         match read_command(frame) {
-            Some((index, argument)) => self.respond(index, argument),
+            Some((index, argument)) => self.respond(ready, index, argument),
             None => {
-                self.command_errors |= COM_CRC_ERROR;
-                Reply::Silent
+                self.garble();
+                Answer::Silent
             }
         }
     }

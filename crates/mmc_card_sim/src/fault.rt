@@ -7,8 +7,8 @@ pub enum Outcome {
     New,
 }
 
-/// Which bits of a frame are flipped, by their positions in order of sending: 0 to 47 in a frame of six bytes, 0 to 135 in
-/// one of seventeen. Two equal positions, or one past the frame, fit no exchange.
+/// Which bits of a frame are flipped, by their positions in order of sending: 0 to 47 in a frame of six bytes, 0 to 135
+/// in one of seventeen. Two equal positions, or one past the frame, fit no exchange.
 #[derive(Clone, Copy, Debug, PartialEq, Eq)]
 pub struct Flips {
     /// The first one.
@@ -17,8 +17,8 @@ pub struct Flips {
     pub second: Option<u8>,
 }
 
-/// A fault that a card in memory can be told to have. Each is a fault of the card relation, and falls only where it fits its
-/// exchange.
+/// A fault that a card in memory can be told to have. Each is a fault of the card relation, and falls only where it fits
+/// its exchange.
 #[derive(Clone, Copy, Debug, PartialEq, Eq)]
 pub enum Fault {
     /// The card doesn't see the command.
@@ -27,6 +27,8 @@ pub enum Fault {
     FlipCommand(Flips),
     /// The card answers, and nothing comes.
     LoseReply,
+    /// The card answers, and the answer comes with flipped bits, none of them the OCR's of an R3.
+    FlipReply(Flips),
     /// A block that is read comes with a bad check.
     BadBlock,
     /// A block that is read doesn't come.
@@ -37,6 +39,8 @@ pub enum Fault {
     LoseStatus(Outcome),
     /// Programming of a write, erase or trim fails at a poll.
     Fail(Outcome),
+    /// A poll of a busy card is answered yes. It counts as a fault from the ninth yes of one busy time on.
+    Busy,
     /// The power fails: no answer, and then the card is as after CMD0.
     Brownout(Outcome),
 }

@@ -1,8 +1,6 @@
-// What the card behind `PlainCard` does in a fault: a function for each row of the card relation that leaves the card otherwise than
-// a faithful step.
-ghost use Rattle.std.specs.Prelude.{◌≡◌, false, true};
-ghost use Rattle.mmc_frame.specs.declared.card_state.State.TheVariants.{Prg};
-ghost use Rattle.mmc_card.specs.Card.{is_in};
+// What the card in memory does in a fault: a function for each row of the card relation that leaves the card otherwise than a
+// faithful step.
+ghost use Rattle.std.specs.Prelude.{◌≡◌, false};
 ghost use Rattle.mmc_card_sim.specs.Store.{lands_by};
 
 use crate::chip::Chip;
@@ -14,14 +12,15 @@ impl Chip {
     ghost use Rattle.mmc_card.specs.Blocks.{programmed, rejected};
     ghost use Rattle.mmc_card.specs.CardAnswer.{garbled, raised, reset};
     ghost use Rattle.mmc_card.specs.ErrorBits.{general_error};
-    ghost use Rattle.mmc_card_sim.specs.PlainCard.{card_of};
+    ghost use Rattle.mmc_card_sim.specs.Chip.{card_of};
 
-    /// A command with a bad check: the card notes that, and drops a preset count, which it never has.
+    /// A command with a bad check: the card notes that, and drops a preset count.
     #[tactic(auto, using(mmc_card::proofs::Cards::among_more))]
     pub fn garble(&mut self)
         ensures { card_of self.new ≡ garbled false (card_of self.old) }
     {
         self.command_errors |= COM_CRC_ERROR;
+        self.count = 0;
     }
 
     /// A block is rejected: a write of one block is over then.
@@ -36,12 +35,12 @@ impl Chip {
 
     /// Programming of a write or an erase fails.
     pub fn fail(&mut self, outcome: Outcome)
-        requires { is_in self.old.state Prg ≡ true }
         ensures { card_of self.new ≡ raised general_error (programmed (lands_by outcome) (card_of self.old)) }
     {
-        self.store.settle(outcome);
+        self.store.settle(self.part, outcome);
         self.state = State::Tran;
         self.is_busy = false;
+        self.polled = 0;
         self.raise(GENERAL_ERROR);
     }
 
@@ -49,7 +48,7 @@ impl Chip {
     pub fn lose_power(&mut self, outcome: Outcome)
         ensures { card_of self.new ≡ reset (lands_by outcome) (card_of self.old) }
     {
-        self.store.settle(outcome);
+        self.store.settle(self.part, outcome);
         self.start_over();
     }
 }

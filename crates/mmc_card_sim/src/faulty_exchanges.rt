@@ -1,41 +1,50 @@
-// The exchanges of the card in memory, each with the fault that is planned for it, if any. A fault falls where it fits its exchange;
-// otherwise the exchange is a faithful step. Each answers beside its result whether the fault fell.
+// The exchanges of the card in memory, each with the fault that is planned for it, if any. A fault falls where it fits its
+// exchange; otherwise the exchange is a faithful step. Each answers beside its result whether the fault fell.
 ghost use Rattle.std.specs.Prelude.{◌≡◌, Some, length};
-ghost use Rattle.mmc_card_sim.specs.declared.fault.Fault.TheVariants.{LoseReply};
-ghost use Rattle.mmc_card_sim.specs.FaultyExchanges.{is_flip};
+ghost use Rattle.mmc_card_sim.specs.declared.fault.Fault.TheVariants.{FlipReply, LoseReply};
 
+use crate::answer::Answer;
 use crate::chip::Chip;
+use crate::delays::Delays;
 use crate::fault::{Fault, Flips, Outcome};
+use crate::flip::{can_flip, heard_flipped, is_flip};
 use mmc_card::{DataIn, DataOut, Lines, Reply};
 use mmc_frame::State;
 
-// Whether these are one or two positions in a frame of so many bits.
-fn is_flip(flips: Flips, bits: u8) -> bool
-    ensures { result ≡ is_flip flips bits }
-{
-    match flips.second {
-        Some(second) => flips.first < bits && second < bits && flips.first != second,
-        None => flips.first < bits,
-    }
-}
-
 impl Chip {
-    ghost use Rattle.mmc_card_sim.specs.FaultyExchanges.{Commands, Polls, Reads, Writes};
-    ghost use Rattle.mmc_card_sim.specs.PlainCard.{card_of};
+    ghost use Rattle.mmc_card_sim.specs.FaultyExchanges.{Commands, Polls, Reads, Spoils, Writes, is_slow_at};
+    ghost use Rattle.mmc_card_sim.specs.Chip.{card_of};
 
-    // The response to a command, which may be lost on the way.
-    fn command_unheard(&mut self, frame: &[u8; 6]) -> (Reply, bool)
-        ensures { Commands (Some LoseReply) (card_of self.old) frame.now result.0 result.1 (card_of self.new) }
+    // The response to a command, which is lost on the way.
+    fn command_unheard(&mut self, delays: Delays, frame: &[u8; 6]) -> (Reply, bool)
+        ensures { Commands (Some LoseReply) delays (card_of self.old) frame.now result.0 result.1 (card_of self.new) }
     {
-        match self.command(frame) {
-            Reply::Silent => (Reply::Silent, false),
+        match self.command(delays.ready, frame) {
+            Answer::Silent => (Reply::Silent, false),
             _ => (Reply::Silent, true),
         }
     }
 
+    // The response to a command, of which bits are flipped on the way.
+    fn command_flipped(&mut self, delays: Delays, frame: &[u8; 6], flips: Flips) -> (Reply, bool)
+        ensures { Commands (Some (FlipReply flips)) delays (card_of self.old) frame.now result.0 result.1 (card_of self.new) }
+    {
+        let answer = self.command(delays.ready, frame);
+        if can_flip(flips, answer) {
+            (heard_flipped(answer, flips), true)
+        } else {
+            (answer.spelled(), false)
+        }
+    }
+
     /// The response to a command.
-    pub fn faulty_command(&mut self, fault: Option<Fault>, frame: &[u8; 6]) -> (Reply, bool)
-        ensures { Commands fault (card_of self.old) frame.now result.0 result.1 (card_of self.new) }
+    pub fn faulty_command(
+        &mut self,
+        fault: Option<Fault>,
+        delays: Delays,
+        frame: &[u8; 6],
+    ) -> (Reply, bool)
+        ensures { Commands fault delays (card_of self.old) frame.now result.0 result.1 (card_of self.new) }
     {
         match fault {
             Some(Fault::LoseCommand) => (Reply::Silent, true),
@@ -43,12 +52,23 @@ impl Chip {
                 self.garble();
                 (Reply::Silent, true)
             }
-            Some(Fault::LoseReply) => self.command_unheard(frame),
+            Some(Fault::LoseReply) => self.command_unheard(delays, frame),
+            Some(Fault::FlipReply(flips)) => self.command_flipped(delays, frame, flips),
             Some(Fault::Brownout(outcome)) => {
                 self.lose_power(outcome);
                 (Reply::Silent, true)
             }
-            _ => (self.command(frame), false),
+            _ => (self.command(delays.ready, frame).spelled(), false),
+        }
+    }
+
+    // A block that the host reads, which comes otherwise if the card sends one.
+    fn send_spoiled(&mut self, comes: DataIn, lines: Lines, buffer: &mut [u8]) -> (DataIn, bool)
+        ensures { Spoils comes (card_of self.old) lines (length buffer.old) result.0 buffer.new result.1 (card_of self.new) }
+    {
+        match self.send(lines, buffer) {
+            DataIn::Good => (comes, true),
+            got => (got, false),
         }
     }
 
@@ -61,15 +81,14 @@ impl Chip {
     ) -> (DataIn, bool)
         ensures { Reads fault (card_of self.old) lines (length buffer.old) result.0 buffer.new result.1 (card_of self.new) }
     {
-        if let Some(Fault::Brownout(outcome)) = fault {
-            self.lose_power(outcome);
-            return (DataIn::Nothing, true);
-        }
-        let got = self.send(lines, buffer);
-        match (fault, got) {
-            (Some(Fault::BadBlock), DataIn::Good) => (DataIn::Bad, true),
-            (Some(Fault::NoBlock), DataIn::Good) => (DataIn::Nothing, true),
-            _ => (got, false),
+        match fault {
+            Some(Fault::BadBlock) => self.send_spoiled(DataIn::Bad, lines, buffer),
+            Some(Fault::NoBlock) => self.send_spoiled(DataIn::Nothing, lines, buffer),
+            Some(Fault::Brownout(outcome)) => {
+                self.lose_power(outcome);
+                (DataIn::Nothing, true)
+            }
+            _ => (self.send(lines, buffer), false),
         }
     }
 
@@ -103,22 +122,34 @@ impl Chip {
         }
     }
 
-    /// A poll, which is answered no. Whether a fault fell.
-    pub fn faulty_poll(&mut self, fault: Option<Fault>) -> bool
-        ensures { Polls fault (card_of self.old) result (card_of self.new) }
+    // Whether the card is slow at this poll.
+    fn is_slow_at(&self, fault: Option<Fault>, delays: Delays) -> bool
+        ensures { result ≡ is_slow_at fault delays (card_of self.now) }
+    {
+        let is_planned = matches!(fault, Some(Fault::Busy));
+        self.polled < delays.busy || is_planned && self.polled < 8
+    }
+
+    /// A poll: whether the card is busy.
+    pub fn faulty_poll(&mut self, fault: Option<Fault>, delays: Delays) -> (bool, bool)
+        ensures { Polls fault delays (card_of self.old) result.0 result.1 (card_of self.new) }
     {
         match fault {
-            Some(Fault::Fail(outcome)) if self.is_in(State::Prg) => {
+            Some(Fault::Fail(outcome)) if self.is_in(State::Prg) && !self.is_switching => {
                 self.fail(outcome);
-                true
+                (false, true)
+            }
+            Some(Fault::Busy) if self.is_busy && self.polled >= 8 => {
+                self.wait();
+                (true, true)
             }
             Some(Fault::Brownout(outcome)) => {
                 self.lose_power(outcome);
-                true
+                (false, true)
             }
             _ => {
-                self.end_busy();
-                false
+                let is_slow = self.is_slow_at(fault, delays);
+                (self.poll(is_slow), false)
             }
         }
     }

@@ -1,79 +1,112 @@
-// What the card behind `PlainCard` does with the commands of identification (SD Physical Layer 6.00, section 4.2), each in a
-// state where it is legal.
-ghost use Rattle.std.specs.Prelude.{◌≡◌, true, ℕ};
-ghost use Rattle.mmc_frame.specs.declared.card_state.State.TheVariants.{Idle};
-ghost use Rattle.mmc_card.specs.Card.{is_in};
+// What the card in memory does with the commands of identification (SD Physical Layer 6.00, section 4.2; JESD84-B51, section
+// 6.4), each where it is legal.
+ghost use Rattle.std.specs.Prelude.{◌≡◌, false, not};
 
-use crate::chip::{Addresses, Chip};
-use mmc_card::{Reply, Width};
-use mmc_frame::commands::{APP_CMD, SELECT_CARD, SEND_RELATIVE_ADDR};
-use mmc_frame::{State, encode_r2, encode_r3, encode_response};
-
-// The registers, and the RCA that the card publishes.
-const OCR: u32 = 0x00ff_8000;
-
-const CID: [u8; 16] = [0, 0, 0, 0, 0, 0, 0, 0, 0, 0, 0, 0, 0, 0, 0, 1];
-
-const CSD: [u8; 16] = [0, 0, 0, 0, 0, 9, 0, 0, 0, 0, 0x40, 0, 2, 0x40, 0, 0x9b];
-
-const RCA: u32 = 1;
+use crate::answer::Answer;
+use crate::chip::{Addresses, Chip, Source, first_rca};
+use mmc_card::{Part, Timing, Width};
+use mmc_frame::State;
+use mmc_frame::commands::{APP_CMD, SELECT_CARD, SEND_IF_COND, SEND_RELATIVE_ADDR};
+use mmc_regs::Ocr;
 
 // Bit 31 of an OCR: the card is ready.
 const IS_READY: u32 = 0x8000_0000;
 
-impl Chip {
-    ghost use Rattle.mmc_card.specs.CardAnswer.{Checked, r6_argument};
-    ghost use Rattle.mmc_card_sim.specs.PlainCard.{Answers, calm, card_of};
-    ghost use Rattle.mmc_card.specs.Card.{powered_on};
-    ghost use Rattle.mmc_card.specs.RowsIdentify.{all_send_cid, app_cmd, go_idle_state, sd_send_op_cond, select_card, send_csd, send_relative_addr};
+// Bit 30 of the argument of ACMD41, HCS: the host knows sector addresses.
+const HCS: u32 = 0x4000_0000;
 
-    /// All but the sectors is as after power on; what was unfinished is over.
+impl Chip {
+    ghost use Rattle.mmc_card.specs.CardAnswer.{busied, r6_argument};
+    ghost use Rattle.mmc_card.specs.Card.{powered_on};
+    ghost use Rattle.mmc_card.specs.RowsIdentify.{all_send_cid, app_cmd, go_idle_state, inquired, is_served, sd_send_op_cond, select_card, send_csd, send_if_cond, send_op_cond, send_relative_addr, set_relative_addr};
+    ghost use Rattle.mmc_card_sim.specs.Chip.{Answers, card_of, choice_of, inquiry_choice};
+
+    /// All but the sectors and the block length is as after power on; what was unfinished is over.
     pub fn start_over(&mut self)
-        ensures { card_of self.new ≡ record (powered_on (card_of self.old).made (card_of self.old).sectors) { block_length = 512 } }
+        ensures { card_of self.new ≡ record (powered_on (card_of self.old).made (card_of self.old).sectors) { block_length = (card_of self.old).block_length } }
     {
         self.store.begin(0);
         self.state = State::Idle;
-        self.rca = 0;
+        self.rca = first_rca(self.registers.kind());
+        self.part = Part::User;
         self.width = Width::One;
+        self.timing = Timing::Default;
+        self.erase_group_def = 0;
+        self.count = 0;
         self.is_app = false;
         self.addresses = Addresses::None;
         self.command_errors = 0;
         self.errors = 0;
+        self.has_switch_error = false;
         self.inquiries = 0;
         self.is_busy = false;
-        self.sends_scr = false;
+        self.polled = 0;
+        self.source = Source::Sectors;
         self.next = 0;
         self.left = None;
         self.is_single = false;
+        self.is_switching = false;
     }
 
-    /// CMD0.
-    pub fn go_idle_state(&mut self) -> Reply
-        ensures { Answers (go_idle_state calm (card_of self.old)) self.new result }
+    /// CMD0: what was unfinished has landed.
+    pub fn go_idle_state(&mut self) -> Answer
+        ensures { Answers (go_idle_state (choice_of false) (card_of self.old)) self.new result }
     {
-        self.store.land();
+        self.store.land(self.part);
         self.start_over();
-        Reply::Silent
+        Answer::Silent
     }
 
-    /// ACMD41: the card is ready at once.
-    pub fn sd_send_op_cond(&mut self) -> Reply
-        requires { is_in self.old.state Idle ≡ true }
-        ensures { (argument : ℕ) → Answers (sd_send_op_cond calm (card_of self.old) argument) self.new result }
+    // A readiness inquiry.
+    fn inquire(&mut self, is_ready: bool) -> Answer
+        ensures { Answers (inquired is_ready (card_of self.old)) self.new result }
     {
         self.finish();
+        self.inquiries = (self.inquiries + 1).min(8);
+        if !is_ready {
+            return Answer::R3(self.registers.ocr);
+        }
         self.state = State::Ready;
-        self.inquiries += 1;
-        Reply::Short(encode_r3(IS_READY + OCR))
+        Answer::R3(IS_READY + self.registers.ocr)
+    }
+
+    // Whether the card has been asked often enough.
+    fn is_ready(&self, ready: u8) -> bool
+        ensures { not result ≡ (inquiry_choice ready (card_of self.now)).is_slow }
+    {
+        self.inquiries >= ready
+    }
+
+    /// CMD1 of eMMC.
+    pub fn send_op_cond(&mut self, ready: u8) -> Answer
+        ensures { Answers (send_op_cond (inquiry_choice ready (card_of self.old)) (card_of self.old)) self.new result }
+    {
+        let is_ready = self.is_ready(ready);
+        self.inquire(is_ready)
+    }
+
+    // Whether the card becomes ready for such a host: one with sector addresses wants HCS.
+    fn is_served(&self, argument: u32) -> bool
+        ensures { result ≡ is_served (card_of self.now) argument }
+    {
+        !Ocr::new(self.registers.ocr).has_sector_addresses() || argument / HCS % 2 == 1
+    }
+
+    /// ACMD41.
+    pub fn sd_send_op_cond(&mut self, ready: u8, argument: u32) -> Answer
+        ensures { Answers (sd_send_op_cond (inquiry_choice ready (card_of self.old)) (card_of self.old) argument) self.new result }
+    {
+        let is_ready = self.is_served(argument) && self.is_ready(ready);
+        self.inquire(is_ready)
     }
 
     /// CMD2.
-    pub fn all_send_cid(&mut self) -> Reply
+    pub fn all_send_cid(&mut self) -> Answer
         ensures { Answers (all_send_cid (card_of self.old)) self.new result }
     {
         self.finish();
         self.state = State::Ident;
-        Reply::Long(encode_r2(&CID))
+        Answer::R2(self.registers.cid)
     }
 
     // The argument of an R6: the RCA, and some bits of the status.
@@ -81,47 +114,82 @@ impl Chip {
         ensures { result ≡ r6_argument (card_of self.now) }
     {
         let status = self.status(false);
-        0x1_0000 * RCA
+        0x1_0000 * u32::from(self.registers.published())
             + 0x4000 * (status / 0x40_0000 % 4)
             + 0x2000 * (status / 0x8_0000 % 2)
             + status % 0x2000
     }
 
-    /// CMD3.
-    pub fn send_relative_addr(&mut self) -> Reply
+    /// CMD3 of SD: the card publishes its RCA.
+    pub fn send_relative_addr(&mut self) -> Answer
         ensures { Answers (send_relative_addr (card_of self.old)) self.new result }
     {
         let argument = self.r6_argument();
         self.clear_errors();
         self.state = State::Stby;
-        self.rca = RCA;
-        Reply::Short(encode_response(SEND_RELATIVE_ADDR, argument))
+        self.rca = self.registers.published();
+        Answer::Checked {
+            index: SEND_RELATIVE_ADDR,
+            argument,
+        }
+    }
+
+    /// CMD3 of eMMC: the host assigns an RCA.
+    pub fn set_relative_addr(&mut self, argument: u32) -> Answer
+        ensures { Answers (set_relative_addr (card_of self.old) argument) self.new result }
+    {
+        let answer = self.respond_status(SEND_RELATIVE_ADDR, false);
+        self.state = State::Stby;
+        self.rca = (argument / 0x1_0000) as u16;
+        answer
+    }
+
+    /// The card is busy until the poll that it answers no.
+    pub fn make_busy(&mut self)
+        ensures { card_of self.new ≡ busied (card_of self.old) }
+    {
+        self.is_busy = true;
+        self.polled = 0;
     }
 
     /// CMD7: the card is busy after it.
-    pub fn select_card(&mut self) -> Reply
+    pub fn select_card(&mut self) -> Answer
         ensures { Answers (select_card (card_of self.old)) self.new result }
     {
-        let reply = self.respond_status(SELECT_CARD, false);
+        let answer = self.respond_status(SELECT_CARD, false);
+        self.make_busy();
         self.state = State::Tran;
-        self.is_busy = true;
-        reply
+        answer
+    }
+
+    /// CMD8 of SD: the card repeats voltage and pattern, for 2.7 to 3.6 V alone.
+    pub fn send_if_cond(&mut self, argument: u32) -> Answer
+        ensures { Answers (send_if_cond (card_of self.old) argument) self.new result }
+    {
+        self.finish();
+        if argument / 0x100 % 16 != 1 {
+            return Answer::Silent;
+        }
+        Answer::Checked {
+            index: SEND_IF_COND,
+            argument: argument % 0x1000,
+        }
     }
 
     /// CMD9.
-    pub fn send_csd(&mut self) -> Reply
+    pub fn send_csd(&mut self) -> Answer
         ensures { Answers (send_csd (card_of self.old)) self.new result }
     {
         self.finish();
-        Reply::Long(encode_r2(&CSD))
+        Answer::R2(self.registers.csd)
     }
 
-    /// CMD55: the next command is an application command.
-    pub fn app_cmd(&mut self) -> Reply
+    /// CMD55 of SD: the next command is an application command.
+    pub fn app_cmd(&mut self) -> Answer
         ensures { Answers (app_cmd (card_of self.old)) self.new result }
     {
-        let reply = self.respond_status(APP_CMD, true);
+        let answer = self.respond_status(APP_CMD, true);
         self.is_app = true;
-        reply
+        answer
     }
 }

@@ -1,30 +1,49 @@
-//! A card in memory, which is always kept to the card relation.
+//! A card in memory of any kind, which is always kept to the card relation, with the faults that are planned.
 #![tactic(auto)]
 
+mod answer;
 mod block_rows;
 mod chip;
 mod command;
+mod delays;
 mod erase_rows;
 mod error_bits;
 mod fault;
 mod fault_rows;
 mod faulty_exchanges;
+mod flip;
 mod identify_rows;
+mod judging;
 mod plain;
 mod plan;
+mod registers;
 mod sim_card;
+mod spec;
 mod store;
+mod switch_rows;
 mod transfer_rows;
 
 pub use fault::{Fault, Flips, Outcome};
 pub use plain::PlainCard;
 pub use plan::{MAX_PLANNED, Plan, PlanFault, Planned};
+pub use registers::{KindRegisters, MmcRegisters, Registers, SdRegisters};
 pub use sim_card::SimCard;
+pub use spec::{BuildFault, CardSpec};
 pub use store::MAX_SECTORS;
 
 #[cfg(test)]
+mod build_tests;
+#[cfg(test)]
+mod card_tests;
+#[cfg(test)]
+mod fault_tests;
+#[cfg(test)]
+mod flip_tests;
+#[cfg(test)]
+mod opening_tests;
+#[cfg(test)]
 mod plan_tests;
 #[cfg(test)]
-mod sim_tests;
+mod spec_tests;
 #[cfg(test)]
-mod tests;
+mod test_cards;

@@ -1,15 +1,18 @@
-// A card in memory that has the faults that are planned.
+// A card in memory of any kind, that has the faults that are planned.
 ghost use Rattle.std.specs.Prelude.{◌+◌, ◌-◌, ◌<◌, ◌==◌, ◌^◌, ◌≡◌, ◌≤◌, IfErr, IfOk, IsOk, None, OnErr, Some, [], if◌then◌else◌, length, true, ℕ};
 ghost use Rattle.mmc_card_sim.specs.Plan.{fault_at, refusal_of};
 ghost use Rattle.mmc_card_sim.specs.FaultyExchanges.{Commands, Polls, Reads, Writes, fits_command, fits_poll, fits_read, fits_write};
 ghost use Rattle.mmc_card_sim.specs.SimView.{planned_fault, sim_bus_view};
-ghost use Rattle.mmc_card_sim.specs.declared.store.TheConstants.{MAX_SECTORS};
 
 use crate::chip::Chip;
+use crate::delays::Delays;
 use crate::fault::Fault;
+use crate::judging::judge;
 use crate::plan::{Plan, PlanFault};
-use mmc_bus::{Bus, NoMemory, Wire};
-use mmc_card::{DataIn, DataOut, Exchange, Reply, Timing, Want, Width, laws};
+use crate::spec::{BuildFault, CardSpec};
+use crate::store::Store;
+use mmc_bus::{Bus, Wire};
+use mmc_card::{DataIn, DataOut, Exchange, Part, Reply, Timing, Want, Width, laws};
 use std::alloc::Global;
 use std::marker::Model;
 
@@ -21,49 +24,92 @@ fn counted(faults: u64, fell: bool) -> u64
     if fell { faults + 1 } else { faults }
 }
 
-/// The card of `PlainCard`, with the faults that are planned for its exchanges: each falls in its exchange where it fits, and is
+/// A card of any kind, with the faults that are planned for its exchanges: each falls in its exchange where it fits, and is
 /// counted; where it doesn't fit nothing comes of it.
 #[derive(Debug, Drop)]
 pub struct SimCard {
     chip: Chip,
+    delays: Delays,
     wire: Wire,
     plan: Plan,
     faults: u64,
 }
 
 impl Model for SimCard {
-    ghost use Rattle.mmc_card_sim.specs.PlainCard.{card_of};
+    ghost use Rattle.mmc_card_sim.specs.Chip.{card_of};
     ghost use Rattle.mmc_card_sim.specs.SimView.{SimOk, SimView};
 
     ghost Value = { SimView };
 
-    ghost view = { λ sim. record { card = card_of sim.chip; wire = sim.wire; plan = sim.plan; faults = sim.faults } };
+    ghost view = { λ sim. record { card = card_of sim.chip; delays = sim.delays; wire = sim.wire; plan = sim.plan; faults = sim.faults } };
 
-    ghost invariant = { λ sim. SimOk (card_of sim.chip) sim.wire.exchanges sim.plan sim.faults };
+    ghost invariant = { λ sim. SimOk (record { card = card_of sim.chip; delays = sim.delays; wire = sim.wire; plan = sim.plan; faults = sim.faults }) };
 }
 
 impl SimCard {
-    ghost use Rattle.mmc_card_sim.specs.PlainCard.{new_plain_card};
+    ghost use Rattle.mmc_bus.specs.Exchanges.{Commanded, DataRead, DataWritten, Polled};
     ghost use Rattle.mmc_bus.specs.Wires.{IsUnused};
+    ghost use Rattle.mmc_card.specs.Card.{HasItsSizes, IsCard, powered_on, stored};
+    ghost use Rattle.mmc_card_sim.specs.Chip.{card_of};
+    ghost use Rattle.mmc_card_sim.specs.CardSpec.{IsRefusal, refusal_of as spec_refusal};
+    ghost use Rattle.mmc_card_sim.specs.Registers.{made_of};
+    ghost use Rattle.mmc_card_sim.specs.SimView.{first_parts};
+    ghost use Rattle.mmc_card_sim.specs.Store.{bytes_of};
 
-    /// A plain card of this many sectors, from 1 to `MAX_SECTORS`, that are all 00h, without a planned fault.
-    ///
-    /// # Errors
-    /// `NoMemory` where the room for the sectors is refused.
-    pub fn plain(alloc: Global, sectors: usize) -> Result<SimCard, NoMemory>
-        requires some { 1 ≤ sectors }
-        requires few { sectors ≤ MAX_SECTORS }
-        ensures card { IfOk result (λ sim. sim.card ≡ new_plain_card sectors) }
-        ensures unused { IfOk result (λ sim. IsUnused (sim_bus_view sim)) }
-        ensures plan { IfOk result (λ sim. sim.plan ≡ []) }
+    /// This card, before any exchange and without a planned fault.
+    pub fn unused(chip: Chip, delays: Delays) -> SimCard
+        requires card { IsCard (card_of chip) }
+        requires soon_ready { delays.ready ≤ 8 }
+        requires soon_rested { delays.busy ≤ 8 }
+        ensures card { result.card ≡ card_of chip }
+        ensures delays { result.delays ≡ delays }
+        ensures unused { IsUnused (sim_bus_view result) }
+        ensures plan { result.plan ≡ [] }
     {
-        laws::the_plain_card_is_in_profile();
-        Ok(SimCard {
-            chip: Chip::new(alloc, sectors)?,
+        SimCard {
+            chip,
+            delays,
             wire: Wire::new(),
             plan: Plan::new(),
             faults: 0,
-        })
+        }
+    }
+
+    /// The card of this spec, after power on, without a planned fault.
+    ///
+    /// # Errors
+    /// The first that holds: `Register` or `ImageSize`, as said there, and `NoMemory` where the room for the sectors is
+    /// refused.
+    pub fn build(alloc: Global, spec: CardSpec) -> Result<SimCard, BuildFault>
+        ensures refused { IfErr result (λ why. IsRefusal spec why) }
+        ensures taken { IsOk result → spec_refusal spec ≡ None }
+        ensures card { IfOk result (λ sim. sim.card ≡ powered_on (made_of spec.registers) (first_parts spec)) }
+        ensures sizes { IfOk result (λ sim. HasItsSizes sim.card) }
+        ensures delays { IfOk result (λ sim. sim.delays ≡ record { ready = spec.ready; busy = spec.busy }) }
+        ensures unused { IfOk result (λ sim. IsUnused (sim_bus_view sim)) }
+        ensures plan { IfOk result (λ sim. sim.plan ≡ []) }
+    {
+        laws::a_card_after_power_on_is_one();
+        let judged = judge(&spec)?;
+        let CardSpec {
+            registers,
+            ready,
+            busy,
+            image,
+            ..
+        } = spec;
+        let erased = registers.erased_byte();
+        let Ok(store) = Store::new(alloc, judged.sizes, &image, erased) else {
+            return Err(BuildFault::NoMemory);
+        };
+        let chip = Chip::powered_on(
+            registers,
+            judged.erase_unit,
+            judged.is_read_only,
+            judged.block_length,
+            store,
+        );
+        Ok(SimCard::unused(chip, Delays { ready, busy }))
     }
 
     /// How many exchanges were made; the number stays at 2^64 - 1.
@@ -80,6 +126,13 @@ impl SimCard {
         self.faults
     }
 
+    /// The bytes of a partition, 512 a sector; of a write, erase or trim that is unfinished the old ones.
+    pub fn contents(&self, part: Part) -> &[u8]
+        ensures { result.now ≡ bytes_of (stored self.now.card part) }
+    {
+        self.chip.store.contents(part)
+    }
+
     /// Plans a fault for an exchange, counted from 0; a second one for the same exchange replaces the first.
     ///
     /// # Errors
@@ -93,31 +146,29 @@ impl SimCard {
     {
         self.plan.plan(exchange, fault, self.wire.exchanges)
     }
-}
 
-impl Bus for SimCard {
-    ghost use Rattle.mmc_bus.specs.Exchanges.{Commanded, DataRead, DataWritten, Polled, SetsLines};
-
-    ghost view = { sim_bus_view };
-
-    fn command(&mut self, frame: [u8; 6], want: Want) -> Reply
+    /// Sends a command, and gives what came back, whatever response is wanted.
+    pub fn command(&mut self, frame: [u8; 6], want: Want) -> Reply
         ensures exchanged { Commanded (sim_bus_view self.old) frame result (sim_bus_view self.new) }
-        ensures does { Commands (planned_fault self.old) self.old.card frame result (fits_command (planned_fault self.old) self.old.card frame) self.new.card }
-        ensures counts { self.new.faults ≡ (if fits_command (planned_fault self.old) self.old.card frame then self.old.faults + 1 else self.old.faults) }
+        ensures does { Commands (planned_fault self.old) self.old.delays self.old.card frame result (fits_command (planned_fault self.old) self.old.delays self.old.card frame) self.new.card }
+        ensures counts { self.new.faults ≡ (if fits_command (planned_fault self.old) self.old.delays self.old.card frame then self.old.faults + 1 else self.old.faults) }
+        ensures delays { self.new.delays ≡ self.old.delays }
         ensures plan { self.new.plan ≡ self.old.plan }
     {
         let _ = want;
         let fault = self.plan.fault(self.wire.exchanges);
-        let (reply, fell) = self.chip.faulty_command(fault, &frame);
+        let (reply, fell) = self.chip.faulty_command(fault, self.delays, &frame);
         self.faults = counted(self.faults, fell);
         self.wire.note(Exchange::Command { frame, reply });
         reply
     }
 
-    fn read_data(&mut self, buffer: &mut [u8]) -> DataIn
+    /// Reads a block of the buffer's length.
+    pub fn read_data(&mut self, buffer: &mut [u8]) -> DataIn
         ensures exchanged { DataRead (sim_bus_view self.old) (length buffer.old) result buffer.new (sim_bus_view self.new) }
         ensures does { Reads (planned_fault self.old) self.old.card self.old.wire.lines (length buffer.old) result buffer.new (fits_read (planned_fault self.old) self.old.card self.old.wire.lines (length buffer.old)) self.new.card }
         ensures counts { self.new.faults ≡ (if fits_read (planned_fault self.old) self.old.card self.old.wire.lines (length buffer.old) then self.old.faults + 1 else self.old.faults) }
+        ensures delays { self.new.delays ≡ self.old.delays }
         ensures plan { self.new.plan ≡ self.old.plan }
     {
         let fault = self.plan.fault(self.wire.exchanges);
@@ -128,10 +179,12 @@ impl Bus for SimCard {
         got
     }
 
-    fn write_data(&mut self, block: &[u8; 512]) -> DataOut
+    /// Writes a block.
+    pub fn write_data(&mut self, block: &[u8; 512]) -> DataOut
         ensures exchanged { DataWritten (sim_bus_view self.old) block.now result (sim_bus_view self.new) }
         ensures does { Writes (planned_fault self.old) self.old.card self.old.wire.lines block.now result (fits_write (planned_fault self.old) self.old.card self.old.wire.lines) self.new.card }
         ensures counts { self.new.faults ≡ (if fits_write (planned_fault self.old) self.old.card self.old.wire.lines then self.old.faults + 1 else self.old.faults) }
+        ensures delays { self.new.delays ≡ self.old.delays }
         ensures plan { self.new.plan ≡ self.old.plan }
     {
         let fault = self.plan.fault(self.wire.exchanges);
@@ -141,22 +194,55 @@ impl Bus for SimCard {
         got
     }
 
-    fn busy(&mut self) -> bool
+    /// Polls the card: whether it is busy.
+    pub fn busy(&mut self) -> bool
         ensures exchanged { Polled (sim_bus_view self.old) result (sim_bus_view self.new) }
-        ensures does { Polls (planned_fault self.old) self.old.card (fits_poll (planned_fault self.old) self.old.card) self.new.card }
+        ensures does { Polls (planned_fault self.old) self.old.delays self.old.card result (fits_poll (planned_fault self.old) self.old.card) self.new.card }
         ensures counts { self.new.faults ≡ (if fits_poll (planned_fault self.old) self.old.card then self.old.faults + 1 else self.old.faults) }
+        ensures delays { self.new.delays ≡ self.old.delays }
         ensures plan { self.new.plan ≡ self.old.plan }
     {
         let fault = self.plan.fault(self.wire.exchanges);
-        let fell = self.chip.faulty_poll(fault);
+        let (yes, fell) = self.chip.faulty_poll(fault, self.delays);
         self.faults = counted(self.faults, fell);
-        self.wire.note(Exchange::Busy { yes: false });
-        false
+        self.wire.note(Exchange::Busy { yes });
+        yes
+    }
+}
+
+impl Bus for SimCard {
+    ghost use Rattle.mmc_bus.specs.Exchanges.{Commanded, DataRead, DataWritten, Polled, SetsLines};
+
+    ghost view = { sim_bus_view };
+
+    fn command(&mut self, frame: [u8; 6], want: Want) -> Reply
+        ensures { Commanded (sim_bus_view self.old) frame result (sim_bus_view self.new) }
+    {
+        SimCard::command(self, frame, want)
+    }
+
+    fn read_data(&mut self, buffer: &mut [u8]) -> DataIn
+        ensures { DataRead (sim_bus_view self.old) (length buffer.old) result buffer.new (sim_bus_view self.new) }
+    {
+        SimCard::read_data(self, buffer)
+    }
+
+    fn write_data(&mut self, block: &[u8; 512]) -> DataOut
+        ensures { DataWritten (sim_bus_view self.old) block.now result (sim_bus_view self.new) }
+    {
+        SimCard::write_data(self, block)
+    }
+
+    fn busy(&mut self) -> bool
+        ensures { Polled (sim_bus_view self.old) result (sim_bus_view self.new) }
+    {
+        SimCard::busy(self)
     }
 
     fn set_lines(&mut self, width: Width, timing: Timing)
         ensures set { SetsLines (sim_bus_view self.old) width timing (sim_bus_view self.new) }
         ensures plan { self.new.plan ≡ self.old.plan }
+        ensures delays { self.new.delays ≡ self.old.delays }
     {
         self.wire.set_lines(width, timing);
     }

@@ -1,93 +1,180 @@
 // The sectors of a card in memory, and the write or erase of them that is unfinished.
-ghost use Rattle.std.specs.Prelude.{◌+◌, ◌++◌, ◌<◌, ◌∷◌, ◌≡◌, ◌≤◌, IfOk, [], length, nat_lt, replicate, slice_set, take, true};
-ghost use Rattle.mmc_card.specs.Card.{landed_in};
+ghost use Rattle.std.specs.Prelude.{◌*◌, ◌+◌, ◌++◌, ◌/◌, ◌<◌, ◌^◌, ◌∷◌, ◌≡◌, ◌≤◌, IfOk, IfSome, None, Some, [], if◌then◌else◌, length, nat_lt, replicate, slice_index_or, slice_set, take, true};
+ghost use Rattle.mmc_card.specs.Sectors.{part_number, pieces};
+ghost use Rattle.mmc_card_sim.specs.Sizes.{total};
 ghost use Rattle.mmc_card_sim.specs.declared.store.TheConstants.{MAX_SECTORS};
 
 use crate::fault::Outcome;
-use mmc_bus::NoMemory;
+use mmc_bus::{Bytes, NoMemory};
+use mmc_card::Part;
 use std::alloc::Global;
 
-/// The most sectors that a plain card may have.
+/// The most sectors that a card in memory may have, in all its partitions together.
 pub const MAX_SECTORS: usize = 65_536;
 
 /// The sectors of a card, as they were before the write or erase that is unfinished, and its new values so far.
 #[derive(Debug, Drop)]
 pub struct Store {
-    pub sectors: Vec<[u8; 512]>,
-    // The first sector of what is unfinished, and its new values: the first `count` of these.
-    pub start: u32,
-    pub new_values: Vec<[u8; 512]>,
-    pub count: usize,
-    pub ghost few: { length sectors.items ≤ MAX_SECTORS },
-    pub ghost room: { length new_values.items ≡ length sectors.items },
-    pub ghost counted: { count ≤ length new_values.items },
+    // The partitions one behind the other, in the order of `Part`, and how many sectors each has.
+    sectors: Vec<[u8; 512]>,
+    sizes: [usize; 7],
+    // The first sector of what is unfinished, counted in its partition, and its new values: the first `count` of these.
+    start: usize,
+    new_values: Vec<[u8; 512]>,
+    count: usize,
+    ghost few: { length sectors.items ≤ MAX_SECTORS },
+    ghost whole: { total sizes ≡ length sectors.items },
+    ghost room: { length new_values.items ≡ length sectors.items },
+    ghost counted: { count ≤ length new_values.items },
 }
 
-// So many blocks that are all 00h.
-#[tactic(auto, using(std::proofs::lemmas::Grind::replicate_next))]
-fn blank_blocks(alloc: Global, count: usize) -> Result<Vec<[u8; 512]>, NoMemory>
-    ensures { IfOk result (λ blocks. blocks.items ≡ replicate count (replicate 512 0)) }
+// The place of a partition among the seven.
+fn part_number(part: Part) -> usize
+    ensures number { result ≡ part_number part }
+    ensures small { result < 7 }
 {
-    let mut blocks = Vec::new(alloc);
+    match part {
+        Part::User => 0,
+        Part::Boot1 => 1,
+        Part::Boot2 => 2,
+        Part::Gp1 => 3,
+        Part::Gp2 => 4,
+        Part::Gp3 => 5,
+        Part::Gp4 => 6,
+    }
+}
+
+// How many sectors partitions of these sizes have together.
+pub(crate) fn total(sizes: &[usize]) -> usize
+    requires { total sizes.now < 2 ^ 64 }
+    ensures { result ≡ total sizes.now }
+{
+    let mut sum = 0;
+    for size in sizes {
+        sum += *size;
+    }
+    sum
+}
+
+// So many sectors that are all this byte.
+fn erased_sectors(alloc: Global, count: usize, erased: u8) -> Result<Vec<[u8; 512]>, NoMemory>
+    ensures { IfOk result (λ sectors. sectors.items ≡ replicate count (replicate 512 erased)) }
+{
+    let mut sectors = Vec::new(alloc);
     for _ in 0..count {
-        blocks.push([0; 512])?;
+        sectors.push([erased; 512])?;
     }
-    Ok(blocks)
+    Ok(sectors)
 }
 
-// Puts a block in the place of a sector, if there is such a sector.
-fn put(sectors: &mut Vec<[u8; 512]>, sector: usize, block: [u8; 512])
-    ensures put { sectors.new.items ≡ slice_set sectors.old.items sector block }
-    ensures len { length sectors.new.items ≡ length sectors.old.items }
+// The sectors of an image.
+fn image_sectors(alloc: Global, image: &[u8]) -> Result<Vec<[u8; 512]>, NoMemory>
+    ensures { IfOk result (λ sectors. sectors.items ≡ pieces (length image.now / 512) image.now) }
 {
-    if sector < sectors.len() {
-        sectors[sector] = block;
+    let (pieces, _) = image.as_chunks::<512>();
+    let mut sectors = Vec::new(alloc);
+    for piece in pieces {
+        sectors.push(*piece)?;
     }
+    Ok(sectors)
 }
 
-// Makes the first `count` blocks all 00h.
-fn clear(blocks: &mut Vec<[u8; 512]>, count: usize)
-    requires { count ≤ length blocks.old.items }
-    ensures front { take count blocks.new.items ≡ replicate count (replicate 512 0) }
-    ensures len { length blocks.new.items ≡ length blocks.old.items }
+// Makes the first `count` sectors all this byte.
+fn erase_first(sectors: &mut Vec<[u8; 512]>, count: usize, erased: u8)
+    requires { count ≤ length sectors.old.items }
+    ensures front { take count sectors.new.items ≡ replicate count (replicate 512 erased) }
+    ensures len { length sectors.new.items ≡ length sectors.old.items }
 {
     for i in 0..count {
-        blocks[i] = [0; 512];
-    }
-}
-
-// Puts these blocks in the places of the sectors from `start` on, as far as there are such sectors.
-fn put_all(sectors: &mut Vec<[u8; 512]>, start: u32, blocks: &[[u8; 512]])
-    requires { length blocks.now ≤ MAX_SECTORS }
-    ensures landed { sectors.new.items ≡ landed_in (λ i. true) start blocks.now sectors.old.items }
-    ensures len { length sectors.new.items ≡ length sectors.old.items }
-{
-    for (i, block) in blocks.iter().enumerate() {
-        put(sectors, start as usize + i, *block);
+        sectors[i] = [erased; 512];
     }
 }
 
 impl Store {
-    ghost use Rattle.mmc_card_sim.specs.Store.{blank, lands_by, values_of};
+    ghost use Rattle.mmc_card.specs.Card.{landed_in};
+    ghost use Rattle.mmc_card_sim.specs.Store.{bytes_of, first_sectors, landed_by, parts_of, part_of, split, values_of};
 
-    /// So many sectors, at most `MAX_SECTORS`, that are all 00h.
-    pub fn new(alloc: Global, sectors: usize) -> Result<Store, NoMemory>
-        requires { sectors ≤ MAX_SECTORS }
-        ensures sectors { IfOk result (λ store. store.sectors.items ≡ replicate sectors blank) }
+    // So many sectors of a new card, with the bytes of an image or all with this byte.
+    fn first_sectors(
+        alloc: Global,
+        count: usize,
+        image: &Option<Bytes>,
+        erased: u8,
+    ) -> Result<Vec<[u8; 512]>, NoMemory>
+        requires { IfSome image.now (λ bytes. length bytes ≡ 512 * count) }
+        ensures { IfOk result (λ sectors. sectors.items ≡ first_sectors image.now count erased) }
+    {
+        match image {
+            Some(bytes) => image_sectors(alloc, bytes.as_slice()),
+            None => erased_sectors(alloc, count, erased),
+        }
+    }
+
+    /// Partitions of these sizes, at most `MAX_SECTORS` sectors together, with the bytes of an image or all with this
+    /// byte.
+    pub fn new(
+        alloc: Global,
+        sizes: [usize; 7],
+        image: &Option<Bytes>,
+        erased: u8,
+    ) -> Result<Store, NoMemory>
+        requires few { total sizes ≤ MAX_SECTORS }
+        requires image { IfSome image.now (λ bytes. length bytes ≡ 512 * total sizes) }
+        ensures sectors { IfOk result (λ store. parts_of store ≡ split sizes (first_sectors image.now (total sizes) erased)) }
         ensures start { IfOk result (λ store. store.start ≡ 0) }
         ensures values { IfOk result (λ store. values_of store ≡ []) }
     {
+        let count = total(&sizes);
         Ok(Store {
-            sectors: blank_blocks(alloc, sectors)?,
+            sectors: Store::first_sectors(alloc, count, image, erased)?,
+            sizes,
             start: 0,
-            new_values: blank_blocks(alloc, sectors)?,
+            new_values: erased_sectors(alloc, count, erased)?,
             count: 0,
         })
     }
 
-    /// A write begins at this sector.
-    pub fn begin(&mut self, start: u32)
-        ensures sectors { self.new.sectors.items ≡ self.old.sectors.items }
+    // Where the first sector of a partition stands.
+    fn first_of(&self, part: Part) -> usize
+        ensures first { result ≡ total (take (part_number part) self.now.sizes) }
+        ensures within { result + length (part_of self.now part) ≤ length self.now.sectors.items }
+    {
+        total(&self.sizes[..part_number(part)])
+    }
+
+    // The sectors of a partition.
+    fn sectors_of(&self, part: Part) -> &[[u8; 512]]
+        ensures { result.now ≡ part_of self.now part }
+    {
+        let first = self.first_of(part);
+        &self.sectors[first..first + self.size(part)]
+    }
+
+    /// How many sectors a partition has.
+    pub fn size(&self, part: Part) -> usize
+        ensures size { result ≡ length (part_of self.now part) }
+        ensures few { result ≤ MAX_SECTORS }
+    {
+        self.sizes[part_number(part)]
+    }
+
+    /// A sector of a partition, if there is such a sector.
+    pub fn sector(&self, part: Part, sector: usize) -> Option<[u8; 512]>
+        ensures { result ≡ (if nat_lt sector (length (part_of self.now part)) then Some (slice_index_or (part_of self.now part) sector []) else None) }
+    {
+        self.sectors_of(part).get(sector).copied()
+    }
+
+    /// The bytes of a partition.
+    pub fn contents(&self, part: Part) -> &[u8]
+        ensures { result.now ≡ bytes_of (part_of self.now part) }
+    {
+        self.sectors_of(part).as_flattened()
+    }
+
+    /// A write begins at this sector of its partition.
+    pub fn begin(&mut self, start: usize)
+        ensures sectors { parts_of self.new ≡ parts_of self.old }
         ensures start { self.new.start ≡ start }
         ensures values { values_of self.new ≡ [] }
     {
@@ -95,17 +182,17 @@ impl Store {
         self.count = 0;
     }
 
-    /// Whether there is a sector for another block of the write.
-    pub fn has_next(&self) -> bool
-        ensures { result ≡ nat_lt (self.now.start + length (values_of self.now)) (length self.now.sectors.items) }
+    /// Whether this partition has a sector for another block of the write.
+    pub fn has_next(&self, part: Part) -> bool
+        ensures { result ≡ nat_lt (self.now.start + length (values_of self.now)) (length (part_of self.now part)) }
     {
-        self.start as usize + self.count < self.sectors.len()
+        self.count < self.size(part).saturating_sub(self.start)
     }
 
-    /// Accepts the next block of the write.
-    pub fn accept(&mut self, block: &[u8; 512])
-        requires { length (values_of self.old) < length self.old.sectors.items }
-        ensures sectors { self.new.sectors.items ≡ self.old.sectors.items }
+    /// Accepts the next block of the write to this partition.
+    pub fn accept(&mut self, part: Part, block: &[u8; 512])
+        requires { self.old.start + length (values_of self.old) < length (part_of self.old part) }
+        ensures sectors { parts_of self.new ≡ parts_of self.old }
         ensures start { self.new.start ≡ self.old.start }
         ensures values { values_of self.new ≡ values_of self.old ++ block.now ∷ [] }
     {
@@ -113,50 +200,50 @@ impl Store {
         self.count += 1;
     }
 
-    /// An erase of so many sectors from this one on.
-    pub fn erase(&mut self, start: u32, count: usize)
-        requires { count ≤ length self.old.sectors.items }
-        ensures sectors { self.new.sectors.items ≡ self.old.sectors.items }
+    /// An erase of so many sectors from this one on, to this byte.
+    pub fn erase(&mut self, part: Part, start: usize, count: usize, erased: u8)
+        requires { count ≤ length (part_of self.old part) }
+        ensures sectors { parts_of self.new ≡ parts_of self.old }
         ensures start { self.new.start ≡ start }
-        ensures values { values_of self.new ≡ replicate count blank }
+        ensures values { values_of self.new ≡ replicate count (replicate 512 erased) }
     {
-        clear(&mut self.new_values, count);
+        erase_first(&mut self.new_values, count, erased);
         self.start = start;
         self.count = count;
     }
 
     /// What is unfinished is over, and nothing of it has landed.
     pub fn drop_values(&mut self)
-        ensures sectors { self.new.sectors.items ≡ self.old.sectors.items }
+        ensures sectors { parts_of self.new ≡ parts_of self.old }
         ensures start { self.new.start ≡ self.old.start }
         ensures values { values_of self.new ≡ [] }
     {
         self.count = 0;
     }
 
-    /// What is unfinished is over, and all of it has landed or nothing.
-    pub fn settle(&mut self, outcome: Outcome)
-        ensures sectors { self.new.sectors.items ≡ landed_in (lands_by outcome) self.old.start (values_of self.old) self.old.sectors.items }
+    /// What is unfinished in this partition is over, and all of it has landed or nothing.
+    pub fn settle(&mut self, part: Part, outcome: Outcome)
+        ensures sectors { parts_of self.new ≡ landed_by outcome part self.old }
         ensures start { self.new.start ≡ self.old.start }
         ensures values { values_of self.new ≡ [] }
     {
         match outcome {
             Outcome::Old => self.drop_values(),
-            Outcome::New => self.land(),
+            Outcome::New => self.land(part),
         }
     }
 
-    /// What is unfinished is carried out.
-    pub fn land(&mut self)
-        ensures sectors { self.new.sectors.items ≡ landed_in (λ i. true) self.old.start (values_of self.old) self.old.sectors.items }
+    /// What is unfinished in this partition is carried out.
+    pub fn land(&mut self, part: Part)
+        ensures sectors { parts_of self.new ≡ slice_set (parts_of self.old) (part_number part) (landed_in (λ i. true) self.old.start (values_of self.old) (part_of self.old part)) }
         ensures start { self.new.start ≡ self.old.start }
         ensures values { values_of self.new ≡ [] }
     {
-        put_all(
-            &mut self.sectors,
-            self.start,
-            &self.new_values[..self.count],
-        );
+        let size = self.size(part);
+        let start = self.start.min(size);
+        let count = self.count.min(size - start);
+        let first = self.first_of(part) + start;
+        self.sectors[first..first + count].copy_from_slice(&self.new_values[..count]);
         self.count = 0;
     }
 }

@@ -1,144 +1,180 @@
-// What the card behind `PlainCard` does with the commands of transfers and of its width (SD Physical Layer 6.00, sections
-// 4.3.3 and 4.3.4), each in a state where it is legal.
-ghost use Rattle.std.specs.Prelude.{◌<◌, ◌≡◌, false};
-ghost use Rattle.mmc_frame.specs.declared.card_state.State.TheVariants.{Idle};
-ghost use Rattle.mmc_card.specs.Card.{AreAmong, is_in};
+// What the card in memory does with the commands of transfers (SD Physical Layer 6.00, sections 4.3.3 and 4.3.4; JESD84-B51,
+// sections 6.6.6 to 6.6.8), each where it is legal.
+ghost use Rattle.std.specs.Prelude.{◌*◌, ◌<◌, ◌≡◌, ◌≤◌, ◌^◌, if◌then◌else◌};
+ghost use Rattle.mmc_card.specs.CardAnswer.{bit};
+ghost use Rattle.mmc_frame.specs.declared.card_state.State.TheVariants.{Data, Rcv};
+ghost use Rattle.mmc_card.specs.Card.{AreAmong};
 ghost use Rattle.mmc_card.specs.ErrorBits.{error_bits};
 
-use crate::chip::Chip;
-use crate::error_bits::{ADDRESS_ERROR, BLOCK_LEN_ERROR, OUT_OF_RANGE};
-use mmc_card::{Reply, Width};
-use mmc_frame::State;
+use crate::answer::Answer;
+use crate::chip::{Chip, Source};
+use crate::error_bits::{ADDRESS_ERROR, BLOCK_LEN_ERROR, OUT_OF_RANGE, WP_VIOLATION};
 use mmc_frame::commands::{
-    READ_MULTIPLE_BLOCK, READ_SINGLE_BLOCK, SEND_SCR, SET_BLOCKLEN, SET_BUS_WIDTH,
-    STOP_TRANSMISSION, WRITE_BLOCK, WRITE_MULTIPLE_BLOCK,
+    READ_MULTIPLE_BLOCK, READ_SINGLE_BLOCK, SET_BLOCK_COUNT, SET_BLOCKLEN, STOP_TRANSMISSION,
+    WRITE_BLOCK, WRITE_MULTIPLE_BLOCK,
 };
+use mmc_frame::{Kind, State};
+
+// This error bit, or none.
+fn error_if(error: u32, is_so: bool) -> u32
+    ensures bit { result ≡ error * bit is_so }
+    ensures small { result ≤ error }
+{
+    if is_so { error } else { 0 }
+}
 
 impl Chip {
-    ghost use Rattle.std.specs.Prelude.{true};
-    ghost use Rattle.mmc_card_sim.specs.PlainCard.{Answers, card_of};
-    ghost use Rattle.mmc_card.specs.RowsSwitch.{set_bus_width};
-    ghost use Rattle.mmc_card.specs.RowsTransfer.{begun, read_multiple_block, read_single_block, send_scr, set_blocklen, stop_transmission, transfer_errors, transferred, write_block, write_multiple_block};
+    ghost use Rattle.mmc_card.specs.Made.{is_misaligned, sector_at};
+    ghost use Rattle.mmc_card.specs.RowsTransfer.{begun, preset, read_multiple_block, read_single_block, set_block_count_to, set_blocklen, stop_transmission, transfer_errors, transferred, write_block, write_multiple_block};
+    ghost use Rattle.mmc_card_sim.specs.Chip.{Answers, card_of};
 
-    // The errors of an address at which a transfer is to begin.
-    fn errors_at(&self, address: u32) -> u32
-        ensures read { result ≡ transfer_errors false (card_of self.now) address }
-        ensures write { result ≡ transfer_errors true (card_of self.now) address }
-        ensures known { AreAmong result error_bits }
+    /// The sector that an address names.
+    pub fn sector_at(&self, address: u32) -> usize
+        ensures sector { result ≡ sector_at (card_of self.now).made address }
+        ensures small { result < 2 ^ 32 }
     {
-        let beyond = if address as usize / 512 >= self.store.sectors.len() {
-            OUT_OF_RANGE
+        if self.registers.has_sector_addresses() {
+            address as usize
         } else {
-            0
-        };
-        let misaligned = if address % 512 != 0 { ADDRESS_ERROR } else { 0 };
-        beyond + misaligned
+            address as usize / 512
+        }
     }
 
-    // A transfer from an address on begins, in the state that it leads to, or its errors are raised.
-    fn begin(
+    // Whether an address names no block.
+    fn is_misaligned(&self, address: u32) -> bool
+        ensures { result ≡ is_misaligned (card_of self.now).made address }
+    {
+        !self.registers.has_sector_addresses() && address % 512 != 0
+    }
+
+    // The errors of a transfer that is to begin at an address.
+    fn errors_at(&self, is_write: bool, address: u32) -> u32
+        ensures errors { result ≡ transfer_errors is_write (card_of self.now) address }
+        ensures known { AreAmong result error_bits }
+    {
+        let is_beyond = self.sector_at(address) >= self.store.size(self.part);
+        error_if(OUT_OF_RANGE, is_beyond)
+            + error_if(ADDRESS_ERROR, self.is_misaligned(address))
+            + error_if(BLOCK_LEN_ERROR, self.block_length != 512)
+            + error_if(WP_VIOLATION, is_write && self.is_protected)
+    }
+
+    // A transfer from an address on begins, in the state that it leads to.
+    fn begin(&mut self, state: State, is_single: bool, left: Option<u32>, address: u32)
+        ensures { card_of self.new ≡ begun state is_single left (card_of self.old) address }
+    {
+        let start = self.sector_at(address);
+        self.clear_errors();
+        self.store.begin(start);
+        self.state = state;
+        self.source = Source::Sectors;
+        self.next = start;
+        self.left = left;
+        self.is_single = is_single;
+        self.is_switching = false;
+    }
+
+    // A transfer begins, or its errors are shown.
+    fn transfer(
         &mut self,
         index: u8,
-        state: State,
+        is_write: bool,
         is_single: bool,
         left: Option<u32>,
         address: u32,
-    ) -> Reply
-        requires index { index < 64 }
-        requires state { is_in state Idle ≡ false }
-        ensures read { Answers (transferred index (transfer_errors false (card_of self.old) address) (card_of self.old)
-            (begun state is_single left (card_of self.old) address)) self.new result }
-        ensures write { Answers (transferred index (transfer_errors true (card_of self.old) address) (card_of self.old)
-            (begun state is_single left (card_of self.old) address)) self.new result }
+    ) -> Answer
+        requires { index < 64 }
+        ensures { Answers (transferred index (transfer_errors is_write (card_of self.old) address) (card_of self.old)
+            (begun (if is_write then Rcv else Data) is_single left (card_of self.old) address)) self.new result }
     {
-        let errors = self.errors_at(address);
+        let errors = self.errors_at(is_write, address);
         if errors != 0 {
             self.raise(errors);
             return self.respond_status(index, false);
         }
-        let reply = self.respond_status(index, false);
-        self.store.begin(address / 512);
-        self.state = state;
-        self.sends_scr = false;
-        self.next = address / 512;
-        self.left = left;
-        self.is_single = is_single;
-        reply
+        let argument = self.status(false);
+        let state = if is_write { State::Rcv } else { State::Data };
+        self.begin(state, is_single, left, address);
+        Answer::Checked { index, argument }
+    }
+
+    // The count that is preset for the next command, if one is.
+    fn preset(&self) -> Option<u32>
+        ensures { result ≡ preset (card_of self.now) }
+    {
+        if self.count == 0 {
+            None
+        } else {
+            Some(self.count)
+        }
     }
 
     /// CMD17.
-    pub fn read_single_block(&mut self, address: u32) -> Reply
+    pub fn read_single_block(&mut self, address: u32) -> Answer
         ensures { Answers (read_single_block (card_of self.old) address) self.new result }
     {
-        self.begin(READ_SINGLE_BLOCK, State::Data, true, Some(1), address)
+        self.transfer(READ_SINGLE_BLOCK, false, true, Some(1), address)
     }
 
     /// CMD18.
-    pub fn read_multiple_block(&mut self, address: u32) -> Reply
+    pub fn read_multiple_block(&mut self, address: u32) -> Answer
         ensures { Answers (read_multiple_block (card_of self.old) address) self.new result }
     {
-        self.begin(READ_MULTIPLE_BLOCK, State::Data, false, None, address)
+        self.transfer(READ_MULTIPLE_BLOCK, false, false, self.preset(), address)
     }
 
     /// CMD24.
-    pub fn write_block(&mut self, address: u32) -> Reply
+    pub fn write_block(&mut self, address: u32) -> Answer
         ensures { Answers (write_block (card_of self.old) address) self.new result }
     {
-        self.begin(WRITE_BLOCK, State::Rcv, true, Some(1), address)
+        self.transfer(WRITE_BLOCK, true, true, Some(1), address)
     }
 
     /// CMD25.
-    pub fn write_multiple_block(&mut self, address: u32) -> Reply
+    pub fn write_multiple_block(&mut self, address: u32) -> Answer
         ensures { Answers (write_multiple_block (card_of self.old) address) self.new result }
     {
-        self.begin(WRITE_MULTIPLE_BLOCK, State::Rcv, false, None, address)
+        self.transfer(WRITE_MULTIPLE_BLOCK, true, false, self.preset(), address)
     }
 
     /// CMD12: of a write the card programs what it accepted.
-    pub fn stop_transmission(&mut self) -> Reply
+    pub fn stop_transmission(&mut self) -> Answer
         ensures { Answers (stop_transmission (card_of self.old)) self.new result }
     {
         let writes = self.is_in(State::Rcv);
-        let reply = self.respond_status(STOP_TRANSMISSION, false);
+        let answer = self.respond_status(STOP_TRANSMISSION, false);
         if writes {
+            self.make_busy();
             self.state = State::Prg;
-            self.is_busy = true;
+            self.is_switching = false;
         } else {
             self.state = State::Tran;
-            self.sends_scr = false;
+            self.source = Source::Sectors;
         }
-        reply
+        answer
     }
 
     /// CMD16: 512 alone.
-    pub fn set_blocklen(&mut self, length: u32) -> Reply
+    pub fn set_blocklen(&mut self, length: u32) -> Answer
         ensures { Answers (set_blocklen (card_of self.old) length) self.new result }
     {
-        if length != 512 {
+        if length == 512 {
+            self.block_length = 512;
+        } else {
             self.raise(BLOCK_LEN_ERROR);
         }
         self.respond_status(SET_BLOCKLEN, false)
     }
 
-    /// ACMD51.
-    pub fn send_scr(&mut self) -> Reply
-        ensures { Answers (send_scr (card_of self.old)) self.new result }
+    /// CMD23: 32 bits of SD, 16 of eMMC.
+    pub fn set_block_count(&mut self, argument: u32) -> Answer
+        ensures { Answers (set_block_count_to (card_of self.old) argument) self.new result }
     {
-        let reply = self.respond_status(SEND_SCR, true);
-        self.state = State::Data;
-        self.sends_scr = true;
-        reply
-    }
-
-    /// ACMD6: one line or four; with other bits the lines stay.
-    pub fn set_bus_width(&mut self, bits: u32) -> Reply
-        ensures { Answers (set_bus_width (card_of self.old) bits) self.new result }
-    {
-        match bits % 4 {
-            0 => self.width = Width::One,
-            2 => self.width = Width::Four,
-            _ => {}
-        }
-        self.respond_status(SET_BUS_WIDTH, true)
+        let answer = self.respond_status(SET_BLOCK_COUNT, false);
+        self.count = match self.registers.kind() {
+            Kind::Sd => argument,
+            Kind::Mmc => argument % 0x1_0000,
+        };
+        answer
     }
 }

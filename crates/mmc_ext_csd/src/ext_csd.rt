@@ -36,7 +36,14 @@ impl ExtCsd {
         if block[224] == 0 {
             return Err(ExtFault::ZeroSize);
         }
-        Ok(ExtCsd { block: *block })
+        Ok(ExtCsd::new(block))
+    }
+
+    /// The EXT_CSD in this block, whatever it says: `read` judges it.
+    pub fn new(block: &[u8; 512]) -> Self
+        ensures { result ≡ block.now }
+    {
+        ExtCsd { block: *block }
     }
 
     /// SEC_COUNT: the size of the user area in sectors of 512 bytes, where the device is addressed by sectors.

@@ -1,0 +1,82 @@
+-- What a chip in memory stands for, and the choices that it makes where a card is free.
+use Rattle.std.specs.Prelude.{◌≡◌, Bool, List, false, if◌then◌else◌, length, nat_lt, true, ℕ}
+use Rattle.mmc_card.specs.declared.exchange.DataIn.{DataIn}
+use Rattle.mmc_card.specs.declared.exchange.DataIn.TheVariants as Received
+use Rattle.mmc_card.specs.declared.exchange.Lines.{Lines}
+use Rattle.mmc_card.specs.Blocks.{asked_for, can_send, next_block}
+use Rattle.mmc_card.specs.Card.{Both, Card, First, FromBytes, FromSectors, Held, NoAddress, Source as CardSource}
+use Rattle.mmc_card.specs.CardAnswer.{CardAnswer, Choice}
+use Rattle.std.specs.Prelude.{Some}
+use Rattle.mmc_card_sim.specs.declared.answer.Answer.{Answer}
+use Rattle.mmc_card_sim.specs.declared.chip.Addresses.{Addresses}
+use Rattle.mmc_card_sim.specs.declared.chip.Addresses.TheVariants as Is
+use Rattle.mmc_card_sim.specs.declared.chip.Chip.{Chip}
+use Rattle.mmc_card_sim.specs.declared.chip.Source.{Source}
+use Rattle.mmc_card_sim.specs.declared.chip.Source.TheVariants as From
+use Rattle.mmc_card_sim.specs.Answer.{HasIndex, answer_of}
+use Rattle.mmc_card_sim.specs.Registers.{made_of}
+use Rattle.mmc_card_sim.specs.Store.{parts_of, values_of}
+
+abbrev pub held_in : Addresses → Held
+held_in Is.None = NoAddress
+held_in (Is.First first) = First first
+held_in (Is.Both first last) = Both first last
+
+abbrev pub source_of : Source → CardSource
+source_of From.Sectors = FromSectors
+source_of (From.Block block timing) = FromBytes block.items timing
+
+-- it sends a block that isn't a sector
+abbrev pub IsBlockSource : Source → Type 0
+IsBlockSource From.Sectors = ⊥
+IsBlockSource (From.Block block timing) = Unit {0}
+
+abbrev pub card_of : Chip → Card
+card_of chip =
+    record {
+      made = made_of chip.registers;
+      state = chip.state;
+      rca = chip.rca;
+      part = chip.part;
+      width = chip.width;
+      timing = chip.timing;
+      erase_group_def = chip.erase_group_def;
+      block_length = chip.block_length;
+      count = chip.count;
+      app = chip.is_app;
+      erase = held_in chip.addresses;
+      command_errors = chip.command_errors;
+      errors = chip.errors;
+      switch_error = chip.has_switch_error;
+      inquiries = chip.inquiries;
+      is_busy = chip.is_busy;
+      polled = chip.polled;
+      sectors = parts_of chip.store;
+      source = source_of chip.source;
+      next = chip.next;
+      left = chip.left;
+      is_single = chip.is_single;
+      start = chip.store.start;
+      values = values_of chip.store;
+      is_switching = chip.is_switching;
+    }
+
+-- All that is unfinished lands at CMD0, OUT_OF_RANGE is set behind the last sector, and a command with a bad check
+-- drops the preset count.
+abbrev pub choice_of : Bool → Choice
+choice_of is_slow = record { is_slow = is_slow; lands = λ i. true; says_end = true; keeps_count = false }
+
+-- the first so many inquiries are answered with not ready
+abbrev pub inquiry_choice : ℕ → Card → Choice
+inquiry_choice ready card = choice_of (nat_lt card.inquiries ready)
+
+-- the chip is the card after a step, and this is its answer
+abbrev pub Answers : Card × CardAnswer → Chip → Answer → Type 0
+Answers step chip answer = (card_of chip ≡ step.0) × (answer_of answer ≡ step.1) × HasIndex answer
+
+-- A block that was asked for: the card sends what it has, if the lines and the length fit.
+pub record Sends (lines : Lines) (old new : Card) (size : ℕ) (got : DataIn) (block : List ℕ) : Type 0 where
+  pub len : length block ≡ size
+  pub card : new ≡ asked_for (choice_of false) lines size old
+  pub got_is : got ≡ (if can_send lines size old then Received.Good else Received.Nothing)
+  pub block_is : got ≡ Received.Good → next_block old ≡ Some block

@@ -1,0 +1,240 @@
+// What is judged of a spec before a card is built.
+ghost use Rattle.std.specs.Prelude.{false, true, ◌≡◌, ◌≤◌, ◌*◌, ◌<◌, ◌^◌, IfErr, IfNone, IfOk, IfSome, None, OnOk, length, slice_index_or};
+ghost use Rattle.mmc_frame.specs.Flips.{AreBytes};
+ghost use Rattle.mmc_regs.specs.Csd.{IsOfKind};
+ghost use Rattle.mmc_card.specs.Made.{HasRegisters, erase_unit_of_card, first_block_length, is_read_only, sectors_in};
+ghost use Rattle.mmc_card.specs.Sectors.{part_number};
+ghost use Rattle.mmc_card.specs.declared.part.Part.{Part};
+ghost use Rattle.mmc_card_sim.specs.CardSpec.{HasWidths, IsCsdOf, IsRefusal, each_register_is_taken, has_ocr, has_short_waits, has_user_sectors, kind_is_taken, refusal_of, sizes_of, takes_image};
+ghost use Rattle.mmc_card_sim.specs.Registers.{made_of};
+ghost use Rattle.mmc_card_sim.specs.Sizes.{total};
+ghost use Rattle.mmc_card_sim.specs.declared.store.TheConstants.{MAX_SECTORS};
+
+use crate::registers::{KindRegisters, Registers};
+use crate::spec::{BuildFault, CardSpec};
+use crate::store::MAX_SECTORS;
+use mmc_bus::Bytes;
+use mmc_ext_csd::ExtCsd;
+use mmc_regs::{Csd, Ocr, read_cid, read_csd};
+
+/// What the registers of a spec come to.
+#[derive(Clone, Copy, Debug, PartialEq, Eq)]
+pub struct Judged {
+    /// The seven partitions' sizes in sectors, in the order of `Part`, at most `MAX_SECTORS` together.
+    pub sizes: [usize; 7],
+    /// The erase unit in sectors, 1 to 2^20.
+    pub erase_unit: usize,
+    /// Whether the CSD says that the card is write protected, for good or for now.
+    pub is_read_only: bool,
+    /// The block length after power on in bytes, 1 to 2^15.
+    pub block_length: u32,
+}
+
+/// What the registers of a spec come to, where no rule refuses it.
+///
+/// # Errors
+/// The first that holds: `Register` or `ImageSize`, as said there; never `NoMemory`.
+pub fn judge(spec: &CardSpec) -> Result<Judged, BuildFault>
+    ensures refused { IfErr result (λ why. IsRefusal spec.now why) }
+    ensures taken { OnOk result (refusal_of spec.now ≡ None) }
+    ensures soon_ready { OnOk result (spec.now.ready ≤ 8) }
+    ensures soon_rested { OnOk result (spec.now.busy ≤ 8) }
+    ensures few { IfOk result (λ judged. total judged.sizes ≤ MAX_SECTORS) }
+    ensures image { IfOk result (λ judged. IfSome spec.now.image (λ bytes. length bytes ≡ 512 * total judged.sizes)) }
+    ensures image_bytes { OnOk result (IfSome spec.now.image AreBytes) }
+    ensures exist { IfOk result (λ judged. (part : Part) → slice_index_or judged.sizes (part_number part) 0 ≡ sectors_in (made_of spec.now.registers) part) }
+    ensures sizes { IfOk result (λ judged. judged.sizes ≡ sizes_of spec.now.registers) }
+    ensures unit { IfOk result (λ judged. judged.erase_unit ≡ erase_unit_of_card (made_of spec.now.registers)) }
+    ensures some_unit { IfOk result (λ judged. 1 ≤ judged.erase_unit) }
+    ensures small_unit { IfOk result (λ judged. judged.erase_unit ≤ 2 ^ 20) }
+    ensures protected { IfOk result (λ judged. judged.is_read_only ≡ is_read_only (made_of spec.now.registers)) }
+    ensures block_length { IfOk result
+        (λ judged. judged.block_length ≡ first_block_length (made_of spec.now.registers)) }
+    ensures registers { OnOk result (HasRegisters (made_of spec.now.registers)) }
+{
+    let registers = &spec.registers;
+    let csd = read_registers(registers)?;
+    let sizes = sizes_by(registers, &csd);
+    if !has_short_waits(spec) || !has_user_sectors(sizes[0], spec.sectors) {
+        return Err(BuildFault::Register);
+    }
+    if !takes_image(&sizes, &spec.image) {
+        return Err(BuildFault::ImageSize);
+    }
+    tell_image(&spec.image);
+    Ok(Judged {
+        sizes,
+        erase_unit: erase_unit(registers, &csd),
+        is_read_only: csd.read_only(),
+        block_length: block_length(registers, &csd),
+    })
+}
+
+// The CSD of a card whose registers are taken.
+fn read_registers(registers: &Registers) -> Result<Csd, BuildFault>
+    ensures refused { IfErr result (λ why. why ≡ BuildFault.Register) }
+    ensures not_taken { IfErr result (λ why. each_register_is_taken registers.now ≡ false) }
+    ensures taken { OnOk result (each_register_is_taken registers.now ≡ true) }
+    ensures csd { IfOk result (λ csd. IsCsdOf registers.now csd) }
+    ensures of_kind { IfOk result (λ csd. IsOfKind (made_of registers.now).kind csd) }
+    ensures registers { OnOk result (HasRegisters (made_of registers.now)) }
+{
+    let Ok(_) = read_cid(&registers.cid) else {
+        return Err(BuildFault::Register);
+    };
+    let Ok(csd) = read_csd(registers.kind(), &registers.csd) else {
+        return Err(BuildFault::Register);
+    };
+    if !has_ocr(registers.ocr) || !kind_is_taken(&registers.kind, registers.ocr) {
+        return Err(BuildFault::Register);
+    }
+    tell_widths(registers);
+    Ok(csd)
+}
+
+// It does nothing, and its contract says what the types of the fields say.
+fn tell_widths(registers: &Registers)
+    ensures { HasWidths registers.now }
+{
+    let _ocr = registers.ocr;
+    tell_bytes(&registers.cid);
+    tell_bytes(&registers.csd);
+    match &registers.kind {
+        KindRegisters::Sd(sd) => {
+            let _published = sd.rca;
+            tell_bytes(&sd.scr);
+        }
+        KindRegisters::Mmc(mmc) => tell_bytes(&mmc.ext_csd),
+    }
+}
+
+fn tell_bytes(bytes: &[u8])
+    ensures { AreBytes bytes.now }
+{}
+
+fn tell_image(image: &Option<Bytes>)
+    ensures { IfSome image.now AreBytes }
+{
+    if let Some(bytes) = image {
+        tell_bytes(bytes.as_slice());
+    }
+}
+
+fn has_ocr(ocr: u32) -> bool
+    ensures { result ≡ has_ocr ocr }
+{
+    let ocr = Ocr::new(ocr);
+    ocr.accepts_3_3_volts() && !ocr.is_ready()
+}
+
+fn kind_is_taken(kind: &KindRegisters, ocr: u32) -> bool
+    ensures { result ≡ kind_is_taken kind.now ocr }
+{
+    match kind {
+        KindRegisters::Sd(sd) => sd.rca != 0,
+        KindRegisters::Mmc(mmc) => {
+            let mode = Ocr::new(ocr).access_mode();
+            (mode == 0 || mode == 2) && ExtCsd::new(&mmc.ext_csd).erase_unit() != 0
+        }
+    }
+}
+
+fn has_short_waits(spec: &CardSpec) -> bool
+    ensures { result ≡ has_short_waits spec.now }
+{
+    spec.ready <= 8 && spec.busy <= 8
+}
+
+fn has_user_sectors(user: usize, wanted: u64) -> bool
+    ensures { result ≡ has_user_sectors user wanted }
+{
+    user != 0 && user as u64 == wanted
+}
+
+// The partitions' sizes by the registers, among them this CSD.
+fn sizes_by(registers: &Registers, csd: &Csd) -> [usize; 7]
+    requires { IsCsdOf registers.now csd.now }
+    ensures { result ≡ sizes_of registers.now }
+{
+    match registers.kind {
+        KindRegisters::Sd(_) => [csd.sectors() as usize, 0, 0, 0, 0, 0, 0],
+        KindRegisters::Mmc(mmc) => {
+            let ext_csd = ExtCsd::new(&mmc.ext_csd);
+            let user = if registers.has_sector_addresses() {
+                ext_csd.sectors()
+            } else {
+                csd.sectors()
+            };
+            let boot = ext_csd.boot_sectors() as usize;
+            [
+                user as usize,
+                boot,
+                boot,
+                ext_csd.gp_sectors(1) as usize,
+                ext_csd.gp_sectors(2) as usize,
+                ext_csd.gp_sectors(3) as usize,
+                ext_csd.gp_sectors(4) as usize,
+            ]
+        }
+    }
+}
+
+// The sum of these sizes, where it is at most `MAX_SECTORS`.
+fn total(sizes: &[usize; 7]) -> Option<usize>
+    ensures large { IfNone result (MAX_SECTORS < total sizes.now) }
+    ensures sum { IfSome result (λ sum. sum ≡ total sizes.now) }
+    ensures small { IfSome result (λ sum. sum ≤ MAX_SECTORS) }
+{
+    let mut sum = 0;
+    for size in sizes {
+        if *size > MAX_SECTORS - sum {
+            return None;
+        }
+        sum += *size;
+    }
+    Some(sum)
+}
+
+fn takes_image(sizes: &[usize; 7], image: &Option<Bytes>) -> bool
+    ensures { result ≡ takes_image sizes.now image.now }
+{
+    let Some(sectors) = total(sizes) else {
+        return false;
+    };
+    match image {
+        None => true,
+        Some(bytes) => bytes.as_slice().len() == 512 * sectors,
+    }
+}
+
+fn erase_unit(registers: &Registers, csd: &Csd) -> usize
+    requires csd { IsCsdOf registers.now csd.now }
+    requires of_kind { IsOfKind (made_of registers.now).kind csd.now }
+    requires taken { each_register_is_taken registers.now ≡ true }
+    requires registers { HasRegisters (made_of registers.now) }
+    ensures unit { result ≡ erase_unit_of_card (made_of registers.now) }
+    ensures some { 1 ≤ result }
+    ensures small { result ≤ 2 ^ 20 }
+{
+    match registers.kind {
+        KindRegisters::Sd(_) => csd.erase_unit() as usize,
+        KindRegisters::Mmc(mmc) => ExtCsd::new(&mmc.ext_csd).erase_unit() as usize,
+    }
+}
+
+// The block length after power on, in bytes.
+fn block_length(registers: &Registers, csd: &Csd) -> u32
+    requires { IsCsdOf registers.now csd.now }
+    ensures { result ≡ first_block_length (made_of registers.now) }
+{
+    match csd {
+        Csd::Mmc(csd) => {
+            if registers.has_sector_addresses() {
+                512
+            } else {
+                1 << csd.read_bl_len()
+            }
+        }
+        _ => 512,
+    }
+}

@@ -1,0 +1,36 @@
+// What a card in memory is built by, and what is refused.
+use crate::registers::Registers;
+use mmc_bus::Bytes;
+use thiserror::Error;
+
+/// What a card in memory is built by: what a card file says but its faults, and an image.
+#[derive(Debug, Drop)]
+pub struct CardSpec {
+    /// The registers.
+    pub registers: Registers,
+    /// The size of the user partition in sectors, which is to be that of the registers.
+    pub sectors: u64,
+    /// How many of the first readiness inquiries are answered with not ready, 0 to 8.
+    pub ready: u8,
+    /// How many of the first polls of a busy time are answered yes, 0 to 8.
+    pub busy: u8,
+    /// The bytes of all sectors, 512 each, a partition behind the other in the order of `Part`. Without an image all
+    /// bytes are the erased byte.
+    pub image: Option<Bytes>,
+}
+
+/// Why a card isn't built. Where several hold, the first is named.
+#[derive(Clone, Copy, Debug, PartialEq, Eq, Error)]
+pub enum BuildFault {
+    /// The CID or the CSD is refused by its reader; the OCR has not both bits 20 and 21, which are 3.2 to 3.4 V, or it
+    /// has bit 31; an SD card publishes RCA 0; an eMMC device has no erase unit, or the reserved access modes 1 and 3;
+    /// `ready` or `busy` is above 8; the user partition has no sector, or not as many as `sectors` says.
+    #[error("a register is refused")]
+    Register,
+    /// All partitions together have more than `MAX_SECTORS` sectors, or the image hasn't 512 bytes for each of them.
+    #[error("the image has another size")]
+    ImageSize,
+    /// The room for the sectors is refused.
+    #[error("no memory")]
+    NoMemory,
+}

@@ -1,0 +1,220 @@
+// Specs of two cards, and changes of them that have one fault each.
+use crate::judging::{Judged, judge};
+use crate::{BuildFault, CardSpec, KindRegisters, MmcRegisters, Registers, SdRegisters};
+use mmc_bus::Bytes;
+use std::test::Fail;
+
+const CID: u128 = 0x0000_0000_0000_0000_0000_0000_0000_0001;
+
+const SD_CSD: u128 = 0x0000_0000_0009_0000_0000_4000_0240_009b;
+
+const SCR: u64 = 0x0005_0000_0000_0000;
+
+// An SD card of 4 sectors.
+fn sd() -> Registers {
+    Registers {
+        kind: sd_with_rca(1),
+        ocr: 0x00ff_8000,
+        cid: CID.to_be_bytes(),
+        csd: SD_CSD.to_be_bytes(),
+        is_locked: false,
+    }
+}
+
+fn sd_with_rca(rca: u16) -> KindRegisters {
+    KindRegisters::Sd(SdRegisters {
+        scr: SCR.to_be_bytes(),
+        rca,
+        answers_cmd8: false,
+        has_high_speed: false,
+    })
+}
+
+fn ext_csd() -> [u8; 512] {
+    let mut block = [0; 512];
+    block[181] = 0x01;
+    block[192] = 0x08;
+    block[196] = 0x03;
+    block[213] = 0x08;
+    block[221] = 0x01;
+    block[224] = 0x01;
+    block[226] = 0x01;
+    block[231] = 0x10;
+    block
+}
+
+// An eMMC device with this EXT_CSD, whose user partition has 2048 sectors by `ext_csd`.
+fn mmc(ext_csd: [u8; 512]) -> Registers {
+    Registers {
+        kind: KindRegisters::Mmc(MmcRegisters { ext_csd }),
+        ocr: 0x40ff_8080,
+        cid: CID.to_be_bytes(),
+        csd: CID.to_be_bytes(),
+        is_locked: false,
+    }
+}
+
+fn spec(registers: Registers, sectors: u64) -> CardSpec {
+    CardSpec {
+        registers,
+        sectors,
+        ready: 0,
+        busy: 8,
+        image: None,
+    }
+}
+
+#[test]
+fn good_specs(rt: HostRuntime) -> Result<(), Fail> {
+    let mut card = spec(sd(), 4);
+    let of_sd = Judged {
+        sizes: [4, 0, 0, 0, 0, 0, 0],
+        erase_unit: 1,
+        is_read_only: false,
+        block_length: 512,
+    };
+    assert_eq!(rt; judge(&card), Ok(of_sd));
+    card.image = Some(Bytes::new(vec![in rt.alloc(); 7; 2048]?));
+    assert_eq!(rt; judge(&card), Ok(of_sd));
+    let of_mmc = Judged {
+        sizes: [2048, 256, 256, 0, 0, 0, 0],
+        erase_unit: 1024,
+        is_read_only: false,
+        block_length: 512,
+    };
+    assert_eq!(rt; judge(&spec(mmc(ext_csd()), 2048)), Ok(of_mmc));
+    let mut full = ext_csd();
+    full[213] = 0xfe;
+    let of_full = Judged {
+        sizes: [65_024, 256, 256, 0, 0, 0, 0],
+        ..of_mmc
+    };
+    assert_eq!(rt; judge(&spec(mmc(full), 65_024)), Ok(of_full));
+    Ok(())
+}
+
+#[test]
+fn refused_registers(rt: HostRuntime) {
+    let mut no_erase_unit = ext_csd();
+    no_erase_unit[224] = 0x00;
+    for (registers, fault) in [
+        (
+            Registers {
+                cid: [0; 16],
+                ..sd()
+            },
+            "the CID's check",
+        ),
+        (
+            Registers {
+                csd: [0; 16],
+                ..sd()
+            },
+            "the CSD's check",
+        ),
+        (
+            Registers {
+                csd: CID.to_be_bytes(),
+                ..sd()
+            },
+            "block lengths of 1 byte",
+        ),
+        (
+            Registers {
+                ocr: 0x00ef_8000,
+                ..sd()
+            },
+            "not from 3.2 to 3.3 V",
+        ),
+        (
+            Registers {
+                ocr: 0x00df_8000,
+                ..sd()
+            },
+            "not from 3.3 to 3.4 V",
+        ),
+        (
+            Registers {
+                ocr: 0x80ff_8000,
+                ..sd()
+            },
+            "bit 31",
+        ),
+        (
+            Registers {
+                kind: sd_with_rca(0),
+                ..sd()
+            },
+            "RCA 0",
+        ),
+    ] {
+        assert_eq!(rt;
+            judge(&spec(registers, 4)),
+            Err(BuildFault::Register),
+            "{fault}"
+        );
+    }
+    for (registers, fault) in [
+        (
+            Registers {
+                ocr: 0x20ff_8080,
+                ..mmc(ext_csd())
+            },
+            "access mode 1",
+        ),
+        (
+            Registers {
+                ocr: 0x60ff_8080,
+                ..mmc(ext_csd())
+            },
+            "access mode 3",
+        ),
+        (mmc(no_erase_unit), "no erase unit"),
+    ] {
+        assert_eq!(rt;
+            judge(&spec(registers, 2048)),
+            Err(BuildFault::Register),
+            "{fault}"
+        );
+    }
+}
+
+#[test]
+fn refused_numbers(rt: HostRuntime) {
+    let refused = Err(BuildFault::Register);
+    assert_eq!(rt;
+        judge(&CardSpec {
+            ready: 9,
+            ..spec(sd(), 4)
+        }),
+        refused
+    );
+    assert_eq!(rt;
+        judge(&CardSpec {
+            busy: 9,
+            ..spec(sd(), 4)
+        }),
+        refused
+    );
+    assert_eq!(rt; judge(&spec(sd(), 5)), refused);
+    let mut empty = ext_csd();
+    empty[213] = 0x00;
+    assert_eq!(rt; judge(&spec(mmc(empty), 0)), refused);
+}
+
+#[test]
+fn refused_sizes(rt: HostRuntime) -> Result<(), Fail> {
+    let refused = Err(BuildFault::ImageSize);
+    let mut card = spec(sd(), 4);
+    card.image = Some(Bytes::new(vec![in rt.alloc(); 7; 2047]?));
+    assert_eq!(rt; judge(&card), refused);
+    let mut large = ext_csd();
+    large[213] = 0xff;
+    assert_eq!(rt; judge(&spec(mmc(large), 65_280)), refused);
+    // A general purpose partition that is too large to exist.
+    let mut no_partition = ext_csd();
+    no_partition[155] = 0x01;
+    no_partition[145] = 0xff;
+    assert_eq!(rt; judge(&spec(mmc(no_partition), 2048)), refused);
+    Ok(())
+}
