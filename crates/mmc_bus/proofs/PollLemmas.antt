@@ -7,7 +7,7 @@ use Rattle.mmc_card.specs.Blocks.{rested}
 use Rattle.mmc_card.specs.Card.{Card, IsCard, is_selected}
 use Rattle.mmc_bus.specs.Exchanges.{Kept}
 use Rattle.mmc_card.specs.Faults.{NoFault}
-use Rattle.mmc_bus.specs.Learned.{PollFacts, Stays}
+use Rattle.mmc_bus.specs.Learned.{PollFacts, Stays, may_fail}
 use Rattle.mmc_bus.specs.Work.{Narrows, StaysSet, Worked}
 use Rattle.mmc_card.specs.BusView.{BusView}
 
@@ -109,6 +109,13 @@ polled_no old polls now new p lines k done = record {
         ∙ rested_same old polls now p,
   );
 }
+
+-- a no of a card that can't have failed
+pub calm_no : (old : BusView) (polls : ℕ) (now new : BusView) → Polling old polls now
+    → Kept now (PollFacts now false new) new → is_selected new.card.state ≡ true → may_fail old.card ≡ false
+    → new.card ≡ rested old.card
+calm_no old polls now new p k up quiet =
+    k.step.calm refl up (ap may_fail p.card ∙ quiet) ∙ rested_same old polls now p
 
 -- so many times yes don't come without a fault
 pub polled_out : {Own Fine : BusView → BusView → Type 0} (old : BusView) (polls : ℕ) (now : BusView)

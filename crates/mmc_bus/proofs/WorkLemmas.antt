@@ -1,16 +1,18 @@
 -- Parts of a host's work, and two of them one behind the other.
-use Rattle.std.proofs.Common.{◌<◌, ◌∙◌, ◌≡◌, arith, inl, inr, true, ℕ}
+use Rattle.std.proofs.Common.{◌<◌, ◌∙◌, ◌≡◌, arith, inl, inr, subst, true, ℕ}
 use Rattle.std.proofs.lemmas.Bool.{cases_lt}
 use Rattle.std.specs.Prelude.{None, Result, Some}
 use Rattle.mmc_card.specs.BusView.{BusView}
 use Rattle.mmc_card.specs.CardAnswer.{CardAnswer}
 use Rattle.mmc_card.specs.Faults.{NoFault}
-use Rattle.mmc_card.specs.Laws.{erased_by, is_frame_of_run}
+use Rattle.mmc_card.specs.Card.{holds}
+use Rattle.mmc_card.specs.Laws.{erased_by, is_frame_of_run, maybe_erased}
+use Rattle.mmc_card.specs.Sectors.{Within}
 use Rattle.mmc_card.specs.declared.exchange.Reply.{Reply}
 use Rattle.mmc_bus.specs.declared.host.Unheard.{Unheard}
 use Rattle.mmc_bus.specs.Exchanges.{Kept}
-use Rattle.mmc_bus.specs.Learned.{Asked, Stays}
-use Rattle.mmc_bus.specs.Work.{Anything, Narrows, StaysSet, Worked}
+use Rattle.mmc_bus.specs.Learned.{Asked, CommandFacts, Stays}
+use Rattle.mmc_bus.specs.Work.{Anything, Moved, Narrows, StaysSet, Worked}
 
 pub stays_then : (a b c : BusView) → Stays a b → Stays b c → Stays a c
 stays_then a b c p q =
@@ -92,6 +94,63 @@ worked_as a b p sectors own fine = record {
   stays = p.stays;
   set = p.set;
   sectors = sectors;
+  own = own;
+  fine = fine;
+}
+
+-- Work while the card goes from state to state.
+
+-- work that leaves the card as it is set is such work too
+pub moved : {Own Fine All Calm : BusView → BusView → Type 0} (a b : BusView) → Worked Narrows Own Fine a b → All a b
+    → (NoFault a b → Calm a b) → Moved All Calm a b
+moved a b p own fine = record {
+  was_kept = p.was_kept;
+  was_card = p.was_card;
+  is_card = p.is_card;
+  stays = p.stays;
+  narrows = p.sectors;
+  own = own;
+  fine = fine;
+}
+
+-- a command that erases nothing
+pub moved_by : {X : Type 0} {Own Fine : BusView → BusView → Type 0} {answers : CardAnswer → Result X Unheard}
+    (old : BusView) (index argument : ℕ) (heard : Result X Unheard) (new : BusView)
+    → erased_by old.card (Some (index, argument)) ≡ None
+    → Kept old (CommandFacts answers old index argument heard new) new
+    → Own old new → (NoFault old new → Fine old new) → Moved Own Fine old new
+moved_by old index argument heard new none k own fine = record {
+  was_kept = k.was_kept;
+  was_card = k.was_card;
+  is_card = k.is_card;
+  stays = k.step.stays;
+  narrows = subst (λ e. Within (holds new.card) (maybe_erased e (holds old.card))) none k.step.narrows;
+  own = own;
+  fine = fine;
+}
+
+-- one part behind the other
+pub moved_then : {Own Fine More Easy All Calm : BusView → BusView → Type 0} (a b c : BusView) → Moved Own Fine a b
+    → Moved More Easy b c → All a c → (NoFault a c → Calm a c) → Moved All Calm a c
+moved_then a b c p q own fine = record {
+  was_kept = p.was_kept;
+  was_card = p.was_card;
+  is_card = q.is_card;
+  stays = stays_then a b c p.stays q.stays;
+  narrows = narrows_then a b c p.narrows q.narrows;
+  own = own;
+  fine = fine;
+}
+
+-- of the same work something else holds
+pub moved_as : {Own Fine All Calm : BusView → BusView → Type 0} (a b : BusView) → Moved Own Fine a b → All a b
+    → (NoFault a b → Calm a b) → Moved All Calm a b
+moved_as a b p own fine = record {
+  was_kept = p.was_kept;
+  was_card = p.was_card;
+  is_card = p.is_card;
+  stays = p.stays;
+  narrows = p.narrows;
   own = own;
   fine = fine;
 }

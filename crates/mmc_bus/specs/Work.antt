@@ -46,3 +46,17 @@ pub record Worked (Holds Own Fine : BusView → BusView → Type 0) (old new : B
 abbrev pub Works : (BusView → BusView → Type 0) → (BusView → BusView → Type 0) → (BusView → BusView → Type 0) → BusView
     → BusView → Type 0
 Works Holds Own Fine old new = new.is_kept ≡ true → Worked Holds Own Fine old new
+
+-- What was done over a bus that is kept, while the card goes from state to state: no sector may hold more; `Own` holds,
+-- whatever fell, and `Fine` where no fault fell.
+pub record Moved (Own Fine : BusView → BusView → Type 0) (old new : BusView) : Type 0 where
+  pub was_kept : old.is_kept ≡ true
+  pub was_card : IsCard old.card
+  pub is_card : IsCard new.card
+  pub stays : Stays old new
+  pub narrows : Narrows old new
+  pub own : Own old new
+  pub fine : NoFault old new → Fine old new
+
+abbrev pub Moves : (BusView → BusView → Type 0) → (BusView → BusView → Type 0) → BusView → BusView → Type 0
+Moves Own Fine old new = new.is_kept ≡ true → Moved Own Fine old new

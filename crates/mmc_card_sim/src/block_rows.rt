@@ -110,7 +110,8 @@ impl Chip {
         DataIn::Good
     }
 
-    /// Sends the block that was asked for, if one was, the lines of the host are the card's, and the buffer has its length.
+    /// Sends the block that was asked for, if one was, the lines of the host are the card's, and the buffer has its
+    /// length.
     pub fn send(&mut self, lines: Lines, buffer: &mut [u8]) -> DataIn
         ensures { Sends lines (card_of self.old) (card_of self.new) (length buffer.old) result buffer.new }
     {
@@ -123,8 +124,8 @@ impl Chip {
         }
     }
 
-    /// Whether the card would accept a block: one is to come, it isn't busy, the lines of the host are its own, and there
-    /// is such a sector.
+    /// Whether the card would accept a block: one is to come, it isn't busy, the lines of the host are its own, and
+    /// there is such a sector.
     pub fn can_accept(&self, lines: Lines) -> bool
         ensures { result ≡ can_accept lines (card_of self.now) }
     {

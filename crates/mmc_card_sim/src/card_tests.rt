@@ -25,8 +25,8 @@ fn with_byte_addresses(alloc: Global, csd: u128, sectors: u32) -> Result<CardSpe
     })
 }
 
-// By READ_BL_LEN, 9 to 11, an eMMC device with byte addresses has 4, 8 or 16 sectors, and its first block length is 512,
-// 1,024 or 2,048 bytes: only CMD16 makes it read by sectors.
+// By READ_BL_LEN, 9 to 11, an eMMC device with byte addresses has 4, 8 or 16 sectors, and its first block length is
+// 512, 1,024 or 2,048 bytes: only CMD16 makes it read by sectors.
 #[test]
 fn begins_with_its_block_length(rt: HostRuntime) -> Result<(), Fail> {
     for (csd, sectors, status, data) in [
@@ -168,7 +168,8 @@ fn is_busy_for_three_polls(rt: HostRuntime) -> Result<(), Fail> {
     Ok(())
 }
 
-// An uncounted read goes past the last sector, which shows in the response to CMD12. A counted one ends there by itself.
+// An uncounted read goes past the last sector, which shows in the response to CMD12. A counted one ends there by
+// itself.
 #[test]
 fn reads_up_to_the_end(rt: HostRuntime) -> Result<(), Fail> {
     let mut card = selected_sd(rt.alloc(), card_b())?;
@@ -287,8 +288,8 @@ fn erases_sectors_of_sd(rt: HostRuntime) -> Result<(), Fail> {
     Ok(())
 }
 
-// A wrong check and an unknown command show in the next status alone, another card's RCA nowhere, and an address that the
-// card hasn't in the response to its own command.
+// A wrong check and an unknown command show in the next status alone, another card's RCA nowhere, and an address that
+// the card hasn't in the response to its own command.
 #[test]
 fn shows_errors_once(rt: HostRuntime) -> Result<(), Fail> {
     let mut card = selected_sd(rt.alloc(), card_a())?;

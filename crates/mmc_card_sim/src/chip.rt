@@ -341,8 +341,8 @@ impl Chip {
         }
     }
 
-    /// The answer to a command. The first `ready` readiness inquiries are answered with not ready. Where the check of the
-    /// command is wrong, the card notes that, drops a preset count, and is silent.
+    /// The answer to a command. The first `ready` readiness inquiries are answered with not ready. Where the check of
+    /// the command is wrong, the card notes that, drops a preset count, and is silent.
     pub fn command(&mut self, ready: u8, frame: &[u8; 6]) -> Answer
         ensures { Answers (answered (inquiry_choice ready (card_of self.old)) (card_of self.old) (command_in frame.now)) self.new result }
     {

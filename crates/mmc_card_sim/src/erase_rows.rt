@@ -1,5 +1,5 @@
-// What the card in memory does with the commands of erase and trim (SD Physical Layer 6.00, section 4.3.5; JESD84-B51, sections
-// 6.6.9 and 6.6.10), each in tran.
+// What the card in memory does with the commands of erase and trim (SD Physical Layer 6.00, section 4.3.5; JESD84-B51,
+// sections 6.6.9 and 6.6.10), each in tran.
 ghost use Rattle.std.specs.Prelude.{◌<◌, ◌≡◌, ◌≤◌, ◌^◌, length, not, true};
 
 use crate::answer::Answer;

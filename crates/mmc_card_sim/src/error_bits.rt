@@ -1,4 +1,5 @@
-// Error bits of the card status (SD Physical Layer 6.00, section 4.10.1; JESD84-B51, section 6.13), in units of bit 13, as the card keeps them.
+// Error bits of the card status (SD Physical Layer 6.00, section 4.10.1; JESD84-B51, section 6.13), in units of bit 13,
+// as the card keeps them.
 
 /// Bit 31: an address past the end.
 pub const OUT_OF_RANGE: u32 = 1 << (31 - 13);

@@ -17,8 +17,8 @@ pub struct Flips {
     pub second: Option<u8>,
 }
 
-/// A fault that a card in memory can be told to have. Each is a fault of the card relation, and falls only where it fits
-/// its exchange.
+/// A fault that a card in memory can be told to have. Each is a fault of the card relation, and falls only where it
+/// fits its exchange.
 #[derive(Clone, Copy, Debug, PartialEq, Eq)]
 pub enum Fault {
     /// The card doesn't see the command.

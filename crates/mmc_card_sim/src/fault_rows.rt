@@ -1,5 +1,5 @@
-// What the card in memory does in a fault: a function for each row of the card relation that leaves the card otherwise than a
-// faithful step.
+// What the card in memory does in a fault: a function for each row of the card relation that leaves the card otherwise
+// than a faithful step.
 ghost use Rattle.std.specs.Prelude.{◌≡◌, false};
 ghost use Rattle.mmc_card_sim.specs.Store.{lands_by};
 

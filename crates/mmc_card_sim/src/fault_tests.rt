@@ -46,8 +46,8 @@ fn loses_commands_and_answers(rt: HostRuntime) -> Result<(), Fail> {
     Ok(())
 }
 
-// A garbled command drops the count that CMD23 has preset, and a lost one doesn't: of an uncounted read the card sends on
-// after the sector.
+// A garbled command drops the count that CMD23 has preset, and a lost one doesn't: of an uncounted read the card sends
+// on after the sector.
 #[test]
 fn drops_a_preset_count(rt: HostRuntime) -> Result<(), Fail> {
     for (fault, begun, ended) in [
@@ -114,8 +114,8 @@ fn spoils_blocks(rt: HostRuntime) -> Result<(), Fail> {
     Ok(())
 }
 
-// A block that is rejected, or whose status is lost: after CMD24 the card is in tran with the old bytes, or in prg where it
-// has taken the block.
+// A block that is rejected, or whose status is lost: after CMD24 the card is in tran with the old bytes, or in prg
+// where it has taken the block.
 #[test]
 fn rejects_blocks(rt: HostRuntime) -> Result<(), Fail> {
     for (fault, taken, status, byte) in [
@@ -160,7 +160,8 @@ fn offers_a_rejected_block_again(rt: HostRuntime) -> Result<(), Fail> {
     Ok(())
 }
 
-// Programming of a write fails at a poll, which is answered no: the bytes are old or new, and the next status has ERROR.
+// Programming of a write fails at a poll, which is answered no: the bytes are old or new, and the next status has
+// ERROR.
 #[test]
 fn fails_writes(rt: HostRuntime) -> Result<(), Fail> {
     for (outcome, byte) in [(Outcome::Old, 0x00), (Outcome::New, 0x5a)] {

@@ -1,5 +1,5 @@
-// The exchanges of the card in memory, each with the fault that is planned for it, if any. A fault falls where it fits its
-// exchange; otherwise the exchange is a faithful step. Each answers beside its result whether the fault fell.
+// The exchanges of the card in memory, each with the fault that is planned for it, if any. A fault falls where it fits
+// its exchange; otherwise the exchange is a faithful step. Each answers beside its result whether the fault fell.
 ghost use Rattle.std.specs.Prelude.{◌≡◌, Some, length};
 ghost use Rattle.mmc_card_sim.specs.declared.fault.Fault.TheVariants.{FlipReply, LoseReply};
 

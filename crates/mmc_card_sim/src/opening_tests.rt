@@ -1,5 +1,5 @@
-// The exchanges with which a host identifies each card and learns what it can do, from power on (SD Physical Layer 6.00,
-// sections 4.2 and 4.3.10; JESD84-B51, sections 6.4 and 6.6).
+// The exchanges with which a host identifies each card and learns what it can do, from power on (SD Physical Layer
+// 6.00, sections 4.2 and 4.3.10; JESD84-B51, sections 6.4 and 6.6).
 use crate::test_cards::*;
 use crate::{CardSpec, SimCard};
 use mmc_bus::{Bus, DataIn, Reply, Timing, Want, Width};
@@ -212,8 +212,8 @@ fn identified_m(rt: &impl Abort, alloc: Global, ext_csd: [u8; 512]) -> Result<Si
     Ok(card)
 }
 
-// Card M is opened. What can be switched is as after power on, whatever its EXT_CSD is made with; after the switches eight
-// lines at high speed carry it.
+// Card M is opened. What can be switched is as after power on, whatever its EXT_CSD is made with; after the switches
+// eight lines at high speed carry it.
 #[test]
 fn opens_card_m(rt: HostRuntime) -> Result<(), Fail> {
     let mut made = ext_csd_m();

@@ -53,7 +53,8 @@ impl SimCard {
     ghost use Rattle.mmc_bus.specs.Wires.{IsUnused};
     ghost use Rattle.mmc_card_sim.specs.SimView.{sim_bus_view};
 
-    /// The card of `PlainCard`, without a planned fault: of this many sectors, from 1 to `MAX_SECTORS`, that are all 00h.
+    /// The card of `PlainCard`, without a planned fault: of this many sectors, from 1 to `MAX_SECTORS`, that are all
+    /// 00h.
     ///
     /// # Errors
     /// `NoMemory` where the room for the sectors is refused.
@@ -71,9 +72,9 @@ impl SimCard {
     }
 }
 
-/// A faithful SD card of standard capacity, with byte addresses, that is already selected under RCA 1: in tran, with one
-/// line at default speed and blocks of 512 bytes. It is ready at the first inquiry, never busy at a poll, and raises no
-/// fault; it has no CMD6, CMD8 and CMD23.
+/// A faithful SD card of standard capacity, with byte addresses, that is already selected under RCA 1: in tran, with
+/// one line at default speed and blocks of 512 bytes. It is ready at the first inquiry, never busy at a poll, and
+/// raises no fault; it has no CMD6, CMD8 and CMD23.
 #[derive(Debug, Drop)]
 pub struct PlainCard {
     sim: SimCard,

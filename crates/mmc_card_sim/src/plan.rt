@@ -114,8 +114,8 @@ impl Plan {
         }
     }
 
-    /// Plans a fault for an exchange, where so many exchanges have been made; a second one for the same exchange replaces the
-    /// first.
+    /// Plans a fault for an exchange, where so many exchanges have been made; a second one for the same exchange
+    /// replaces the first.
     ///
     /// # Errors
     /// `PlanFull`, then `InThePast`; nothing has changed then.

@@ -24,8 +24,8 @@ fn counted(faults: u64, fell: bool) -> u64
     if fell { faults + 1 } else { faults }
 }
 
-/// A card of any kind, with the faults that are planned for its exchanges: each falls in its exchange where it fits, and is
-/// counted; where it doesn't fit nothing comes of it.
+/// A card of any kind, with the faults that are planned for its exchanges: each falls in its exchange where it fits,
+/// and is counted; where it doesn't fit nothing comes of it.
 #[derive(Debug, Drop)]
 pub struct SimCard {
     chip: Chip,
@@ -57,7 +57,7 @@ impl SimCard {
     ghost use Rattle.mmc_card_sim.specs.Store.{bytes_of};
 
     /// This card, before any exchange and without a planned fault.
-    pub fn unused(chip: Chip, delays: Delays) -> SimCard
+    pub(crate) fn unused(chip: Chip, delays: Delays) -> SimCard
         requires card { IsCard (card_of chip) }
         requires soon_ready { delays.ready ≤ 8 }
         requires soon_rested { delays.busy ≤ 8 }

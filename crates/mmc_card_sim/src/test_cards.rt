@@ -1,5 +1,5 @@
-// Four cards, and what tests say of them. `A`, `B` and `H` are SD cards: `A` has byte addresses, `B` knows CMD23 too, and
-// `H` has sector addresses and high speed. `M` is an eMMC device with sector addresses.
+// Four cards, and what tests say of them. `A`, `B` and `H` are SD cards: `A` has byte addresses, `B` knows CMD23 too,
+// and `H` has sector addresses and high speed. `M` is an eMMC device with sector addresses.
 ghost use Rattle.std.specs.Prelude.{◌<◌};
 
 use crate::{CardSpec, Fault, KindRegisters, MmcRegisters, Registers, SdRegisters, SimCard};

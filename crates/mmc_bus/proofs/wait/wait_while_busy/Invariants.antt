@@ -9,3 +9,4 @@ invariant-loop-polls g l =
     ((g.B.Bus.view l.bus).is_kept ≡ true → Polling (g.B.Bus.view l.initial.bus) l._polls (g.B.Bus.view l.bus))
     × ((g.B.Bus.view l.bus).exchanges ≤ (g.B.Bus.view l.initial.bus).exchanges + l._polls)
     × (0 < l._polls → cause_of (g.B.Bus.view l.bus).last ≡ Some Busy)
+    × ((g.B.Bus.view l.bus).lines ≡ (g.B.Bus.view l.initial.bus).lines)

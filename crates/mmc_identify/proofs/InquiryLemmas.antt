@@ -1,0 +1,207 @@
+-- What CMD8, CMD55 and a readiness inquiry tell.
+use Rattle.std.proofs.Common.{◌<◌, ◌∙◌, ◌≡◌, ◌⊎◌, ◌^◌, Bool, ap, arith, cond, false, inl, inr, refl, subst, sym}
+use Rattle.std.proofs.Common.{true, ℕ}
+use Rattle.std.proofs.lemmas.Bool.{eq-eqb, eqb-true}
+use Rattle.std.specs.Prelude.{◌%◌, ◌/◌, ◌==◌, Err, None, Ok, Option, Result, Some}
+use Rattle.mmc_frame.specs.Field.{field}
+use Rattle.mmc_frame.specs.declared.card_state.State.TheVariants.{Idle}
+use Rattle.mmc_frame.specs.declared.kind.Kind.{Kind}
+use Rattle.mmc_frame.specs.declared.kind.Kind.TheVariants.{Mmc, Sd}
+use Rattle.mmc_regs.specs.Ocr.{card_capacity_status}
+use Rattle.mmc_card.specs.BusView.{BusView}
+use Rattle.mmc_card.specs.Card.{Card, IsCard, is_identified}
+use Rattle.mmc_card.specs.CardAnswer.{done, refused, shown, status}
+use Rattle.mmc_card.specs.Faults.{NoFault}
+use Rattle.mmc_card.specs.Made.{first_rca, is_sd}
+use Rattle.mmc_card.specs.Profile.{InProfile}
+use Rattle.mmc_card.specs.Rows.{without_addresses}
+use Rattle.mmc_card.specs.RowsErase.{forgotten}
+use Rattle.mmc_card.specs.RowsIdentify.{is_served}
+use Rattle.mmc_bus.specs.CommandLaws.{Does, Inquires, IsUnheard, Names, TellsReady, TellsWait}
+use Rattle.mmc_bus.specs.declared.host.Unheard.{Unheard}
+use Rattle.mmc_bus.specs.declared.host.Unheard.TheVariants.{Nothing, Unsound}
+use Rattle.mmc_identify.specs.Judged as judged
+use Rattle.mmc_identify.specs.Stages.{Inquired, IsIdle, echoes, ready_ocr}
+use Rattle.mmc_identify.specs.declared.fault.IdentFault.{IdentFault}
+use Rattle.mmc_identify.specs.declared.fault.IdentFault.TheVariants.{Voltage}
+
+-- CMD8.
+
+idle_done : (card : Card) → IsIdle false 0 card → IsIdle false 0 (done card)
+idle_done card idle = record { state = idle.state; app = refl; inquiries = idle.inquiries }
+
+idle_refused : (card : Card) → IsIdle false 0 card → IsIdle false 0 (refused card)
+idle_refused card idle = record { state = idle.state; app = refl; inquiries = idle.inquiries }
+
+-- a card that knows it repeats it, and of no other anything is heard
+abbrev Repeats : BusView → Result ℕ Unheard → BusView → Type 0
+Repeats old heard new =
+    (old.card.made.kind ≡ Sd
+    → Does ((old.card.state ≡ Idle) × (old.card.made.answers_cmd8 ≡ true)) 0x1aa (done old.card) old heard new)
+    × (old.card.made.kind ≡ Sd → old.card.made.answers_cmd8 ≡ false → old.card.state ≡ Idle
+    → IsUnheard (refused old.card) old heard new)
+    × (old.card.made.kind ≡ Mmc → old.card.state ≡ Idle → IsUnheard (refused old.card) old heard new)
+
+probed_by : (kind : Kind) (answers : Bool) (old : BusView) (heard : Result ℕ Unheard) (new : BusView)
+    → old.card.made.kind ≡ kind → old.card.made.answers_cmd8 ≡ answers → Repeats old heard new → NoFault old new
+    → IsIdle false 0 old.card
+    → (judged.echoed heard ≡ Ok (echoes old.card.made)) × IsIdle false 0 new.card
+probed_by Sd true old heard new is knows repeats same idle =
+    let f = (repeats.0 is).fine same (idle.state, knows) in
+    (ap judged.echoed f.0 ∙ rw (is, knows) refl, subst (IsIdle false 0) (sym f.1) (idle_done old.card idle))
+probed_by Sd false old heard new is knows repeats same idle =
+    let f = repeats.1 is knows idle.state same in
+    (ap judged.echoed f.0 ∙ rw (is, knows) refl, subst (IsIdle false 0) (sym f.1) (idle_refused old.card idle))
+probed_by Mmc answers old heard new is knows repeats same idle =
+    let f = repeats.2 is idle.state same in
+    (ap judged.echoed f.0 ∙ rw is refl, subst (IsIdle false 0) (sym f.1) (idle_refused old.card idle))
+
+pub probed : (old : BusView) (heard : Result ℕ Unheard) (new : BusView) (result : Result Bool IdentFault)
+    → result ≡ judged.echoed heard → Repeats old heard new → NoFault old new → IsIdle false 0 old.card
+    → (result ≡ Ok (echoes old.card.made)) × IsIdle false 0 new.card
+probed old heard new result is repeats same idle =
+    let p = probed_by old.card.made.kind old.card.made.answers_cmd8 old heard new refl refl repeats same idle in
+    (is ∙ p.0, p.1)
+
+-- CMD55.
+
+abbrev Expects : BusView → Result ℕ Unheard → BusView → Type 0
+Expects old heard new =
+    Does ((old.card.made.kind ≡ Sd) × ((old.card.state ≡ Idle) ⊎ (is_identified old.card.state ≡ true))
+    × Names 0 old.card) (status true (without_addresses old.card))
+    (record (shown (forgotten old.card)) { app = true }) old heard new
+
+-- an SD card in idle goes by the RCA 0, and an eMMC device by 1
+announced_by : (kind : Kind) (old : BusView) (heard : Result ℕ Unheard) (new : BusView) (times : ℕ)
+    → old.card.made.kind ≡ kind → IsCard old.card → Expects old heard new
+    → ((Names 0 old.card → ⊥) → IsUnheard old.card old heard new) → NoFault old new → IsIdle false times old.card
+    → (judged.answered heard ≡ Ok (is_sd kind)) × IsIdle (is_sd kind) times new.card
+announced_by Sd old heard new times is card expects other same idle =
+    let rca : old.card.rca ≡ 0 = card.rca.first (ap is_identified idle.state) ∙ ap first_rca is in
+    let f = expects.fine same (is, inl idle.state, sym rca) in
+    let after : IsIdle true times (record (shown (forgotten old.card)) { app = true }) =
+    record { state = idle.state; app = refl; inquiries = idle.inquiries } in
+    (ap judged.answered f.0, subst (IsIdle true times) (sym f.1) after)
+announced_by Mmc old heard new times is card expects other same idle =
+    let rca : old.card.rca ≡ 1 = card.rca.first (ap is_identified idle.state) ∙ ap first_rca is in
+    let f = other (λ mine. (let e : 0 ≡ 1 = mine ∙ rca in cc)) same in
+    (ap judged.answered f.0, subst (IsIdle false times) (sym f.1) idle)
+
+pub announced : (old : BusView) (heard : Result ℕ Unheard) (new : BusView) (result : Result Bool IdentFault)
+    → result ≡ judged.answered heard → IsCard old.card → Expects old heard new
+    → ((Names 0 old.card → ⊥) → IsUnheard old.card old heard new) → NoFault old new → (times : ℕ)
+    → IsIdle false times old.card
+    → (result ≡ Ok (is_sd old.card.made.kind)) × IsIdle (is_sd old.card.made.kind) times new.card
+announced old heard new result is card expects other same times idle =
+    let p = announced_by old.card.made.kind old heard new times refl card expects other same idle in
+    (is ∙ p.0, p.1)
+
+answered_ok : (heard : Result ℕ Unheard) → judged.answered heard ≡ Ok true → (told : ℕ) × (heard ≡ Ok told)
+answered_ok (Ok told) h = (told, refl)
+answered_ok (Err Nothing) h = cc
+answered_ok (Err Unsound) h = cc
+
+-- whatever fell, only an SD card answers
+pub answered_by_sd : (old : BusView) (heard : Result ℕ Unheard) (new : BusView) (result : Result Bool IdentFault)
+    → result ≡ judged.answered heard → Expects old heard new → result ≡ Ok true → old.card.made.kind ≡ Sd
+answered_by_sd old heard new result is expects ok =
+    let told = answered_ok heard (sym is ∙ ok) in (expects.sound told.0 told.1).0.0
+
+-- Inquiries.
+
+inquired_ready : (ocr : ℕ) → (ocr / 0x100000 % 4 == 3) ≡ true → (ocr / 0x80000000 == 1) ≡ true
+    → judged.inquired (Ok ocr) ≡ Ok (Some ocr)
+inquired_ready ocr window ready = rw (window, ready) refl
+
+inquired_wait : (ocr : ℕ) → (ocr / 0x100000 % 4 == 3) ≡ true → (ocr / 0x80000000 == 1) ≡ false
+    → judged.inquired (Ok ocr) ≡ Ok None
+inquired_wait ocr window wait = rw (window, wait) refl
+
+low_ocr : (ocr : ℕ) → ocr < 2 ^ 31 → (ocr / 0x80000000 == 1) ≡ false
+low_ocr ocr below = let zero : ocr / 0x80000000 ≡ 0 = omega (arith, below) in rw zero refl
+
+-- the card is ready, or isn't yet
+inquiry_told : (times : ℕ) (old : BusView) (heard : Result ℕ Unheard) (new : BusView) (ocr : ℕ) → IsCard old.card
+    → InProfile old.card.made → old.card.inquiries ≡ times → old.card.state ≡ Idle → heard ≡ Ok ocr
+    → TellsReady old.card ocr new.card ⊎ (TellsWait old.card ocr new.card × (old.card.inquiries < 8))
+    → Inquired times old.card.made (judged.inquired heard) new.card
+inquiry_told times old heard new ocr card profile asked idle is (inl ready) =
+    let below = card.registers.ocr in
+    let window = profile.window in
+    let told = ready.1 in
+    subst (λ r. Inquired times old.card.made r new.card)
+    (sym (ap judged.inquired is
+    ∙ inquired_ready ocr (eq-eqb _ 3 (omega (arith, told, window))) (eq-eqb _ 1 (omega (arith, told, below)))))
+    (told, ap (λ (c : Card). c.state) ready.0)
+inquiry_told times old heard new ocr card profile asked idle is (inr wait) =
+    let below = card.registers.ocr in
+    let window = profile.window in
+    let told = wait.0.1 in
+    let few = wait.1 in
+    subst (λ r. Inquired times old.card.made r new.card)
+    (sym (ap judged.inquired is
+    ∙ inquired_wait ocr (eq-eqb _ 3 (omega (arith, told, window))) (low_ocr ocr (omega (arith, told, below))))) (
+      omega (arith, few, asked),
+      record {
+        state = ap (λ (c : Card). c.state) wait.0.0 ∙ idle;
+        app = ap (λ (c : Card). c.app) wait.0.0;
+        inquiries = ap (λ (c : Card). c.inquiries) wait.0.0 ∙ omega (arith, few, asked);
+      },
+    )
+
+pub inquiry_fine : {IsThere IsServed : Type 0} (app : Bool) (times : ℕ) (old : BusView) (heard : Result ℕ Unheard)
+    (new : BusView) (result : Result (Option ℕ) IdentFault) → result ≡ judged.inquired heard → IsCard old.card
+    → Inquires IsThere IsServed old heard new → NoFault old new → IsThere → IsServed → InProfile old.card.made
+    → IsIdle app times old.card → Inquired times old.card.made result new.card
+inquiry_fine app times old heard new result is card inquires same there served profile idle =
+    let f = inquires.fine same there served in
+    subst (λ r. Inquired times old.card.made r new.card) (sym is)
+    (inquiry_told times old heard new f.0 card profile idle.inquiries idle.state f.1 f.2)
+
+inquired_at : (window ready : Bool) (told ocr : ℕ) → ready ≡ (told / 0x80000000 == 1)
+    → let r : Result (Option ℕ) IdentFault = cond window (cond ready (Ok (Some told)) (Ok None)) (Err Voltage) in
+    r ≡ Ok (Some ocr) → (let x : Result ℕ Unheard = Ok told in x ≡ Ok ocr) × (ocr / 0x80000000 ≡ 1)
+inquired_at true true told ocr e h =
+    let same : told ≡ ocr = cc in
+    (ap Ok same, ap (λ n. n / 0x80000000) (sym same) ∙ eqb-true (told / 0x80000000) 1 (sym e))
+inquired_at true false told ocr e h = cc
+inquired_at false ready told ocr e h = cc
+
+inquired_some : (heard : Result ℕ Unheard) (ocr : ℕ) → judged.inquired heard ≡ Ok (Some ocr)
+    → (heard ≡ Ok ocr) × (ocr / 0x80000000 ≡ 1)
+inquired_some (Ok told) ocr h =
+    inquired_at (told / 0x100000 % 4 == 3) (told / 0x80000000 == 1) told ocr refl h
+inquired_some (Err unheard) ocr h = cc
+
+-- bit 31 is told by a card that is ready alone
+ready_alone : (old : BusView) (ocr : ℕ) (new : BusView) → IsCard old.card → ocr / 0x80000000 ≡ 1
+    → TellsReady old.card ocr new.card ⊎ TellsWait old.card ocr new.card → ocr ≡ ready_ocr old.card.made
+ready_alone old ocr new card high (inl ready) = ready.1
+ready_alone old ocr new card high (inr wait) =
+    let below = card.registers.ocr in let told = wait.1 in absurd (omega (arith, below, told, high))
+
+-- whatever fell, the OCR of a card that is ready is its own
+pub inquiry_own : {IsThere IsServed : Type 0} (old : BusView) (heard : Result ℕ Unheard) (new : BusView)
+    (result : Result (Option ℕ) IdentFault) → result ≡ judged.inquired heard → IsCard old.card
+    → Inquires IsThere IsServed old heard new → (ocr : ℕ) → result ≡ Ok (Some ocr)
+    → IsThere × (ocr ≡ ready_ocr old.card.made)
+inquiry_own old heard new result is card inquires ocr ok =
+    let s = inquired_some heard ocr (sym is ∙ ok) in
+    let t = inquires.sound ocr s.0 in
+    (t.0, ready_alone old ocr new card s.1 t.1)
+
+-- A host that says HCS where it has to.
+
+served_by : (high : Bool) (card : Card) (argument : ℕ) → (card_capacity_status card.made.ocr == 1) ≡ high
+    → (high ≡ true → field 30 30 argument ≡ 1) → is_served card argument ≡ true
+served_by true card argument e says = rw e (eq-eqb (field 30 30 argument) 1 (says refl))
+served_by false card argument e says = rw e refl
+
+says_hcs : (hcs : Bool) → hcs ≡ true → field 30 30 (judged.window hcs) ≡ 1
+says_hcs true h = refl
+says_hcs false h = cc
+
+pub served : (hcs : Bool) (card : Card) (argument : ℕ) → argument ≡ judged.window hcs
+    → (card_capacity_status card.made.ocr ≡ 1 → hcs ≡ true) → is_served card argument ≡ true
+served hcs card argument is can =
+    served_by _ card argument refl (λ high. ap (field 30 30) is ∙ says_hcs hcs (can (eqb-true _ 1 high)))

@@ -1,0 +1,363 @@
+-- How the parts of identification join.
+use Rattle.std.proofs.Common.{◌∙◌, ◌≡◌, Bool, List, ap, false, inl, inr, refl, subst, sym, true, ℕ}
+use Rattle.std.proofs.lemmas.Result.{IfOk-from_err}
+use Rattle.std.specs.Prelude.{Err, IfOk, IsErr, IsOk, Ok, Result, is_ok}
+use Rattle.mmc_frame.specs.declared.card_state.State.{State}
+use Rattle.mmc_frame.specs.declared.card_state.State.TheVariants.{Data, Dis, Ident, Idle, Prg, Rcv, Ready, Stby, Tran}
+use Rattle.mmc_frame.specs.declared.kind.Kind.{Kind}
+use Rattle.mmc_frame.specs.declared.kind.Kind.TheVariants.{Mmc, Sd}
+use Rattle.mmc_card.specs.declared.exchange.Lines.{Lines}
+use Rattle.mmc_card.specs.Blocks.{rested}
+use Rattle.mmc_card.specs.BusView.{BusView}
+use Rattle.mmc_card.specs.Card.{Card, is_in, is_selected}
+use Rattle.mmc_card.specs.Made.{Made, is_sd}
+use Rattle.mmc_card.specs.Profile.{InProfile}
+use Rattle.mmc_bus.specs.declared.cause.Cause.{Cause}
+use Rattle.mmc_bus.specs.Learned.{may_fail}
+use Rattle.mmc_bus.specs.Work.{Moved, Narrows, Worked}
+use Rattle.mmc_bus.proofs.WorkLemmas.{moved, moved_as, moved_then, quiet_parts}
+use Rattle.mmc_identify.specs.Stages.{CanStart, HasTold, IsIdle, IsLeft, IsNamed, IsPolled, IsSelected, Looks, echoes}
+use Rattle.mmc_identify.specs.Stages.{rca_of, ready_ocr}
+use Rattle.mmc_identify.specs.declared.fault.IdentFault.{IdentFault}
+use Rattle.mmc_identify.specs.declared.identification.Registers.{Registers}
+
+-- Two parts, of each of which its own holds.
+pub both : {Own Fine More Easy : BusView → BusView → Type 0} (a b c : BusView) → Moved Own Fine a b
+    → Moved More Easy b c → Moved (λ old new. Own a b × More b c) (λ old new. Fine a b × Easy b c) a c
+both a b c p q =
+    moved_then a b c p q (p.own, q.own)
+    (λ same. let parts = quiet_parts a b c p.stays q.stays same in (p.fine parts.0, q.fine parts.1))
+
+-- what is an error is no success
+pub refuted : {X P : Type 0} (r : Result X IdentFault) → IsErr r → IsOk r → P
+refuted (Ok x) err ok = cc (err)
+refuted (Err fault) err ok = cc (ok)
+
+-- Polls.
+
+-- a card as CMD7 left it, or one that isn't selected any more, doesn't program
+at_rest : (state : State) → (is_selected state ≡ true → state ≡ Tran) → is_in state Prg ≡ false
+at_rest Idle tran = refl
+at_rest Ready tran = refl
+at_rest Ident tran = refl
+at_rest Stby tran = refl
+at_rest Tran tran = refl
+at_rest Data tran = refl
+at_rest Rcv tran = refl
+at_rest Prg tran = cc (tran refl)
+at_rest Dis tran = refl
+
+rested_is : (old : Card) → is_in old.state Prg ≡ false → rested old ≡ record old { is_busy = false; polled = 0 }
+rested_is old quiet = rw quiet refl
+
+-- whether a card is busy, and how often it was polled, is no part of being selected
+selected_still : (rca : ℕ) (old new : Card) → new ≡ record old { is_busy = false; polled = 0 } → IsSelected rca old
+    → IsSelected rca new
+selected_still rca old new e at =
+    subst (IsSelected rca) (sym e)
+    (record {
+      state = at.state;
+      is_rca = at.is_rca;
+      part = at.part;
+      width = at.width;
+      timing = at.timing;
+      erase_group_def = at.erase_group_def;
+      count = at.count;
+      app = at.app;
+      erase = at.erase;
+      command_errors = at.command_errors;
+      errors = at.errors;
+      switch_error = at.switch_error;
+    })
+
+looks_on : (rca : ℕ) (old new : Card)
+    → (is_selected new.state ≡ true → may_fail old ≡ false → new ≡ rested old) → Looks rca old → Looks rca new
+looks_on rca old new calm looks up =
+    let quiet = at_rest old.state (λ was. (looks was).state) in
+    let e : new ≡ record old { is_busy = false; polled = 0 } = calm up (rw quiet refl) ∙ rested_is old quiet in
+    selected_still rca old new e (looks (ap (λ (c : Card). is_selected c.state) (sym e) ∙ up))
+
+polled_out : (rca : ℕ) (old new : Card) → new ≡ rested old → IsPolled 0 true rca old → IsPolled 0 false rca new
+polled_out rca old new is at =
+    let e : new ≡ record old { is_busy = false; polled = 0 } =
+    is ∙ rested_is old (ap (λ (s : State). is_in s Prg) at.selected.state) in
+    record {
+      selected = selected_still rca old new e at.selected;
+      polled = ap (λ (c : Card). c.polled) e;
+      is_busy = ap (λ (c : Card). c.is_busy) e;
+    }
+
+abbrev pub Waits : ℕ → Result Unit IdentFault → BusView → BusView → Type 0
+Waits rca r a b =
+    Moved (λ old new. IsOk r → Looks rca old.card → Looks rca new.card)
+    (λ old new. IsPolled 0 true rca old.card → IsOk r × IsPolled 0 false rca new.card) a b
+
+pub waited : {Own : BusView → BusView → Type 0} (rca : ℕ) (polls : Result Unit Cause) (r : Result Unit IdentFault)
+    (a b : BusView) → is_ok r ≡ is_ok polls
+    → (IsOk polls → is_selected b.card.state ≡ true → may_fail a.card ≡ false → b.card ≡ rested a.card)
+    → Worked Narrows Own (λ old new. old.card.polled ≡ 0 → IsOk polls × (new.card ≡ rested old.card)) a b
+    → Waits rca r a b
+waited rca polls r a b same calm p =
+    moved a b p (λ ok. looks_on rca a.card b.card (calm (sym same ∙ ok)))
+    (λ quiet at. let f = p.fine quiet at.polled in (same ∙ f.0, polled_out rca a.card b.card f.1 at))
+
+-- From stby to tran.
+
+abbrev pub Selects : ℕ → Result Unit IdentFault → BusView → BusView → Type 0
+Selects rca r a b =
+    Moved (λ old new. IsOk r → Looks rca new.card)
+    (λ old new. InProfile old.card.made → IsNamed rca old.card → IsOk r × IsPolled 0 true rca new.card) a b
+
+abbrev pub Confirms : ℕ → Result Unit IdentFault → BusView → BusView → Type 0
+Confirms rca r a b =
+    Moved (λ old new. Looks rca old.card → IsOk r → IsLeft rca new.card)
+    (λ old new. InProfile old.card.made → IsPolled 0 false rca old.card → IsOk r) a b
+
+abbrev pub Takes : ℕ → Result Unit IdentFault → BusView → BusView → Type 0
+Takes rca r a b =
+    Moved (λ old new. IsOk r → IsLeft rca new.card)
+    (λ old new. InProfile old.card.made → IsNamed rca old.card → IsOk r) a b
+
+pub taken : (rca : ℕ) (r : Result Unit IdentFault) (a b c d : BusView) → Selects rca (Ok tt) a b
+    → Waits rca (Ok tt) b c → Confirms rca r c d → Takes rca r a d
+taken rca r a b c d p q s =
+    let pair = both a b c p q in
+    let all = both a c d pair s in
+    moved_as a d all (λ ok. s.own (q.own refl (p.own refl)) ok)
+    (λ same profile at.
+    let f = all.fine same in
+    f.1 (subst InProfile (sym pair.stays.carried.made) profile) (f.0.1 (f.0.0 profile at).1).1)
+
+pub take_fails : (rca : ℕ) (fault : IdentFault) (r : Result Unit IdentFault) (a b c : BusView) → IsErr r
+    → Selects rca (Ok tt) a b → Waits rca (Err fault) b c → Takes rca r a c
+take_fails rca fault r a b c err p q =
+    let pair = both a b c p q in
+    moved_as a c pair (λ ok. refuted r err ok) (λ same profile at. let f = pair.fine same in cc (f.1 (f.0 profile at).1).0)
+
+-- From idle to ready.
+
+abbrev pub Resets : BusView → BusView → Type 0
+Resets a b = Moved (λ old new. Unit {0}) (λ old new. IsIdle false 0 new.card) a b
+
+abbrev pub Announces : Result Bool IdentFault → BusView → BusView → Type 0
+Announces r a b =
+    Moved (λ old new. r ≡ Ok true → old.card.made.kind ≡ Sd)
+    (λ old new. (times : ℕ) → IsIdle false times old.card
+    → (r ≡ Ok (is_sd old.card.made.kind)) × IsIdle (is_sd old.card.made.kind) times new.card) a b
+
+abbrev pub StartsSd : Bool → Result ℕ IdentFault → BusView → BusView → Type 0
+StartsSd hcs r a b =
+    Moved (λ old new. IfOk r (λ ocr. (old.card.made.kind ≡ Sd) × (ocr ≡ ready_ocr old.card.made)))
+    (λ old new. InProfile old.card.made → CanStart old.card.made hcs → old.card.made.kind ≡ Sd
+    → IsIdle true 0 old.card → (r ≡ Ok (ready_ocr old.card.made)) × (new.card.state ≡ Ready)) a b
+
+abbrev pub StartsMmc : Result ℕ IdentFault → BusView → BusView → Type 0
+StartsMmc r a b =
+    Moved (λ old new. IfOk r (λ ocr. (old.card.made.kind ≡ Mmc) × (ocr ≡ ready_ocr old.card.made)))
+    (λ old new. InProfile old.card.made → old.card.made.kind ≡ Mmc
+    → IsIdle false 0 old.card → (r ≡ Ok (ready_ocr old.card.made)) × (new.card.state ≡ Ready)) a b
+
+abbrev pub Starts : Bool → Result (Kind × ℕ) IdentFault → BusView → BusView → Type 0
+Starts hcs r a b =
+    Moved (λ old new. IfOk r (λ told. (told.0 ≡ old.card.made.kind) × (told.1 ≡ ready_ocr old.card.made)))
+    (λ old new. InProfile old.card.made → CanStart old.card.made hcs → IsIdle false 0 old.card
+    → (r ≡ Ok (old.card.made.kind, ready_ocr old.card.made)) × (new.card.state ≡ Ready)) a b
+
+-- what the inquiries gave is given with the kind
+abbrev pub Gives : Kind → Result ℕ IdentFault → Result (Kind × ℕ) IdentFault → Type 0
+Gives kind (Ok ocr) r = r ≡ Ok (kind, ocr)
+Gives kind (Err fault) r = IsErr r
+
+gives_own : (kind : Kind) (told : Result ℕ IdentFault) (r : Result (Kind × ℕ) IdentFault) (was made : Made)
+    → Gives kind told r → was ≡ made → IfOk told (λ ocr. (was.kind ≡ kind) × (ocr ≡ ready_ocr was))
+    → IfOk r (λ pair. (pair.0 ≡ made.kind) × (pair.1 ≡ ready_ocr made))
+gives_own kind (Ok ocr) r was made e same own =
+    subst (λ x. IfOk x (λ pair. (pair.0 ≡ made.kind) × (pair.1 ≡ ready_ocr made))) (sym e)
+    (sym own.0 ∙ ap (λ (m : Made). m.kind) same, own.1 ∙ ap ready_ocr same)
+gives_own kind (Err fault) r was made err same own = IfOk-from_err r _ err
+
+gives_fine : (kind : Kind) (told : Result ℕ IdentFault) (r : Result (Kind × ℕ) IdentFault) (made : Made)
+    → Gives kind told r → made.kind ≡ kind → told ≡ Ok (ready_ocr made) → r ≡ Ok (made.kind, ready_ocr made)
+gives_fine kind (Ok ocr) r made e is h = e ∙ cc (is, h)
+gives_fine kind (Err fault) r made err is h = cc h
+
+sd_by : (kind : Kind) → (let r : Result Bool IdentFault = Ok true in r ≡ Ok (is_sd kind)) → kind ≡ Sd
+sd_by Sd h = refl
+sd_by Mmc h = cc h
+
+mmc_by : (kind : Kind) → (let r : Result Bool IdentFault = Ok false in r ≡ Ok (is_sd kind)) → kind ≡ Mmc
+mmc_by Sd h = cc h
+mmc_by Mmc h = refl
+
+pub announce_fails : (hcs : Bool) (fault : IdentFault) (r : Result (Kind × ℕ) IdentFault) (a b : BusView) → IsErr r
+    → Announces (Err fault) a b → Starts hcs r a b
+announce_fails hcs fault r a b err p =
+    moved_as a b p (IfOk-from_err r _ err) (λ same profile can idle. cc (p.fine same 0 idle).0)
+
+pub started_sd : (hcs : Bool) (told : Result ℕ IdentFault) (r : Result (Kind × ℕ) IdentFault) (a b c : BusView)
+    → Gives Sd told r → Announces (Ok true) a b → StartsSd hcs told b c → Starts hcs r a c
+started_sd hcs told r a b c gives p q =
+    let pair = both a b c p q in
+    let made = p.stays.carried.made in
+    let back = sym made in
+    moved_as a c pair (gives_own Sd told r b.card.made a.card.made gives made q.own)
+    (λ same profile can idle.
+    let f = pair.fine same in
+    let now = f.0 0 idle in
+    let sd = sd_by a.card.made.kind now.0 in
+    let t = f.1 (subst InProfile back profile) (subst (λ m. CanStart m hcs) back can)
+    (subst (λ (m : Made). m.kind ≡ Sd) back sd) (subst (λ app. IsIdle app 0 b.card) (ap is_sd sd) now.1) in
+    (gives_fine Sd told r a.card.made gives sd (t.0 ∙ ap (λ m. Ok (ready_ocr m)) made), t.1))
+
+pub started_mmc : (hcs : Bool) (told : Result ℕ IdentFault) (r : Result (Kind × ℕ) IdentFault) (a b c d : BusView)
+    → Gives Mmc told r → Announces (Ok false) a b → Resets b c → StartsMmc told c d → Starts hcs r a d
+started_mmc hcs told r a b c d gives p q s =
+    let pair = both a b c p q in
+    let all = both a c d pair s in
+    let made = pair.stays.carried.made in
+    let back = sym made in
+    moved_as a d all (gives_own Mmc told r c.card.made a.card.made gives made s.own)
+    (λ same profile can idle.
+    let f = all.fine same in
+    let mmc = mmc_by a.card.made.kind (f.0.0 0 idle).0 in
+    let t = f.1 (subst InProfile back profile) (subst (λ (m : Made). m.kind ≡ Mmc) back mmc) f.0.1 in
+    (gives_fine Mmc told r a.card.made gives mmc (t.0 ∙ ap (λ m. Ok (ready_ocr m)) made), t.1))
+
+-- From anywhere to ready.
+
+abbrev pub Probes : Result Bool IdentFault → BusView → BusView → Type 0
+Probes r a b =
+    Moved (λ old new. Unit {0})
+    (λ old new. IsIdle false 0 old.card → (r ≡ Ok (echoes old.card.made)) × IsIdle false 0 new.card) a b
+
+abbrev pub Begins : Result (Kind × ℕ) IdentFault → BusView → BusView → Type 0
+Begins r a b =
+    Moved (λ old new. IfOk r (λ told. (told.0 ≡ old.card.made.kind) × (told.1 ≡ ready_ocr old.card.made)))
+    (λ old new. InProfile old.card.made
+    → (r ≡ Ok (old.card.made.kind, ready_ocr old.card.made)) × (new.card.state ≡ Ready)) a b
+
+-- that the host sets its lines is nothing to the card
+lined : (a b : BusView) (lines : Lines) → Resets a b → Resets a (record b { lines = lines })
+lined a b lines p = record {
+  was_kept = p.was_kept;
+  was_card = p.was_card;
+  is_card = p.is_card;
+  stays = record { carried = p.stays.carried; later = p.stays.later };
+  narrows = p.narrows;
+  own = tt;
+  fine = λ same. let f = p.fine same in record { state = f.state; app = f.app; inquiries = f.inquiries };
+}
+
+pub reset_on_lines : (a b c : BusView) (lines : Lines) → c ≡ record b { lines = lines }
+    → (b.is_kept ≡ true → Resets a b) → c.is_kept ≡ true → Resets a c
+reset_on_lines a b c lines e p kept =
+    subst (Resets a) (sym e) (lined a b lines (p (ap (λ (v : BusView). v.is_kept) (sym e) ∙ kept)))
+
+-- a card in profile that repeats what CMD8 tells it may have sector addresses, and no other may
+can_start : (made : Made) → InProfile made → CanStart made (echoes made)
+can_start made profile sd sectors =
+    elim (profile.sd sd).capacity [
+      | inl standard ↦ cc (standard.ccs, sectors)
+      | inr high ↦ rw sd high.told
+    ]
+
+pub probe_fails : (fault : IdentFault) (r : Result (Kind × ℕ) IdentFault) (a b c : BusView) → IsErr r → Resets a b
+    → Probes (Err fault) b c → Begins r a c
+probe_fails fault r a b c err p q =
+    let pair = both a b c p q in
+    moved_as a c pair (IfOk-from_err r _ err)
+    (λ same profile. let f = pair.fine same in cc (f.1 f.0).0)
+
+pub begun : (hcs : Bool) (r : Result (Kind × ℕ) IdentFault) (a b c d : BusView) → Resets a b → Probes (Ok hcs) b c
+    → Starts hcs r c d → Begins r a d
+begun hcs r a b c d p q s =
+    let pair = both a b c p q in
+    let all = both a c d pair s in
+    let made = pair.stays.carried.made in
+    moved_as a d all
+    (subst (λ (m : Made). IfOk r (λ told. (told.0 ≡ m.kind) × (told.1 ≡ ready_ocr m))) made s.own)
+    (λ same profile.
+    let f = all.fine same in
+    let probed = f.0.1 f.0.0 in
+    let there = subst InProfile (sym made) profile in
+    let is : hcs ≡ echoes b.card.made = (let e = probed.0 in cc e) in
+    let echo = is ∙ ap echoes (sym q.stays.carried.made) in
+    let t = f.1 there (subst (CanStart c.card.made) (sym echo) (can_start c.card.made there)) probed.1 in
+    (subst (λ (m : Made). r ≡ Ok (m.kind, ready_ocr m)) made t.0, t.1))
+
+-- From ready to stby: CID, RCA and CSD.
+
+abbrev pub Names : Result (List ℕ) IdentFault → BusView → BusView → Type 0
+Names r a b =
+    Moved (λ old new. IfOk r (λ cid. cid ≡ old.card.made.cid))
+    (λ old new. old.card.state ≡ Ready → (r ≡ Ok old.card.made.cid) × (new.card.state ≡ Ident)) a b
+
+abbrev pub Addresses : Kind → Result ℕ IdentFault → BusView → BusView → Type 0
+Addresses kind r a b =
+    Moved (λ old new. old.card.made.kind ≡ kind → IfOk r (λ rca. rca ≡ rca_of old.card.made))
+    (λ old new. InProfile old.card.made → old.card.made.kind ≡ kind → old.card.state ≡ Ident
+    → (r ≡ Ok (rca_of old.card.made)) × IsNamed (rca_of old.card.made) new.card) a b
+
+abbrev pub Describes : ℕ → Result (List ℕ) IdentFault → BusView → BusView → Type 0
+Describes rca r a b =
+    Moved (λ old new. IfOk r (λ csd. csd ≡ old.card.made.csd))
+    (λ old new. IsNamed rca old.card → (r ≡ Ok old.card.made.csd) × IsNamed rca new.card) a b
+
+abbrev pub IsRegistered : Kind → Result Registers IdentFault → BusView → BusView → Type 0
+IsRegistered kind r a b =
+    Moved (λ old new. old.card.made.kind ≡ kind → IfOk r (λ registers. HasTold old.card.made registers))
+    (λ old new. InProfile old.card.made → old.card.made.kind ≡ kind → old.card.state ≡ Ready
+    → IsOk r × IsNamed (rca_of old.card.made) new.card) a b
+
+pub address_fails : (kind : Kind) (cid : List ℕ) (fault : IdentFault) (r : Result Registers IdentFault)
+    (a b c : BusView) → IsErr r → Names (Ok cid) a b → Addresses kind (Err fault) b c → IsRegistered kind r a c
+address_fails kind cid fault r a b c err p q =
+    let pair = both a b c p q in
+    let back = sym p.stays.carried.made in
+    moved_as a c pair (λ is. IfOk-from_err r _ err)
+    (λ same profile is ready.
+    let f = pair.fine same in
+    cc (f.1 (subst InProfile back profile) (subst (λ (m : Made). m.kind ≡ kind) back is) (f.0 ready).1).0)
+
+-- the CSD is told to the RCA that was told, or not
+described : (kind : Kind) (cid : List ℕ) (rca : ℕ) (r : Result (List ℕ) IdentFault) (a b c d : BusView)
+    → Names (Ok cid) a b → Addresses kind (Ok rca) b c → Describes rca r c d
+    → Moved (λ old new. old.card.made.kind ≡ kind
+    → (cid ≡ old.card.made.cid) × (rca ≡ rca_of old.card.made) × IfOk r (λ csd. csd ≡ old.card.made.csd))
+    (λ old new. InProfile old.card.made → old.card.made.kind ≡ kind → old.card.state ≡ Ready
+    → (r ≡ Ok old.card.made.csd) × IsNamed (rca_of old.card.made) new.card) a d
+described kind cid rca r a b c d p q s =
+    let pair = both a b c p q in
+    let all = both a c d pair s in
+    let made = p.stays.carried.made in
+    let is_kind : a.card.made.kind ≡ kind → b.card.made.kind ≡ kind =
+    λ is. subst (λ (m : Made). m.kind ≡ kind) (sym made) is in
+    let told : a.card.made.kind ≡ kind → rca ≡ rca_of a.card.made = λ is. q.own (is_kind is) ∙ ap rca_of made in
+    moved_as a d all
+    (λ is. (
+      p.own,
+      told is,
+      subst (λ (m : Made). IfOk r (λ csd. csd ≡ m.csd)) pair.stays.carried.made s.own,
+    ))
+    (λ same profile is ready.
+    let f = all.fine same in
+    let named = (f.0.1 (subst InProfile (sym made) profile) (is_kind is) (f.0.0 ready).1).1 in
+    let t = f.1 (subst (λ n. IsNamed n c.card) (sym (q.own (is_kind is))) named) in (
+      subst (λ (m : Made). r ≡ Ok m.csd) pair.stays.carried.made t.0,
+      subst (λ n. IsNamed n d.card) (told is) t.1,
+    ))
+
+pub describe_fails : (kind : Kind) (cid : List ℕ) (rca : ℕ) (fault : IdentFault) (r : Result Registers IdentFault)
+    (a b c d : BusView) → IsErr r → Names (Ok cid) a b → Addresses kind (Ok rca) b c
+    → Describes rca (Err fault) c d → IsRegistered kind r a d
+describe_fails kind cid rca fault r a b c d err p q s =
+    let all = described kind cid rca (Err fault) a b c d p q s in
+    moved_as a d all (λ is. IfOk-from_err r _ err) (λ same profile is ready. cc (all.fine same profile is ready).0)
+
+pub registered : (kind : Kind) (cid csd : List ℕ) (rca : ℕ) (a b c d : BusView) → Names (Ok cid) a b
+    → Addresses kind (Ok rca) b c → Describes rca (Ok csd) c d
+    → IsRegistered kind (Ok (record { cid = cid; rca = rca; csd = csd })) a d
+registered kind cid csd rca a b c d p q s =
+    let all = described kind cid rca (Ok csd) a b c d p q s in
+    moved_as a d all (λ is. let o = all.own is in record { cid = o.0; rca = o.1; csd = o.2 })
+    (λ same profile is ready. (refl, (all.fine same profile is ready).1))

@@ -1,0 +1,5 @@
+pub mod FoundLemmas
+pub mod InquiryLemmas
+pub mod JoinLemmas
+pub mod LoopLemmas
+pub mod SingleLemmas

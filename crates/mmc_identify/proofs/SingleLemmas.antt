@@ -1,0 +1,280 @@
+-- What one exchange of identification tells, and where it leaves the card.
+use Rattle.std.proofs.Common.{◌*◌, ◌<◌, ◌∙◌, ◌≡◌, ◌↔◌, ◌⊎◌, ◌^◌, Bool, List, ap, arith, cond, false, inl, refl}
+use Rattle.std.proofs.Common.{subst, sym, true, ℕ}
+use Rattle.std.specs.Prelude.{◌%◌, ◌&&◌, ◌/◌, ◌==◌, Err, IfOk, IsOk, Ok, Result, not}
+use Rattle.std.proofs.lemmas.Bool.{eqb-true}
+use Rattle.mmc_frame.specs.Field.{field}
+use Rattle.mmc_frame.specs.Status.{IsClean, error_bits, state_number}
+use Rattle.mmc_frame.specs.declared.card_state.State.{State}
+use Rattle.mmc_frame.specs.declared.card_state.State.TheVariants.{Ident, Ready, Stby, Tran}
+use Rattle.mmc_frame.specs.declared.kind.Kind.{Kind}
+use Rattle.mmc_frame.specs.declared.kind.Kind.TheVariants.{Sd}
+use Rattle.mmc_card.specs.BusView.{BusView}
+use Rattle.mmc_card.specs.Card.{Card, IsCard, is_identified, is_selected}
+use Rattle.mmc_card.specs.CardAnswer.{bit, busied, done, r6_argument, reset, shown, status}
+use Rattle.mmc_card.specs.CardLaws.{IsInOrder}
+use Rattle.mmc_card.specs.Faults.{NoFault}
+use Rattle.mmc_card.specs.Profile.{InProfile}
+use Rattle.mmc_bus.specs.CommandLaws.{Does, Names}
+use Rattle.mmc_bus.specs.declared.host.Unheard.{Unheard}
+use Rattle.mmc_identify.specs.Judged as judged
+use Rattle.mmc_identify.specs.Stages.{IsIdle, IsLeft, IsNamed, IsPolled, IsSelected, Looks}
+use Rattle.mmc_identify.specs.declared.fault.IdentFault.{IdentFault}
+use Rattle.mmc_identify.specs.declared.fault.IdentFault.TheVariants.{Locked, NoAnswer, Register}
+
+-- The RCA in an argument.
+
+-- it stands in bits 31 to 16
+pub rca_in : (rca argument : ℕ) → rca < 2 ^ 16 → argument ≡ rca * 0x10000 → field 31 16 argument ≡ rca
+rca_in rca argument below is = omega (arith, below, is)
+
+-- CMD0.
+
+pub idle_reset : (lands : ℕ → Bool) (old new : Card) → new ≡ reset lands old → IsIdle false 0 new
+idle_reset lands old new e = subst (IsIdle false 0) (sym e) (record { state = refl; app = refl; inquiries = refl })
+
+-- Registers.
+
+-- what is heard of a register is the one that the card tells
+pub register_own : {IsThere : Type 0} (register : List ℕ) (after : Card) (old : BusView)
+    (heard : Result (List ℕ) Unheard) (new : BusView) → Does IsThere register after old heard new
+    → IfOk (judged.told_register heard) (λ bytes. bytes ≡ register)
+register_own register after old (Ok bytes) new does = (does.sound bytes refl).1
+register_own register after old (Err unheard) new does = tt
+
+-- CMD2.
+
+pub named_fine : (old : BusView) (heard : Result (List ℕ) Unheard) (new : BusView)
+    → Does (old.card.state ≡ Ready) old.card.made.cid (record (done old.card) { state = Ident }) old heard new
+    → NoFault old new → old.card.state ≡ Ready
+    → (judged.told_register heard ≡ Ok old.card.made.cid) × (new.card.state ≡ Ident)
+named_fine old heard new does same ready =
+    let f = does.fine same ready in
+    (ap judged.told_register f.0, ap (λ (card : Card). card.state) f.1)
+
+-- CMD3.
+
+named_shown : (rca : ℕ) (old new : Card) → new ≡ record (shown old) { state = Stby; rca = rca } → IsNamed rca new
+named_shown rca old new e =
+    subst (IsNamed rca) (sym e)
+    (record { state = refl; is_rca = refl; app = refl; command_errors = refl; errors = refl; switch_error = refl })
+
+r6_rca : (card : Card) → r6_argument card / 65536 ≡ card.made.published
+r6_rca card = omega arith
+
+published_by : (is_zero : Bool) (told rca : ℕ) → (told / 65536 == 0) ≡ is_zero → told / 65536 ≡ rca → (rca ≡ 0 → ⊥)
+    → judged.published (Ok told) ≡ Ok rca
+published_by true told rca e is some = absurd (some (sym is ∙ eqb-true (told / 65536) 0 e))
+published_by false told rca e is some = rw e (ap Ok is)
+
+pub published_fine : (old : BusView) (heard : Result ℕ Unheard) (new : BusView) → InProfile old.card.made
+    → old.card.made.kind ≡ Sd
+    → Does ((old.card.state ≡ Ident) ⊎ (old.card.state ≡ Stby)) (r6_argument old.card)
+    (record (shown old.card) { state = Stby; rca = old.card.made.published }) old heard new
+    → NoFault old new → old.card.state ≡ Ident
+    → (judged.published heard ≡ Ok old.card.made.published) × IsNamed old.card.made.published new.card
+published_fine old heard new profile sd does same ident =
+    let rca = old.card.made.published in
+    let f = does.fine same (inl ident) in
+    let judges = published_by _ (r6_argument old.card) rca refl (r6_rca old.card) (profile.sd sd).published in
+    (ap judged.published f.0 ∙ judges, named_shown rca old.card new.card f.1)
+
+published_told : (is_zero : Bool) (told : ℕ) → let result : Result ℕ IdentFault = cond is_zero (Err Register)
+    (Ok (told / 65536)) in IfOk result (λ rca. rca ≡ told / 65536)
+published_told true told = tt
+published_told false told = refl
+
+pub published_own : (old : BusView) (heard : Result ℕ Unheard) (new : BusView)
+    → Does ((old.card.state ≡ Ident) ⊎ (old.card.state ≡ Stby)) (r6_argument old.card)
+    (record (shown old.card) { state = Stby; rca = old.card.made.published }) old heard new
+    → IfOk (judged.published heard) (λ rca. rca ≡ old.card.made.published)
+published_own old (Ok told) new does =
+    subst (λ (known : ℕ). IfOk (judged.published (Ok told)) (λ rca. rca ≡ known))
+    (ap (λ n. n / 65536) (does.sound told refl).1 ∙ r6_rca old.card) (published_told _ told)
+published_own old (Err unheard) new does = tt
+
+pub assigned_fine : (old : BusView) (heard : Result ℕ Unheard) (new : BusView)
+    → Does (old.card.state ≡ Ident) (status false old.card)
+    (record (shown old.card) { state = Stby; rca = 1 }) old heard new
+    → NoFault old new → old.card.state ≡ Ident → (judged.assigned heard ≡ Ok 1) × IsNamed 1 new.card
+assigned_fine old heard new does same ident =
+    let f = does.fine same ident in
+    (ap judged.assigned f.0, named_shown 1 old.card new.card f.1)
+
+-- CMD9.
+
+pub described_fine : (rca argument : ℕ) (old : BusView) (heard : Result (List ℕ) Unheard) (new : BusView)
+    → field 31 16 argument ≡ rca
+    → Does ((old.card.state ≡ Stby) × Names argument old.card) old.card.made.csd (done old.card) old heard new
+    → NoFault old new → IsNamed rca old.card
+    → (judged.told_register heard ≡ Ok old.card.made.csd) × IsNamed rca new.card
+described_fine rca argument old heard new is_rca does same named =
+    let f = does.fine same (named.state, is_rca ∙ sym named.is_rca) in
+    let still : IsNamed rca (done old.card) = record {
+      state = named.state;
+      is_rca = named.is_rca;
+      app = refl;
+      command_errors = refl;
+      errors = named.errors;
+      switch_error = named.switch_error;
+    } in
+    (ap judged.told_register f.0, subst (IsNamed rca) (sym f.1) still)
+
+-- CMD7.
+
+selected_after : (rca : ℕ) (old new : Card) → IsCard old → old.state ≡ Stby → old.rca ≡ rca
+    → new ≡ record (busied (shown old)) { state = Tran } → IsPolled 0 true rca new
+selected_after rca old new card stby is e =
+    let apart = card.apart (ap is_selected stby) in
+    subst (IsPolled 0 true rca) (sym e) (record {
+      selected = record {
+        state = refl;
+        is_rca = is;
+        part = apart.part;
+        width = apart.width;
+        timing = apart.timing;
+        erase_group_def = apart.erase_group_def;
+        count = refl;
+        app = refl;
+        erase = apart.erase;
+        command_errors = refl;
+        errors = refl;
+        switch_error = refl;
+      };
+      polled = refl;
+      is_busy = refl;
+    })
+
+bit_below : (b : Bool) → bit b < 2
+bit_below true = omega arith
+bit_below false = omega arith
+
+-- a card that isn't locked and holds no error shows no lock, in a state with a number of four bits
+unlocked : (card : Card) (state : State) → card.state ≡ state → state_number state < 2 ^ 4 → card.command_errors ≡ 0
+    → card.errors ≡ 0 → card.made.is_locked ≡ false → status false card / 0x2000000 % 2 ≡ 0
+unlocked card state is below command_errors errors lock =
+    omega (
+      arith,
+      ap state_number is,
+      below,
+      command_errors,
+      errors,
+      ap bit lock,
+      bit_below (not card.is_busy),
+      bit_below card.switch_error,
+    )
+
+selects : (told : ℕ) → told / 0x2000000 % 2 ≡ 0 → judged.selected (Ok told) ≡ Ok tt
+selects told none = rw none refl
+
+pub selected_fine : (rca argument : ℕ) (old : BusView) (heard : Result ℕ Unheard) (new : BusView)
+    → field 31 16 argument ≡ rca → IsCard old.card → InProfile old.card.made
+    → Does ((old.card.state ≡ Stby) × Names argument old.card) (status false old.card)
+    (record (busied (shown old.card)) { state = Tran }) old heard new
+    → NoFault old new → IsNamed rca old.card → IsOk (judged.selected heard) × IsPolled 0 true rca new.card
+selected_fine rca argument old heard new is_rca card profile does same named =
+    let f = does.fine same (named.state, is_rca ∙ sym named.is_rca) in
+    let none = unlocked old.card Stby named.state (omega arith) named.command_errors named.errors profile.unlocked in
+    let judges = ap judged.selected f.0 ∙ selects (status false old.card) none in
+    (subst IsOk (sym judges) refl, selected_after rca old.card new.card card named.state named.is_rca f.1)
+
+selected_ok : (heard : Result ℕ Unheard) → IsOk (judged.selected heard) → (told : ℕ) × (heard ≡ Ok told)
+selected_ok (Ok told) ok = (told, refl)
+selected_ok (Err unheard) ok = cc
+
+pub selected_own : (rca argument : ℕ) (old : BusView) (heard : Result ℕ Unheard) (new : BusView)
+    → field 31 16 argument ≡ rca → IsCard old.card
+    → Does ((old.card.state ≡ Stby) × Names argument old.card) (status false old.card)
+    (record (busied (shown old.card)) { state = Tran }) old heard new
+    → IsOk (judged.selected heard) → Looks rca new.card
+selected_own rca argument old heard new is_rca card does ok up =
+    let t = selected_ok heard ok in
+    let s = does.sound t.0 t.1 in
+    (selected_after rca old.card new.card card s.0.0 (sym s.0.1 ∙ is_rca) s.2).selected
+
+-- CMD13.
+
+clean_by : (kind : Kind) (told : ℕ) → IsClean kind told → judged.is_clean kind told ≡ true
+clean_by kind told clean = rw (clean.no_error, clean.in_tran, clean.ready_for_data) refl
+
+clean_of : (kind : Kind) (told : ℕ) (no_error tran ready : Bool) → (error_bits kind told == 0) ≡ no_error
+    → (field 12 9 told == 4) ≡ tran → (field 8 8 told == 1) ≡ ready → (no_error && (tran && ready)) ≡ true
+    → IsClean kind told
+clean_of kind told true true true x y z h = record {
+  no_error = eqb-true (error_bits kind told) 0 x;
+  in_tran = eqb-true (field 12 9 told) 4 y;
+  ready_for_data = eqb-true (field 8 8 told) 1 z;
+}
+clean_of kind told true true false x y z h = cc
+clean_of kind told true false ready x y z h = cc
+clean_of kind told false tran ready x y z h = cc
+
+confirms : (kind : Kind) (told : ℕ) → told / 0x2000000 % 2 ≡ 0 → judged.is_clean kind told ≡ true
+    → judged.confirmed kind (Ok told) ≡ Ok tt
+confirms kind told none clean = rw (none, clean) refl
+
+pub confirmed_fine : (rca argument : ℕ) (kind : Kind) (old : BusView) (heard : Result ℕ Unheard) (new : BusView)
+    → field 31 16 argument ≡ rca → InProfile old.card.made
+    → (IsClean kind (status false old.card) ↔ IsInOrder kind old.card)
+    → Does ((is_identified old.card.state ≡ true) × (old.card.app ≡ false) × Names argument old.card)
+    (status false old.card) (shown old.card) old heard new
+    → NoFault old new → IsPolled 0 false rca old.card → IsOk (judged.confirmed kind heard)
+confirmed_fine rca argument kind old heard new is_rca profile clean does same polled =
+    let is = polled.selected in
+    let f = does.fine same (ap is_identified is.state, is.app, is_rca ∙ sym is.is_rca) in
+    let none = unlocked old.card Tran is.state (omega arith) is.command_errors is.errors profile.unlocked in
+    let order : IsInOrder kind old.card = record {
+      no_error = record {
+        command_errors = is.command_errors;
+        errors = is.errors;
+        switch_error = λ _. is.switch_error;
+      };
+      tran = is.state;
+      rests = polled.is_busy;
+    } in
+    let is_clean = clean_by kind (status false old.card) (clean.1 order) in
+    let judges = ap (judged.confirmed kind) f.0 ∙ confirms kind (status false old.card) none is_clean in
+    subst IsOk (sym judges) refl
+
+confirmed_by : (kind : Kind) (told : ℕ) (locked clean : Bool) → let result : Result Unit IdentFault = cond locked
+    (Err Locked) (cond clean (Ok tt) (Err NoAnswer)) in IsOk result → clean ≡ true
+confirmed_by kind told true clean ok = cc
+confirmed_by kind told false true ok = refl
+confirmed_by kind told false false ok = cc
+
+confirmed_ok : (kind : Kind) (heard : Result ℕ Unheard) → IsOk (judged.confirmed kind heard)
+    → (told : ℕ) × (heard ≡ Ok told) × IsClean kind told
+confirmed_ok kind (Ok told) ok =
+    (told, refl, clean_of kind told _ _ _ refl refl refl (confirmed_by kind told _ _ ok))
+confirmed_ok kind (Err unheard) ok = cc
+
+-- a clean status leaves the card as it is, but for what it has shown
+left_shown : (rca : ℕ) (old new : Card) → IsSelected rca old → old.is_busy ≡ false → new ≡ shown old → IsLeft rca new
+left_shown rca old new is rests e =
+    subst (IsLeft rca) (sym e) (record {
+      selected = record {
+        state = is.state;
+        is_rca = is.is_rca;
+        part = is.part;
+        width = is.width;
+        timing = is.timing;
+        erase_group_def = is.erase_group_def;
+        count = refl;
+        app = refl;
+        erase = is.erase;
+        command_errors = refl;
+        errors = refl;
+        switch_error = refl;
+      };
+      rests = rests;
+    })
+
+pub confirmed_own : {IsThere : Type 0} (rca : ℕ) (kind : Kind) (old : BusView) (heard : Result ℕ Unheard)
+    (new : BusView) → (IsClean kind (status false old.card) ↔ IsInOrder kind old.card)
+    → Does IsThere (status false old.card) (shown old.card) old heard new
+    → Looks rca old.card → IsOk (judged.confirmed kind heard) → IsLeft rca new.card
+confirmed_own rca kind old heard new clean does looks ok =
+    let t = confirmed_ok kind heard ok in
+    let s = does.sound t.0 t.1 in
+    let order = clean.0 (subst (IsClean kind) s.1 t.2) in
+    left_shown rca old.card new.card (looks (ap is_selected order.tran)) order.rests s.2

@@ -1,0 +1,15 @@
+use Rattle.std.proofs.Common.{◌∙◌, arith}
+use Rattle.mmc_bus.proofs.WorkLemmas.{moved_by}
+use Rattle.mmc_identify.proofs.SingleLemmas.{assigned_fine}
+use Rattle.mmc_identify.proofs.mmc.assign.Goals as goal
+
+pub returns-clause-moves : goal.returns-clause-moves
+returns-clause-moves g c kept =
+    let old = g.B.Bus.view c.args.bus.now in
+    let new = g.B.Bus.view c.ask.new.bus in
+    let heard = c.ask.result in
+    let k = c.ask.ensures.asked.exchanged.kept kept in
+    let law = c.cmd3_gives_the_rca.ensures _ _ _ _ k.step k.was_card in
+    let none = c.no_command_but_erase_widens.ensures old.card 3 0x10000 (omega arith) (λ e. cc) in
+    moved_by old 3 0x10000 heard new none k tt
+    (λ same mmc ident. let f = assigned_fine old heard new (law mmc) same ident in (c.assigned.ensures ∙ f.0, f.1))

@@ -1,0 +1,19 @@
+use Rattle.std.proofs.Common.{◌∙◌, ◌≡◌, arith, subst, sym}
+use Rattle.std.specs.Prelude.{IfOk}
+use Rattle.mmc_bus.proofs.WorkLemmas.{moved_by}
+use Rattle.mmc_identify.proofs.SingleLemmas.{published_fine, published_own}
+use Rattle.mmc_identify.proofs.sd.publish.Goals as goal
+
+pub returns-clause-moves : goal.returns-clause-moves
+returns-clause-moves g c kept =
+    let old = g.B.Bus.view c.args.bus.now in
+    let new = g.B.Bus.view c.ask.new.bus in
+    let heard = c.ask.result in
+    let k = c.ask.ensures.asked.exchanged.kept kept in
+    let law = c.cmd3_publishes_the_rca.ensures _ _ _ _ k.step k.was_card in
+    let none = c.no_command_but_erase_widens.ensures old.card 3 0 (omega arith) (λ e. cc) in
+    moved_by old 3 0 heard new none k
+    (λ sd. subst (λ r. IfOk r (λ rca. rca ≡ old.card.made.published)) (sym c.published.ensures)
+    (published_own old heard new (law sd)))
+    (λ same profile sd ident. let f = published_fine old heard new profile sd (law sd) same ident in
+    (c.published.ensures ∙ f.0, f.1))

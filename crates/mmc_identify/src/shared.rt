@@ -1,0 +1,84 @@
+// What identification does with cards of both kinds, one exchange a function.
+ghost use Rattle.std.specs.Prelude.{◌≡◌, ◌+◌, ◌*◌, ◌≤◌, IfOk, IsOk, Ok, false, true};
+ghost use Rattle.mmc_frame.specs.declared.card_state.State.TheVariants.{Ident, Ready};
+ghost use Rattle.mmc_card.specs.Profile.{InProfile};
+ghost use Rattle.mmc_bus.specs.Work.{Moves};
+ghost use Rattle.mmc_identify.specs.Stages.{IsIdle, IsLeft, IsNamed, IsPolled, Looks};
+
+use crate::fault::IdentFault;
+use crate::judging::{confirmed, selected, told_register};
+use mmc_bus::{Bus, ask, ask_register, identify_laws, tell};
+use mmc_card::{card_laws, laws};
+use mmc_frame::Kind;
+use mmc_frame::commands::{ALL_SEND_CID, GO_IDLE_STATE, SELECT_CARD, SEND_CSD, SEND_STATUS};
+
+// The argument that names a card, in bits 31 to 16.
+fn rca_argument(rca: u16) -> u32
+    ensures { result ≡ rca * 0x10000 }
+{
+    u32::from(rca) * 0x1_0000
+}
+
+/// CMD0: the card is in idle.
+pub fn go_idle<B: Bus>(bus: &mut B)
+    ensures bounded { (B.view bus.new).exchanges ≤ (B.view bus.old).exchanges + 1 }
+    ensures lines { (B.view bus.new).lines ≡ (B.view bus.old).lines }
+    ensures moves { Moves (λ old new. Unit {0}) (λ old new. IsIdle false 0 new.card) (B.view bus.old) (B.view bus.new) }
+{
+    identify_laws::cmd0_resets_the_card();
+    laws::no_command_but_erase_widens();
+    tell(bus, GO_IDLE_STATE, 0);
+}
+
+/// CMD2: the CID of a card in ready.
+pub fn name<B: Bus>(bus: &mut B) -> Result<[u8; 16], IdentFault>
+    ensures bounded { (B.view bus.new).exchanges ≤ (B.view bus.old).exchanges + 1 }
+    ensures lines { (B.view bus.new).lines ≡ (B.view bus.old).lines }
+    ensures moves { Moves (λ old new. IfOk result (λ cid. cid ≡ old.card.made.cid))
+        (λ old new. old.card.state ≡ Ready → (result ≡ Ok old.card.made.cid) × (new.card.state ≡ Ident))
+        (B.view bus.old) (B.view bus.new) }
+{
+    identify_laws::cmd2_tells_the_cid();
+    laws::no_command_but_erase_widens();
+    told_register(ask_register(bus, ALL_SEND_CID, 0))
+}
+
+/// CMD9: the CSD of a card in stby.
+pub fn describe<B: Bus>(bus: &mut B, rca: u16) -> Result<[u8; 16], IdentFault>
+    ensures bounded { (B.view bus.new).exchanges ≤ (B.view bus.old).exchanges + 1 }
+    ensures lines { (B.view bus.new).lines ≡ (B.view bus.old).lines }
+    ensures moves { Moves (λ old new. IfOk result (λ csd. csd ≡ old.card.made.csd))
+        (λ old new. IsNamed rca old.card → (result ≡ Ok old.card.made.csd) × IsNamed rca new.card)
+        (B.view bus.old) (B.view bus.new) }
+{
+    identify_laws::cmd9_tells_the_csd();
+    laws::no_command_but_erase_widens();
+    told_register(ask_register(bus, SEND_CSD, rca_argument(rca)))
+}
+
+/// CMD7: the card is selected, and busy.
+pub fn select<B: Bus>(bus: &mut B, rca: u16) -> Result<(), IdentFault>
+    ensures bounded { (B.view bus.new).exchanges ≤ (B.view bus.old).exchanges + 1 }
+    ensures lines { (B.view bus.new).lines ≡ (B.view bus.old).lines }
+    ensures moves { Moves (λ old new. IsOk result → Looks rca new.card)
+        (λ old new. InProfile old.card.made → IsNamed rca old.card → IsOk result × IsPolled 0 true rca new.card)
+        (B.view bus.old) (B.view bus.new) }
+{
+    identify_laws::cmd7_selects_the_card();
+    laws::no_command_but_erase_widens();
+    selected(ask(bus, SELECT_CARD, rca_argument(rca)))
+}
+
+/// CMD13, whose status has to be clean.
+pub fn confirm<B: Bus>(bus: &mut B, kind: Kind, rca: u16) -> Result<(), IdentFault>
+    ensures bounded { (B.view bus.new).exchanges ≤ (B.view bus.old).exchanges + 1 }
+    ensures lines { (B.view bus.new).lines ≡ (B.view bus.old).lines }
+    ensures moves { Moves (λ old new. Looks rca old.card → IsOk result → IsLeft rca new.card)
+        (λ old new. InProfile old.card.made → IsPolled 0 false rca old.card → IsOk result)
+        (B.view bus.old) (B.view bus.new) }
+{
+    identify_laws::cmd13_tells_the_status();
+    card_laws::a_status_tells_of_its_card();
+    laws::no_command_but_erase_widens();
+    confirmed(kind, ask(bus, SEND_STATUS, rca_argument(rca)))
+}
