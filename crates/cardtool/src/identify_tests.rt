@@ -1,45 +1,11 @@
 // Identification of cards in memory.
-use mmc_bus::{Bus, ScriptedBus};
-use mmc_card_sim::{CardSpec, Fault, KindRegisters, MmcRegisters, Registers, SdRegisters, SimCard};
+use crate::test_cards::*;
+use mmc_bus::{Bus, BusAnswer, Reply, ScriptedBus};
+use mmc_card_sim::Fault;
 use mmc_frame::{Addressing, Kind};
 use mmc_identify::{IdentFault, identify};
-use std::alloc::Global;
 use std::collections::VecDeque;
 use std::test::Fail;
-
-// An SD card with byte addresses, of 4 sectors.
-fn sd_card() -> CardSpec {
-    CardSpec {
-        registers: Registers {
-            kind: KindRegisters::Sd(SdRegisters {
-                scr: [0, 5, 0, 0, 0, 0, 0, 0],
-                rca: 0x1234,
-                answers_cmd8: false,
-                has_high_speed: false,
-            }),
-            ocr: 0x00ff_8000,
-            cid: [0, 0, 0, 0, 0, 0, 0, 0, 0, 0, 0, 0, 0, 0, 0, 1],
-            csd: [0, 0, 0, 0, 0, 9, 0, 0, 0, 0, 0x40, 0, 2, 0x40, 0, 0x9b],
-            is_locked: false,
-        },
-        sectors: 4,
-        ready: 0,
-        busy: 0,
-        image: None,
-    }
-}
-
-// An eMMC device with sector addresses, of 4 sectors.
-fn mmc_device() -> CardSpec {
-    let mut ext_csd = [0; 512];
-    (ext_csd[192], ext_csd[212], ext_csd[224]) = (8, 4, 1);
-    let mut card = sd_card();
-    let csd = card.registers.cid;
-    card.registers.kind = KindRegisters::Mmc(MmcRegisters { ext_csd });
-    card.registers.ocr = 0x40ff_8080;
-    card.registers.csd = csd;
-    card
-}
 
 // Why a card isn't found, if it isn't.
 fn refusal<B: Bus>(bus: &mut B) -> Option<IdentFault> {
@@ -49,24 +15,20 @@ fn refusal<B: Bus>(bus: &mut B) -> Option<IdentFault> {
     }
 }
 
-fn built(alloc: Global, spec: CardSpec) -> Result<SimCard, Fail> {
-    Ok(SimCard::build(alloc, spec).ok().ok_or("no card")?)
-}
-
 // Ten exchanges of an SD card: CMD0, CMD8, CMD55, ACMD41, CMD2, CMD3, CMD9, CMD7, a poll and CMD13. An eMMC device has
 // CMD0 and CMD1 in place of ACMD41.
 #[test]
 fn finds_cards_of_both_kinds(rt: HostRuntime) -> Result<(), Fail> {
-    let mut card = built(rt.alloc(), sd_card())?;
+    let mut card = built(rt.alloc(), card_a())?;
     let found = identify(&mut card).ok().ok_or("not found")?;
     assert_eq!(rt; found.kind, Kind::Sd);
     assert_eq!(rt; found.addressing, Addressing::Bytes);
-    assert_eq!(rt; found.rca, 0x1234);
+    assert_eq!(rt; found.rca, 1);
     assert_eq!(rt; found.csd.sectors(), 4);
     assert_eq!(rt; found.cid.register(), 1);
     assert_eq!(rt; card.exchanges(), 10);
 
-    let mut device = built(rt.alloc(), mmc_device())?;
+    let mut device = built(rt.alloc(), card_m())?;
     let found = identify(&mut device).ok().ok_or("not found")?;
     assert_eq!(rt; found.kind, Kind::Mmc);
     assert_eq!(rt; found.addressing, Addressing::Sectors);
@@ -78,7 +40,7 @@ fn finds_cards_of_both_kinds(rt: HostRuntime) -> Result<(), Fail> {
 // With eight inquiries and eight polls in vain an SD card takes 8 * 2 + 8 exchanges more.
 #[test]
 fn waits_for_a_slow_card(rt: HostRuntime) -> Result<(), Fail> {
-    let mut spec = sd_card();
+    let mut spec = card_a();
     (spec.ready, spec.busy) = (8, 8);
     let mut card = built(rt.alloc(), spec)?;
     assert_eq!(rt; refusal(&mut card), None);
@@ -89,31 +51,39 @@ fn waits_for_a_slow_card(rt: HostRuntime) -> Result<(), Fail> {
 // Which refusal is named.
 #[test]
 fn names_what_is_wrong(rt: HostRuntime) -> Result<(), Fail> {
-    let mut locked = sd_card();
+    let mut locked = card_a();
     locked.registers.is_locked = true;
     let mut card = built(rt.alloc(), locked)?;
     assert_eq!(rt; refusal(&mut card), Some(IdentFault::Locked));
 
-    let mut contradictory = sd_card();
-    contradictory.registers.ocr = 0x40ff_8000;
-    contradictory.registers.kind = KindRegisters::Sd(SdRegisters {
-        scr: [0, 5, 0, 0, 0, 0, 0, 0],
-        rca: 1,
-        answers_cmd8: true,
-        has_high_speed: false,
-    });
+    let mut contradictory = card_a();
+    let other = card_h();
+    let csd = other.registers.csd;
+    contradictory.registers.csd = csd;
+    contradictory.sectors = 1024;
     let mut card = built(rt.alloc(), contradictory)?;
     assert_eq!(rt; refusal(&mut card), Some(IdentFault::Mismatch));
 
     let mut silent = ScriptedBus::new(VecDeque::new(rt.alloc()));
     assert_eq!(rt; refusal(&mut silent), Some(IdentFault::NoAnswer));
+
+    let other_pattern = Reply::Short([0x08, 0x00, 0x00, 0x01, 0x55, 0xe1]);
+    let mut answers = VecDeque::new(rt.alloc());
+    for reply in [Reply::Silent, other_pattern] {
+        answers
+            .push_back(BusAnswer::Command(reply))
+            .ok()
+            .ok_or("no room")?;
+    }
+    let mut other = ScriptedBus::new(answers);
+    assert_eq!(rt; refusal(&mut other), Some(IdentFault::Voltage));
     Ok(())
 }
 
 // A lost reply is a fault that is counted, and ends identification; the next one finds the card.
 #[test]
 fn fails_by_a_fault_alone(rt: HostRuntime) -> Result<(), Fail> {
-    let mut card = built(rt.alloc(), sd_card())?;
+    let mut card = built(rt.alloc(), card_a())?;
     assert!(rt; card.plan(5, Fault::LoseReply).is_ok());
     assert_eq!(rt; refusal(&mut card), Some(IdentFault::NoAnswer));
     assert_eq!(rt; card.faults(), 1);

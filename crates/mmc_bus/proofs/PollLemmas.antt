@@ -1,8 +1,12 @@
 -- What polls in a row leave.
 use Rattle.std.proofs.Common.{◌+◌, ◌<◌, ◌∙◌, ◌≡◌, ◌≤◌, Bool, add-one, ap, arith, false, refl, subst, suc, sym, true}
 use Rattle.std.proofs.Common.{zero, ℕ}
-use Rattle.mmc_card.specs.CardAnswer.{counted}
-use Rattle.mmc_bus.proofs.WorkLemmas.{narrows_then, quiet_parts, set_then, stays_then}
+use Rattle.std.specs.Prelude.{IsErr, IsOk, Result}
+use Rattle.mmc_frame.specs.declared.kind.Kind.{Kind}
+use Rattle.mmc_bus.specs.declared.cause.Cause.{Cause}
+use Rattle.mmc_card.specs.CardAnswer.{counted, shown}
+use Rattle.mmc_card.specs.CardLaws.{IsInOrder}
+use Rattle.mmc_bus.proofs.WorkLemmas.{joined, narrows_then, quiet_parts, refuted, set_then, stays_then, worked_as}
 use Rattle.mmc_card.specs.Blocks.{rested}
 use Rattle.mmc_card.specs.Card.{Card, IsCard, is_selected}
 use Rattle.mmc_bus.specs.Exchanges.{Kept}
@@ -133,3 +137,46 @@ polled_out old polls now p many own =
       own = own;
       fine = λ same zero. absurd (omega (arith, p.few same zero, many));
     }
+
+-- Polls, and a status behind them.
+
+abbrev pub Waits : Result Unit Cause → BusView → BusView → Type 0
+Waits r =
+    Worked Narrows
+    (λ old new. IsOk r → is_selected new.card.state ≡ true → new.card.errors ≡ 0 → new.card ≡ rested old.card)
+    (λ old new. old.card.polled ≡ 0 → IsOk r × (new.card ≡ rested old.card))
+
+abbrev pub Confirms : Kind → ℕ → Result Unit Cause → BusView → BusView → Type 0
+Confirms kind rca r =
+    Worked Narrows
+    (λ old new. IsOk r → IsInOrder kind old.card × (new.card ≡ shown old.card))
+    (λ old new. IsInOrder kind old.card → old.card.app ≡ false → old.card.rca ≡ rca → IsOk r)
+
+abbrev pub Ended : Kind → ℕ → Result Unit Cause → BusView → BusView → Type 0
+Ended kind rca r =
+    Worked Narrows
+    (λ old new. IsOk r → IsInOrder kind (rested old.card) × (new.card ≡ shown (rested old.card)))
+    (λ old new. old.card.polled ≡ 0 → IsInOrder kind (rested old.card) → (rested old.card).app ≡ false
+    → (rested old.card).rca ≡ rca → IsOk r)
+
+-- the polls fail
+pub wait_fails : (kind : Kind) (rca : ℕ) (polls r : Result Unit Cause) (a b : BusView)
+    → IsErr polls → IsErr r → Waits polls a b → Ended kind rca r a b
+wait_fails kind rca polls r a b not err p =
+    worked_as a b p p.sectors (λ ok. refuted r err ok)
+    (λ same zero order app is. refuted polls not (p.fine same zero).0)
+
+-- a clean status tells that the poll before it was answered truly
+pub ended : (kind : Kind) (rca : ℕ) (polls r : Result Unit Cause) (a b c : BusView)
+    → IsOk polls → Waits polls a b → Confirms kind rca r b c → Ended kind rca r a c
+ended kind rca polls r a b c ok p q =
+    joined a b c p q (narrows_then a b c p.sectors q.sectors)
+    (λ confirmed.
+    let told = q.own confirmed in
+    let was = p.own ok (ap is_selected told.0.tran) told.0.no_error.errors in
+    (subst (IsInOrder kind) was told.0, told.1 ∙ ap shown was))
+    (λ same zero order app is.
+    let parts = quiet_parts a b c p.stays q.stays same in
+    let was = (p.fine parts.0 zero).1 in
+    q.fine parts.1 (subst (IsInOrder kind) (sym was) order) (ap (λ (x : Card). x.app) was ∙ app)
+    (ap (λ (x : Card). x.rca) was ∙ is))

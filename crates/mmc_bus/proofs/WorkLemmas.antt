@@ -1,18 +1,19 @@
 -- Parts of a host's work, and two of them one behind the other.
-use Rattle.std.proofs.Common.{◌<◌, ◌∙◌, ◌≡◌, arith, inl, inr, subst, true, ℕ}
+use Rattle.std.proofs.Common.{◌<◌, ◌∙◌, ◌≡◌, arith, inl, inr, refl, subst, true, ℕ}
 use Rattle.std.proofs.lemmas.Bool.{cases_lt}
-use Rattle.std.specs.Prelude.{None, Result, Some}
+use Rattle.std.specs.Prelude.{Err, IsErr, IsOk, None, Ok, Result, Some}
 use Rattle.mmc_card.specs.BusView.{BusView}
 use Rattle.mmc_card.specs.CardAnswer.{CardAnswer}
 use Rattle.mmc_card.specs.Faults.{NoFault}
-use Rattle.mmc_card.specs.Card.{holds}
+use Rattle.mmc_card.specs.Card.{IsCard, holds}
 use Rattle.mmc_card.specs.Laws.{erased_by, is_frame_of_run, maybe_erased}
 use Rattle.mmc_card.specs.Sectors.{Within}
+use Rattle.mmc_card.specs.declared.exchange.Lines.{Lines}
 use Rattle.mmc_card.specs.declared.exchange.Reply.{Reply}
 use Rattle.mmc_bus.specs.declared.host.Unheard.{Unheard}
 use Rattle.mmc_bus.specs.Exchanges.{Kept}
 use Rattle.mmc_bus.specs.Learned.{Asked, CommandFacts, Stays}
-use Rattle.mmc_bus.specs.Work.{Anything, Moved, Narrows, StaysSet, Worked}
+use Rattle.mmc_bus.specs.Work.{Anything, Done, Moved, Narrows, StaysSet, Worked}
 
 pub stays_then : (a b c : BusView) → Stays a b → Stays b c → Stays a c
 stays_then a b c p q =
@@ -37,10 +38,10 @@ quiet_parts a b c p q same =
     (omega (arith, l, m, same), omega (arith, l, m, same))
 
 -- Work is done by one exchange.
-pub worked : {Facts : Type 0} {Holds Own Fine : BusView → BusView → Type 0} (old new : BusView) → Kept old Facts new
-    → Stays old new → StaysSet old new → Holds old new → Own old new → (NoFault old new → Fine old new)
-    → Worked Holds Own Fine old new
-worked old new k stays set sectors own fine = record {
+pub done_by : {Facts : Type 0} {Stands Holds Own Fine : BusView → BusView → Type 0} (old new : BusView)
+    → Kept old Facts new → Stays old new → Stands old new → Holds old new → Own old new
+    → (NoFault old new → Fine old new) → Done Stands Holds Own Fine old new
+done_by old new k stays set sectors own fine = record {
   was_kept = k.was_kept;
   was_card = k.was_card;
   is_card = k.is_card;
@@ -51,7 +52,39 @@ worked old new k stays set sectors own fine = record {
   fine = fine;
 }
 
--- A command of a run, other than one that erases.
+-- Work in two parts.
+pub done_then : {Stands Holds Own Fine Set More Gained Easy Still All Whole Calm : BusView → BusView → Type 0}
+    (a b c : BusView) → Done Stands Holds Own Fine a b → Done Set More Gained Easy b c → Still a c → All a c
+    → Whole a c → (NoFault a c → Calm a c) → Done Still All Whole Calm a c
+done_then a b c p q set sectors own fine = record {
+  was_kept = p.was_kept;
+  was_card = p.was_card;
+  is_card = q.is_card;
+  stays = stays_then a b c p.stays q.stays;
+  set = set;
+  sectors = sectors;
+  own = own;
+  fine = fine;
+}
+
+-- Of the same work something else holds.
+pub done_as : {Stands Holds Own Fine Still All Whole Calm : BusView → BusView → Type 0} (a b : BusView)
+    → Done Stands Holds Own Fine a b → Still a b → All a b → Whole a b → (NoFault a b → Calm a b)
+    → Done Still All Whole Calm a b
+done_as a b p set sectors own fine = record {
+  was_kept = p.was_kept;
+  was_card = p.was_card;
+  is_card = p.is_card;
+  stays = p.stays;
+  set = set;
+  sectors = sectors;
+  own = own;
+  fine = fine;
+}
+
+-- Work with a card that stays as it is set.
+
+-- a command of a run, other than one that erases
 pub command_worked : {X : Type 0} {hears : Reply → Result X Unheard} {answers : CardAnswer → Result X Unheard}
     {Own Fine : BusView → BusView → Type 0} {old : BusView} {index argument : ℕ} {heard : Result X Unheard}
     {new : BusView}
@@ -61,57 +94,26 @@ pub command_worked : {X : Type 0} {hears : Reply → Result X Unheard} {answers 
 command_worked {old} {new} asked none of_run kept own fine =
     let e = asked.exchanged in
     let k = e.kept kept in
-    worked old new k k.step.stays (record { lines = e.lines; stands = k.step.stands of_run })
+    done_by old new k k.step.stays (record { lines = e.lines; stands = k.step.stands of_run })
     (rw none at k.step.narrows) own fine
 
--- Work in two parts.
+-- one part behind the other
 pub joined : {Holds Own Fine More Gained Easy All Whole Calm : BusView → BusView → Type 0} (a b c : BusView)
     → Worked Holds Own Fine a b
     → Worked More Gained Easy b c → All a c → Whole a c → (NoFault a c → Calm a c) → Worked All Whole Calm a c
-joined a b c p q sectors own fine = record {
-  was_kept = p.was_kept;
-  was_card = p.was_card;
-  is_card = q.is_card;
-  stays = stays_then a b c p.stays q.stays;
-  set = set_then a b c p.set q.set;
-  sectors = sectors;
-  own = own;
-  fine = fine;
-}
+joined a b c p q sectors own fine = done_then a b c p q (set_then a b c p.set q.set) sectors own fine
 
--- work in two parts, of which nothing is said but that it is work
+-- two parts, of which nothing is said but that they are work
 pub in_two : {Holds Own Fine More Gained Easy : BusView → BusView → Type 0} (a b c : BusView) → Worked Holds Own Fine a b
     → Worked More Gained Easy b c → Worked Anything Anything Anything a c
 in_two a b c p q = joined a b c p q tt tt (λ same. tt)
 
--- Of the same work something else holds.
+-- of the same work something else holds
 pub worked_as : {Holds Own Fine All Whole Calm : BusView → BusView → Type 0} (a b : BusView) → Worked Holds Own Fine a b
     → All a b → Whole a b → (NoFault a b → Calm a b) → Worked All Whole Calm a b
-worked_as a b p sectors own fine = record {
-  was_kept = p.was_kept;
-  was_card = p.was_card;
-  is_card = p.is_card;
-  stays = p.stays;
-  set = p.set;
-  sectors = sectors;
-  own = own;
-  fine = fine;
-}
+worked_as a b p sectors own fine = done_as a b p p.set sectors own fine
 
 -- Work while the card goes from state to state.
-
--- work that leaves the card as it is set is such work too
-pub moved : {Own Fine All Calm : BusView → BusView → Type 0} (a b : BusView) → Worked Narrows Own Fine a b → All a b
-    → (NoFault a b → Calm a b) → Moved All Calm a b
-moved a b p own fine = record {
-  was_kept = p.was_kept;
-  was_card = p.was_card;
-  is_card = p.is_card;
-  stays = p.stays;
-  narrows = p.sectors;
-  own = own;
-  fine = fine;
-}
 
 -- a command that erases nothing
 pub moved_by : {X : Type 0} {Own Fine : BusView → BusView → Type 0} {answers : CardAnswer → Result X Unheard}
@@ -119,41 +121,61 @@ pub moved_by : {X : Type 0} {Own Fine : BusView → BusView → Type 0} {answers
     → erased_by old.card (Some (index, argument)) ≡ None
     → Kept old (CommandFacts answers old index argument heard new) new
     → Own old new → (NoFault old new → Fine old new) → Moved Own Fine old new
-moved_by old index argument heard new none k own fine = record {
-  was_kept = k.was_kept;
-  was_card = k.was_card;
-  is_card = k.is_card;
-  stays = k.step.stays;
-  narrows = subst (λ e. Within (holds new.card) (maybe_erased e (holds old.card))) none k.step.narrows;
-  own = own;
-  fine = fine;
-}
+moved_by old index argument heard new none k own fine =
+    done_by old new k k.step.stays tt
+    (subst (λ e. Within (holds new.card) (maybe_erased e (holds old.card))) none k.step.narrows) own fine
 
 -- one part behind the other
-pub moved_then : {Own Fine More Easy All Calm : BusView → BusView → Type 0} (a b c : BusView) → Moved Own Fine a b
-    → Moved More Easy b c → All a c → (NoFault a c → Calm a c) → Moved All Calm a c
-moved_then a b c p q own fine = record {
-  was_kept = p.was_kept;
-  was_card = p.was_card;
-  is_card = q.is_card;
-  stays = stays_then a b c p.stays q.stays;
-  narrows = narrows_then a b c p.narrows q.narrows;
-  own = own;
-  fine = fine;
-}
+pub moved_then : {Stands Own Fine Set More Easy All Calm : BusView → BusView → Type 0} (a b c : BusView)
+    → Done Stands Narrows Own Fine a b → Done Set Narrows More Easy b c → All a c → (NoFault a c → Calm a c)
+    → Moved All Calm a c
+moved_then a b c p q own fine = done_then a b c p q tt (narrows_then a b c p.sectors q.sectors) own fine
 
 -- of the same work something else holds
-pub moved_as : {Own Fine All Calm : BusView → BusView → Type 0} (a b : BusView) → Moved Own Fine a b → All a b
-    → (NoFault a b → Calm a b) → Moved All Calm a b
-moved_as a b p own fine = record {
+pub moved_as : {Stands Own Fine All Calm : BusView → BusView → Type 0} (a b : BusView)
+    → Done Stands Narrows Own Fine a b → All a b → (NoFault a b → Calm a b) → Moved All Calm a b
+moved_as a b p own fine = done_as a b p tt p.sectors own fine
+
+-- no exchange at all
+pub moved_none : {Own Fine : BusView → BusView → Type 0} (a : BusView) → a.is_kept ≡ true → IsCard a.card → Own a a
+    → Fine a a → Moved Own Fine a a
+moved_none a kept card own fine = record {
+  was_kept = kept;
+  was_card = card;
+  is_card = card;
+  stays = record { carried = record { made = refl; sizes = λ part. refl }; later = omega arith };
+  set = tt;
+  sectors = λ part sector value h. h;
+  own = own;
+  fine = λ same. fine;
+}
+
+-- two parts, of each of which its own holds
+pub both : {Own Fine More Easy : BusView → BusView → Type 0} (a b c : BusView) → Moved Own Fine a b
+    → Moved More Easy b c → Moved (λ old new. Own a b × More b c) (λ old new. Fine a b × Easy b c) a c
+both a b c p q =
+    moved_then a b c p q (p.own, q.own)
+    (λ same. let parts = quiet_parts a b c p.stays q.stays same in (p.fine parts.0, q.fine parts.1))
+
+-- that the host sets its lines is nothing to the card
+pub moved_on : {Stands Own Fine All Calm : BusView → BusView → Type 0} (a b : BusView) (lines : Lines)
+    → Done Stands Narrows Own Fine a b → All a (record b { lines = lines })
+    → (NoFault a b → Calm a (record b { lines = lines })) → Moved All Calm a (record b { lines = lines })
+moved_on a b lines p own fine = record {
   was_kept = p.was_kept;
   was_card = p.was_card;
   is_card = p.is_card;
-  stays = p.stays;
-  narrows = p.narrows;
+  stays = record { carried = p.stays.carried; later = p.stays.later };
+  set = tt;
+  sectors = p.sectors;
   own = own;
   fine = fine;
 }
+
+-- what is an error is no success
+pub refuted : {X E P : Type 0} (r : Result X E) → IsErr r → IsOk r → P
+refuted (Ok x) err ok = cc (err)
+refuted (Err fault) err ok = cc (ok)
 
 -- what can't be without a fault takes one
 pub fell : (a b : BusView) → Stays a b → (NoFault a b → ⊥) → a.faults < b.faults

@@ -31,32 +31,34 @@ NarrowsBut block old new = WithinOrAccepted old.card block new.card
 abbrev pub Anything : BusView → BusView → Type 0
 Anything old new = Unit {0}
 
--- What was done over a bus that is kept: what the sectors may hold is as `Holds` says; `Own` holds, whatever fell, and
--- `Fine` where no fault fell.
-pub record Worked (Holds Own Fine : BusView → BusView → Type 0) (old new : BusView) : Type 0 where
+-- What was done over a bus that is kept: how the card stands is as `Stands` says, and what its sectors may hold as
+-- `Holds`; `Own` holds, whatever fell, and `Fine` where no fault fell.
+pub record Done (Stands Holds Own Fine : BusView → BusView → Type 0) (old new : BusView) : Type 0 where
   pub was_kept : old.is_kept ≡ true
   pub was_card : IsCard old.card
   pub is_card : IsCard new.card
   pub stays : Stays old new
-  pub set : StaysSet old new
+  pub set : Stands old new
   pub sectors : Holds old new
   pub own : Own old new
   pub fine : NoFault old new → Fine old new
+
+-- Work with a card that stays as it is set.
+abbrev pub Worked : (BusView → BusView → Type 0) → (BusView → BusView → Type 0) → (BusView → BusView → Type 0) → BusView
+    → BusView → Type 0
+Worked = Done StaysSet
 
 abbrev pub Works : (BusView → BusView → Type 0) → (BusView → BusView → Type 0) → (BusView → BusView → Type 0) → BusView
     → BusView → Type 0
 Works Holds Own Fine old new = new.is_kept ≡ true → Worked Holds Own Fine old new
 
--- What was done over a bus that is kept, while the card goes from state to state: no sector may hold more; `Own` holds,
--- whatever fell, and `Fine` where no fault fell.
-pub record Moved (Own Fine : BusView → BusView → Type 0) (old new : BusView) : Type 0 where
-  pub was_kept : old.is_kept ≡ true
-  pub was_card : IsCard old.card
-  pub is_card : IsCard new.card
-  pub stays : Stays old new
-  pub narrows : Narrows old new
-  pub own : Own old new
-  pub fine : NoFault old new → Fine old new
+-- Work while the card goes from state to state: no sector may hold more.
+abbrev pub Moved : (BusView → BusView → Type 0) → (BusView → BusView → Type 0) → BusView → BusView → Type 0
+Moved = Done Anything Narrows
 
 abbrev pub Moves : (BusView → BusView → Type 0) → (BusView → BusView → Type 0) → BusView → BusView → Type 0
 Moves Own Fine old new = new.is_kept ≡ true → Moved Own Fine old new
+
+-- Work that may be no exchange at all, so that the bus itself doesn't tell that there is a card.
+abbrev pub MovesFrom : (BusView → BusView → Type 0) → (BusView → BusView → Type 0) → BusView → BusView → Type 0
+MovesFrom Own Fine old new = IsCard old.card → Moves Own Fine old new

@@ -1,6 +1,7 @@
 //! The bus between a host and one card: the trait that a host stack drives, the host's calls, and what they tell.
 #![tactic(auto)]
 
+mod blocks;
 mod bus;
 mod bytes;
 mod cause;
@@ -17,6 +18,7 @@ pub mod transfer_laws;
 mod wait;
 mod wire;
 
+pub use blocks::{offer, receive};
 pub use bus::Bus;
 pub use bytes::Bytes;
 pub use cause::Cause;
@@ -25,7 +27,7 @@ pub use host::{Unheard, ask, ask_ocr, ask_register, poll, read_block, tell, writ
 pub use memory::NoMemory;
 pub use mmc_card::{DataIn, DataOut, Exchange, Lines, Part, Reply, Timing, Want, Width, card_laws};
 pub use scripted::{BusAnswer, ScriptedBus};
-pub use status::{check_r1, confirm};
+pub use status::{check_r1, confirm, rca_argument, wait_and_confirm};
 pub use trace::{MAX_KEPT, TraceBus};
 pub use wait::{MAX_POLLS, wait_while_busy};
 pub use wire::Wire;

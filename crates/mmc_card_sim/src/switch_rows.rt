@@ -1,7 +1,7 @@
 // What the card in memory does with the commands of width, speed and partition (SD Physical Layer 6.00, section 4.3.10;
 // JESD84-B51, section 6.6.1), each in tran.
 ghost use Rattle.std.specs.Prelude.{◌≡◌, ◌<◌, None, slice_set};
-ghost use Rattle.mmc_card.specs.RowsSwitch.{access_number, part_accessed, timing_number, width_by, width_number};
+ghost use Rattle.mmc_card.specs.RowsSwitch.{part_accessed, timing_number, width_by, width_number};
 
 use crate::answer::Answer;
 use crate::chip::{Chip, Source};
@@ -50,22 +50,6 @@ pub fn timing_number(timing: Timing) -> u8
     match timing {
         Timing::Default => 0,
         Timing::High => 1,
-    }
-}
-
-// PARTITION_ACCESS of a partition.
-fn access_number(part: Part) -> u8
-    ensures number { result ≡ access_number part }
-    ensures small { result < 8 }
-{
-    match part {
-        Part::User => 0,
-        Part::Boot1 => 1,
-        Part::Boot2 => 2,
-        Part::Gp1 => 4,
-        Part::Gp2 => 5,
-        Part::Gp3 => 6,
-        Part::Gp4 => 7,
     }
 }
 
@@ -162,7 +146,7 @@ impl Chip {
     fn partition_config_for(&self, part: Part) -> u8
         ensures { result ≡ partition_config_for (card_of self.now).made part }
     {
-        8 * (self.registers.partition_config() / 8) + access_number(part)
+        8 * (self.registers.partition_config() / 8) + part.access_number()
     }
 
     // The EXT_CSD as it is, with the bytes that can be switched.

@@ -17,8 +17,8 @@ use Rattle.mmc_card.specs.BusView.{BusView}
 use Rattle.mmc_card.specs.Made.{HasRegisters, Made, addressing_of, csd_number_of}
 use Rattle.mmc_card.specs.Profile.{InProfile, IsHighCapacity, IsStandardCapacity}
 use Rattle.mmc_bus.specs.Work.{Moved}
-use Rattle.mmc_bus.proofs.WorkLemmas.{fell, moved_as}
-use Rattle.mmc_identify.proofs.JoinLemmas.{Begins, IsRegistered, Takes, both, refuted}
+use Rattle.mmc_bus.proofs.WorkLemmas.{both, fell, moved_as, refuted}
+use Rattle.mmc_identify.proofs.JoinLemmas.{Begins, IsRegistered, Takes}
 use Rattle.mmc_identify.specs.Judged as judged
 use Rattle.mmc_identify.specs.Stages.{HasTold, IsFound, IsLeft, IsNamed, rca_of, ready_ocr}
 use Rattle.mmc_identify.specs.declared.fault.IdentFault.{IdentFault}

@@ -15,23 +15,11 @@ use Rattle.mmc_card.specs.Profile.{InProfile}
 use Rattle.mmc_bus.specs.declared.cause.Cause.{Cause}
 use Rattle.mmc_bus.specs.Learned.{may_fail}
 use Rattle.mmc_bus.specs.Work.{Moved, Narrows, Worked}
-use Rattle.mmc_bus.proofs.WorkLemmas.{moved, moved_as, moved_then, quiet_parts}
+use Rattle.mmc_bus.proofs.WorkLemmas.{both, moved_as, moved_on, refuted}
 use Rattle.mmc_identify.specs.Stages.{CanStart, HasTold, IsIdle, IsLeft, IsNamed, IsPolled, IsSelected, Looks, echoes}
 use Rattle.mmc_identify.specs.Stages.{rca_of, ready_ocr}
 use Rattle.mmc_identify.specs.declared.fault.IdentFault.{IdentFault}
 use Rattle.mmc_identify.specs.declared.identification.Registers.{Registers}
-
--- Two parts, of each of which its own holds.
-pub both : {Own Fine More Easy : BusView → BusView → Type 0} (a b c : BusView) → Moved Own Fine a b
-    → Moved More Easy b c → Moved (λ old new. Own a b × More b c) (λ old new. Fine a b × Easy b c) a c
-both a b c p q =
-    moved_then a b c p q (p.own, q.own)
-    (λ same. let parts = quiet_parts a b c p.stays q.stays same in (p.fine parts.0, q.fine parts.1))
-
--- what is an error is no success
-pub refuted : {X P : Type 0} (r : Result X IdentFault) → IsErr r → IsOk r → P
-refuted (Ok x) err ok = cc (err)
-refuted (Err fault) err ok = cc (ok)
 
 -- Polls.
 
@@ -98,7 +86,7 @@ pub waited : {Own : BusView → BusView → Type 0} (rca : ℕ) (polls : Result 
     → Worked Narrows Own (λ old new. old.card.polled ≡ 0 → IsOk polls × (new.card ≡ rested old.card)) a b
     → Waits rca r a b
 waited rca polls r a b same calm p =
-    moved a b p (λ ok. looks_on rca a.card b.card (calm (sym same ∙ ok)))
+    moved_as a b p (λ ok. looks_on rca a.card b.card (calm (sym same ∙ ok)))
     (λ quiet at. let f = p.fine quiet at.polled in (same ∙ f.0, polled_out rca a.card b.card f.1 at))
 
 -- From stby to tran.
@@ -236,17 +224,10 @@ Begins r a b =
     (λ old new. InProfile old.card.made
     → (r ≡ Ok (old.card.made.kind, ready_ocr old.card.made)) × (new.card.state ≡ Ready)) a b
 
--- that the host sets its lines is nothing to the card
 lined : (a b : BusView) (lines : Lines) → Resets a b → Resets a (record b { lines = lines })
-lined a b lines p = record {
-  was_kept = p.was_kept;
-  was_card = p.was_card;
-  is_card = p.is_card;
-  stays = record { carried = p.stays.carried; later = p.stays.later };
-  narrows = p.narrows;
-  own = tt;
-  fine = λ same. let f = p.fine same in record { state = f.state; app = f.app; inquiries = f.inquiries };
-}
+lined a b lines p =
+    moved_on a b lines p tt
+    (λ same. let f = p.fine same in record { state = f.state; app = f.app; inquiries = f.inquiries })
 
 pub reset_on_lines : (a b c : BusView) (lines : Lines) → c ≡ record b { lines = lines }
     → (b.is_kept ≡ true → Resets a b) → c.is_kept ≡ true → Resets a c

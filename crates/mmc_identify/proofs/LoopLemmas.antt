@@ -10,7 +10,7 @@ use Rattle.mmc_card.specs.Card.{IsCard}
 use Rattle.mmc_card.specs.Faults.{NoFault}
 use Rattle.mmc_card.specs.Made.{Made, is_sd}
 use Rattle.mmc_card.specs.Profile.{InProfile}
-use Rattle.mmc_bus.proofs.WorkLemmas.{moved_as, moved_then, quiet_parts}
+use Rattle.mmc_bus.proofs.WorkLemmas.{moved_as, moved_none, moved_then, quiet_parts}
 use Rattle.mmc_bus.specs.Learned.{Stays}
 use Rattle.mmc_bus.specs.Work.{Anything, Moved}
 use Rattle.mmc_identify.specs.Stages.{CanStart, Inquired, IsIdle, ready_ocr}
@@ -63,15 +63,8 @@ next_inquired app kind hcs times result a b c stays q same profile can is idle =
 
 pub asking_none : (app : Bool) (kind : Kind) (hcs : Bool) (first : ℕ) (a : BusView) → first ≤ 8 → a.is_kept ≡ true
     → IsCard a.card → Asking app kind hcs first first a a
-asking_none app kind hcs first a few kept card = record {
-  was_kept = kept;
-  was_card = card;
-  is_card = card;
-  stays = record { carried = record { made = refl; sizes = λ part. refl }; later = omega arith };
-  narrows = λ part sector value h. h;
-  own = tt;
-  fine = λ same profile can is idle. (idle, few);
-}
+asking_none app kind hcs first a few kept card =
+    moved_none a kept card tt (λ profile can is idle. (idle, few))
 
 -- one inquiry more, and the card isn't ready yet
 pub asked_on : (kind : Kind) (hcs : Bool) (first times : ℕ) (a b c : BusView)

@@ -1,5 +1,5 @@
 -- What one exchange of identification tells, and where it leaves the card.
-use Rattle.std.proofs.Common.{◌*◌, ◌<◌, ◌∙◌, ◌≡◌, ◌↔◌, ◌⊎◌, ◌^◌, Bool, List, ap, arith, cond, false, inl, refl}
+use Rattle.std.proofs.Common.{◌<◌, ◌∙◌, ◌≡◌, ◌↔◌, ◌⊎◌, ◌^◌, Bool, List, ap, arith, cond, false, inl, refl}
 use Rattle.std.proofs.Common.{subst, sym, true, ℕ}
 use Rattle.std.specs.Prelude.{◌%◌, ◌&&◌, ◌/◌, ◌==◌, Err, IfOk, IsOk, Ok, Result, not}
 use Rattle.std.proofs.lemmas.Bool.{eqb-true}
@@ -21,12 +21,6 @@ use Rattle.mmc_identify.specs.Judged as judged
 use Rattle.mmc_identify.specs.Stages.{IsIdle, IsLeft, IsNamed, IsPolled, IsSelected, Looks}
 use Rattle.mmc_identify.specs.declared.fault.IdentFault.{IdentFault}
 use Rattle.mmc_identify.specs.declared.fault.IdentFault.TheVariants.{Locked, NoAnswer, Register}
-
--- The RCA in an argument.
-
--- it stands in bits 31 to 16
-pub rca_in : (rca argument : ℕ) → rca < 2 ^ 16 → argument ≡ rca * 0x10000 → field 31 16 argument ≡ rca
-rca_in rca argument below is = omega (arith, below, is)
 
 -- CMD0.
 

@@ -7,6 +7,7 @@
 // 4. Any other missing or unsound response ends it. Registers are judged at the end.
 ghost use Rattle.std.specs.Prelude.{◌≡◌, ◌+◌, ◌<◌, ◌≤◌, IfOk, IsErr, IsOk, Ok, false, true, ℕ};
 ghost use Rattle.mmc_frame.specs.declared.card_state.State.TheVariants.{Ident, Ready};
+ghost use Rattle.mmc_frame.specs.declared.kind.Kind.TheVariants as Is;
 ghost use Rattle.mmc_card.specs.declared.exchange.Timing.TheVariants.{Default};
 ghost use Rattle.mmc_card.specs.declared.exchange.Width.TheVariants.{One};
 ghost use Rattle.mmc_card.specs.Profile.{InProfile};
@@ -34,6 +35,7 @@ pub struct Registers {
 // CMD55, which tells the kind, and the inquiries: the kind and the OCR of a card that is ready.
 fn start<B: Bus>(bus: &mut B, hcs: bool) -> Result<(Kind, u32), IdentFault>
     ensures bounded { (B.view bus.new).exchanges ≤ (B.view bus.old).exchanges + 32 }
+    ensures of_mmc { IfOk result (λ told. told.0 ≡ Is.Mmc → (B.view bus.new).exchanges ≤ (B.view bus.old).exchanges + 18) }
     ensures lines { (B.view bus.new).lines ≡ (B.view bus.old).lines }
     ensures moves { Moves
         (λ old new. IfOk result (λ told. (told.0 ≡ old.card.made.kind) × (told.1 ≡ ready_ocr old.card.made)))
@@ -54,6 +56,7 @@ fn start<B: Bus>(bus: &mut B, hcs: bool) -> Result<(Kind, u32), IdentFault>
 // From anywhere to ready: the kind and the OCR.
 fn begin<B: Bus>(bus: &mut B) -> Result<(Kind, u32), IdentFault>
     ensures bounded { (B.view bus.new).exchanges ≤ (B.view bus.old).exchanges + 34 }
+    ensures of_mmc { IfOk result (λ told. told.0 ≡ Is.Mmc → (B.view bus.new).exchanges ≤ (B.view bus.old).exchanges + 20) }
     ensures lines { (B.view bus.new).lines ≡ record { width = One; timing = Default } }
     ensures moves { Moves
         (λ old new. IfOk result (λ told. (told.0 ≡ old.card.made.kind) × (told.1 ≡ ready_ocr old.card.made)))
@@ -124,13 +127,14 @@ fn take<B: Bus>(bus: &mut B, kind: Kind, rca: u16) -> Result<(), IdentFault>
 }
 
 /// Identifies the card, whatever became of it before: an SD card on one line at default speed, or an eMMC device. It is
-/// in tran then, selected under its RCA. It makes at most 55 exchanges.
+/// in tran then, selected under its RCA. It makes at most 55 exchanges, and at most 41 where it finds an eMMC device.
 ///
 /// # Errors
 /// What the fault says; of a card in profile only where a fault fell. `Register` and `Mismatch` are judged last, but an
 /// RCA 0 at once.
 pub fn identify<B: Bus>(bus: &mut B) -> Result<Found, IdentFault>
     ensures bounded { (B.view bus.new).exchanges ≤ (B.view bus.old).exchanges + 55 }
+    ensures of_mmc { IfOk result (λ found. found.kind ≡ Is.Mmc → (B.view bus.new).exchanges ≤ (B.view bus.old).exchanges + 41) }
     ensures lines { (B.view bus.new).lines ≡ record { width = One; timing = Default } }
     ensures moves { Moves
         (λ old new. IfOk result (λ found. IsFound old.card.made found × IsLeft found.rca new.card))

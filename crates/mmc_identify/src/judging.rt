@@ -3,7 +3,7 @@
 // 1. Error bits aren't judged before the closing status; CARD_IS_LOCKED is in CMD7's response and in the closing status.
 // 2. The voltage is judged at CMD8's response and at each OCR, an RCA where it is published.
 // 3. CID, CSD and addressing are judged when the card is in tran.
-ghost use Rattle.std.specs.Prelude.{◌≡◌};
+ghost use Rattle.std.specs.Prelude.{◌≡◌, IfOk};
 ghost use Rattle.mmc_identify.specs.Judged as judged;
 
 use crate::fault::IdentFault;
@@ -156,7 +156,8 @@ pub fn found(
     cid: &[u8; 16],
     csd: &[u8; 16],
 ) -> Result<Found, IdentFault>
-    ensures { result ≡ judged.found kind ocr rca cid.now csd.now }
+    ensures judged { result ≡ judged.found kind ocr rca cid.now csd.now }
+    ensures kind { IfOk result (λ found. found.kind ≡ kind) }
 {
     let cid = read_cid(cid).map_err(|_| IdentFault::Register)?;
     let csd = read_csd(kind, csd).map_err(|_| IdentFault::Register)?;

@@ -1,5 +1,5 @@
 // What identification does with cards of both kinds, one exchange a function.
-ghost use Rattle.std.specs.Prelude.{◌≡◌, ◌+◌, ◌*◌, ◌≤◌, IfOk, IsOk, Ok, false, true};
+ghost use Rattle.std.specs.Prelude.{◌≡◌, ◌+◌, ◌≤◌, IfOk, IsOk, Ok, false, true};
 ghost use Rattle.mmc_frame.specs.declared.card_state.State.TheVariants.{Ident, Ready};
 ghost use Rattle.mmc_card.specs.Profile.{InProfile};
 ghost use Rattle.mmc_bus.specs.Work.{Moves};
@@ -7,17 +7,10 @@ ghost use Rattle.mmc_identify.specs.Stages.{IsIdle, IsLeft, IsNamed, IsPolled, L
 
 use crate::fault::IdentFault;
 use crate::judging::{confirmed, selected, told_register};
-use mmc_bus::{Bus, ask, ask_register, identify_laws, tell};
+use mmc_bus::{Bus, ask, ask_register, identify_laws, rca_argument, tell};
 use mmc_card::{card_laws, laws};
 use mmc_frame::Kind;
 use mmc_frame::commands::{ALL_SEND_CID, GO_IDLE_STATE, SELECT_CARD, SEND_CSD, SEND_STATUS};
-
-// The argument that names a card, in bits 31 to 16.
-fn rca_argument(rca: u16) -> u32
-    ensures { result ≡ rca * 0x10000 }
-{
-    u32::from(rca) * 0x1_0000
-}
 
 /// CMD0: the card is in idle.
 pub fn go_idle<B: Bus>(bus: &mut B)

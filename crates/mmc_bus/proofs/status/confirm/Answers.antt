@@ -12,8 +12,7 @@ returns-clause-works g c kept =
     let card = (g.B.Bus.view c.args.bus.now).card in
     let law = c.cmd13_tells_the_status.ensures _ _ _ _ k.step in
     let clean = c.a_status_tells_of_its_card.ensures.clean c.args.kind false card k.was_card in
-    let names : field 31 16 c.rca_argument.result ≡ c.args.rca = ap (field 31 16) c.rca_argument.ensures
-    ∙ omega arith in
+    let names = c.rca_argument.ensures.names in
     command_worked c.ask.ensures.asked refl refl kept
     (λ ok. let judged = c.check_clean.ensures.ok ok in
     let told = law.sound judged.0 judged.1 in

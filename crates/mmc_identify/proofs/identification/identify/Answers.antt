@@ -23,7 +23,7 @@ returns-clause-moves g c kept =
     let q = c.in_ok-cid.ensures.moves s.was_kept in
     let taken = c.registers_in_profile_are_taken.ensures in
     identified c.in_ok-kind.kind c.in_ok-kind.ocr c.in_ok-cid.field-0 c.found.result (g.B.Bus.view c.args.bus.now)
-    (g.B.Bus.view c.begin.new.bus) (g.B.Bus.view c.register.new.bus) (g.B.Bus.view c.take.new.bus) c.found.ensures
+    (g.B.Bus.view c.begin.new.bus) (g.B.Bus.view c.register.new.bus) (g.B.Bus.view c.take.new.bus) c.found.ensures.judged
     taken.standard taken.high taken.mmc (c.in_ok-kind.ensures.moves q.was_kept) q s
 
 pub returns-clause-refused : goal.returns-clause-refused

@@ -1,7 +1,7 @@
 use Rattle.std.proofs.Common.{arith, false, subst, sym}
 use Rattle.std.specs.Prelude.{IsOk}
 use Rattle.mmc_bus.proofs.WorkLemmas.{moved_by}
-use Rattle.mmc_identify.proofs.SingleLemmas.{confirmed_fine, confirmed_own, rca_in}
+use Rattle.mmc_identify.proofs.SingleLemmas.{confirmed_fine, confirmed_own}
 use Rattle.mmc_identify.proofs.shared.confirm.Goals as goal
 
 pub returns-clause-moves : goal.returns-clause-moves
@@ -16,7 +16,7 @@ returns-clause-moves g c kept =
     let law = c.cmd13_tells_the_status.ensures _ _ _ _ k.step in
     let clean = c.a_status_tells_of_its_card.ensures.clean kind false old.card k.was_card in
     let none = c.no_command_but_erase_widens.ensures old.card 13 argument (omega arith) (λ e. cc) in
-    let is_rca = rca_in rca argument (omega arith) c.rca_argument.ensures in
+    let is_rca = c.rca_argument.ensures.names in
     moved_by old 13 argument heard new none k
     (λ looks ok. confirmed_own rca kind old heard new clean law looks (subst IsOk c.confirmed.ensures ok))
     (λ same profile polled. subst IsOk (sym c.confirmed.ensures)

@@ -1,7 +1,7 @@
 use Rattle.std.proofs.Common.{◌∙◌, ◌≡◌, arith, subst, sym}
 use Rattle.std.specs.Prelude.{IfOk}
 use Rattle.mmc_bus.proofs.WorkLemmas.{moved_by}
-use Rattle.mmc_identify.proofs.SingleLemmas.{described_fine, rca_in, register_own}
+use Rattle.mmc_identify.proofs.SingleLemmas.{described_fine, register_own}
 use Rattle.mmc_identify.proofs.shared.describe.Goals as goal
 
 pub returns-clause-moves : goal.returns-clause-moves
@@ -13,7 +13,7 @@ returns-clause-moves g c kept =
     let k = c.ask_register.ensures.asked.exchanged.kept kept in
     let law = c.cmd9_tells_the_csd.ensures _ _ _ _ k.step k.was_card in
     let none = c.no_command_but_erase_widens.ensures old.card 9 argument (omega arith) (λ e. cc) in
-    let is_rca = rca_in c.args.rca argument (omega arith) c.rca_argument.ensures in
+    let is_rca = c.rca_argument.ensures.names in
     moved_by old 9 argument heard new none k
     (subst (λ r. IfOk r (λ csd. csd ≡ old.card.made.csd)) (sym c.told_register.ensures)
     (register_own old.card.made.csd _ old heard new law))

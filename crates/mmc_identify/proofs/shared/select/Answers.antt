@@ -1,7 +1,7 @@
 use Rattle.std.proofs.Common.{arith, subst, sym}
 use Rattle.std.specs.Prelude.{IsOk}
 use Rattle.mmc_bus.proofs.WorkLemmas.{moved_by}
-use Rattle.mmc_identify.proofs.SingleLemmas.{rca_in, selected_fine, selected_own}
+use Rattle.mmc_identify.proofs.SingleLemmas.{selected_fine, selected_own}
 use Rattle.mmc_identify.proofs.shared.select.Goals as goal
 
 pub returns-clause-moves : goal.returns-clause-moves
@@ -14,7 +14,7 @@ returns-clause-moves g c kept =
     let k = c.ask.ensures.asked.exchanged.kept kept in
     let law = c.cmd7_selects_the_card.ensures _ _ _ _ k.step k.was_card in
     let none = c.no_command_but_erase_widens.ensures old.card 7 argument (omega arith) (λ e. cc) in
-    let is_rca = rca_in rca argument (omega arith) c.rca_argument.ensures in
+    let is_rca = c.rca_argument.ensures.names in
     moved_by old 7 argument heard new none k
     (λ ok. selected_own rca argument old heard new is_rca k.was_card law (subst IsOk c.selected.ensures ok))
     (λ same profile named. let f = selected_fine rca argument old heard new is_rca k.was_card profile law same named in

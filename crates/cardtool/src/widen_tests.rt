@@ -1,0 +1,151 @@
+// Opening cards in memory: identification, width and speed.
+ghost use Rattle.std.specs.Prelude.{◌<◌};
+
+use crate::test_cards::*;
+use mmc_bus::{Bus, BusAnswer, Bytes, DataIn, Part, Reply, ScriptedBus, Timing, Width};
+use mmc_card_sim::CardSpec;
+use mmc_frame::{encode_r2, encode_r3, encode_response};
+use mmc_identify::{Found, identify};
+use mmc_switch::{SwitchFault, widen};
+use std::alloc::Global;
+use std::collections::VecDeque;
+use std::test::Fail;
+
+// Card A with eight inquiries and eight polls in vain.
+fn slow_card() -> CardSpec {
+    let mut card = card_a();
+    (card.ready, card.busy) = (8, 8);
+    card
+}
+
+// How many exchanges it takes.
+#[test]
+fn opens_in_so_many_exchanges(rt: HostRuntime) -> Result<(), Fail> {
+    for (spec, exchanges, width, timing) in [
+        (card_a(), 17, Width::Four, Timing::Default),
+        (card_b(), 17, Width::Four, Timing::Default),
+        (card_h(), 20, Width::Four, Timing::High),
+        (card_m(), 22, Width::Eight, Timing::High),
+        (slow_card(), 41, Width::Four, Timing::Default),
+    ] {
+        let mut card = built(rt.alloc(), spec)?;
+        let session = opened(&mut card).ok_or("not opened")?;
+        assert_eq!(rt; card.exchanges(), exchanges);
+        assert_eq!(rt; session.info().width, width);
+        assert_eq!(rt; session.info().timing, timing);
+        assert_eq!(rt; session.selected(), Some(Part::User));
+    }
+    Ok(())
+}
+
+// What is known of an SD card with high speed and of an eMMC device, as their registers say.
+#[test]
+fn knows_what_the_registers_say(rt: HostRuntime) -> Result<(), Fail> {
+    let mut card = built(rt.alloc(), card_h())?;
+    let session = opened(&mut card).ok_or("not opened")?;
+    let info = session.info();
+    assert_eq!(rt; info.sectors(Part::User), Some(1024));
+    assert_eq!(rt; info.sectors(Part::Boot1), None);
+    assert_eq!(rt; (info.erase_unit, info.erased_byte), (1, 0x00));
+    assert_eq!(rt;
+        (info.trims, info.cmd23, info.read_only),
+        (false, true, false)
+    );
+
+    let mut ext_csd = ext_csd_m();
+    (ext_csd[155], ext_csd[143]) = (1, 1);
+    let mut device = built(rt.alloc(), mmc(ext_csd, 2048))?;
+    let session = opened(&mut device).ok_or("not opened")?;
+    let info = session.info();
+    for (part, sectors) in [
+        (Part::User, Some(2048)),
+        (Part::Boot1, Some(256)),
+        (Part::Boot2, Some(256)),
+        (Part::Gp1, Some(1024)),
+        (Part::Gp2, None),
+    ] {
+        assert_eq!(rt; info.sectors(part), sectors);
+    }
+    assert_eq!(rt; (info.erase_unit, info.erased_byte), (1024, 0xff));
+    assert_eq!(rt;
+        (info.trims, info.cmd23, info.read_only),
+        (true, true, false)
+    );
+    Ok(())
+}
+
+// An R1 with this status.
+fn r1(index: u8, status: u32) -> BusAnswer
+    requires { index < 64 }
+{
+    BusAnswer::Command(Reply::Short(encode_response(index, status)))
+}
+
+// A bus that answers as card M does, with another EXT_CSD.
+fn answering_as_m(alloc: Global, ext_csd: [u8; 512]) -> Result<ScriptedBus, Fail> {
+    let register = BusAnswer::Command(Reply::Long(encode_r2(&1u128.to_be_bytes())));
+    let csd = BusAnswer::Command(Reply::Long(encode_r2(&1u128.to_be_bytes())));
+    let mut block = Vec::new(alloc);
+    block.extend_from_slice(&ext_csd)?;
+    let mut answers = VecDeque::new(alloc);
+    for answer in [
+        BusAnswer::Command(Reply::Silent),
+        BusAnswer::Command(Reply::Silent),
+        BusAnswer::Command(Reply::Silent),
+        BusAnswer::Command(Reply::Silent),
+        BusAnswer::Command(Reply::Short(encode_r3(0xc0ff_8080))),
+        register,
+        r1(3, 0x500),
+        csd,
+        r1(7, 0x700),
+        BusAnswer::Busy(false),
+        r1(13, 0x900),
+        r1(8, 0x900),
+        BusAnswer::In(DataIn::Good, Bytes::new(block)),
+        r1(6, 0x900),
+        BusAnswer::Busy(false),
+        r1(13, 0x900),
+        r1(6, 0x900),
+        BusAnswer::Busy(false),
+        r1(13, 0x900),
+        r1(6, 0x900),
+        BusAnswer::Busy(false),
+        r1(13, 0x900),
+    ] {
+        answers.push_back(answer).ok().ok_or("no room")?;
+    }
+    Ok(ScriptedBus::new(answers))
+}
+
+// A general purpose partition that commands can't address as a whole counts as none.
+#[test]
+fn leaves_out_what_cannot_be_addressed(rt: HostRuntime) -> Result<(), Fail> {
+    let mut ext_csd = ext_csd_m();
+    (ext_csd[155], ext_csd[143], ext_csd[144], ext_csd[145]) = (1, 0xff, 0xff, 0xff);
+    let mut bus = answering_as_m(rt.alloc(), ext_csd)?;
+    let session = opened(&mut bus).ok_or("not opened")?;
+    assert_eq!(rt; session.info().sectors(Part::Gp1), None);
+    assert_eq!(rt; session.info().sectors(Part::User), Some(2048));
+    Ok(())
+}
+
+// Why a card isn't widened, if it isn't.
+fn refusal<B: Bus>(bus: &mut B, found: Found) -> Option<SwitchFault> {
+    match widen(bus, found) {
+        Ok(_) => None,
+        Err(why) => Some(why),
+    }
+}
+
+// An EXT_CSD of an old revision, without an erase unit, or without a size is refused.
+#[test]
+fn refuses_an_ext_csd(rt: HostRuntime) -> Result<(), Fail> {
+    for (index, value) in [(192, 4), (224, 0), (213, 0)] {
+        let mut ext_csd = ext_csd_m();
+        ext_csd[index] = value;
+        let mut bus = answering_as_m(rt.alloc(), ext_csd)?;
+        let found = identify(&mut bus).ok().ok_or("not found")?;
+        assert_eq!(rt; refusal(&mut bus, found), Some(SwitchFault::Register));
+    }
+    Ok(())
+}

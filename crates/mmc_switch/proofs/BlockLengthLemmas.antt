@@ -1,0 +1,72 @@
+-- Blocks of 512 bytes, by CMD16.
+use Rattle.std.proofs.Common.{◌∙◌, ◌≡◌, ◌↔◌, ap, false, refl, subst, sym, ℕ}
+use Rattle.std.specs.Prelude.{IsOk, None, Ok, Result, Some}
+use Rattle.mmc_frame.specs.Status.{error_bits}
+use Rattle.mmc_frame.specs.declared.card_state.State.TheVariants.{Tran}
+use Rattle.mmc_frame.specs.declared.kind.Kind.{Kind}
+use Rattle.mmc_card.specs.BusView.{BusView}
+use Rattle.mmc_card.specs.Card.{Card, IsCard, is_writing}
+use Rattle.mmc_card.specs.CardAnswer.{shown, status}
+use Rattle.mmc_card.specs.CardLaws.{HasNoError}
+use Rattle.mmc_card.specs.Laws.{erased_by}
+use Rattle.mmc_card.specs.Rows.{without_addresses}
+use Rattle.mmc_card.specs.RowsErase.{forgotten}
+use Rattle.mmc_bus.proofs.WorkLemmas.{moved_by}
+use Rattle.mmc_bus.specs.CommandLaws.{Does}
+use Rattle.mmc_bus.specs.Exchanges.{Kept}
+use Rattle.mmc_bus.specs.Heard.{response_of}
+use Rattle.mmc_bus.specs.Learned.{CommandFacts}
+use Rattle.mmc_bus.specs.Work.{Moved}
+use Rattle.mmc_bus.specs.declared.cause.Cause.{Cause}
+use Rattle.mmc_bus.specs.declared.host.Unheard.{Unheard}
+use Rattle.mmc_identify.specs.Stages.{IsLeft}
+use Rattle.mmc_switch.proofs.RestLemmas.{nothing_dropped}
+use Rattle.mmc_switch.specs.Stages.{IsSet, first_lines, first_setting}
+
+-- the card after it, as widening finds it
+set_after : (rca : ℕ) (old new : BusView) → IsCard old.card → IsLeft rca old.card → old.lines ≡ first_lines
+    → new.lines ≡ old.lines → new.card ≡ record (shown (forgotten old.card)) { block_length = 512 }
+    → IsSet false (first_setting rca) new
+set_after rca old new card left first lines e =
+    let is = left.selected in
+    subst (λ (c : Card). IsSet false (first_setting rca) (record new { card = c })) (sym e) (record {
+      rest = record {
+        state = is.state;
+        rests = left.rests;
+        app = refl;
+        command_errors = refl;
+        errors = refl;
+        switch_error = refl;
+        count = refl;
+        erase = refl;
+        finished = card.finished (ap is_writing is.state);
+      };
+      is_set = rw (is.is_rca, is.part, is.width, is.timing, is.erase_group_def) refl;
+      on_lines = lines ∙ first;
+    })
+
+pub length_set : (kind : Kind) (heard : Result ℕ Unheard) (r : Result Unit Cause) (old new : BusView)
+    → erased_by old.card (Some (16, 512)) ≡ None → new.lines ≡ old.lines
+    → Kept old (CommandFacts (response_of 16) old 16 512 heard new) new
+    → Does (old.card.state ≡ Tran) (status false (without_addresses old.card))
+    (record (shown (forgotten old.card)) { block_length = 512 }) old heard new
+    → ((error_bits kind (status false old.card) ≡ 0) ↔ HasNoError kind old.card)
+    → (IsOk r → (told : ℕ) × (heard ≡ Ok told) × (error_bits kind told ≡ 0))
+    → ((told : ℕ) → heard ≡ Ok told → error_bits kind told ≡ 0 → IsOk r)
+    → Moved (λ old new. (rca : ℕ) → IsLeft rca old.card → old.lines ≡ first_lines → IsOk r
+    → IsSet false (first_setting rca) new)
+    (λ old new. (rca : ℕ) → IsLeft rca old.card → IsOk r) old new
+length_set kind heard r old new none lines k does clean ok all =
+    moved_by old 16 512 heard new none k
+    (λ rca left first good.
+    let told = ok good in
+    set_after rca old new k.was_card left first lines (does.sound told.0 told.1).2)
+    (λ same rca left.
+    let is = left.selected in
+    let plain = nothing_dropped old.card is.erase in
+    all (status false old.card) ((does.fine same is.state).0 ∙ ap (λ card. Ok (status false card)) plain)
+    (clean.1 (record {
+      command_errors = is.command_errors;
+      errors = is.errors;
+      switch_error = λ mmc. is.switch_error;
+    })))

@@ -1,0 +1,124 @@
+-- A card at rest: what a command finds of it, and what it leaves of it.
+use Rattle.std.proofs.Common.{◌∙◌, ◌≡◌, ◌↔◌, Bool, ap, false, refl, subst, sym, true, ℕ}
+use Rattle.std.specs.Prelude.{IsOk, Ok, Result}
+use Rattle.mmc_frame.specs.Status.{error_bits}
+use Rattle.mmc_frame.specs.declared.card_state.State.{State}
+use Rattle.mmc_frame.specs.declared.card_state.State.TheVariants.{Tran}
+use Rattle.mmc_frame.specs.declared.kind.Kind.{Kind}
+use Rattle.mmc_card.specs.declared.exchange.Lines.{Lines}
+use Rattle.mmc_card.specs.declared.exchange.Timing.{Timing}
+use Rattle.mmc_card.specs.declared.exchange.Width.{Width}
+use Rattle.mmc_card.specs.BusView.{BusView}
+use Rattle.mmc_card.specs.Card.{Card, Held, IsCard, NoAddress, Source}
+use Rattle.mmc_card.specs.CardAnswer.{shown, status}
+use Rattle.mmc_card.specs.CardLaws.{HasNoError}
+use Rattle.mmc_card.specs.Faults.{NoFault}
+use Rattle.mmc_card.specs.Laws.{Setting, setting_of}
+use Rattle.mmc_card.specs.Rows.{without_addresses}
+use Rattle.mmc_card.specs.RowsErase.{forgotten}
+use Rattle.mmc_bus.specs.CommandLaws.{Does}
+use Rattle.mmc_bus.specs.declared.cause.Cause.{Cause}
+use Rattle.mmc_bus.specs.declared.host.Unheard.{Unheard}
+use Rattle.mmc_bus.specs.Work.{Moved}
+use Rattle.mmc_bus.proofs.WorkLemmas.{moved_on}
+use Rattle.mmc_switch.specs.Stages.{IsAtRest, IsSet, IsSetOver, lines_of}
+
+-- where no erase address is held none is dropped
+pub nothing_dropped : (card : Card) → card.erase ≡ NoAddress → without_addresses card ≡ card
+nothing_dropped card none = rw none refl
+
+pub no_error : (kind : Kind) (is_app : Bool) (card : Card) → IsAtRest is_app card → HasNoError kind card
+no_error kind is_app card rest =
+    record { command_errors = rest.command_errors; errors = rest.errors; switch_error = λ mmc. rest.switch_error }
+
+-- an R1 without an error comes from where the command is carried out
+pub carried_out : {IsThere : Type 0} (kind : Kind) (told : ℕ) (after : Card) (old : BusView) (heard : Result ℕ Unheard)
+    (new : BusView) (r : Result Unit Cause)
+    → (IsOk r → (status : ℕ) × (heard ≡ Ok status) × (error_bits kind status ≡ 0))
+    → Does IsThere told after old heard new → IsOk r → IsThere × (new.card ≡ after)
+carried_out kind told after old heard new r judged does ok =
+    let t = judged ok in
+    let s = does.sound t.0 t.1 in
+    (s.0, s.2)
+
+-- the error bits of a status are 0 just where its card holds no error
+abbrev pub ErrorsLaw : Type 0
+ErrorsLaw =
+    (kind : Kind) (app : Bool) (card : Card) → IsCard card
+    → ((error_bits kind (status app card) ≡ 0) ↔ HasNoError kind card)
+
+-- without a fault a card at rest tells of no error
+pub answers_well : {IsThere : Type 0} (kind : Kind) (app is_app : Bool) (after : Card) (old : BusView)
+    (heard : Result ℕ Unheard) (new : BusView) (r : Result Unit Cause) → ErrorsLaw → IsCard old.card
+    → ((status : ℕ) → heard ≡ Ok status → error_bits kind status ≡ 0 → IsOk r)
+    → Does IsThere (status app (without_addresses old.card)) after old heard new → NoFault old new
+    → IsAtRest is_app old.card → IsThere → IsOk r
+answers_well kind app is_app after old heard new r errors card judges does same rest there =
+    let none = (errors kind app old.card card).1 (no_error kind is_app old.card rest) in
+    let e = ap (status app) (nothing_dropped old.card rest.erase) in
+    judges (status app (without_addresses old.card)) (does.fine same there).0
+    (subst (λ n. error_bits kind n ≡ 0) (sym e) none)
+
+-- A card that has shown its errors, in this state, with these lines, this timing and this block length.
+abbrev pub left_as : Bool → State → Source → Width → Timing → ℕ → Card → Card
+left_as is_app state source width timing block_length card =
+    record (shown (forgotten card)) {
+      app = is_app;
+      state = state;
+      source = source;
+      width = width;
+      timing = timing;
+      block_length = block_length;
+    }
+
+pub rests_as : (is_app was_app : Bool) (state : State) (source : Source) (width : Width) (timing : Timing)
+    (block_length : ℕ) (old : Card) → state ≡ Tran → IsAtRest was_app old
+    → IsAtRest is_app (left_as is_app state source width timing block_length old)
+rests_as is_app was_app state source width timing block_length old tran rest = record {
+  state = tran;
+  rests = rest.rests;
+  app = refl;
+  command_errors = refl;
+  errors = refl;
+  switch_error = refl;
+  count = refl;
+  erase = refl;
+  finished = rest.finished;
+}
+
+-- it is at rest, on the same lines of the host
+pub set_as : (is_app was_app : Bool) (state : State) (source : Source) (width : Width) (timing : Timing)
+    (block_length : ℕ) (lines : Lines) (was is : Setting) (old new : BusView) → state ≡ Tran
+    → new.lines ≡ old.lines → new.card ≡ left_as is_app state source width timing block_length old.card
+    → setting_of (left_as is_app state source width timing block_length old.card) ≡ is
+    → IsSetOver lines was_app was old → IsSetOver lines is_app is new
+set_as is_app was_app state source width timing block_length lines was is old new tran same e setting set = record {
+  rest = subst (IsAtRest is_app) (sym e)
+      (rests_as is_app was_app state source width timing block_length old.card tran set.rest);
+  is_set = ap setting_of e ∙ setting;
+  on_lines = same ∙ set.on_lines;
+}
+
+-- a status leaves a card at rest as it is
+pub set_shown : (setting : Setting) (old new : BusView) → new.lines ≡ old.lines → new.card ≡ shown old.card
+    → IsSet false setting old → IsSet false setting new
+set_shown setting old new same e set =
+    let card = old.card in
+    let none : shown card ≡ shown (forgotten card) =
+    ap (λ (held : Held). record (shown card) { erase = held }) set.rest.erase in
+    set_as false false card.state card.source card.width card.timing card.block_length (lines_of setting) setting
+    setting old new set.rest.state same (e ∙ none) set.is_set set
+
+-- The host sets its lines, which is nothing to the card.
+
+pub moved_on_lines : {Own Fine : BusView → BusView → Type 0} (a b c : BusView) (lines : Lines)
+    → c ≡ record b { lines = lines } → (b.is_kept ≡ true → Moved Own Fine a b) → c.is_kept ≡ true
+    → Moved (λ old new. Own a b) (λ old new. Fine a b) a c
+moved_on_lines {Own} {Fine} a b c lines e p kept =
+    subst (λ c. Moved (λ old new. Own a b) (λ old new. Fine a b) a c) (sym e)
+    (let q = p (ap (λ (v : BusView). v.is_kept) (sym e) ∙ kept) in moved_on a b lines q q.own q.fine)
+
+pub set_on_lines : (is_app : Bool) (lines : Lines) (setting : Setting) (b c : BusView)
+    → c ≡ record b { lines = lines_of setting } → IsSetOver lines is_app setting b → IsSet is_app setting c
+set_on_lines is_app lines setting b c e set =
+    subst (IsSet is_app setting) (sym e) (record { rest = set.rest; is_set = set.is_set; on_lines = refl })

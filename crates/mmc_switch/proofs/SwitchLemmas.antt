@@ -1,0 +1,380 @@
+-- A switch of an eMMC device: CMD6 and the status behind it; and the switches of widening, one behind the other.
+use Rattle.std.proofs.Common.{◌∙◌, ◌≡◌, ◌↔◌, Bool, ap, false, inl, inr, refl, subst, sym, true, ℕ}
+use Rattle.std.proofs.lemmas.Result.{IfOk-from_err}
+use Rattle.std.specs.Prelude.{◌&&◌, ◌*◌, ◌+◌, ◌==◌, Err, IfOk, IfSome, IsErr, IsOk, None, Ok, Option, Result, Some}
+use Rattle.std.specs.Prelude.{if◌then◌else◌, length}
+use Rattle.mmc_frame.specs.Field.{field}
+use Rattle.mmc_frame.specs.Status.{error_bits}
+use Rattle.mmc_frame.specs.declared.card_state.State.TheVariants.{Tran}
+use Rattle.mmc_frame.specs.declared.kind.Kind.TheVariants.{Mmc}
+use Rattle.mmc_ext_csd.specs.ExtCsd.{high_speed_at_52_mhz, partition_config}
+use Rattle.mmc_card.specs.declared.exchange.Timing.{Timing}
+use Rattle.mmc_card.specs.declared.exchange.Timing.TheVariants.{Default, High}
+use Rattle.mmc_card.specs.declared.exchange.Width.TheVariants.{Eight, One}
+use Rattle.mmc_card.specs.declared.part.Part.{Part}
+use Rattle.mmc_card.specs.Blocks.{rested}
+use Rattle.mmc_card.specs.BusView.{BusView}
+use Rattle.mmc_card.specs.Card.{Card, stored}
+use Rattle.mmc_card.specs.CardAnswer.{shown, status}
+use Rattle.mmc_card.specs.CardLaws.{HasNoError, IsInOrder}
+use Rattle.mmc_card.specs.Faults.{NoFault}
+use Rattle.mmc_card.specs.Laws.{Setting, StandsIn, StillStands, erased_by, setting_of}
+use Rattle.mmc_card.specs.Made.{Made}
+use Rattle.mmc_card.specs.Rows.{without_addresses}
+use Rattle.mmc_card.specs.RowsSwitch.{access_switched, accessed, part_accessed, programs_switch, switched, write_byte}
+use Rattle.mmc_bus.specs.declared.cause.Cause.{Cause}
+use Rattle.mmc_bus.specs.declared.host.Unheard.{Unheard}
+use Rattle.mmc_bus.specs.CommandLaws.{Does}
+use Rattle.mmc_bus.specs.Exchanges.{Kept}
+use Rattle.mmc_bus.specs.Heard.{response_of}
+use Rattle.mmc_bus.specs.Learned.{CommandFacts}
+use Rattle.mmc_bus.specs.Work.{Done, Moved, Narrows}
+use Rattle.mmc_bus.proofs.PollLemmas.{Ended}
+use Rattle.mmc_bus.proofs.WorkLemmas.{done_as, done_by, done_then, moved_as, moved_on, moved_then, narrows_then, quiet_parts, refuted}
+use Rattle.mmc_switch.specs.Info.{has_high_timing, timing_of}
+use Rattle.mmc_switch.proofs.RestLemmas.{no_error, nothing_dropped, set_on_lines}
+use Rattle.mmc_switch.specs.Stages.{IsAtRest, IsSet, IsSetOver, MayStandIn, first_setting, lines_of, user_setting}
+
+-- CMD6.
+
+abbrev pub Requests : ℕ → Result Unit Cause → BusView → BusView → Type 0
+Requests argument r =
+    Done (MayStandIn argument) Narrows
+    (λ old new. (after : Card) → old.card.made.kind ≡ Mmc → IsAtRest false old.card
+    → switched old.card argument ≡ Some after → IsOk r → new.card ≡ programs_switch after)
+    (λ old new. (after : Card) → old.card.made.kind ≡ Mmc → IsAtRest false old.card
+    → switched old.card argument ≡ Some after → IsOk r)
+
+pub requested : (argument : ℕ) (heard : Result ℕ Unheard) (r : Result Unit Cause) (old new : BusView)
+    → erased_by old.card (Some (6, argument)) ≡ None → new.lines ≡ old.lines
+    → Kept old (CommandFacts (response_of 6) old 6 argument heard new) new
+    → ((after : Card) → old.card.made.kind ≡ Mmc → switched (without_addresses old.card) argument ≡ Some after
+    → Does (old.card.state ≡ Tran) (status false (without_addresses old.card)) (programs_switch after) old heard new)
+    → ((error_bits Mmc (status false old.card) ≡ 0) ↔ HasNoError Mmc old.card)
+    → (IsOk r → (told : ℕ) × (heard ≡ Ok told) × (error_bits Mmc told ≡ 0))
+    → ((told : ℕ) → heard ≡ Ok told → error_bits Mmc told ≡ 0 → IsOk r) → Requests argument r old new
+requested argument heard r old new none lines k law clean ok all =
+    done_by old new k k.step.stays (record { lines = lines; stands = k.step.switches }) (rw none at k.step.narrows)
+    (λ after mmc rest to good.
+    let plain = nothing_dropped old.card rest.erase in
+    let told = ok good in
+    ((law after mmc (ap (λ card. switched card argument) plain ∙ to)).sound told.0 told.1).2)
+    (λ same after mmc rest to.
+    let plain = nothing_dropped old.card rest.erase in
+    let does = law after mmc (ap (λ card. switched card argument) plain ∙ to) in
+    all (status false old.card) ((does.fine same rest.state).0 ∙ ap (λ card. Ok (status false card)) plain)
+    (clean.1 (no_error Mmc false old.card rest)))
+
+-- The status behind it.
+
+-- a switch leaves the RCA, and no address is held that wasn't before
+abbrev pub Keeps : Card → Card → Type 0
+Keeps card after = (after.erase ≡ card.erase) × (after.rca ≡ card.rca)
+
+-- the outcome of tests, one behind the other
+one_of : (card x y z : Card) (first second third : Bool) (rest : Option Card) → Keeps card x → Keeps card y
+    → Keeps card z → IfSome rest (Keeps card)
+    → IfSome (if first then Some x else if second then Some y else if third then Some z else rest) (Keeps card)
+one_of card x y z true second third rest p q r other = p
+one_of card x y z false true third rest p q r other = q
+one_of card x y z false false true rest p q r other = r
+one_of card x y z false false false rest p q r other = other
+
+accessed_by : (card : Card) (part : Part) (empty : Bool)
+    → IfSome (if empty then None else Some (record card { part = part })) (Keeps card)
+accessed_by card part true = tt
+accessed_by card part false = (refl, refl)
+
+accessed_keeps : (card : Card) (part : Option Part) → IfSome (accessed card part) (Keeps card)
+accessed_keeps card (Some part) = accessed_by card part (length (stored card part) == 0)
+accessed_keeps card None = tt
+
+access_keeps : (card : Card) (part : Option Part) (is_access : Bool)
+    → IfSome (if is_access then accessed card part else None) (Keeps card)
+access_keeps card part true = accessed_keeps card part
+access_keeps card part false = tt
+
+switched_keeps : (card : Card) (argument : ℕ) → IfSome (switched card argument) (Keeps card)
+switched_keeps card argument =
+    one_of card (record card { erase_group_def = 1 }) (record card { width = Eight }) (record card { timing = High })
+    (argument == write_byte 175 1) (argument == write_byte 183 2)
+    ((argument == write_byte 185 1) && (high_speed_at_52_mhz card.made.ext_csd == 1)) (access_switched card argument)
+    (refl, refl) (refl, refl) (refl, refl)
+    (access_keeps card (part_accessed (field 10 8 argument))
+    (argument == write_byte 179 (8 * field 7 3 (partition_config card.made.ext_csd) + field 10 8 argument)))
+
+keeps : (card after : Card) (argument : ℕ) → switched card argument ≡ Some after → Keeps card after
+keeps card after argument e = subst (λ (o : Option Card). IfSome o (Keeps card)) e (switched_keeps card argument)
+
+stands_on : (part : Part) (a b c : Card) → StandsIn part a b → StillStands b c → StandsIn part a c
+stands_on part a b c p q setting s =
+    elim (p setting s) [
+      | inl old ↦ inl (q setting old)
+      | inr new ↦ inr (q (record setting { part = part }) new)
+    ]
+
+abbrev pub Switches : ℕ → ℕ → Result Unit Cause → BusView → BusView → Type 0
+Switches rca argument r =
+    Done (MayStandIn argument) Narrows
+    (λ old new. (after : Card) → old.card.made.kind ≡ Mmc → IsAtRest false old.card
+    → switched old.card argument ≡ Some after → IsOk r
+    → IsAtRest false new.card × (setting_of new.card ≡ setting_of after))
+    (λ old new. (after : Card) → old.card.made.kind ≡ Mmc → IsAtRest false old.card → old.card.rca ≡ rca
+    → switched old.card argument ≡ Some after → IsOk r)
+
+-- CMD6 fails
+pub request_fails : (rca argument : ℕ) (fault : Cause) (r : Result Unit Cause) (a b : BusView) → IsErr r
+    → Requests argument (Err fault) a b → Switches rca argument r a b
+request_fails rca argument fault r a b err p =
+    done_as a b p p.set p.sectors (λ after mmc rest to ok. refuted r err ok)
+    (λ same after mmc rest is_rca to. cc (p.fine same after mmc rest to))
+
+-- at rest again
+rest_again : (old after new : Card) → IsAtRest false old → after.erase ≡ old.erase
+    → new ≡ shown (rested (programs_switch after)) → IsAtRest false new × (setting_of new ≡ setting_of after)
+rest_again old after new rest erase e =
+    subst (λ card. IsAtRest false card × (setting_of card ≡ setting_of after)) (sym e) (
+      record {
+        state = refl;
+        rests = refl;
+        app = refl;
+        command_errors = refl;
+        errors = refl;
+        switch_error = refl;
+        count = refl;
+        erase = erase ∙ rest.erase;
+        finished = refl;
+      },
+      refl,
+    )
+
+ordered : (after : Card) → IsInOrder Mmc (rested (programs_switch after))
+ordered after = record {
+  no_error = record { command_errors = refl; errors = refl; switch_error = λ mmc. refl };
+  tran = refl;
+  rests = refl;
+}
+
+pub switches : (rca argument : ℕ) (request r : Result Unit Cause) (a b c : BusView) → IsOk request
+    → Requests argument request a b → Ended Mmc rca r b c → Switches rca argument r a c
+switches rca argument request r a b c good p q =
+    done_then a b c p q
+    (record {
+      lines = q.set.lines ∙ p.set.lines;
+      stands = λ part to. stands_on part a.card b.card c.card (p.set.stands part to) q.set.stands;
+    })
+    (narrows_then a b c p.sectors q.sectors)
+    (λ after mmc rest to ok.
+    let is = p.own after mmc rest to good in
+    rest_again a.card after c.card rest (keeps a.card after argument to).0
+    ((q.own ok).1 ∙ ap (λ card. shown (rested card)) is))
+    (λ same after mmc rest is_rca to.
+    let parts = quiet_parts a b c p.stays q.stays same in
+    let back = sym (p.own after mmc rest to good) in
+    q.fine parts.1 (ap (λ (card : Card). card.polled) (sym back)) (subst (λ card. IsInOrder Mmc (rested card)) back
+    (ordered after)) (ap (λ card. (rested card).app) (sym back))
+    (ap (λ card. (rested card).rca) (sym back) ∙ (keeps a.card after argument to).1 ∙ is_rca))
+
+-- Erase groups, width and speed.
+
+abbrev pub Sets : Setting → Setting → Result Unit Cause → BusView → BusView → Type 0
+Sets was is r =
+    Moved (λ old new. old.card.made.kind ≡ Mmc → IsSet false was old → IsOk r → IsSet false is new)
+    (λ old new. old.card.made.kind ≡ Mmc → IsSet false was old → IsOk r)
+
+abbrev pub Speeds : ℕ → Result Unit Cause → BusView → BusView → Type 0
+Speeds rca r =
+    Moved
+    (λ old new. old.card.made.kind ≡ Mmc → has_high_timing old.card.made ≡ true
+    → IsSet false (user_setting rca Eight Default 1) old → IsOk r → IsSet false (user_setting rca Eight High 1) new)
+    (λ old new. old.card.made.kind ≡ Mmc → has_high_timing old.card.made ≡ true
+    → IsSet false (user_setting rca Eight Default 1) old → IsOk r)
+
+-- the device has the new setting, and the host's lines are as before
+set_over : (argument : ℕ) (was is : Setting) (r : Result Unit Cause) (a b : BusView) (after : Card)
+    → Switches was.rca argument r a b → switched a.card argument ≡ Some after → setting_of after ≡ is
+    → a.card.made.kind ≡ Mmc → IsSet false was a → IsOk r → IsSetOver (lines_of was) false is b
+set_over argument was is r a b after p to same mmc at ok =
+    let own = p.own after mmc at.rest to ok in
+    record { rest = own.0; is_set = own.1 ∙ same; on_lines = p.set.lines ∙ at.on_lines }
+
+-- without a fault a switch that the device knows succeeds
+switch_fine : (argument : ℕ) (was : Setting) (r : Result Unit Cause) (a b : BusView) (after : Card)
+    → Switches was.rca argument r a b → switched a.card argument ≡ Some after → NoFault a b → a.card.made.kind ≡ Mmc
+    → IsSet false was a → IsOk r
+switch_fine argument was r a b after p to same mmc at =
+    p.fine same after mmc at.rest (ap (λ (s : Setting). s.rca) at.is_set) to
+
+to_groups : (card : Card) (argument : ℕ) → argument ≡ write_byte 175 1
+    → switched card argument ≡ Some (record card { erase_group_def = 1 })
+to_groups card argument e = ap (switched card) e
+
+to_eight : (card : Card) (argument : ℕ) → argument ≡ write_byte 183 2
+    → switched card argument ≡ Some (record card { width = Eight })
+to_eight card argument e = ap (switched card) e
+
+high_by : (made : Made) → made.kind ≡ Mmc → has_high_timing made ≡ true
+    → (high_speed_at_52_mhz made.ext_csd == 1) ≡ true
+high_by made mmc high = rw mmc at high
+
+to_high : (card : Card) (argument : ℕ) → argument ≡ write_byte 185 1 → card.made.kind ≡ Mmc
+    → has_high_timing card.made ≡ true → switched card argument ≡ Some (record card { timing = High })
+to_high card argument e mmc high =
+    ap (switched card) e
+    ∙ ap (λ b. if b then Some (record card { timing = High }) else access_switched card (write_byte 185 1))
+    (high_by card.made mmc high)
+
+pub set_groups : (rca argument : ℕ) (r : Result Unit Cause) (a b : BusView) → argument ≡ write_byte 175 1
+    → Switches rca argument r a b → Sets (first_setting rca) (user_setting rca One Default 1) r a b
+set_groups rca argument r a b e p =
+    let was = first_setting rca in
+    let is = user_setting rca One Default 1 in
+    let after = record a.card { erase_group_def = 1 } in
+    let to = to_groups a.card argument e in
+    moved_as a b p
+    (λ mmc at ok.
+    set_over argument was is r a b after p to (ap (λ (s : Setting). record s { erase_group_def = 1 }) at.is_set)
+    mmc at ok)
+    (λ same mmc at. switch_fine argument was r a b after p to same mmc at)
+
+pub set_eight : (rca argument : ℕ) (a b c : BusView) → argument ≡ write_byte 183 2
+    → (b.is_kept ≡ true → Switches rca argument (Ok tt) a b)
+    → c ≡ record b { lines = record { width = Eight; timing = Default } } → c.is_kept ≡ true
+    → Sets (user_setting rca One Default 1) (user_setting rca Eight Default 1) (Ok tt) a c
+set_eight rca argument a b c e works lines kept =
+    let was = user_setting rca One Default 1 in
+    let is = user_setting rca Eight Default 1 in
+    let after = record a.card { width = Eight } in
+    let to = to_eight a.card argument e in
+    let p = works (ap (λ (v : BusView). v.is_kept) (sym lines) ∙ kept) in
+    subst (Sets was is (Ok tt) a) (sym lines)
+    (moved_on a b (lines_of is) p
+    (λ mmc at ok.
+    set_on_lines false (lines_of was) is b (record b { lines = lines_of is }) refl
+    (set_over argument was is (Ok tt) a b after p to (ap (λ (s : Setting). record s { width = Eight }) at.is_set)
+    mmc at refl))
+    (λ same mmc at. refl))
+
+pub set_high : (rca argument : ℕ) (a b c : BusView) → argument ≡ write_byte 185 1
+    → (b.is_kept ≡ true → Switches rca argument (Ok tt) a b)
+    → c ≡ record b { lines = record { width = Eight; timing = High } } → c.is_kept ≡ true → Speeds rca (Ok tt) a c
+set_high rca argument a b c e works lines kept =
+    let was = user_setting rca Eight Default 1 in
+    let is = user_setting rca Eight High 1 in
+    let after = record a.card { timing = High } in
+    let p = works (ap (λ (v : BusView). v.is_kept) (sym lines) ∙ kept) in
+    subst (Speeds rca (Ok tt) a) (sym lines)
+    (moved_on a b (lines_of is) p
+    (λ mmc high at ok.
+    set_on_lines false (lines_of was) is b (record b { lines = lines_of is }) refl
+    (set_over argument was is (Ok tt) a b after p (to_high a.card argument e mmc high)
+    (ap (λ (s : Setting). record s { timing = High }) at.is_set) mmc at refl))
+    (λ same mmc high at. refl))
+
+pub eight_fails : (rca argument : ℕ) (fault : Cause) (r : Result Unit Cause) (a b : BusView) → IsErr r
+    → argument ≡ write_byte 183 2 → Switches rca argument (Err fault) a b
+    → Sets (user_setting rca One Default 1) (user_setting rca Eight Default 1) r a b
+eight_fails rca argument fault r a b err e p =
+    moved_as a b p (λ mmc at ok. refuted r err ok)
+    (λ same mmc at.
+    cc (switch_fine argument (user_setting rca One Default 1) (Err fault) a b (record a.card { width = Eight }) p
+    (to_eight a.card argument e) same mmc at))
+
+pub high_fails : (rca argument : ℕ) (fault : Cause) (r : Result Unit Cause) (a b : BusView) → IsErr r
+    → argument ≡ write_byte 185 1 → Switches rca argument (Err fault) a b → Speeds rca r a b
+high_fails rca argument fault r a b err e p =
+    moved_as a b p (λ mmc high at ok. refuted r err ok)
+    (λ same mmc high at.
+    cc (switch_fine argument (user_setting rca Eight Default 1) (Err fault) a b (record a.card { timing = High }) p
+    (to_high a.card argument e mmc high) same mmc at))
+
+-- All of them.
+
+abbrev pub SetsUp : ℕ → Bool → Result Timing Cause → BusView → BusView → Type 0
+SetsUp rca high r =
+    Moved
+    (λ old new. old.card.made.kind ≡ Mmc → high ≡ has_high_timing old.card.made → IsSet false (first_setting rca) old
+    → IfOk r (λ timing. (timing ≡ timing_of old.card.made) × IsSet false (user_setting rca Eight timing 1) new))
+    (λ old new. old.card.made.kind ≡ Mmc → high ≡ has_high_timing old.card.made → IsSet false (first_setting rca) old
+    → IsOk r)
+
+pub groups_fail : (rca : ℕ) (high : Bool) (fault : Cause) (r : Result Timing Cause) (a b : BusView) → IsErr r
+    → Sets (first_setting rca) (user_setting rca One Default 1) (Err fault) a b → SetsUp rca high r a b
+groups_fail rca high fault r a b err p =
+    moved_as a b p (λ mmc is at. IfOk-from_err r _ err) (λ same mmc is at. cc (p.fine same mmc at))
+
+-- two switches, one behind the other
+sets_then : (was is more : Setting) (r : Result Unit Cause) (a b c : BusView) → Sets was is (Ok tt) a b
+    → Sets is more r b c → Sets was more r a c
+sets_then was is more r a b c p q =
+    let kind : a.card.made.kind ≡ Mmc → b.card.made.kind ≡ Mmc =
+    λ mmc. ap (λ (m : Made). m.kind) p.stays.carried.made ∙ mmc in
+    moved_then a b c p q (λ mmc at. q.own (kind mmc) (p.own mmc at refl))
+    (λ same mmc at. q.fine (quiet_parts a b c p.stays q.stays same).1 (kind mmc) (p.own mmc at refl))
+
+-- all but the speed
+to_width : (rca : ℕ) (r : Result Unit Cause) (a b c : BusView)
+    → Sets (first_setting rca) (user_setting rca One Default 1) (Ok tt) a b
+    → Sets (user_setting rca One Default 1) (user_setting rca Eight Default 1) r b c
+    → Sets (first_setting rca) (user_setting rca Eight Default 1) r a c
+to_width rca r a b c p q =
+    sets_then (first_setting rca) (user_setting rca One Default 1) (user_setting rca Eight Default 1) r a b c p q
+
+pub width_fails : (rca : ℕ) (high : Bool) (fault : Cause) (r : Result Timing Cause) (a b c : BusView) → IsErr r
+    → Sets (first_setting rca) (user_setting rca One Default 1) (Ok tt) a b
+    → Sets (user_setting rca One Default 1) (user_setting rca Eight Default 1) (Err fault) b c → SetsUp rca high r a c
+width_fails rca high fault r a b c err p q =
+    let all = to_width rca (Err fault) a b c p q in
+    moved_as a c all (λ mmc is at. IfOk-from_err r _ err) (λ same mmc is at. cc (all.fine same mmc at))
+
+-- and the speed
+with_speed : (rca : ℕ) (r : Result Unit Cause) (a b c d : BusView)
+    → Sets (first_setting rca) (user_setting rca One Default 1) (Ok tt) a b
+    → Sets (user_setting rca One Default 1) (user_setting rca Eight Default 1) (Ok tt) b c → Speeds rca r c d
+    → Moved
+    (λ old new. old.card.made.kind ≡ Mmc → has_high_timing old.card.made ≡ true → IsSet false (first_setting rca) old
+    → IsOk r → IsSet false (user_setting rca Eight High 1) new)
+    (λ old new. old.card.made.kind ≡ Mmc → has_high_timing old.card.made ≡ true → IsSet false (first_setting rca) old
+    → IsOk r) a d
+with_speed rca r a b c d p q s =
+    let pair = to_width rca (Ok tt) a b c p q in
+    let back = sym pair.stays.carried.made in
+    let kind : a.card.made.kind ≡ Mmc → c.card.made.kind ≡ Mmc = subst (λ (m : Made). m.kind ≡ Mmc) back in
+    let fast : has_high_timing a.card.made ≡ true → has_high_timing c.card.made ≡ true =
+    subst (λ m. has_high_timing m ≡ true) back in
+    moved_then a c d pair s (λ mmc high at. s.own (kind mmc) (fast high) (pair.own mmc at refl))
+    (λ same mmc high at.
+    s.fine (quiet_parts a c d pair.stays s.stays same).1 (kind mmc) (fast high) (pair.own mmc at refl))
+
+pub speed_fails : (rca : ℕ) (high : Bool) (fault : Cause) (r : Result Timing Cause) (a b c d : BusView) → IsErr r
+    → high ≡ true → Sets (first_setting rca) (user_setting rca One Default 1) (Ok tt) a b
+    → Sets (user_setting rca One Default 1) (user_setting rca Eight Default 1) (Ok tt) b c → Speeds rca (Err fault) c d
+    → SetsUp rca high r a d
+speed_fails rca high fault r a b c d err fast p q s =
+    let all = with_speed rca (Err fault) a b c d p q s in
+    moved_as a d all (λ mmc is at. IfOk-from_err r _ err)
+    (λ same mmc is at. cc (all.fine same mmc (sym is ∙ fast) at))
+
+-- the timing by what the device has
+timing_by : (made : Made) (high : Bool) → high ≡ has_high_timing made
+    → (if high then High else Default) ≡ timing_of made
+timing_by made high is = ap (λ b. if b then High else Default) is
+
+pub set_up_fast : (rca : ℕ) (high : Bool) (a b c d : BusView) → high ≡ true
+    → Sets (first_setting rca) (user_setting rca One Default 1) (Ok tt) a b
+    → Sets (user_setting rca One Default 1) (user_setting rca Eight Default 1) (Ok tt) b c → Speeds rca (Ok tt) c d
+    → SetsUp rca high (Ok High) a d
+set_up_fast rca high a b c d fast p q s =
+    let all = with_speed rca (Ok tt) a b c d p q s in
+    moved_as a d all
+    (λ mmc is at. (timing_by a.card.made true (sym fast ∙ is), all.own mmc (sym is ∙ fast) at refl))
+    (λ same mmc is at. refl)
+
+pub set_up_plain : (rca : ℕ) (high : Bool) (a b c : BusView) → high ≡ false
+    → Sets (first_setting rca) (user_setting rca One Default 1) (Ok tt) a b
+    → Sets (user_setting rca One Default 1) (user_setting rca Eight Default 1) (Ok tt) b c
+    → SetsUp rca high (Ok Default) a c
+set_up_plain rca high a b c slow p q =
+    let all = to_width rca (Ok tt) a b c p q in
+    moved_as a c all (λ mmc is at. (timing_by a.card.made false (sym slow ∙ is), all.own mmc at refl))
+    (λ same mmc is at. refl)

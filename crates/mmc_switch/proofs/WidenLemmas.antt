@@ -1,0 +1,368 @@
+-- How the parts of widening join.
+use Rattle.std.proofs.Common.{◌+◌, ◌<◌, ◌∙◌, ◌≡◌, ◌≤◌, ◌↔◌, Bool, List, ap, arith, cond, false, inl, inr, length}
+use Rattle.std.proofs.Common.{refl, subst, sym, true, ℕ}
+use Rattle.std.proofs.lemmas.Bool.{eqb-true, le-ltb, ne_eqb}
+use Rattle.std.proofs.lemmas.List.{get_or-set_other, get_or-set_same, length-set}
+use Rattle.std.proofs.lemmas.Result.{IfOk-at_ok, IfOk-from_err}
+use Rattle.std.specs.Prelude.{◌&&◌, ◌*◌, ◌==◌, Err, IfOk, IfSome, IsErr, IsOk, IsSome, IsTrue, MatchResult, Ok, Option}
+use Rattle.std.specs.Prelude.{Result, Some, is_ok, is_some, not, slice_set}
+use Rattle.mmc_frame.specs.Field.{field}
+use Rattle.mmc_frame.specs.declared.addressing.Addressing.TheVariants.{Bytes, Sectors}
+use Rattle.mmc_frame.specs.declared.kind.Kind.{Kind}
+use Rattle.mmc_frame.specs.declared.kind.Kind.TheVariants.{Mmc, Sd}
+use Rattle.mmc_regs.specs.Ocr.{access_mode}
+use Rattle.mmc_ext_csd.specs.ExtCsd.{ext_csd_in, ext_csd_rev, hc_erase_grp_size, high_speed_at_52_mhz, partition_config}
+use Rattle.mmc_ext_csd.specs.ExtCsd.{sec_count}
+use Rattle.mmc_card.specs.BusView.{BusView}
+use Rattle.mmc_card.specs.Card.{Card, HasItsSizes, IsCard, is_writing}
+use Rattle.mmc_card.specs.Laws.{Setting}
+use Rattle.mmc_card.specs.Made.{HasRegisters, Made, addressing_of, first_block_length, has_sector_addresses, is_mmc}
+use Rattle.mmc_card.specs.Made.{sectors_in}
+use Rattle.mmc_card.specs.Profile.{InProfile}
+use Rattle.mmc_card.specs.RowsSwitch.{ext_csd_now, partition_config_for, timing_number, width_number}
+use Rattle.mmc_card.specs.declared.exchange.Timing.{Timing}
+use Rattle.mmc_card.specs.declared.exchange.Width.{Width}
+use Rattle.mmc_card.specs.declared.exchange.Width.TheVariants as Over
+use Rattle.mmc_card.specs.declared.part.Part.{Part}
+use Rattle.mmc_card.specs.declared.part.Part.TheVariants.{User}
+use Rattle.mmc_bus.specs.declared.cause.Cause.{Cause}
+use Rattle.mmc_bus.specs.Learned.{Stays}
+use Rattle.mmc_bus.specs.Work.{Moved}
+use Rattle.mmc_switch.proofs.FetchLemmas.{SendsExtCsd}
+use Rattle.mmc_switch.proofs.SdLemmas.{SetsUp as SetsUpSd}
+use Rattle.mmc_switch.proofs.SwitchLemmas.{SetsUp as SetsUpMmc}
+use Rattle.mmc_bus.proofs.WorkLemmas.{both, fell, moved_as, refuted}
+use Rattle.mmc_identify.specs.Stages.{IsFound, IsLeft, rca_of}
+use Rattle.mmc_identify.specs.declared.found.Found.{Found}
+use Rattle.mmc_switch.proofs.InfoLemmas.{byte_kept, count_kept, mmc_speed, tested}
+use Rattle.mmc_switch.specs.Info.{IsInfo, erase_group_def_of, has_high_timing, timing_of, width_of}
+use Rattle.mmc_switch.specs.Place.{IsReady, Knows, setting_in}
+use Rattle.mmc_switch.specs.Stages.{IsSet, first_lines, first_setting, told_of, user_setting}
+use Rattle.mmc_switch.specs.declared.fault.SwitchFault.{SwitchFault}
+use Rattle.mmc_switch.specs.declared.info.Info.{Info}
+use Rattle.mmc_switch.specs.declared.sd.Told.{Told}
+use Rattle.mmc_switch.specs.declared.session.Session.{Session}
+
+-- What is given on as a success is one, and a failure none.
+
+pub ok_is : {X : Type 0} (r : Result X Cause) (x : X)
+    → MatchResult r (λ y. let told : Result X SwitchFault = Ok x in told ≡ Ok y) (λ cause. ⊥) → r ≡ Ok x
+ok_is (Ok y) x cases = cc cases
+ok_is (Err cause) x cases = absurd cases
+
+failed : {X E P : Type 0} (r : Result X E) → false ≡ is_ok r → IsOk r → P
+failed (Ok x) fails ok = cc fails
+failed (Err fault) fails ok = cc ok
+
+-- A card that is ready.
+
+-- the session that is opened
+abbrev pub first_session : Info → ℕ → Session
+first_session info config = record { info = info; partition_config = config; selected = Some User }
+
+sizes_still : (a b : BusView) → Stays a b → HasItsSizes a.card → HasItsSizes b.card
+sizes_still a b stays sizes part =
+    stays.carried.sizes part ∙ sizes part ∙ ap (λ (m : Made). sectors_in m part) (sym stays.carried.made)
+
+ready_set : (session : Session) (rca : ℕ) (width : Width) (timing : Timing) (group : ℕ) (view : BusView)
+    → session.info.rca ≡ rca → session.info.width ≡ width → session.info.timing ≡ timing
+    → erase_group_def_of session.info.kind ≡ group → IsSet false (user_setting rca width timing group) view
+    → IsSet false (setting_in session.info view.card.part) view
+ready_set session rca width timing group view r w t e set =
+    let user : view.card.part ≡ User = ap (λ (s : Setting). s.part) set.is_set in
+    let is : setting_in session.info view.card.part ≡ user_setting rca width timing group =
+    rw (user, r, w, t, e) refl in
+    subst (λ s. IsSet false s view) (sym is) set
+
+-- what is known of the card before is known of it after
+ready : (session : Session) (rca : ℕ) (width : Width) (timing : Timing) (group : ℕ) (a b : BusView) → IsCard b.card
+    → Stays a b → HasItsSizes a.card → Knows session a.card.made → session.selected ≡ Some User
+    → rca ≡ rca_of a.card.made → width ≡ width_of a.card.made → timing ≡ timing_of a.card.made
+    → erase_group_def_of a.card.made.kind ≡ group → IsSet false (user_setting rca width timing group) b
+    → IsReady session b
+ready session rca width timing group a b card stays sizes knows selected r w t e set =
+    let user : b.card.part ≡ User = ap (λ (s : Setting). s.part) set.is_set in
+    record {
+      is_card = card;
+      sizes = sizes_still a b stays sizes;
+      knows = subst (Knows session) (sym stays.carried.made) knows;
+      set =
+          ready_set session rca width timing group b (knows.info.rca ∙ sym r) (knows.info.width ∙ sym w)
+          (knows.info.timing ∙ sym t) (ap erase_group_def_of knows.info.kind ∙ e) set;
+      part = record { known = λ known is. user ∙ cc (selected, is); sd = λ sd. user };
+    }
+
+-- An SD card.
+
+-- from blocks of 512 bytes on, a card of this kind
+abbrev pub WidensKind : Kind → Found → Result Session SwitchFault → BusView → BusView → Type 0
+WidensKind kind found r a b =
+    Moved (λ old new. old.card.made.kind ≡ kind → HasItsSizes old.card → IsFound old.card.made found
+    → IsSet false (first_setting found.rca) old
+    → IfOk r (λ session. IsReady session new × (session.selected ≡ Some User)))
+    (λ old new. old.card.made.kind ≡ kind → InProfile old.card.made → IsFound old.card.made found
+    → IsSet false (first_setting found.rca) old → IsOk r) a b
+
+pub sd_exchange_fails : (found : Found) (told : Result Told Cause) (r : Result Session SwitchFault) (a b : BusView)
+    → IsErr r → false ≡ is_ok told → SetsUpSd found.rca told a b → WidensKind Sd found r a b
+sd_exchange_fails found told r a b err fails p =
+    moved_as a b p (λ is sizes own set. IfOk-from_err r _ err)
+    (λ same is profile own set. failed told fails (p.fine same is set))
+
+pub sd_register_fails : (found : Found) (told : Result Told Cause) (info : Option Info) (r : Result Session SwitchFault)
+    (a b : BusView) → IsErr r → false ≡ is_some info
+    → ((made : Made) → HasRegisters made → made.kind ≡ Sd → IsFound made found → IsSome info)
+    → SetsUpSd found.rca told a b → WidensKind Sd found r a b
+sd_register_fails found told info r a b err none taken p =
+    moved_as a b p (λ is sizes own set. IfOk-from_err r _ err)
+    (λ same is profile own set. cc (none, taken a.card.made p.was_card.registers is own))
+
+pub sd_widened : (found : Found) (told : Told) (up : Result Told Cause) (said : Option Info) (info : Info)
+    (session : Session) (a b : BusView) → up ≡ Ok told → said ≡ Some info → session ≡ first_session info 0
+    → ((made : Made) → HasRegisters made → made.kind ≡ Sd → IsFound made found → told ≡ told_of made
+    → IfSome said (IsInfo made))
+    → SetsUpSd found.rca up a b → WidensKind Sd found (Ok session) a b
+sd_widened found told up said info session a b e some opened says p =
+    let made = a.card.made in
+    subst (λ (s : Session). WidensKind Sd found (Ok s) a b) (sym opened)
+    (moved_as a b p
+    (λ is sizes own set.
+    let done = IfOk-at_ok _ e (p.own is set) in
+    let knows : Knows (first_session info 0) made = record {
+      info = subst (λ o. IfSome o (IsInfo made)) some (says made p.was_card.registers is own done.0);
+      partition_config = λ mmc. cc (is, mmc);
+    } in (
+      ready (first_session info 0) found.rca (width_of made) (timing_of made) 0 a b p.is_card p.stays sizes knows refl
+          own.rca refl refl (rw is refl) done.1,
+      refl,
+    ))
+    (λ same is profile own set. refl))
+
+-- An eMMC device.
+
+pub mmc_send_fails : (found : Found) (sent : Result (List ℕ) Cause) (r : Result Session SwitchFault) (a b : BusView)
+    → IsErr r → false ≡ is_ok sent → SendsExtCsd sent a b → WidensKind Mmc found r a b
+mmc_send_fails found sent r a b err fails p =
+    moved_as a b p (λ is sizes own set. IfOk-from_err r _ err)
+    (λ same is profile own set. failed sent fails (p.fine same (first_setting found.rca) is set))
+
+-- an EXT_CSD is taken by these two bytes
+taken_by : (block : List ℕ) → 5 ≤ ext_csd_rev block → (hc_erase_grp_size block ≡ 0 → ⊥) → ext_csd_in block ≡ Ok block
+taken_by block revision some = rw (le-ltb (ext_csd_rev block) 5 revision, ne_eqb (hc_erase_grp_size block) 0 some) refl
+
+sent_taken : (card : Card) → InProfile card.made → card.made.kind ≡ Mmc
+    → ext_csd_in (ext_csd_now card) ≡ Ok (ext_csd_now card)
+sent_taken card profile is =
+    let mmc = profile.mmc is in
+    let revision = byte_kept card 192 (omega arith) (omega arith) (omega arith) (omega arith) in
+    let group = byte_kept card 224 (omega arith) (omega arith) (omega arith) (omega arith) in
+    taken_by (ext_csd_now card) (subst (λ n. 5 ≤ n) (sym revision) mmc.revision) (λ e. mmc.erase_group (sym group ∙ e))
+
+by_sectors : (high : Bool) → cond high Sectors Bytes ≡ Sectors → high ≡ true
+by_sectors true e = refl
+by_sectors false e = cc e
+
+-- SEC_COUNT of a device in profile with sector addresses isn't 0
+counted : (made : Made) → InProfile made → made.kind ≡ Mmc → addressing_of made ≡ Sectors
+    → sec_count made.ext_csd ≡ 0 → ⊥
+counted made profile is sectors none =
+    let two : (access_mode made.ocr == 2) ≡ true = rw is at (by_sectors (has_sector_addresses made) sectors) in
+    elim (profile.mmc is).addresses [
+      | inl bytes ↦ cc (bytes.mode, eqb-true (access_mode made.ocr) 2 two)
+      | inr by ↦ by.counted none
+    ]
+
+pub mmc_judge_fails : (found : Found) (block : List ℕ) (sent : Result (List ℕ) Cause)
+    (judged : Result (List ℕ) SwitchFault) (r : Result Session SwitchFault) (a b : BusView) → IsErr r → IsErr judged
+    → sent ≡ Ok block
+    → (ext_csd_in block ≡ Ok block → (found.addressing ≡ Sectors → sec_count block ≡ 0 → ⊥) → IsOk judged)
+    → SendsExtCsd sent a b → WidensKind Mmc found r a b
+mmc_judge_fails found block sent judged r a b err refused e all p =
+    moved_as a b p (λ is sizes own set. IfOk-from_err r _ err)
+    (λ same is profile own set.
+    let told = (IfOk-at_ok _ e (p.own (first_setting found.rca) is set)).0 in
+    let taken = subst (λ xs. ext_csd_in xs ≡ Ok xs) (sym told) (sent_taken a.card profile is) in
+    refuted judged refused
+    (all taken
+    (λ sectors none. counted a.card.made profile is (sym own.addressing ∙ sectors)
+    (sym (count_kept a.card) ∙ ap sec_count (sym told) ∙ none))))
+
+-- what is sent and judged, and what is set up then
+mmc_set : (found : Found) (block : List ℕ) (high : Bool) (sent : Result (List ℕ) Cause) (up : Result Timing Cause)
+    (a b c : BusView) → sent ≡ Ok block → (IsTrue high ↔ (high_speed_at_52_mhz block ≡ 1))
+    → SendsExtCsd sent a b → SetsUpMmc found.rca high up b c
+    → Moved (λ old new. old.card.made.kind ≡ Mmc → IsSet false (first_setting found.rca) old
+    → (block ≡ ext_csd_now old.card) × IfOk up (λ timing. (timing ≡ timing_of old.card.made)
+    × IsSet false (user_setting found.rca Over.Eight timing 1) new))
+    (λ old new. old.card.made.kind ≡ Mmc → IsSet false (first_setting found.rca) old → IsOk up) a c
+mmc_set found block high sent up a b c e tests p q =
+    let pair = both a b c p q in
+    let made = p.stays.carried.made in
+    let told = λ (is : a.card.made.kind ≡ Mmc) (set : IsSet false (first_setting found.rca) a).
+    IfOk-at_ok _ e (p.own (first_setting found.rca) is set) in
+    let still : a.card.made.kind ≡ Mmc → b.card.made.kind ≡ Mmc = λ is. ap (λ (m : Made). m.kind) made ∙ is in
+    let speed : a.card.made.kind ≡ Mmc → block ≡ ext_csd_now a.card → high ≡ has_high_timing b.card.made =
+    λ is by. tested high (high_speed_at_52_mhz block) tests ∙ mmc_speed a.card block is by
+    ∙ ap has_high_timing (sym made) in
+    moved_as a c pair
+    (λ is set.
+    let t = told is set in (
+      t.0,
+      subst (λ (m : Made). IfOk up (λ timing. (timing ≡ timing_of m)
+          × IsSet false (user_setting found.rca Over.Eight timing 1) c)) made (q.own (still is) (speed is t.0) t.1),
+    ))
+    (λ same is set. let t = told is set in (pair.fine same).1 (still is) (speed is t.0) t.1)
+
+pub mmc_setting_fails : (found : Found) (block : List ℕ) (high : Bool) (sent : Result (List ℕ) Cause)
+    (up : Result Timing Cause) (r : Result Session SwitchFault) (a b c : BusView) → IsErr r → sent ≡ Ok block
+    → (IsTrue high ↔ (high_speed_at_52_mhz block ≡ 1)) → false ≡ is_ok up
+    → SendsExtCsd sent a b → SetsUpMmc found.rca high up b c → WidensKind Mmc found r a c
+mmc_setting_fails found block high sent up r a b c err e tests fails p q =
+    let all = mmc_set found block high sent up a b c e tests p q in
+    moved_as a c all (λ is sizes own set. IfOk-from_err r _ err)
+    (λ same is profile own set. failed up fails (all.fine same is set))
+
+-- PARTITION_CONFIG as it is sent is that of the partition that is accessed
+config_sent : (card : Card) → length card.made.ext_csd ≡ 512
+    → partition_config (ext_csd_now card) ≡ partition_config_for card.made card.part
+config_sent card long =
+    let first = slice_set card.made.ext_csd 175 card.erase_group_def in
+    let second = slice_set first 179 (partition_config_for card.made card.part) in
+    let third = slice_set second 183 (width_number card.width) in
+    let inside : 179 < length first = omega (arith, length-set card.made.ext_csd 175 card.erase_group_def) in
+    get_or-set_other third 185 179 (timing_number card.timing) 0 (omega arith)
+    ∙ get_or-set_other second 183 179 (width_number card.width) 0 (omega arith)
+    ∙ get_or-set_same first 179 (partition_config_for card.made card.part) 0 inside
+
+high_bits : (n config : ℕ) → config ≡ 8 * field 7 3 n + 0 → field 7 3 config ≡ field 7 3 n
+high_bits n config e = omega (arith, e)
+
+config_kept : (card : Card) (block : List ℕ) → HasRegisters card.made → card.made.kind ≡ Mmc → card.part ≡ User
+    → block ≡ ext_csd_now card
+    → field 7 3 (partition_config block) ≡ field 7 3 (partition_config card.made.ext_csd)
+config_kept card block registers is user told =
+    high_bits (partition_config card.made.ext_csd) (partition_config block)
+    (ap partition_config told ∙ config_sent card (registers.ext_csd is)
+    ∙ ap (λ (part : Part). partition_config_for card.made part) user)
+
+pub mmc_widened : (found : Found) (block : List ℕ) (high : Bool) (sent : Result (List ℕ) Cause) (timing : Timing)
+    (up : Result Timing Cause) (info : Info) (config : ℕ) (session : Session) (a b c : BusView) → sent ≡ Ok block
+    → (IsTrue high ↔ (high_speed_at_52_mhz block ≡ 1)) → up ≡ Ok timing → config ≡ partition_config block
+    → session ≡ first_session info config
+    → ((card : Card) → HasRegisters card.made → card.made.kind ≡ Mmc → IsFound card.made found
+    → block ≡ ext_csd_now card → timing ≡ timing_of card.made → IsInfo card.made info)
+    → SendsExtCsd sent a b → SetsUpMmc found.rca high up b c → WidensKind Mmc found (Ok session) a c
+mmc_widened found block high sent timing up info config session a b c e tests done by opened says p q =
+    let all = mmc_set found block high sent up a b c e tests p q in
+    let made = a.card.made in
+    let registers = all.was_card.registers in
+    subst (λ (s : Session). WidensKind Mmc found (Ok s) a c) (sym opened)
+    (moved_as a c all
+    (λ is sizes own set.
+    let o = all.own is set in
+    let t = IfOk-at_ok _ done o.1 in
+    let user : a.card.part ≡ User = ap (λ (s : Setting). s.part) set.is_set in
+    let knows : Knows (first_session info config) made = record {
+      info = says a.card registers is own o.0 t.0;
+      partition_config = λ mmc. ap (field 7 3) by ∙ config_kept a.card block registers is user o.0;
+    } in (
+      ready (first_session info config) found.rca Over.Eight timing 1 a c all.is_card all.stays sizes knows refl own.rca
+          (rw is refl) t.0 (rw is refl) t.1,
+      refl,
+    ))
+    (λ same is profile own set. refl))
+
+-- A card of any kind.
+
+-- from blocks of 512 bytes on
+abbrev pub Widens : Found → Result Session SwitchFault → BusView → BusView → Type 0
+Widens found r a b =
+    Moved (λ old new. HasItsSizes old.card → IsFound old.card.made found → IsSet false (first_setting found.rca) old
+    → IfOk r (λ session. IsReady session new × (session.selected ≡ Some User)))
+    (λ old new. InProfile old.card.made → IsFound old.card.made found → IsSet false (first_setting found.rca) old
+    → IsOk r) a b
+
+pub by_kind : (kind : Kind) (found : Found) (r : Result Session SwitchFault) (a b : BusView) → found.kind ≡ kind
+    → WidensKind kind found r a b → Widens found r a b
+by_kind kind found r a b is p =
+    moved_as a b p (λ sizes own set. p.own (sym own.kind ∙ is) sizes own set)
+    (λ same profile own set. p.fine same (sym own.kind ∙ is) profile own set)
+
+abbrev pub SetsLength : Result Unit Cause → BusView → BusView → Type 0
+SetsLength r a b =
+    Moved (λ old new. (rca : ℕ) → IsLeft rca old.card → old.lines ≡ first_lines → IsOk r
+    → IsSet false (first_setting rca) new)
+    (λ old new. (rca : ℕ) → IsLeft rca old.card → IsOk r) a b
+
+-- from tran as identification leaves it
+abbrev pub WidensLeft : Found → Result Session SwitchFault → BusView → BusView → Type 0
+WidensLeft found r a b =
+    Moved (λ old new. HasItsSizes old.card → IsFound old.card.made found → IsLeft found.rca old.card
+    → old.lines ≡ first_lines
+    → IfOk r (λ session. IsReady session new × (session.selected ≡ Some User)))
+    (λ old new. InProfile old.card.made → IsFound old.card.made found → IsLeft found.rca old.card
+    → old.lines ≡ first_lines → IsOk r) a b
+
+pub length_fails : (found : Found) (length : Result Unit Cause) (r : Result Session SwitchFault) (a b : BusView)
+    → IsErr r → false ≡ is_ok length → SetsLength length a b → WidensLeft found r a b
+length_fails found length r a b err fails p =
+    moved_as a b p (λ sizes own left lines. IfOk-from_err r _ err)
+    (λ same profile own left lines. failed length fails (p.fine same found.rca left))
+
+pub widened : (found : Found) (length : Result Unit Cause) (r : Result Session SwitchFault) (a b c : BusView)
+    → true ≡ is_ok length → SetsLength length a b → Widens found r b c → WidensLeft found r a c
+widened found length r a b c ok p q =
+    let pair = both a b c p q in
+    let back = sym p.stays.carried.made in
+    let set = λ (left : IsLeft found.rca a.card) (lines : a.lines ≡ first_lines).
+    p.own found.rca left lines (sym ok) in
+    moved_as a c pair
+    (λ sizes own left lines.
+    q.own (sizes_still a b p.stays sizes) (subst (λ m. IsFound m found) back own) (set left lines))
+    (λ same profile own left lines.
+    (pair.fine same).1 (subst InProfile back profile) (subst (λ m. IsFound m found) back own) (set left lines))
+
+length_by : (mmc high : Bool) (n : ℕ) → high ≡ true → cond (mmc && not high) n 512 ≡ 512
+length_by true true n e = refl
+length_by true false n e = cc e
+length_by false high n e = refl
+
+-- with sector addresses the first block length is 512 already
+left_set : (rca : ℕ) (view : BusView) → IsCard view.card → IsLeft rca view.card → view.lines ≡ first_lines
+    → addressing_of view.card.made ≡ Sectors → IsSet false (first_setting rca) view
+left_set rca view card left lines sectors =
+    let made = view.card.made in
+    let is = left.selected in
+    let first : first_block_length made ≡ 512 =
+    length_by (is_mmc made.kind) (has_sector_addresses made) _ (by_sectors (has_sector_addresses made) sectors) in
+    let long : view.card.block_length ≡ 512 = elim card.block_length [ inl e ↦ e | inr e ↦ e ∙ first ] in
+    record {
+      rest = record {
+        state = is.state;
+        rests = left.rests;
+        app = is.app;
+        command_errors = is.command_errors;
+        errors = is.errors;
+        switch_error = is.switch_error;
+        count = is.count;
+        erase = is.erase;
+        finished = card.finished (ap is_writing is.state);
+      };
+      is_set = rw (is.is_rca, is.part, is.width, is.timing, is.erase_group_def, long) refl;
+      on_lines = lines;
+    }
+
+pub widened_at_once : (found : Found) (r : Result Session SwitchFault) (a b : BusView) → found.addressing ≡ Sectors
+    → Widens found r a b → WidensLeft found r a b
+widened_at_once found r a b sectors p =
+    let set = λ (own : IsFound a.card.made found) (left : IsLeft found.rca a.card) (lines : a.lines ≡ first_lines).
+    left_set found.rca a p.was_card left lines (sym own.addressing ∙ sectors) in
+    moved_as a b p (λ sizes own left lines. p.own sizes own (set own left lines))
+    (λ same profile own left lines. p.fine same profile own (set own left lines))
+
+-- a card in profile is refused only where a fault fell
+pub refused : (found : Found) (r : Result Session SwitchFault) (a b : BusView) → WidensLeft found r a b
+    → InProfile a.card.made → IsFound a.card.made found → IsLeft found.rca a.card → a.lines ≡ first_lines → IsErr r
+    → a.faults < b.faults
+refused found r a b p profile own left lines err =
+    fell a b p.stays (λ same. refuted r err (p.fine same profile own left lines))

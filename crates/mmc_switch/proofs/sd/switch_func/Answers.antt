@@ -1,0 +1,68 @@
+use Rattle.std.proofs.Common.{◌≡◌, arith, false}
+use Rattle.std.specs.Prelude.{Err, Ok}
+use Rattle.mmc_frame.specs.declared.kind.Kind.TheVariants.{Sd}
+use Rattle.mmc_card.specs.RowsSwitch.{timing_after}
+use Rattle.mmc_switch.proofs.FetchLemmas.{block_fails, command_fails, commanded, fetched}
+use Rattle.mmc_switch.proofs.SdLemmas.{status_sent}
+use Rattle.mmc_switch.proofs.sd.switch_func.Goals as goal
+
+pub returns-in_err-check_r1-clause-moves : goal.returns-in_err-check_r1-clause-moves
+returns-in_err-check_r1-clause-moves g c kept =
+    let a = g.B.Bus.view c.args.bus.now in
+    let b = g.B.Bus.view c.ask.new.bus in
+    let argument = c.args.argument in
+    let bytes = a.card.made.switch_status in
+    let timing = timing_after a.card argument in
+    let asked = c.ask.ensures.asked in
+    let r = c.from_residual.result in
+    let cause = c.in_err-check_r1.field-0.0 in
+    let judged = c.in_err-check_r1.ensures in
+    let k = asked.exchanged.kept kept in
+    let none = c.no_command_but_erase_widens.ensures a.card 6 argument (omega arith) (λ e. absurd (omega (arith, e))) in
+    let p = commanded {Asks = (a.card.made.kind ≡ Sd) × (a.card.app ≡ false)} Sd false bytes timing a 6 argument
+    c.ask.result b (Err cause) asked kept none c.a_status_tells_of_its_card.ensures.errors judged.ok judged.all
+    (λ asks. c.cmd6_sends_the_switch_status.ensures _ _ _ _ k.step asks.0 asks.1) in
+    status_sent argument r a b
+    (command_fails false bytes timing (λ bytes. bytes) cause r a b
+    (λ asks has rest. (rest.state, has)) c.from_residual.ensures.0 p)
+
+pub returns-in_err-receive-clause-moves : goal.returns-in_err-receive-clause-moves
+returns-in_err-receive-clause-moves g c kept =
+    let a = g.B.Bus.view c.args.bus.now in
+    let b = g.B.Bus.view c.ask.new.bus in
+    let argument = c.args.argument in
+    let d = g.B.Bus.view c.receive.new.bus in
+    let bytes = a.card.made.switch_status in
+    let timing = timing_after a.card argument in
+    let asked = c.ask.ensures.asked in
+    let r = c.from_residual-in_err-receive.result in
+    let cause = c.in_err-receive.field-0.0 in
+    let judged = c.in_ok-check_r1.ensures in
+    let q = c.in_err-receive.ensures.works kept in
+    let k = asked.exchanged.kept q.was_kept in
+    let none = c.no_command_but_erase_widens.ensures a.card 6 argument (omega arith) (λ e. absurd (omega (arith, e))) in
+    let p = commanded {Asks = (a.card.made.kind ≡ Sd) × (a.card.app ≡ false)} Sd false bytes timing a 6 argument
+    c.ask.result b (Ok tt) asked q.was_kept none c.a_status_tells_of_its_card.ensures.errors judged.ok judged.all
+    (λ asks. c.cmd6_sends_the_switch_status.ensures _ _ _ _ k.step asks.0 asks.1) in
+    status_sent argument r a d
+    (block_fails 64 false bytes c.receive.new.buffer timing (λ bytes. bytes) cause r a b d
+    (λ asks has card. card.registers.switch_status asks.0) c.from_residual-in_err-receive.ensures.0 p q)
+
+pub returns-clause-moves : goal.returns-clause-moves
+returns-clause-moves g c kept =
+    let a = g.B.Bus.view c.args.bus.now in
+    let b = g.B.Bus.view c.ask.new.bus in
+    let argument = c.args.argument in
+    let d = g.B.Bus.view c.receive.new.bus in
+    let bytes = a.card.made.switch_status in
+    let timing = timing_after a.card argument in
+    let asked = c.ask.ensures.asked in
+    let judged = c.in_ok-check_r1.ensures in
+    let q = c.in_ok-receive.ensures.works kept in
+    let k = asked.exchanged.kept q.was_kept in
+    let none = c.no_command_but_erase_widens.ensures a.card 6 argument (omega arith) (λ e. absurd (omega (arith, e))) in
+    let p = commanded {Asks = (a.card.made.kind ≡ Sd) × (a.card.app ≡ false)} Sd false bytes timing a 6 argument
+    c.ask.result b (Ok tt) asked q.was_kept none c.a_status_tells_of_its_card.ensures.errors judged.ok judged.all
+    (λ asks. c.cmd6_sends_the_switch_status.ensures _ _ _ _ k.step asks.0 asks.1) in
+    status_sent argument (Ok c.new.result) a d
+    (fetched 64 false bytes c.receive.new.buffer timing (λ bytes. bytes) c.new.result a b d c.new.ensures p q)

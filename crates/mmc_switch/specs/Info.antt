@@ -1,0 +1,62 @@
+-- What a host knows of a card, and what the card's registers say of it.
+use Rattle.std.specs.Prelude.{◌&&◌, ◌==◌, ◌≡◌, Bool, Ok, Option, false, if◌then◌else◌, ℕ}
+use Rattle.mmc_frame.specs.declared.kind.Kind.{Kind}
+use Rattle.mmc_frame.specs.declared.kind.Kind.TheVariants.{Mmc, Sd}
+use Rattle.mmc_regs.specs.Csd.{csd_in}
+use Rattle.mmc_regs.specs.Register.{register_number}
+use Rattle.mmc_regs.specs.Scr.{four_lines, scr_number}
+use Rattle.mmc_ext_csd.specs.ExtCsd.{high_speed_at_52_mhz, trim_support}
+use Rattle.mmc_ext_csd.specs.Partition.{existing_sectors}
+use Rattle.mmc_card.specs.declared.exchange.Timing.{Timing}
+use Rattle.mmc_card.specs.declared.exchange.Timing.TheVariants.{Default, High}
+use Rattle.mmc_card.specs.declared.exchange.Width.{Width}
+use Rattle.mmc_card.specs.declared.exchange.Width.TheVariants.{Eight, Four, One}
+use Rattle.mmc_card.specs.declared.part.Part.{Part}
+use Rattle.mmc_card.specs.Made.{Made, addressing_of, erase_unit_of_card, erased_byte_of_card, has_cmd23, has_high_speed}
+use Rattle.mmc_card.specs.Made.{has_switch_function, is_read_only, is_sd, sectors_in}
+use Rattle.mmc_identify.specs.Stages.{rca_of}
+use Rattle.mmc_switch.specs.Sizes.{size_of, some_size}
+use Rattle.mmc_switch.specs.declared.info.Info.{Info}
+
+-- the size of a partition, where there is such a one
+abbrev pub sectors_of : Info → Part → Option ℕ
+sectors_of info part = some_size (size_of info.sizes part)
+
+-- The lines that the stack uses: of SD four where the SCR names them, of eMMC eight.
+abbrev pub width_of : Made → Width
+width_of made = if is_sd made.kind then (if four_lines (scr_number made.scr) == 1 then Four else One) else Eight
+
+-- High speed where the card has it: an SD card by its switch status, an eMMC device by DEVICE_TYPE.
+abbrev pub has_high_timing : Made → Bool
+has_high_timing made =
+    if is_sd made.kind then has_switch_function made && has_high_speed made
+    else high_speed_at_52_mhz made.ext_csd == 1
+
+abbrev pub timing_of : Made → Timing
+timing_of made = if has_high_timing made then High else Default
+
+-- only eMMC devices trim
+abbrev pub trims_of : Made → Bool
+trims_of made = if is_sd made.kind then false else trim_support made.ext_csd == 1
+
+-- ERASE_GROUP_DEF, which eMMC devices alone have
+abbrev pub erase_group_def_of : Kind → ℕ
+erase_group_def_of Sd = 0
+erase_group_def_of Mmc = 1
+
+-- what the host knows of the card is what its registers say
+pub record IsInfo (made : Made) (info : Info) : Type 0 where
+  pub kind : info.kind ≡ made.kind
+  pub addressing : info.addressing ≡ addressing_of made
+  pub rca : info.rca ≡ rca_of made
+  pub cid : info.cid ≡ register_number made.cid
+  pub csd : csd_in made.kind made.csd ≡ Ok info.csd
+  -- a partition that commands can't address as a whole doesn't exist
+  pub sizes : (part : Part) → size_of info.sizes part ≡ existing_sectors (sectors_in made part) (addressing_of made)
+  pub read_only : info.read_only ≡ is_read_only made
+  pub erase_unit : info.erase_unit ≡ erase_unit_of_card made
+  pub erased_byte : info.erased_byte ≡ erased_byte_of_card made
+  pub trims : info.trims ≡ trims_of made
+  pub cmd23 : info.cmd23 ≡ has_cmd23 made
+  pub width : info.width ≡ width_of made
+  pub timing : info.timing ≡ timing_of made

@@ -1,0 +1,4 @@
+pub mod Info
+pub mod Place
+pub mod Sizes
+pub mod Stages

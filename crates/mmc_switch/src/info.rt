@@ -1,0 +1,55 @@
+ghost use Rattle.std.specs.Prelude.{◌≤◌};
+ghost use Rattle.mmc_ext_csd.specs.Partition.{addressable_sectors};
+ghost use Rattle.mmc_card.specs.declared.part.Part.{Part};
+ghost use Rattle.mmc_switch.specs.Sizes.{size_of};
+
+use crate::sizes::{Sizes, some_size};
+use mmc_bus::{Part, Timing, Width};
+use mmc_frame::{Addressing, Kind};
+use mmc_regs::{Cid, Csd};
+
+/// What a host knows of a card.
+#[derive(Clone, Copy, Debug, PartialEq, Eq)]
+pub struct Info {
+    /// SD or eMMC.
+    pub kind: Kind,
+    /// Whether commands name bytes or sectors.
+    pub addressing: Addressing,
+    /// The address by which the card goes.
+    pub rca: u16,
+    /// Which card it is.
+    pub cid: Cid,
+    /// Its card-specific data.
+    pub csd: Csd,
+    /// The sizes of its partitions. One that commands can't address as a whole counts as none.
+    pub sizes: Sizes,
+    /// Whether it is write protected, for good or for now.
+    pub read_only: bool,
+    /// The erase unit in sectors, at least 1.
+    pub erase_unit: u64,
+    /// What each byte of an erased sector holds, 00h or FFh.
+    pub erased_byte: u8,
+    /// Whether it trims.
+    pub trims: bool,
+    /// Whether it takes CMD23, SET_BLOCK_COUNT.
+    pub cmd23: bool,
+    /// How many lines are used.
+    pub width: Width,
+    /// The speed that is used.
+    pub timing: Timing,
+    pub ghost addressable: { (part : Part) → size_of sizes part ≤ addressable_sectors addressing },
+    pub ghost some_unit: { 1 ≤ erase_unit },
+}
+
+impl Info {
+    ghost use Rattle.std.specs.Prelude.{◌≡◌};
+    ghost use Rattle.mmc_switch.specs.Info.{sectors_of};
+
+    /// The size of a partition in sectors of 512 bytes, or `None` where the card has no such partition, or one without a
+    /// sector.
+    pub fn sectors(&self, part: Part) -> Option<u64>
+        ensures { result ≡ sectors_of self.now part }
+    {
+        some_size(self.sizes.of(part))
+    }
+}

@@ -1,0 +1,24 @@
+//! From a card that is identified to one that is ready: width, speed and partition.
+#![tactic(auto)]
+
+mod broken;
+mod fault;
+mod info;
+mod mmc;
+mod progress;
+mod registers;
+mod sd;
+mod selection;
+mod session;
+mod sizes;
+mod widening;
+
+pub use broken::Broken;
+pub use fault::SwitchFault;
+pub use info::Info;
+pub use mmc_bus::Cause;
+pub use progress::Progress;
+pub use selection::select;
+pub use session::Session;
+pub use sizes::Sizes;
+pub use widening::widen;

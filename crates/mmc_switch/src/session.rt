@@ -1,0 +1,53 @@
+ghost use Rattle.std.specs.Prelude.{◌≡◌, Some, false};
+ghost use Rattle.mmc_card.specs.declared.part.Part.TheVariants.{User};
+
+use crate::broken::Broken;
+use crate::info::Info;
+use mmc_bus::{Cause, Part};
+
+/// A card that is ready for transfers, as far as the host knows.
+#[derive(Debug, Drop)]
+pub struct Session {
+    pub(crate) info: Info,
+    // PARTITION_CONFIG of an eMMC device, whose bits 7 to 3 a switch of the partition leaves; 0 of an SD card.
+    pub(crate) partition_config: u8,
+    pub(crate) selected: Option<Part>,
+}
+
+impl Session {
+    /// The session of a card that was widened: the user partition is selected.
+    pub(crate) fn opened(info: Info, partition_config: u8) -> Session
+        ensures { result ≡ record { info = info; partition_config = partition_config; selected = Some User } }
+    {
+        Session {
+            info,
+            partition_config,
+            selected: Some(Part::User),
+        }
+    }
+
+    /// What the host knows of the card.
+    pub fn info(&self) -> &Info
+        ensures { result.now ≡ self.now.info }
+    {
+        &self.info
+    }
+
+    /// The partition that is selected, or `None` where that isn't known, so that one has to be selected first.
+    pub fn selected(&self) -> Option<Part>
+        ensures { result ≡ self.now.selected }
+    {
+        self.selected
+    }
+
+    /// What is left once something has failed for this cause.
+    pub fn break_off(self, cause: Cause) -> Broken
+        ensures { result ≡ record { session = self; cause = cause; must_reset = false } }
+    {
+        Broken {
+            session: self,
+            cause,
+            must_reset: false,
+        }
+    }
+}
