@@ -1,10 +1,16 @@
 // Four cards, and what tests do with them. `A`, `B` and `H` are SD cards: `A` has byte addresses, `B` knows CMD23 too, and
 // `H` has sector addresses and high speed. `M` is an eMMC device with sector addresses.
-use mmc_bus::Bus;
-use mmc_card_sim::{CardSpec, KindRegisters, MmcRegisters, Registers, SdRegisters, SimCard};
+ghost use Rattle.std.specs.Prelude.{◌<◌};
+
+use mmc_bus::{Bus, BusAnswer, Bytes, DataIn, Reply};
+use mmc_card_sim::{
+    CardSpec, Fault, Flips, KindRegisters, MmcRegisters, Outcome, Registers, SdRegisters, SimCard,
+};
+use mmc_frame::{encode_r2, encode_r3, encode_response};
 use mmc_identify::identify;
 use mmc_switch::{Session, widen};
 use std::alloc::Global;
+use std::collections::VecDeque;
 use std::test::Fail;
 
 // The CID of each card. As a CSD it says nothing, as `M` has it.
@@ -97,6 +103,25 @@ pub fn ext_csd_m() -> [u8; 512] {
     block
 }
 
+/// One of the cards.
+#[derive(Clone, Copy)]
+pub enum Which {
+    A,
+    B,
+    H,
+    M,
+}
+
+/// What it is built by.
+pub fn spec_of(which: Which) -> CardSpec {
+    match which {
+        Which::A => card_a(),
+        Which::B => card_b(),
+        Which::H => card_h(),
+        Which::M => card_m(),
+    }
+}
+
 /// The card of a spec, after power on.
 pub fn built(alloc: Global, spec: CardSpec) -> Result<SimCard, Fail> {
     Ok(SimCard::build(alloc, spec).ok().ok_or("not built")?)
@@ -106,4 +131,71 @@ pub fn built(alloc: Global, spec: CardSpec) -> Result<SimCard, Fail> {
 pub fn opened<B: Bus>(bus: &mut B) -> Option<Session> {
     let found = identify(bus).ok()?;
     widen(bus, found).ok()
+}
+
+/// Each fault that can be planned, with two flipped bits where bits are flipped.
+pub fn every_fault() -> [Fault; 14] {
+    let flips = Flips {
+        first: 7,
+        second: Some(40),
+    };
+    [
+        Fault::LoseCommand,
+        Fault::FlipCommand(flips),
+        Fault::LoseReply,
+        Fault::FlipReply(flips),
+        Fault::BadBlock,
+        Fault::NoBlock,
+        Fault::Reject,
+        Fault::LoseStatus(Outcome::Old),
+        Fault::LoseStatus(Outcome::New),
+        Fault::Fail(Outcome::Old),
+        Fault::Fail(Outcome::New),
+        Fault::Busy,
+        Fault::Brownout(Outcome::Old),
+        Fault::Brownout(Outcome::New),
+    ]
+}
+
+/// An R1 with this status.
+pub fn r1(index: u8, status: u32) -> BusAnswer
+    requires { index < 64 }
+{
+    BusAnswer::Command(Reply::Short(encode_response(index, status)))
+}
+
+/// What card M answers while it is opened, with this EXT_CSD.
+pub fn answers_of_m(alloc: Global, ext_csd: [u8; 512]) -> Result<VecDeque<BusAnswer>, Fail> {
+    let register = BusAnswer::Command(Reply::Long(encode_r2(&1u128.to_be_bytes())));
+    let csd = BusAnswer::Command(Reply::Long(encode_r2(&1u128.to_be_bytes())));
+    let mut block = Vec::new(alloc);
+    block.extend_from_slice(&ext_csd)?;
+    let mut answers = VecDeque::new(alloc);
+    for answer in [
+        BusAnswer::Command(Reply::Silent),
+        BusAnswer::Command(Reply::Silent),
+        BusAnswer::Command(Reply::Silent),
+        BusAnswer::Command(Reply::Silent),
+        BusAnswer::Command(Reply::Short(encode_r3(0xc0ff_8080))),
+        register,
+        r1(3, 0x500),
+        csd,
+        r1(7, 0x700),
+        BusAnswer::Busy(false),
+        r1(13, 0x900),
+        r1(8, 0x900),
+        BusAnswer::In(DataIn::Good, Bytes::new(block)),
+        r1(6, 0x900),
+        BusAnswer::Busy(false),
+        r1(13, 0x900),
+        r1(6, 0x900),
+        BusAnswer::Busy(false),
+        r1(13, 0x900),
+        r1(6, 0x900),
+        BusAnswer::Busy(false),
+        r1(13, 0x900),
+    ] {
+        answers.push_back(answer).ok().ok_or("no room")?;
+    }
+    Ok(answers)
 }

@@ -1,14 +1,9 @@
 // Opening cards in memory: identification, width and speed.
-ghost use Rattle.std.specs.Prelude.{◌<◌};
-
 use crate::test_cards::*;
-use mmc_bus::{Bus, BusAnswer, Bytes, DataIn, Part, Reply, ScriptedBus, Timing, Width};
+use mmc_bus::{Bus, Part, ScriptedBus, Timing, Width};
 use mmc_card_sim::CardSpec;
-use mmc_frame::{encode_r2, encode_r3, encode_response};
 use mmc_identify::{Found, identify};
 use mmc_switch::{SwitchFault, widen};
-use std::alloc::Global;
-use std::collections::VecDeque;
 use std::test::Fail;
 
 // Card A with eight inquiries and eight polls in vain.
@@ -74,55 +69,12 @@ fn knows_what_the_registers_say(rt: HostRuntime) -> Result<(), Fail> {
     Ok(())
 }
 
-// An R1 with this status.
-fn r1(index: u8, status: u32) -> BusAnswer
-    requires { index < 64 }
-{
-    BusAnswer::Command(Reply::Short(encode_response(index, status)))
-}
-
-// A bus that answers as card M does, with another EXT_CSD.
-fn answering_as_m(alloc: Global, ext_csd: [u8; 512]) -> Result<ScriptedBus, Fail> {
-    let register = BusAnswer::Command(Reply::Long(encode_r2(&1u128.to_be_bytes())));
-    let csd = BusAnswer::Command(Reply::Long(encode_r2(&1u128.to_be_bytes())));
-    let mut block = Vec::new(alloc);
-    block.extend_from_slice(&ext_csd)?;
-    let mut answers = VecDeque::new(alloc);
-    for answer in [
-        BusAnswer::Command(Reply::Silent),
-        BusAnswer::Command(Reply::Silent),
-        BusAnswer::Command(Reply::Silent),
-        BusAnswer::Command(Reply::Silent),
-        BusAnswer::Command(Reply::Short(encode_r3(0xc0ff_8080))),
-        register,
-        r1(3, 0x500),
-        csd,
-        r1(7, 0x700),
-        BusAnswer::Busy(false),
-        r1(13, 0x900),
-        r1(8, 0x900),
-        BusAnswer::In(DataIn::Good, Bytes::new(block)),
-        r1(6, 0x900),
-        BusAnswer::Busy(false),
-        r1(13, 0x900),
-        r1(6, 0x900),
-        BusAnswer::Busy(false),
-        r1(13, 0x900),
-        r1(6, 0x900),
-        BusAnswer::Busy(false),
-        r1(13, 0x900),
-    ] {
-        answers.push_back(answer).ok().ok_or("no room")?;
-    }
-    Ok(ScriptedBus::new(answers))
-}
-
 // A general purpose partition that commands can't address as a whole counts as none.
 #[test]
 fn leaves_out_what_cannot_be_addressed(rt: HostRuntime) -> Result<(), Fail> {
     let mut ext_csd = ext_csd_m();
     (ext_csd[155], ext_csd[143], ext_csd[144], ext_csd[145]) = (1, 0xff, 0xff, 0xff);
-    let mut bus = answering_as_m(rt.alloc(), ext_csd)?;
+    let mut bus = ScriptedBus::new(answers_of_m(rt.alloc(), ext_csd)?);
     let session = opened(&mut bus).ok_or("not opened")?;
     assert_eq!(rt; session.info().sectors(Part::Gp1), None);
     assert_eq!(rt; session.info().sectors(Part::User), Some(2048));
@@ -143,7 +95,7 @@ fn refuses_an_ext_csd(rt: HostRuntime) -> Result<(), Fail> {
     for (index, value) in [(192, 4), (224, 0), (213, 0)] {
         let mut ext_csd = ext_csd_m();
         ext_csd[index] = value;
-        let mut bus = answering_as_m(rt.alloc(), ext_csd)?;
+        let mut bus = ScriptedBus::new(answers_of_m(rt.alloc(), ext_csd)?);
         let found = identify(&mut bus).ok().ok_or("not found")?;
         assert_eq!(rt; refusal(&mut bus, found), Some(SwitchFault::Register));
     }

@@ -1,3 +1,4 @@
+pub mod BlockLaws
 pub mod Bytes
 pub mod CommandLaws
 pub mod ExchangeText

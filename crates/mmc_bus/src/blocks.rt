@@ -1,63 +1,33 @@
-// Blocks, judged.
-ghost use Rattle.std.specs.Prelude.{◌≡◌, ◌↔◌, IfErr, IsOk, Some, length, true};
-ghost use Rattle.mmc_card.specs.Blocks.{accepted, can_accept, can_send, next_block, sent};
-ghost use Rattle.mmc_card.specs.CardAnswer.{Choice};
-ghost use Rattle.mmc_card.specs.declared.exchange.DataIn.TheVariants.{Good};
-ghost use Rattle.mmc_card.specs.declared.exchange.DataOut.TheVariants.{Accepted};
-ghost use Rattle.mmc_bus.specs.declared.cause.Cause.TheVariants as Why;
-ghost use Rattle.mmc_bus.specs.Work.{Ends, Narrows, NarrowsBut, Works};
+// Blocks that are lent to a transfer.
+ghost use Rattle.std.specs.Prelude.{◌≡◌, ◌<◌, List, [], length, slice_index_or, slice_set, ℕ};
+ghost use Rattle.std.specs.Borrow.{Array, Lends, sem, u8 as byte};
 
-use crate::bus::Bus;
-use crate::cause::Cause;
-use crate::host::{read_block, write_block};
-use mmc_card::{DataIn, DataOut};
+/// A list of blocks of 512 bytes.
+pub trait Blocks {
+    ghost blocks: { Self → List (List ℕ) };
 
-// Judges a block that was read: it has to come with a good check.
-fn check_read(got: DataIn) -> Result<(), Cause>
-    ensures good { IsOk result ↔ (got ≡ Good) }
-    ensures cause { IfErr result (λ cause. cause ≡ Why.Data) }
-{
-    match got {
-        DataIn::Good => Ok(()),
-        DataIn::Bad | DataIn::Nothing => Err(Cause::Data),
-    }
+    /// How many blocks.
+    fn len(&self) -> usize
+        ensures { result ≡ length (blocks self.now) };
+
+    /// The block with this number, counted from 0.
+    fn block(&self, i: usize) -> &[u8; 512]
+        requires { i < length (blocks self.now) }
+        ensures { result.now ≡ slice_index_or (blocks self.now) i [] };
 }
 
-// Judges a block that was written: the card has to accept it.
-fn check_write(got: DataOut) -> Result<(), Cause>
-    ensures accepted { IsOk result ↔ (got ≡ Accepted) }
-    ensures cause { IfErr result (λ cause. cause ≡ Why.Data) }
-{
-    match got {
-        DataOut::Accepted => Ok(()),
-        DataOut::Rejected | DataOut::Nothing => Err(Cause::Data),
-    }
-}
+/// A list of blocks that can be written.
+pub trait BlocksMut: Blocks {
+    // The value after these bytes were left in a block.
+    ghost with: { Self → ℕ → List ℕ → Self };
 
-/// Reads the block that the card sends, of the buffer's length.
-///
-/// # Errors
-/// `Data` where it doesn't come with a good check; what the buffer holds is open then.
-pub fn receive<B: Bus>(bus: &mut B, buffer: &mut [u8]) -> Result<(), Cause>
-    ensures ends { Ends 1 (B.view bus.old) result (B.view bus.new) }
-    ensures works { Works Narrows
-        (λ old new. IsOk result → (next_block old.card ≡ Some buffer.new) × ((choice : Choice) × (new.card ≡ sent choice old.card)))
-        (λ old new. can_send old.lines (length buffer.old) old.card ≡ true → IsOk result)
-        (B.view bus.old) (B.view bus.new) }
-{
-    check_read(read_block(bus, buffer))
-}
+    /// The block with this number, to be written.
+    fn block_mut(&mut self, i: usize) -> &mut [u8; 512]
+        requires { i < length (Self.blocks self.old) }
+        ensures* writes_back { sem 𝓛 (Lends Self.row (Array byte 0) self.entry result (with self.old i)) }
+        ensures value { result.now ≡ slice_index_or (Self.blocks self.old) i [] };
 
-/// Offers a block to the card, which has to accept it.
-///
-/// # Errors
-/// `Data` where it doesn't.
-pub fn offer<B: Bus>(bus: &mut B, block: &[u8; 512]) -> Result<(), Cause>
-    ensures ends { Ends 1 (B.view bus.old) result (B.view bus.new) }
-    ensures works { Works (NarrowsBut block.now)
-        (λ old new. IsOk result → new.card ≡ accepted block.now old.card)
-        (λ old new. can_accept old.lines old.card ≡ true → IsOk result)
-        (B.view bus.old) (B.view bus.new) }
-{
-    check_write(write_block(bus, block))
+    // It changes that block and no other.
+    ghost writes_one: { (s : Self) (i : ℕ) (left : List ℕ) → i < length (Self.blocks s) → length left ≡ 512
+        → Self.blocks (with s i left) ≡ slice_set (Self.blocks s) i left };
 }

@@ -1,8 +1,9 @@
-ghost use Rattle.std.specs.Prelude.{◌≡◌};
+ghost use Rattle.std.specs.Prelude.{◌≡◌, ◌+◌, ◌*◌, ◌≤◌, length, slice_range};
 ghost use Rattle.std.specs.Borrow.{Array, Lends, sem, u8 as byte};
 ghost use Rattle.mmc_bus.specs.Bytes.{with_part};
 ghost use Rattle.mmc_bus.specs.contracts.bytes.Bytes.{the_row};
 
+use crate::blocks::{Blocks, BlocksMut};
 use std::marker::Model;
 
 /// Bytes of a request or an answer. Contracts see them as the list of the bytes.
@@ -42,6 +43,34 @@ impl Bytes {
         self.items.as_mut_slice()
     }
 
+    // The bytes of this block.
+    fn piece(&self, i: usize) -> &[u8; 512]
+        requires room { 512 * i + 512 ≤ length self.now }
+        ensures value { result.now ≡ slice_range self.now (512 * i) (512 * i + 512) }
+    {
+        match self.items[512 * i..512 * i + 512].as_array() {
+            Some(block) => block,
+            None => unreachable!(),
+        }
+    }
+
+    fn slice_mut(&mut self, i: usize) -> &mut [u8]
+        requires room { 512 * i + 512 ≤ length self.old }
+        ensures* writes_back { sem 𝓛 (Lends the_row (Array byte 0) self.entry result (with_part self.old (512 * i))) }
+        ensures value { result.now ≡ slice_range self.old (512 * i) (512 * i + 512) }
+        ensures len { length result.now ≡ 512 }
+    {
+        self.items.slice_mut(512 * i..512 * i + 512)
+    }
+
+    fn piece_mut(&mut self, i: usize) -> &mut [u8; 512]
+        requires room { 512 * i + 512 ≤ length self.old }
+        ensures* writes_back { sem 𝓛 (Lends the_row (Array byte 0) self.entry result (with_part self.old (512 * i))) }
+        ensures value { result.now ≡ slice_range self.old (512 * i) (512 * i + 512) }
+    {
+        as_block_mut(self.slice_mut(i))
+    }
+
     /// The vector of the bytes, given back without a copy.
     pub fn into_vec(self) -> Vec<u8>
         ensures { result.items ≡ self }
@@ -49,4 +78,44 @@ impl Bytes {
         let Bytes { items } = self;
         items
     }
+}
+
+// A slice of 512 bytes as a block.
+fn as_block_mut(slice: &mut [u8]) -> &mut [u8; 512]
+    requires { length slice.old ≡ 512 }
+    ensures* writes_back { sem 𝓛 (Lends (Array byte 0) (Array byte 0) slice.entry result (λ left. left)) }
+    ensures value { result.now ≡ slice.old }
+{
+    match slice.as_mut_array() {
+        Some(block) => block,
+        None => unreachable!(),
+    }
+}
+
+impl Blocks for Bytes {
+    ghost use Rattle.mmc_bus.specs.Bytes.{blocks_in};
+
+    ghost blocks = { blocks_in };
+
+    /// Whole blocks: bytes behind the last one aren't lent.
+    fn len(&self) -> usize {
+        self.as_slice().len() / 512
+    }
+
+    fn block(&self, i: usize) -> &[u8; 512] {
+        self.piece(i)
+    }
+}
+
+impl BlocksMut for Bytes {
+    ghost use Rattle.mmc_bus.specs.Bytes.{with_part};
+    ghost use Rattle.mmc_bus.specs.BlockLaws.{block_left};
+
+    ghost with = { λ bytes i left. with_part bytes (512 * i) left };
+
+    fn block_mut(&mut self, i: usize) -> &mut [u8; 512] {
+        self.piece_mut(i)
+    }
+
+    ghost writes_one = { block_left };
 }

@@ -15,7 +15,7 @@ use Rattle.mmc_frame.specs.declared.kind.Kind.TheVariants.{Mmc, Sd}
 use Rattle.mmc_card.proofs.Cards.{among_more, in_state}
 use Rattle.mmc_card.specs.CardAnswer.{bit, status}
 use Rattle.mmc_card.specs.Card.{AreAmong, Card, IsCard}
-use Rattle.mmc_card.specs.ErrorBits.{card_is_locked, command_error_bits, error_bits as held_bits}
+use Rattle.mmc_card.specs.ErrorBits.{card_is_locked, command_error_bits, error_bits as held_bits, out_of_range}
 use Rattle.mmc_card.specs.CardLaws.{HasNoError, IsInOrder}
 
 -- Bits.
@@ -157,6 +157,15 @@ status_errors Mmc app c k =
           let none = ap bit (h.switch_error refl) in
           omega (arith, e, command_errors, errors, none)),
     )
+
+-- of a card that holds OUT_OF_RANGE and no other error
+pub status_at_end : (kind : Kind) (app : Bool) (card : Card) → IsCard card → HasNoError kind (record card { errors = 0 })
+    → card.errors ≡ out_of_range → error_bits kind (status app card) ≡ 2 ^ 31
+status_at_end Sd app c k none end =
+    let command_errors = none.command_errors in omega (arith, sd_errors app c k, command_errors, end)
+status_at_end Mmc app c k none end =
+    let command_errors = none.command_errors in
+    omega (arith, mmc_errors app c k, command_errors, end, ap bit (none.switch_error refl))
 
 -- The fields of a status.
 

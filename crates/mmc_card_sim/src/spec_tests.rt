@@ -1,59 +1,28 @@
-// Specs of two cards, and changes of them that have one fault each.
+// Changes of cards `A` and `M` that have one fault each.
 use crate::judging::{Judged, judge};
-use crate::{BuildFault, CardSpec, KindRegisters, MmcRegisters, Registers, SdRegisters};
+use crate::test_cards::{card_a, card_m, ext_csd_m, mmc};
+use crate::{BuildFault, CardSpec, KindRegisters, Registers, SdRegisters};
 use mmc_bus::Bytes;
 use std::test::Fail;
 
-const CID: u128 = 0x0000_0000_0000_0000_0000_0000_0000_0001;
+// A CSD that says nothing, with a sound check.
+const EMPTY_CSD: u128 = 0x0000_0000_0000_0000_0000_0000_0000_0001;
 
-const SD_CSD: u128 = 0x0000_0000_0009_0000_0000_4000_0240_009b;
-
-const SCR: u64 = 0x0005_0000_0000_0000;
-
-// An SD card of 4 sectors.
 fn sd() -> Registers {
-    Registers {
-        kind: sd_with_rca(1),
-        ocr: 0x00ff_8000,
-        cid: CID.to_be_bytes(),
-        csd: SD_CSD.to_be_bytes(),
-        is_locked: false,
-    }
+    card_a().registers
 }
 
 fn sd_with_rca(rca: u16) -> KindRegisters {
+    let scr: u64 = 0x0005_0000_0000_0000;
     KindRegisters::Sd(SdRegisters {
-        scr: SCR.to_be_bytes(),
+        scr: scr.to_be_bytes(),
         rca,
         answers_cmd8: false,
         has_high_speed: false,
     })
 }
 
-fn ext_csd() -> [u8; 512] {
-    let mut block = [0; 512];
-    block[181] = 0x01;
-    block[192] = 0x08;
-    block[196] = 0x03;
-    block[213] = 0x08;
-    block[221] = 0x01;
-    block[224] = 0x01;
-    block[226] = 0x01;
-    block[231] = 0x10;
-    block
-}
-
-// An eMMC device with this EXT_CSD, whose user partition has 2048 sectors by `ext_csd`.
-fn mmc(ext_csd: [u8; 512]) -> Registers {
-    Registers {
-        kind: KindRegisters::Mmc(MmcRegisters { ext_csd }),
-        ocr: 0x40ff_8080,
-        cid: CID.to_be_bytes(),
-        csd: CID.to_be_bytes(),
-        is_locked: false,
-    }
-}
-
+// These registers, with so many sectors and the longest busy time.
 fn spec(registers: Registers, sectors: u64) -> CardSpec {
     CardSpec {
         registers,
@@ -82,20 +51,23 @@ fn good_specs(rt: HostRuntime) -> Result<(), Fail> {
         is_read_only: false,
         block_length: 512,
     };
-    assert_eq!(rt; judge(&spec(mmc(ext_csd()), 2048)), Ok(of_mmc));
-    let mut full = ext_csd();
+    assert_eq!(rt; judge(&spec(card_m().registers, 2048)), Ok(of_mmc));
+    let mut full = ext_csd_m();
     full[213] = 0xfe;
     let of_full = Judged {
         sizes: [65_024, 256, 256, 0, 0, 0, 0],
         ..of_mmc
     };
-    assert_eq!(rt; judge(&spec(mmc(full), 65_024)), Ok(of_full));
+    assert_eq!(rt;
+        judge(&spec(mmc(full, 65_024).registers, 65_024)),
+        Ok(of_full)
+    );
     Ok(())
 }
 
 #[test]
 fn refused_registers(rt: HostRuntime) {
-    let mut no_erase_unit = ext_csd();
+    let mut no_erase_unit = ext_csd_m();
     no_erase_unit[224] = 0x00;
     for (registers, fault) in [
         (
@@ -114,7 +86,7 @@ fn refused_registers(rt: HostRuntime) {
         ),
         (
             Registers {
-                csd: CID.to_be_bytes(),
+                csd: EMPTY_CSD.to_be_bytes(),
                 ..sd()
             },
             "block lengths of 1 byte",
@@ -158,18 +130,18 @@ fn refused_registers(rt: HostRuntime) {
         (
             Registers {
                 ocr: 0x20ff_8080,
-                ..mmc(ext_csd())
+                ..card_m().registers
             },
             "access mode 1",
         ),
         (
             Registers {
                 ocr: 0x60ff_8080,
-                ..mmc(ext_csd())
+                ..card_m().registers
             },
             "access mode 3",
         ),
-        (mmc(no_erase_unit), "no erase unit"),
+        (mmc(no_erase_unit, 2048).registers, "no erase unit"),
     ] {
         assert_eq!(rt;
             judge(&spec(registers, 2048)),
@@ -197,9 +169,9 @@ fn refused_numbers(rt: HostRuntime) {
         refused
     );
     assert_eq!(rt; judge(&spec(sd(), 5)), refused);
-    let mut empty = ext_csd();
+    let mut empty = ext_csd_m();
     empty[213] = 0x00;
-    assert_eq!(rt; judge(&spec(mmc(empty), 0)), refused);
+    assert_eq!(rt; judge(&spec(mmc(empty, 0).registers, 0)), refused);
 }
 
 #[test]
@@ -208,13 +180,16 @@ fn refused_sizes(rt: HostRuntime) -> Result<(), Fail> {
     let mut card = spec(sd(), 4);
     card.image = Some(Bytes::new(vec![in rt.alloc(); 7; 2047]?));
     assert_eq!(rt; judge(&card), refused);
-    let mut large = ext_csd();
+    let mut large = ext_csd_m();
     large[213] = 0xff;
-    assert_eq!(rt; judge(&spec(mmc(large), 65_280)), refused);
+    assert_eq!(rt; judge(&spec(mmc(large, 65_280).registers, 65_280)), refused);
     // A general purpose partition that is too large to exist.
-    let mut no_partition = ext_csd();
+    let mut no_partition = ext_csd_m();
     no_partition[155] = 0x01;
     no_partition[145] = 0xff;
-    assert_eq!(rt; judge(&spec(mmc(no_partition), 2048)), refused);
+    assert_eq!(rt;
+        judge(&spec(mmc(no_partition, 2048).registers, 2048)),
+        refused
+    );
     Ok(())
 }

@@ -65,7 +65,8 @@ commanded kind app bytes timing a index argument heard b r asked kept none error
 abbrev pub Received : ℕ → List ℕ → Result Unit Cause → BusView → BusView → Type 0
 Received size block r =
     Worked Narrows
-    (λ old new. IsOk r → (next_block old.card ≡ Some block) × ((choice : Choice) × (new.card ≡ sent choice old.card)))
+    (λ old new. IsOk r → (can_send old.lines size old.card ≡ true) × (next_block old.card ≡ Some block)
+    × ((choice : Choice) × (new.card ≡ sent choice old.card)))
     (λ old new. can_send old.lines size old.card ≡ true → IsOk r)
 
 same_some : {X : Type 0} (x y : X) → Some x ≡ Some y → x ≡ y
@@ -148,8 +149,8 @@ fetched size is_app bytes block timing tells x a b c told p q =
     let got = q.own refl in
     moved_then a b c p q
     (λ was is asks set setting.
-    let came = block_came is_app bytes block timing was is a b c set setting (p.own asks refl) q.set.lines got.0
-    got.1.0 got.1.1 in
+    let came = block_came is_app bytes block timing was is a b c set setting (p.own asks refl) q.set.lines got.1
+    got.2.0 got.2.1 in
     (told ∙ ap tells came.0, came.1))
     (λ same was asks can set. refl)
 

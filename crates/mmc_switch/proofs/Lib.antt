@@ -5,4 +5,5 @@ pub mod RestLemmas
 pub mod SdLemmas
 pub mod SelectLemmas
 pub mod SwitchLemmas
+pub mod UnderWayLemmas
 pub mod WidenLemmas

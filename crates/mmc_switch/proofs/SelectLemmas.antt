@@ -7,8 +7,6 @@ use Rattle.std.specs.Option.{option_eq}
 use Rattle.std.specs.Prelude.{◌&&◌, ◌==◌, Err, IsSome, None, Ok, Option, Some, if◌then◌else◌, length}
 use Rattle.mmc_frame.specs.Field.{field}
 use Rattle.mmc_frame.specs.contracts.kind.Kind.{the_type as kind_type}
-use Rattle.mmc_frame.specs.declared.card_state.State.{State}
-use Rattle.mmc_frame.specs.declared.card_state.State.TheVariants.{Data}
 use Rattle.mmc_frame.specs.declared.kind.Kind.{Kind}
 use Rattle.mmc_frame.specs.declared.kind.Kind.TheVariants.{Mmc, Sd}
 use Rattle.mmc_ext_csd.specs.ExtCsd.{high_speed_at_52_mhz, partition_config}
@@ -18,7 +16,7 @@ use Rattle.mmc_card.specs.declared.exchange.Width.TheVariants.{Eight}
 use Rattle.mmc_card.specs.declared.part.Part.{Part}
 use Rattle.mmc_card.specs.declared.part.Part.TheVariants.{Boot1, Boot2, Gp1, Gp2, Gp3, Gp4, User}
 use Rattle.mmc_card.specs.BusView.{BusView}
-use Rattle.mmc_card.specs.Card.{Card, is_in, is_selected, stored}
+use Rattle.mmc_card.specs.Card.{Card, stored}
 use Rattle.mmc_card.specs.Faults.{NoFault}
 use Rattle.mmc_card.specs.Laws.{Setting, Stands, setting_of}
 use Rattle.mmc_card.specs.Made.{Made, sectors_in}
@@ -34,6 +32,7 @@ use Rattle.mmc_switch.specs.Place.{IsLoose, IsPartOf, IsReady, Knows, StandsAs, 
 use Rattle.mmc_switch.specs.Sizes.{some_size}
 use Rattle.mmc_switch.specs.Stages.{lines_of}
 use Rattle.mmc_switch.proofs.SwitchLemmas.{Switches}
+use Rattle.mmc_switch.proofs.UnderWayLemmas.{ready_stands}
 
 -- A partition that exists.
 
@@ -235,14 +234,6 @@ selected_now session part argument a b mmc e some p r =
     }
 
 -- It fails.
-
-ready_stands : (session : Session) (view : BusView) → IsReady session view
-    → Stands (setting_in session.info view.card.part) view.card
-ready_stands session view r = record {
-  selected = λ up. r.set.is_set;
-  sends = λ h. cc (ap (λ (s : State). is_in s Data) r.set.rest.state, h);
-  reset = λ down. cc (ap is_selected r.set.rest.state, down);
-}
 
 abbrev pub unknown : Session → Session
 unknown session = record session { selected = None }

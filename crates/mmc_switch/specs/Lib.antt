@@ -2,3 +2,4 @@ pub mod Info
 pub mod Place
 pub mod Sizes
 pub mod Stages
+pub mod UnderWay

@@ -1,5 +1,6 @@
-ghost use Rattle.std.specs.Prelude.{◌≡◌, Some, false};
+ghost use Rattle.std.specs.Prelude.{◌≡◌, IsSome, None, Some, false};
 ghost use Rattle.mmc_card.specs.declared.part.Part.TheVariants.{User};
+ghost use Rattle.mmc_switch.specs.UnderWay.{room_of};
 
 use crate::broken::Broken;
 use crate::info::Info;
@@ -38,6 +39,17 @@ impl Session {
         ensures { result ≡ self.now.selected }
     {
         self.selected
+    }
+
+    /// The size of the partition that is selected, in sectors, or 0 where that isn't known.
+    pub fn room(&self) -> u64
+        ensures known { IsSome self.now.selected → result ≡ room_of self.now }
+        ensures unknown { self.now.selected ≡ None → result ≡ 0 }
+    {
+        match self.selected {
+            Some(part) => self.info.sizes.of(part),
+            None => 0,
+        }
     }
 
     /// What is left once something has failed for this cause.

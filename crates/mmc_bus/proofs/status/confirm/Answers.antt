@@ -1,5 +1,4 @@
-use Rattle.std.proofs.Common.{ap, arith, false, refl, subst, ◌≡◌, ◌∙◌, sym}
-use Rattle.mmc_frame.specs.Field.{field}
+use Rattle.std.proofs.Common.{ap, false, refl, subst, ◌∙◌, sym}
 use Rattle.mmc_frame.specs.Status.{IsClean}
 use Rattle.mmc_card.specs.CardAnswer.{status}
 use Rattle.mmc_card.specs.Card.{is_identified}

@@ -1,4 +1,4 @@
-use Rattle.mmc_card.proofs.StatusLemmas.{clean_status, status_errors, status_state}
+use Rattle.mmc_card.proofs.StatusLemmas.{clean_status, status_at_end, status_errors, status_state}
 use Rattle.mmc_card.proofs.card_laws.a_status_tells_of_its_card.Goals as goal
 
 pub returns : goal.returns
@@ -6,4 +6,5 @@ returns c = record {
   state = status_state;
   errors = status_errors;
   clean = clean_status;
+  at_end = status_at_end;
 }

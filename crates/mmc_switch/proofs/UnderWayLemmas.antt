@@ -1,0 +1,187 @@
+-- A turn of work that takes several: what it makes of where the work is, from what one exchange did.
+use Rattle.std.proofs.Common.{◌+◌, ◌-◌, ◌<◌, ◌∙◌, ◌≡◌, ◌≤◌, Bool, ap, arith, eq-eqb, false, refl, subst, suc, sym, true, zero, ℕ}
+use Rattle.std.specs.Prelude.{IsSome, None, Option, Some, if◌then◌else◌, length}
+use Rattle.mmc_frame.specs.declared.card_state.State.{State}
+use Rattle.mmc_frame.specs.declared.card_state.State.TheVariants.{Data, Tran}
+use Rattle.mmc_frame.specs.declared.kind.Kind.{Kind}
+use Rattle.mmc_card.specs.declared.part.Part.{Part}
+use Rattle.mmc_card.specs.BusView.{BusView}
+use Rattle.mmc_card.specs.Blocks.{lines_fit}
+use Rattle.mmc_card.specs.Card.{Card, HasItsSizes, IsCard, is_in, is_selected, stored}
+use Rattle.mmc_card.specs.CardLaws.{HasNoError}
+use Rattle.mmc_card.specs.Faults.{NoFault}
+use Rattle.mmc_card.specs.Laws.{Carried, Setting, Stands, setting_of}
+use Rattle.mmc_card.specs.Made.{Made, sectors_in}
+use Rattle.mmc_card.specs.RowsSwitch.{timing_number, width_number}
+use Rattle.mmc_bus.specs.Work.{StaysSet, Worked}
+use Rattle.mmc_switch.specs.Place.{IsLoose, IsPartOf, IsReady, Knows, StandsAs, setting_in}
+use Rattle.mmc_switch.specs.Stages.{lines_of}
+use Rattle.mmc_switch.specs.UnderWay.{HasFailed, IsQuiet, IsUnderWay, faults_then, known_part, part_of, room_of}
+use Rattle.mmc_switch.specs.declared.broken.Broken.{Broken}
+use Rattle.mmc_switch.specs.declared.session.Session.{Session}
+
+-- no fault in all turns is none so far, and none in this one
+pub none_so_far : (a b k : ℕ) → a ≤ b → k + (b - a) ≡ 0 → (k ≡ 0) × (b ≡ a)
+none_so_far a b k later none = (omega (arith, none), omega (arith, later, none))
+
+pub some_of : (n : ℕ) → (n ≡ 0 → ⊥) → 0 < n
+some_of zero none = absurd (none refl)
+some_of (suc n) none = omega arith
+
+-- A card that is ready stands, so that work can begin.
+
+pub ready_stands : (session : Session) (view : BusView) → IsReady session view
+    → Stands (setting_in session.info view.card.part) view.card
+ready_stands session view r = record {
+  selected = λ up. r.set.is_set;
+  sends = λ h. cc (ap (λ (s : State). is_in s Data) r.set.rest.state, h);
+  reset = λ down. cc (ap is_selected r.set.rest.state, down);
+}
+
+pub begins : (session : Session) (Shown Exact : Card → Type 0) (view : BusView) → IsReady session view
+    → Exact view.card → IsUnderWay session Shown Exact 0 view
+begins session Shown Exact view r exact = record {
+  is_card = r.is_card;
+  sizes = r.sizes;
+  knows = r.knows;
+  stands = record {
+    part = view.card.part;
+    is_part = r.part;
+    stands = ready_stands session view r;
+    lines = r.set.on_lines;
+  };
+  shown = λ s. exact;
+  fine = λ none. exact;
+}
+
+-- What an exchange leaves as it was.
+
+pub sizes_then : (a b : Card) → Carried a b → HasItsSizes a → HasItsSizes b
+sizes_then a b carried sizes part =
+    carried.sizes part ∙ sizes part ∙ ap (λ (m : Made). sectors_in m part) (sym carried.made)
+
+pub knows_then : (session : Session) (a b : Card) → Carried a b → Knows session a.made → Knows session b.made
+knows_then session a b carried knows = subst (Knows session) (sym carried.made) knows
+
+pub stands_then : (session : Session) (a b : BusView) → StaysSet a b → StandsAs session a → StandsAs session b
+stands_then session a b set stands = record {
+  part = stands.part;
+  is_part = stands.is_part;
+  stands = set.stands (setting_in session.info stands.part) stands.stands;
+  lines = set.lines ∙ stands.lines;
+}
+
+module _ {Holds Own Fine : BusView → BusView → Type 0} (session : Session) (Shown Exact : Card → Type 0) (faults : ℕ)
+    (a b : BusView) (at : IsUnderWay session Shown Exact faults a) (work : Worked Holds Own Fine a b) where
+  -- The work goes on.
+  pub goes_on : (Shows Comes : Card → Type 0) → (Shows b.card → Shown a.card)
+      → (Exact a.card → Shows b.card → Comes b.card) → (Exact a.card → NoFault a b → Comes b.card)
+      → IsUnderWay session Shows Comes (faults_then faults a b) b
+  goes_on Shows Comes shows comes calm = record {
+    is_card = work.is_card;
+    sizes = sizes_then a.card b.card work.stays.carried at.sizes;
+    knows = knows_then session a.card b.card work.stays.carried at.knows;
+    stands = stands_then session a b work.set at.stands;
+    shown = λ s. comes (at.shown (shows s)) s;
+    fine = λ none. let both = none_so_far a.faults b.faults faults work.stays.later none in
+        calm (at.fine both.0) both.1;
+  }
+
+  -- The card has shown itself sound, and it is exactly there.
+  pub goes_there : (Shows Comes : Card → Type 0) → Shown a.card → (Exact a.card → Comes b.card)
+      → IsUnderWay session Shows Comes (faults_then faults a b) b
+  goes_there Shows Comes shown comes = goes_on Shows Comes (λ s. shown) (λ e s. comes e) (λ e same. comes e)
+
+  -- The work fails, which it can't without a fault.
+  pub has_failed : (broken : Broken) → broken.session ≡ session → (Exact a.card → NoFault a b → ⊥)
+      → HasFailed broken (faults_then faults a b) b
+  has_failed broken same calm =
+      record {
+        loose = (subst (λ s. Knows s b.card.made → StandsAs s b → IsLoose broken b) same (λ knows stands. record {
+          is_card = work.is_card;
+          sizes = sizes_then a.card b.card work.stays.carried at.sizes;
+          knows = knows;
+          stands = λ no_reset. stands;
+        })) (knows_then session a.card b.card work.stays.carried at.knows) (stands_then session a b work.set at.stands);
+        fell = some_of (faults_then faults a b) (λ none.
+            let both = none_so_far a.faults b.faults faults work.stays.later none in calm (at.fine both.0) both.1);
+      }
+
+-- What is known of the card.
+
+pub is_known : (selected : Option Part) → IsSome selected → selected ≡ Some (known_part selected)
+is_known (Some part) some = refl
+is_known None some = cc some
+
+-- it stands with the session's partition
+pub stands_in : (session : Session) (view : BusView) → IsSome session.selected → StandsAs session view
+    → Stands (setting_in session.info (part_of session)) view.card
+    × (view.lines ≡ lines_of (setting_in session.info (part_of session)))
+stands_in session view some stands =
+    let same : stands.part ≡ part_of session = stands.is_part.known (part_of session) (is_known session.selected some) in (
+      subst (λ p. Stands (setting_in session.info p) view.card) same stands.stands,
+      subst (λ p. view.lines ≡ lines_of (setting_in session.info p)) same stands.lines,
+    )
+
+exists_as : (b : Bool) (size room : ℕ) → room ≡ (if b then size else 0) → 1 ≤ room → size ≡ room
+exists_as true size room e some = sym e
+exists_as false size room e some = absurd (omega (arith, e, some))
+
+-- a partition with a sector has its size by the session
+pub room_is : (session : Session) (card : Card) → HasItsSizes card → Knows session card.made → 1 ≤ room_of session
+    → length (stored card (part_of session)) ≡ room_of session
+room_is session card sizes knows some =
+    sizes (part_of session)
+    ∙ exists_as _ (sectors_in card.made (part_of session)) (room_of session) (knows.info.sizes (part_of session)) some
+
+-- A card that is selected is set as the session says, and the host's lines are its own.
+module _ (session : Session) (view : BusView) (some : IsSome session.selected) (stands : StandsAs session view)
+    (selected : is_selected view.card.state ≡ true) where
+  pub set_in : setting_of view.card ≡ setting_in session.info (part_of session)
+  set_in = (stands_in session view some stands).0.selected selected
+
+  pub part_in : view.card.part ≡ part_of session
+  part_in = ap (λ (s : Setting). s.part) set_in
+
+  pub lines_in : lines_fit view.lines view.card ≡ true
+  lines_in =
+      let lines = (stands_in session view some stands).1 in
+      let width = ap (λ (s : Setting). s.width) set_in in
+      let timing = ap (λ (s : Setting). s.timing) set_in in
+      let same = eq-eqb (width_number session.info.width) (width_number session.info.width) refl in
+      let now = eq-eqb (timing_number session.info.timing) (timing_number session.info.timing) refl in
+      rw (lines, width, timing, same, now) refl
+
+pub no_error : (kind : Kind) (count : ℕ) (card : Card) → IsQuiet Tran count card → HasNoError kind card
+no_error kind count card quiet =
+    record { command_errors = quiet.command_errors; errors = quiet.errors; switch_error = λ mmc. quiet.switch_error }
+
+-- A card in tran with nothing to do is ready.
+pub ready_again : (session : Session) (view : BusView) → IsCard view.card → HasItsSizes view.card
+    → Knows session view.card.made → StandsAs session view → IsQuiet Tran 0 view.card → view.card.is_busy ≡ false
+    → IsReady session view
+ready_again session view card sizes knows stands quiet rests =
+    let selected : is_selected view.card.state ≡ true = ap is_selected quiet.state in
+    let setting : setting_of view.card ≡ setting_in session.info stands.part = stands.stands.selected selected in
+    let part : view.card.part ≡ stands.part = ap (λ (s : Setting). s.part) setting in
+    record {
+      is_card = card;
+      sizes = sizes;
+      knows = knows;
+      set = record {
+        rest = record {
+          state = quiet.state;
+          rests = rests;
+          app = quiet.app;
+          command_errors = quiet.command_errors;
+          errors = quiet.errors;
+          switch_error = quiet.switch_error;
+          count = quiet.count;
+          erase = quiet.erase;
+          finished = card.finished (rw quiet.state refl);
+        };
+        is_set = setting ∙ ap (setting_in session.info) (sym part);
+        on_lines = stands.lines ∙ ap (λ p. lines_of (setting_in session.info p)) (sym part);
+      };
+      part = subst (IsPartOf session) (sym part) stands.is_part;
+    }

@@ -1,0 +1,131 @@
+-- CMD12 behind the last block of a run.
+use Rattle.std.proofs.Common.{◌+◌, ◌∙◌, ◌≡◌, ◌⊎◌, Bool, List, ap, false, inl, inr, refl, subst, sym, true, ℕ}
+use Rattle.std.specs.Prelude.{◌==◌, IsErr, Ok, Option, Result, Some, if◌then◌else◌}
+use Rattle.std.proofs.lemmas.Bool.{eq-eqb}
+use Rattle.mmc_frame.specs.declared.card_state.State.{State}
+use Rattle.mmc_frame.specs.declared.card_state.State.TheVariants.{Data, Prg, Rcv, Tran}
+use Rattle.mmc_frame.specs.declared.kind.Kind.{Kind}
+use Rattle.mmc_card.specs.BusView.{BusView}
+use Rattle.mmc_card.specs.Card.{Card, FromSectors, is_in, is_selected}
+use Rattle.mmc_card.specs.CardAnswer.{busied, shown}
+use Rattle.mmc_card.specs.RowsTransfer.{stopped}
+use Rattle.mmc_card.specs.Sectors.{Sector}
+use Rattle.mmc_bus.specs.Work.{Narrows, Worked}
+use Rattle.mmc_bus.specs.declared.cause.Cause.{Cause}
+use Rattle.mmc_switch.specs.UnderWay.{room_of}
+use Rattle.mmc_transfer.proofs.StepLemmas.{each_way, either_way, turn_fails, turn_goes_there}
+use Rattle.mmc_transfer.specs.Commands.{CanStop, IsMoving}
+use Rattle.mmc_transfer.specs.Running.{AreStored, Exact, IsBusyAfter, IsIdle, IsIn, IsSending, IsTaking, Turned}
+use Rattle.mmc_transfer.specs.declared.job.Job.{Job}
+use Rattle.mmc_transfer.specs.declared.phase.Phase.{Phase}
+use Rattle.mmc_transfer.specs.declared.phase.Phase.TheVariants.{Other}
+use Rattle.mmc_transfer.specs.declared.phase.Step.TheVariants.{Finish, Stop}
+
+-- what the command that ends a transfer does
+abbrev pub Stops : Kind → Bool → Bool → BusView → BusView → Type 0
+Stops kind at_end ok =
+    Worked Narrows (λ old new. ok ≡ true → IsMoving old.card × (new.card ≡ stopped old.card))
+    (λ old new. CanStop kind at_end old.card → ok ≡ true)
+
+moving_is_selected : (card : Card) → IsMoving card → is_selected card.state ≡ true
+moving_is_selected card (inl sends) = ap is_selected sends
+moving_is_selected card (inr accepts) = ap is_selected accepts
+
+-- A card that sent blocks, and one that accepted them.
+
+stopped_in : (state : State) (card : Card) → card.state ≡ state
+    → stopped card
+    ≡ (if is_in state Rcv then record (busied (shown card)) { state = Prg; is_switching = false }
+    else record (shown card) { state = Tran; source = FromSectors })
+stopped_in state card is =
+    ap (λ now. if is_in now Rcv then record (busied (shown card)) { state = Prg; is_switching = false }
+    else record (shown card) { state = Tran; source = FromSectors }) is
+
+stopped_reading : (job : Job) (blocks : List Sector) (card : Card) → IsSending job.count job blocks card
+    → IsIdle 0 (stopped card) × AreStored job.count job blocks (stopped card)
+stopped_reading job blocks card sending =
+    subst (λ next. IsIdle 0 next × AreStored job.count job blocks next)
+    (sym (stopped_in Data card sending.quiet.state)) (
+      record {
+        quiet = record {
+          state = refl;
+          app = refl;
+          command_errors = refl;
+          errors = refl;
+          switch_error = refl;
+          count = refl;
+          erase = sending.quiet.erase;
+        };
+        rests = sending.rests;
+      },
+      sending.read,
+    )
+
+stopped_writing : (job : Job) (blocks : List Sector) (card : Card) → IsTaking Rcv job.count job blocks card
+    → IsTaking Prg job.count job blocks (stopped card) × IsBusyAfter 0 (stopped card)
+stopped_writing job blocks card taking =
+    subst (λ next. IsTaking Prg job.count job blocks next × IsBusyAfter 0 next)
+    (sym (stopped_in Rcv card taking.quiet.state)) (
+      record {
+        quiet = record {
+          state = refl;
+          app = refl;
+          command_errors = refl;
+          errors = refl;
+          switch_error = refl;
+          count = refl;
+          erase = taking.quiet.erase;
+        };
+        start = taking.start;
+        values = taking.values;
+        left = taking.left;
+      },
+      record { busy = refl; polled = λ few. refl },
+    )
+
+-- an error that a read may show is that of the partition's end
+errors_by : (counted at_end : Bool) (errors room all end : ℕ) → at_end ≡ (all == room)
+    → (errors ≡ 0) ⊎ ((counted ≡ false) × (all ≡ room) × (errors ≡ end))
+    → (errors ≡ 0) ⊎ ((at_end ≡ true) × (errors ≡ end))
+errors_by counted at_end errors room all end ends (inl none) = inl none
+errors_by counted at_end errors room all end ends (inr last) = inr (ends ∙ eq-eqb all room last.1, last.2)
+
+module _ (job : Job) (blocks : List Sector) (faults : ℕ) (kind : Kind) (at_end : Bool) (a b : BusView)
+    (ends : at_end ≡ (job.start + job.count == room_of job.session))
+    (at : IsIn job blocks (Other Stop) faults a) where
+  -- the exact card can stop
+  can_stop : Exact job blocks (Other Stop) a.card → CanStop kind at_end a.card
+  can_stop exact =
+      either_way job.way
+      (λ reads sending. record {
+        moving = inl sending.quiet.state;
+        no_error = record {
+          command_errors = sending.quiet.command_errors;
+          errors = refl;
+          switch_error = λ mmc. sending.quiet.switch_error;
+        };
+        errors = errors_by _ at_end a.card.errors (room_of job.session) (job.start + job.count) _ ends sending.errors;
+      })
+      (λ writes taking. record {
+        moving = inr taking.0.quiet.state;
+        no_error = record {
+          command_errors = taking.0.quiet.command_errors;
+          errors = refl;
+          switch_error = λ mmc. taking.0.quiet.switch_error;
+        };
+        errors = inl taking.0.quiet.errors;
+      }) exact
+
+  pub end_fails : (result : Result (Option Phase) Cause) → IsErr result → Stops kind at_end false a b
+      → Turned job blocks faults a result b
+  end_fails result err work =
+      turn_fails job blocks (Other Stop) faults a b at work result err
+      (λ exact same. cc (work.fine same (can_stop exact)))
+
+  pub end_goes_on : Stops kind at_end true a b → Turned job blocks faults a (Ok (Some (Other (Finish 0)))) b
+  end_goes_on work =
+      let own = work.own refl in
+      turn_goes_there job blocks (Other Stop) faults a b at work (Other (Finish 0)) (moving_is_selected a.card own.0)
+      (λ exact. subst (Exact job blocks (Other (Finish 0))) (sym own.1)
+      (each_way job.way (λ reads sending. stopped_reading job blocks a.card sending)
+      (λ writes taking. stopped_writing job blocks a.card taking.0) exact))

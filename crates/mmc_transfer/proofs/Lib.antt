@@ -1,0 +1,13 @@
+pub mod BeginLemmas
+pub mod CloseLemmas
+pub mod CommandLemmas
+pub mod EndLemmas
+pub mod FinishLemmas
+pub mod GiveLemmas
+pub mod PauseLemmas
+pub mod PollLemmas
+pub mod PresetLemmas
+pub mod StepLemmas
+pub mod TakeLemmas
+pub mod TurnLemmas
+pub mod WholeLemmas

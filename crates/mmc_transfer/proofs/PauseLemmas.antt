@@ -1,0 +1,87 @@
+-- Polls between the blocks of a write.
+use Rattle.std.proofs.Common.{◌+◌, ◌≡◌, List, false, refl, subst, sym, true, ℕ}
+use Rattle.std.specs.Prelude.{Err, Ok, Some}
+use Rattle.mmc_frame.specs.declared.card_state.State.TheVariants.{Rcv}
+use Rattle.mmc_card.specs.Blocks.{rested}
+use Rattle.mmc_card.specs.BusView.{BusView}
+use Rattle.mmc_card.specs.Card.{Card, is_selected}
+use Rattle.mmc_card.specs.Sectors.{Sector}
+use Rattle.mmc_bus.specs.Learned.{PollFacts}
+use Rattle.mmc_bus.specs.declared.cause.Cause.{Cause}
+use Rattle.mmc_transfer.proofs.PollLemmas.{Polls, busy_still, not_so_often, rested_in}
+use Rattle.mmc_transfer.proofs.StepLemmas.{each_way, either_way, turn_fails, turn_goes_on, turn_goes_there}
+use Rattle.mmc_transfer.specs.Running.{IsIn, IsTaking, Turned}
+use Rattle.mmc_transfer.specs.declared.job.Job.{Job}
+use Rattle.mmc_transfer.specs.declared.phase.Phase.TheVariants.{Block, Other}
+use Rattle.mmc_transfer.specs.declared.phase.Step.TheVariants.{Pause, Stop}
+
+-- a card that accepts blocks isn't busy after a no
+rested_in_rcv : (done : ℕ) (job : Job) (blocks : List Sector) (card : Card) → IsTaking Rcv done job blocks card
+    → IsTaking Rcv done job blocks (rested card) × ((rested card).is_busy ≡ false)
+rested_in_rcv done job blocks card taking =
+    subst (λ next. IsTaking Rcv done job blocks next × (next.is_busy ≡ false))
+    (sym (rested_in Rcv card taking.quiet.state)) (
+      record {
+        quiet = record {
+          state = taking.quiet.state;
+          app = taking.quiet.app;
+          command_errors = taking.quiet.command_errors;
+          errors = taking.quiet.errors;
+          switch_error = taking.quiet.switch_error;
+          count = taking.quiet.count;
+          erase = taking.quiet.erase;
+        };
+        start = taking.start;
+        values = taking.values;
+        left = taking.left;
+      },
+      refl,
+    )
+
+module _ (job : Job) (blocks : List Sector) (faults done polls : ℕ) (a b : BusView)
+    (at : IsIn job blocks (Other (Pause done polls)) faults a) where
+  -- yes
+  pub pause_fails : (cause : Cause) → polls + 1 ≡ 16 → Polls true a b → Turned job blocks faults a (Err cause) b
+  pause_fails cause last work =
+      turn_fails job blocks (Other (Pause done polls)) faults a b at work (Err cause) refl
+      (λ exact same. either_way job.way (λ reads none. absurd none)
+      (λ writes taking. not_so_often polls a b last work.own taking.1 same) exact)
+
+  pub pauses_still : Polls true a b → Turned job blocks faults a (Ok (Some (Other (Pause done (polls + 1))))) b
+  pauses_still work =
+      turn_goes_there job blocks (Other (Pause done polls)) faults a b at work (Other (Pause done (polls + 1))) tt
+      (λ exact. each_way job.way (λ reads none. none)
+      (λ writes taking. busy_still Rcv done polls job blocks a b work.own taking) exact)
+
+  -- no
+  accepts_by : b.card ≡ rested a.card → IsTaking Rcv done job blocks a.card
+      → IsTaking Rcv done job blocks b.card × (b.card.is_busy ≡ false)
+  accepts_by is taking =
+      subst (λ card. IsTaking Rcv done job blocks card × (card.is_busy ≡ false)) (sym is)
+      (rested_in_rcv done job blocks a.card taking)
+
+  calm_in_rcv : PollFacts a false b → IsTaking Rcv done job blocks a.card → is_selected b.card.state ≡ true
+      → b.card ≡ rested a.card
+  calm_in_rcv facts taking selected = facts.calm refl selected (rw taking.quiet.state refl)
+
+  pub pause_ends : Polls false a b → Turned job blocks faults a (Ok (Some (Block done))) b
+  pause_ends work =
+      turn_goes_on job blocks (Other (Pause done polls)) faults a b at work (Block done) (λ selected. tt)
+      (λ exact selected. each_way job.way (λ reads none. absurd none)
+      (λ writes taking. accepts_by (calm_in_rcv work.own taking.0 selected) taking.0) exact)
+      (λ exact same. each_way job.way (λ reads none. absurd none)
+      (λ writes taking. accepts_by (work.own.fine same refl) taking.0) exact)
+
+  -- behind the last block
+  all_accepted : done ≡ job.count → IsTaking Rcv done job blocks b.card × (b.card.is_busy ≡ false)
+      → IsTaking Rcv job.count job blocks b.card × (b.card.is_busy ≡ false)
+  all_accepted last taking =
+      subst (λ n. IsTaking Rcv n job blocks b.card × (b.card.is_busy ≡ false)) last taking
+
+  pub pause_stops : done ≡ job.count → Polls false a b → Turned job blocks faults a (Ok (Some (Other Stop))) b
+  pause_stops last work =
+      turn_goes_on job blocks (Other (Pause done polls)) faults a b at work (Other Stop) (λ selected. tt)
+      (λ exact selected. each_way job.way (λ reads none. absurd none)
+      (λ writes taking. all_accepted last (accepts_by (calm_in_rcv work.own taking.0 selected) taking.0)) exact)
+      (λ exact same. each_way job.way (λ reads none. absurd none)
+      (λ writes taking. all_accepted last (accepts_by (work.own.fine same refl) taking.0)) exact)

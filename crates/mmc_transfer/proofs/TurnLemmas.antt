@@ -1,0 +1,81 @@
+-- A turn of a run, from its exchange.
+use Rattle.std.proofs.Common.{◌&&◌, ◌≡◌, ◌≤◌, Bool, List, arith, eq-eqb, false, refl, subst, sym, true, ℕ}
+use Rattle.std.specs.Prelude.{◌==◌, Err, None, Ok, Option, Result, Some, if◌then◌else◌, nat_lt}
+use Rattle.std.proofs.lemmas.Bool.Decides.{nat_tests}
+use Rattle.mmc_card.specs.BusView.{BusView}
+use Rattle.mmc_card.specs.Sectors.{Sector}
+use Rattle.mmc_bus.specs.declared.cause.Cause.{Cause}
+use Rattle.mmc_switch.specs.Place.{IsReady}
+use Rattle.mmc_switch.specs.declared.progress.Progress.{Progress}
+use Rattle.mmc_switch.specs.declared.progress.Progress.TheVariants.{Done, Failed, More}
+use Rattle.mmc_switch.specs.declared.session.Session.{Session}
+use Rattle.mmc_switch.proofs.UnderWayLemmas.{begins}
+use Rattle.mmc_transfer.proofs.StepLemmas.{for_both}
+use Rattle.mmc_transfer.specs.Fits.{first_of}
+use Rattle.mmc_transfer.specs.Run.{HasProgressed, HasTurned}
+use Rattle.mmc_transfer.specs.Running.{Exact, IsIdle, IsIn, Shown, Turned, preset_of}
+use Rattle.mmc_transfer.specs.declared.job.Job.{Job}
+use Rattle.mmc_transfer.specs.declared.phase.Phase.{Phase}
+use Rattle.mmc_transfer.specs.declared.phase.Phase.TheVariants.{Other}
+use Rattle.mmc_transfer.specs.declared.phase.Step.{Step}
+use Rattle.mmc_transfer.specs.declared.phase.Step.TheVariants.{Command, Preset}
+use Rattle.mmc_transfer.specs.declared.run.Run.{Run}
+
+-- What an exchange leaves is what its turn leaves.
+pub has_turned : (run : Run) (blocks : List Sector) (faults : ℕ) (old : BusView) (outcome : Result (Option Phase) Cause)
+    (result : Progress Run) (new : BusView) → HasProgressed run.job outcome result
+    → Turned run.job blocks faults old outcome new → HasTurned run blocks faults old result new
+has_turned run blocks faults old (Ok (Some phase)) (More next) new is t =
+    record { stays = t.stays; within = t.within; left = rw (is.0, is.1) t.left }
+has_turned run blocks faults old (Ok (Some phase)) (Done session) new is t = absurd is
+has_turned run blocks faults old (Ok (Some phase)) (Failed broken) new is t = absurd is
+has_turned run blocks faults old (Ok None) (More next) new is t = absurd is
+has_turned run blocks faults old (Ok None) (Done session) new is t =
+    record { stays = t.stays; within = t.within; left = rw is t.left }
+has_turned run blocks faults old (Ok None) (Failed broken) new is t = absurd is
+has_turned run blocks faults old (Err cause) (More next) new is t = absurd is
+has_turned run blocks faults old (Err cause) (Done session) new is t = absurd is
+has_turned run blocks faults old (Err cause) (Failed broken) new is t =
+    record { stays = t.stays; within = t.within; left = rw is t.left }
+
+-- A run begins with a card that is ready.
+
+idle : (session : Session) (view : BusView) → IsReady session view → IsIdle 0 view.card
+idle session view r = record {
+  quiet = record {
+    state = r.set.rest.state;
+    app = r.set.rest.app;
+    command_errors = r.set.rest.command_errors;
+    errors = r.set.rest.errors;
+    switch_error = r.set.rest.switch_error;
+    count = r.set.rest.count;
+    erase = r.set.rest.erase;
+  };
+  rests = r.set.rest.rests;
+}
+
+if_same : (b : Bool) (n : ℕ) → (if b then n else n) ≡ n
+if_same true n = refl
+if_same false n = refl
+
+nothing_preset : (count : ℕ) (cmd23 : Bool) → 1 ≤ count → (nat_lt 1 count && cmd23) ≡ false
+    → (if count == 1 then 0 else if cmd23 then count else 0) ≡ 0
+nothing_preset count false some not = if_same (count == 1) 0
+nothing_preset count true some not =
+    let one : count ≡ 1 = grind (arith, nat_tests) in rw (eq-eqb count 1 one) refl
+
+begins_with : (job : Job) (blocks : List Sector) (view : BusView) (both : Bool)
+    → (nat_lt 1 job.count && job.session.info.cmd23) ≡ both → IsReady job.session view
+    → IsIn job blocks (Other (if both then Preset else Command)) 0 view
+begins_with job blocks view true is r =
+    begins job.session (Shown (Other Preset)) (Exact job blocks (Other Preset)) view r
+    (for_both job.way (idle job.session view r))
+begins_with job blocks view false is r =
+    let none : preset_of job ≡ 0 = nothing_preset job.count job.session.info.cmd23 job.some is in
+    begins job.session (Shown (Other Command)) (Exact job blocks (Other Command)) view r
+    (for_both job.way (subst (λ n. IsIdle n view.card) (sym none) (idle job.session view r)))
+
+pub begins_run : (job : Job) (blocks : List Sector) (view : BusView) (first : Step)
+    → first ≡ first_of job.count job.session.info.cmd23 → IsReady job.session view → IsIn job blocks (Other first) 0 view
+begins_run job blocks view first is r =
+    subst (λ s. IsIn job blocks (Other s) 0 view) (sym is) (begins_with job blocks view _ refl r)

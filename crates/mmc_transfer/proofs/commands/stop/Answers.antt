@@ -1,0 +1,17 @@
+use Rattle.std.proofs.Common.{refl}
+use Rattle.mmc_bus.proofs.WorkLemmas.{command_worked}
+use Rattle.mmc_transfer.proofs.CommandLemmas.{shows_it_stops}
+use Rattle.mmc_transfer.proofs.commands.stop.Goals as goal
+
+pub returns-clause-works : goal.returns-clause-works
+returns-clause-works g c kept =
+    let k = c.ask.ensures.asked.exchanged.kept kept in
+    let card = (g.B.Bus.view c.args.bus.now).card in
+    let law = c.cmd12_ends_a_transfer.ensures.does _ _ _ _ k.step k.was_card in
+    command_worked c.ask.ensures.asked refl refl kept
+    (λ ok. let judged = c.check_stop.ensures.ok ok in
+    let told = law.sound judged.0 judged.1 in
+    (told.0, told.2))
+    (λ same can. c.check_stop.ensures.all _ (law.fine same can.moving).0
+    (shows_it_stops c.args.kind c.args.at_end card c.a_status_tells_of_its_card.ensures.errors
+    c.a_status_tells_of_its_card.ensures.at_end k.was_card can))

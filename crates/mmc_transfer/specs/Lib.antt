@@ -1,0 +1,7 @@
+pub mod Address
+pub mod Commands
+pub mod Fits
+pub mod Moves
+pub mod Run
+pub mod Running
+pub mod Whole

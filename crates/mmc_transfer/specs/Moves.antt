@@ -1,0 +1,17 @@
+-- What comes behind a block.
+use Rattle.std.specs.Prelude.{◌&&◌, ◌==◌, None, Option, Some, if◌then◌else◌, nat_lt, ℕ}
+use Rattle.mmc_transfer.specs.Running.{is_counted}
+use Rattle.mmc_transfer.specs.declared.job.Job.{Job}
+use Rattle.mmc_transfer.specs.declared.phase.Phase.{Phase}
+use Rattle.mmc_transfer.specs.declared.phase.Phase.TheVariants.{Block, Other}
+use Rattle.mmc_transfer.specs.declared.phase.Step.{Step}
+use Rattle.mmc_transfer.specs.declared.phase.Step.TheVariants.{Finish, Pause, Stop}
+
+-- once so many blocks are written
+abbrev pub after_written : Job → ℕ → Step
+after_written job done = if (done == job.count) && is_counted job then Finish 0 else Pause done 0
+
+-- once so many blocks are read
+abbrev pub after_read : Job → ℕ → Option Phase
+after_read job done =
+    if nat_lt done job.count then Some (Block done) else if is_counted job then None else Some (Other Stop)

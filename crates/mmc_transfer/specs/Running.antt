@@ -1,0 +1,142 @@
+-- Where the card is in each phase of a run, over a bus that is kept.
+use Rattle.std.specs.Prelude.{◌+◌, ◌-◌, ◌<◌, ◌==◌, ◌≡◌, ◌⊎◌, Bool, Err, List, None, Ok, Option, Result, Some, [], false}
+use Rattle.std.specs.Prelude.{if◌then◌else◌, slice_index_or, take, true, ℕ}
+use Rattle.mmc_frame.specs.declared.card_state.State.{State}
+use Rattle.mmc_frame.specs.declared.card_state.State.TheVariants.{Data, Prg, Rcv, Tran}
+use Rattle.mmc_card.specs.BusView.{BusView}
+use Rattle.mmc_card.specs.Card.{Card, FromSectors, holds, is_selected, stored}
+use Rattle.mmc_card.specs.ErrorBits.{out_of_range}
+use Rattle.mmc_card.specs.Sectors.{AreRead, Change, Sector, Within, changed, maybe_changed}
+use Rattle.mmc_bus.specs.declared.cause.Cause.{Cause}
+use Rattle.mmc_bus.specs.Learned.{Stays}
+use Rattle.mmc_switch.specs.Place.{IsReady}
+use Rattle.mmc_switch.specs.UnderWay.{HasFailed, IsQuiet, IsUnderWay, faults_then, part_of, room_of}
+use Rattle.mmc_switch.specs.declared.session.Session.{Session}
+use Rattle.mmc_transfer.specs.Address.{is_counted_by}
+use Rattle.mmc_transfer.specs.declared.job.Job.{Job}
+use Rattle.mmc_transfer.specs.declared.phase.Phase.{Phase}
+use Rattle.mmc_transfer.specs.declared.phase.Phase.TheVariants.{Block, Other}
+use Rattle.mmc_transfer.specs.declared.phase.Step.TheVariants.{Command, Confirm, Finish, Pause, Preset, Stop}
+use Rattle.mmc_transfer.specs.declared.way.Way.{Way}
+use Rattle.mmc_transfer.specs.declared.way.Way.TheVariants.{Read, Write}
+
+-- What a run changes: a write its sectors, a read none.
+abbrev pub written : Way → List Sector → List Sector
+written Read blocks = []
+written Write blocks = blocks
+
+abbrev pub change_for : Session → ℕ → Way → List Sector → Change
+change_for session start way blocks = record { part = part_of session; start = start; values = written way blocks }
+
+abbrev pub change_of : Job → List Sector → Change
+change_of job blocks = change_for job.session job.start job.way blocks
+
+abbrev pub is_counted : Job → Bool
+is_counted job = is_counted_by job.count job.session.info.cmd23
+
+-- what CMD23 has preset once the transfer begins
+abbrev pub preset_of : Job → ℕ
+preset_of job = if job.count == 1 then 0 else if job.session.info.cmd23 then job.count else 0
+
+-- the blocks to come after so many, where the card knows
+abbrev pub left_of : Job → ℕ → Option ℕ
+left_of job done = if is_counted job then Some (job.count - done) else None
+
+-- it is one thing for a read, another for a write
+abbrev pub by_way : Way → Type 0 → Type 0 → Type 0
+by_way Read read write = read
+by_way Write read write = write
+
+-- the first blocks of the buffer are what the card stores there
+abbrev pub AreStored : ℕ → Job → List Sector → Card → Type 0
+AreStored done job blocks card =
+    (i : ℕ) → i < done
+    → slice_index_or blocks i [] ≡ slice_index_or (stored card (part_of job.session)) (job.start + i) []
+
+-- A card that was asked whether it is busy so often, and is.
+pub record IsBusyAfter (polls : ℕ) (card : Card) : Type 0 where
+  pub busy : card.is_busy ≡ true
+  pub polled : card.polled < 8 → card.polled ≡ polls
+
+-- In tran with nothing to do, and this count preset.
+pub record IsIdle (preset : ℕ) (card : Card) : Type 0 where
+  pub quiet : IsQuiet Tran preset card
+  pub rests : card.is_busy ≡ false
+
+-- The card sends the blocks of a read, and has sent so many. At the end of the partition it may say so, if it doesn't
+-- know the number of blocks.
+pub record IsSending (done : ℕ) (job : Job) (blocks : List Sector) (card : Card) : Type 0 where
+  pub quiet : IsQuiet Data 0 (record card { errors = 0 })
+  pub rests : card.is_busy ≡ false
+  pub errors : (card.errors ≡ 0)
+      ⊎ ((is_counted job ≡ false) × (job.start + done ≡ room_of job.session) × (card.errors ≡ out_of_range))
+  pub source : card.source ≡ FromSectors
+  pub next : card.next ≡ job.start + done
+  pub left : card.left ≡ left_of job done
+  pub read : AreStored done job blocks card
+
+-- The card has accepted so many blocks of a write.
+pub record IsTaking (place : State) (done : ℕ) (job : Job) (blocks : List Sector) (card : Card) : Type 0 where
+  pub quiet : IsQuiet place 0 card
+  pub start : card.start ≡ job.start
+  pub values : card.values ≡ take done blocks
+  pub left : card.left ≡ left_of job done
+
+-- A write is carried out: each of its sectors has its block alone.
+abbrev pub IsCarriedOut : Job → List Sector → Card → Type 0
+IsCarriedOut job blocks card = Within (holds card) (changed (change_of job blocks) (holds card))
+
+-- Exactly here the card is in each phase, but for a fault that nobody has seen.
+abbrev pub ReadExact : Job → List Sector → Phase → Card → Type 0
+ReadExact job blocks (Block done) card = IsSending done job blocks card
+ReadExact job blocks (Other Preset) card = IsIdle 0 card
+ReadExact job blocks (Other Command) card = IsIdle (preset_of job) card
+ReadExact job blocks (Other (Pause done polls)) card = ⊥
+ReadExact job blocks (Other Stop) card = IsSending job.count job blocks card
+ReadExact job blocks (Other (Finish polls)) card = IsIdle 0 card × AreStored job.count job blocks card
+ReadExact job blocks (Other Confirm) card = IsIdle 0 card × AreStored job.count job blocks card
+
+abbrev pub WriteExact : Job → List Sector → Phase → Card → Type 0
+WriteExact job blocks (Block done) card = IsTaking Rcv done job blocks card × (card.is_busy ≡ false)
+WriteExact job blocks (Other Preset) card = IsIdle 0 card
+WriteExact job blocks (Other Command) card = IsIdle (preset_of job) card
+WriteExact job blocks (Other (Pause done polls)) card =
+    IsTaking Rcv done job blocks card × IsBusyAfter polls card
+WriteExact job blocks (Other Stop) card = IsTaking Rcv job.count job blocks card × (card.is_busy ≡ false)
+WriteExact job blocks (Other (Finish polls)) card =
+    IsTaking Prg job.count job blocks card × IsBusyAfter polls card
+WriteExact job blocks (Other Confirm) card = IsIdle 0 card × IsCarriedOut job blocks card
+
+abbrev pub Exact : Job → List Sector → Phase → Card → Type 0
+Exact job blocks phase card = by_way job.way (ReadExact job blocks phase card) (WriteExact job blocks phase card)
+
+-- By this a card shows that it is there, whatever fell: that it is selected still, and at the end that it holds no error.
+abbrev pub Shown : Phase → Card → Type 0
+Shown (Block done) card = is_selected card.state ≡ true
+Shown (Other Stop) card = is_selected card.state ≡ true
+Shown (Other Confirm) card = (is_selected card.state ≡ true) × (card.errors ≡ 0)
+Shown _ card = Unit {0}
+
+-- the run is in this phase after so many faults in its turns
+abbrev pub IsIn : Job → List Sector → Phase → ℕ → BusView → Type 0
+IsIn job blocks phase faults view = IsUnderWay job.session (Shown phase) (Exact job blocks phase) faults view
+
+-- The effect of a run: a write is carried out, and what was read is what the sectors hold.
+abbrev pub HasEffect : Job → List Sector → Card → Type 0
+HasEffect job blocks card =
+    by_way job.way (AreRead (holds card) (part_of job.session) job.start blocks) (IsCarriedOut job blocks card)
+
+-- What a turn leaves: the run goes on, or it is done, or it has failed.
+abbrev pub IsLeft : Job → List Sector → Result (Option Phase) Cause → ℕ → BusView → Type 0
+IsLeft job blocks (Ok (Some phase)) faults view = IsIn job blocks phase faults view
+IsLeft job blocks (Ok None) faults view = IsReady job.session view × HasEffect job blocks view.card
+IsLeft job blocks (Err cause) faults view =
+    HasFailed (record { session = job.session; cause = cause; must_reset = false }) faults view
+
+-- A turn of a run from this phase: each sector that it names holds no more than before or its block, and no other more
+-- than before.
+pub record Turned (job : Job) (blocks : List Sector) (faults : ℕ) (old : BusView) (result : Result (Option Phase) Cause)
+    (new : BusView) : Type 0 where
+  pub stays : Stays old new
+  pub within : Within (holds new.card) (maybe_changed (change_of job blocks) (holds old.card))
+  pub left : IsLeft job blocks result (faults_then faults old new) new

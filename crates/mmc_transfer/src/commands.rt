@@ -1,0 +1,106 @@
+// The commands of a run, each with its R1 judged (SD Physical Layer 6.00, section 4.3; JESD84-B51, section 6.6).
+ghost use Rattle.std.specs.Prelude.{◌*◌, ◌<◌, ◌^◌, ◌≡◌, ◌⊎◌, IfErr, IsOk, Ok, false, true, ℕ};
+ghost use Rattle.mmc_frame.specs.Status.{error_bits};
+ghost use Rattle.mmc_card.specs.Card.{NoAddress};
+ghost use Rattle.mmc_card.specs.RowsTransfer.{preset_to, stopped};
+ghost use Rattle.mmc_bus.specs.Heard.{cause_of_response, is_inquiry_index};
+ghost use Rattle.mmc_bus.specs.Work.{Ends, Narrows, Works};
+ghost use Rattle.mmc_transfer.specs.Commands.{CanPreset, CanStart, CanStop, IsMoving, index_of, starts};
+
+use crate::way::Way;
+use bitflags::Flags;
+use mmc_bus::{Bus, Cause, Unheard, ask, card_laws, check_r1, transfer_laws};
+use mmc_frame::commands::{
+    READ_MULTIPLE_BLOCK, READ_SINGLE_BLOCK, SET_BLOCK_COUNT, STOP_TRANSMISSION, WRITE_BLOCK,
+    WRITE_MULTIPLE_BLOCK,
+};
+use mmc_frame::{Kind, Status, errors};
+
+/// Presets the count of the next transfer (CMD23).
+///
+/// # Errors
+/// `Answer` where no sound response was heard, `Status` where it shows an error.
+pub fn preset<B: Bus>(bus: &mut B, kind: Kind, count: u32) -> Result<(), Cause>
+    ensures ends { Ends 1 (B.view bus.old) result (B.view bus.new) }
+    ensures works { Works Narrows
+        (λ old new. IsOk result → old.card.erase ≡ NoAddress → new.card ≡ preset_to old.card count)
+        (λ old new. CanPreset kind old.card → IsOk result)
+        (B.view bus.old) (B.view bus.new) }
+{
+    transfer_laws::cmd23_presets_the_count();
+    card_laws::a_status_tells_of_its_card();
+    check_r1(kind, ask(bus, SET_BLOCK_COUNT, count))
+}
+
+// The command that begins a transfer.
+fn command_of(way: Way, is_single: bool) -> u8
+    ensures named { result ≡ index_of way is_single }
+    ensures below { result < 64 }
+    ensures checked { is_inquiry_index result ≡ false }
+{
+    match way {
+        Way::Read if is_single => READ_SINGLE_BLOCK,
+        Way::Read => READ_MULTIPLE_BLOCK,
+        Way::Write if is_single => WRITE_BLOCK,
+        Way::Write => WRITE_MULTIPLE_BLOCK,
+    }
+}
+
+/// Begins a transfer at this address, of one block (CMD17, CMD24) or of several (CMD18, CMD25).
+///
+/// # Errors
+/// `Answer` where no sound response was heard, `Status` where it shows an error.
+pub fn start<B: Bus>(
+    bus: &mut B,
+    kind: Kind,
+    way: Way,
+    is_single: bool,
+    address: u32,
+) -> Result<(), Cause>
+    ensures ends { Ends 1 (B.view bus.old) result (B.view bus.new) }
+    ensures works { Works Narrows
+        (λ old new. IsOk result → old.card.erase ≡ NoAddress → new.card ≡ starts way is_single old.card address)
+        (λ old new. CanStart kind way old.card address → IsOk result)
+        (B.view bus.old) (B.view bus.new) }
+{
+    transfer_laws::cmd17_begins_a_read();
+    transfer_laws::cmd18_begins_a_read_of_blocks();
+    transfer_laws::cmd24_begins_a_write();
+    transfer_laws::cmd25_begins_a_write_of_blocks();
+    card_laws::a_status_tells_of_its_card();
+    check_r1(kind, ask(bus, command_of(way, is_single), address))
+}
+
+// Judges the R1 of CMD12, in which OUT_OF_RANGE alone is no error where the last block was the partition's last sector
+// (SD Physical Layer 6.00, section 4.3.3; JESD84-B51, section 6.6.7).
+fn check_stop(kind: Kind, at_end: bool, heard: Result<u32, Unheard>) -> Result<(), Cause>
+    ensures ok { IsOk result → (status : ℕ) × (heard ≡ Ok status)
+        × ((error_bits kind status ≡ 0) ⊎ ((at_end ≡ true) × (error_bits kind status ≡ 2 ^ 31))) }
+    ensures all { (status : ℕ) → heard ≡ Ok status
+        → (error_bits kind status ≡ 0) ⊎ ((at_end ≡ true) × (error_bits kind status ≡ 2 ^ 31)) → IsOk result }
+    ensures cause { IfErr result (λ cause. cause ≡ cause_of_response heard) }
+{
+    let status = heard.map_err(|_| Cause::Answer)?;
+    let errors = errors(kind, status);
+    if errors.is_empty() || at_end && errors == Status::OUT_OF_RANGE {
+        Ok(())
+    } else {
+        Err(Cause::Status)
+    }
+}
+
+/// Ends a transfer (CMD12). At the end of the partition OUT_OF_RANGE alone is no error.
+///
+/// # Errors
+/// `Answer` where no sound response was heard, `Status` where it shows an error.
+pub fn stop<B: Bus>(bus: &mut B, kind: Kind, at_end: bool) -> Result<(), Cause>
+    ensures ends { Ends 1 (B.view bus.old) result (B.view bus.new) }
+    ensures works { Works Narrows
+        (λ old new. IsOk result → IsMoving old.card × (new.card ≡ stopped old.card))
+        (λ old new. CanStop kind at_end old.card → IsOk result)
+        (B.view bus.old) (B.view bus.new) }
+{
+    transfer_laws::cmd12_ends_a_transfer();
+    card_laws::a_status_tells_of_its_card();
+    check_stop(kind, at_end, ask(bus, STOP_TRANSMISSION, 0))
+}

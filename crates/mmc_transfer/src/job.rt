@@ -1,0 +1,80 @@
+// What a run is for.
+ghost use Rattle.std.specs.Prelude.{◌≡◌, ◌==◌, ◌+◌, ◌≤◌, IsSome, false};
+ghost use Rattle.mmc_switch.specs.UnderWay.{room_of};
+ghost use Rattle.mmc_transfer.specs.declared.way.Way.TheVariants.{Write};
+ghost use Rattle.mmc_transfer.specs.declared.job.TheConstants.{MAX_BLOCKS};
+ghost use Rattle.mmc_transfer.specs.Address.{address_of, is_counted_by};
+ghost use Rattle.mmc_transfer.specs.Fits.{first_of};
+
+use crate::phase::Step;
+use crate::way::Way;
+use mmc_frame::{Addressing, Kind};
+use mmc_switch::Session;
+
+/// The most blocks of a run.
+pub const MAX_BLOCKS: u32 = 1024;
+
+/// So many blocks, from this sector of the session's partition on.
+#[derive(Debug, Drop)]
+pub struct Job {
+    pub(crate) session: Session,
+    pub(crate) start: u64,
+    pub(crate) count: u32,
+    pub(crate) way: Way,
+    pub(crate) ghost selected: { IsSome session.selected },
+    pub(crate) ghost some: { 1 ≤ count },
+    pub(crate) ghost few: { count ≤ MAX_BLOCKS },
+    pub(crate) ghost inside: { start + count ≤ room_of session },
+    pub(crate) ghost writable: { way ≡ Write → session.info.read_only ≡ false },
+}
+
+impl Job {
+    // SD or eMMC.
+    pub(crate) fn kind(&self) -> Kind
+        ensures { result ≡ self.now.session.info.kind }
+    {
+        self.session.info().kind
+    }
+
+    // The RCA.
+    pub(crate) fn rca(&self) -> u16
+        ensures { result ≡ self.now.session.info.rca }
+    {
+        self.session.info().rca
+    }
+
+    // The argument of its commands: the first sector, or its first byte.
+    pub(crate) fn address(&self) -> u32
+        ensures { result ≡ address_of self.now.session.info.addressing self.now.start }
+    {
+        match self.session.info().addressing {
+            Addressing::Bytes => (512 * self.start) as u32,
+            Addressing::Sectors => self.start as u32,
+        }
+    }
+
+    // Whether the card knows how many blocks there are, so that it ends the transfer by itself.
+    pub(crate) fn is_counted(&self) -> bool
+        ensures { result ≡ is_counted_by self.now.count self.now.session.info.cmd23 }
+    {
+        self.count == 1 || self.session.info().cmd23
+    }
+
+    // Whether its last block is the last sector of the partition.
+    pub(crate) fn ends_partition(&self) -> bool
+        ensures { result ≡ (self.now.start + self.now.count == room_of self.now.session) }
+    {
+        self.session.room() == self.start + u64::from(self.count)
+    }
+
+    // The exchange that it begins with: CMD23, where the card knows it and there are several blocks.
+    pub(crate) fn first_step(&self) -> Step
+        ensures { result ≡ first_of self.now.count self.now.session.info.cmd23 }
+    {
+        if self.count > 1 && self.session.info().cmd23 {
+            Step::Preset
+        } else {
+            Step::Command
+        }
+    }
+}

@@ -1,0 +1,17 @@
+//! Runs of blocks: reads and writes of 1 to 1,024 sectors, an exchange at a time or as a whole.
+#![tactic(auto)]
+
+mod commands;
+mod job;
+mod moves;
+mod phase;
+mod run;
+mod steps;
+mod turns;
+mod way;
+mod whole;
+
+pub use job::MAX_BLOCKS;
+pub use run::Run;
+pub use way::Way;
+pub use whole::{read_run, write_run};

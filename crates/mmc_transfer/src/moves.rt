@@ -1,0 +1,86 @@
+// The phases of a run that move a block: one exchange each, and what comes behind it. The block is moved in place.
+ghost use Rattle.std.specs.Prelude.{◌≡◌, ◌+◌, ◌<◌, ◌≤◌, IfOk, IsTrue, List, length, true, ℕ};
+ghost use Rattle.mmc_bus.specs.Work.{Ends};
+ghost use Rattle.mmc_card.specs.Sectors.{Sector};
+ghost use Rattle.mmc_transfer.specs.Fits.{phase_left, some_fits, some_left};
+ghost use Rattle.mmc_transfer.specs.Moves.{after_read, after_written};
+ghost use Rattle.mmc_transfer.specs.Running.{IsIn, Turned};
+ghost use Rattle.mmc_transfer.specs.declared.phase.Phase.TheVariants.{Block};
+ghost use Rattle.mmc_transfer.specs.declared.way.Way.TheVariants.{Read, Write};
+
+use crate::job::Job;
+use crate::phase::{Phase, Step};
+use mmc_bus::{Blocks, BlocksMut, Bus, Cause, offer, receive};
+
+// What comes once so many blocks are written: polls, or the last polls where the card knows that it was the last block.
+fn after_written(job: &Job, done: u32) -> Step
+    ensures { result ≡ after_written job.now done }
+{
+    if done == job.count && job.is_counted() {
+        Step::Finish { polls: 0 }
+    } else {
+        Step::Pause { done, polls: 0 }
+    }
+}
+
+// What comes once so many blocks are read: the next one, nothing where the card knows that it was the last, or CMD12.
+fn after_read(job: &Job, done: u32) -> Option<Phase>
+    ensures { result ≡ after_read job.now done }
+{
+    if done < job.count {
+        Some(Phase::Block { done })
+    } else if job.is_counted() {
+        None
+    } else {
+        Some(Phase::Other(Step::Stop))
+    }
+}
+
+/// Writes the next block of a run, after so many.
+///
+/// # Errors
+/// `Data` where the card doesn't accept it.
+pub fn give<B: Bus, D: Blocks>(
+    bus: &mut B,
+    job: &Job,
+    done: u32,
+    blocks: &D,
+) -> Result<Option<Phase>, Cause>
+    requires way { job.now.way ≡ Write }
+    requires more { done < job.now.count }
+    requires count { length (D.blocks blocks.now) ≡ job.now.count }
+    ensures ends { Ends 1 (B.view bus.old) result (B.view bus.new) }
+    ensures kept { (B.view bus.new).is_kept ≡ true → (B.view bus.old).is_kept ≡ true }
+    ensures fits { IfOk result (λ next. IsTrue (some_fits job.now.count job.now.session.info.cmd23 next)) }
+    ensures lowers { IfOk result (λ next. some_left job.now.count job.now.session.info.cmd23 next < phase_left job.now.count job.now.session.info.cmd23 (Block done)) }
+    ensures turned { (B.view bus.new).is_kept ≡ true → (faults : ℕ) → IsIn job.now (D.blocks blocks.now) (Block done) faults (B.view bus.old)
+        → Turned job.now (D.blocks blocks.now) faults (B.view bus.old) result (B.view bus.new) }
+{
+    offer(bus, blocks.block(done as usize))?;
+    Ok(Some(Phase::Other(after_written(job, done + 1))))
+}
+
+/// Reads the next block of a run, after so many, into its place.
+///
+/// # Errors
+/// `Data` where it doesn't come with a good check. What the block's place holds is open then.
+pub fn take<B: Bus, D: BlocksMut>(
+    bus: &mut B,
+    job: &Job,
+    done: u32,
+    blocks: &mut D,
+) -> Result<Option<Phase>, Cause>
+    requires way { job.now.way ≡ Read }
+    requires more { done < job.now.count }
+    requires count { length (D.blocks blocks.old) ≡ job.now.count }
+    ensures ends { Ends 1 (B.view bus.old) result (B.view bus.new) }
+    ensures kept { (B.view bus.new).is_kept ≡ true → (B.view bus.old).is_kept ≡ true }
+    ensures count { length (D.blocks blocks.new) ≡ length (D.blocks blocks.old) }
+    ensures fits { IfOk result (λ next. IsTrue (some_fits job.now.count job.now.session.info.cmd23 next)) }
+    ensures lowers { IfOk result (λ next. some_left job.now.count job.now.session.info.cmd23 next < phase_left job.now.count job.now.session.info.cmd23 (Block done)) }
+    ensures turned { (B.view bus.new).is_kept ≡ true → (faults : ℕ) → IsIn job.now (D.blocks blocks.old) (Block done) faults (B.view bus.old)
+        → Turned job.now (D.blocks blocks.new) faults (B.view bus.old) result (B.view bus.new) }
+{
+    receive(bus, blocks.block_mut(done as usize))?;
+    Ok(after_read(job, done + 1))
+}

@@ -1,0 +1,27 @@
+// Where a run is: the exchange that comes next.
+
+/// The next exchange of a run.
+#[derive(Clone, Copy, Debug, PartialEq, Eq)]
+pub enum Phase {
+    /// A block, after so many.
+    Block { done: u32 },
+    /// Another one, the same for reads and writes.
+    Other(Step),
+}
+
+/// An exchange of a run that moves no block.
+#[derive(Clone, Copy, Debug, PartialEq, Eq)]
+pub enum Step {
+    /// CMD23.
+    Preset,
+    /// The command that begins the transfer.
+    Command,
+    /// A poll between the blocks of a write: after so many blocks, and so many polls behind the last one.
+    Pause { done: u32, polls: u64 },
+    /// CMD12.
+    Stop,
+    /// A poll behind what ended the transfer, after so many.
+    Finish { polls: u64 },
+    /// CMD13.
+    Confirm,
+}

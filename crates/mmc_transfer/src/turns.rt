@@ -1,0 +1,112 @@
+// Runs of blocks, a turn at a time: each turn is one exchange.
+ghost use Rattle.std.specs.Prelude.{◌≡◌, ◌*◌, ◌+◌, ◌≤◌, IfOk, IsSome, IsTrue, List, false, length, true, ℕ};
+ghost use Rattle.mmc_card.specs.BusView.{BusView};
+ghost use Rattle.mmc_card.specs.Sectors.{Sector};
+ghost use Rattle.mmc_switch.specs.Place.{IsReady};
+ghost use Rattle.mmc_switch.specs.UnderWay.{room_of};
+ghost use Rattle.mmc_transfer.specs.declared.job.TheConstants.{MAX_BLOCKS};
+ghost use Rattle.mmc_transfer.specs.declared.way.Way.TheVariants.{Read, Write};
+ghost use Rattle.mmc_transfer.specs.Run.{FailsBy, HasProgressed, HasTurned, IsRunning, IsSameRun, Lowers, exchanges_left};
+ghost use Rattle.mmc_transfer.specs.Fits.{some_fits};
+
+use crate::job::{Job, MAX_BLOCKS};
+use crate::moves::{give, take};
+use crate::phase::Phase;
+use crate::run::Run;
+use crate::steps::step;
+use crate::way::Way;
+use mmc_bus::{Blocks, BlocksMut, Bus, Cause};
+use mmc_switch::{Progress, Session};
+
+impl Run {
+    /// Begins a run of so many blocks, 1 to `MAX_BLOCKS`, from this sector of the selected partition on, inside which they
+    /// are; to write them the card isn't write protected. Nothing is sent yet.
+    pub fn begin(session: Session, start: u64, count: u32, way: Way) -> Run
+        requires selected { IsSome session.selected }
+        requires some { 1 ≤ count }
+        requires few { count ≤ MAX_BLOCKS }
+        requires inside { start + count ≤ room_of session }
+        requires writable { way ≡ Write → session.info.read_only ≡ false }
+        ensures session { result.job.session ≡ session }
+        ensures start { result.job.start ≡ start }
+        ensures count { result.job.count ≡ count }
+        ensures way { result.job.way ≡ way }
+        ensures bounded { exchanges_left result ≤ 17 * count + 19 }
+        ensures running { (view : BusView) (blocks : List Sector) → IsReady session view → IsRunning result blocks 0 view }
+    {
+        let job = Job {
+            session,
+            start,
+            count,
+            way,
+        };
+        let first = job.first_step();
+        Run {
+            job,
+            phase: Phase::Other(first),
+        }
+    }
+
+    /// The next exchange of a write, with the same blocks at each turn.
+    pub fn write_turn<B: Bus, D: Blocks>(self, bus: &mut B, blocks: &D) -> Progress<Run>
+        requires way { self.job.way ≡ Write }
+        requires count { length (D.blocks blocks.now) ≡ self.job.count }
+        ensures bounded { (B.view bus.new).exchanges ≤ (B.view bus.old).exchanges + 1 }
+        ensures kept { (B.view bus.new).is_kept ≡ true → (B.view bus.old).is_kept ≡ true }
+        ensures same { IsSameRun self result }
+        ensures lowers { Lowers self result }
+        ensures cause { FailsBy result (B.view bus.new) }
+        ensures turned { (B.view bus.new).is_kept ≡ true → (faults : ℕ) → IsRunning self (D.blocks blocks.now) faults (B.view bus.old)
+            → HasTurned self (D.blocks blocks.now) faults (B.view bus.old) result (B.view bus.new) }
+    {
+        let Run { job, phase } = self;
+        match phase {
+            Phase::Block { done } => {
+                let result = give(bus, &job, done, blocks);
+                progress(job, result)
+            }
+            Phase::Other(other) => {
+                let result = step(bus, &job, other);
+                progress(job, result)
+            }
+        }
+    }
+
+    /// The next exchange of a read, with the same blocks at each turn. What they hold is open until the read is done.
+    pub fn read_turn<B: Bus, D: BlocksMut>(self, bus: &mut B, blocks: &mut D) -> Progress<Run>
+        requires way { self.job.way ≡ Read }
+        requires count { length (D.blocks blocks.old) ≡ self.job.count }
+        ensures bounded { (B.view bus.new).exchanges ≤ (B.view bus.old).exchanges + 1 }
+        ensures kept { (B.view bus.new).is_kept ≡ true → (B.view bus.old).is_kept ≡ true }
+        ensures same { IsSameRun self result }
+        ensures count { length (D.blocks blocks.new) ≡ length (D.blocks blocks.old) }
+        ensures lowers { Lowers self result }
+        ensures cause { FailsBy result (B.view bus.new) }
+        ensures turned { (B.view bus.new).is_kept ≡ true → (faults : ℕ) → IsRunning self (D.blocks blocks.old) faults (B.view bus.old)
+            → HasTurned self (D.blocks blocks.new) faults (B.view bus.old) result (B.view bus.new) }
+    {
+        let Run { job, phase } = self;
+        match phase {
+            Phase::Block { done } => {
+                let result = take(bus, &job, done, blocks);
+                progress(job, result)
+            }
+            Phase::Other(other) => {
+                let result = step(bus, &job, other);
+                progress(job, result)
+            }
+        }
+    }
+}
+
+// What an exchange makes of a run.
+fn progress(job: Job, outcome: Result<Option<Phase>, Cause>) -> Progress<Run>
+    requires fits { IfOk outcome (λ next. IsTrue (some_fits job.count job.session.info.cmd23 next)) }
+    ensures { HasProgressed job outcome result }
+{
+    match outcome {
+        Ok(Some(phase)) => Progress::More(Run { job, phase }),
+        Ok(None) => Progress::Done(job.session),
+        Err(cause) => Progress::Failed(job.session.break_off(cause)),
+    }
+}
