@@ -8,7 +8,7 @@ use Rattle.text_out.specs.Writing.{AppendsFront, Writes}
 use Rattle.text_out.proofs.WritingLemmas.{appends_none, appends_more, front_after}
 use Rattle.mmc_card.specs.BusView.{BusView}
 use Rattle.mmc_block.specs.declared.completion.Completion.{Completion}
-use Rattle.mmc_block.specs.declared.info.Info.{Info}
+use Rattle.mmc_switch.specs.declared.info.Info.{Info}
 use Rattle.mmc_block.specs.declared.refused.Refused.{Refused}
 use Rattle.mmc_block.specs.declared.request.Request.{Request}
 use Rattle.mmc_block.specs.Answers.{any_failed}

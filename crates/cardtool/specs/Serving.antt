@@ -6,7 +6,7 @@ use Rattle.text_out.specs.Writing.{AppendsFront, Writes}
 use Rattle.mmc_card.specs.Faults.{NoFault}
 use Rattle.mmc_card.specs.BusView.{BusView}
 use Rattle.mmc_block.specs.declared.completion.Completion.{Completion}
-use Rattle.mmc_block.specs.declared.info.Info.{Info}
+use Rattle.mmc_switch.specs.declared.info.Info.{Info}
 use Rattle.mmc_block.specs.Answers.{any_failed}
 use Rattle.mmc_block.specs.Device.{Agrees, DeviceView}
 use Rattle.mmc_block.specs.InOrder.{answers_in}
@@ -182,6 +182,12 @@ ServesScript view old_device new_device script old new (Ok bad) =
     ServesUpTo view old_device new_device script [] old new bad
 ServesScript view old_device new_device script old new (Err e) =
     ServesPrefix view old_device new_device script old new
+
+-- Events were played on a device: over a bus that is kept to the end they were served.
+pub record Plays {B E : Type 0} (view : B → BusView) (old_device new_device : DeviceView B) (script : List ScriptEvent)
+    (old new : Option (List ℕ)) (result : Result Bool E) : Type 0 where
+  pub later_device : IsLaterDevice view old_device new_device
+  pub serves : (view new_device.bus).is_kept ≡ true → ServesScript view old_device new_device script old new result
 
 -- what is answered where lines were printed
 abbrev pub answer_if_printed : {E : Type 0} → Bool → Result Unit E → Result Bool E

@@ -1,5 +1,5 @@
 -- The whole: a script that is served, the text of its answers, the trace behind it, and the status.
-use Rattle.std.specs.Prelude.{◌≡◌, ◌⊎◌, ◌<◌, ◌≤◌, ℕ, IfSome, List, [], ◌∷◌, ◌++◌, codes, length, Bool, false, Option}
+use Rattle.std.specs.Prelude.{◌≡◌, ◌-◌, ◌≤◌, ℕ, List, [], ◌∷◌, ◌++◌, codes, length, Bool, false, true, Option}
 use Rattle.std.specs.Prelude.{None, Some, Result, Ok, Err, if◌then◌else◌, ⊤}
 use Rattle.std.specs.Fmt.{decimal}
 use Rattle.std.specs.List.{All}
@@ -8,28 +8,32 @@ use Rattle.text_out.specs.Writing.{AppendsFront}
 use Rattle.mmc_card.specs.declared.exchange.Exchange.{Exchange}
 use Rattle.mmc_bus.specs.ExchangeText.{lines_text}
 use Rattle.mmc_bus.specs.Trace.{HasItsFrame}
-use Rattle.mmc_card.specs.Card.{holds}
-use Rattle.mmc_card_sim.specs.PlainCard.{new_plain_card}
+use Rattle.mmc_card.specs.BusView.{BusView}
+use Rattle.mmc_card.specs.Card.{Card, holds, powered_on}
+use Rattle.mmc_card.specs.Made.{Made}
+use Rattle.mmc_card.specs.Profile.{InProfile}
 use Rattle.mmc_card.specs.declared.part.Part.{Part}
 use Rattle.mmc_card.specs.Sectors.{Sector, Sets, Within}
-use Rattle.mmc_block.specs.declared.info.Info.{Info}
+use Rattle.mmc_card_sim.specs.CardSpec.{refusal_of}
+use Rattle.mmc_card_sim.specs.Registers.{made_of}
+use Rattle.mmc_card_sim.specs.SimView.{first_parts}
+use Rattle.mmc_card_sim.specs.declared.spec.BuildFault.{BuildFault}
+use Rattle.mmc_card_sim.specs.declared.spec.BuildFault.TheVariants as Refused
+use Rattle.mmc_card_sim.specs.declared.spec.CardSpec.{CardSpec}
+use Rattle.mmc_switch.specs.Info.{IsInfo}
+use Rattle.mmc_switch.specs.declared.info.Info.{Info}
 use Rattle.mmc_block.specs.Device.{opened}
-use Rattle.mmc_block.specs.InOrder.{EndsInOrder, IsInOrder, MayHold, history}
+use Rattle.mmc_block.specs.InOrder.{AreDecided, EndsInOrder, IsInOrder, MayHold, history}
 use Rattle.mmc_block.specs.Machine.{Machine}
+use Rattle.mmc_block.specs.declared.open_fault.OpenFault.{OpenFault}
+use Rattle.mmc_block.specs.declared.open_fault.OpenFault.TheVariants as Unopened
 use Rattle.mmc_block.specs.Run.{Event as MachineEvent, Reply, Runs}
 use Rattle.cardtool.specs.declared.event.ScriptEvent.{ScriptEvent}
-use Rattle.cardtool.specs.declared.fault.ServeFault.{ServeFault}
-use Rattle.cardtool.specs.declared.fault.ServeFault.TheVariants.{CardIncomplete, CardLine, NoMemory, ReadCard}
-use Rattle.cardtool.specs.declared.fault.ServeFault.TheVariants.{ReadScript, ScriptLine, TooLong, Write}
 use Rattle.cardtool.specs.declared.event.ScriptEvent.TheVariants.{Run}
-use Rattle.cardtool.specs.declared.serve.TheConstants.{MAX_CARD_FILE, MAX_SCRIPT}
-use Rattle.cardtool.specs.CardFile.{IsFirstBadCardLine, sectors_in}
-use Rattle.cardtool.specs.Script.{IsFirstBadLine, events_in, lines}
+use Rattle.cardtool.specs.declared.fault.ServeFault.{ServeFault}
+use Rattle.cardtool.specs.declared.fault.ServeFault.TheVariants.{ImageSize, Locked, NoCard, NoMemory, Register}
+use Rattle.cardtool.specs.declared.fault.ServeFault.TheVariants.{Unsupported, Voltage, Write}
 use Rattle.cardtool.specs.Serving.{FollowScript, any_bad, any_failure, texts}
-
--- what a device knows of a card of this size that it opens
-abbrev pub plain_info : ℕ → Info
-plain_info sectors = record { user_sectors = sectors; read_only = false }
 
 -- 1 where some request was refused or failed
 abbrev pub status_of : Bool → ℕ
@@ -39,6 +43,20 @@ status_of bad = if bad then 1 else 0
 abbrev pub outcome_of : {E : Type 0} → Result Bool E → Result ℕ ServeFault
 outcome_of (Ok bad) = Ok (status_of bad)
 outcome_of (Err e) = Err Write
+
+-- what is printed of a card that wasn't built
+abbrev pub building_fault : BuildFault → ServeFault
+building_fault Refused.Register = Register
+building_fault Refused.ImageSize = ImageSize
+building_fault Refused.NoMemory = NoMemory
+
+-- what is printed of a card that wasn't opened
+abbrev pub opening_fault : OpenFault → ServeFault
+opening_fault Unopened.NoMemory = NoMemory
+opening_fault Unopened.NoCard = NoCard
+opening_fault Unopened.Voltage = Voltage
+opening_fault Unopened.Unsupported = Unsupported
+opening_fault Unopened.Locked = Locked
 
 -- the exit status, or the fault of a write behind it
 abbrev pub ended_by : {E : Type 0} → ℕ → Result Unit E → Result ℕ ServeFault
@@ -85,9 +103,11 @@ pub record RunOverSectors (info : Info) (before later : Sets) (fell : ℕ) (scri
   pub none_failed : fell ≡ 0 → any_failure replies ≡ false
 
 -- The script was served and its text went out, with the trace behind it, and the status tells how its requests fared.
-pub record IsServedToItsEnd (info : Info) (before later : Sets) (fell : ℕ) (script : List ScriptEvent)
+pub record IsServedToItsEnd (made : Made) (before later : Sets) (fell : ℕ) (script : List ScriptEvent)
     (trace : Option ℕ)
     (old new : Option (List ℕ)) (status : ℕ) : Type 0 where
+  pub info : Info
+  pub of_card : IsInfo made info
   pub events : List MachineEvent
   pub replies : List Reply
   pub run : RunOverSectors info before later fell script [] events replies
@@ -98,8 +118,10 @@ pub record IsServedToItsEnd (info : Info) (before later : Sets) (fell : ℕ) (sc
   pub status_is : status ≡ status_of (any_bad replies)
 
 -- After a write fault a prefix of the script was served, and a prefix of what is printed of it went out.
-pub record IsServedInPart (info : Info) (before later : Sets) (fell : ℕ) (script : List ScriptEvent) (trace : Option ℕ)
+pub record IsServedInPart (made : Made) (before later : Sets) (fell : ℕ) (script : List ScriptEvent) (trace : Option ℕ)
     (old new : Option (List ℕ)) : Type 0 where
+  pub info : Info
+  pub of_card : IsInfo made info
   pub events : List MachineEvent
   pub replies : List Reply
   -- what of the script wasn't served
@@ -110,70 +132,67 @@ pub record IsServedInPart (info : Info) (before later : Sets) (fell : ℕ) (scri
   pub traced : IsTraceBehind trace left text_behind
   pub printed : AppendsFront old new (texts events replies ++ text_behind)
 
--- what became of a script; where memory was refused nothing was served or printed
-abbrev pub IsServed : Info → Sets → Sets → ℕ → List ScriptEvent → Option ℕ → Option (List ℕ) → Option (List ℕ)
+-- The card wasn't opened: nothing was printed, no sector may hold more, and a card in profile had three faults at least.
+pub record IsUnopened (made : Made) (before later : Sets) (fell : ℕ) (old new : Option (List ℕ)) : Type 0 where
+  pub unwritten : new ≡ old
+  pub within : Within later before
+  pub three_fell : InProfile made → 3 ≤ fell
+
+-- What became of a script on a card that is made so, whose sectors held `before` and then `later`, while so many faults
+-- fell. Where memory was refused nothing was served or printed.
+abbrev pub IsServed : Made → Sets → Sets → ℕ → List ScriptEvent → Option ℕ → Option (List ℕ) → Option (List ℕ)
     → Result ℕ ServeFault → Type 0
-IsServed info before later fell script trace old new (Ok status) =
-    IsServedToItsEnd info before later fell script trace old new status
-IsServed info before later fell script trace old new (Err NoMemory) = (later ≡ before) × (new ≡ old)
-IsServed info before later fell script trace old new (Err Write) =
-    IsServedInPart info before later fell script trace old new
-IsServed info before later fell script trace old new (Err fault) = ⊥
+IsServed made before later fell script trace old new (Ok status) =
+    IsServedToItsEnd made before later fell script trace old new status
+IsServed made before later fell script trace old new (Err Write) =
+    IsServedInPart made before later fell script trace old new
+IsServed made before later fell script trace old new (Err NoMemory) = (later ≡ before) × (new ≡ old)
+IsServed made before later fell script trace old new (Err NoCard) = IsUnopened made before later fell old new
+IsServed made before later fell script trace old new (Err Voltage) = IsUnopened made before later fell old new
+IsServed made before later fell script trace old new (Err Unsupported) = IsUnopened made before later fell old new
+IsServed made before later fell script trace old new (Err Locked) = IsUnopened made before later fell old new
+IsServed made before later fell script trace old new (Err fault) = ⊥
+
+-- So over a bus that is kept to the end, if the sectors of its card were decided. At the script's end turns are taken
+-- until nothing waits.
+abbrev pub IsServedOver : BusView → BusView → List ScriptEvent → Option ℕ → Option (List ℕ) → Option (List ℕ)
+    → Result ℕ ServeFault → Type 0
+IsServedOver before later script trace old new result =
+    later.is_kept ≡ true → AreDecided (holds before.card)
+    → IsServed before.card.made (holds before.card) (holds later.card) (later.faults - before.faults)
+    (script ++ Run ∷ []) trace old new result
 
 -- nothing went out, unless the writer failed
 abbrev pub IsUnwritten : Option (List ℕ) → Option (List ℕ) → ServeFault → Type 0
 IsUnwritten old new fault = (fault ≡ Write → ⊥) → new ≡ old
 
--- The files: why they weren't read, or what they say.
+-- A new card in memory.
 
--- a file that is longer than it may be, as far as its reader tells
-abbrev pub IsLonger : Option (List ℕ) → ℕ → Type 0
-IsLonger file limit = IfSome file (λ all. limit < length all)
+-- the card of a spec, after power on
+abbrev pub new_card : CardSpec → Card
+new_card spec = powered_on (made_of spec.registers) (first_parts spec)
 
--- a file wasn't read: its reader failed, which this fault says, or it is too long, or memory was refused
-abbrev pub IsUnread : Option (List ℕ) → ℕ → ServeFault → ServeFault → Type 0
-IsUnread file limit unread fault = (fault ≡ unread) ⊎ ((fault ≡ NoMemory) ⊎ ((fault ≡ TooLong) × IsLonger file limit))
-
--- the card file gives its sectors, as far as its reader tells
-abbrev pub HasSectors : Option (List ℕ) → Type 0
-HasSectors card = IfSome card (λ all. (sectors : ℕ) × (sectors_in (lines all) ≡ Some (sectors ∷ [])))
-
--- What a fault says of the card file and the script, where they were refused or memory was. The card file comes first:
--- a fault of the script comes only where it was taken.
-abbrev pub AreRefused : Option (List ℕ) → Option (List ℕ) → ServeFault → Type 0
-AreRefused card script ReadCard = ⊤
-AreRefused card script ReadScript = HasSectors card
-AreRefused card script NoMemory = ⊤
-AreRefused card script TooLong = IsLonger card MAX_CARD_FILE ⊎ (HasSectors card × IsLonger script MAX_SCRIPT)
-AreRefused card script (CardLine n) = IfSome card (λ all. IsFirstBadCardLine (lines all) n)
-AreRefused card script CardIncomplete = IfSome card (λ all. sectors_in (lines all) ≡ Some [])
-AreRefused card script (ScriptLine n) = HasSectors card × IfSome script (λ all. IsFirstBadLine (lines all) n)
-AreRefused card script Write = ⊥
-
--- The card file's text gives so many sectors, and the script's text these events; they are the files' texts, as far as
--- the readers tell.
-pub record AreRead (card script : Option (List ℕ)) (sectors : ℕ) (events : List ScriptEvent) : Type 0 where
-  pub card_text : List ℕ
-  pub script_text : List ℕ
-  pub card_file : IfSome card (λ all. card_text ≡ all)
-  pub script_file : IfSome script (λ all. script_text ≡ all)
-  pub sectors_are : sectors_in (lines card_text) ≡ Some (sectors ∷ [])
-  pub events_are : events_in (lines script_text) ≡ Some events
-
--- the files were read, and the events were served on a new plain card, without a fault
-pub record IsServedOnNewCard (card script : Option (List ℕ)) (trace : Option ℕ) (old new : Option (List ℕ))
-    (result : Result ℕ ServeFault) : Type 0 where
-  pub sectors : ℕ
-  pub events : List ScriptEvent
+-- a script was served on a new card, by some faults
+pub record IsServedOnNewCard (spec : CardSpec) (script : List ScriptEvent) (trace : Option ℕ)
+    (old new : Option (List ℕ)) (result : Result ℕ ServeFault) : Type 0 where
   -- what the card holds then
   pub later : Sets
-  pub read : AreRead card script sectors events
-  pub served : IsServed (plain_info sectors) (holds (new_plain_card sectors)) later 0 (events ++ Run ∷ []) trace old new
+  pub fell : ℕ
+  pub served : IsServed (made_of spec.registers) (holds (new_card spec)) later fell (script ++ Run ∷ []) trace old new
       result
 
--- So with an exit status, or a write fault; with any other fault nothing was written.
-abbrev pub IsOutcomeOfFiles : Option (List ℕ) → Option (List ℕ) → Option ℕ → Option (List ℕ) → Option (List ℕ)
+-- why a card isn't built: what its spec is refused for, or want of memory
+abbrev pub IsWhyUnbuilt : CardSpec → ServeFault → Type 0
+IsWhyUnbuilt spec Register = refusal_of spec ≡ Some Refused.Register
+IsWhyUnbuilt spec ImageSize = refusal_of spec ≡ Some Refused.ImageSize
+IsWhyUnbuilt spec NoMemory = ⊤
+IsWhyUnbuilt spec fault = ⊥
+
+-- what became of a script on the card of a spec
+abbrev pub IsServedOnSpec : CardSpec → List ScriptEvent → Option ℕ → Option (List ℕ) → Option (List ℕ)
     → Result ℕ ServeFault → Type 0
-IsOutcomeOfFiles card script trace old new (Ok status) = IsServedOnNewCard card script trace old new (Ok status)
-IsOutcomeOfFiles card script trace old new (Err Write) = IsServedOnNewCard card script trace old new (Err Write)
-IsOutcomeOfFiles card script trace old new (Err fault) = (new ≡ old) × AreRefused card script fault
+IsServedOnSpec spec script trace old new (Err Register) =
+    IsWhyUnbuilt spec Register × (new ≡ old)
+IsServedOnSpec spec script trace old new (Err ImageSize) =
+    IsWhyUnbuilt spec ImageSize × (new ≡ old)
+IsServedOnSpec spec script trace old new result = IsServedOnNewCard spec script trace old new result

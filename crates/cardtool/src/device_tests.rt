@@ -1,41 +1,14 @@
-// The device over a card in memory.
-ghost use Rattle.std.specs.Prelude.{IfSome};
-ghost use Rattle.mmc_block.specs.Place.{IsReady};
-ghost use Rattle.mmc_card_sim.specs.PlainCard.{plain_bus_view};
-
-use crate::serve::new_card;
+// The device over a card in memory, and over a bus that falls silent.
+use crate::test_cards::{answers_of_m, built, card_a, ext_csd_m};
 use mmc_block::*;
-use mmc_bus::{Bytes, Part, TraceBus};
-use mmc_card_sim::PlainCard;
-use std::alloc::Global;
+use mmc_bus::{Bytes, Part, ScriptedBus, TraceBus};
 use std::test::Fail;
-
-// A new card of four sectors.
-fn small_card(alloc: Global) -> Option<PlainCard>
-    ensures { IfSome result (λ plain. IsReady 4 (plain_bus_view plain)) }
-{
-    match new_card(alloc, 4) {
-        Ok(card) => Some(card),
-        Err(_) => None,
-    }
-}
-
-// Such a card on a bus that keeps its last exchanges.
-fn small_traced_card(alloc: Global) -> Option<TraceBus<PlainCard>>
-    ensures { IfSome result (λ bus. IsReady 4 (plain_bus_view bus.bus)) }
-{
-    match TraceBus::new(alloc, small_card(alloc)?, 16) {
-        Ok(bus) => Some(bus),
-        Err(_) => None,
-    }
-}
 
 #[test]
 fn serves_requests_in_order(rt: HostRuntime) -> Result<(), Fail> {
-    let bus = small_traced_card(rt.alloc()).ok_or("no card")?;
-    let mut device = BlockDev::open_plain(rt.alloc(), bus, 4)
-        .ok()
-        .ok_or("no device")?;
+    let card = built(rt.alloc(), card_a())?;
+    let bus = TraceBus::new(rt.alloc(), card, 64).ok().ok_or("no trace")?;
+    let mut device = BlockDev::open(rt.alloc(), bus).ok().ok_or("no device")?;
     assert_eq!(rt; device.info().sectors(Part::User), Some(4));
     assert_eq!(rt; device.info().sectors(Part::Boot1), None);
     assert!(rt; !device.info().read_only);
@@ -84,22 +57,20 @@ fn serves_requests_in_order(rt: HostRuntime) -> Result<(), Fail> {
         }
         _ => assert!(rt; false),
     }
-    // CMD24, the block, a poll and CMD13; CMD17 and the block
-    assert_eq!(rt; device.close().len(), 6);
+    // 17 exchanges open the card; CMD24, the block, a poll and CMD13; CMD17 and the block
+    assert_eq!(rt; device.close().len(), 17 + 4 + 2);
     Ok(())
 }
 
 // The first refusal in the order of `Refused` comes, with the request.
 #[test]
 fn refuses_in_order(rt: HostRuntime) -> Result<(), Fail> {
-    let card = small_card(rt.alloc()).ok_or("no card")?;
-    let mut device = BlockDev::open_plain(rt.alloc(), card, 4)
-        .ok()
-        .ok_or("no device")?;
+    let card = built(rt.alloc(), card_a())?;
+    let mut device = BlockDev::open(rt.alloc(), card).ok().ok_or("no device")?;
     for (part, start, count, len, refused) in [
         (Part::Boot1, 9, 0, 1, Refused::NoSuchPartition),
         (Part::User, 9, 0, 1, Refused::Empty),
-        (Part::User, 9, 2, 1, Refused::TooLong),
+        (Part::User, 9, 1025, 1, Refused::TooLong),
         (Part::User, u64::MAX, 1, 1, Refused::OutOfRange),
         (Part::User, 3, 1, 511, Refused::WrongLength),
     ] {
@@ -122,5 +93,33 @@ fn refuses_in_order(rt: HostRuntime) -> Result<(), Fail> {
         }
         assert_eq!(rt; device.waiting(), 0);
     }
+    Ok(())
+}
+
+// The bus falls silent once the card is open: the first request fails by it, and every later one for want of recovery.
+#[test]
+fn fails_once_by_the_bus_and_then_for_recovery(rt: HostRuntime) -> Result<(), Fail> {
+    let bus = ScriptedBus::new(answers_of_m(rt.alloc(), ext_csd_m())?);
+    let bus = TraceBus::new(rt.alloc(), bus, 64).ok().ok_or("no trace")?;
+    let mut device = BlockDev::open(rt.alloc(), bus).ok().ok_or("no device")?;
+    for (ticket, cause) in [(0, Cause::Answer), (1, Cause::Recovery)] {
+        let read = Request::Read {
+            part: Part::User,
+            start: 0,
+            count: 1,
+        };
+        assert_eq!(rt; device.submit(rt.alloc(), 1, read).ok(), Some(ticket));
+        match device.turn().pop() {
+            Some(
+                Completion {
+                    answer: Answer::Failed(why),
+                    ..
+                },
+            ) => assert_eq!(rt; why, cause),
+            _ => assert!(rt; false),
+        }
+    }
+    // 22 exchanges open the card, and one command has no answer
+    assert_eq!(rt; device.close().len(), 22 + 1);
     Ok(())
 }

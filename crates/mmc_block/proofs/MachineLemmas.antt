@@ -5,7 +5,7 @@ use Rattle.mmc_card.specs.Sectors.{IsDecided, Sector, Sets, touches, value_of}
 use Rattle.mmc_block.specs.declared.completion.Answer.{Answer}
 use Rattle.mmc_block.specs.declared.completion.Answer.TheVariants.{Data, Done, Failed}
 use Rattle.mmc_block.specs.declared.completion.Completion.{Completion}
-use Rattle.mmc_block.specs.declared.info.Info.{Info}
+use Rattle.mmc_switch.specs.declared.info.Info.{Info}
 use Rattle.mmc_block.specs.declared.request.Request.{Request}
 use Rattle.mmc_block.specs.Answers.{is_failed}
 use Rattle.mmc_block.specs.Machine.{Completes, CompletesAll, Decides, IsAnswered, Machine, StartsIfIdle, Turns, Waiting}

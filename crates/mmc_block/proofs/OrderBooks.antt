@@ -4,7 +4,7 @@ use Rattle.std.proofs.Common.{inr, refl, subst, sym, ℕ}
 use Rattle.std.proofs.lemmas.Bool.{cases_eq}
 use Rattle.mmc_block.specs.declared.completion.Answer.{Answer}
 use Rattle.mmc_block.specs.declared.completion.Completion.{Completion}
-use Rattle.mmc_block.specs.declared.info.Info.{Info}
+use Rattle.mmc_switch.specs.declared.info.Info.{Info}
 use Rattle.mmc_block.specs.declared.request.Request.{Request}
 use Rattle.mmc_block.specs.Machine.{Completes, GivesBack, Machine, PassesNone, Starts, StartsIfIdle, Waiting}
 use Rattle.mmc_block.specs.MachineLaws.{IsAmong}

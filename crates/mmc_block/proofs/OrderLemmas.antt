@@ -7,7 +7,7 @@ use Rattle.mmc_card.specs.declared.part.Part.{Part}
 use Rattle.mmc_card.specs.Sectors.{Sector, part_number, pieces, touches, value_of}
 use Rattle.mmc_card.proofs.SectorLemmas.{by_touch, same_part, untouched}
 use Rattle.mmc_block.specs.declared.completion.Answer.{Answer}
-use Rattle.mmc_block.specs.declared.info.Info.{Info}
+use Rattle.mmc_switch.specs.declared.info.Info.{Info}
 use Rattle.mmc_block.specs.declared.request.Request.{Request}
 use Rattle.mmc_block.specs.declared.request.Request.TheVariants.{Read, Write}
 use Rattle.mmc_block.specs.InOrder.{below, effect_at, in_turn, settled}

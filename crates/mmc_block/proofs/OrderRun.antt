@@ -9,7 +9,7 @@ use Rattle.mmc_card.specs.Sectors.{IsIn, Sector, Sets, Within}
 use Rattle.mmc_block.specs.declared.completion.Answer.{Answer}
 use Rattle.mmc_block.specs.declared.completion.Answer.TheVariants.{Data, Done, Failed}
 use Rattle.mmc_block.specs.declared.completion.Completion.{Completion}
-use Rattle.mmc_block.specs.declared.info.Info.{Info}
+use Rattle.mmc_switch.specs.declared.info.Info.{Info}
 use Rattle.mmc_block.specs.declared.request.Request.{Request}
 use Rattle.mmc_block.specs.InOrder.{AreDecided, AreOrdered, Choices, EndsInOrder, IsInOrder, MayHold, answer_to}
 use Rattle.mmc_block.specs.InOrder.{answers, answers_in, below, effect_at, first_value, history, in_turn, submitted}

@@ -9,7 +9,7 @@ use Rattle.mmc_card.proofs.SectorLemmas.{in_cond}
 use Rattle.mmc_block.specs.declared.completion.Answer.{Answer}
 use Rattle.mmc_block.specs.declared.completion.Answer.TheVariants.{Data, Done, Failed}
 use Rattle.mmc_block.specs.declared.completion.Completion.{Completion}
-use Rattle.mmc_block.specs.declared.info.Info.{Info}
+use Rattle.mmc_switch.specs.declared.info.Info.{Info}
 use Rattle.mmc_block.specs.InOrder.{below, effect_at, in_turn, settled}
 use Rattle.mmc_block.specs.Machine.{Completes, HasDecided, IsAnswered, Machine, Waiting}
 use Rattle.mmc_block.specs.MachineLaws.{IsAmong}

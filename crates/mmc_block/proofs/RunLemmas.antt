@@ -1,7 +1,7 @@
 -- Runs: steps that follow each other.
 use Rattle.std.proofs.Common.{◌++◌, ◌∷◌, List, [], ap, subst}
 use Rattle.mmc_block.specs.declared.completion.Completion.{Completion}
-use Rattle.mmc_block.specs.declared.info.Info.{Info}
+use Rattle.mmc_switch.specs.declared.info.Info.{Info}
 use Rattle.mmc_block.specs.Machine.{Turns}
 use Rattle.mmc_block.specs.Run.{Counted, CountedRuns, CountedSteps, CountedTurn, Event, Follow, Reply, Runs, Steps}
 use Rattle.mmc_block.specs.Run.Event.{Cancel, Submit, Turn}

@@ -1,27 +1,27 @@
 -- A turn of the device is a turn of the machine.
-use Rattle.std.proofs.Common.{◌&&◌, ◌+◌, ◌<◌, ◌∙◌, ◌∷◌, ◌≡◌, ◌≤◌, ◌⊎◌, Bool, List, [], ap, arith, cond, false, inl, inr}
-use Rattle.std.proofs.Common.{not, refl, subst, sym, true, ℕ}
+use Rattle.std.proofs.Common.{◌+◌, ◌<◌, ◌∙◌, ◌∷◌, ◌≡◌, ◌≤◌, ◌⊎◌, Bool, List, [], ap, arith, cond, false, inl, inr}
+use Rattle.std.proofs.Common.{refl, subst, sym, true, ℕ}
+use Rattle.std.specs.Prelude.{IfSome, None, Option, Some}
 use Rattle.mmc_bus.specs.declared.cause.Cause.{Cause}
 use Rattle.mmc_bus.specs.declared.cause.Cause.TheVariants.{Recovery}
 use Rattle.mmc_card.specs.declared.part.Part.{Part}
 use Rattle.mmc_card.proofs.SectorLemmas.{maybe_within, old_maybe}
-use Rattle.mmc_card.specs.Card.{holds}
-use Rattle.mmc_card.specs.Faults.{NoFault}
-use Rattle.mmc_bus.specs.Work.{Anything, Works}
-use Rattle.mmc_card.specs.Sectors.{IsDecided, IsIn, Sector, Sets, Within, touches, value_of}
+use Rattle.mmc_bus.specs.Learned.{Stays}
+use Rattle.mmc_card.specs.Card.{Card, holds, known}
+use Rattle.mmc_card.specs.Laws.{Carried}
+use Rattle.mmc_card.specs.Sectors.{IsDecided, IsIn, Same, Sector, Sets, Within, touches, value_of}
 use Rattle.mmc_card.specs.BusView.{BusView}
 use Rattle.mmc_block.specs.declared.completion.Answer.{Answer}
 use Rattle.mmc_block.specs.declared.completion.Answer.TheVariants.{Data, Done, Failed}
 use Rattle.mmc_block.specs.declared.completion.Completion.{Completion}
-use Rattle.mmc_block.specs.declared.entry.Entry.{Entry}
-use Rattle.mmc_block.specs.declared.info.Info.{Info}
+use Rattle.mmc_switch.specs.declared.info.Info.{Info}
 use Rattle.mmc_block.specs.declared.request.Request.{Request}
-use Rattle.mmc_block.proofs.WriteLemmas.{RestLaw}
-use Rattle.mmc_block.specs.Device.{Agrees, AreInOrder, MachineStep, DeviceOk, DeviceView, DidServe, IsLinked}
+use Rattle.mmc_block.specs.Device.{Agrees, AreInOrder, DeviceView, DidServe, MachineStep}
 use Rattle.mmc_block.specs.Answers.{any_failed, is_failed}
 use Rattle.mmc_block.specs.Machine.{Decides, IsAnswered, IsMerged, Machine, PassesNone, Turns, Waiting, all_failed}
 use Rattle.mmc_block.specs.Machine.{effect, failed_effect}
-use Rattle.mmc_block.specs.Place.{IsLoose, IsReady}
+use Rattle.mmc_switch.specs.Place.{IsReady}
+use Rattle.mmc_switch.specs.declared.session.Session.{Session}
 use Rattle.mmc_block.specs.Requests.{change_of, part_of, start_of}
 
 -- One request, from the machine's side.
@@ -143,10 +143,17 @@ at_decided : (b : Bool) (x : Sector) → IsDecided (cond b (x ∷ []) [])
 at_decided true x = one_decided x
 at_decided false x = none_decided
 
--- each sector of a ready card has one value at most
-pub ready_decided : (sectors : ℕ) (view : BusView) → RestLaw → IsReady sectors view → (p : Part) (s : ℕ)
+-- what a card at rest holds
+abbrev pub RestLaw : Type 0
+RestLaw = (card : Card) → card.values ≡ [] → Same (holds card) (known card)
+
+-- each sector of a card at rest has one value at most
+pub rest_decided : (card : Card) → RestLaw → card.values ≡ [] → (p : Part) (s : ℕ) → IsDecided (holds card p s)
+rest_decided card rests finished p s = subst IsDecided (sym (rests card finished p s)) (at_decided _ _)
+
+ready_decided : (session : Session) (view : BusView) → RestLaw → IsReady session view → (p : Part) (s : ℕ)
     → IsDecided (holds view.card p s)
-ready_decided sectors view rests r p s = subst IsDecided (sym (rests view.card r.finished p s)) (at_decided _ _)
+ready_decided session view rests r p s = rest_decided view.card rests r.set.rest.finished p s
 
 -- what an answer makes of a machine's sets
 pub record Answering (info : Info) (request : Request) (sets : Sets) (answer : Answer) (new : Sets) : Type 0 where
@@ -156,11 +163,10 @@ pub record Answering (info : Info) (request : Request) (sets : Sets) (answer : A
   pub answered : IsAnswered info request [] decided answer after
   pub within : Within new after
 
-pub answering : (info : Info) (request : Request) (old new : BusView) (answer : Answer) (sets : Sets) → RestLaw
-    → IsReady info.user_sectors old
-    → Within (holds old.card) sets → DidServe info request old answer new
+pub answering : (info : Info) (session : Session) (request : Request) (old new : BusView) (answer : Answer) (sets : Sets)
+    → RestLaw → IsReady session old → Within (holds old.card) sets → DidServe info request old answer new
     → Answering info request sets answer (holds new.card)
-answering info request old new Done sets rests ready within did =
+answering info session request old new Done sets rests ready within did =
     let decided : Sets = λ p s. picked (holds old.card p s) (sets p s) in
     let change = change_of info request in
     record {
@@ -175,13 +181,12 @@ answering info request old new Done sets rests ready within did =
       );
       within = λ p s v h.
           cond_within (touches change p s) (value_of change s) v (holds old.card p s) (decided p s)
-          (pick_within (holds old.card p s) (sets p s) v (ready_decided info.user_sectors old rests ready p s))
-          (subst (λ xs. IsIn xs v) (did.2 p s) h);
+          (pick_within (holds old.card p s) (sets p s) v (ready_decided session old rests ready p s)) (did.1 p s v h);
     }
-answering info request old new (Data bytes) sets rests ready within did =
+answering info session request old new (Data bytes) sets rests ready within did =
     let decided : Sets = λ p s. picked (holds old.card p s) (sets p s) in
     let into : Within (holds old.card) decided = λ p s v h. pick_within (holds old.card p s) (sets p s) v
-    (ready_decided info.user_sectors old rests ready p s) h in
+    (ready_decided session old rests ready p s) h in
     record {
       decided = decided;
       after = decided;
@@ -189,18 +194,18 @@ answering info request old new (Data bytes) sets rests ready within did =
       answered = (
         did.0,
         λ p s. refl,
-        (did.3.0, λ i less. into (part_of request) (start_of request + i) _ (did.3.1 i less)),
+        (did.2.0, λ i less. into (part_of request) (start_of request + i) _ (did.2.1 i less)),
         λ p s names. pick_decided (holds old.card p s) (sets p s),
         λ p s others. pick_decided (holds old.card p s) (sets p s),
       );
-      within = λ p s v h. into p s v (subst (λ xs. IsIn xs v) (did.2 p s) h);
+      within = λ p s v h. into p s v (did.1 p s v h);
     }
-answering info request old new (Failed cause) sets rests ready within did = record {
+answering info session request old new (Failed cause) sets rests ready within did = record {
   decided = sets;
   after = failed_effect info request sets;
   decides = λ p s. inl refl;
   answered = λ p s. refl;
-  within = λ p s v h. maybe_within (change_of info request) (holds old.card) sets within p s v (did.within p s v h);
+  within = λ p s v h. maybe_within (change_of info request) (holds old.card) sets within p s v (did.1 p s v h);
 }
 
 -- without an exchange
@@ -214,69 +219,94 @@ failing info request cause sets now within = record {
   within = λ p s v h. old_maybe (change_of info request) sets p s v (within p s v h);
 }
 
--- What serving a request leaves, where the card was ready or not.
-pub record Served (info : Info) (r : Bool) (request : Request) (old : BusView) (answer : Answer)
-    (new : BusView) : Type 0 where
-  pub was_kept : r ≡ true → new.is_kept ≡ true → old.is_kept ≡ true
-  pub linked : old.is_kept ≡ true → IsLinked r info.user_sectors old
-  pub did : r ≡ true → new.is_kept ≡ true → IsReady info.user_sectors old → DidServe info request old answer new
-  pub fine : r ≡ true → new.is_kept ≡ true → NoFault old new → is_failed answer ≡ false
-  pub recovery : r ≡ false → (new ≡ old) × (answer ≡ Failed Recovery)
+-- A request was served by this session, if there is one.
 
-ready_then : (r : Bool) (sectors : ℕ) (view : BusView) → r ≡ true → IsLinked r sectors view → IsReady sectors view
-ready_then true sectors view h linked = linked
-ready_then false sectors view h linked = cc
+-- what serving it over a card that is ready does, and what it does where none is
+abbrev pub Serves : Option Session → Request → BusView → Option Session → Answer → BusView → Type 0
+Serves session request old left answer new =
+    IfSome session (λ ready. IsReady ready old
+    → Stays old new × IfSome left (λ same. IsReady same new) × DidServe ready.info request old answer new)
 
--- the oldest of a device was served
-pub served_by : {B : Type 0} (view : B → BusView) (old : B) {info : Info} {r : Bool} {entries : List Entry} {next : ℕ}
-    {entry : Entry} {later : List Entry} (answer : Answer) (new : B)
-    → DeviceOk (view old) info r entries next → entries ≡ entry ∷ later
-    → (r ≡ true → Works Anything
-    (λ old new. (i : Info) → IsReady i.user_sectors old → start_of entry.request < i.user_sectors
-    → DidServe i entry.request old answer new)
-    (λ old new. (sectors : ℕ) → IsReady sectors old → start_of entry.request < sectors → is_failed answer ≡ false)
-    (view old) (view new))
-    → (r ≡ false → (new ≡ old) × (answer ≡ Failed Recovery))
-    → Served info r entry.request (view old) answer (view new)
-served_by view old {info} {r} answer new ok oldest works recovery =
-    let servable = rw oldest at ok.servable in
-    record {
-      was_kept = λ is kept. (works is kept).was_kept;
-      linked = ok.linked;
-      did = λ is kept ready. (works is kept).own info ready servable.0.in_range;
-      fine = λ is kept same.
-          let k = works is kept in
-          k.fine same info.user_sectors (ready_then r info.user_sectors (view old) is (ok.linked k.was_kept))
-          servable.0.in_range;
-      recovery = λ is. (let h = recovery is in (ap view h.0, h.1));
-    }
+carried_same : (old new : BusView) → new ≡ old → Carried old.card new.card
+carried_same old new same =
+    subst (λ (v : BusView). Carried old.card v.card) (sym same) (record { made = refl; sizes = λ part. refl })
 
-linked_so : (info : Info) (request : Request) (old new : BusView) (answer : Answer)
-    → DidServe info request old answer new → IsLinked (not (is_failed answer)) info.user_sectors new
-linked_so info request old new Done did = did.1
-linked_so info request old new (Data bytes) did = did.1
-linked_so info request old new (Failed cause) did = did.loose
+abbrev pub Recovers : Option Session → BusView → Option Session → Answer → BusView → Type 0
+Recovers session old left answer new = session ≡ None → (new ≡ old) × (left ≡ None) × (answer ≡ Failed Recovery)
 
-pub linked_by : (info : Info) (r : Bool) (request : Request) (old : BusView) (answer : Answer) (new : BusView)
-    → Served info r request old answer new
-    → new.is_kept ≡ true → IsLinked (r && not (is_failed answer)) info.user_sectors new
-linked_by info true request old answer new h kept = linked_so info request old new answer
-    (h.did refl kept (h.linked (h.was_kept refl kept)))
-linked_by info false request old answer new h kept =
-    let same = (h.recovery refl).0 in
-    subst (IsLoose info.user_sectors) (sym same) (h.linked (ap (λ (s : BusView). s.is_kept) (sym same) ∙ kept))
+recovers_by : {B : Type 0} (view : B → BusView) (session : Option Session) (old new : B)
+    (result : Option Session × Answer) → (session ≡ None → (new ≡ old) × (result ≡ (None, Failed Recovery)))
+    → Recovers session (view old) result.0 result.1 (view new)
+recovers_by view session old new result recovery none =
+    let r = recovery none in
+    (ap view r.0, ap (λ (x : Option Session × Answer). x.0) r.1, ap (λ (x : Option Session × Answer). x.1) r.1)
 
-pub answering_by : (info : Info) (r : Bool) (request : Request) (old : BusView) (answer : Answer) (new : BusView)
-    (sets : Sets) → RestLaw → Served info r request old answer new
-    → new.is_kept ≡ true → Within (holds old.card) sets → Answering info request sets answer (holds new.card)
-answering_by info true request old answer new sets rests h kept within =
-    let ready = h.linked (h.was_kept refl kept) in
-    answering info request old new answer sets rests ready within (h.did refl kept ready)
-answering_by info false request old answer new sets rests h kept within =
-    let recovery = h.recovery refl in
-    subst (λ a. Answering info request sets a (holds new.card)) (sym recovery.1)
+answering_by : (info : Info) (session : Option Session) (request : Request) (old : BusView) (left : Option Session)
+    (answer : Answer) (new : BusView) (sets : Sets) → RestLaw → IfSome session (λ ready. ready.info ≡ info)
+    → IfSome session (λ ready. IsReady ready old) → Serves session request old left answer new
+    → Recovers session old left answer new → Within (holds old.card) sets
+    → Answering info request sets answer (holds new.card)
+answering_by info (Some ready) request old left answer new sets rests known place serves recovers within =
+    answering info ready request old new answer sets rests place within
+    (subst (λ i. DidServe i request old answer new) known (serves place).2)
+answering_by info None request old left answer new sets rests known place serves recovers within =
+    let recovery = recovers refl in
+    subst (λ a. Answering info request sets a (holds new.card)) (sym recovery.2)
     (failing info request Recovery sets (holds new.card)
     (subst (λ (s : BusView). Within (holds s.card) sets) (sym recovery.0) within))
+
+place_by : (session : Option Session) (request : Request) (old : BusView) (left : Option Session)
+    (answer : Answer) (new : BusView) → IfSome session (λ ready. IsReady ready old)
+    → Serves session request old left answer new → Recovers session old left answer new
+    → IfSome left (λ same. IsReady same new)
+place_by (Some ready) request old left answer new place serves recovers = (serves place).1
+place_by None request old left answer new place serves recovers =
+    subst (λ o. IfSome o (λ same. IsReady same new)) (sym (recovers refl).1) tt
+
+known_by : (info : Info) (session : Option Session) (old : BusView) (left : Option Session) (answer : Answer)
+    (new : BusView) → IfSome session (λ ready. ready.info ≡ info)
+    → IfSome session (λ ready. IfSome left (λ same. same.info ≡ ready.info)) → Recovers session old left answer new
+    → IfSome left (λ same. same.info ≡ info)
+known_by info (Some ready) old left answer new known same recovers =
+    subst (λ i. IfSome left (λ session. session.info ≡ i)) known same
+known_by info None old left answer new known same recovers =
+    subst (λ o. IfSome o (λ session. session.info ≡ info)) (sym (recovers refl).1) tt
+
+-- what the card is made with stays, and its sizes
+carried_by : (session : Option Session) (request : Request) (old : BusView) (left : Option Session)
+    (answer : Answer) (new : BusView) → IfSome session (λ ready. IsReady ready old)
+    → Serves session request old left answer new → Recovers session old left answer new → Carried old.card new.card
+carried_by (Some ready) request old left answer new place serves recovers = (serves place).0.carried
+carried_by None request old left answer new place serves recovers =
+    carried_same old new (recovers refl).0
+
+-- What a request that was served leaves, over a bus that is kept, whether there is a session or not.
+pub record Served (info : Info) (request : Request) (old : BusView) (left : Option Session) (answer : Answer)
+    (new : BusView) : Type 0 where
+  pub known : IfSome left (λ same. same.info ≡ info)
+  pub place : new.is_kept ≡ true → IfSome left (λ same. IsReady same new)
+  pub carried : new.is_kept ≡ true → Carried old.card new.card
+  pub answering : new.is_kept ≡ true → RestLaw → (sets : Sets) → Within (holds old.card) sets
+      → Answering info request sets answer (holds new.card)
+
+pub served_by : {B : Type 0} (view : B → BusView) (info : Info) (session : Option Session) (request : Request)
+    (old new : B) (result : Option Session × Answer) → IfSome session (λ ready. ready.info ≡ info)
+    → ((view old).is_kept ≡ true → IfSome session (λ ready. IsReady ready (view old)))
+    → IfSome session (λ ready. IfSome result.0 (λ same. same.info ≡ ready.info))
+    → (session ≡ None → (new ≡ old) × (result ≡ (None, Failed Recovery)))
+    → ((view new).is_kept ≡ true → (view old).is_kept ≡ true)
+    → ((view new).is_kept ≡ true → Serves session request (view old) result.0 result.1 (view new))
+    → Served info request (view old) result.0 result.1 (view new)
+served_by view info session request old new result known place same recovery kept serves =
+    let recovers = recovers_by view session old new result recovery in
+    record {
+      known = known_by info session (view old) result.0 result.1 (view new) known same recovers;
+      place = λ k. place_by session request (view old) result.0 result.1 (view new) (place (kept k)) (serves k) recovers;
+      carried = λ k. carried_by session request (view old) result.0 result.1 (view new) (place (kept k)) (serves k)
+          recovers;
+      answering = λ k rests sets. answering_by info session request (view old) result.0 result.1 (view new) sets rests
+          known (place (kept k)) (serves k) recovers;
+    }
 
 -- Devices.
 

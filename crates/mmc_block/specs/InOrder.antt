@@ -6,7 +6,7 @@ use Rattle.mmc_card.specs.Sectors.{IsDecided, IsIn, Sector, Sets, pieces, touche
 use Rattle.mmc_block.specs.declared.completion.Answer.{Answer}
 use Rattle.mmc_block.specs.declared.completion.Answer.TheVariants.{Data, Done, Failed}
 use Rattle.mmc_block.specs.declared.completion.Completion.{Completion}
-use Rattle.mmc_block.specs.declared.info.Info.{Info}
+use Rattle.mmc_switch.specs.declared.info.Info.{Info}
 use Rattle.mmc_block.specs.Machine.{Waiting}
 use Rattle.mmc_block.specs.MachineLaws.{IsAmong}
 use Rattle.mmc_block.specs.Requests.{change_of, count_of, part_of, start_of}

@@ -3,7 +3,7 @@ use Rattle.std.specs.Prelude.{◌+◌, ◌==◌, ◌∷◌, ◌≡◌, ◌≤◌
 use Rattle.mmc_block.specs.declared.completion.Answer.{Answer}
 use Rattle.mmc_block.specs.declared.completion.Answer.TheVariants.{Data, Done, Failed}
 use Rattle.mmc_block.specs.declared.completion.Completion.{Completion}
-use Rattle.mmc_block.specs.declared.info.Info.{Info}
+use Rattle.mmc_switch.specs.declared.info.Info.{Info}
 use Rattle.mmc_block.specs.declared.refused.Refused.{Refused}
 use Rattle.mmc_block.specs.declared.request.Request.{Request}
 use Rattle.mmc_block.specs.Machine.{Accepts, GivesBack, IsTicketOf, Machine, AnswersAll, StartsIfIdle, Turns, Waiting}

@@ -1,19 +1,19 @@
 //! Laws about the sector machine. Each function does nothing; its contract is the law, which a caller then knows.
 ghost use Rattle.std.specs.Prelude.{◌≡◌, ◌↔◌, ◌⊎◌, List, [], false, true, ℕ};
 ghost use Rattle.mmc_card.specs.declared.part.Part.{Part};
-ghost use Rattle.mmc_card.specs.Card.{holds};
-ghost use Rattle.mmc_card.specs.BusView.{BusView};
+ghost use Rattle.mmc_card.specs.Card.{Card, holds};
 ghost use Rattle.mmc_card.specs.Sectors.{IsDecided, Sector, Sets, Within, touches};
 ghost use Rattle.mmc_block.specs.declared.completion.Completion.{Completion};
-ghost use Rattle.mmc_block.specs.declared.info.Info.{Info};
+ghost use Rattle.mmc_switch.specs.declared.info.Info.{Info};
 ghost use Rattle.mmc_block.specs.declared.request.Request.{Request};
 ghost use Rattle.mmc_block.specs.Answers.{is_failed};
 ghost use Rattle.mmc_block.specs.Machine.{Completes, Decides, Machine, Turns};
 ghost use Rattle.mmc_block.specs.MachineLaws.{EachOnce, KeepsValues};
-ghost use Rattle.mmc_block.specs.Place.{IsReady};
 ghost use Rattle.mmc_block.specs.Requests.{ShareSector, change_of, conflicts, is_read};
 ghost use Rattle.mmc_block.specs.Run.{Counted, CountedRuns, Event, Reply, Runs};
 ghost use Rattle.mmc_block.specs.InOrder.{AreDecided, EndsInOrder, IsInOrder, MayHold, history};
+
+use mmc_bus::card_laws;
 
 /// Of two requests that conflict either conflicts with the other.
 pub fn conflict_is_symmetric()
@@ -69,7 +69,9 @@ pub fn contents_are_in_order()
         → EndsInOrder (history info old.sets events replies) sets new.next contents }
 {}
 
-/// Each sector of a ready card is decided.
-pub fn a_ready_card_is_decided()
-    ensures { (sectors : ℕ) (view : BusView) → IsReady sectors view → AreDecided (holds view.card) }
-{}
+/// Each sector of a card at rest is decided: no write or erase is unfinished.
+pub fn a_card_at_rest_is_decided()
+    ensures { (card : Card) → card.values ≡ [] → AreDecided (holds card) }
+{
+    card_laws::a_card_at_rest_holds_what_it_stores();
+}

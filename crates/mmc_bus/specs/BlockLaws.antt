@@ -79,3 +79,11 @@ block_left bytes i left below long =
     let room : 512 * (length bytes / 512) ≤ length bytes = omega arith in
     let count : length (put bytes (512 * i) left) / 512 ≡ length bytes / 512 = ap (λ k. k / 512) both.1 in
     rw (both.0, count) (pieces_put (length bytes / 512) i bytes left less room long)
+
+-- nor their length
+pub length_left : (bytes : List ℕ) (i : ℕ) (left : List ℕ) → i < length (blocks_in bytes) → length left ≡ 512
+    → length (with_part bytes (512 * i) left) ≡ length bytes
+length_left bytes i left below long =
+    let less : i < length bytes / 512 = omega (arith, below, length_pieces (length bytes / 512) bytes) in
+    let both = with_is_put bytes i left less long in
+    ap length both.0 ∙ both.1

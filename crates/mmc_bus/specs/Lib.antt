@@ -5,6 +5,7 @@ pub mod ExchangeText
 pub mod Exchanges
 pub mod Heard
 pub mod Learned
+pub mod Lending
 pub mod Scripted
 pub mod ScriptedBus
 pub mod Trace

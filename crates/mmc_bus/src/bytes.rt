@@ -1,6 +1,7 @@
-ghost use Rattle.std.specs.Prelude.{◌≡◌, ◌+◌, ◌*◌, ◌≤◌, length, slice_range};
+ghost use Rattle.std.specs.Prelude.{◌≡◌, ◌+◌, ◌*◌, ◌≤◌, List, length, slice_range, ℕ};
 ghost use Rattle.std.specs.Borrow.{Array, Lends, sem, u8 as byte};
-ghost use Rattle.mmc_bus.specs.Bytes.{with_part};
+ghost use Rattle.mmc_bus.specs.Bytes.{blocks_in, with_block, with_part};
+ghost use Rattle.mmc_bus.specs.Lending.{IsRewritten};
 ghost use Rattle.mmc_bus.specs.contracts.bytes.Bytes.{the_row};
 
 use crate::blocks::{Blocks, BlocksMut};
@@ -92,6 +93,11 @@ fn as_block_mut(slice: &mut [u8]) -> &mut [u8; 512]
     }
 }
 
+/// A law: bytes that are lent as blocks keep their length. It does nothing.
+pub fn lent_bytes_keep_their_length()
+    ensures { (old new : List ℕ) → IsRewritten blocks_in with_block old new → length new ≡ length old }
+{}
+
 impl Blocks for Bytes {
     ghost use Rattle.mmc_bus.specs.Bytes.{blocks_in};
 
@@ -108,10 +114,10 @@ impl Blocks for Bytes {
 }
 
 impl BlocksMut for Bytes {
-    ghost use Rattle.mmc_bus.specs.Bytes.{with_part};
+    ghost use Rattle.mmc_bus.specs.Bytes.{with_block};
     ghost use Rattle.mmc_bus.specs.BlockLaws.{block_left};
 
-    ghost with = { λ bytes i left. with_part bytes (512 * i) left };
+    ghost with = { with_block };
 
     fn block_mut(&mut self, i: usize) -> &mut [u8; 512] {
         self.piece_mut(i)

@@ -21,7 +21,7 @@ mod wire;
 
 pub use blocks::{Blocks, BlocksMut};
 pub use bus::Bus;
-pub use bytes::Bytes;
+pub use bytes::{Bytes, lent_bytes_keep_their_length};
 pub use cause::Cause;
 pub use data::{offer, receive};
 pub use exchange_text::write_exchange;

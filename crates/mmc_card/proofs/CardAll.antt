@@ -1,13 +1,15 @@
 -- Each step of a card leaves a card: all parts of what holds of it.
-use Rattle.std.proofs.Common.{Bool, List, arith, inr, refl, ℕ}
+use Rattle.std.proofs.Common.{◌∙◌, Bool, List, ap, arith, inr, refl, sym, ℕ}
 use Rattle.mmc_frame.specs.Frame.{command_in}
 use Rattle.mmc_card.specs.declared.exchange.DataIn.{DataIn}
 use Rattle.mmc_card.specs.declared.exchange.DataOut.{DataOut}
 use Rattle.mmc_card.specs.declared.exchange.Reply.{Reply}
 use Rattle.mmc_card.proofs.CardRows as rows
+use Rattle.mmc_card.proofs.Conditions.{by_cond}
 use Rattle.mmc_card.proofs.Cards as cards
 use Rattle.mmc_card.proofs.Cards.{IsBasic}
 use Rattle.mmc_card.proofs.Narrow.{sends_data, accepts_in_rcv}
+use Rattle.mmc_card.proofs.NarrowSteps.{command_widens, poll_keeps, read_keeps, write_adds}
 use Rattle.mmc_card.proofs.Ordered.{IsOrdered, ordered_accepted, ordered_answered, ordered_garbled, ordered_programmed}
 use Rattle.mmc_card.proofs.Ordered.{ordered_raised, ordered_reached, ordered_rejected, ordered_reset, ordered_rested}
 use Rattle.mmc_card.proofs.Ordered.{ordered_sent_from, ordered_waited}
@@ -20,13 +22,15 @@ use Rattle.mmc_card.proofs.Settled.{settled_sent_from, settled_waited}
 use Rattle.mmc_card.proofs.Steps.{after_command, after_write, after_poll, after_read}
 use Rattle.mmc_card.specs.CardAnswer.{raised}
 use Rattle.mmc_card.specs.Blocks.{programmed}
-use Rattle.mmc_card.specs.Card.{AreAmong, AreBlocks, Card, IsBlock, IsCard, powered_on, stored}
+use Rattle.mmc_card.specs.Card.{AreAmong, AreBlocks, Card, HasItsSizes, IsBlock, IsCard, powered_on, stored}
+use Rattle.mmc_card.specs.Laws.{Carried}
 use Rattle.mmc_card.specs.ErrorBits.{error_bits, general_error}
-use Rattle.mmc_card.specs.Made.{HasRegisters, Made}
+use Rattle.mmc_card.specs.Made.{HasRegisters, Made, sectors_in}
 use Rattle.mmc_card.specs.declared.part.Part.{Part}
 use Rattle.mmc_card.specs.Faults.{CommandStep, WriteStep, PollStep, ReadStep}
 use Rattle.mmc_card.specs.declared.command.Command.{Command}
-use Rattle.mmc_card.specs.Rows.{reached}
+use Rattle.mmc_card.specs.Rows.{leaves_erase, reached}
+use Rattle.mmc_card.specs.RowsErase.{holds_address}
 use Rattle.mmc_card.specs.Sectors.{Sector}
 use Rattle.mmc_card.specs.BusView.{BusView}
 
@@ -58,8 +62,9 @@ settled c k = record { fits = k.fits; receives = k.receives; switches = k.switch
 sending : (c : Card) → IsCard c → IsSending c
 sending c k = record { registers = k.registers; erase_group_def = k.erase_group_def; sends = k.sends }
 
-whole : (c : Card) → IsBasic c → IsOrdered c → IsSettled c → IsSending c → IsCard c
-whole c b o s g = record {
+whole : (c : Card) → HasItsSizes c → IsBasic c → IsOrdered c → IsSettled c → IsSending c → IsCard c
+whole c sizes b o s g = record {
+  sizes = sizes;
   sends = g.sends;
   erase_group_def = g.erase_group_def;
   fits = s.fits;
@@ -82,14 +87,24 @@ whole c b o s g = record {
   new_values = b.new_values;
 }
 
+-- a step keeps the sizes
+sizes_then : (a b : Card) → Carried a b → IsCard a → HasItsSizes b
+sizes_then a b carried k part =
+    carried.sizes part ∙ k.sizes part ∙ ap (λ (m : Made). sectors_in m part) (sym carried.made)
+
+reached_sizes : (command : Command) (c : Card) → IsCard c → HasItsSizes (reached command c)
+reached_sizes command c k =
+    by_cond HasItsSizes (leaves_erase command) (λ _. k.sizes)
+    (λ _. by_cond HasItsSizes (holds_address c.erase) (λ _. k.sizes) (λ _. k.sizes))
+
 pub card_reached : (command : Command) (c : Card) → IsCard c → IsCard (reached command c)
 card_reached command c k =
-    whole _ (cards.card_reached command c (basic c k)) (ordered_reached command c (ordered c k))
+    whole _ (reached_sizes command c k) (cards.card_reached command c (basic c k)) (ordered_reached command c (ordered c k))
     (settled_reached command c (settled c k)) (sending_reached command c (sending c k))
 
 pub card_raised : (bits : ℕ) (c : Card) → AreAmong bits error_bits → IsCard c → IsCard (raised bits c)
 card_raised bits c among k =
-    whole _ (cards.card_raised bits c among (basic c k)) (ordered_raised bits c (ordered c k))
+    whole _ k.sizes (cards.card_raised bits c among (basic c k)) (ordered_raised bits c (ordered c k))
     (settled_raised bits c (settled c k)) (sending_raised bits c (sending c k))
 
 -- Steps.
@@ -100,7 +115,7 @@ command_leaves_card old frame reply new step k =
     let o = ordered old.card k in
     let s = settled old.card k in
     let g = sending old.card k in
-    whole new.card
+    whole new.card (sizes_then old.card new.card (command_widens old frame reply new step).carried k)
     (rows.command_leaves_card old frame reply new step (basic old.card k))
     (after_command IsOrdered old frame reply new o
     (λ choice. ordered_answered choice old.card (command_in frame) o)
@@ -120,7 +135,8 @@ poll_leaves_card old said new step k =
     let o = ordered old.card k in
     let s = settled old.card k in
     let g = sending old.card k in
-    whole new.card (rows.poll_leaves_card old said new step (basic old.card k))
+    whole new.card (sizes_then old.card new.card (poll_keeps old said new step).carried k)
+    (rows.poll_leaves_card old said new step (basic old.card k))
     (after_poll IsOrdered old said new o (ordered_rested old.card o) (λ _. ordered_waited old.card o)
     (λ lands prg _. ordered_raised general_error (programmed lands old.card)
     (ordered_programmed lands old.card prg o))
@@ -140,7 +156,7 @@ write_leaves_card old block got new h step k =
     let o = ordered old.card k in
     let s = settled old.card k in
     let g = sending old.card k in
-    whole new.card
+    whole new.card (sizes_then old.card new.card (write_adds old block got new step).carried k)
     (rows.write_leaves_card old block got new h step (basic old.card k))
     (after_write IsOrdered old block got new o
     (λ accepts. ordered_accepted block old.card (accepts_in_rcv old.lines old.card accepts) o)
@@ -159,7 +175,7 @@ read_leaves_card old size got block new step k =
     let o = ordered old.card k in
     let s = settled old.card k in
     let g = sending old.card k in
-    whole new.card
+    whole new.card (sizes_then old.card new.card (read_keeps old size got block new step).carried k)
     (rows.read_leaves_card old size got block new step (basic old.card k))
     (after_read IsOrdered old size got block new o
     (λ choice sends. ordered_sent_from old.card.source choice old.card
@@ -174,9 +190,11 @@ read_leaves_card old size got block new step k =
 -- After power on.
 
 pub new_card : (made : Made) (sectors : List (List Sector)) → HasRegisters made
-    → ((part : Part) → AreBlocks (stored (powered_on made sectors) part)) → IsCard (powered_on made sectors)
-new_card made sectors registers blocks = record {
+    → HasItsSizes (powered_on made sectors) → ((part : Part) → AreBlocks (stored (powered_on made sectors) part))
+    → IsCard (powered_on made sectors)
+new_card made sectors registers sizes blocks = record {
   registers = registers;
+  sizes = sizes;
   apart = λ h. record {
     width = refl;
     timing = refl;

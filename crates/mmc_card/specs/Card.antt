@@ -186,9 +186,14 @@ abbrev pub SendsBytes : Source → Type 0
 SendsBytes FromSectors = Unit {0}
 SendsBytes (FromBytes bytes timing) = AreBytes bytes
 
+-- Each partition has the size that the registers tell.
+abbrev pub HasItsSizes : Card → Type 0
+HasItsSizes card = (part : Part) → length (stored card part) ≡ sectors_in card.made part
+
 -- What holds of each card, whatever has happened to it (the project's own).
 pub record IsCard (card : Card) : Type 0 where
   pub registers : HasRegisters card.made
+  pub sizes : HasItsSizes card
   pub apart : is_selected card.state ≡ false → IsApart card
   -- erase addresses are held only in tran
   pub held : is_in card.state Tran ≡ false → card.erase ≡ NoAddress
@@ -216,7 +221,3 @@ pub record IsCard (card : Card) : Type 0 where
   -- sectors have 512 bytes, and so have the new values of an unfinished write, erase or trim
   pub blocks : (part : Part) → AreBlocks (stored card part)
   pub new_values : AreBlocks card.values
-
--- Each partition has the size that the registers tell.
-abbrev pub HasItsSizes : Card → Type 0
-HasItsSizes card = (part : Part) → length (stored card part) ≡ sectors_in card.made part

@@ -1,6 +1,6 @@
 -- In profile: the cards that the stack promises to serve, by what never changes of them. That CID and CSD are sound
 -- stands in `HasRegisters`, and that the partitions are as large as the registers say in `HasItsSizes`.
-use Rattle.std.specs.Prelude.{◌∷◌, ◌≡◌, ◌≤◌, ◌⊎◌, [], false, replicate, slice_set, true}
+use Rattle.std.specs.Prelude.{◌≡◌, ◌≤◌, ◌⊎◌, false, true}
 use Rattle.mmc_frame.specs.declared.kind.Kind.TheVariants.{Mmc, Sd}
 use Rattle.mmc_regs.specs.Csd.{has_block_length}
 use Rattle.mmc_regs.specs.CsdFields.{csd_structure, read_bl_len, write_bl_len}
@@ -45,19 +45,3 @@ pub record InProfile (made : Made) : Type 0 where
   pub unlocked : made.is_locked ≡ false
   pub sd : made.kind ≡ Sd → SdInProfile made
   pub mmc : made.kind ≡ Mmc → MmcInProfile made
-
--- an SD card of standard capacity for one line or four, without CMD6, CMD8 and CMD23
-abbrev pub plain_made : Made
-plain_made =
-    record {
-      kind = Sd;
-      ocr = 0x00ff8000;
-      cid = 0 ∷ 0 ∷ 0 ∷ 0 ∷ 0 ∷ 0 ∷ 0 ∷ 0 ∷ 0 ∷ 0 ∷ 0 ∷ 0 ∷ 0 ∷ 0 ∷ 0 ∷ 1 ∷ [];
-      csd = 0 ∷ 0 ∷ 0 ∷ 0 ∷ 0 ∷ 9 ∷ 0 ∷ 0 ∷ 0 ∷ 0 ∷ 0x40 ∷ 0 ∷ 2 ∷ 0x40 ∷ 0 ∷ 0x9b ∷ [];
-      scr = 0 ∷ 5 ∷ 0 ∷ 0 ∷ 0 ∷ 0 ∷ 0 ∷ 0 ∷ [];
-      switch_status = slice_set (slice_set (replicate 64 0) 13 1) 16 15;
-      ext_csd = [];
-      published = 1;
-      is_locked = false;
-      answers_cmd8 = false;
-    }

@@ -9,11 +9,11 @@ ghost use Rattle.mmc_frame.specs.declared.commands.TheConstants as Index;
 ghost use Rattle.mmc_regs.specs.Csd.{csd_in};
 ghost use Rattle.mmc_regs.specs.declared.csd.Csd.TheVariants.{Mmc, V1, V2};
 ghost use Rattle.mmc_ext_csd.specs.ExtCsd.{ext_csd_in};
-ghost use Rattle.mmc_card.specs.Card.{AreBlocks, Card, IsBlock, IsCard, holds, powered_on, stored};
+ghost use Rattle.mmc_card.specs.Card.{AreBlocks, Card, HasItsSizes, IsBlock, IsCard, holds, powered_on, stored};
 ghost use Rattle.mmc_card.specs.Made.{HasRegisters, Made, addressing_of, csd_number_of};
 ghost use Rattle.mmc_card.specs.Faults.{CommandStep, WriteStep, PollStep, ReadStep};
 ghost use Rattle.mmc_card.specs.Laws.{Carried, CountsAtMostOne, StandsIn, StillStands, SwitchesTo, WithinOrAccepted, erased_by, is_frame_of_run, maybe_erased};
-ghost use Rattle.mmc_card.specs.Profile.{InProfile, IsHighCapacity, IsStandardCapacity, MmcInProfile, plain_made};
+ghost use Rattle.mmc_card.specs.Profile.{InProfile, IsHighCapacity, IsStandardCapacity, MmcInProfile};
 ghost use Rattle.mmc_card.specs.Sectors.{Sector, Within};
 ghost use Rattle.mmc_card.specs.BusView.{BusView};
 ghost use Rattle.mmc_card.specs.declared.part.Part.{Part};
@@ -65,9 +65,10 @@ pub fn no_command_but_erase_widens()
     ensures { (card : Card) (index argument : ℕ) → index < 64 → (index ≡ Index.ERASE → ⊥) → erased_by card (Some (index, argument)) ≡ None }
 {}
 
-/// A card after power on, with registers that have their form and sectors of 512 bytes, is a card.
+/// A card after power on, with registers that have their form and as many sectors of 512 bytes as they say, is a card.
 pub fn a_card_after_power_on_is_one()
-    ensures { (made : Made) (sectors : List (List Sector)) → HasRegisters made → ((part : Part) → AreBlocks (stored (powered_on made sectors) part)) → IsCard (powered_on made sectors) }
+    ensures { (made : Made) (sectors : List (List Sector)) → HasRegisters made → HasItsSizes (powered_on made sectors)
+        → ((part : Part) → AreBlocks (stored (powered_on made sectors) part)) → IsCard (powered_on made sectors) }
 {}
 
 /// A step counts no fault, or one.
@@ -81,12 +82,6 @@ pub fn a_step_counts_at_most_one_fault()
 /// Of each kind, and with each addressing, some card is in profile.
 pub fn some_card_is_in_profile()
     ensures { (kind : Kind) (addressing : Addressing) → (made : Made) × (made.kind ≡ kind) × (addressing_of made ≡ addressing) × HasRegisters made × InProfile made }
-{}
-
-/// The plain card is in profile.
-pub fn the_plain_card_is_in_profile()
-    ensures registers { HasRegisters plain_made }
-    ensures profile { InProfile plain_made }
 {}
 
 /// The readers of CSD and EXT_CSD accept the registers of a card in profile.

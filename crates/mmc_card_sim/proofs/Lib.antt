@@ -2,7 +2,6 @@ pub mod BuildLemmas
 pub mod ChipLemmas
 pub mod FaultLemmas
 pub mod FlipLemmas
-pub mod PlainLemmas
 pub mod PlanLemmas
 pub mod SimSteps
 pub mod SpecLemmas

@@ -1,11 +1,13 @@
 -- Looking a fault up in a plan, and planning one.
 use Rattle.std.proofs.Common.{◌++◌, ◌<◌, ◌∷◌, ◌∙◌, ◌≡◌, Bool, List, None, Some, [], ap, arith, cond, false, length}
 use Rattle.std.proofs.Common.{refl, suc, sym, take, true, zero, ℕ}
-use Rattle.std.specs.Prelude.{◌==◌, Option, slice_index_or, slice_set}
+use Rattle.std.specs.Prelude.{◌-◌, ◌==◌, ◌^◌, ◌||◌, Err, IsOk, Ok, OnErr, Option, Result, if◌then◌else◌, nat_lt, slice_index_or, slice_set}
 use Rattle.std.proofs.lemmas.Bool.{eq-eqb, eqb-true}
 use Rattle.mmc_card_sim.specs.declared.fault.Fault.{Fault}
 use Rattle.mmc_card_sim.specs.declared.plan.Planned.{Planned}
-use Rattle.mmc_card_sim.specs.Plan.{fault_at}
+use Rattle.mmc_card_sim.specs.Plan.{fault_at, is_full, refusal_of}
+use Rattle.mmc_card_sim.specs.declared.plan.PlanFault.{PlanFault}
+use Rattle.mmc_card_sim.specs.declared.plan.PlanFault.TheVariants.{InThePast, PlanFull}
 
 -- where nothing is planned for an exchange at the front or behind it
 not_here : (b : Bool) (f : Fault) (rest : Option Fault) → cond b (Some f) rest ≡ None → (b ≡ false) × (rest ≡ None)
@@ -76,3 +78,24 @@ replaced (x ∷ xs) (suc i) d p e less none same =
     ap (λ rest. cond (x.exchange == e) (Some x.fault) rest) (replaced xs i d p e (omega (arith, less)) apart.1 same)
     ∙ either_way (x.exchange == e) (p.exchange == e) x.fault p.fault (fault_at xs e)
     (apart_from e x.exchange p.exchange apart.0)
+
+-- Nothing is planned for the number at which the count of exchanges stays, whatever is planned besides.
+
+not_full : (full past late : Bool) → (if full then Some PlanFull else if past || late then Some InThePast else None) ≡ None
+    → late ≡ false
+not_full true past late h = absurd cc
+not_full false true late h = absurd cc
+not_full false false true h = absurd cc
+not_full false false false h = refl
+
+pub never_planned : (was now : List Planned) (exchange made : ℕ) (fault : Fault) (result : Result Unit PlanFault)
+    → (OnErr result (now ≡ was)) → (IsOk result → refusal_of was exchange made ≡ None)
+    → (IsOk result → (e : ℕ) → fault_at now e ≡ (if exchange == e then Some fault else fault_at was e))
+    → fault_at was (2 ^ 64 - 1) ≡ None → fault_at now (2 ^ 64 - 1) ≡ None
+never_planned was now exchange made fault (Ok done) same planned replaced never =
+    let late = not_full (is_full was (fault_at was exchange)) (nat_lt exchange made) (exchange == 2 ^ 64 - 1)
+    (planned refl) in
+    replaced refl (2 ^ 64 - 1)
+    ∙ by_false (exchange == 2 ^ 64 - 1) (Some fault) (fault_at was (2 ^ 64 - 1)) late ∙ never
+never_planned was now exchange made fault (Err why) same planned replaced never =
+    ap (λ plan. fault_at plan (2 ^ 64 - 1)) same ∙ never

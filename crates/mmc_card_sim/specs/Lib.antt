@@ -2,7 +2,6 @@ pub mod Answer
 pub mod CardSpec
 pub mod Chip
 pub mod FaultyExchanges
-pub mod PlainCard
 pub mod Plan
 pub mod Registers
 pub mod SimView

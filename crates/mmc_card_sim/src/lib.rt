@@ -14,7 +14,6 @@ mod faulty_exchanges;
 mod flip;
 mod identify_rows;
 mod judging;
-mod plain;
 mod plan;
 mod registers;
 mod sim_card;
@@ -24,7 +23,6 @@ mod switch_rows;
 mod transfer_rows;
 
 pub use fault::{Fault, Flips, Outcome};
-pub use plain::PlainCard;
 pub use plan::{MAX_PLANNED, Plan, PlanFault, Planned};
 pub use registers::{KindRegisters, MmcRegisters, Registers, SdRegisters};
 pub use sim_card::SimCard;

@@ -1,5 +1,5 @@
 // The faults that are planned for the exchanges of a card in memory.
-ghost use Rattle.std.specs.Prelude.{◌≡◌, ◌<◌, ◌≤◌, ◌==◌, IfErr, IfNone, IfSome, IsOk, None, OnErr, Some, [], false, if◌then◌else◌, length, slice_index_or, take, ℕ};
+ghost use Rattle.std.specs.Prelude.{◌≡◌, ◌<◌, ◌≤◌, ◌==◌, ◌+◌, IfErr, IfNone, IfSome, IsOk, None, OnErr, Some, [], false, if◌then◌else◌, length, slice_index_or, take, ℕ};
 ghost use Rattle.mmc_card_sim.specs.declared.plan.Planned.{Planned};
 ghost use Rattle.mmc_card_sim.specs.Plan.{fault_at, is_full, refusal_of};
 
@@ -105,7 +105,8 @@ impl Plan {
     // Puts a fault in the place of the one for this exchange, or behind all others.
     fn put(&mut self, exchange: u64, fault: Fault)
         requires { is_full self.old (fault_at self.old exchange) ≡ false }
-        ensures { (e : ℕ) → fault_at self.new e ≡ (if exchange == e then Some fault else fault_at self.old e) }
+        ensures planned { (e : ℕ) → fault_at self.new e ≡ (if exchange == e then Some fault else fault_at self.old e) }
+        ensures grows { length self.new ≤ length self.old + 1 }
     {
         let planned = Planned { exchange, fault };
         match self.place_of(exchange) {
@@ -124,6 +125,7 @@ impl Plan {
         ensures unchanged { OnErr result (self.new ≡ self.old) }
         ensures planned { IsOk result → refusal_of self.old exchange made ≡ None }
         ensures replaced { IsOk result → (e : ℕ) → fault_at self.new e ≡ (if exchange == e then Some fault else fault_at self.old e) }
+        ensures grows { length self.new ≤ length self.old + 1 }
     {
         if let Some(why) = self.refusal(exchange, made) {
             return Err(why);

@@ -142,6 +142,7 @@ impl SimCard {
         ensures unchanged { OnErr result (self.new ≡ self.old) }
         ensures planned { IsOk result → refusal_of self.old.plan exchange self.old.wire.exchanges ≡ None }
         ensures replaced { IsOk result → (e : ℕ) → fault_at self.new.plan e ≡ (if exchange == e then Some fault else fault_at self.old.plan e) }
+        ensures grows { length self.new.plan ≤ length self.old.plan + 1 }
         ensures stays { self.new ≡ record self.old { plan = self.new.plan } }
     {
         self.plan.plan(exchange, fault, self.wire.exchanges)

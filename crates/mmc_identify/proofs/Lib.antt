@@ -1,3 +1,4 @@
+pub mod AddressLemmas
 pub mod FoundLemmas
 pub mod InquiryLemmas
 pub mod JoinLemmas

@@ -74,7 +74,6 @@ there : (session : Session) (part : Part) (view : BusView) → view.card.part �
     → IsReady (chosen session part) view
 there session part view e r = record {
   is_card = r.is_card;
-  sizes = r.sizes;
   knows = knows_still session (Some part) view.card.made view.card.made refl r.knows;
   set = r.set;
   part = is_chosen session view.card.part part e r.part.sd;
@@ -201,13 +200,9 @@ known_switch : (session : Session) (part : Part) (argument : ℕ) (view : BusVie
 known_switch session part argument view r mmc e some =
     let made = view.card.made in
     switches_part view.card part argument (writes_part session part argument made r.knows mmc e)
-    (λ none. has_sectors session.info part made r.knows.info some (sym (r.sizes part) ∙ none))
+    (λ none. has_sectors session.info part made r.knows.info some (sym (r.is_card.sizes part) ∙ none))
 
 -- It succeeds.
-
-still_sizes : (part : Part) (was is : Card) → is.made ≡ was.made → length (stored is part) ≡ length (stored was part)
-    → length (stored was part) ≡ sectors_in was.made part → length (stored is part) ≡ sectors_in is.made part
-still_sizes part was is made same sizes = same ∙ sizes ∙ ap (λ m. sectors_in m part) (sym made)
 
 pub selected_now : (session : Session) (part : Part) (argument : ℕ) (a b : BusView) → session.info.kind ≡ Mmc
     → Asks session part argument → IsSome (sectors_of session.info part)
@@ -223,7 +218,6 @@ selected_now session part argument a b mmc e some p r =
     own.1 ∙ ap (λ (s : Setting). record s { part = part }) r.set.is_set in
     record {
       is_card = p.is_card;
-      sizes = λ other. still_sizes other a.card b.card made (p.stays.carried.sizes other) (r.sizes other);
       knows = knows_still session (Some part) a.card.made b.card.made made r.knows;
       set = record {
         rest = own.0;
@@ -269,7 +263,6 @@ select_fails session part argument fault broken a b mmc e some is p r =
     ] in
     let loose : IsLoose (record { session = unknown session; cause = fault; must_reset = false }) b = record {
       is_card = p.is_card;
-      sizes = λ other. still_sizes other a.card b.card made (p.stays.carried.sizes other) (r.sizes other);
       knows = knows_still session None a.card.made b.card.made made r.knows;
       stands = λ kept. stands;
     } in

@@ -42,7 +42,6 @@ pub begins : (session : Session) (Shown Exact : Card → Type 0) (view : BusView
     → Exact view.card → IsUnderWay session Shown Exact 0 view
 begins session Shown Exact view r exact = record {
   is_card = r.is_card;
-  sizes = r.sizes;
   knows = r.knows;
   stands = record {
     part = view.card.part;
@@ -55,10 +54,6 @@ begins session Shown Exact view r exact = record {
 }
 
 -- What an exchange leaves as it was.
-
-pub sizes_then : (a b : Card) → Carried a b → HasItsSizes a → HasItsSizes b
-sizes_then a b carried sizes part =
-    carried.sizes part ∙ sizes part ∙ ap (λ (m : Made). sectors_in m part) (sym carried.made)
 
 pub knows_then : (session : Session) (a b : Card) → Carried a b → Knows session a.made → Knows session b.made
 knows_then session a b carried knows = subst (Knows session) (sym carried.made) knows
@@ -79,7 +74,6 @@ module _ {Holds Own Fine : BusView → BusView → Type 0} (session : Session) (
       → IsUnderWay session Shows Comes (faults_then faults a b) b
   goes_on Shows Comes shows comes calm = record {
     is_card = work.is_card;
-    sizes = sizes_then a.card b.card work.stays.carried at.sizes;
     knows = knows_then session a.card b.card work.stays.carried at.knows;
     stands = stands_then session a b work.set at.stands;
     shown = λ s. comes (at.shown (shows s)) s;
@@ -99,7 +93,6 @@ module _ {Holds Own Fine : BusView → BusView → Type 0} (session : Session) (
       record {
         loose = (subst (λ s. Knows s b.card.made → StandsAs s b → IsLoose broken b) same (λ knows stands. record {
           is_card = work.is_card;
-          sizes = sizes_then a.card b.card work.stays.carried at.sizes;
           knows = knows;
           stands = λ no_reset. stands;
         })) (knows_then session a.card b.card work.stays.carried at.knows) (stands_then session a b work.set at.stands);
@@ -157,16 +150,14 @@ no_error kind count card quiet =
     record { command_errors = quiet.command_errors; errors = quiet.errors; switch_error = λ mmc. quiet.switch_error }
 
 -- A card in tran with nothing to do is ready.
-pub ready_again : (session : Session) (view : BusView) → IsCard view.card → HasItsSizes view.card
-    → Knows session view.card.made → StandsAs session view → IsQuiet Tran 0 view.card → view.card.is_busy ≡ false
+pub ready_again : (session : Session) (view : BusView) → IsCard view.card → Knows session view.card.made → StandsAs session view → IsQuiet Tran 0 view.card → view.card.is_busy ≡ false
     → IsReady session view
-ready_again session view card sizes knows stands quiet rests =
+ready_again session view card knows stands quiet rests =
     let selected : is_selected view.card.state ≡ true = ap is_selected quiet.state in
     let setting : setting_of view.card ≡ setting_in session.info stands.part = stands.stands.selected selected in
     let part : view.card.part ≡ stands.part = ap (λ (s : Setting). s.part) setting in
     record {
       is_card = card;
-      sizes = sizes;
       knows = knows;
       set = record {
         rest = record {

@@ -60,10 +60,6 @@ failed (Err fault) fails ok = cc ok
 abbrev pub first_session : Info → ℕ → Session
 first_session info config = record { info = info; partition_config = config; selected = Some User }
 
-sizes_still : (a b : BusView) → Stays a b → HasItsSizes a.card → HasItsSizes b.card
-sizes_still a b stays sizes part =
-    stays.carried.sizes part ∙ sizes part ∙ ap (λ (m : Made). sectors_in m part) (sym stays.carried.made)
-
 ready_set : (session : Session) (rca : ℕ) (width : Width) (timing : Timing) (group : ℕ) (view : BusView)
     → session.info.rca ≡ rca → session.info.width ≡ width → session.info.timing ≡ timing
     → erase_group_def_of session.info.kind ≡ group → IsSet false (user_setting rca width timing group) view
@@ -76,15 +72,14 @@ ready_set session rca width timing group view r w t e set =
 
 -- what is known of the card before is known of it after
 ready : (session : Session) (rca : ℕ) (width : Width) (timing : Timing) (group : ℕ) (a b : BusView) → IsCard b.card
-    → Stays a b → HasItsSizes a.card → Knows session a.card.made → session.selected ≡ Some User
+    → Stays a b → Knows session a.card.made → session.selected ≡ Some User
     → rca ≡ rca_of a.card.made → width ≡ width_of a.card.made → timing ≡ timing_of a.card.made
     → erase_group_def_of a.card.made.kind ≡ group → IsSet false (user_setting rca width timing group) b
     → IsReady session b
-ready session rca width timing group a b card stays sizes knows selected r w t e set =
+ready session rca width timing group a b card stays knows selected r w t e set =
     let user : b.card.part ≡ User = ap (λ (s : Setting). s.part) set.is_set in
     record {
       is_card = card;
-      sizes = sizes_still a b stays sizes;
       knows = subst (Knows session) (sym stays.carried.made) knows;
       set =
           ready_set session rca width timing group b (knows.info.rca ∙ sym r) (knows.info.width ∙ sym w)
@@ -97,7 +92,7 @@ ready session rca width timing group a b card stays sizes knows selected r w t e
 -- from blocks of 512 bytes on, a card of this kind
 abbrev pub WidensKind : Kind → Found → Result Session SwitchFault → BusView → BusView → Type 0
 WidensKind kind found r a b =
-    Moved (λ old new. old.card.made.kind ≡ kind → HasItsSizes old.card → IsFound old.card.made found
+    Moved (λ old new. old.card.made.kind ≡ kind → IsFound old.card.made found
     → IsSet false (first_setting found.rca) old
     → IfOk r (λ session. IsReady session new × (session.selected ≡ Some User)))
     (λ old new. old.card.made.kind ≡ kind → InProfile old.card.made → IsFound old.card.made found
@@ -106,7 +101,7 @@ WidensKind kind found r a b =
 pub sd_exchange_fails : (found : Found) (told : Result Told Cause) (r : Result Session SwitchFault) (a b : BusView)
     → IsErr r → false ≡ is_ok told → SetsUpSd found.rca told a b → WidensKind Sd found r a b
 sd_exchange_fails found told r a b err fails p =
-    moved_as a b p (λ is sizes own set. IfOk-from_err r _ err)
+    moved_as a b p (λ is own set. IfOk-from_err r _ err)
     (λ same is profile own set. failed told fails (p.fine same is set))
 
 pub sd_register_fails : (found : Found) (told : Result Told Cause) (info : Option Info) (r : Result Session SwitchFault)
@@ -114,7 +109,7 @@ pub sd_register_fails : (found : Found) (told : Result Told Cause) (info : Optio
     → ((made : Made) → HasRegisters made → made.kind ≡ Sd → IsFound made found → IsSome info)
     → SetsUpSd found.rca told a b → WidensKind Sd found r a b
 sd_register_fails found told info r a b err none taken p =
-    moved_as a b p (λ is sizes own set. IfOk-from_err r _ err)
+    moved_as a b p (λ is own set. IfOk-from_err r _ err)
     (λ same is profile own set. cc (none, taken a.card.made p.was_card.registers is own))
 
 pub sd_widened : (found : Found) (told : Told) (up : Result Told Cause) (said : Option Info) (info : Info)
@@ -126,13 +121,13 @@ sd_widened found told up said info session a b e some opened says p =
     let made = a.card.made in
     subst (λ (s : Session). WidensKind Sd found (Ok s) a b) (sym opened)
     (moved_as a b p
-    (λ is sizes own set.
+    (λ is own set.
     let done = IfOk-at_ok _ e (p.own is set) in
     let knows : Knows (first_session info 0) made = record {
       info = subst (λ o. IfSome o (IsInfo made)) some (says made p.was_card.registers is own done.0);
       partition_config = λ mmc. cc (is, mmc);
     } in (
-      ready (first_session info 0) found.rca (width_of made) (timing_of made) 0 a b p.is_card p.stays sizes knows refl
+      ready (first_session info 0) found.rca (width_of made) (timing_of made) 0 a b p.is_card p.stays knows refl
           own.rca refl refl (rw is refl) done.1,
       refl,
     ))
@@ -143,7 +138,7 @@ sd_widened found told up said info session a b e some opened says p =
 pub mmc_send_fails : (found : Found) (sent : Result (List ℕ) Cause) (r : Result Session SwitchFault) (a b : BusView)
     → IsErr r → false ≡ is_ok sent → SendsExtCsd sent a b → WidensKind Mmc found r a b
 mmc_send_fails found sent r a b err fails p =
-    moved_as a b p (λ is sizes own set. IfOk-from_err r _ err)
+    moved_as a b p (λ is own set. IfOk-from_err r _ err)
     (λ same is profile own set. failed sent fails (p.fine same (first_setting found.rca) is set))
 
 -- an EXT_CSD is taken by these two bytes
@@ -178,7 +173,7 @@ pub mmc_judge_fails : (found : Found) (block : List ℕ) (sent : Result (List �
     → (ext_csd_in block ≡ Ok block → (found.addressing ≡ Sectors → sec_count block ≡ 0 → ⊥) → IsOk judged)
     → SendsExtCsd sent a b → WidensKind Mmc found r a b
 mmc_judge_fails found block sent judged r a b err refused e all p =
-    moved_as a b p (λ is sizes own set. IfOk-from_err r _ err)
+    moved_as a b p (λ is own set. IfOk-from_err r _ err)
     (λ same is profile own set.
     let told = (IfOk-at_ok _ e (p.own (first_setting found.rca) is set)).0 in
     let taken = subst (λ xs. ext_csd_in xs ≡ Ok xs) (sym told) (sent_taken a.card profile is) in
@@ -219,7 +214,7 @@ pub mmc_setting_fails : (found : Found) (block : List ℕ) (high : Bool) (sent :
     → SendsExtCsd sent a b → SetsUpMmc found.rca high up b c → WidensKind Mmc found r a c
 mmc_setting_fails found block high sent up r a b c err e tests fails p q =
     let all = mmc_set found block high sent up a b c e tests p q in
-    moved_as a c all (λ is sizes own set. IfOk-from_err r _ err)
+    moved_as a c all (λ is own set. IfOk-from_err r _ err)
     (λ same is profile own set. failed up fails (all.fine same is set))
 
 -- PARTITION_CONFIG as it is sent is that of the partition that is accessed
@@ -258,7 +253,7 @@ mmc_widened found block high sent timing up info config session a b c e tests do
     let registers = all.was_card.registers in
     subst (λ (s : Session). WidensKind Mmc found (Ok s) a c) (sym opened)
     (moved_as a c all
-    (λ is sizes own set.
+    (λ is own set.
     let o = all.own is set in
     let t = IfOk-at_ok _ done o.1 in
     let user : a.card.part ≡ User = ap (λ (s : Setting). s.part) set.is_set in
@@ -266,7 +261,7 @@ mmc_widened found block high sent timing up info config session a b c e tests do
       info = says a.card registers is own o.0 t.0;
       partition_config = λ mmc. ap (field 7 3) by ∙ config_kept a.card block registers is user o.0;
     } in (
-      ready (first_session info config) found.rca Over.Eight timing 1 a c all.is_card all.stays sizes knows refl own.rca
+      ready (first_session info config) found.rca Over.Eight timing 1 a c all.is_card all.stays knows refl own.rca
           (rw is refl) t.0 (rw is refl) t.1,
       refl,
     ))
@@ -277,7 +272,7 @@ mmc_widened found block high sent timing up info config session a b c e tests do
 -- from blocks of 512 bytes on
 abbrev pub Widens : Found → Result Session SwitchFault → BusView → BusView → Type 0
 Widens found r a b =
-    Moved (λ old new. HasItsSizes old.card → IsFound old.card.made found → IsSet false (first_setting found.rca) old
+    Moved (λ old new. IsFound old.card.made found → IsSet false (first_setting found.rca) old
     → IfOk r (λ session. IsReady session new × (session.selected ≡ Some User)))
     (λ old new. InProfile old.card.made → IsFound old.card.made found → IsSet false (first_setting found.rca) old
     → IsOk r) a b
@@ -285,7 +280,7 @@ Widens found r a b =
 pub by_kind : (kind : Kind) (found : Found) (r : Result Session SwitchFault) (a b : BusView) → found.kind ≡ kind
     → WidensKind kind found r a b → Widens found r a b
 by_kind kind found r a b is p =
-    moved_as a b p (λ sizes own set. p.own (sym own.kind ∙ is) sizes own set)
+    moved_as a b p (λ own set. p.own (sym own.kind ∙ is) own set)
     (λ same profile own set. p.fine same (sym own.kind ∙ is) profile own set)
 
 abbrev pub SetsLength : Result Unit Cause → BusView → BusView → Type 0
@@ -297,7 +292,7 @@ SetsLength r a b =
 -- from tran as identification leaves it
 abbrev pub WidensLeft : Found → Result Session SwitchFault → BusView → BusView → Type 0
 WidensLeft found r a b =
-    Moved (λ old new. HasItsSizes old.card → IsFound old.card.made found → IsLeft found.rca old.card
+    Moved (λ old new. IsFound old.card.made found → IsLeft found.rca old.card
     → old.lines ≡ first_lines
     → IfOk r (λ session. IsReady session new × (session.selected ≡ Some User)))
     (λ old new. InProfile old.card.made → IsFound old.card.made found → IsLeft found.rca old.card
@@ -306,7 +301,7 @@ WidensLeft found r a b =
 pub length_fails : (found : Found) (length : Result Unit Cause) (r : Result Session SwitchFault) (a b : BusView)
     → IsErr r → false ≡ is_ok length → SetsLength length a b → WidensLeft found r a b
 length_fails found length r a b err fails p =
-    moved_as a b p (λ sizes own left lines. IfOk-from_err r _ err)
+    moved_as a b p (λ own left lines. IfOk-from_err r _ err)
     (λ same profile own left lines. failed length fails (p.fine same found.rca left))
 
 pub widened : (found : Found) (length : Result Unit Cause) (r : Result Session SwitchFault) (a b c : BusView)
@@ -317,8 +312,8 @@ widened found length r a b c ok p q =
     let set = λ (left : IsLeft found.rca a.card) (lines : a.lines ≡ first_lines).
     p.own found.rca left lines (sym ok) in
     moved_as a c pair
-    (λ sizes own left lines.
-    q.own (sizes_still a b p.stays sizes) (subst (λ m. IsFound m found) back own) (set left lines))
+    (λ own left lines.
+    q.own (subst (λ m. IsFound m found) back own) (set left lines))
     (λ same profile own left lines.
     (pair.fine same).1 (subst InProfile back profile) (subst (λ m. IsFound m found) back own) (set left lines))
 
@@ -357,7 +352,7 @@ pub widened_at_once : (found : Found) (r : Result Session SwitchFault) (a b : Bu
 widened_at_once found r a b sectors p =
     let set = λ (own : IsFound a.card.made found) (left : IsLeft found.rca a.card) (lines : a.lines ≡ first_lines).
     left_set found.rca a p.was_card left lines (sym own.addressing ∙ sectors) in
-    moved_as a b p (λ sizes own left lines. p.own sizes own (set own left lines))
+    moved_as a b p (λ own left lines. p.own own (set own left lines))
     (λ same profile own left lines. p.fine same profile own (set own left lines))
 
 -- a card in profile is refused only where a fault fell

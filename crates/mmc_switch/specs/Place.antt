@@ -6,7 +6,7 @@ use Rattle.mmc_ext_csd.specs.ExtCsd.{partition_config}
 use Rattle.mmc_card.specs.declared.part.Part.{Part}
 use Rattle.mmc_card.specs.declared.part.Part.TheVariants.{User}
 use Rattle.mmc_card.specs.BusView.{BusView}
-use Rattle.mmc_card.specs.Card.{HasItsSizes, IsCard}
+use Rattle.mmc_card.specs.Card.{IsCard}
 use Rattle.mmc_card.specs.Laws.{Setting, Stands}
 use Rattle.mmc_card.specs.Made.{Made}
 use Rattle.mmc_switch.specs.Info.{IsInfo, erase_group_def_of}
@@ -41,7 +41,6 @@ pub record IsPartOf (session : Session) (part : Part) : Type 0 where
 -- Ready for a transfer: the card is as the session says.
 pub record IsReady (session : Session) (view : BusView) : Type 0 where
   pub is_card : IsCard view.card
-  pub sizes : HasItsSizes view.card
   pub knows : Knows session view.card.made
   pub set : IsSet false (setting_in session.info view.card.part) view
   pub part : IsPartOf session view.card.part
@@ -56,6 +55,5 @@ pub record StandsAs (session : Session) (view : BusView) : Type 0 where
 -- Loose, after a failure: the session knows the card, and unless it has to be reset, it stands so.
 pub record IsLoose (broken : Broken) (view : BusView) : Type 0 where
   pub is_card : IsCard view.card
-  pub sizes : HasItsSizes view.card
   pub knows : Knows broken.session view.card.made
   pub stands : broken.must_reset ≡ false → StandsAs broken.session view

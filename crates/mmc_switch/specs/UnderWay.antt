@@ -4,7 +4,7 @@ use Rattle.mmc_frame.specs.declared.card_state.State.{State}
 use Rattle.mmc_card.specs.declared.part.Part.{Part}
 use Rattle.mmc_card.specs.declared.part.Part.TheVariants.{User}
 use Rattle.mmc_card.specs.BusView.{BusView}
-use Rattle.mmc_card.specs.Card.{Card, HasItsSizes, IsCard, NoAddress}
+use Rattle.mmc_card.specs.Card.{Card, IsCard, NoAddress}
 use Rattle.mmc_switch.specs.Place.{IsLoose, Knows, StandsAs}
 use Rattle.mmc_switch.specs.Sizes.{size_of}
 use Rattle.mmc_switch.specs.declared.broken.Broken.{Broken}
@@ -36,7 +36,6 @@ pub record IsQuiet (place : State) (preset : ℕ) (card : Card) : Type 0 where
 -- fell. The card is exactly where the work has come to if it shows itself sound, and so it is if no fault fell.
 pub record IsUnderWay (session : Session) (Shown Exact : Card → Type 0) (faults : ℕ) (view : BusView) : Type 0 where
   pub is_card : IsCard view.card
-  pub sizes : HasItsSizes view.card
   pub knows : Knows session view.card.made
   pub stands : StandsAs session view
   pub shown : Shown view.card → Exact view.card

@@ -3,7 +3,7 @@ ghost use Rattle.std.specs.Prelude.{◌≡◌, ◌+◌, ◌==◌, ◌≤◌, IfO
 ghost use Rattle.mmc_frame.specs.declared.addressing.Addressing.TheVariants.{Sectors};
 ghost use Rattle.mmc_frame.specs.declared.kind.Kind.TheVariants.{Mmc};
 ghost use Rattle.mmc_ext_csd.specs.ExtCsd.{ext_csd_in, sec_count};
-ghost use Rattle.mmc_card.specs.Card.{Card, HasItsSizes};
+ghost use Rattle.mmc_card.specs.Card.{Card};
 ghost use Rattle.mmc_card.specs.Laws.{Setting, setting_of};
 ghost use Rattle.mmc_card.specs.Profile.{InProfile};
 ghost use Rattle.mmc_card.specs.RowsSwitch.{ext_csd_now, programs_switch, switched, write_byte};
@@ -178,7 +178,7 @@ fn set_up<B: Bus>(bus: &mut B, rca: u16, has_high_speed: bool) -> Result<Timing,
 pub fn widen<B: Bus>(bus: &mut B, found: &Found) -> Result<Session, SwitchFault>
     ensures bounded { (B.view bus.new).exchanges ≤ (B.view bus.old).exchanges + 56 }
     ensures moves { Moves
-        (λ old new. old.card.made.kind ≡ Mmc → HasItsSizes old.card → IsFound old.card.made found.now
+        (λ old new. old.card.made.kind ≡ Mmc → IsFound old.card.made found.now
         → IsSet false (first_setting found.now.rca) old
         → IfOk result (λ session. IsReady session new × (session.selected ≡ Some User)))
         (λ old new. old.card.made.kind ≡ Mmc → InProfile old.card.made → IsFound old.card.made found.now

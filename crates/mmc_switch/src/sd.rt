@@ -2,7 +2,6 @@
 ghost use Rattle.std.specs.Prelude.{◌≡◌, ◌+◌, ◌≤◌, IfOk, IsOk, Some, false, true, ℕ};
 ghost use Rattle.mmc_frame.specs.declared.kind.Kind.TheVariants.{Sd};
 ghost use Rattle.mmc_regs.specs.Scr.{four_lines, scr_number, sd_spec};
-ghost use Rattle.mmc_card.specs.Card.{HasItsSizes};
 ghost use Rattle.mmc_card.specs.Laws.{Setting};
 ghost use Rattle.mmc_card.specs.Made.{has_high_speed, has_switch_function};
 ghost use Rattle.mmc_card.specs.Profile.{InProfile};
@@ -236,7 +235,7 @@ fn set_up<B: Bus>(bus: &mut B, rca: u16) -> Result<Told, Cause>
 pub fn widen<B: Bus>(bus: &mut B, found: &Found) -> Result<Session, SwitchFault>
     ensures bounded { (B.view bus.new).exchanges ≤ (B.view bus.old).exchanges + 10 }
     ensures moves { Moves
-        (λ old new. old.card.made.kind ≡ Sd → HasItsSizes old.card → IsFound old.card.made found.now
+        (λ old new. old.card.made.kind ≡ Sd → IsFound old.card.made found.now
         → IsSet false (first_setting found.now.rca) old
         → IfOk result (λ session. IsReady session new × (session.selected ≡ Some User)))
         (λ old new. old.card.made.kind ≡ Sd → InProfile old.card.made → IsFound old.card.made found.now

@@ -8,7 +8,6 @@
 // 4. Each response has to be sound and without an error. Anything else ends it.
 ghost use Rattle.std.specs.Prelude.{◌≡◌, ◌+◌, ◌<◌, ◌≤◌, IfOk, IsErr, IsOk, Some, false, true, ℕ};
 ghost use Rattle.mmc_frame.specs.declared.kind.Kind.TheVariants.{Sd};
-ghost use Rattle.mmc_card.specs.Card.{HasItsSizes};
 ghost use Rattle.mmc_card.specs.Profile.{InProfile};
 ghost use Rattle.mmc_card.specs.declared.part.Part.TheVariants.{User};
 ghost use Rattle.mmc_bus.specs.Work.{Moves};
@@ -45,7 +44,7 @@ fn widen_by_kind<B: Bus>(bus: &mut B, found: &Found) -> Result<Session, SwitchFa
     ensures bounded { (B.view bus.new).exchanges ≤ (B.view bus.old).exchanges + 56 }
     ensures of_sd { found.now.kind ≡ Sd → (B.view bus.new).exchanges ≤ (B.view bus.old).exchanges + 10 }
     ensures moves { Moves
-        (λ old new. HasItsSizes old.card → IsFound old.card.made found.now → IsSet false (first_setting found.now.rca) old
+        (λ old new. IsFound old.card.made found.now → IsSet false (first_setting found.now.rca) old
         → IfOk result (λ session. IsReady session new × (session.selected ≡ Some User)))
         (λ old new. InProfile old.card.made → IsFound old.card.made found.now
         → IsSet false (first_setting found.now.rca) old → IsOk result)
@@ -66,7 +65,7 @@ pub fn widen<B: Bus>(bus: &mut B, found: Found) -> Result<Session, SwitchFault>
     ensures bounded { (B.view bus.new).exchanges ≤ (B.view bus.old).exchanges + 57 }
     ensures of_sd { found.kind ≡ Sd → (B.view bus.new).exchanges ≤ (B.view bus.old).exchanges + 11 }
     ensures moves { Moves
-        (λ old new. HasItsSizes old.card → IsFound old.card.made found → IsLeft found.rca old.card → old.lines ≡ first_lines
+        (λ old new. IsFound old.card.made found → IsLeft found.rca old.card → old.lines ≡ first_lines
         → IfOk result (λ session. IsReady session new × (session.selected ≡ Some User)))
         (λ old new. InProfile old.card.made → IsFound old.card.made found → IsLeft found.rca old.card
         → old.lines ≡ first_lines → IsOk result)

@@ -90,7 +90,7 @@ module _ (job : Job) (blocks : List Sector) (faults : ℕ) (kind : Kind) (addres
       let some = job.some in
       let fits = job.inside in
       let part = part_in job.session a job.selected at.stands selected in
-      let room = room_is job.session a.card at.sizes at.knows (omega (arith, some, fits)) in
+      let room = room_is job.session a.card at.is_card.sizes at.knows (omega (arith, some, fits)) in
       let size : length (stored a.card a.card.part) ≡ room_of job.session =
       ap (λ p. length (stored a.card p)) part ∙ room in
       let at_start = sector_is in

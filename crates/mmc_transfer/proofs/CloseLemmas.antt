@@ -11,7 +11,7 @@ use Rattle.mmc_card.specs.Laws.{Setting}
 use Rattle.mmc_card.specs.Sectors.{AreRead, Sector, touches, value_of}
 use Rattle.mmc_bus.specs.Work.{Narrows, Worked}
 use Rattle.mmc_bus.specs.declared.cause.Cause.{Cause}
-use Rattle.mmc_switch.proofs.UnderWayLemmas.{knows_then, no_error, ready_again, room_is, set_in, sizes_then}
+use Rattle.mmc_switch.proofs.UnderWayLemmas.{knows_then, no_error, ready_again, room_is, set_in}
 use Rattle.mmc_switch.proofs.UnderWayLemmas.{stands_then}
 use Rattle.mmc_switch.specs.UnderWay.{part_of}
 use Rattle.mmc_transfer.proofs.StepLemmas.{each_way, either_way, no_more, turn_fails}
@@ -74,7 +74,7 @@ module _ (job : Job) (blocks : List Sector) (faults : ℕ) (kind : Kind) (rca : 
       let part = part_of job.session in
       let some = job.some in
       let fits = job.inside in
-      let room = room_is job.session a.card at.sizes at.knows (omega (arith, some, fits)) in
+      let room = room_is job.session a.card at.is_card.sizes at.knows (omega (arith, some, fits)) in
       cond_in_old (touches (unfinished a.card) part (job.start + i)) (value_of (unfinished a.card) (job.start + i))
       (known a.card part (job.start + i)) (slice_index_or blocks i [])
       (at_in (stored a.card part) (job.start + i) (slice_index_or blocks i [])
@@ -92,7 +92,7 @@ module _ (job : Job) (blocks : List Sector) (faults : ℕ) (kind : Kind) (rca : 
         stays = work.stays;
         within = no_more job blocks (Other Confirm) faults a b at work;
         left = (
-          ready_again job.session b work.is_card (sizes_then a.card b.card work.stays.carried at.sizes)
+          ready_again job.session b work.is_card
               (knows_then job.session a.card b.card work.stays.carried at.knows)
               (stands_then job.session a b work.set at.stands) idle.quiet idle.rests,
           subst (HasEffect job blocks) (sym own.1) (has_effect exact),

@@ -4,6 +4,7 @@ pub mod CommandLemmas
 pub mod EndLemmas
 pub mod FinishLemmas
 pub mod GiveLemmas
+pub mod LendingLemmas
 pub mod PauseLemmas
 pub mod PollLemmas
 pub mod PresetLemmas

@@ -20,7 +20,7 @@ use Rattle.mmc_card.specs.Sectors.{AreRead, Sector, Within, maybe_changed, touch
 use Rattle.mmc_bus.specs.declared.cause.Cause.{Cause}
 use Rattle.mmc_bus.specs.Work.{Narrows, Worked}
 use Rattle.mmc_switch.proofs.UnderWayLemmas.{goes_there, has_failed, knows_then, lines_in, part_in, ready_again}
-use Rattle.mmc_switch.proofs.UnderWayLemmas.{room_is, sizes_then, stands_then}
+use Rattle.mmc_switch.proofs.UnderWayLemmas.{room_is, stands_then}
 use Rattle.mmc_switch.specs.Place.{IsReady}
 use Rattle.mmc_switch.specs.UnderWay.{IsQuiet, faults_then, part_of, room_of}
 use Rattle.mmc_transfer.proofs.GiveLemmas.{below, last_is, left_then}
@@ -216,7 +216,7 @@ module _ (job : Job) (blocks news : List Sector) (done faults : ℕ) (bytes : Se
 
     size_in : length (stored a.card (part_of job.session)) ≡ room_of job.session
     size_in =
-        let inside = job.inside in room_is job.session a.card at.sizes at.knows (omega (arith, inside, more))
+        let inside = job.inside in room_is job.session a.card at.is_card.sizes at.knows (omega (arith, inside, more))
 
     module _ (selected : is_selected a.card.state ≡ true) (x : IsSending done job blocks a.card) where
       here : a.card.part ≡ part_of job.session
@@ -300,14 +300,13 @@ module _ (job : Job) (blocks news : List Sector) (done faults : ℕ) (bytes : Se
           let sent_all = has_sent a.card (work.own refl).2.0 sending size_here came
           (last_as true (at_last (done + 1) job.count (is_counted job) all counted)) counted in
           let is = (work.own refl).2.1 in
-          let sizes = sizes_then a.card b.card work.stays.carried at.sizes in
           let knows = knows_then job.session a.card b.card work.stays.carried at.knows in
           let inside = job.inside in (
-            ready_again job.session b work.is_card sizes knows (stands_then job.session a b work.set at.stands)
+            ready_again job.session b work.is_card knows (stands_then job.session a b work.set at.stands)
                 (subst (IsQuiet Tran 0) (sym is) sent_all.0) (ap (λ (c : Card). c.is_busy) is ∙ sent_all.1),
             to_read job.way (AreRead (holds b.card) (part_of job.session) job.start news) (IsCarriedOut job news b.card)
                 way
-                (are_read b.card (room_is job.session b.card sizes knows (omega (arith, inside, more)))
+                (are_read b.card (room_is job.session b.card work.is_card.sizes knows (omega (arith, inside, more)))
                 (subst (λ n. AreStored n job news b.card) all
                 (subst (AreStored (done + 1) job news) (sym is) sent_all.2))),
           )

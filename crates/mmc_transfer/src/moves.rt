@@ -1,5 +1,6 @@
 // The phases of a run that move a block: one exchange each, and what comes behind it. The block is moved in place.
 ghost use Rattle.std.specs.Prelude.{◌≡◌, ◌+◌, ◌<◌, ◌≤◌, IfOk, IsTrue, List, length, true, ℕ};
+ghost use Rattle.mmc_bus.specs.Lending.{IsRewritten};
 ghost use Rattle.mmc_bus.specs.Work.{Ends};
 ghost use Rattle.mmc_card.specs.Sectors.{Sector};
 ghost use Rattle.mmc_transfer.specs.Fits.{phase_left, some_fits, some_left};
@@ -76,6 +77,7 @@ pub fn take<B: Bus, D: BlocksMut>(
     ensures ends { Ends 1 (B.view bus.old) result (B.view bus.new) }
     ensures kept { (B.view bus.new).is_kept ≡ true → (B.view bus.old).is_kept ≡ true }
     ensures count { length (D.blocks blocks.new) ≡ length (D.blocks blocks.old) }
+    ensures lent { IsRewritten D.blocks D.with blocks.old blocks.new }
     ensures fits { IfOk result (λ next. IsTrue (some_fits job.now.count job.now.session.info.cmd23 next)) }
     ensures lowers { IfOk result (λ next. some_left job.now.count job.now.session.info.cmd23 next < phase_left job.now.count job.now.session.info.cmd23 (Block done)) }
     ensures turned { (B.view bus.new).is_kept ≡ true → (faults : ℕ) → IsIn job.now (D.blocks blocks.old) (Block done) faults (B.view bus.old)

@@ -2,6 +2,7 @@
 ghost use Rattle.std.specs.Prelude.{◌≡◌, ◌*◌, ◌+◌, ◌≤◌, IfOk, IsSome, IsTrue, List, false, length, true, ℕ};
 ghost use Rattle.mmc_card.specs.BusView.{BusView};
 ghost use Rattle.mmc_card.specs.Sectors.{Sector};
+ghost use Rattle.mmc_bus.specs.Lending.{IsRewritten};
 ghost use Rattle.mmc_switch.specs.Place.{IsReady};
 ghost use Rattle.mmc_switch.specs.UnderWay.{room_of};
 ghost use Rattle.mmc_transfer.specs.declared.job.TheConstants.{MAX_BLOCKS};
@@ -80,6 +81,7 @@ impl Run {
         ensures kept { (B.view bus.new).is_kept ≡ true → (B.view bus.old).is_kept ≡ true }
         ensures same { IsSameRun self result }
         ensures count { length (D.blocks blocks.new) ≡ length (D.blocks blocks.old) }
+        ensures lent { IsRewritten D.blocks D.with blocks.old blocks.new }
         ensures lowers { Lowers self result }
         ensures cause { FailsBy result (B.view bus.new) }
         ensures turned { (B.view bus.new).is_kept ≡ true → (faults : ℕ) → IsRunning self (D.blocks blocks.old) faults (B.view bus.old)

@@ -1,6 +1,7 @@
 // Whole runs, as loops over their turns.
 ghost use Rattle.std.specs.Prelude.{◌≡◌, ◌*◌, ◌+◌, ◌≤◌, IfErr, IsSome, Some, false, length, true};
 ghost use Rattle.mmc_bus.specs.Heard.{cause_of};
+ghost use Rattle.mmc_bus.specs.Lending.{IsRewritten};
 ghost use Rattle.mmc_switch.specs.Place.{IsReady};
 ghost use Rattle.mmc_switch.specs.UnderWay.{room_of};
 ghost use Rattle.mmc_transfer.specs.declared.job.TheConstants.{MAX_BLOCKS};
@@ -30,6 +31,7 @@ pub fn write_run<B: Bus, D: Blocks>(
     requires inside { start + length (D.blocks blocks.now) ≤ room_of session }
     requires writable { session.info.read_only ≡ false }
     ensures bounded { (B.view bus.new).exchanges ≤ (B.view bus.old).exchanges + (17 * length (D.blocks blocks.now) + 19) }
+    ensures kept { (B.view bus.new).is_kept ≡ true → (B.view bus.old).is_kept ≡ true }
     ensures same { IsSameSession session result }
     ensures cause { IfErr result (λ broken. cause_of (B.view bus.new).last ≡ Some broken.cause) }
     ensures run { (B.view bus.new).is_kept ≡ true → IsReady session (B.view bus.old)
@@ -63,6 +65,8 @@ pub fn read_run<B: Bus, D: BlocksMut>(
     requires inside { start + length (D.blocks blocks.old) ≤ room_of session }
     ensures bounded { (B.view bus.new).exchanges ≤ (B.view bus.old).exchanges + (17 * length (D.blocks blocks.old) + 19) }
     ensures count { length (D.blocks blocks.new) ≡ length (D.blocks blocks.old) }
+    ensures lent { IsRewritten D.blocks D.with blocks.old blocks.new }
+    ensures kept { (B.view bus.new).is_kept ≡ true → (B.view bus.old).is_kept ≡ true }
     ensures same { IsSameSession session result }
     ensures cause { IfErr result (λ broken. cause_of (B.view bus.new).last ≡ Some broken.cause) }
     ensures run { (B.view bus.new).is_kept ≡ true → IsReady session (B.view bus.old)

@@ -1,23 +1,28 @@
-use Rattle.std.proofs.Common.{◌≡◌, ap, subst, true}
-use Rattle.cardtool.proofs.WholeLemmas.{fell_none, is_served, unwritten}
+use Rattle.std.proofs.Common.{◌-◌}
+use Rattle.mmc_card.specs.Card.{holds}
+use Rattle.cardtool.proofs.WholeLemmas.{is_served, kept_at_end, served_device, unopened, unwritten}
 use Rattle.cardtool.proofs.serve.serve_untraced.Goals as goal
 
 pub returns-clause-served : goal.returns-clause-served
-returns-clause-served g c = λ kept.
-    let at_end = subst (λ b. (g.B.Bus.view b).is_kept ≡ true) c.close-bus.ensures.bus kept in
+returns-clause-served g c = λ kept decided.
+    let o = c.in-Ok.ensures in
+    let first = g.B.Bus.view c.args.bus in
+    let last = g.B.Bus.view c.close-bus.result in
     rw c.outcome.ensures
-    (is_served g.B.Bus.view c.in-Ok.device c.serve_events-served.new.device c.args.sectors _ c.close-bus.result _ _ _ _
-    c.serve_events-served.result
-    c.answers_are_in_order.ensures c.contents_are_in_order.ensures
-    (c.a_ready_card_is_decided.ensures c.args.sectors (g.B.Bus.view c.args.bus)
-    (c.requires.ready (subst (λ b. (g.B.Bus.view b).is_kept ≡ true) (ap (λ d. d.bus) c.in-Ok.ensures.ok)
-    (c.serve_events-served.ensures.later_device.kept at_end))))
-    (ap (λ d. d.info) c.in-Ok.ensures.ok) (ap (λ d. d.is_ready) c.in-Ok.ensures.ok) c.in-Ok.ensures.machine
-    c.close-bus.ensures.agrees
-    (fell_none g.B.Bus.view c.in-Ok.device c.serve_events-served.new.device c.args.bus c.close-bus.result
-    (ap (λ d. d.bus) c.in-Ok.ensures.ok) c.close-bus.ensures.bus (ap (λ d. d.is_ready) c.in-Ok.ensures.ok)
-    c.serve_events-served.ensures.later_device at_end)
-    (c.serve_events-served.ensures.serves at_end))
+    (is_served g.B.Bus.view c.in-Ok.device c.play-served.new.device first.card.made (holds first.card) (holds last.card)
+    (last.faults - first.faults) _ _ _ c.play-served.result c.answers_are_in_order.ensures
+    c.contents_are_in_order.ensures decided
+    (served_device g.B.Bus.view c.in-Ok.device c.play-served.new.device c.args.bus c.close-bus.result o.info o.ok.0
+    o.ok.1 o.ok.2 o.ok.3 o.stays c.play-served.ensures.later_device c.close-bus.ensures.bus
+    c.close-bus.ensures.agrees kept)
+    (c.play-served.ensures.serves (kept_at_end g.B.Bus.view _ _ c.close-bus.ensures.bus kept)))
+
+pub returns-in-Err-clause-served : goal.returns-in-Err-clause-served
+returns-in-Err-clause-served g c = λ kept decided.
+    let e = c.in-Err.ensures in
+    rw c.of_opening.ensures
+    (unopened g.B.Bus.view c.args.bus c.in-Err.bus _ (g.W.Write.contents c.args.out.now) c.in-Err.fault e.no_memory
+    (λ other. e.stays kept) (λ other. e.refused other kept))
 
 pub returns-clause-unwritten : goal.returns-clause-unwritten
-returns-clause-unwritten g c = rw c.outcome.ensures (unwritten _ _ c.serve_events-served.result)
+returns-clause-unwritten g c = rw c.outcome.ensures (unwritten _ _ c.play-served.result)

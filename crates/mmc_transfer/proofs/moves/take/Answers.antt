@@ -1,4 +1,5 @@
-use Rattle.std.proofs.Common.{arith, length}
+use Rattle.std.proofs.Common.{◌<◌, arith, length, subst, sym}
+use Rattle.mmc_bus.specs.Lending.{block, nothing}
 use Rattle.mmc_transfer.proofs.TakeLemmas.{take_ends, take_fails}
 use Rattle.mmc_transfer.proofs.moves.take.Goals as goal
 
@@ -19,3 +20,13 @@ returns-clause-turned g c kept faults at =
     (g.met.D.BlocksMut.writes_one c.args.blocks.now c.args.done c.receive.new.buffer) (g.B.Bus.view c.args.bus.now)
     (g.B.Bus.view c.receive.new.bus) at (length c.block_mut.result.now) (c.in_ok-receive.ensures.works kept)
     c.after_read.result c.after_read.ensures
+
+pub returns-in_err-receive-clause-lent : goal.returns-in_err-receive-clause-lent
+returns-in_err-receive-clause-lent g c =
+    block _ c.args.done c.receive.new.buffer nothing
+    (subst (λ n. c.args.done < n) (sym c.requires.count) c.requires.more) (omega arith)
+
+pub returns-clause-lent : goal.returns-clause-lent
+returns-clause-lent g c =
+    block _ c.args.done c.receive.new.buffer nothing
+    (subst (λ n. c.args.done < n) (sym c.requires.count) c.requires.more) (omega arith)

@@ -1,3 +1,4 @@
+use Rattle.mmc_bus.specs.Lending.{IsRewritten}
 use Rattle.mmc_transfer.specs.Run.{exchanges_left}
 use Rattle.mmc_transfer.proofs.WholeLemmas.{IsAlong}
 use Rattle.mmc_transfer.proofs.whole.read_run.Given as goal
@@ -5,6 +6,7 @@ use Rattle.mmc_transfer.proofs.whole.read_run.Given as goal
 abbrev pub invariant-loop-next : goal.invariant-loop-next
 invariant-loop-next g l =
     IsAlong l.initial.run l.run (g.D.Blocks.blocks l.blocks) (g.B.Bus.view l.initial.bus) (g.B.Bus.view l.bus)
+    × IsRewritten g.D.Blocks.blocks g.D.BlocksMut.with l.initial.blocks l.blocks
 
 abbrev pub decreases-loop-next : goal.decreases-loop-next
 decreases-loop-next g l = exchanges_left l.run

@@ -7,8 +7,8 @@ use Rattle.mmc_card_sim.specs.declared.plan.Planned.{Planned}
 use Rattle.mmc_card_sim.proofs.PlanLemmas.{added, replaced}
 use Rattle.mmc_card_sim.proofs.plan.Plan.put.Goals as goal
 
-pub returns-in-Some : goal.returns-in-Some
-returns-in-Some c e =
+pub returns-in-Some-clause-planned : goal.returns-in-Some-clause-planned
+returns-in-Some-clause-planned c e =
     let p : Planned = record { exchange = c.args.exchange; fault = c.args.fault } in
     let old = c.self.inside.planned.items in
     let new = slice_set old c.in-Some.i p in
@@ -19,8 +19,8 @@ returns-in-Some c e =
     rw (← c.self.view_is, c.deref_mut.ensures.value)
     (ap (λ xs. fault_at xs e) back ∙ replaced old c.in-Some.i p p e there.0 there.1 (same p))
 
-pub returns-in-None : goal.returns-in-None
-returns-in-None c e =
+pub returns-in-None-clause-planned : goal.returns-in-None-clause-planned
+returns-in-None-clause-planned c e =
     let p : Planned = record { exchange = c.args.exchange; fault = c.args.fault } in
     rw (← c.self.view_is)
     (ap (λ xs. fault_at xs e) c.push.ensures.items

@@ -9,10 +9,16 @@ use Rattle.mmc_card_sim.proofs.sim_card.SimCard.build.Goals as goal
 
 pub unused-requires-clause-card : goal.unused-requires-clause-card
 unused-requires-clause-card c =
-    let blocks = new_blocks c.in_ok-judged.judged.sizes c.args.spec.image c.erased_byte-erased.result
-    c.in_ok-judged.ensures.image_bytes c.in_ok-judged.ensures.image c.erased_byte-erased.type_inv in
+    let registers = c.args.spec.registers in
+    let judged = c.in_ok-judged in
+    let erased = c.erased_byte-erased in
+    let blocks = new_blocks judged.judged.sizes c.args.spec.image erased.result judged.ensures.image_bytes
+    judged.ensures.image erased.type_inv in
+    let sizes = has_its_sizes judged.judged.sizes c.args.spec.image erased.result (made_of registers) _
+    (ap (powered_on (made_of registers)) c.in-Ok.ensures.sectors)
+    (ap length judged.ensures.sizes ∙ length_sizes registers) judged.ensures.exist in
     along IsCard c.powered_on-chip.ensures.card
-    (c.a_card_after_power_on_is_one.ensures _ _ c.in_ok-judged.ensures.registers
+    (c.a_card_after_power_on_is_one.ensures _ _ judged.ensures.registers sizes
     (λ part. rw c.in-Ok.ensures.sectors (blocks (part_number part))))
 
 pub returns-clause-sizes : goal.returns-clause-sizes

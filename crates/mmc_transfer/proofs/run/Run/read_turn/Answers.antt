@@ -1,3 +1,4 @@
+use Rattle.mmc_bus.specs.Lending.{nothing}
 use Rattle.mmc_transfer.proofs.TurnLemmas.{has_turned}
 use Rattle.mmc_transfer.proofs.run.Run.read_turn.Goals as goal
 
@@ -11,3 +12,9 @@ returns-in-Other-clause-turned g c kept faults at =
     let blocks = g.D.Blocks.blocks c.args.blocks.now in
     has_turned c.args.self blocks faults _ c.step-result.result c.progress-in-Other.result _
     c.progress-in-Other.ensures (c.step-result.ensures.turned kept blocks faults c.requires.count (rw c.in-Other.is at at))
+
+pub returns-in-Block-clause-lent : goal.returns-in-Block-clause-lent
+returns-in-Block-clause-lent g c = c.take-result.ensures.lent
+
+pub returns-in-Other-clause-lent : goal.returns-in-Other-clause-lent
+returns-in-Other-clause-lent g c = nothing

@@ -1,0 +1,5 @@
+use Rattle.cardtool.proofs.PlanningLemmas.{PlannedSoFar}
+use Rattle.cardtool.proofs.new_card.plan_all.Given as goal
+
+abbrev pub invariant-loop-exchange : goal.invariant-loop-exchange
+invariant-loop-exchange l = PlannedSoFar l.fn.card l.fn.plan l.exchange-index l.card

@@ -1,0 +1,12 @@
+use Rattle.std.proofs.Common.{[], ◌∷◌, ◌++◌, length}
+use Rattle.cardtool.specs.declared.event.ScriptEvent.TheVariants.{Run}
+use Rattle.cardtool.proofs.DeviceLemmas.{ServedSoFar}
+use Rattle.cardtool.proofs.play.play.Given as goal
+
+abbrev pub invariant-loop-event : goal.invariant-loop-event
+invariant-loop-event g l =
+    ServedSoFar g.B.Bus.view l.fn.device l.device (l.fn.script ++ Run ∷ []) (l.script ++ Run ∷ [])
+    (g.W.Write.contents l.fn.out) (g.W.Write.contents l.out) l.bad
+
+abbrev pub decreases-loop-event : goal.decreases-loop-event
+decreases-loop-event g l = length l.script

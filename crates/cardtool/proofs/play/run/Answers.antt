@@ -1,0 +1,38 @@
+use Rattle.std.proofs.Common.{[], ◌∷◌, arith}
+use Rattle.cardtool.specs.declared.event.ScriptEvent.TheVariants.{Run}
+use Rattle.cardtool.proofs.DeviceLemmas.{later_none, later_then, so_far_broken, so_far_none, so_far_then, waiting_is}
+use Rattle.cardtool.proofs.ServingLemmas.{run_idle, run_turn, run_turn_broken}
+use Rattle.cardtool.proofs.play.run.Goals as goal
+
+pub loop-device-init : goal.loop-device-init
+loop-device-init g c = so_far_none g.B.Bus.view c.args.device.now (Run ∷ []) _
+
+pub loop-device-preserved : goal.loop-device-preserved
+loop-device-preserved g c =
+    so_far_then g.B.Bus.view c.args.device.now c.loop-device.device c.turn.new.device (Run ∷ []) (Run ∷ []) []
+    (Run ∷ []) _ (g.W.Write.contents c.loop-device.out) _ _ _ c.loop-device.invariant c.turn.ensures.later_device
+    (λ kept. run_turn g.B.Bus.view c.loop-device.device c.turn.new.device _ _ c.waiting.result _
+    c.loop-device-test.true
+    (λ m h. waiting_is g.B.Bus.view c.loop-device.device m c.waiting.result c.waiting.ensures h)
+    (c.in_ok-bad.ensures.turns kept))
+
+pub returns-in_err-bad : goal.returns-in_err-bad
+returns-in_err-bad g c = record {
+  serves = so_far_broken g.B.Bus.view c.args.device.now c.loop-device.device c.turn.new.device (Run ∷ []) (Run ∷ [])
+      [] _ (g.W.Write.contents c.loop-device.out) _ _ c.from_residual.result c.from_residual.ensures.0
+      c.loop-device.invariant c.turn.ensures.later_device
+      (λ kept. run_turn_broken g.B.Bus.view c.loop-device.device c.turn.new.device _ _ c.waiting.result _
+      c.loop-device-test.true
+      (λ m h. waiting_is g.B.Bus.view c.loop-device.device m c.waiting.result c.waiting.ensures h)
+      (c.in_err-bad.ensures.turns kept));
+  later_device = later_then _ _ _ _ c.loop-device.invariant.later_device c.turn.ensures.later_device;
+}
+
+pub returns : goal.returns
+returns g c =
+    let ended = so_far_then g.B.Bus.view c.args.device.now c.loop-device.device c.loop-device.device (Run ∷ [])
+    (Run ∷ []) [] [] _ (g.W.Write.contents c.loop-device.out) (g.W.Write.contents c.loop-device.out) _ _
+    c.loop-device.invariant (later_none g.B.Bus.view c.loop-device.device)
+    (λ kept. run_idle g.B.Bus.view c.loop-device.device _ c.waiting.result (omega arith)
+    (λ m h. waiting_is g.B.Bus.view c.loop-device.device m c.waiting.result c.waiting.ensures h)) in
+    record { serves = ended.serves; later_device = ended.later_device }

@@ -1,0 +1,12 @@
+use Rattle.std.proofs.Common.{[], ◌∷◌, length}
+use Rattle.cardtool.specs.declared.event.ScriptEvent.TheVariants.{Run}
+use Rattle.cardtool.proofs.DeviceLemmas.{ServedSoFar}
+use Rattle.cardtool.proofs.play.run.Given as goal
+
+abbrev pub invariant-loop-device : goal.invariant-loop-device
+invariant-loop-device g l =
+    ServedSoFar g.B.Bus.view l.fn.device l.device (Run ∷ []) (Run ∷ []) (g.W.Write.contents l.fn.out)
+    (g.W.Write.contents l.out) l.bad
+
+abbrev pub decreases-loop-device : goal.decreases-loop-device
+decreases-loop-device g l = length l.device.waits

@@ -1,0 +1,82 @@
+-- The files: why they weren't read, or what they say.
+use Rattle.std.specs.Prelude.{◌≡◌, ◌⊎◌, ◌*◌, ◌+◌, ◌<◌, ℕ, IfSome, IsSome, List, Option, None, Some, Result, Ok, Err, take, length, ⊤}
+use Rattle.mmc_card_sim.specs.declared.spec.CardSpec.{CardSpec}
+use Rattle.mmc_card_sim.specs.declared.store.TheConstants.{MAX_SECTORS}
+use Rattle.cardtool.specs.declared.event.ScriptEvent.{ScriptEvent}
+use Rattle.cardtool.specs.declared.fault.ServeFault.{ServeFault}
+use Rattle.cardtool.specs.declared.fault.ServeFault.TheVariants.{CardIncomplete, CardLine, NoMemory, ReadCard}
+use Rattle.cardtool.specs.declared.fault.ServeFault.TheVariants.{ReadImage, ReadScript, ScriptLine, TooLong}
+use Rattle.cardtool.specs.declared.files.TheConstants.{MAX_CARD_FILE, MAX_SCRIPT}
+use Rattle.cardtool.specs.CardFile.{IsBadCard, IsCardFile}
+use Rattle.cardtool.specs.Planning.{PlannedFault}
+use Rattle.cardtool.specs.Script.{IsFirstBadLine, events_in, lines}
+use Rattle.cardtool.specs.Whole.{IsServedOnSpec}
+
+-- the texts of the files, as far as their readers tell; the image may be left out
+pub record Files : Type 0 where
+  pub card : Option (List ℕ)
+  pub script : Option (List ℕ)
+  pub image : Option (Option (List ℕ))
+
+-- a file that is longer than it may be
+abbrev pub IsLonger : Option (List ℕ) → ℕ → Type 0
+IsLonger file limit = IfSome file (λ all. limit < length all)
+
+-- a file wasn't read: its reader failed, which this fault says, or it is too long, or memory was refused
+abbrev pub IsUnread : Option (List ℕ) → ℕ → ServeFault → ServeFault → Type 0
+IsUnread file limit unread fault = (fault ≡ unread) ⊎ ((fault ≡ NoMemory) ⊎ ((fault ≡ TooLong) × IsLonger file limit))
+
+-- the card file describes a card
+abbrev pub HasCard : Files → Type 0
+HasCard files = IfSome files.card (λ all. (spec : CardSpec) × (plan : List PlannedFault) × IsCardFile (lines all) spec plan)
+
+-- the script is one
+abbrev pub HasEvents : Files → Type 0
+HasEvents files = IfSome files.script (λ all. (events : List ScriptEvent) × (events_in (lines all) ≡ Some events))
+
+-- What a fault says of files that were refused. They come in order: a fault of the script comes only where the card file
+-- was taken, and one of the image only where the script was taken too.
+abbrev pub AreRefused : Files → ServeFault → Type 0
+AreRefused files ReadCard = ⊤
+AreRefused files (CardLine n) = IfSome files.card (λ all. IsBadCard (lines all) (CardLine n))
+AreRefused files CardIncomplete = IfSome files.card (λ all. IsBadCard (lines all) CardIncomplete)
+AreRefused files TooLong = IsLonger files.card MAX_CARD_FILE ⊎ (HasCard files × IsLonger files.script MAX_SCRIPT)
+AreRefused files ReadScript = HasCard files
+AreRefused files (ScriptLine n) = HasCard files × IfSome files.script (λ all. IsFirstBadLine (lines all) n)
+AreRefused files ReadImage = HasCard files × HasEvents files × IsSome files.image
+AreRefused files NoMemory = ⊤
+AreRefused files fault = ⊥
+
+-- The image is read to one byte past the most sectors; a longer one is too long in any case.
+abbrev pub IsImage : Option (Option (List ℕ)) → Option (List ℕ) → Type 0
+IsImage None image = image ≡ None
+IsImage (Some file) None = ⊥
+IsImage (Some file) (Some bytes) = IfSome file (λ all. bytes ≡ take (512 * MAX_SECTORS + 1) all)
+
+-- the card file, with the image, gives this spec, and the script these events
+pub record AreRead (files : Files) (spec : CardSpec) (events : List ScriptEvent) : Type 0 where
+  pub card_text : List ℕ
+  pub script_text : List ℕ
+  -- the card without its image, and the faults that are planned
+  pub bare : CardSpec
+  pub plan : List PlannedFault
+  pub card_file : IfSome files.card (λ all. card_text ≡ all)
+  pub script_file : IfSome files.script (λ all. script_text ≡ all)
+  pub image_file : IsImage files.image spec.image
+  pub card_is : IsCardFile (lines card_text) bare plan
+  pub spec_is : spec ≡ record bare { image = spec.image }
+  pub events_are : events_in (lines script_text) ≡ Some events
+
+-- the files were read, and the events were served on the card that they describe
+pub record IsServedFromFiles (files : Files) (trace : Option ℕ) (old new : Option (List ℕ))
+    (result : Result ℕ ServeFault) : Type 0 where
+  pub spec : CardSpec
+  pub events : List ScriptEvent
+  pub read : AreRead files spec events
+  pub served : IsServedOnSpec spec events trace old new result
+
+-- So with an exit status; with a fault either they were refused, and nothing was written, or it is one of serving.
+abbrev pub IsOutcomeOfFiles : Files → Option ℕ → Option (List ℕ) → Option (List ℕ) → Result ℕ ServeFault → Type 0
+IsOutcomeOfFiles files trace old new (Ok status) = IsServedFromFiles files trace old new (Ok status)
+IsOutcomeOfFiles files trace old new (Err fault) =
+    (AreRefused files fault × (new ≡ old)) ⊎ IsServedFromFiles files trace old new (Err fault)

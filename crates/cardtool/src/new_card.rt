@@ -1,0 +1,57 @@
+// The card that a script is served on: a new one in memory, with the faults that are planned for it.
+ghost use Rattle.std.specs.Prelude.{◌≡◌, ◌≤◌, IfErr, IfOk, Some, [], length};
+ghost use Rattle.mmc_bus.specs.Wires.{IsUnused};
+ghost use Rattle.mmc_card_sim.specs.Plan.{fault_at};
+ghost use Rattle.mmc_card_sim.specs.SimView.{sim_bus_view};
+ghost use Rattle.std.specs.List.{All};
+ghost use Rattle.cardtool.specs.Planning.{CanBePlanned};
+ghost use Rattle.cardtool.specs.Whole.{IsWhyUnbuilt, building_fault, new_card};
+
+use crate::fault::ServeFault;
+use mmc_card_sim::{BuildFault, CardSpec, Fault, SimCard};
+use std::alloc::Global;
+
+// Plans faults for a card that has made no exchange.
+fn plan_all(card: &mut SimCard, plan: &[(u64, Fault)])
+    requires planned { CanBePlanned plan.now }
+    requires unused { IsUnused (sim_bus_view card.old) }
+    requires unplanned { card.old.plan ≡ [] }
+    ensures planned { All (λ p. fault_at card.new.plan p.0 ≡ Some p.1) plan.now }
+    ensures no_others { length card.new.plan ≤ length plan.now }
+    ensures stays { card.new ≡ record card.old { plan = card.new.plan } }
+{
+    for (exchange, fault) in plan {
+        let _planned = card.plan(*exchange, *fault);
+    }
+}
+
+// What is printed of a card that isn't built.
+fn of_building(fault: BuildFault) -> ServeFault
+    ensures { result ≡ building_fault fault }
+{
+    match fault {
+        BuildFault::Register => ServeFault::Register,
+        BuildFault::ImageSize => ServeFault::ImageSize,
+        BuildFault::NoMemory => ServeFault::NoMemory,
+    }
+}
+
+/// The card of a spec after power on, with these faults planned for its exchanges.
+///
+/// # Errors
+/// `Register`, `ImageSize` or `NoMemory`, as `SimCard::build` has it.
+pub fn built(alloc: Global, spec: CardSpec, plan: &[(u64, Fault)]) -> Result<SimCard, ServeFault>
+    requires { CanBePlanned plan.now }
+    ensures card { IfOk result (λ sim. sim.card ≡ new_card spec) }
+    ensures planned { IfOk result (λ sim. All (λ p. fault_at sim.plan p.0 ≡ Some p.1) plan.now) }
+    ensures no_others { IfOk result (λ sim. length sim.plan ≤ length plan.now) }
+    ensures err { IfErr result (λ fault. IsWhyUnbuilt spec fault) }
+{
+    match SimCard::build(alloc, spec) {
+        Ok(mut card) => {
+            plan_all(&mut card, plan);
+            Ok(card)
+        }
+        Err(fault) => Err(of_building(fault)),
+    }
+}

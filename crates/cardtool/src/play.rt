@@ -1,0 +1,102 @@
+// Plays the events of a script on a device, and prints what becomes of them.
+ghost use Rattle.std.specs.Prelude.{◌<◌, ◌≡◌, ◌++◌, ◌∷◌, [], length, true};
+ghost use Rattle.cardtool.specs.declared.event.ScriptEvent.TheVariants.{Run, Submit};
+ghost use Rattle.cardtool.specs.Serving.{IsLaterDevice, Plays, TurnsAndPrints, answer_if_printed};
+
+use crate::event::ScriptEvent;
+use crate::output::{has_failure, put_completions, put_queued, put_refused};
+use crate::script::Script;
+use mmc_block::{BlockDev, Request};
+use mmc_bus::Bus;
+use std::alloc::Global;
+use std::io::{self, Write};
+
+// The answer of lines that were printed, or were not.
+fn answer(printed: io::Result<()>, bad: bool) -> io::Result<bool>
+    ensures { result ≡ answer_if_printed bad printed }
+{
+    match printed {
+        Ok(()) => Ok(bad),
+        Err(fault) => Err(fault),
+    }
+}
+
+// One turn, and a line for each completion. The answer of this and the next functions says whether some request
+// failed or was refused.
+fn turn<B: Bus, W: Write>(device: &mut BlockDev<B>, out: &mut W) -> io::Result<bool>
+    ensures turns { (B.view device.new.bus).is_kept ≡ true
+        → TurnsAndPrints B.view device.old device.new (W.contents out.old) (W.contents out.new) result }
+    ensures later_device { IsLaterDevice B.view device.old device.new }
+    ensures falls { 0 < length device.old.waits → length device.new.waits < length device.old.waits }
+{
+    let completions = device.turn();
+    let printed = put_completions(out, completions.as_slice());
+    answer(printed, has_failure(completions.as_slice()))
+}
+
+// Turns until nothing waits.
+fn run<B: Bus, W: Write>(device: &mut BlockDev<B>, out: &mut W) -> io::Result<bool>
+    ensures { Plays B.view device.old device.new (Run ∷ []) (W.contents out.old) (W.contents out.new) result }
+{
+    let mut bad = false;
+    while device.waiting() > 0 {
+        bad = turn(device, out)? | bad;
+    }
+    Ok(bad)
+}
+
+// A submission, with its line.
+fn submit<B: Bus, W: Write>(
+    alloc: Global,
+    device: &mut BlockDev<B>,
+    client: u32,
+    request: Request,
+    out: &mut W,
+) -> io::Result<bool>
+    ensures { Plays B.view device.old device.new (Submit client request ∷ []) (W.contents out.old) (W.contents out.new) result }
+{
+    match device.submit(alloc, client, request) {
+        Ok(ticket) => {
+            let printed = put_queued(out, ticket, client);
+            answer(printed, false)
+        }
+        Err((_, refused)) => {
+            let printed = put_refused(out, client, refused);
+            answer(printed, true)
+        }
+    }
+}
+
+// One event, with its lines.
+fn play_event<B: Bus, W: Write>(
+    alloc: Global,
+    device: &mut BlockDev<B>,
+    event: ScriptEvent,
+    out: &mut W,
+) -> io::Result<bool>
+    ensures { Plays B.view device.old device.new (event ∷ []) (W.contents out.old) (W.contents out.new) result }
+{
+    match event {
+        ScriptEvent::Submit { client, request } => submit(alloc, device, client, request, out),
+        ScriptEvent::Turn => turn(device, out),
+        ScriptEvent::Run => run(device, out),
+    }
+}
+
+/// Plays all events of a script, and then takes turns until nothing waits. The answer says whether some request failed or
+/// was refused.
+pub fn play<B: Bus, W: Write>(
+    alloc: Global,
+    device: &mut BlockDev<B>,
+    script: Script,
+    out: &mut W,
+) -> io::Result<bool>
+    ensures { Plays B.view device.old device.new (script ++ Run ∷ []) (W.contents out.old) (W.contents out.new) result }
+{
+    let mut script = script;
+    let mut bad = false;
+    while let Some(event) = script.take_first() {
+        bad = play_event(alloc, device, event, out)? | bad;
+    }
+    Ok(run(device, out)? | bad)
+}
