@@ -15,8 +15,8 @@ fn opened_m(alloc: Global) -> Result<(SimCard, Session), Fail> {
     Ok((card, session))
 }
 
-// Selects a partition that exists.
-fn selected<B: Bus>(
+/// Selects a partition that exists.
+pub fn selected<B: Bus>(
     bus: &mut B,
     session: Session,
     part: Part,

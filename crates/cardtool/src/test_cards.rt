@@ -2,13 +2,12 @@
 // `H` has sector addresses and high speed. `M` is an eMMC device with sector addresses.
 ghost use Rattle.std.specs.Prelude.{◌<◌};
 
-use mmc_bus::{Bus, BusAnswer, Bytes, DataIn, Reply};
+use mmc_bus::{Bus, BusAnswer, Bytes, DataIn, Reply, ScriptedBus};
 use mmc_card_sim::{
     CardSpec, Fault, Flips, KindRegisters, MmcRegisters, Outcome, Registers, SdRegisters, SimCard,
 };
 use mmc_frame::{encode_r2, encode_r3, encode_response};
-use mmc_identify::identify;
-use mmc_switch::{Session, widen};
+use mmc_switch::{Session, initialize};
 use std::alloc::Global;
 use std::collections::VecDeque;
 use std::test::Fail;
@@ -32,7 +31,8 @@ fn spec(kind: KindRegisters, ocr: u32, csd: u128, sectors: u64) -> CardSpec {
     }
 }
 
-fn sd_registers(scr: u64, is_new: bool) -> KindRegisters {
+/// The registers of an SD card with this SCR.
+pub fn sd_registers(scr: u64, is_new: bool) -> KindRegisters {
     KindRegisters::Sd(SdRegisters {
         scr: scr.to_be_bytes(),
         rca: 1,
@@ -127,10 +127,9 @@ pub fn built(alloc: Global, spec: CardSpec) -> Result<SimCard, Fail> {
     Ok(SimCard::build(alloc, spec).ok().ok_or("not built")?)
 }
 
-/// Identifies and widens a card, if that succeeds.
+/// Initializes a card, if that succeeds.
 pub fn opened<B: Bus>(bus: &mut B) -> Option<Session> {
-    let found = identify(bus).ok()?;
-    widen(bus, found).ok()
+    initialize(bus).ok()
 }
 
 /// Each fault that can be planned, with two flipped bits where bits are flipped.
@@ -198,4 +197,26 @@ pub fn answers_of_m(alloc: Global, ext_csd: [u8; 512]) -> Result<VecDeque<BusAns
         answers.push_back(answer).ok().ok_or("no room")?;
     }
     Ok(answers)
+}
+
+/// What a bus says once card M was opened.
+#[derive(Clone, Copy)]
+pub enum Said {
+    /// An R1 to this command, 0 to 63, with this status.
+    Response(u8, u32),
+    /// Whether the card is busy.
+    Busy(bool),
+}
+
+/// A bus that opens card M, then says this, and then nothing.
+pub fn saying(alloc: Global, said: &[Said]) -> Result<ScriptedBus, Fail> {
+    let mut answers = answers_of_m(alloc, ext_csd_m())?;
+    for each in said.iter() {
+        let answer = match *each {
+            Said::Response(index, status) => r1(index % 64, status),
+            Said::Busy(is_busy) => BusAnswer::Busy(is_busy),
+        };
+        answers.push_back(answer).ok().ok_or("no room")?;
+    }
+    Ok(ScriptedBus::new(answers))
 }

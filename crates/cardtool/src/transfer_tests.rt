@@ -26,8 +26,8 @@ fn is_inside(session: &Session, start: u64, count: u64) -> bool
         && start <= room - count
 }
 
-// Writes the blocks, if they are inside.
-fn written<B: Bus>(
+/// Writes the blocks, if they are inside.
+pub fn written<B: Bus>(
     bus: &mut B,
     session: Session,
     start: u64,
@@ -40,8 +40,8 @@ fn written<B: Bus>(
     }
 }
 
-// Reads them.
-fn read<B: Bus>(
+/// Reads them.
+pub fn read<B: Bus>(
     bus: &mut B,
     session: Session,
     start: u64,
@@ -54,7 +54,8 @@ fn read<B: Bus>(
     }
 }
 
-fn filled(alloc: Global, byte: u8, count: usize) -> Result<Bytes, Fail>
+/// So many blocks of this byte.
+pub fn filled(alloc: Global, byte: u8, count: usize) -> Result<Bytes, Fail>
     requires { count ≤ MAX_BLOCKS }
 {
     Ok(Bytes::new(vec![in alloc; byte; 512 * count]?))

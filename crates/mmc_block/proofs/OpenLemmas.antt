@@ -1,16 +1,12 @@
 -- Rounds of opening a card.
-use Rattle.std.proofs.Common.{◌+◌, ◌<◌, ◌≡◌, ◌≤◌, arith, false, refl, subst, sym, true}
+use Rattle.std.proofs.Common.{◌+◌, ◌<◌, ◌≤◌, arith, refl, subst, sym}
 use Rattle.std.specs.Prelude.{Err, IfOk, IsErr, IsOk, Ok, Result}
-use Rattle.std.proofs.lemmas.Result.{IfOk-from_err}
 use Rattle.mmc_card.specs.BusView.{BusView}
 use Rattle.mmc_card.specs.Profile.{InProfile}
 use Rattle.mmc_bus.proofs.WorkLemmas.{fell, moved_then, quiet_parts}
 use Rattle.mmc_bus.specs.Learned.{Stays}
 use Rattle.mmc_bus.specs.Work.{Moved, Narrows}
-use Rattle.mmc_identify.specs.Stages.{IsFound, IsLeft}
-use Rattle.mmc_identify.specs.declared.found.Found.{Found}
 use Rattle.mmc_switch.specs.Place.{IsReady}
-use Rattle.mmc_switch.specs.Stages.{first_lines}
 use Rattle.mmc_switch.specs.declared.session.Session.{Session}
 use Rattle.mmc_block.specs.declared.open_fault.OpenFault.{OpenFault}
 
@@ -19,38 +15,6 @@ abbrev pub Opens : Result Session OpenFault → BusView → BusView → Type 0
 Opens r =
     Moved (λ old new. IfOk r (λ session. IsReady session new))
     (λ old new. InProfile old.card.made → IsOk r)
-
--- what identification does that finds this
-abbrev pub Finds : Found → BusView → BusView → Type 0
-Finds found =
-    Moved (λ old new. IsFound old.card.made found × IsLeft found.rca new.card)
-    (λ old new. InProfile old.card.made → true ≡ true)
-
-module _ (found : Found) (a b c : BusView) (lines : b.lines ≡ first_lines) (p : Finds found a b) where
-  own : IsFound b.card.made found
-  own = subst (λ m. IsFound m found) (sym p.stays.carried.made) p.own.0
-
-  -- What was found isn't widened.
-  pub widens_none : (r : Result Session OpenFault) → IsErr r
-      → Moved (λ old new. IsFound old.card.made found → IsLeft found.rca old.card
-      → old.lines ≡ first_lines → Unit {0})
-      (λ old new. InProfile old.card.made → IsFound old.card.made found → IsLeft found.rca old.card
-      → old.lines ≡ first_lines → false ≡ true) b c → Opens r a c
-  widens_none r err q =
-      moved_then a b c p q (IfOk-from_err r _ err)
-      (λ same profile. cc (q.fine (quiet_parts a b c p.stays q.stays same).1
-      (subst InProfile (sym p.stays.carried.made) profile) own p.own.1 lines))
-
-  -- It is widened.
-  pub widens_so : (session : Session) {Selects : Type 0}
-      → Moved (λ old new. IsFound old.card.made found → IsLeft found.rca old.card
-      → old.lines ≡ first_lines → IsReady session new × Selects)
-      (λ old new. InProfile old.card.made → IsFound old.card.made found → IsLeft found.rca old.card
-      → old.lines ≡ first_lines → true ≡ true) b c → Opens (Ok session) a c
-  widens_so session q =
-      moved_then a b c p q
-      (q.own own p.own.1 lines).0
-      (λ same profile. refl)
 
 -- Rounds.
 

@@ -3,7 +3,7 @@ ghost use Rattle.mmc_block.specs.OpenFaults as told;
 ghost use Rattle.mmc_block.specs.declared.open_fault.OpenFault.TheVariants.{NoMemory};
 
 use mmc_identify::IdentFault;
-use mmc_switch::SwitchFault;
+use mmc_switch::{InitializationFault, SwitchFault};
 use thiserror::Error;
 
 /// Why a card isn't opened. After three rounds it is told by the last one.
@@ -26,26 +26,21 @@ pub enum OpenFault {
     Locked,
 }
 
-/// What a failed identification says of the card.
-pub fn of_identification(fault: IdentFault) -> OpenFault
-    ensures told { result ≡ told.of_identification fault }
+/// What an initialization that failed says of the card.
+pub fn of_initialization(fault: InitializationFault) -> OpenFault
+    ensures told { result ≡ told.of_initialization fault }
     ensures memory { result ≡ NoMemory → ⊥ }
 {
     match fault {
-        IdentFault::NoAnswer => OpenFault::NoCard,
-        IdentFault::Voltage => OpenFault::Voltage,
-        IdentFault::Register | IdentFault::Mismatch => OpenFault::Unsupported,
-        IdentFault::Locked => OpenFault::Locked,
-    }
-}
-
-/// What a failed widening says of it.
-pub fn of_widening(fault: SwitchFault) -> OpenFault
-    ensures told { result ≡ told.of_widening fault }
-    ensures memory { result ≡ NoMemory → ⊥ }
-{
-    match fault {
-        SwitchFault::Exchange => OpenFault::NoCard,
-        SwitchFault::Register => OpenFault::Unsupported,
+        InitializationFault::Identification(fault) => match fault {
+            IdentFault::NoAnswer => OpenFault::NoCard,
+            IdentFault::Voltage => OpenFault::Voltage,
+            IdentFault::Register | IdentFault::Mismatch => OpenFault::Unsupported,
+            IdentFault::Locked => OpenFault::Locked,
+        },
+        InitializationFault::Widening(fault) => match fault {
+            SwitchFault::Exchange => OpenFault::NoCard,
+            SwitchFault::Register => OpenFault::Unsupported,
+        },
     }
 }

@@ -1,7 +1,12 @@
+pub mod AddressLemmas
 pub mod BlockLengthLemmas
+pub mod ChangeLemmas
+pub mod EndingLemmas
 pub mod FetchLemmas
 pub mod InfoLemmas
+pub mod InitializeLemmas
 pub mod RestLemmas
+pub mod SameLemmas
 pub mod SdLemmas
 pub mod SelectLemmas
 pub mod SwitchLemmas

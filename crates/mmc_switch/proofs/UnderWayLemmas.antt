@@ -7,11 +7,11 @@ use Rattle.mmc_frame.specs.declared.kind.Kind.{Kind}
 use Rattle.mmc_card.specs.declared.part.Part.{Part}
 use Rattle.mmc_card.specs.BusView.{BusView}
 use Rattle.mmc_card.specs.Blocks.{lines_fit}
-use Rattle.mmc_card.specs.Card.{Card, HasItsSizes, IsCard, is_in, is_selected, stored}
+use Rattle.mmc_card.specs.Card.{Card, HasItsSizes, IsCard, NoAddress, is_in, is_selected, stored}
 use Rattle.mmc_card.specs.CardLaws.{HasNoError}
 use Rattle.mmc_card.specs.Faults.{NoFault}
 use Rattle.mmc_card.specs.Laws.{Carried, Setting, Stands, setting_of}
-use Rattle.mmc_card.specs.Made.{Made, sectors_in}
+use Rattle.mmc_card.specs.Made.{sectors_in}
 use Rattle.mmc_card.specs.RowsSwitch.{timing_number, width_number}
 use Rattle.mmc_bus.specs.Work.{StaysSet, Worked}
 use Rattle.mmc_switch.specs.Place.{IsLoose, IsPartOf, IsReady, Knows, StandsAs, setting_in}
@@ -27,6 +27,20 @@ none_so_far a b k later none = (omega (arith, none), omega (arith, later, none))
 pub some_of : (n : ℕ) → (n ≡ 0 → ⊥) → 0 < n
 some_of zero none = absurd (none refl)
 some_of (suc n) none = omega arith
+
+-- A card that is quiet, by its fields.
+pub quiet_by : {place : State} {preset : ℕ} {card : Card} → card.state ≡ place → card.app ≡ false
+    → card.command_errors ≡ 0 → card.errors ≡ 0 → card.switch_error ≡ false → card.count ≡ preset
+    → card.erase ≡ NoAddress → IsQuiet place preset card
+quiet_by state app command_errors errors switch_error count erase = record {
+  state = state;
+  app = app;
+  command_errors = command_errors;
+  errors = errors;
+  switch_error = switch_error;
+  count = count;
+  erase = erase;
+}
 
 -- A card that is ready stands, so that work can begin.
 

@@ -14,10 +14,9 @@ use Rattle.mmc_regs.specs.Ocr.{access_mode}
 use Rattle.mmc_ext_csd.specs.ExtCsd.{ext_csd_in, ext_csd_rev, hc_erase_grp_size, high_speed_at_52_mhz, partition_config}
 use Rattle.mmc_ext_csd.specs.ExtCsd.{sec_count}
 use Rattle.mmc_card.specs.BusView.{BusView}
-use Rattle.mmc_card.specs.Card.{Card, HasItsSizes, IsCard, is_writing}
+use Rattle.mmc_card.specs.Card.{Card, IsCard, is_writing}
 use Rattle.mmc_card.specs.Laws.{Setting}
 use Rattle.mmc_card.specs.Made.{HasRegisters, Made, addressing_of, first_block_length, has_sector_addresses, is_mmc}
-use Rattle.mmc_card.specs.Made.{sectors_in}
 use Rattle.mmc_card.specs.Profile.{InProfile}
 use Rattle.mmc_card.specs.RowsSwitch.{ext_csd_now, partition_config_for, timing_number, width_number}
 use Rattle.mmc_card.specs.declared.exchange.Timing.{Timing}

@@ -1,3 +1,4 @@
+pub mod Address
 pub mod Info
 pub mod Place
 pub mod Sizes

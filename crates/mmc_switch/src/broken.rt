@@ -53,6 +53,13 @@ impl Broken {
         self.session
     }
 
+    /// The session as it was. That its card is ready again is for the caller's contract to say.
+    pub fn into_session(self) -> Session
+        ensures { result ≡ self.session }
+    {
+        self.session
+    }
+
     /// What is left where settling failed too: the card has to be reset, and which partition is selected isn't known.
     pub fn give_up(self) -> Broken
         ensures { result ≡ record { session = record self.session { selected = None }; cause = Why.Recovery; must_reset = true } }

@@ -42,8 +42,9 @@ pub struct Info {
 }
 
 impl Info {
-    ghost use Rattle.std.specs.Prelude.{◌≡◌};
-    ghost use Rattle.mmc_switch.specs.Info.{sectors_of};
+    ghost use Rattle.std.specs.Prelude.{◌≡◌, true};
+    ghost use Rattle.mmc_card.specs.Made.{Made};
+    ghost use Rattle.mmc_switch.specs.Info.{IsInfo, sectors_of};
 
     /// The size of a partition in sectors of 512 bytes, or `None` where the card has no such partition, or one without a
     /// sector.
@@ -51,5 +52,13 @@ impl Info {
         ensures { result ≡ sectors_of self.now part }
     {
         some_size(self.sizes.of(part))
+    }
+
+    /// Whether this and what else is known of a card are the same. What is known of one card always is.
+    pub fn is_same(&self, other: &Info) -> bool
+        ensures same { result ≡ true → self.now ≡ other.now }
+        ensures known { (made : Made) → IsInfo made self.now → IsInfo made other.now → result ≡ true }
+    {
+        self == other
     }
 }

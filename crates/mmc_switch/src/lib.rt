@@ -4,6 +4,7 @@
 mod broken;
 mod fault;
 mod info;
+mod initialization;
 mod mmc;
 mod progress;
 mod registers;
@@ -16,6 +17,7 @@ mod widening;
 pub use broken::Broken;
 pub use fault::SwitchFault;
 pub use info::Info;
+pub use initialization::{InitializationFault, initialize};
 pub use mmc_bus::Cause;
 pub use progress::Progress;
 pub use selection::select;

@@ -234,6 +234,7 @@ fn set_up<B: Bus>(bus: &mut B, rca: u16) -> Result<Told, Cause>
 /// Widens an SD card that has blocks of 512 bytes.
 pub fn widen<B: Bus>(bus: &mut B, found: &Found) -> Result<Session, SwitchFault>
     ensures bounded { (B.view bus.new).exchanges ≤ (B.view bus.old).exchanges + 10 }
+    ensures user { IfOk result (λ session. session.selected ≡ Some User) }
     ensures moves { Moves
         (λ old new. old.card.made.kind ≡ Sd → IsFound old.card.made found.now
         → IsSet false (first_setting found.now.rca) old

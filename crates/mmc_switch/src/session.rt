@@ -1,10 +1,12 @@
-ghost use Rattle.std.specs.Prelude.{◌≡◌, IsSome, None, Some, false};
+ghost use Rattle.std.specs.Prelude.{◌≡◌, ◌<◌, IsSome, None, Some, false};
 ghost use Rattle.mmc_card.specs.declared.part.Part.TheVariants.{User};
-ghost use Rattle.mmc_switch.specs.UnderWay.{room_of};
+ghost use Rattle.mmc_switch.specs.Address.{address_of};
+ghost use Rattle.mmc_switch.specs.UnderWay.{broken_off, room_of};
 
 use crate::broken::Broken;
 use crate::info::Info;
 use mmc_bus::{Cause, Part};
+use mmc_frame::{Addressing, Kind};
 
 /// A card that is ready for transfers, as far as the host knows.
 #[derive(Debug, Drop)]
@@ -34,6 +36,20 @@ impl Session {
         &self.info
     }
 
+    /// SD or eMMC.
+    pub fn kind(&self) -> Kind
+        ensures { result ≡ self.now.info.kind }
+    {
+        self.info.kind
+    }
+
+    /// The RCA, by which the card is named.
+    pub fn rca(&self) -> u16
+        ensures { result ≡ self.now.info.rca }
+    {
+        self.info.rca
+    }
+
     /// The partition that is selected, or `None` where that isn't known, so that one has to be selected first.
     pub fn selected(&self) -> Option<Part>
         ensures { result ≡ self.now.selected }
@@ -52,9 +68,20 @@ impl Session {
         }
     }
 
+    /// What names a sector of the selected partition in a command: its first byte, or its number.
+    pub fn address(&self, sector: u64) -> u32
+        requires { sector < room_of self.now }
+        ensures { result ≡ address_of self.now.info.addressing sector }
+    {
+        match self.info.addressing {
+            Addressing::Bytes => (512 * sector) as u32,
+            Addressing::Sectors => sector as u32,
+        }
+    }
+
     /// What is left once something has failed for this cause.
     pub fn break_off(self, cause: Cause) -> Broken
-        ensures { result ≡ record { session = self; cause = cause; must_reset = false } }
+        ensures { result ≡ broken_off self cause }
     {
         Broken {
             session: self,

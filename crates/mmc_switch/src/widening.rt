@@ -43,6 +43,7 @@ fn set_block_length<B: Bus>(bus: &mut B, kind: Kind) -> Result<(), Cause>
 fn widen_by_kind<B: Bus>(bus: &mut B, found: &Found) -> Result<Session, SwitchFault>
     ensures bounded { (B.view bus.new).exchanges ≤ (B.view bus.old).exchanges + 56 }
     ensures of_sd { found.now.kind ≡ Sd → (B.view bus.new).exchanges ≤ (B.view bus.old).exchanges + 10 }
+    ensures user { IfOk result (λ session. session.selected ≡ Some User) }
     ensures moves { Moves
         (λ old new. IsFound old.card.made found.now → IsSet false (first_setting found.now.rca) old
         → IfOk result (λ session. IsReady session new × (session.selected ≡ Some User)))
@@ -64,6 +65,7 @@ fn widen_by_kind<B: Bus>(bus: &mut B, found: &Found) -> Result<Session, SwitchFa
 pub fn widen<B: Bus>(bus: &mut B, found: Found) -> Result<Session, SwitchFault>
     ensures bounded { (B.view bus.new).exchanges ≤ (B.view bus.old).exchanges + 57 }
     ensures of_sd { found.kind ≡ Sd → (B.view bus.new).exchanges ≤ (B.view bus.old).exchanges + 11 }
+    ensures user { IfOk result (λ session. session.selected ≡ Some User) }
     ensures moves { Moves
         (λ old new. IsFound old.card.made found → IsLeft found.rca old.card → old.lines ≡ first_lines
         → IfOk result (λ session. IsReady session new × (session.selected ≡ Some User)))

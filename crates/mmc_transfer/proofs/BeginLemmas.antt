@@ -1,25 +1,26 @@
 -- The command that begins a run.
-use Rattle.std.proofs.Common.{◌%◌, ◌&&◌, ◌||◌, ◌*◌, ◌-◌, ◌/◌, ◌<◌, ◌∙◌, ◌≡◌, ◌≤◌, Bool, List, ap, arith, false, inl}
-use Rattle.std.proofs.Common.{length, not, refl, subst, sym, true, ℕ}
+use Rattle.std.proofs.Common.{◌&&◌, ◌||◌, ◌-◌, ◌<◌, ◌∙◌, ◌≡◌, ◌≤◌, Bool, List, ap, arith, false, inl}
+use Rattle.std.proofs.Common.{length, refl, subst, sym, true, ℕ}
 use Rattle.std.specs.Prelude.{◌==◌, IsErr, None, Ok, Option, Result, Some, if◌then◌else◌, nat_le}
 use Rattle.std.proofs.lemmas.Bool.Decides.{nat_tests}
-use Rattle.mmc_frame.specs.declared.addressing.Addressing.{Addressing}
-use Rattle.mmc_frame.specs.declared.addressing.Addressing.TheVariants.{Bytes, Sectors}
 use Rattle.mmc_frame.specs.declared.card_state.State.TheVariants.{Rcv}
 use Rattle.mmc_frame.specs.declared.kind.Kind.{Kind}
 use Rattle.mmc_card.specs.BusView.{BusView}
 use Rattle.mmc_card.specs.Card.{NoAddress, is_selected, stored}
 use Rattle.mmc_card.specs.Laws.{Setting}
-use Rattle.mmc_card.specs.Made.{has_sector_addresses, is_misaligned, is_read_only, sector_at}
+use Rattle.mmc_card.specs.Made.{is_misaligned, is_read_only, sector_at}
 use Rattle.mmc_card.specs.Sectors.{Sector}
 use Rattle.mmc_bus.specs.Work.{Narrows, Worked}
 use Rattle.mmc_bus.specs.declared.cause.Cause.{Cause}
-use Rattle.mmc_switch.proofs.UnderWayLemmas.{no_error, part_in, room_is, set_in}
+use Rattle.mmc_switch.proofs.UnderWayLemmas.{no_error, part_in, quiet_by, room_is, set_in}
+use Rattle.mmc_switch.proofs.AddressLemmas.{address_aligned, sector_named}
 use Rattle.mmc_switch.specs.UnderWay.{room_of}
 use Rattle.mmc_transfer.proofs.StepLemmas.{from_both, turn_fails, turn_goes_there}
-use Rattle.mmc_transfer.specs.Address.{address_of, is_counted_by}
+use Rattle.mmc_transfer.specs.Address.{is_counted_by}
+use Rattle.mmc_switch.specs.Address.{address_of}
 use Rattle.mmc_transfer.specs.Commands.{CanStart, is_write, starts}
-use Rattle.mmc_transfer.specs.Running.{Exact, IsIdle, IsIn, IsSending, IsTaking, Turned, by_way, preset_of}
+use Rattle.mmc_transfer.specs.Running.{Exact, IsIn, IsSending, IsTaking, Turned, by_way, preset_of}
+use Rattle.mmc_switch.specs.UnderWay.{IsIdle}
 use Rattle.mmc_transfer.specs.declared.job.Job.{Job}
 use Rattle.mmc_transfer.specs.declared.phase.Phase.{Phase}
 use Rattle.mmc_transfer.specs.declared.phase.Phase.TheVariants.{Block, Other}
@@ -33,19 +34,6 @@ Starts kind way is_single address ok =
     Worked Narrows
     (λ old new. ok ≡ true → old.card.erase ≡ NoAddress → new.card ≡ starts way is_single old.card address)
     (λ old new. CanStart kind way old.card address → ok ≡ true)
-
--- The sector that the address names.
-
-sector_by : (b : Bool) (addressing : Addressing) (start : ℕ) → addressing ≡ (if b then Sectors else Bytes)
-    → (if b then address_of addressing start else address_of addressing start / 512) ≡ start
-sector_by true addressing start is = rw is refl
-sector_by false addressing start is = rw is (omega arith)
-
-aligned_by : (b : Bool) (addressing : Addressing) (start : ℕ) → addressing ≡ (if b then Sectors else Bytes)
-    → (not b && not (address_of addressing start % 512 == 0)) ≡ false
-aligned_by true addressing start is = refl
-aligned_by false addressing start is =
-    let whole : 512 * start % 512 ≡ 0 = omega arith in rw is (rw whole refl)
 
 -- No error of a transfer.
 
@@ -79,8 +67,7 @@ module _ (job : Job) (blocks : List Sector) (faults : ℕ) (kind : Kind) (addres
     (addressed : address ≡ address_of job.session.info.addressing job.start)
     (at : IsIn job blocks (Other Command) faults a) where
   sector_is : sector_at a.card.made address ≡ job.start
-  sector_is = rw addressed
-      (sector_by (has_sector_addresses a.card.made) job.session.info.addressing job.start at.knows.info.addressing)
+  sector_is = rw addressed (sector_named job.session a.card.made at.knows job.start)
 
   -- the exact card can start
   can_start : Exact job blocks (Other Command) a.card → CanStart kind job.way a.card address
@@ -96,8 +83,8 @@ module _ (job : Job) (blocks : List Sector) (faults : ℕ) (kind : Kind) (addres
       let at_start = sector_is in
       let inside : nat_le (length (stored a.card a.card.part)) (sector_at a.card.made address) ≡ false =
       below_end _ _ (omega (arith, some, fits, size, at_start)) in
-      let whole : is_misaligned a.card.made address ≡ false = rw addressed
-      (aligned_by (has_sector_addresses a.card.made) job.session.info.addressing job.start at.knows.info.addressing) in
+      let whole : is_misaligned a.card.made address ≡ false =
+      rw addressed (address_aligned job.session a.card.made at.knows job.start) in
       let block : a.card.block_length ≡ 512 =
       ap (λ (s : Setting). s.block_length) (set_in job.session a job.selected at.stands selected) in
       let unprotected : (is_write job.way && is_read_only a.card.made) ≡ false =
@@ -123,15 +110,7 @@ module _ (job : Job) (blocks : List Sector) (faults : ℕ) (kind : Kind) (addres
       (IsTaking Rcv 0 job blocks (starts way (job.count == 1) a.card address)
       × ((starts way (job.count == 1) a.card address).is_busy ≡ false))
   is_begun Read idle = record {
-    quiet = record {
-      state = refl;
-      app = refl;
-      command_errors = refl;
-      errors = refl;
-      switch_error = refl;
-      count = refl;
-      erase = idle.quiet.erase;
-    };
+    quiet = quiet_by refl refl refl refl refl refl idle.quiet.erase;
     rests = idle.rests;
     errors = inl refl;
     source = refl;
@@ -141,15 +120,7 @@ module _ (job : Job) (blocks : List Sector) (faults : ℕ) (kind : Kind) (addres
   }
   is_begun Write idle = (
     record {
-      quiet = record {
-        state = refl;
-        app = refl;
-        command_errors = refl;
-        errors = refl;
-        switch_error = refl;
-        count = refl;
-        erase = idle.quiet.erase;
-      };
+      quiet = quiet_by refl refl refl refl refl refl idle.quiet.erase;
       start = sector_is;
       values = refl;
       left = left_by job.count job.session.info.cmd23 a.card.count job.some idle.quiet.count;

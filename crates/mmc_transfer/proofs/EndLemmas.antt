@@ -2,6 +2,7 @@
 use Rattle.std.proofs.Common.{◌+◌, ◌∙◌, ◌≡◌, ◌⊎◌, Bool, List, ap, false, inl, inr, refl, subst, sym, true, ℕ}
 use Rattle.std.specs.Prelude.{◌==◌, IsErr, Ok, Option, Result, Some, if◌then◌else◌}
 use Rattle.std.proofs.lemmas.Bool.{eq-eqb}
+use Rattle.mmc_switch.proofs.UnderWayLemmas.{quiet_by}
 use Rattle.mmc_frame.specs.declared.card_state.State.{State}
 use Rattle.mmc_frame.specs.declared.card_state.State.TheVariants.{Data, Prg, Rcv, Tran}
 use Rattle.mmc_frame.specs.declared.kind.Kind.{Kind}
@@ -15,7 +16,8 @@ use Rattle.mmc_bus.specs.declared.cause.Cause.{Cause}
 use Rattle.mmc_switch.specs.UnderWay.{room_of}
 use Rattle.mmc_transfer.proofs.StepLemmas.{each_way, either_way, turn_fails, turn_goes_there}
 use Rattle.mmc_transfer.specs.Commands.{CanStop, IsMoving}
-use Rattle.mmc_transfer.specs.Running.{AreStored, Exact, IsBusyAfter, IsIdle, IsIn, IsSending, IsTaking, Turned}
+use Rattle.mmc_transfer.specs.Running.{AreStored, Exact, IsIn, IsSending, IsTaking, Turned}
+use Rattle.mmc_switch.specs.UnderWay.{IsBusyAfter, IsIdle}
 use Rattle.mmc_transfer.specs.declared.job.Job.{Job}
 use Rattle.mmc_transfer.specs.declared.phase.Phase.{Phase}
 use Rattle.mmc_transfer.specs.declared.phase.Phase.TheVariants.{Other}
@@ -47,15 +49,7 @@ stopped_reading job blocks card sending =
     subst (λ next. IsIdle 0 next × AreStored job.count job blocks next)
     (sym (stopped_in Data card sending.quiet.state)) (
       record {
-        quiet = record {
-          state = refl;
-          app = refl;
-          command_errors = refl;
-          errors = refl;
-          switch_error = refl;
-          count = refl;
-          erase = sending.quiet.erase;
-        };
+        quiet = quiet_by refl refl refl refl refl refl sending.quiet.erase;
         rests = sending.rests;
       },
       sending.read,
@@ -67,15 +61,7 @@ stopped_writing job blocks card taking =
     subst (λ next. IsTaking Prg job.count job blocks next × IsBusyAfter 0 next)
     (sym (stopped_in Rcv card taking.quiet.state)) (
       record {
-        quiet = record {
-          state = refl;
-          app = refl;
-          command_errors = refl;
-          errors = refl;
-          switch_error = refl;
-          count = refl;
-          erase = taking.quiet.erase;
-        };
+        quiet = quiet_by refl refl refl refl refl refl taking.quiet.erase;
         start = taking.start;
         values = taking.values;
         left = taking.left;

@@ -16,7 +16,7 @@ use Rattle.mmc_card.specs.Card.{Card, holds, is_selected, stored}
 use Rattle.mmc_card.specs.Sectors.{Sector, Within, maybe_changed, part_number, touches, value_of}
 use Rattle.mmc_bus.specs.declared.cause.Cause.{Cause}
 use Rattle.mmc_bus.specs.Work.{NarrowsBut, Worked}
-use Rattle.mmc_switch.proofs.UnderWayLemmas.{goes_there, has_failed, lines_in, part_in, room_is}
+use Rattle.mmc_switch.proofs.UnderWayLemmas.{goes_there, has_failed, lines_in, part_in, quiet_by, room_is}
 use Rattle.mmc_switch.specs.UnderWay.{part_of, room_of}
 use Rattle.mmc_transfer.specs.declared.job.Job.{Job}
 use Rattle.mmc_transfer.specs.declared.phase.Phase.{Phase}
@@ -26,7 +26,8 @@ use Rattle.mmc_transfer.specs.declared.phase.Step.TheVariants.{Finish, Pause}
 use Rattle.mmc_transfer.specs.declared.way.Way.{Way}
 use Rattle.mmc_transfer.specs.declared.way.Way.TheVariants.{Read, Write}
 use Rattle.mmc_transfer.specs.Moves.{after_written}
-use Rattle.mmc_transfer.specs.Running.{Exact, IsBusyAfter, IsIn, IsTaking, ReadExact, Shown, Turned, WriteExact, by_way}
+use Rattle.mmc_transfer.specs.Running.{Exact, IsIn, IsTaking, ReadExact, Shown, Turned, WriteExact, by_way}
+use Rattle.mmc_switch.specs.UnderWay.{IsBusyAfter}
 use Rattle.mmc_transfer.specs.Running.{change_of, is_counted, left_of, written}
 
 -- what offering the block does
@@ -81,15 +82,7 @@ module _ (job : Job) (blocks : List Sector) (done faults : ℕ) (block : Sector)
       → IsTaking place next job blocks (accepted block card) × IsBusyAfter 0 (accepted block card)
   taken_next place next card n state x = (
     record {
-      quiet = record {
-        state = state;
-        app = x.quiet.app;
-        command_errors = x.quiet.command_errors;
-        errors = x.quiet.errors;
-        switch_error = x.quiet.switch_error;
-        count = x.quiet.count;
-        erase = x.quiet.erase;
-      };
+      quiet = quiet_by state x.quiet.app x.quiet.command_errors x.quiet.errors x.quiet.switch_error x.quiet.count x.quiet.erase;
       start = x.start;
       values = ap (λ xs. xs ++ block ∷ []) x.values ∙ ap (λ v. take done blocks ++ v ∷ []) is
           ∙ sym (take_more blocks done [] (omega (arith, more, full))) ∙ ap (λ i. take i blocks) (sym n);

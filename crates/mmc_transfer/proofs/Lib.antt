@@ -1,5 +1,4 @@
 pub mod BeginLemmas
-pub mod CloseLemmas
 pub mod CommandLemmas
 pub mod EndLemmas
 pub mod FinishLemmas

@@ -1,6 +1,7 @@
 -- Polls between the blocks of a write.
 use Rattle.std.proofs.Common.{◌+◌, ◌≡◌, List, false, refl, subst, sym, true, ℕ}
 use Rattle.std.specs.Prelude.{Err, Ok, Some}
+use Rattle.mmc_switch.proofs.UnderWayLemmas.{quiet_by}
 use Rattle.mmc_frame.specs.declared.card_state.State.TheVariants.{Rcv}
 use Rattle.mmc_card.specs.Blocks.{rested}
 use Rattle.mmc_card.specs.BusView.{BusView}
@@ -8,7 +9,9 @@ use Rattle.mmc_card.specs.Card.{Card, is_selected}
 use Rattle.mmc_card.specs.Sectors.{Sector}
 use Rattle.mmc_bus.specs.Learned.{PollFacts}
 use Rattle.mmc_bus.specs.declared.cause.Cause.{Cause}
-use Rattle.mmc_transfer.proofs.PollLemmas.{Polls, busy_still, not_so_often, rested_in}
+use Rattle.mmc_switch.proofs.EndingLemmas.{Polls, not_so_often, rested_in}
+use Rattle.mmc_switch.specs.UnderWay.{IsBusyAfter}
+use Rattle.mmc_transfer.proofs.PollLemmas.{taking_still}
 use Rattle.mmc_transfer.proofs.StepLemmas.{each_way, either_way, turn_fails, turn_goes_on, turn_goes_there}
 use Rattle.mmc_transfer.specs.Running.{IsIn, IsTaking, Turned}
 use Rattle.mmc_transfer.specs.declared.job.Job.{Job}
@@ -22,15 +25,7 @@ rested_in_rcv done job blocks card taking =
     subst (λ next. IsTaking Rcv done job blocks next × (next.is_busy ≡ false))
     (sym (rested_in Rcv card taking.quiet.state)) (
       record {
-        quiet = record {
-          state = taking.quiet.state;
-          app = taking.quiet.app;
-          command_errors = taking.quiet.command_errors;
-          errors = taking.quiet.errors;
-          switch_error = taking.quiet.switch_error;
-          count = taking.quiet.count;
-          erase = taking.quiet.erase;
-        };
+        quiet = quiet_by taking.quiet.state taking.quiet.app taking.quiet.command_errors taking.quiet.errors taking.quiet.switch_error taking.quiet.count taking.quiet.erase;
         start = taking.start;
         values = taking.values;
         left = taking.left;
@@ -51,7 +46,8 @@ module _ (job : Job) (blocks : List Sector) (faults done polls : ℕ) (a b : Bus
   pauses_still work =
       turn_goes_there job blocks (Other (Pause done polls)) faults a b at work (Other (Pause done (polls + 1))) tt
       (λ exact. each_way job.way (λ reads none. none)
-      (λ writes taking. busy_still Rcv done polls job blocks a b work.own taking) exact)
+      (λ writes taking. subst (λ card. IsTaking Rcv done job blocks card × IsBusyAfter (polls + 1) card)
+      (sym (work.own.yes refl).1) (taking_still Rcv done polls job blocks a.card taking)) exact)
 
   -- no
   accepts_by : b.card ≡ rested a.card → IsTaking Rcv done job blocks a.card

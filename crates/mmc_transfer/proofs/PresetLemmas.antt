@@ -11,10 +11,11 @@ use Rattle.mmc_card.specs.RowsTransfer.{preset_to}
 use Rattle.mmc_card.specs.Sectors.{Sector}
 use Rattle.mmc_bus.specs.Work.{Narrows, Worked}
 use Rattle.mmc_bus.specs.declared.cause.Cause.{Cause}
-use Rattle.mmc_switch.proofs.UnderWayLemmas.{no_error}
+use Rattle.mmc_switch.proofs.UnderWayLemmas.{no_error, quiet_by}
 use Rattle.mmc_transfer.proofs.StepLemmas.{for_both, from_both, turn_fails, turn_goes_there}
 use Rattle.mmc_transfer.specs.Commands.{CanPreset}
-use Rattle.mmc_transfer.specs.Running.{Exact, IsIdle, IsIn, Turned, preset_of}
+use Rattle.mmc_transfer.specs.Running.{Exact, IsIn, Turned, preset_of}
+use Rattle.mmc_switch.specs.UnderWay.{IsIdle}
 use Rattle.mmc_transfer.specs.declared.job.Job.{Job}
 use Rattle.mmc_transfer.specs.declared.phase.Phase.{Phase}
 use Rattle.mmc_transfer.specs.declared.phase.Phase.TheVariants.{Other}
@@ -65,15 +66,7 @@ module _ (job : Job) (blocks : List Sector) (faults : ℕ) (kind : Kind) (a b : 
   is_preset idle =
       let knows = knows_by job.session.info.cmd23 job.count fits in
       record {
-        quiet = record {
-          state = idle.quiet.state;
-          app = refl;
-          command_errors = refl;
-          errors = refl;
-          switch_error = refl;
-          count = count_by (is_sd a.card.made.kind) job.session.info.cmd23 job.count knows.0 knows.1 job.few;
-          erase = idle.quiet.erase;
-        };
+        quiet = quiet_by idle.quiet.state refl refl refl refl (count_by (is_sd a.card.made.kind) job.session.info.cmd23 job.count knows.0 knows.1 job.few) idle.quiet.erase;
         rests = idle.rests;
       }
 

@@ -19,7 +19,7 @@ use Rattle.mmc_card.specs.ErrorBits.{out_of_range}
 use Rattle.mmc_card.specs.Sectors.{AreRead, Sector, Within, maybe_changed, touches, value_of}
 use Rattle.mmc_bus.specs.declared.cause.Cause.{Cause}
 use Rattle.mmc_bus.specs.Work.{Narrows, Worked}
-use Rattle.mmc_switch.proofs.UnderWayLemmas.{goes_there, has_failed, knows_then, lines_in, part_in, ready_again}
+use Rattle.mmc_switch.proofs.UnderWayLemmas.{goes_there, has_failed, knows_then, lines_in, part_in, quiet_by, ready_again}
 use Rattle.mmc_switch.proofs.UnderWayLemmas.{room_is, stands_then}
 use Rattle.mmc_switch.specs.Place.{IsReady}
 use Rattle.mmc_switch.specs.UnderWay.{IsQuiet, faults_then, part_of, room_of}
@@ -31,7 +31,8 @@ use Rattle.mmc_transfer.specs.declared.phase.Step.TheVariants.{Stop}
 use Rattle.mmc_transfer.specs.declared.way.Way.{Way}
 use Rattle.mmc_transfer.specs.declared.way.Way.TheVariants.{Read, Write}
 use Rattle.mmc_transfer.specs.Moves.{after_read}
-use Rattle.mmc_transfer.specs.Running.{AreStored, Exact, HasEffect, IsCarriedOut, IsIn, IsLeft, IsSending, ReadExact}
+use Rattle.mmc_transfer.specs.Running.{AreStored, Exact, HasEffect, IsIn, IsLeft, IsSending, ReadExact}
+use Rattle.mmc_switch.specs.UnderWay.{IsCarriedOut}
 use Rattle.mmc_transfer.specs.Running.{Shown, Turned, WriteExact, by_way, change_of, is_counted}
 
 -- what receiving a block of this size does
@@ -156,15 +157,7 @@ module _ (job : Job) (blocks news : List Sector) (done faults : ℕ) (bytes : Se
     sends_on last =
         let next = x.next in
         subst (IsSending (done + 1) job news) (sym is_after) (record {
-          quiet = record {
-            state = ap (λ b. if b then Tran else Data) last;
-            app = x.quiet.app;
-            command_errors = x.quiet.command_errors;
-            errors = refl;
-            switch_error = x.quiet.switch_error;
-            count = x.quiet.count;
-            erase = x.quiet.erase;
-          };
+          quiet = quiet_by (ap (λ b. if b then Tran else Data) last) x.quiet.app x.quiet.command_errors refl x.quiet.switch_error x.quiet.count x.quiet.erase;
           rests = x.rests;
           errors = errors_by (is_none card.left) choice.says_end (card.next + 1 == length (stored card card.part))
               (is_counted job) card.errors (job.start + (done + 1) ≡ room_of job.session) clear
@@ -183,16 +176,8 @@ module _ (job : Job) (blocks news : List Sector) (done faults : ℕ) (bytes : Se
         × AreStored (done + 1) job news (sent choice card)
     has_sent last counted =
         subst (λ c. IsQuiet Tran 0 c × (c.is_busy ≡ false) × AreStored (done + 1) job news c) (sym is_after) (
-          record {
-            state = ap (λ b. if b then Tran else Data) last;
-            app = x.quiet.app;
-            command_errors = x.quiet.command_errors;
-            errors = no_errors (is_none card.left) _ card.errors clear
-                (ap is_none x.left ∙ some_by (is_counted job) (job.count - done) counted);
-            switch_error = x.quiet.switch_error;
-            count = x.quiet.count;
-            erase = x.quiet.erase;
-          },
+          quiet_by (ap (λ b. if b then Tran else Data) last) x.quiet.app x.quiet.command_errors (no_errors (is_none card.left) _ card.errors clear
+              (ap is_none x.left ∙ some_by (is_counted job) (job.count - done) counted)) x.quiet.switch_error x.quiet.count x.quiet.erase,
           x.rests,
           read_after,
         )
@@ -304,7 +289,7 @@ module _ (job : Job) (blocks news : List Sector) (done faults : ℕ) (bytes : Se
           let inside = job.inside in (
             ready_again job.session b work.is_card knows (stands_then job.session a b work.set at.stands)
                 (subst (IsQuiet Tran 0) (sym is) sent_all.0) (ap (λ (c : Card). c.is_busy) is ∙ sent_all.1),
-            to_read job.way (AreRead (holds b.card) (part_of job.session) job.start news) (IsCarriedOut job news b.card)
+            to_read job.way (AreRead (holds b.card) (part_of job.session) job.start news) (IsCarriedOut (change_of job news) b.card)
                 way
                 (are_read b.card (room_is job.session b.card work.is_card.sizes knows (omega (arith, inside, more)))
                 (subst (λ n. AreStored n job news b.card) all

@@ -9,11 +9,12 @@ use Rattle.mmc_switch.specs.Place.{IsReady}
 use Rattle.mmc_switch.specs.declared.progress.Progress.{Progress}
 use Rattle.mmc_switch.specs.declared.progress.Progress.TheVariants.{Done, Failed, More}
 use Rattle.mmc_switch.specs.declared.session.Session.{Session}
-use Rattle.mmc_switch.proofs.UnderWayLemmas.{begins}
+use Rattle.mmc_switch.proofs.UnderWayLemmas.{begins, quiet_by}
 use Rattle.mmc_transfer.proofs.StepLemmas.{for_both}
 use Rattle.mmc_transfer.specs.Fits.{first_of}
 use Rattle.mmc_transfer.specs.Run.{HasProgressed, HasTurned}
-use Rattle.mmc_transfer.specs.Running.{Exact, IsIdle, IsIn, Shown, Turned, preset_of}
+use Rattle.mmc_transfer.specs.Running.{Exact, IsIn, Shown, Turned, preset_of}
+use Rattle.mmc_switch.specs.UnderWay.{IsIdle}
 use Rattle.mmc_transfer.specs.declared.job.Job.{Job}
 use Rattle.mmc_transfer.specs.declared.phase.Phase.{Phase}
 use Rattle.mmc_transfer.specs.declared.phase.Phase.TheVariants.{Other}
@@ -42,15 +43,7 @@ has_turned run blocks faults old (Err cause) (Failed broken) new is t =
 
 idle : (session : Session) (view : BusView) → IsReady session view → IsIdle 0 view.card
 idle session view r = record {
-  quiet = record {
-    state = r.set.rest.state;
-    app = r.set.rest.app;
-    command_errors = r.set.rest.command_errors;
-    errors = r.set.rest.errors;
-    switch_error = r.set.rest.switch_error;
-    count = r.set.rest.count;
-    erase = r.set.rest.erase;
-  };
+  quiet = quiet_by r.set.rest.state r.set.rest.app r.set.rest.command_errors r.set.rest.errors r.set.rest.switch_error r.set.rest.count r.set.rest.erase;
   rests = r.set.rest.rests;
 }
 

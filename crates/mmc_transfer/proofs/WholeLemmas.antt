@@ -1,26 +1,21 @@
 -- A whole run, from its turns.
-use Rattle.std.proofs.Common.{◌+◌, ◌-◌, ◌<◌, ◌∙◌, ◌∷◌, ◌≡◌, ◌≤◌, Bool, List, [], ap, arith, cond, false, inl, inr, length, refl, subst}
+use Rattle.std.proofs.Common.{◌+◌, ◌<◌, ◌∙◌, ◌∷◌, ◌≡◌, ◌≤◌, Bool, List, [], ap, arith, cond, false, length, refl, subst}
 use Rattle.std.proofs.Common.{sym, true, ℕ}
-use Rattle.std.specs.Prelude.{Err, Ok, Result, nat_lt, slice_index_or}
-use Rattle.mmc_card.specs.declared.part.Part.{Part}
-use Rattle.mmc_card.proofs.SectorLemmas.{by_touch, cond_in_new, in_cond, old_maybe, same_part}
+use Rattle.std.specs.Prelude.{Err, Ok, Result}
 use Rattle.mmc_card.proofs.SectorLemmas.{untouched}
-use Rattle.std.proofs.lemmas.Bool.Decides.{nat_tests}
 use Rattle.mmc_card.specs.BusView.{BusView}
-use Rattle.mmc_card.specs.Card.{Card, at_sector, holds, known, stored}
-use Rattle.mmc_card.specs.Laws.{Carried}
-use Rattle.mmc_card.specs.Sectors.{AreRead, Change, IsIn, Same, Sector, Sets, Within, changed, maybe_changed, part_number}
+use Rattle.mmc_card.specs.Card.{Card, holds, stored}
+use Rattle.mmc_card.specs.Sectors.{AreRead, Change, IsIn, Sector, Sets, Within, changed}
 use Rattle.mmc_card.specs.Sectors.{touches, value_of}
-use Rattle.mmc_bus.specs.Learned.{Stays}
-use Rattle.mmc_bus.proofs.WorkLemmas.{stays_then}
 use Rattle.mmc_switch.specs.Place.{IsReady}
-use Rattle.mmc_switch.specs.UnderWay.{HasFailed, faults_then, part_of}
+use Rattle.mmc_switch.specs.UnderWay.{Turn, part_of}
 use Rattle.mmc_switch.specs.declared.broken.Broken.{Broken}
 use Rattle.mmc_switch.specs.declared.progress.Progress.{Progress}
 use Rattle.mmc_switch.specs.declared.progress.Progress.TheVariants.{Done, Failed, More}
 use Rattle.mmc_switch.specs.declared.session.Session.{Session}
+use Rattle.mmc_switch.proofs.ChangeLemmas.{IsSoFar, RestLaw, exactly, so_far_first, so_far_then}
 use Rattle.mmc_switch.proofs.UnderWayLemmas.{room_is}
-use Rattle.mmc_transfer.specs.Run.{HasTurned, IsRunning, exchanges_left}
+use Rattle.mmc_transfer.specs.Run.{HasLeft, HasTurned, IsRunning, exchanges_left}
 use Rattle.mmc_transfer.specs.Running.{HasEffect, by_way, change_of, written}
 use Rattle.mmc_transfer.specs.Whole.{HasRun}
 use Rattle.mmc_transfer.specs.declared.job.Job.{Job}
@@ -28,96 +23,14 @@ use Rattle.mmc_transfer.specs.declared.run.Run.{Run}
 use Rattle.mmc_transfer.specs.declared.way.Way.{Way}
 use Rattle.mmc_transfer.specs.declared.way.Way.TheVariants.{Read, Write}
 
--- Exactly a change: what holds no more than before but for its sectors, and has those changed, has changed just so.
-
-same_cond : (b : Bool) (x y : Sector)
-    → ((v : Sector) → IsIn (cond b (x ∷ []) []) v → IsIn (cond b (y ∷ []) []) v)
-    → cond b (x ∷ []) [] ≡ cond b (y ∷ []) []
-same_cond true x y within = elim (within x (inl refl)) [ inl e ↦ ap (λ z. z ∷ []) e | inr none ↦ absurd none ]
-same_cond false x y within = refl
-
--- as many sectors, and no more in each of them
-same_sector : (xs ys : List Sector) (s : ℕ) → length xs ≡ length ys
-    → ((v : Sector) → IsIn (at_sector xs s) v → IsIn (at_sector ys s) v) → at_sector xs s ≡ at_sector ys s
-same_sector xs ys s size within =
-    let e : cond (nat_lt s (length xs)) (slice_index_or ys s [] ∷ []) [] ≡ at_sector ys s =
-    ap (λ n. cond (nat_lt s n) (slice_index_or ys s [] ∷ []) []) size in
-    same_cond (nat_lt s (length xs)) (slice_index_or xs s []) (slice_index_or ys s [])
-    (λ v h. subst (λ zs. IsIn zs v) (sym e) (within v h)) ∙ e
-
--- a sector that exists and may hold this value alone
-one_value : (xs : List Sector) (s : ℕ) (value : Sector) → s < length xs
-    → ((v : Sector) → IsIn (at_sector xs s) v → v ≡ value) → at_sector xs s ≡ value ∷ []
-one_value xs s value below alone =
-    let there : nat_lt s (length xs) ≡ true = grind (arith, nat_tests) in
-    let is : at_sector xs s ≡ slice_index_or xs s [] ∷ [] = rw there refl in
-    is ∙ ap (λ z. z ∷ []) (alone (slice_index_or xs s []) (rw is (inl refl)))
-
-on_touched : (b : Bool) (x v : Sector) (xs : List Sector) → b ≡ true → IsIn (cond b (x ∷ []) xs) v → v ≡ x
-on_touched true x v xs t (inl e) = e
-on_touched true x v xs t (inr none) = absurd none
-on_touched false x v xs t h = cc
-
-off_touched : (b : Bool) (x v : Sector) (xs : List Sector) → b ≡ false → IsIn (cond b (x ∷ xs) xs) v → IsIn xs v
-off_touched true x v xs t h = cc
-off_touched false x v xs t h = h
-
-module _ (change : Change) (a b : Card) (rest_a : Same (holds a) (known a)) (rest_b : Same (holds b) (known b))
-    (carried : Carried a b) (inside : change.start + length change.values ≤ length (stored b change.part))
-    (within : Within (holds b) (maybe_changed change (holds a)))
-    (done : Within (holds b) (changed change (holds b))) where
-  on : (part : Part) (s : ℕ) → touches change part s ≡ true → holds b part s ≡ changed change (holds a) part s
-  on part s t =
-      let hit = by_touch (part_number change.part) (part_number part) change.start s (length change.values) t in
-      let here : length (stored b change.part) ≡ length (stored b part) =
-      ap (λ p. length (stored b p)) (same_part change.part part hit.0) in
-      let below : s < length (stored b part) = omega (arith, hit.2, inside, here) in
-      let to : changed change (holds a) part s ≡ value_of change s ∷ [] = rw t refl in
-      rest_b part s
-      ∙ one_value (stored b part) s (value_of change s) below (λ v h.
-      on_touched (touches change part s) (value_of change s) v (holds b part s) t
-      (done part s v (subst (λ xs. IsIn xs v) (sym (rest_b part s)) h)))
-      ∙ sym to
-
-  off : (part : Part) (s : ℕ) → touches change part s ≡ false → holds b part s ≡ changed change (holds a) part s
-  off part s t =
-      let to : changed change (holds a) part s ≡ holds a part s = rw t refl in
-      rest_b part s
-      ∙ same_sector (stored b part) (stored a part) s (carried.sizes part) (λ v h.
-      subst (λ xs. IsIn xs v) (rest_a part s)
-      (off_touched (touches change part s) (value_of change s) v (holds a part s) t
-      (within part s v (subst (λ xs. IsIn xs v) (sym (rest_b part s)) h))))
-      ∙ sym (rest_a part s) ∙ sym to
-
-  by : (part : Part) (s : ℕ) (t : Bool) → touches change part s ≡ t → holds b part s ≡ changed change (holds a) part s
-  by part s true t = on part s t
-  by part s false t = off part s t
-
-  pub exactly : Same (holds b) (changed change (holds a))
-  exactly part s = by part s _ refl
-
--- Turns one behind the other.
-
-within_twice : (change : Change) (a b c : Sets) → Within b (maybe_changed change a) → Within c (maybe_changed change b)
-    → Within c (maybe_changed change a)
-within_twice change a b c first second part s v h =
-    elim (in_cond (touches change part s) (value_of change s) (b part s) v (second part s v h)) [
-      | inl new ↦ cond_in_new (touches change part s) (value_of change s) (a part s) v new.0 new.1
-      | inr old ↦ first part s v old
-    ]
-
 -- What holds at the head of the loop, with these blocks.
-pub record IsSoFar (begun run : Run) (blocks : List Sector) (first now : BusView) : Type 0 where
-  pub stays : Stays first now
-  pub within : Within (holds now.card) (maybe_changed (change_of begun.job blocks) (holds first.card))
-  pub running : IsRunning run blocks (now.faults - first.faults) now
-
 pub record IsAlong (begun run : Run) (blocks : List Sector) (first now : BusView) : Type 0 where
   pub job : run.job ≡ begun.job
   pub count : length blocks ≡ begun.job.count
   pub bounded : now.exchanges + exchanges_left run ≤ first.exchanges + exchanges_left begun
   pub kept : now.is_kept ≡ true → first.is_kept ≡ true
-  pub so_far : now.is_kept ≡ true → IsReady begun.job.session first → IsSoFar begun run blocks first now
+  pub so_far : now.is_kept ≡ true → IsReady begun.job.session first
+      → IsSoFar (change_of begun.job blocks) (IsRunning run blocks) first now
 
 -- It begins so.
 pub along_first : (begun : Run) (session : Session) (blocks : List Sector) (first : BusView)
@@ -129,23 +42,26 @@ along_first begun session blocks first given count begins = record {
   count = count;
   bounded = omega arith;
   kept = λ k. k;
-  so_far = λ k ready. record {
-    stays = record { carried = record { made = refl; sizes = λ part. refl }; later = omega arith };
-    within = old_maybe (change_of begun.job blocks) (holds first.card);
-    running = let none : 0 ≡ first.faults - first.faults = omega arith in
-        subst (λ n. IsRunning begun blocks n first) none
-        (begins first blocks (subst (λ s. IsReady s first) given ready));
-  };
+  so_far = λ k ready.
+      so_far_first (change_of begun.job blocks) (IsRunning begun blocks) first
+      (begins first blocks (subst (λ s. IsReady s first) given ready));
 }
-
--- the faults so far, and those of this turn
-faults_so_far : (first now new : BusView) → Stays first now → Stays now new
-    → faults_then (now.faults - first.faults) now new ≡ new.faults - first.faults
-faults_so_far first now new p q = let l = p.later in let m = q.later in omega (arith, l, m)
 
 -- A run of which the blocks are read changes none, whatever they are.
 pub same_change : (job : Job) (blocks other : List Sector) → (job.way ≡ Read) → change_of job blocks ≡ change_of job other
 same_change job blocks other reads = rw reads refl
+
+-- a turn behind what the run has led to, in terms of the run as it began
+then_turned : (begun run : Run) (was blocks : List Sector) (first now new : BusView) (result : Progress Run)
+    → change_of begun.job was ≡ change_of begun.job blocks → run.job ≡ begun.job
+    → IsSoFar (change_of begun.job was) (IsRunning run was) first now
+    → ((faults : ℕ) → IsRunning run was faults now → HasTurned run blocks faults now result new)
+    → IsSoFar (change_of begun.job blocks) (HasLeft run blocks result) first new
+then_turned begun run was blocks first now new result same job f turned =
+    so_far_then (change_of begun.job blocks) (IsRunning run was) (HasLeft run blocks result) first now new
+    (subst (λ c. IsSoFar c (IsRunning run was) first now) same f)
+    (λ faults running.
+    subst (λ j. Turn (change_of j blocks) (HasLeft run blocks result) faults now new) job (turned faults running))
 
 -- It goes on so.
 pub along_next : (begun run next : Run) (was blocks : List Sector) (first now new : BusView)
@@ -160,22 +76,11 @@ along_next begun run next was blocks first now new same count a one kept job low
   bounded = let l = a.bounded in omega (arith, l, one, lowers);
   kept = λ k. a.kept (kept k);
   so_far = λ k ready.
-      let f = a.so_far (kept k) ready in
-      let t = turned k (now.faults - first.faults) f.running in
-      let change : change_of run.job blocks ≡ change_of begun.job blocks = ap (λ j. change_of j blocks) a.job in
-      record {
-        stays = stays_then first now new f.stays t.stays;
-        within = within_twice (change_of begun.job blocks) (holds first.card) (holds now.card) (holds new.card)
-            (subst (λ c. Within (holds now.card) (maybe_changed c (holds first.card))) same f.within)
-            (subst (λ c. Within (holds new.card) (maybe_changed c (holds now.card))) change t.within);
-        running = subst (λ n. IsRunning next blocks n new) (faults_so_far first now new f.stays t.stays) t.left;
-      };
+      let f = then_turned begun run was blocks first now new (More next) same a.job (a.so_far (kept k) ready) (turned k) in
+      record { stays = f.stays; within = f.within; running = f.running };
 }
 
 -- It ends so.
-
-abbrev pub RestLaw : Type 0
-RestLaw = (card : Card) → card.values ≡ [] → Same (holds card) (known card)
 
 keep_off : (b : Bool) (x v : Sector) (xs : List Sector) → (b ≡ true → ⊥) → IsIn xs v → IsIn (cond b (x ∷ []) xs) v
 keep_off true x v xs never h = absurd (never refl)
@@ -224,46 +129,29 @@ module _ (begun run : Run) (was blocks : List Sector) (first now new : BusView) 
     (way : Way) (same : change_of begun.job was ≡ change_of begun.job blocks)
     (given : begun.job.session ≡ session) (at : begun.job.start ≡ start) (goes : begun.job.way ≡ way)
     (along : IsAlong begun run was first now) (kept : now.is_kept ≡ true) (ready : IsReady session first) where
-  so_far : IsSoFar begun run was first now
-  so_far = along.so_far kept (subst (λ s. IsReady s first) (sym given) ready)
-
-  within_now : Within (holds now.card) (maybe_changed (change_of begun.job blocks) (holds first.card))
-  within_now = subst (λ c. Within (holds now.card) (maybe_changed c (holds first.card))) same so_far.within
-
-  -- the turn, in terms of the run as it began
-  module _ (result : Progress Run)
-      (turned : (faults : ℕ) → IsRunning run was faults now → HasTurned run blocks faults now result new) where
-    turn : HasTurned run blocks (now.faults - first.faults) now result new
-    turn = turned (now.faults - first.faults) so_far.running
-
-    within_all : Within (holds new.card) (maybe_changed (change_of begun.job blocks) (holds first.card))
-    within_all =
-        within_twice (change_of begun.job blocks) (holds first.card) (holds now.card) (holds new.card) within_now
-        (subst (λ j. Within (holds new.card) (maybe_changed (change_of j blocks) (holds now.card))) along.job turn.within)
-
-    stays_all : Stays first new
-    stays_all = stays_then first now new so_far.stays turn.stays
-
-    counted_all : faults_then (now.faults - first.faults) now new ≡ new.faults - first.faults
-    counted_all = faults_so_far first now new so_far.stays turn.stays
+  whole : (result : Progress Run)
+      → ((faults : ℕ) → IsRunning run was faults now → HasTurned run blocks faults now result new)
+      → IsSoFar (change_of begun.job blocks) (HasLeft run blocks result) first new
+  whole result turned =
+      then_turned begun run was blocks first now new result same along.job
+      (along.so_far kept (subst (λ s. IsReady s first) (sym given) ready)) turned
 
   pub run_done : (done : Session) → RestLaw → length blocks ≡ begun.job.count → done ≡ run.job.session
       → ((faults : ℕ) → IsRunning run was faults now → HasTurned run blocks faults now (Done done) new)
       → HasRun session start way blocks first (Ok done) new
   run_done done rests count is turned =
-      let t = turn (Done done) turned in
+      let f = whole (Done done) turned in
       let effect : HasEffect begun.job blocks new.card =
-      subst (λ j. HasEffect j blocks new.card) along.job t.left.1 in
+      subst (λ j. HasEffect j blocks new.card) along.job f.running.1 in
       let same_session : done ≡ begun.job.session = is ∙ ap (λ (j : Job). j.session) along.job in
-      let last : IsReady begun.job.session new = subst (λ s. IsReady s new) same_session t.left.0 in
+      let last : IsReady begun.job.session new = subst (λ s. IsReady s new) same_session f.running.0 in
       run_as begun.job session start way blocks first new (Ok done) given at goes (record {
-        stays = stays_all (Done done) turned;
-        within = within_all (Done done) turned;
+        stays = f.stays;
+        within = f.within;
         leaves = (
-          t.left.0,
+          f.running.0,
           exactly (change_of begun.job blocks) first.card new.card (rests first.card ready.set.rest.finished)
-              (rests new.card last.set.rest.finished) (stays_all (Done done) turned).carried
-              (fits_in begun.job blocks new count last) (within_all (Done done) turned)
+              (rests new.card last.set.rest.finished) f.stays.carried (fits_in begun.job blocks new count last) f.within
               (effect_changed begun.job.way begun.job blocks new.card refl effect),
           effect_read begun.job.way _ _ effect,
         );
@@ -273,9 +161,6 @@ module _ (begun run : Run) (was blocks : List Sector) (first now new : BusView) 
       → ((faults : ℕ) → IsRunning run was faults now → HasTurned run blocks faults now (Failed broken) new)
       → HasRun session start way blocks first (Err broken) new
   run_failed broken turned =
-      let t = turn (Failed broken) turned in
-      run_as begun.job session start way blocks first new (Err broken) given at goes (record {
-        stays = stays_all (Failed broken) turned;
-        within = within_all (Failed broken) turned;
-        leaves = subst (λ n. HasFailed broken n new) (counted_all (Failed broken) turned) t.left;
-      })
+      let f = whole (Failed broken) turned in
+      run_as begun.job session start way blocks first new (Err broken) given at goes
+      (record { stays = f.stays; within = f.within; leaves = f.running })

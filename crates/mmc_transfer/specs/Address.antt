@@ -1,12 +1,5 @@
--- What the commands of a run name.
-use Rattle.std.specs.Prelude.{◌*◌, ◌==◌, ◌||◌, Bool, ℕ}
-use Rattle.mmc_frame.specs.declared.addressing.Addressing.{Addressing}
-use Rattle.mmc_frame.specs.declared.addressing.Addressing.TheVariants.{Bytes, Sectors}
-
--- a sector, by its first byte or by its number
-abbrev pub address_of : Addressing → ℕ → ℕ
-address_of Bytes sector = 512 * sector
-address_of Sectors sector = sector
+-- How many blocks a card knows of.
+use Rattle.std.specs.Prelude.{◌==◌, ◌||◌, Bool, ℕ}
 
 -- The card knows how many blocks there are: one, or by CMD23.
 abbrev pub is_counted_by : ℕ → Bool → Bool

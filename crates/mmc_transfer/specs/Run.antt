@@ -1,17 +1,12 @@
 -- What contracts see of a run.
-use Rattle.std.specs.Prelude.{◌<◌, ◌≡◌, Err, List, None, Ok, Option, Result, Some, false, ℕ}
+use Rattle.std.specs.Prelude.{◌<◌, ◌≡◌, Err, List, None, Ok, Option, Result, Some, ℕ}
 use Rattle.mmc_card.specs.BusView.{BusView}
-use Rattle.mmc_card.specs.Card.{holds}
-use Rattle.mmc_card.specs.Sectors.{Sector, Within, maybe_changed}
-use Rattle.mmc_bus.specs.Heard.{cause_of}
-use Rattle.mmc_bus.specs.Learned.{Stays}
+use Rattle.mmc_card.specs.Sectors.{Sector}
 use Rattle.mmc_bus.specs.declared.cause.Cause.{Cause}
 use Rattle.mmc_switch.specs.Place.{IsReady}
-use Rattle.mmc_switch.specs.UnderWay.{HasFailed, faults_then}
-use Rattle.mmc_switch.specs.declared.broken.Broken.{Broken}
+use Rattle.mmc_switch.specs.UnderWay.{HasFailed, Turn, broken_off}
 use Rattle.mmc_switch.specs.declared.progress.Progress.{Progress}
 use Rattle.mmc_switch.specs.declared.progress.Progress.TheVariants.{Done, Failed, More}
-use Rattle.mmc_switch.specs.declared.session.Session.{Session}
 use Rattle.mmc_transfer.specs.Fits.{phase_left}
 use Rattle.mmc_transfer.specs.Running.{HasEffect, IsIn, change_of}
 use Rattle.mmc_transfer.specs.declared.job.Job.{Job}
@@ -26,10 +21,6 @@ exchanges_left run = phase_left run.job.count run.job.session.info.cmd23 run.pha
 abbrev pub IsRunning : Run → List Sector → ℕ → BusView → Type 0
 IsRunning run blocks faults view = IsIn run.job blocks run.phase faults view
 
--- what is left of a session that something failed with
-abbrev pub broken_off : Session → Cause → Broken
-broken_off session cause = record { session = session; cause = cause; must_reset = false }
-
 -- The run stays for the same sectors of the same session.
 abbrev pub IsSameRun : Run → Progress Run → Type 0
 IsSameRun run (More next) = next.job ≡ run.job
@@ -41,24 +32,16 @@ abbrev pub Lowers : Run → Progress Run → Type 0
 Lowers run (More next) = exchanges_left next < exchanges_left run
 Lowers run _ = Unit {0}
 
--- the cause of a failure is that of the last exchange
-abbrev pub FailsBy : Progress Run → BusView → Type 0
-FailsBy (Failed broken) view = cause_of view.last ≡ Some broken.cause
-FailsBy _ view = Unit {0}
-
 -- What a turn leaves: the run goes on; it is done, with its whole effect, and the card is ready; or it has failed, and a
 -- fault fell in it.
-abbrev pub HasLeft : Run → List Sector → ℕ → Progress Run → BusView → Type 0
-HasLeft run blocks faults (More next) view = IsRunning next blocks faults view
-HasLeft run blocks faults (Done session) view = IsReady session view × HasEffect run.job blocks view.card
-HasLeft run blocks faults (Failed broken) view = HasFailed broken faults view
+abbrev pub HasLeft : Run → List Sector → Progress Run → ℕ → BusView → Type 0
+HasLeft run blocks (More next) faults view = IsRunning next blocks faults view
+HasLeft run blocks (Done session) faults view = IsReady session view × HasEffect run.job blocks view.card
+HasLeft run blocks (Failed broken) faults view = HasFailed broken faults view
 
 -- A turn of a run. Each sector that a write names is old or new, and no other sector has changed.
-pub record HasTurned (run : Run) (blocks : List Sector) (faults : ℕ) (old : BusView) (result : Progress Run)
-    (new : BusView) : Type 0 where
-  pub stays : Stays old new
-  pub within : Within (holds new.card) (maybe_changed (change_of run.job blocks) (holds old.card))
-  pub left : HasLeft run blocks (faults_then faults old new) result new
+abbrev pub HasTurned : Run → List Sector → ℕ → BusView → Progress Run → BusView → Type 0
+HasTurned run blocks faults old result new = Turn (change_of run.job blocks) (HasLeft run blocks result) faults old new
 
 -- what an exchange makes of a run
 abbrev pub HasProgressed : Job → Result (Option Phase) Cause → Progress Run → Type 0

@@ -2,15 +2,15 @@
 use Rattle.std.specs.Prelude.{◌+◌, ◌-◌, ◌<◌, ◌==◌, ◌≡◌, ◌⊎◌, Bool, Err, List, None, Ok, Option, Result, Some, [], false}
 use Rattle.std.specs.Prelude.{if◌then◌else◌, slice_index_or, take, true, ℕ}
 use Rattle.mmc_frame.specs.declared.card_state.State.{State}
-use Rattle.mmc_frame.specs.declared.card_state.State.TheVariants.{Data, Prg, Rcv, Tran}
+use Rattle.mmc_frame.specs.declared.card_state.State.TheVariants.{Data, Prg, Rcv}
 use Rattle.mmc_card.specs.BusView.{BusView}
 use Rattle.mmc_card.specs.Card.{Card, FromSectors, holds, is_selected, stored}
 use Rattle.mmc_card.specs.ErrorBits.{out_of_range}
-use Rattle.mmc_card.specs.Sectors.{AreRead, Change, Sector, Within, changed, maybe_changed}
+use Rattle.mmc_card.specs.Sectors.{AreRead, Change, Sector}
 use Rattle.mmc_bus.specs.declared.cause.Cause.{Cause}
-use Rattle.mmc_bus.specs.Learned.{Stays}
 use Rattle.mmc_switch.specs.Place.{IsReady}
-use Rattle.mmc_switch.specs.UnderWay.{HasFailed, IsQuiet, IsUnderWay, faults_then, part_of, room_of}
+use Rattle.mmc_switch.specs.UnderWay.{HasFailed, IsBusyAfter, IsCarriedOut, IsIdle, IsQuiet, IsUnderWay}
+use Rattle.mmc_switch.specs.UnderWay.{Turn, broken_off, part_of, room_of}
 use Rattle.mmc_switch.specs.declared.session.Session.{Session}
 use Rattle.mmc_transfer.specs.Address.{is_counted_by}
 use Rattle.mmc_transfer.specs.declared.job.Job.{Job}
@@ -53,16 +53,6 @@ AreStored done job blocks card =
     (i : ℕ) → i < done
     → slice_index_or blocks i [] ≡ slice_index_or (stored card (part_of job.session)) (job.start + i) []
 
--- A card that was asked whether it is busy so often, and is.
-pub record IsBusyAfter (polls : ℕ) (card : Card) : Type 0 where
-  pub busy : card.is_busy ≡ true
-  pub polled : card.polled < 8 → card.polled ≡ polls
-
--- In tran with nothing to do, and this count preset.
-pub record IsIdle (preset : ℕ) (card : Card) : Type 0 where
-  pub quiet : IsQuiet Tran preset card
-  pub rests : card.is_busy ≡ false
-
 -- The card sends the blocks of a read, and has sent so many. At the end of the partition it may say so, if it doesn't
 -- know the number of blocks.
 pub record IsSending (done : ℕ) (job : Job) (blocks : List Sector) (card : Card) : Type 0 where
@@ -81,10 +71,6 @@ pub record IsTaking (place : State) (done : ℕ) (job : Job) (blocks : List Sect
   pub start : card.start ≡ job.start
   pub values : card.values ≡ take done blocks
   pub left : card.left ≡ left_of job done
-
--- A write is carried out: each of its sectors has its block alone.
-abbrev pub IsCarriedOut : Job → List Sector → Card → Type 0
-IsCarriedOut job blocks card = Within (holds card) (changed (change_of job blocks) (holds card))
 
 -- Exactly here the card is in each phase, but for a fault that nobody has seen.
 abbrev pub ReadExact : Job → List Sector → Phase → Card → Type 0
@@ -105,7 +91,7 @@ WriteExact job blocks (Other (Pause done polls)) card =
 WriteExact job blocks (Other Stop) card = IsTaking Rcv job.count job blocks card × (card.is_busy ≡ false)
 WriteExact job blocks (Other (Finish polls)) card =
     IsTaking Prg job.count job blocks card × IsBusyAfter polls card
-WriteExact job blocks (Other Confirm) card = IsIdle 0 card × IsCarriedOut job blocks card
+WriteExact job blocks (Other Confirm) card = IsIdle 0 card × IsCarriedOut (change_of job blocks) card
 
 abbrev pub Exact : Job → List Sector → Phase → Card → Type 0
 Exact job blocks phase card = by_way job.way (ReadExact job blocks phase card) (WriteExact job blocks phase card)
@@ -124,19 +110,15 @@ IsIn job blocks phase faults view = IsUnderWay job.session (Shown phase) (Exact 
 -- The effect of a run: a write is carried out, and what was read is what the sectors hold.
 abbrev pub HasEffect : Job → List Sector → Card → Type 0
 HasEffect job blocks card =
-    by_way job.way (AreRead (holds card) (part_of job.session) job.start blocks) (IsCarriedOut job blocks card)
+    by_way job.way (AreRead (holds card) (part_of job.session) job.start blocks) (IsCarriedOut (change_of job blocks) card)
 
 -- What a turn leaves: the run goes on, or it is done, or it has failed.
 abbrev pub IsLeft : Job → List Sector → Result (Option Phase) Cause → ℕ → BusView → Type 0
 IsLeft job blocks (Ok (Some phase)) faults view = IsIn job blocks phase faults view
 IsLeft job blocks (Ok None) faults view = IsReady job.session view × HasEffect job blocks view.card
-IsLeft job blocks (Err cause) faults view =
-    HasFailed (record { session = job.session; cause = cause; must_reset = false }) faults view
+IsLeft job blocks (Err cause) faults view = HasFailed (broken_off job.session cause) faults view
 
 -- A turn of a run from this phase: each sector that it names holds no more than before or its block, and no other more
 -- than before.
-pub record Turned (job : Job) (blocks : List Sector) (faults : ℕ) (old : BusView) (result : Result (Option Phase) Cause)
-    (new : BusView) : Type 0 where
-  pub stays : Stays old new
-  pub within : Within (holds new.card) (maybe_changed (change_of job blocks) (holds old.card))
-  pub left : IsLeft job blocks result (faults_then faults old new) new
+abbrev pub Turned : Job → List Sector → ℕ → BusView → Result (Option Phase) Cause → BusView → Type 0
+Turned job blocks faults old result new = Turn (change_of job blocks) (IsLeft job blocks result) faults old new

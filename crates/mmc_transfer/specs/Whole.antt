@@ -1,5 +1,5 @@
 -- What a whole run does.
-use Rattle.std.specs.Prelude.{◌-◌, ◌≡◌, Err, List, Ok, Result, ℕ}
+use Rattle.std.specs.Prelude.{◌-◌, Err, List, Ok, Result, ℕ}
 use Rattle.mmc_card.specs.BusView.{BusView}
 use Rattle.mmc_card.specs.Card.{holds}
 use Rattle.mmc_card.specs.Sectors.{AreRead, Same, Sector, Within, changed, maybe_changed}
@@ -8,14 +8,8 @@ use Rattle.mmc_switch.specs.Place.{IsReady}
 use Rattle.mmc_switch.specs.UnderWay.{HasFailed, part_of}
 use Rattle.mmc_switch.specs.declared.broken.Broken.{Broken}
 use Rattle.mmc_switch.specs.declared.session.Session.{Session}
-use Rattle.mmc_transfer.specs.Run.{broken_off}
 use Rattle.mmc_transfer.specs.Running.{by_way, change_for}
 use Rattle.mmc_transfer.specs.declared.way.Way.{Way}
-
--- the session stays as it was
-abbrev pub IsSameSession : Session → Result Session Broken → Type 0
-IsSameSession session (Ok same) = same ≡ session
-IsSameSession session (Err broken) = broken ≡ broken_off session broken.cause
 
 -- Done: the card is ready, exactly the sectors of a write have changed, and what was read is what the sectors hold.
 -- Failed: a fault fell.

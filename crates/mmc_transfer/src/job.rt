@@ -1,14 +1,14 @@
 // What a run is for.
 ghost use Rattle.std.specs.Prelude.{◌≡◌, ◌==◌, ◌+◌, ◌≤◌, IsSome, false};
+ghost use Rattle.mmc_switch.specs.Address.{address_of};
 ghost use Rattle.mmc_switch.specs.UnderWay.{room_of};
 ghost use Rattle.mmc_transfer.specs.declared.way.Way.TheVariants.{Write};
 ghost use Rattle.mmc_transfer.specs.declared.job.TheConstants.{MAX_BLOCKS};
-ghost use Rattle.mmc_transfer.specs.Address.{address_of, is_counted_by};
+ghost use Rattle.mmc_transfer.specs.Address.{is_counted_by};
 ghost use Rattle.mmc_transfer.specs.Fits.{first_of};
 
 use crate::phase::Step;
 use crate::way::Way;
-use mmc_frame::{Addressing, Kind};
 use mmc_switch::Session;
 
 /// The most blocks of a run.
@@ -29,28 +29,11 @@ pub struct Job {
 }
 
 impl Job {
-    // SD or eMMC.
-    pub(crate) fn kind(&self) -> Kind
-        ensures { result ≡ self.now.session.info.kind }
-    {
-        self.session.info().kind
-    }
-
-    // The RCA.
-    pub(crate) fn rca(&self) -> u16
-        ensures { result ≡ self.now.session.info.rca }
-    {
-        self.session.info().rca
-    }
-
     // The argument of its commands: the first sector, or its first byte.
     pub(crate) fn address(&self) -> u32
         ensures { result ≡ address_of self.now.session.info.addressing self.now.start }
     {
-        match self.session.info().addressing {
-            Addressing::Bytes => (512 * self.start) as u32,
-            Addressing::Sectors => self.start as u32,
-        }
+        self.session.address(self.start)
     }
 
     // Whether the card knows how many blocks there are, so that it ends the transfer by itself.

@@ -28,7 +28,7 @@ fn preset_count<B: Bus>(bus: &mut B, job: &Job) -> Result<Option<Phase>, Cause>
     ensures turned { (B.view bus.new).is_kept ≡ true → (blocks : List Sector) (faults : ℕ) → IsIn job.now blocks (Other Preset) faults (B.view bus.old)
         → Turned job.now blocks faults (B.view bus.old) result (B.view bus.new) }
 {
-    preset(bus, job.kind(), job.count)?;
+    preset(bus, job.session.kind(), job.count)?;
     Ok(Some(Phase::Other(Step::Command)))
 }
 
@@ -41,7 +41,13 @@ fn begin_transfer<B: Bus>(bus: &mut B, job: &Job) -> Result<Option<Phase>, Cause
     ensures turned { (B.view bus.new).is_kept ≡ true → (blocks : List Sector) (faults : ℕ) → IsIn job.now blocks (Other Command) faults (B.view bus.old)
         → Turned job.now blocks faults (B.view bus.old) result (B.view bus.new) }
 {
-    start(bus, job.kind(), job.way, job.count == 1, job.address())?;
+    start(
+        bus,
+        job.session.kind(),
+        job.way,
+        job.count == 1,
+        job.address(),
+    )?;
     Ok(Some(Phase::Block { done: 0 }))
 }
 
@@ -80,7 +86,7 @@ fn end_transfer<B: Bus>(bus: &mut B, job: &Job) -> Result<Option<Phase>, Cause>
     ensures turned { (B.view bus.new).is_kept ≡ true → (blocks : List Sector) (faults : ℕ) → IsIn job.now blocks (Other Stop) faults (B.view bus.old)
         → Turned job.now blocks faults (B.view bus.old) result (B.view bus.new) }
 {
-    stop(bus, job.kind(), job.ends_partition())?;
+    stop(bus, job.session.kind(), job.ends_partition())?;
     Ok(Some(Phase::Other(Step::Finish { polls: 0 })))
 }
 
@@ -115,7 +121,7 @@ fn close<B: Bus>(bus: &mut B, job: &Job) -> Result<Option<Phase>, Cause>
     ensures turned { (B.view bus.new).is_kept ≡ true → (blocks : List Sector) (faults : ℕ) → length blocks ≡ job.now.count → IsIn job.now blocks (Other Confirm) faults (B.view bus.old)
         → Turned job.now blocks faults (B.view bus.old) result (B.view bus.new) }
 {
-    confirm(bus, job.kind(), job.rca())?;
+    confirm(bus, job.session.kind(), job.session.rca())?;
     Ok(None)
 }
 

@@ -4,10 +4,10 @@ ghost use Rattle.mmc_card.specs.BusView.{BusView};
 ghost use Rattle.mmc_card.specs.Sectors.{Sector};
 ghost use Rattle.mmc_bus.specs.Lending.{IsRewritten};
 ghost use Rattle.mmc_switch.specs.Place.{IsReady};
-ghost use Rattle.mmc_switch.specs.UnderWay.{room_of};
+ghost use Rattle.mmc_switch.specs.UnderWay.{FailsBy, room_of};
 ghost use Rattle.mmc_transfer.specs.declared.job.TheConstants.{MAX_BLOCKS};
 ghost use Rattle.mmc_transfer.specs.declared.way.Way.TheVariants.{Read, Write};
-ghost use Rattle.mmc_transfer.specs.Run.{FailsBy, HasProgressed, HasTurned, IsRunning, IsSameRun, Lowers, exchanges_left};
+ghost use Rattle.mmc_transfer.specs.Run.{HasProgressed, HasTurned, IsRunning, IsSameRun, Lowers, exchanges_left};
 ghost use Rattle.mmc_transfer.specs.Fits.{some_fits};
 
 use crate::job::{Job, MAX_BLOCKS};

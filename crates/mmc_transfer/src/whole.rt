@@ -3,10 +3,10 @@ ghost use Rattle.std.specs.Prelude.{◌≡◌, ◌*◌, ◌+◌, ◌≤◌, IfEr
 ghost use Rattle.mmc_bus.specs.Heard.{cause_of};
 ghost use Rattle.mmc_bus.specs.Lending.{IsRewritten};
 ghost use Rattle.mmc_switch.specs.Place.{IsReady};
-ghost use Rattle.mmc_switch.specs.UnderWay.{room_of};
+ghost use Rattle.mmc_switch.specs.UnderWay.{IsSameSession, room_of};
 ghost use Rattle.mmc_transfer.specs.declared.job.TheConstants.{MAX_BLOCKS};
 ghost use Rattle.mmc_transfer.specs.declared.way.Way.TheVariants.{Read, Write};
-ghost use Rattle.mmc_transfer.specs.Whole.{HasRun, IsSameSession};
+ghost use Rattle.mmc_transfer.specs.Whole.{HasRun};
 
 use crate::run::Run;
 use crate::way::Way;

@@ -1,5 +1,5 @@
 use Rattle.mmc_transfer.proofs.PauseLemmas.{pause_ends, pause_fails, pause_stops, pauses_still}
-use Rattle.mmc_transfer.proofs.PollLemmas.{polls_by}
+use Rattle.mmc_switch.proofs.EndingLemmas.{polls_by}
 use Rattle.mmc_transfer.proofs.steps.pause.Goals as goal
 
 pub returns-then-polls-eq-MAX_POLLS-clause-turned :

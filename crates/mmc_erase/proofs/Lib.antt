@@ -1,0 +1,5 @@
+pub mod CommandLemmas
+pub mod ErasingLemmas
+pub mod StepLemmas
+pub mod TurnLemmas
+pub mod WholeLemmas

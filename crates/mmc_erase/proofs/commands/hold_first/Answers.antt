@@ -1,0 +1,20 @@
+use Rattle.mmc_bus.proofs.WorkLemmas.{command_worked}
+use Rattle.mmc_card.specs.Card.{NoAddress}
+use Rattle.mmc_erase.proofs.CommandLemmas.{asked_as, done_where_answered, done_where_it_can, first_erases_nothing}
+use Rattle.mmc_erase.proofs.CommandLemmas.{first_is_of_a_run, first_law}
+use Rattle.mmc_erase.proofs.commands.hold_first.Goals as goal
+
+pub returns-clause-works : goal.returns-clause-works
+returns-clause-works g c kept =
+    let kind = c.args.kind in
+    let old = g.B.Bus.view c.args.bus.now in
+    let asked = asked_as c.first_command.ensures.named c.ask.ensures.asked in
+    let k = asked.exchanged.kept kept in
+    let e = c.cmd32_and_cmd35_hold_the_first_address.ensures in
+    let law = first_law e.sd e.mmc kind old _ c.args.address _ k.step in
+    command_worked asked (first_erases_nothing kind old.card c.args.address) (first_is_of_a_run kind old.card c.args.address)
+    kept
+    (λ ok is none. let told = c.check_r1.ensures.ok ok in
+    done_where_answered kind _ old _ _ (law is none) told.0 told.1)
+    (λ same can. done_where_it_can kind _ old _ _ (law can.is_kind can.erase) NoAddress
+    c.a_status_tells_of_its_card.ensures.errors k.was_card c.check_r1.ensures.all same can)

@@ -1,0 +1,25 @@
+use Rattle.mmc_switch.proofs.EndingLemmas.{polls_by}
+use Rattle.mmc_erase.proofs.StepLemmas.{waits_no_more, waits_on, waits_too_long}
+use Rattle.mmc_erase.proofs.steps.wait.Goals as goal
+
+pub returns-then-polls-eq-MAX_POLLS-clause-turned :
+    goal.returns-then-polls-eq-MAX_POLLS-clause-turned
+returns-then-polls-eq-MAX_POLLS-clause-turned g c kept faults at =
+    let a = g.B.Bus.view c.args.bus.now in
+    let b = g.B.Bus.view c.poll.new.bus in
+    waits_too_long c.args.job.now faults c.args.polls a b at _ c.if-polls-eq-MAX_POLLS.true
+    (polls_by a b c.if-poll.ensures.polled kept)
+
+pub returns-else-polls-eq-MAX_POLLS-clause-turned :
+    goal.returns-else-polls-eq-MAX_POLLS-clause-turned
+returns-else-polls-eq-MAX_POLLS-clause-turned g c kept faults at =
+    let a = g.B.Bus.view c.args.bus.now in
+    let b = g.B.Bus.view c.poll.new.bus in
+    waits_on c.args.job.now faults c.args.polls a b at (polls_by a b c.if-poll.ensures.polled kept)
+
+pub returns-else-poll-clause-turned : goal.returns-else-poll-clause-turned
+returns-else-poll-clause-turned g c kept faults at =
+    let a = g.B.Bus.view c.args.bus.now in
+    let b = g.B.Bus.view c.poll.new.bus in
+    waits_no_more c.args.job.now faults c.args.polls a b at c.programming_carries_a_change_out.ensures.changes
+    (polls_by a b c.if-poll.ensures.polled kept)

@@ -1,0 +1,15 @@
+//! Runs that erase or trim sectors, an exchange at a time or as a whole.
+#![tactic(auto)]
+
+mod commands;
+mod how;
+mod job;
+mod phase;
+mod run;
+mod steps;
+mod turns;
+mod whole;
+
+pub use how::How;
+pub use run::EraseRun;
+pub use whole::erase_run;

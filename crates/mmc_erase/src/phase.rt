@@ -1,0 +1,14 @@
+/// The next exchange of a run.
+#[derive(Clone, Copy, Debug, PartialEq, Eq)]
+pub enum Phase {
+    /// CMD32 or CMD35.
+    First,
+    /// CMD33 or CMD36.
+    Last,
+    /// CMD38.
+    Erase,
+    /// A poll, after so many.
+    Wait { polls: u64 },
+    /// CMD13.
+    Confirm,
+}

@@ -1,0 +1,72 @@
+// Runs a turn at a time: each turn is one exchange.
+ghost use Rattle.std.specs.Prelude.{◌≡◌, ◌+◌, ◌≤◌, IfOk, IsSome, IsTrue, false, true, ℕ};
+ghost use Rattle.mmc_card.specs.BusView.{BusView};
+ghost use Rattle.mmc_card.specs.RowsErase.{is_boot};
+ghost use Rattle.mmc_switch.specs.Place.{IsReady};
+ghost use Rattle.mmc_switch.specs.UnderWay.{FailsBy, part_of, room_of};
+ghost use Rattle.mmc_erase.specs.Fits.{some_fits};
+ghost use Rattle.mmc_erase.specs.Job.{suits};
+ghost use Rattle.mmc_erase.specs.Run.{HasProgressed, HasTurned, IsRunning, IsSameRun, Lowers, exchanges_left};
+
+use crate::how::How;
+use crate::job::Job;
+use crate::phase::Phase;
+use crate::run::EraseRun;
+use crate::steps::step;
+use mmc_bus::{Bus, Cause};
+use mmc_switch::{Progress, Session};
+
+impl EraseRun {
+    /// Begins to erase or trim so many sectors, 1 at least, from this one of the selected partition on, inside which they
+    /// are, and which isn't a boot partition. An erase is of whole erase units, but that the last one may end with the
+    /// partition; a trim is of a card that trims. Nothing is sent yet.
+    pub fn begin(session: Session, start: u64, count: u64, how: How) -> EraseRun
+        requires selected { IsSome session.selected }
+        requires some { 1 ≤ count }
+        requires inside { start + count ≤ room_of session }
+        requires erasable { is_boot (part_of session) ≡ false }
+        requires suits { suits how session.info (room_of session) start count ≡ true }
+        ensures session { result.job.session ≡ session }
+        ensures start { result.job.start ≡ start }
+        ensures count { result.job.count ≡ count }
+        ensures bounded { exchanges_left result ≤ 20 }
+        ensures running { (view : BusView) → IsReady session view → IsRunning result 0 view }
+    {
+        EraseRun {
+            job: Job {
+                session,
+                start,
+                count,
+                how,
+            },
+            phase: Phase::First,
+        }
+    }
+
+    /// The next exchange.
+    pub fn turn<B: Bus>(self, bus: &mut B) -> Progress<EraseRun>
+        ensures bounded { (B.view bus.new).exchanges ≤ (B.view bus.old).exchanges + 1 }
+        ensures kept { (B.view bus.new).is_kept ≡ true → (B.view bus.old).is_kept ≡ true }
+        ensures same { IsSameRun self result }
+        ensures lowers { Lowers self result }
+        ensures cause { FailsBy result (B.view bus.new) }
+        ensures turned { (B.view bus.new).is_kept ≡ true → (faults : ℕ) → IsRunning self faults (B.view bus.old)
+            → HasTurned self faults (B.view bus.old) result (B.view bus.new) }
+    {
+        let EraseRun { job, phase } = self;
+        let result = step(bus, &job, phase);
+        progress(job, result)
+    }
+}
+
+// What an exchange makes of a run.
+fn progress(job: Job, outcome: Result<Option<Phase>, Cause>) -> Progress<EraseRun>
+    requires fits { IfOk outcome (λ next. IsTrue (some_fits next)) }
+    ensures { HasProgressed job outcome result }
+{
+    match outcome {
+        Ok(Some(phase)) => Progress::More(EraseRun { job, phase }),
+        Ok(None) => Progress::Done(job.session),
+        Err(cause) => Progress::Failed(job.session.break_off(cause)),
+    }
+}

@@ -1,0 +1,111 @@
+-- A card that is brought back in order where it stands.
+use Rattle.std.proofs.Common.{◌∙◌, ◌≡◌, ap}
+use Rattle.std.specs.Prelude.{IsErr, IsOk, Result}
+use Rattle.mmc_frame.specs.declared.card_state.State.TheVariants.{Tran}
+use Rattle.mmc_frame.specs.declared.kind.Kind.{Kind}
+use Rattle.mmc_card.specs.BusView.{BusView}
+use Rattle.mmc_card.specs.Card.{Card, IsCard, is_selected}
+use Rattle.mmc_card.specs.CardAnswer.{shown}
+use Rattle.mmc_card.specs.CardLaws.{IsInOrder}
+use Rattle.mmc_card.specs.Laws.{Setting, setting_of}
+use Rattle.mmc_card.specs.RowsErase.{forgotten}
+use Rattle.mmc_bus.proofs.WorkLemmas.{joined, moved_as, moved_then, narrows_then, refuted}
+use Rattle.mmc_bus.specs.Work.{Anything, Done, Moved, Narrows, Worked}
+use Rattle.mmc_bus.specs.declared.cause.Cause.{Cause}
+use Rattle.mmc_switch.proofs.UnderWayLemmas.{knows_then, quiet_by, ready_again, stands_then}
+use Rattle.mmc_switch.specs.Place.{IsReady, Knows, StandsAs}
+use Rattle.mmc_switch.specs.declared.info.Info.{Info}
+use Rattle.mmc_switch.specs.declared.session.Session.{Session}
+use Rattle.mmc_recovery.specs.Settled.{Restores}
+
+-- Work of which nothing is said but that the card stays as it is set.
+abbrev pub Stirs : BusView → BusView → Type 0
+Stirs = Worked Narrows Anything Anything
+
+pub stirs_then : {Own Fine More Easy : BusView → BusView → Type 0} (a b c : BusView) → Worked Narrows Own Fine a b
+    → Worked Narrows More Easy b c → Stirs a c
+stirs_then a b c p q = joined a b c p q (narrows_then a b c p.sectors q.sectors) tt (λ same. tt)
+
+abbrev pub Restored : Info → Result Unit Cause → BusView → BusView → Type 0
+Restored info r = Moved (Restores info r) Anything
+
+-- A failure restores nothing.
+
+pub restores_none : {Stands Own Fine : BusView → BusView → Type 0} (info : Info) (r : Result Unit Cause) (a b : BusView)
+    → IsErr r → Done Stands Narrows Own Fine a b → Restored info r a b
+restores_none info r a b err p = moved_as a b p (λ session same knows stands ok. refuted r err ok) (λ same. tt)
+
+pub restores_none_then : {Stands Own Fine Set More Easy : BusView → BusView → Type 0} (info : Info)
+    (r : Result Unit Cause) (a b c : BusView)
+    → IsErr r → Done Stands Narrows Own Fine a b → Done Set Narrows More Easy b c
+    → Restored info r a c
+restores_none_then info r a b c err p q =
+    moved_then a b c p q (λ session same knows stands ok. refuted r err ok) (λ same. tt)
+
+-- Blocks of 512 bytes, and nothing is held.
+
+abbrev pub set_to_blocks : Card → Card
+set_to_blocks card = record (shown (forgotten card)) { block_length = 512 }
+
+abbrev pub SetsBlocks : Result Unit Cause → BusView → BusView → Type 0
+SetsBlocks r =
+    Moved (λ old new. IsOk r → (old.card.state ≡ Tran) × (new.card ≡ set_to_blocks old.card)) Anything
+
+abbrev pub Shows : {X : Type 0} → Result X Cause → BusView → BusView → Type 0
+Shows r = Worked Narrows (λ old new. IsOk r → new.card ≡ shown old.card) Anything
+
+-- a card in tran stands as it did
+stands_with_blocks : (session : Session) (a b : BusView) → b.lines ≡ a.lines → a.card.state ≡ Tran
+    → b.card ≡ set_to_blocks a.card → StandsAs session a → StandsAs session b
+stands_with_blocks session a b lines tran e stands =
+    let was = stands.stands.selected (ap is_selected tran) in
+    let now : b.card.state ≡ Tran = ap (λ (c : Card). c.state) e ∙ tran in
+    record {
+      part = stands.part;
+      is_part = stands.is_part;
+      stands = record {
+        selected = λ up. ap setting_of e ∙ ap (λ (s : Setting). record s { block_length = 512 }) was;
+        sends = λ sends. cc (now, sends);
+        reset = λ down. cc (ap is_selected now, down);
+      };
+      lines = lines ∙ stands.lines;
+    }
+
+-- the card after CMD16 and two CMD13, of which the last one finds it in order
+in_order_again : (kind : Kind) (session : Session) (card : Card) (c d : BusView) → c.card ≡ shown (set_to_blocks card)
+    → d.card ≡ shown c.card → IsInOrder kind c.card → IsCard d.card → Knows session d.card.made → StandsAs session d
+    → IsReady session d
+in_order_again kind session card c d e f order is knows stands =
+    ready_again session d is knows stands
+    (quiet_by (ap (λ (x : Card). x.state) f ∙ order.tran) (ap (λ (x : Card). x.app) f) (ap (λ (x : Card). x.command_errors) f) (ap (λ (x : Card). x.errors) f) (ap (λ (x : Card). x.switch_error) f) (ap (λ (x : Card). x.count) f) (ap (λ (x : Card). x.erase) f ∙ ap (λ (x : Card). x.erase) e))
+    (ap (λ (x : Card). x.is_busy) f ∙ order.rests)
+
+pub puts_in_order : {X : Type 0} {Fine : BusView → BusView → Type 0} (info : Info) (kind : Kind)
+    (first : Result Unit Cause) (second : Result X Cause)
+    (last : Result Unit Cause) (a b c d : BusView) → IsOk first → IsOk second → b.lines ≡ a.lines
+    → SetsBlocks first a b → Shows second b c
+    → Worked Narrows (λ old new. IsOk last → IsInOrder kind old.card × (new.card ≡ shown old.card)) Fine c d
+    → Restored info last a d
+puts_in_order info kind first second last a b c d one two lines p q r =
+    let rest = stirs_then b c d q r in
+    let all : Moved Anything Anything a d = moved_then a b d p rest tt (λ same. tt) in
+    moved_as a d all
+    (λ session same knows stands ok.
+    let blocks = p.own one in
+    let showed = q.own two in
+    let final = r.own ok in
+    let with = stands_with_blocks session a b lines blocks.0 blocks.1 stands in
+    let still = stands_then session b d rest.set with in
+    in_order_again kind session a.card c d (showed ∙ ap shown blocks.1) final.1 final.0 r.is_card
+    (knows_then session a.card d.card all.stays.carried knows) still)
+    (λ same. tt)
+
+-- The card's work is ended, and then it is put in order.
+
+pub restores : {Own Fine : BusView → BusView → Type 0} (info : Info) (r : Result Unit Cause) (a b c : BusView)
+    → Worked Narrows Own Fine a b → Restored info r b c → Restored info r a c
+restores info r a b c p q =
+    moved_then a b c p q
+    (λ session same knows stands ok.
+    q.own session same (knows_then session a.card b.card p.stays.carried knows) (stands_then session a b p.set stands) ok)
+    (λ same. tt)

@@ -1,0 +1,47 @@
+use Rattle.std.proofs.Common.{◌∙◌, sym}
+use Rattle.mmc_recovery.proofs.SettleLemmas.{resets_fell, resets_stays, resets_then, restored_ready}
+use Rattle.mmc_recovery.proofs.settling.settle.Goals as goal
+
+pub returns-then-must_reset-clause-stays : goal.returns-then-must_reset-clause-stays
+returns-then-must_reset-clause-stays g c kept =
+    resets_stays c.args.broken c.reset.result (g.B.Bus.view c.args.bus.now) (g.B.Bus.view c.reset.new.bus)
+    (c.reset.ensures.moves kept)
+
+pub returns-then-must_reset-clause-refused : goal.returns-then-must_reset-clause-refused
+returns-then-must_reset-clause-refused g c kept loose profile err =
+    resets_fell c.args.broken c.reset.result (g.B.Bus.view c.args.bus.now) (g.B.Bus.view c.reset.new.bus)
+    (c.reset.ensures.moves kept) loose.knows profile err
+
+pub returns-in-Ok-clause-settled : goal.returns-in-Ok-clause-settled
+returns-in-Ok-clause-settled g c kept loose =
+    restored_ready c.args.broken c.into_session.result c.info.result.now (g.B.Bus.view c.args.bus.now)
+    (g.B.Bus.view c.restore.new.bus) (sym c.must_reset.ensures ∙ c.if-must_reset.false) c.info.ensures
+    c.into_session.ensures (c.in-Ok.ensures.moves kept) loose
+
+pub returns-in-Err-clause-stays : goal.returns-in-Err-clause-stays
+returns-in-Err-clause-stays g c kept =
+    let start = g.B.Bus.view c.args.bus.now in
+    let end = g.B.Bus.view c.reset-in-Err.new.bus in
+    let broken = c.args.broken in
+    let q = c.reset-in-Err.ensures.moves kept in
+    resets_stays broken c.reset-in-Err.result start end
+    (resets_then broken c.reset-in-Err.result start (g.B.Bus.view c.restore.new.bus) end
+    (c.in-Err.ensures.moves q.was_kept) q)
+
+pub returns-in-Err-clause-settled : goal.returns-in-Err-clause-settled
+returns-in-Err-clause-settled g c kept loose =
+    let q = c.reset-in-Err.ensures.moves kept in
+    let p = resets_then c.args.broken c.reset-in-Err.result (g.B.Bus.view c.args.bus.now)
+    (g.B.Bus.view c.restore.new.bus) (g.B.Bus.view c.reset-in-Err.new.bus) (c.in-Err.ensures.moves q.was_kept) q in
+    p.own loose.knows
+
+pub returns-in-Err-clause-refused : goal.returns-in-Err-clause-refused
+returns-in-Err-clause-refused g c kept loose profile err =
+    let start = g.B.Bus.view c.args.bus.now in
+    let end = g.B.Bus.view c.reset-in-Err.new.bus in
+    let broken = c.args.broken in
+    let q = c.reset-in-Err.ensures.moves kept in
+    resets_fell broken c.reset-in-Err.result start end
+    (resets_then broken c.reset-in-Err.result start (g.B.Bus.view c.restore.new.bus) end
+    (c.in-Err.ensures.moves q.was_kept) q)
+    loose.knows profile err

@@ -1,0 +1,8 @@
+//! Recovery: bringing a card back in order after a failure.
+#![tactic(auto)]
+
+mod order;
+mod reopening;
+mod settling;
+
+pub use settling::settle;

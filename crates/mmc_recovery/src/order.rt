@@ -1,0 +1,94 @@
+// Bringing a card back in order where it stands, without a reset.
+ghost use Rattle.std.specs.Prelude.{◌≡◌, ◌+◌, ◌≤◌, IsOk, true};
+ghost use Rattle.mmc_frame.specs.declared.card_state.State.TheVariants.{Tran};
+ghost use Rattle.mmc_card.specs.CardAnswer.{shown};
+ghost use Rattle.mmc_card.specs.RowsErase.{forgotten};
+ghost use Rattle.mmc_bus.specs.Work.{Anything, Moves, Narrows, Works};
+ghost use Rattle.mmc_recovery.specs.Settled.{Restores};
+
+use mmc_bus::{
+    Bus, Cause, ask, confirm, identify_laws, rca_argument, transfer_laws, wait_while_busy,
+};
+use mmc_frame::commands::{SEND_STATUS, SET_BLOCKLEN, STOP_TRANSMISSION};
+use mmc_frame::{State, state};
+use mmc_switch::Info;
+
+// CMD13: the status, whatever errors it shows. They are cleared by it.
+fn show_status<B: Bus>(bus: &mut B, rca: u16) -> Result<u32, Cause>
+    ensures bounded { (B.view bus.new).exchanges ≤ (B.view bus.old).exchanges + 1 }
+    ensures works { Works Narrows (λ old new. IsOk result → new.card ≡ shown old.card) Anything
+        (B.view bus.old) (B.view bus.new) }
+{
+    identify_laws::cmd13_tells_the_status();
+    match ask(bus, SEND_STATUS, rca_argument(rca)) {
+        Ok(status) => Ok(status),
+        Err(_) => Err(Cause::Answer),
+    }
+}
+
+// CMD12, whatever errors its R1 shows.
+fn stop<B: Bus>(bus: &mut B) -> Result<(), Cause>
+    ensures bounded { (B.view bus.new).exchanges ≤ (B.view bus.old).exchanges + 1 }
+    ensures works { Works Narrows Anything Anything (B.view bus.old) (B.view bus.new) }
+{
+    match ask(bus, STOP_TRANSMISSION, 0) {
+        Ok(_) => Ok(()),
+        Err(_) => Err(Cause::Answer),
+    }
+}
+
+// Ends what the card is at, by the state that its status shows.
+fn end_work<B: Bus>(bus: &mut B, rca: u16) -> Result<(), Cause>
+    ensures bounded { (B.view bus.new).exchanges ≤ (B.view bus.old).exchanges + 18 }
+    ensures works { Works Narrows Anything Anything (B.view bus.old) (B.view bus.new) }
+{
+    match state(show_status(bus, rca)?) {
+        Some(State::Tran) => Ok(()),
+        Some(State::Prg) => wait_while_busy(bus),
+        Some(State::Data | State::Rcv) => {
+            stop(bus)?;
+            wait_while_busy(bus)
+        }
+        _ => Err(Cause::Status),
+    }
+}
+
+// CMD16 with 512, whatever errors its R1 shows: it drops a preset count and held erase addresses.
+fn set_block_length<B: Bus>(bus: &mut B) -> Result<(), Cause>
+    ensures bounded { (B.view bus.new).exchanges ≤ (B.view bus.old).exchanges + 1 }
+    ensures lines { (B.view bus.new).lines ≡ (B.view bus.old).lines }
+    ensures moves { Moves
+        (λ old new. IsOk result → (old.card.state ≡ Tran)
+        × (new.card ≡ record (shown (forgotten old.card)) { block_length = 512 }))
+        Anything
+        (B.view bus.old) (B.view bus.new) }
+{
+    transfer_laws::cmd16_sets_the_block_length();
+    match ask(bus, SET_BLOCKLEN, 512) {
+        Ok(_) => Ok(()),
+        Err(_) => Err(Cause::Answer),
+    }
+}
+
+// CMD16, CMD13, and a CMD13 that has to be clean. CMD16 may set an error bit by what it drops, which the first CMD13 shows
+// and clears; the second one shows a card in order.
+fn put_in_order<B: Bus>(bus: &mut B, info: &Info) -> Result<(), Cause>
+    ensures bounded { (B.view bus.new).exchanges ≤ (B.view bus.old).exchanges + 3 }
+    ensures moves { Moves (Restores info.now result) Anything (B.view bus.old) (B.view bus.new) }
+{
+    set_block_length(bus)?;
+    show_status(bus, info.rca)?;
+    confirm(bus, info.kind, info.rca)
+}
+
+/// Brings a card of which this is known back in order, without a reset. It makes at most 21 exchanges.
+///
+/// # Errors
+/// Any cause means that only a reset may help.
+pub fn restore<B: Bus>(bus: &mut B, info: &Info) -> Result<(), Cause>
+    ensures bounded { (B.view bus.new).exchanges ≤ (B.view bus.old).exchanges + 21 }
+    ensures moves { Moves (Restores info.now result) Anything (B.view bus.old) (B.view bus.new) }
+{
+    end_work(bus, info.rca)?;
+    put_in_order(bus, info)
+}

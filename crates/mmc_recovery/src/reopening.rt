@@ -1,0 +1,33 @@
+// A reset: the card is initialized again, and has to be the one that it was.
+ghost use Rattle.std.specs.Prelude.{◌≡◌, ◌+◌, ◌≤◌, IfErr, IfOk, IsOk, Some};
+ghost use Rattle.mmc_card.specs.Profile.{InProfile};
+ghost use Rattle.mmc_card.specs.declared.part.Part.TheVariants.{User};
+ghost use Rattle.mmc_bus.specs.Work.{Moves};
+ghost use Rattle.mmc_switch.specs.Place.{Knows};
+ghost use Rattle.mmc_recovery.specs.Settled.{Leaves, given_up};
+
+use mmc_bus::Bus;
+use mmc_switch::{Broken, Session, initialize};
+
+/// Resets the card, whatever became of it. It makes at most 98 exchanges.
+///
+/// # Errors
+/// What is left, where the card isn't initialized or is another one; of a card in profile only where a fault fell.
+pub fn reset<B: Bus>(bus: &mut B, broken: Broken) -> Result<Session, Broken>
+    ensures bounded { (B.view bus.new).exchanges ≤ (B.view bus.old).exchanges + 98 }
+    ensures ok { IfOk result (λ session. (session.info ≡ broken.session.info) × (session.selected ≡ Some User)) }
+    ensures err { IfErr result (λ left. left ≡ given_up broken) }
+    ensures moves { Moves
+        (λ old new. Knows broken.session old.card.made → Leaves result new)
+        (λ old new. InProfile old.card.made → Knows broken.session old.card.made → IsOk result)
+        (B.view bus.old) (B.view bus.new) }
+{
+    let Ok(session) = initialize(bus) else {
+        return Err(broken.give_up());
+    };
+    if session.info().is_same(broken.info()) {
+        Ok(session)
+    } else {
+        Err(broken.give_up())
+    }
+}

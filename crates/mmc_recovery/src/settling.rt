@@ -1,0 +1,50 @@
+// Bringing a card back in order after a failure (SD Physical Layer 6.00, section 4.3; JESD84-B51, section 6.6).
+//
+// 1. A card that has to be reset is: rule 4.
+// 2. CMD13. In data or rcv the transfer is ended by CMD12, and then, as in prg at once, the card is polled until it isn't
+//    busy, sixteen times at most. In tran there is nothing to end; any other state leads to rule 4.
+// 3. CMD16 with 512 bytes, CMD13, and a second CMD13, which has to be clean. What any earlier status says else is ignored.
+//    A missing or unsound response, a status that isn't clean, or a card that is busy still leads to rule 4.
+// 4. Identification, and width and speed: all that is known of the card then has to be what was known before. The user
+//    partition is selected now. A failure here is given up: nothing but another reset may help, and which partition is
+//    selected isn't known.
+ghost use Rattle.std.specs.Prelude.{◌≡◌, ◌<◌, ◌+◌, ◌⊎◌, ◌≤◌, IfErr, IfOk, IsErr, Some, true};
+ghost use Rattle.mmc_card.specs.Profile.{InProfile};
+ghost use Rattle.mmc_card.specs.declared.part.Part.TheVariants.{User};
+ghost use Rattle.mmc_bus.specs.Learned.{Stays};
+ghost use Rattle.mmc_bus.specs.Work.{Narrows};
+ghost use Rattle.mmc_switch.specs.Place.{IsLoose};
+ghost use Rattle.mmc_recovery.specs.Settled.{Leaves, given_up};
+
+use crate::order::restore;
+use crate::reopening::reset;
+use mmc_bus::Bus;
+use mmc_switch::{Broken, Session};
+
+/// Brings the card back in order: it is ready then, as its session says, or after a reset with the user partition
+/// selected. It makes at most 119 exchanges. No sector may hold more after it; those of a write that was unfinished are
+/// each old or new.
+///
+/// # Errors
+/// What is left has to be reset, with the cause `Recovery`; of a card in profile only where a fault fell.
+pub fn settle<B: Bus>(bus: &mut B, broken: Broken) -> Result<Session, Broken>
+    ensures bounded { (B.view bus.new).exchanges ≤ (B.view bus.old).exchanges + 119 }
+    ensures ok { IfOk result (λ session. (session.info ≡ broken.session.info)
+        × ((session ≡ broken.session) ⊎ (session.selected ≡ Some User))) }
+    ensures err { IfErr result (λ left. left ≡ given_up broken) }
+
+    ensures kept { (B.view bus.new).is_kept ≡ true → (B.view bus.old).is_kept ≡ true }
+    ensures stays { (B.view bus.new).is_kept ≡ true
+        → Stays (B.view bus.old) (B.view bus.new) × Narrows (B.view bus.old) (B.view bus.new) }
+    ensures settled { (B.view bus.new).is_kept ≡ true → IsLoose broken (B.view bus.old) → Leaves result (B.view bus.new) }
+    ensures refused { (B.view bus.new).is_kept ≡ true → IsLoose broken (B.view bus.old)
+        → InProfile (B.view bus.old).card.made → IsErr result → (B.view bus.old).faults < (B.view bus.new).faults }
+{
+    if broken.must_reset() {
+        return reset(bus, broken);
+    }
+    match restore(bus, broken.info()) {
+        Ok(()) => Ok(broken.into_session()),
+        Err(_) => reset(bus, broken),
+    }
+}
