@@ -7,7 +7,7 @@ use Rattle.mmc_card.specs.BusView.{BusView}
 use Rattle.mmc_block.specs.declared.completion.Completion.{Completion}
 use Rattle.mmc_switch.specs.declared.info.Info.{Info}
 use Rattle.mmc_block.specs.declared.refused.Refused.{Refused}
-use Rattle.mmc_block.specs.declared.request.Request.{Request}
+use Rattle.mmc_queue.specs.declared.request.Request.{Request}
 use Rattle.mmc_block.specs.Device.{AnswersOldest, MachineStep, DeviceView, Queues}
 use Rattle.mmc_block.specs.Machine.{Accepts, Machine, Turns, Waiting}
 use Rattle.mmc_block.specs.Refusal.{IsFirst, first_refusal}

@@ -1,8 +1,8 @@
--- Carrying a request out: its partition is selected, and then one run reads or writes its sectors.
+-- Carrying a request out: its partition is selected, and then one run reads, writes, erases or trims its sectors.
 use Rattle.std.proofs.Common.{◌*◌, ◌+◌, ◌-◌, ◌/◌, ◌<◌, ◌∙◌, ◌∷◌, ◌≡◌, ◌≤◌, Bool, List, [], ap, arith, cond, false, inl, inr, length}
 use Rattle.std.proofs.Common.{refl, subst, true, ℕ}
 use Rattle.std.proofs.lemmas.Bool.{eqb-true}
-use Rattle.std.specs.Prelude.{◌==◌, Err, IsErr, Ok, Result, Some}
+use Rattle.std.specs.Prelude.{◌==◌, Err, IsErr, MatchResult, Ok, Result, Some, replicate}
 use Rattle.mmc_card.proofs.SectorLemmas.{in_cond, maybe_within, old_maybe, untouched}
 use Rattle.mmc_card.specs.declared.part.Part.{Part}
 use Rattle.mmc_card.specs.BusView.{BusView}
@@ -23,10 +23,13 @@ use Rattle.mmc_switch.specs.declared.session.Session.{Session}
 use Rattle.mmc_transfer.specs.Running.{change_for}
 use Rattle.mmc_transfer.specs.Whole.{HasRun}
 use Rattle.mmc_transfer.specs.declared.way.Way.TheVariants as Goes
-use Rattle.mmc_block.specs.declared.request.Request.{Request}
-use Rattle.mmc_block.specs.declared.request.Request.TheVariants.{Read, Write}
+use Rattle.mmc_queue.specs.declared.request.Request.{Request}
+use Rattle.mmc_queue.specs.declared.request.Request.TheVariants.{Erase, Read, Trim, Write}
 use Rattle.mmc_block.specs.Device.{DidServe, Fits, HasCarried, done_answer}
-use Rattle.mmc_block.specs.Requests.{change_of, room_of as room_of_request}
+use Rattle.mmc_erase.specs.Job.{erased}
+use Rattle.mmc_erase.specs.Whole.{HasErased}
+use Rattle.mmc_block.specs.Changes.{change_of, erased_at}
+use Rattle.mmc_queue.specs.Requests.{room_of as room_of_request}
 
 -- Blocks of bytes.
 
@@ -137,6 +140,45 @@ module _ (info : Info) (session : Session) (part : Part) (start count : ℕ) (by
         (subst (λ (c : Change). IsIn (maybe_changed c (holds mid.card) p s) v) change_is (run.within p s v h)),
   )
 
+-- an erase or a trim, whose change this is
+module _ (info : Info) (session : Session) (part : Part) (start count : ℕ) (old mid new : BusView)
+    (known : session.info ≡ info) (same : selected_part session ≡ part) (stays : Stays old mid)
+    (narrows : Narrows old mid) where
+  erases : erased session start count ≡ erased_at info part start count
+  erases =
+      ap (λ (p : Part).
+      let change : Change = record { part = p; start = start; values = replicate count (replicate 512 session.info.erased_byte) }
+      in change) same
+      ∙ ap (λ (i : Info). erased_at i part start count) known
+
+  -- what it leaves of the sectors, done or not
+  pub has_erased : (r : Result Session Broken) → HasErased session start count mid r new
+      → MatchResult r
+      (λ ready. IsReady ready new × Within (holds new.card) (changed (erased_at info part start count) (holds old.card)))
+      (λ broken. (old.faults < new.faults)
+      × Within (holds new.card) (maybe_changed (erased_at info part start count) (holds old.card)))
+  has_erased (Ok ready) run = (
+    run.leaves.0,
+    λ p s v h. changed_within (erased_at info part start count) (holds mid.card) (holds old.card) narrows p s v
+        (subst (λ (c : Change). IsIn (changed c (holds mid.card) p s) v) erases
+        (subst (λ xs. IsIn xs v) (run.leaves.1 p s) h)),
+  )
+  has_erased (Err broken) run = (
+    (let fell = run.leaves.fell in let l = stays.later in omega (arith, l, fell)),
+    λ p s v h. maybe_within (erased_at info part start count) (holds mid.card) (holds old.card) narrows p s v
+        (subst (λ (c : Change). IsIn (maybe_changed c (holds mid.card) p s) v) erases (run.within p s v h)),
+  )
+
+pub carried_erase : (info : Info) (part : Part) (start count : ℕ) (bytes : List ℕ) (old new : BusView)
+    (r : Result Session Broken)
+    → MatchResult r
+    (λ ready. IsReady ready new × Within (holds new.card) (changed (erased_at info part start count) (holds old.card)))
+    (λ broken. (old.faults < new.faults)
+    × Within (holds new.card) (maybe_changed (erased_at info part start count) (holds old.card)))
+    → HasCarried info (Erase part start count) bytes old r new × HasCarried info (Trim part start count) bytes old r new
+carried_erase info part start count bytes old new (Ok ready) h = (h, h)
+carried_erase info part start count bytes old new (Err broken) h = (h, h)
+
 -- Nothing is carried out where no partition is selected.
 pub has_failed : (info : Info) (request : Request) (bytes : List ℕ) (old new : BusView) (r : Result Session Broken)
     → IsErr r → old.faults < new.faults → Narrows old new → HasCarried info request bytes old r new
@@ -150,8 +192,12 @@ pub fits_done : (request : Request) (bytes : List ℕ) → length bytes ≡ room
     → Fits request (done_answer request bytes)
 fits_done (Read part start count) bytes size = size
 fits_done (Write part start count given) bytes size = tt
+fits_done (Erase part start count) bytes size = tt
+fits_done (Trim part start count) bytes size = tt
 
 pub did_serve : (info : Info) (request : Request) (bytes : List ℕ) (session : Session) (old new : BusView)
     → HasCarried info request bytes old (Ok session) new → DidServe info request old (done_answer request bytes) new
 did_serve info (Read part start count) bytes session old new carried = (refl, carried.1.0, carried.1.1)
 did_serve info (Write part start count given) bytes session old new carried = (refl, carried.1)
+did_serve info (Erase part start count) bytes session old new carried = (refl, carried.1)
+did_serve info (Trim part start count) bytes session old new carried = (refl, carried.1)

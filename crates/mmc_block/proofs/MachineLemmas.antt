@@ -6,11 +6,11 @@ use Rattle.mmc_block.specs.declared.completion.Answer.{Answer}
 use Rattle.mmc_block.specs.declared.completion.Answer.TheVariants.{Data, Done, Failed}
 use Rattle.mmc_block.specs.declared.completion.Completion.{Completion}
 use Rattle.mmc_switch.specs.declared.info.Info.{Info}
-use Rattle.mmc_block.specs.declared.request.Request.{Request}
+use Rattle.mmc_queue.specs.declared.request.Request.{Request}
 use Rattle.mmc_block.specs.Answers.{is_failed}
 use Rattle.mmc_block.specs.Machine.{Completes, CompletesAll, Decides, IsAnswered, Machine, StartsIfIdle, Turns, Waiting}
 use Rattle.mmc_block.specs.MachineLaws.{KeepsValues}
-use Rattle.mmc_block.specs.Requests.{change_of}
+use Rattle.mmc_block.specs.Changes.{change_of}
 
 -- Values of one sector.
 

@@ -1,19 +1,21 @@
 -- In order: folds over requests, and what is known of a machine after some requests and answers.
-use Rattle.std.proofs.Common.{◌++◌, ◌<◌, ◌∙◌, ◌∷◌, ◌≡◌, ◌≤◌, ◌⊎◌, Bool, List, None, Option, Some, [], ap, arith, cond}
+use Rattle.std.proofs.Common.{◌++◌, ◌+◌, ◌<◌, ◌∙◌, ◌∷◌, ◌≡◌, ◌≤◌, ◌⊎◌, Bool, List, None, Option, Some, [], ap, arith, cond}
 use Rattle.std.proofs.Common.{drop, false, inl, inr, length, refl, subst, suc, sym, true, zero, ℕ}
-use Rattle.std.specs.Prelude.{nat_lt}
+use Rattle.std.specs.Prelude.{nat_lt, replicate}
+use Rattle.std.proofs.lemmas.List.{length-replicate}
 use Rattle.std.proofs.lemmas.Bool.{le-ltb, lt-ltb}
 use Rattle.mmc_card.specs.declared.part.Part.{Part}
 use Rattle.mmc_card.specs.Sectors.{Sector, part_number, pieces, touches, value_of}
 use Rattle.mmc_card.proofs.SectorLemmas.{by_touch, same_part, untouched}
 use Rattle.mmc_block.specs.declared.completion.Answer.{Answer}
 use Rattle.mmc_switch.specs.declared.info.Info.{Info}
-use Rattle.mmc_block.specs.declared.request.Request.{Request}
-use Rattle.mmc_block.specs.declared.request.Request.TheVariants.{Read, Write}
+use Rattle.mmc_queue.specs.declared.request.Request.{Request}
+use Rattle.mmc_queue.specs.declared.request.Request.TheVariants.{Erase, Read, Trim, Write}
 use Rattle.mmc_block.specs.InOrder.{below, effect_at, in_turn, settled}
 use Rattle.mmc_block.specs.Machine.{IsMerged, Waiting}
 use Rattle.mmc_block.specs.MachineLaws.{IsAmong}
-use Rattle.mmc_block.specs.Requests.{Names, change_of, is_read}
+use Rattle.mmc_block.specs.Changes.{change_of, erased_at}
+use Rattle.mmc_queue.specs.Requests.{Names, is_read}
 use Rattle.mmc_block.proofs.TicketLemmas.{count, one, one_same}
 
 -- Members.
@@ -198,6 +200,16 @@ pub read_untouched : (info : Info) (request : Request) (part : Part) (sector : �
 read_untouched info (Read p start count) part sector r =
     not_true _ (untouched (record { part = p; start = start; values = [] }) part sector refl)
 read_untouched info (Write p start count bytes) part sector r = absurd cc
+read_untouched info (Erase p start count) part sector r = absurd cc
+read_untouched info (Trim p start count) part sector r = absurd cc
+
+erased_names : (info : Info) (p part : Part) (start count sector : ℕ)
+    → touches (erased_at info p start count) part sector ≡ true
+    → (p ≡ part) × (start ≤ sector) × (sector < start + count)
+erased_names info p part start count sector t =
+    let n = length-replicate count (replicate 512 info.erased_byte) in
+    let h = by_touch (part_number p) (part_number part) start sector _ t in
+    (same_part p part h.0, h.1, omega (arith, h.2, n))
 
 pub touched_names : (info : Info) (request : Request) (part : Part) (sector : ℕ)
     → touches (change_of info request) part sector ≡ true
@@ -208,3 +220,7 @@ touched_names info (Write p start count bytes) part sector t =
     let h = by_touch (part_number p) (part_number part) start sector (length (pieces count bytes)) t in
     let n = length_pieces count bytes in
     (record { part_is = same_part p part h.0; from = h.1; to = omega (arith, h.2, n) }, refl)
+touched_names info (Erase p start count) part sector t =
+    let h = erased_names info p part start count sector t in (record { part_is = h.0; from = h.1; to = h.2 }, refl)
+touched_names info (Trim p start count) part sector t =
+    let h = erased_names info p part start count sector t in (record { part_is = h.0; from = h.1; to = h.2 }, refl)

@@ -10,14 +10,14 @@ use Rattle.mmc_block.specs.declared.completion.Answer.{Answer}
 use Rattle.mmc_block.specs.declared.completion.Answer.TheVariants.{Data, Done, Failed}
 use Rattle.mmc_block.specs.declared.completion.Completion.{Completion}
 use Rattle.mmc_switch.specs.declared.info.Info.{Info}
-use Rattle.mmc_block.specs.declared.request.Request.{Request}
+use Rattle.mmc_queue.specs.declared.request.Request.{Request}
 use Rattle.mmc_block.specs.InOrder.{AreDecided, AreOrdered, Choices, EndsInOrder, IsInOrder, MayHold, answer_to}
 use Rattle.mmc_block.specs.InOrder.{answers, answers_in, below, effect_at, first_value, history, in_turn, submitted}
 use Rattle.mmc_block.specs.InOrder.{submitted_by}
 use Rattle.mmc_block.specs.Machine.{Accepts, Completes, CompletesAll, GivesBack, IsAnswered, Machine, StartsIfIdle}
 use Rattle.mmc_block.specs.Machine.{Turns, Waiting}
 use Rattle.mmc_block.specs.MachineLaws.{IsAmong}
-use Rattle.mmc_block.specs.Requests.{count_of, part_of, start_of}
+use Rattle.mmc_queue.specs.Requests.{count_of, part_of, start_of}
 use Rattle.mmc_block.specs.Run.{Event, Reply, Runs, Steps}
 use Rattle.mmc_block.specs.Run.Event.{Cancel, Submit, Turn}
 use Rattle.mmc_block.specs.Run.Reply.{Accepted, Answers, GivenBack, InService, RefusedFor, Unknown}

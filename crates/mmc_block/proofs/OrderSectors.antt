@@ -13,8 +13,9 @@ use Rattle.mmc_switch.specs.declared.info.Info.{Info}
 use Rattle.mmc_block.specs.InOrder.{below, effect_at, in_turn, settled}
 use Rattle.mmc_block.specs.Machine.{Completes, HasDecided, IsAnswered, Machine, Waiting}
 use Rattle.mmc_block.specs.MachineLaws.{IsAmong}
-use Rattle.mmc_block.specs.Requests.{Names, change_of, conflicts, count_of, is_read, part_of, start_of}
-use Rattle.mmc_block.proofs.ConflictLemmas.{conflict_at}
+use Rattle.mmc_block.specs.Changes.{change_of}
+use Rattle.mmc_queue.specs.Requests.{Names, conflicts, count_of, is_read, part_of, start_of}
+use Rattle.mmc_queue.proofs.ConflictLemmas.{conflict_at}
 use Rattle.mmc_block.proofs.OrderBooks.{Books, Pends, completed_pended}
 use Rattle.mmc_block.proofs.OrderLemmas.{among_last, below_idle, below_no, below_same, below_yes, effect_same}
 use Rattle.mmc_block.proofs.OrderLemmas.{effect_touched, effect_unanswered, effect_untouched, length_pieces, one_ticket}

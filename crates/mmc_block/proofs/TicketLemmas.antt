@@ -5,7 +5,7 @@ use Rattle.std.specs.Prelude.{◌==◌}
 use Rattle.std.proofs.lemmas.Bool.Decides.{nat_tests}
 use Rattle.mmc_block.specs.declared.completion.Completion.{Completion}
 use Rattle.mmc_switch.specs.declared.info.Info.{Info}
-use Rattle.mmc_block.specs.declared.request.Request.{Request}
+use Rattle.mmc_queue.specs.declared.request.Request.{Request}
 use Rattle.mmc_block.specs.Machine.{Accepts, Completes, CompletesAll, GivesBack, IsMerged, Machine, Starts}
 use Rattle.mmc_block.specs.Machine.{StartsIfIdle, Turns, Waiting}
 use Rattle.mmc_block.specs.MachineLaws.{AreNew, AreOpen, EachOnce, IsAmong, accepted_by, answered_by, ended_by, noted}

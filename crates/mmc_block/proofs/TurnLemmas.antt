@@ -15,14 +15,15 @@ use Rattle.mmc_block.specs.declared.completion.Answer.{Answer}
 use Rattle.mmc_block.specs.declared.completion.Answer.TheVariants.{Data, Done, Failed}
 use Rattle.mmc_block.specs.declared.completion.Completion.{Completion}
 use Rattle.mmc_switch.specs.declared.info.Info.{Info}
-use Rattle.mmc_block.specs.declared.request.Request.{Request}
+use Rattle.mmc_queue.specs.declared.request.Request.{Request}
 use Rattle.mmc_block.specs.Device.{Agrees, AreInOrder, DeviceView, DidServe, MachineStep}
 use Rattle.mmc_block.specs.Answers.{any_failed, is_failed}
 use Rattle.mmc_block.specs.Machine.{Decides, IsAnswered, IsMerged, Machine, PassesNone, Turns, Waiting, all_failed}
 use Rattle.mmc_block.specs.Machine.{effect, failed_effect}
 use Rattle.mmc_switch.specs.Place.{IsReady}
 use Rattle.mmc_switch.specs.declared.session.Session.{Session}
-use Rattle.mmc_block.specs.Requests.{change_of, part_of, start_of}
+use Rattle.mmc_block.specs.Changes.{change_of}
+use Rattle.mmc_queue.specs.Requests.{part_of, start_of}
 
 -- One request, from the machine's side.
 

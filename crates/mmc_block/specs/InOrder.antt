@@ -9,7 +9,8 @@ use Rattle.mmc_block.specs.declared.completion.Completion.{Completion}
 use Rattle.mmc_switch.specs.declared.info.Info.{Info}
 use Rattle.mmc_block.specs.Machine.{Waiting}
 use Rattle.mmc_block.specs.MachineLaws.{IsAmong}
-use Rattle.mmc_block.specs.Requests.{change_of, count_of, part_of, start_of}
+use Rattle.mmc_block.specs.Changes.{change_of}
+use Rattle.mmc_queue.specs.Requests.{count_of, part_of, start_of}
 use Rattle.mmc_block.specs.Run.{Event, Reply}
 use Rattle.mmc_block.specs.Run.Event.{Submit}
 use Rattle.mmc_block.specs.Run.Reply.{Accepted, Answers}

@@ -8,8 +8,9 @@ use Rattle.mmc_block.specs.declared.completion.Answer.{Answer}
 use Rattle.mmc_block.specs.declared.completion.Answer.TheVariants.{Data, Done, Failed}
 use Rattle.mmc_block.specs.declared.completion.Completion.{Completion}
 use Rattle.mmc_switch.specs.declared.info.Info.{Info}
-use Rattle.mmc_block.specs.declared.request.Request.{Request}
-use Rattle.mmc_block.specs.Requests.{Names, change_of, conflicts, count_of, is_read, kind_of, part_of, start_of}
+use Rattle.mmc_queue.specs.declared.request.Request.{Request}
+use Rattle.mmc_block.specs.Changes.{change_of}
+use Rattle.mmc_queue.specs.Requests.{Names, conflicts, count_of, is_read, kind_of, part_of, start_of}
 
 -- an accepted request that has no answer yet
 pub record Waiting : Type 0 where

@@ -5,7 +5,7 @@ use Rattle.mmc_block.specs.declared.completion.Answer.TheVariants.{Data, Done, F
 use Rattle.mmc_block.specs.declared.completion.Completion.{Completion}
 use Rattle.mmc_switch.specs.declared.info.Info.{Info}
 use Rattle.mmc_block.specs.declared.refused.Refused.{Refused}
-use Rattle.mmc_block.specs.declared.request.Request.{Request}
+use Rattle.mmc_queue.specs.declared.request.Request.{Request}
 use Rattle.mmc_block.specs.Machine.{Accepts, GivesBack, IsTicketOf, Machine, AnswersAll, StartsIfIdle, Turns, Waiting}
 use Rattle.mmc_block.specs.Refusal.{IsFirst, first_refusal}
 

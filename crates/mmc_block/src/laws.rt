@@ -5,26 +5,17 @@ ghost use Rattle.mmc_card.specs.Card.{Card, holds};
 ghost use Rattle.mmc_card.specs.Sectors.{IsDecided, Sector, Sets, Within, touches};
 ghost use Rattle.mmc_block.specs.declared.completion.Completion.{Completion};
 ghost use Rattle.mmc_switch.specs.declared.info.Info.{Info};
-ghost use Rattle.mmc_block.specs.declared.request.Request.{Request};
+ghost use Rattle.mmc_queue.specs.declared.request.Request.{Request};
 ghost use Rattle.mmc_block.specs.Answers.{is_failed};
 ghost use Rattle.mmc_block.specs.Machine.{Completes, Decides, Machine, Turns};
 ghost use Rattle.mmc_block.specs.MachineLaws.{EachOnce, KeepsValues};
-ghost use Rattle.mmc_block.specs.Requests.{ShareSector, change_of, conflicts, is_read};
+ghost use Rattle.mmc_block.specs.Changes.{change_of};
+ghost use Rattle.mmc_queue.specs.Requests.{ShareSector, conflicts, is_read};
 ghost use Rattle.mmc_block.specs.Run.{Counted, CountedRuns, Event, Reply, Runs};
 ghost use Rattle.mmc_block.specs.InOrder.{AreDecided, EndsInOrder, IsInOrder, MayHold, history};
 
 use mmc_bus::card_laws;
-
-/// Of two requests that conflict either conflicts with the other.
-pub fn conflict_is_symmetric()
-    ensures { (a b : Request) → conflicts a b ≡ conflicts b a }
-{}
-
-/// Two requests conflict just where a sector lies in both of them, and one of them isn't a read. A request of no sectors
-/// conflicts with none.
-pub fn a_conflict_is_a_common_sector()
-    ensures { (a b : Request) → (conflicts a b ≡ true) ↔ (ShareSector a b × ((is_read a ≡ false) ⊎ (is_read b ≡ false))) }
-{}
+pub use mmc_queue::laws::{a_conflict_is_a_common_sector, conflict_is_symmetric};
 
 /// A sector that has a value never loses its last one, neither by an answer nor by a turn.
 pub fn a_set_is_never_empty()

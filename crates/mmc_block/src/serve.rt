@@ -1,6 +1,6 @@
 // Serving one request, as a whole.
 //
-// 1. Its partition is selected, where it isn't; then its sectors are read or written in one run.
+// 1. Its partition is selected, where it isn't; then its sectors are read, written, erased or trimmed in one run.
 // 2. After a failure nothing is sent any more: each later request fails for want of recovery.
 ghost use Rattle.std.specs.Prelude.{◌&&◌, ◌*◌, ◌+◌, ◌≡◌, ◌≤◌, IfErr, IfOk, IfSome, None, Some, is_some, length, not, true};
 ghost use Rattle.mmc_bus.specs.Heard.{cause_of};
@@ -11,15 +11,16 @@ ghost use Rattle.mmc_block.specs.declared.completion.Answer.TheVariants.{Failed}
 ghost use Rattle.mmc_switch.specs.Place.{IsReady};
 ghost use Rattle.mmc_block.specs.Answers.{is_failed};
 ghost use Rattle.mmc_block.specs.Device.{DidServe, Fits, HasCarried, IfFailed, IsServable, done_answer};
-ghost use Rattle.mmc_block.specs.declared.request.TheConstants.{MAX_COUNT};
+ghost use Rattle.mmc_queue.specs.declared.request.TheConstants.{MAX_COUNT};
 
 use crate::completion::Answer;
-use crate::request::Request;
 use mmc_bus::{Bus, Bytes, Cause, lent_bytes_keep_their_length};
+use mmc_erase::{How, erase_run};
+use mmc_queue::Request;
 use mmc_switch::{Broken, Session, select};
 use mmc_transfer::{read_run, write_run};
 
-// Selects the request's partition, and reads or writes its sectors.
+// Selects the request's partition, and reads, writes, erases or trims its sectors.
 fn carry_out<B: Bus>(
     bus: &mut B,
     session: Session,
@@ -41,6 +42,10 @@ fn carry_out<B: Bus>(
     match request {
         Request::Read { start, .. } => read_run(bus, session, *start, buffer),
         Request::Write { start, bytes, .. } => write_run(bus, session, *start, bytes),
+        Request::Erase { start, count, .. } => {
+            erase_run(bus, session, *start, *count, How::Erase)
+        }
+        Request::Trim { start, count, .. } => erase_run(bus, session, *start, *count, How::Trim),
     }
 }
 
@@ -50,7 +55,7 @@ fn done(request: Request, buffer: Bytes) -> Answer
 {
     match request {
         Request::Read { .. } => Answer::Data(buffer),
-        Request::Write { .. } => Answer::Done,
+        Request::Write { .. } | Request::Erase { .. } | Request::Trim { .. } => Answer::Done,
     }
 }
 

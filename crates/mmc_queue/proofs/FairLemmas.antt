@@ -1,0 +1,365 @@
+-- What the rule makes of a group, step by step.
+use Rattle.std.proofs.Common.{◌&&◌, ◌++◌, ◌+◌, ◌<◌, ◌∙◌, ◌∷◌, ◌≡◌, ◌≤◌, ◌⊎◌, Bool, List, [], ap, arith, false, inl, inr, length, refl}
+use Rattle.std.proofs.Common.{subst, suc, sym, true, ℕ}
+use Rattle.std.specs.Prelude.{◌==◌, ◌||◌, if◌then◌else◌, nat_le, nat_lt, not}
+use Rattle.std.proofs.lemmas.Bool.{and_parts, true≢false}
+use Rattle.std.proofs.lemmas.Bool.Decides.{nat_tests}
+use Rattle.mmc_queue.specs.Group.{AreAlike, AreApart, IsFair, IsMerged, PassNone, any_has, has_sector}
+use Rattle.mmc_queue.specs.Requests.{can_merge, count_of, end_of, kind_of, part_of, start_of}
+use Rattle.mmc_queue.specs.Rule.{Grows, Joins, begins, comes_first, fits, joins, passes_none, widened, with_member}
+use Rattle.mmc_queue.specs.Waiting.{AreSound, Ascend, IsSound, Takes}
+use Rattle.mmc_queue.specs.declared.entry.Entry.{Entry}
+use Rattle.mmc_queue.specs.declared.request.Request.{Request}
+use Rattle.mmc_queue.specs.declared.run.Run.{Run}
+use Rattle.mmc_queue.proofs.FindLemmas.{fits_parts}
+use Rattle.mmc_queue.proofs.GrowLemmas.{widened_members}
+use Rattle.mmc_queue.proofs.MapLemmas.{sound_one, sound_without}
+
+-- Order.
+
+abbrev head_or : Entry → List Entry → Entry
+head_or d [] = d
+head_or d (x ∷ xs) = x
+
+abbrev tail_of : List Entry → List Entry
+tail_of [] = []
+tail_of (x ∷ xs) = xs
+
+not_nil : (before : List Entry) (e : Entry) (after : List Entry) → [] ≡ before ++ e ∷ after → ⊥
+not_nil [] e after h = cc
+not_nil (b ∷ before) e after h = cc
+
+-- what is left lies in the list that ascends
+left_above : (low : ℕ) (zs xs ys before : List Entry) (e : Entry) (after : List Entry) → Ascend low zs → IsMerged zs xs ys
+    → ys ≡ before ++ e ∷ after
+    → low ≤ e.ticket
+left_above low [] xs ys before e after up m is = absurd (not_nil before e after (sym m.1 ∙ is))
+left_above low (z ∷ zs) xs ys before e after up (inl m) is =
+    let h = left_above (z.ticket + 1) zs m.0 ys before e after up.1 m.2 is in let g = up.0 in omega (arith, h, g)
+left_above low (z ∷ zs) xs ys [] e after up (inr m) is =
+    let same : z ≡ e = ap (head_or z) (sym m.1 ∙ is) in
+    let t : z.ticket ≡ e.ticket = ap (λ (x : Entry). x.ticket) same in let g = up.0 in omega (arith, g, t)
+left_above low (z ∷ zs) xs ys (b ∷ before) e after up (inr m) is =
+    let rest : m.0 ≡ before ++ e ∷ after = ap tail_of (sym m.1 ∙ is) in
+    let h = left_above (z.ticket + 1) zs xs m.0 before e after up.1 m.2 rest in let g = up.0 in omega (arith, h, g)
+
+-- so does the first member
+member_above : (low : ℕ) (zs : List Entry) (x : Entry) (xs ys : List Entry) → Ascend low zs → IsMerged zs (x ∷ xs) ys
+    → low ≤ x.ticket
+member_above low [] x xs ys up m = let h = m.0 in cc
+member_above low (z ∷ zs) x xs ys up (inl m) =
+    let same : x ≡ z = ap (head_or x) m.1 in
+    let t : x.ticket ≡ z.ticket = ap (λ (v : Entry). v.ticket) same in let g = up.0 in omega (arith, g, t)
+member_above low (z ∷ zs) x xs ys up (inr m) =
+    let h = member_above (z.ticket + 1) zs x xs m.0 up.1 m.2 in let g = up.0 in omega (arith, h, g)
+
+first_goes : (xs : List Entry) (e : Entry) (zs ys : List Entry) → Ascend (e.ticket + 1) zs → IsMerged zs xs ys
+    → with_member xs e ≡ e ∷ xs
+first_goes [] e zs ys up m = refl
+first_goes (x ∷ xs) e zs ys up m =
+    let h = member_above (e.ticket + 1) zs x xs ys up m in
+    let yes : nat_lt e.ticket x.ticket ≡ true = grind (arith, nat_tests, h) in rw yes refl
+
+behind : (m e : Entry) (ms : List Entry) → m.ticket + 1 ≤ e.ticket → with_member (m ∷ ms) e ≡ m ∷ with_member ms e
+behind m e ms h = let no : nat_lt e.ticket m.ticket ≡ false = grind (arith, nat_tests, h) in rw no refl
+
+-- one that is left becomes a member, in its place
+member_merged : (low : ℕ) (zs xs ys before : List Entry) (e : Entry) (after : List Entry) → Ascend low zs → IsMerged zs xs ys
+    → ys ≡ before ++ e ∷ after
+    → IsMerged zs (with_member xs e) (before ++ after)
+member_merged low [] xs ys before e after up m is = absurd (not_nil before e after (sym m.1 ∙ is))
+member_merged low (z ∷ zs) xs ys before e after up (inl m) is =
+    let h = left_above (z.ticket + 1) zs m.0 ys before e after up.1 m.2 is in
+    inl (
+      with_member m.0 e,
+      ap (λ vs. with_member vs e) m.1 ∙ behind z e m.0 h,
+      member_merged (z.ticket + 1) zs m.0 ys before e after up.1 m.2 is,
+    )
+member_merged low (z ∷ zs) xs ys [] e after up (inr m) is =
+    let same : z ≡ e = ap (head_or z) (sym m.1 ∙ is) in
+    let rest : m.0 ≡ after = ap tail_of (sym m.1 ∙ is) in
+    let up' : Ascend (e.ticket + 1) zs = subst (λ (v : Entry). Ascend (v.ticket + 1) zs) same up.1 in
+    inl (xs, first_goes xs e zs m.0 up' m.2 ∙ ap (λ v. v ∷ xs) (sym same), subst (λ vs. IsMerged zs xs vs) rest m.2)
+member_merged low (z ∷ zs) xs ys (b ∷ before) e after up (inr m) is =
+    let same : z ≡ b = ap (head_or z) (sym m.1 ∙ is) in
+    let rest : m.0 ≡ before ++ e ∷ after = ap tail_of (sym m.1 ∙ is) in
+    inr (
+      before ++ after,
+      ap (λ v. v ∷ (before ++ after)) (sym same),
+      member_merged (z.ticket + 1) zs xs m.0 before e after up.1 m.2 rest,
+    )
+
+-- Sectors.
+
+or_swap : (a b c : Bool) → (a || (b || c)) ≡ (b || (a || c))
+or_swap true true c = refl
+or_swap true false c = refl
+or_swap false b c = refl
+
+any_by : (e m : Entry) (ms : List Entry) (s : ℕ) (b : Bool)
+    → (any_has (with_member ms e) s ≡ (has_sector e.request s || any_has ms s))
+    → any_has (if b then (e ∷ m ∷ ms) else (m ∷ with_member ms e)) s
+    ≡ (has_sector e.request s || (has_sector m.request s || any_has ms s))
+any_by e m ms s true h = refl
+any_by e m ms s false h =
+    ap (λ (b : Bool). has_sector m.request s || b) h
+    ∙ or_swap (has_sector m.request s) (has_sector e.request s) (any_has ms s)
+
+any_with : (ms : List Entry) (e : Entry) (s : ℕ) → any_has (with_member ms e) s ≡ (has_sector e.request s || any_has ms s)
+any_with [] e s = refl
+any_with (m ∷ ms) e s = any_by e m ms s (nat_lt e.ticket m.ticket) (any_with ms e s)
+
+or_false : (a b : Bool) → (a || b) ≡ false → (a ≡ false) × (b ≡ false)
+or_false true b h = absurd (true≢false h)
+or_false false b h = (refl, h)
+
+or_none : (a b : Bool) → a ≡ false → b ≡ false → (a || b) ≡ false
+or_none true b p q = absurd (true≢false p)
+or_none false b p q = q
+
+not_both : (b c : Bool) → (b ≡ true → c ≡ false) → c ≡ true → b ≡ false
+not_both true c h k = absurd (true≢false (sym k ∙ h refl))
+not_both false c h k = refl
+
+apart_by : (e m : Entry) (ms : List Entry) (b : Bool)
+    → ((s : ℕ) → has_sector e.request s ≡ true → (has_sector m.request s || any_has ms s) ≡ false) → AreApart (m ∷ ms)
+    → AreApart (with_member ms e)
+    → AreApart (if b then (e ∷ m ∷ ms) else (m ∷ with_member ms e))
+apart_by e m ms true h a rest = (h, a)
+apart_by e m ms false h a rest = (
+  (λ s t.
+      any_with ms e s
+      ∙ or_none (has_sector e.request s) (any_has ms s)
+      (not_both (has_sector e.request s) (has_sector m.request s) (λ u. (or_false (has_sector m.request s) (any_has ms s) (h s u)).0) t)
+      (a.0 s t)),
+  rest,
+)
+
+apart_with : (ms : List Entry) (e : Entry) → ((s : ℕ) → has_sector e.request s ≡ true → any_has ms s ≡ false) → AreApart ms
+    → AreApart (with_member ms e)
+apart_with [] e h a = ((λ s t. refl), tt)
+apart_with (m ∷ ms) e h a =
+    apart_by e m ms (nat_lt e.ticket m.ticket) h a
+    (apart_with ms e (λ s u. (or_false (has_sector m.request s) (any_has ms s) (h s u)).1) a.1)
+
+outside : (start end first last s : ℕ) → (first ≡ end) ⊎ (last ≡ start) → (nat_le first s && nat_lt s last) ≡ true
+    → (nat_le start s && nat_lt s end) ≡ false
+outside start end first last s (inl h) t = grind (arith, nat_tests)
+outside start end first last s (inr h) t = grind (arith, nat_tests)
+
+at_end : (start end first last s : ℕ) → first ≡ end → start ≤ end → first ≤ last
+    → ((nat_le first s && nat_lt s last) || (nat_le start s && nat_lt s end)) ≡ (nat_le start s && nat_lt s last)
+at_end start end first last s h p q = grind (arith, nat_tests)
+
+at_start : (start end first last s : ℕ) → last ≡ start → start ≤ end → first ≤ last
+    → ((nat_le first s && nat_lt s last) || (nat_le start s && nat_lt s end)) ≡ (nat_le first s && nat_lt s end)
+at_start start end first last s h p q = grind (arith, nat_tests)
+
+-- The run, and one more at one of its ends.
+
+abbrev Side : Run → Request → Run → Type 0
+Side run r new =
+    ((new ≡ record run { end = end_of r; members = run.members + 1 }) × (start_of r ≡ run.end))
+    ⊎ ((new ≡ record run { start = start_of r; members = run.members + 1 }) × (end_of r ≡ run.start))
+
+side_by : (run : Run) (r : Request) (b : Bool) → (start_of r == run.end) ≡ b → (start_of r ≡ run.end) ⊎ (end_of r ≡ run.start)
+    → Side run r (if b then record run { end = end_of r; members = run.members + 1 } else record run { start = start_of r; members = run.members + 1 })
+side_by run r true is beside = inl (refl, (grind (arith, nat_tests, is)))
+side_by run r false is (inr h) = inr (refl, h)
+side_by run r false is (inl h) = let yes : (start_of r == run.end) ≡ true = grind (arith, nat_tests, h) in absurd (true≢false (sym yes ∙ is))
+
+side : (run : Run) (r : Request) → (start_of r ≡ run.end) ⊎ (end_of r ≡ run.start) → Side run r (widened run r)
+side run r beside = side_by run r (start_of r == run.end) refl beside
+
+same_part : (run : Run) (r : Request) (new : Run) → Side run r new → new.part ≡ run.part
+same_part run r new (inl h) = ap (λ (x : Run). x.part) h.0
+same_part run r new (inr h) = ap (λ (x : Run). x.part) h.0
+
+same_kind : (run : Run) (r : Request) (new : Run) → Side run r new → new.kind ≡ run.kind
+same_kind run r new (inl h) = ap (λ (x : Run). x.kind) h.0
+same_kind run r new (inr h) = ap (λ (x : Run). x.kind) h.0
+
+forward : (run : Run) (r : Request) (new : Run) → Side run r new → run.start ≤ run.end → new.start ≤ new.end
+forward run r new (inl h) up =
+    let s = ap (λ (x : Run). x.start) h.0 in let e = ap (λ (x : Run). x.end) h.0 in let k = h.1 in omega (arith, s, e, k, up)
+forward run r new (inr h) up =
+    let s = ap (λ (x : Run). x.start) h.0 in let e = ap (λ (x : Run). x.end) h.0 in let k = h.1 in omega (arith, s, e, k, up)
+
+short_by : (run : Run) (r : Request) (new : Run) → Side run r new → run.end + count_of r ≤ run.start + 1024 → new.end ≤ new.start + 1024
+short_by run r new (inl h) room =
+    let s = ap (λ (x : Run). x.start) h.0 in let e = ap (λ (x : Run). x.end) h.0 in let k = h.1 in omega (arith, s, e, k, room)
+short_by run r new (inr h) room =
+    let s = ap (λ (x : Run). x.start) h.0 in let e = ap (λ (x : Run). x.end) h.0 in let k = h.1 in omega (arith, s, e, k, room)
+
+covers : (run : Run) (r : Request) (new : Run) (s : ℕ) → Side run r new → run.start ≤ run.end
+    → (has_sector r s || (nat_le run.start s && nat_lt s run.end)) ≡ (nat_le new.start s && nat_lt s new.end)
+covers run r new s (inl h) up =
+    rw h.0 (at_end run.start run.end (start_of r) (end_of r) s h.1 up (omega arith))
+covers run r new s (inr h) up =
+    rw h.0 (at_start run.start run.end (start_of r) (end_of r) s h.1 up (omega arith))
+
+alike_by : (new : Run) (e m : Entry) (ms : List Entry) (b : Bool) → AreAlike new (e ∷ m ∷ ms) → AreAlike new (with_member ms e)
+    → AreAlike new (if b then (e ∷ m ∷ ms) else (m ∷ with_member ms e))
+alike_by new e m ms true all rest = all
+alike_by new e m ms false all rest = (all.2.0, all.2.1, rest)
+
+alike_with : (new : Run) (e : Entry) (ms : List Entry) → part_of e.request ≡ new.part → kind_of e.request ≡ new.kind → AreAlike new ms
+    → AreAlike new (with_member ms e)
+alike_with new e [] p k all = (p, k, tt)
+alike_with new e (m ∷ ms) p k all =
+    alike_by new e m ms (nat_lt e.ticket m.ticket) (p, k, all) (alike_with new e ms p k all.2)
+
+alike_still : (run new : Run) (ms : List Entry) → new.part ≡ run.part → new.kind ≡ run.kind → AreAlike run ms → AreAlike new ms
+alike_still run new [] p k all = tt
+alike_still run new (m ∷ ms) p k all = (all.0 ∙ sym p, all.1 ∙ sym k, alike_still run new ms p k all.2)
+
+length_by : (e m : Entry) (ms : List Entry) (b : Bool) → length (with_member ms e) ≡ suc (length ms)
+    → length (if b then (e ∷ m ∷ ms) else (m ∷ with_member ms e)) ≡ suc (suc (length ms))
+length_by e m ms true h = refl
+length_by e m ms false h = ap suc h
+
+length_with : (ms : List Entry) (e : Entry) → length (with_member ms e) ≡ suc (length ms)
+length_with [] e = refl
+length_with (m ∷ ms) e = length_by e m ms (nat_lt e.ticket m.ticket) (length_with ms e)
+
+-- No earlier conflict is passed.
+
+both_true : (a b : Bool) → a ≡ true → b ≡ true → (a && b) ≡ true
+both_true true b h k = k
+both_true false b h k = absurd (true≢false (sym h))
+
+passes_still : (v : Entry) (before : List Entry) (e : Entry) (after : List Entry) → passes_none v (before ++ e ∷ after) ≡ true
+    → passes_none v (before ++ after) ≡ true
+passes_still v [] e after h = (and_parts (not (comes_first e v)) (passes_none v after) h).1
+passes_still v (b ∷ before) e after h =
+    let k = and_parts (not (comes_first b v)) (passes_none v (before ++ e ∷ after)) h in
+    both_true (not (comes_first b v)) (passes_none v (before ++ after)) k.0 (passes_still v before e after k.1)
+
+passes_less : (v : Entry) (left : List Entry) (e : Entry) (rest : List Entry) → Takes left e rest → passes_none v left ≡ true
+    → passes_none v rest ≡ true
+passes_less v left e rest t h =
+    subst (λ ws. passes_none v ws ≡ true) (sym t.3)
+    (passes_still v t.0 e t.1 (subst (λ ws. passes_none v ws ≡ true) t.2 h))
+
+all_pass : (ms : List Entry) (left : List Entry) (e : Entry) (rest : List Entry) → Takes left e rest → PassNone ms left → PassNone ms rest
+all_pass [] left e rest t h = tt
+all_pass (m ∷ ms) left e rest t h = (passes_less m left e rest t h.0, all_pass ms left e rest t h.1)
+
+pass_by : (rest : List Entry) (e m : Entry) (ms : List Entry) (b : Bool) → PassNone (e ∷ m ∷ ms) rest → PassNone (with_member ms e) rest
+    → PassNone (if b then (e ∷ m ∷ ms) else (m ∷ with_member ms e)) rest
+pass_by rest e m ms true all more = all
+pass_by rest e m ms false all more = (all.1.0, more)
+
+pass_with : (rest : List Entry) (e : Entry) (ms : List Entry) → passes_none e rest ≡ true → PassNone ms rest → PassNone (with_member ms e) rest
+pass_with rest e [] h all = (h, tt)
+pass_with rest e (m ∷ ms) h all = pass_by rest e m ms (nat_lt e.ticket m.ticket) (h, all) (pass_with rest e ms h all.1)
+
+-- All are sound.
+
+sound_by : (e m : Entry) (ms : List Entry) (b : Bool) → IsSound e → AreSound (m ∷ ms) → AreSound (with_member ms e)
+    → AreSound (if b then (e ∷ m ∷ ms) else (m ∷ with_member ms e))
+sound_by e m ms true one all more = (one, all)
+sound_by e m ms false one all more = (all.0, more)
+
+sound_with : (ms : List Entry) (e : Entry) → IsSound e → AreSound ms → AreSound (with_member ms e)
+sound_with [] e one all = (one, tt)
+sound_with (m ∷ ms) e one all = sound_by e m ms (nat_lt e.ticket m.ticket) one all (sound_with ms e one all.1)
+
+-- A step, and the whole.
+
+at_most : (a b : ℕ) → nat_le a b ≡ true → a ≤ b
+at_most a b h = grind (arith, nat_tests)
+
+less_than : (a b : ℕ) → nat_lt a b ≡ true → a < b
+less_than a b h = grind (arith, nat_tests)
+
+step : (waits members : List Entry) (run : Run) (left : List Entry) (e : Entry) (rest : List Entry) → Ascend 0 waits
+    → IsFair waits members run left × (run.start ≤ run.end) × AreSound left → Joins run left e rest
+    → IsFair waits (with_member members e) (widened run e.request) rest
+    × ((widened run e.request).start ≤ (widened run e.request).end) × AreSound rest
+step waits members run left e rest up old j =
+    let f = old.0 in
+    let r = e.request in
+    let may = and_parts (fits run r) (passes_none e left) j.may in
+    let fit = fits_parts run r may.0 in
+    let at = side run r fit.beside in
+    let new = widened run r in
+    let room = and_parts (nat_lt run.members 16) (nat_le (run.end + count_of r) (run.start + 1024)) fit.room in
+    let t = j.leaves in
+    let later_up : Ascend (f.oldest.ticket + 1) f.later = (subst (Ascend 0) f.waits_are up).1 in
+    let above = left_above (f.oldest.ticket + 1) f.later f.others left t.0 e t.1 later_up f.parts t.2 in
+    let part = same_part run r new at in
+    let kind = same_kind run r new at in
+    let long = length_with members e in
+    let more = widened_members run r in
+    let few = less_than run.members 16 room.0 in
+    let counted = f.counted in
+    let sounds = subst AreSound t.2 old.2 in (
+      record {
+        oldest = f.oldest;
+        others = with_member f.others e;
+        later = f.later;
+        members_are = ap (λ vs. with_member vs e) f.members_are ∙ behind f.oldest e f.others above;
+        waits_are = f.waits_are;
+        parts = subst (λ vs. IsMerged f.later (with_member f.others e) vs) (sym t.3)
+            (member_merged (f.oldest.ticket + 1) f.later f.others left t.0 e t.1 later_up f.parts t.2);
+        alike = alike_with new e members (fit.part_is ∙ sym part) (fit.kind_is ∙ sym kind) (alike_still run new members part kind f.alike);
+        one_run = λ s.
+            any_with members e s ∙ (ap (λ b. has_sector r s || b) (f.one_run s) ∙ covers run r new s at old.1);
+        apart = apart_with members e
+            (λ s h. f.one_run s ∙ outside run.start run.end (start_of r) (end_of r) s (fit.beside) h) f.apart;
+        counted = omega (arith, long, more, counted);
+        few = omega (arith, long, few, counted);
+        short = λ m. short_by run r new at (at_most (run.end + count_of r) (run.start + 1024) room.1);
+        alone = λ no. absurd (true≢false (sym fit.merges ∙ (ap can_merge (sym kind) ∙ no)));
+        pass_none = pass_with rest e members (passes_less e left e rest t may.1) (all_pass members left e rest t f.pass_none);
+        sound = sound_with members e (sound_one t.0 e t.1 sounds) f.sound;
+      },
+      forward run r new at old.1,
+      subst AreSound (sym t.3) (sound_without t.0 e t.1 sounds),
+    )
+
+all_left : (zs : List Entry) → IsMerged zs [] zs
+all_left [] = (refl, refl)
+all_left (z ∷ zs) = inr (zs, refl, all_left zs)
+
+pass_later : (e : Entry) (low : ℕ) (es : List Entry) → e.ticket < low → Ascend low es → passes_none e es ≡ true
+pass_later e low [] less up = refl
+pass_later e low (x ∷ es) less up =
+    let k = up.0 in
+    let no : nat_lt x.ticket e.ticket ≡ false = grind (arith, nat_tests, k, less) in
+    rw no (pass_later e (x.ticket + 1) es (omega (arith, k, less)) up.1)
+
+one_sector : (a b : Bool) → ((a && b) || false) ≡ (a && b)
+one_sector true true = refl
+one_sector true false = refl
+one_sector false b = refl
+
+pub fair : (waits members : List Entry) (run : Run) (left : List Entry) → Ascend 0 waits → AreSound waits
+    → Grows waits members run left
+    → IsFair waits members run left × (run.start ≤ run.end) × AreSound left
+fair waits members run left up sound (begins oldest later is) =
+    let one : IsSound oldest = (subst AreSound is sound).0 in
+    let more : Ascend (oldest.ticket + 1) later = (subst (Ascend 0) is up).1 in (
+      record {
+        oldest = oldest;
+        others = [];
+        later = later;
+        members_are = refl;
+        waits_are = is;
+        parts = all_left later;
+        alike = (refl, refl, tt);
+        one_run = λ s. one_sector (nat_le (start_of oldest.request) s) (nat_lt s (end_of oldest.request));
+        apart = ((λ s h. refl), tt);
+        counted = refl;
+        few = omega arith;
+        short = λ m. let k = one.few m in omega (arith, k);
+        alone = λ no. refl;
+        pass_none = (pass_later oldest (oldest.ticket + 1) later (omega arith) more, tt);
+        sound = (one, tt);
+      },
+      omega arith,
+      (subst AreSound is sound).1,
+    )
+fair waits members run left up sound (joins old_members old_run old_left e rest g j) =
+    step waits old_members old_run old_left e rest up (fair waits old_members old_run old_left up sound g) j

@@ -1,0 +1,9 @@
+pub mod Group
+pub mod Lent
+pub mod LentLaws
+pub mod Mirror
+pub mod Places
+pub mod Requests
+pub mod Rule
+pub mod Search
+pub mod Waiting

@@ -1,0 +1,96 @@
+// Which request joins a group next.
+ghost use Rattle.std.specs.Prelude.{◌≡◌, ℕ, MatchOption, true};
+ghost use Rattle.mmc_queue.specs.Rule.{NoneMay, comes_first, passes_none};
+ghost use Rattle.mmc_queue.specs.Search.{BestMay, IsLowest, NotAbove, StandsAlike, is_better, is_lower, may_join_at};
+ghost use Rattle.mmc_queue.specs.Waiting.{Ascend};
+
+use crate::conflict::conflicts;
+use crate::entry::Entry;
+use crate::place::{Edge, Place};
+use crate::queue::Queue;
+use crate::run::Run;
+
+// Whether the first entry came before the second, and they conflict.
+fn comes_first(v: &Entry, e: &Entry) -> bool
+    ensures { result ≡ comes_first v.now e.now }
+{
+    v.ticket < e.ticket && conflicts(&v.request, &e.request)
+}
+
+// Whether a ticket is below the best one so far.
+fn is_lower(ticket: u64, best: Option<u64>) -> bool
+    ensures { result ≡ is_lower ticket best }
+{
+    match best {
+        Some(best) => ticket < best,
+        None => true,
+    }
+}
+
+impl Queue {
+    // Whether no request that came before an entry conflicts with it.
+    fn passes_none(&self, entry: &Entry) -> bool
+        ensures { result ≡ passes_none entry.now self.now }
+    {
+        for other in self.by_ticket.values() {
+            if comes_first(other, entry) {
+                return false;
+            }
+        }
+        true
+    }
+
+    // Whether the entry with this ticket waits and may join.
+    fn may_join(&self, run: &Run, ticket: u64) -> bool
+        ensures { result ≡ may_join_at run.now self.now ticket }
+    {
+        match self.by_ticket.get(&ticket) {
+            Some(entry) => run.fits(&entry.request) && self.passes_none(entry),
+            None => false,
+        }
+    }
+
+    // The same, and its ticket is below the best one so far. That is asked first, since it costs less.
+    fn is_better(&self, run: &Run, ticket: u64, best: Option<u64>) -> bool
+        ensures { result ≡ is_better run.now self.now ticket best }
+    {
+        is_lower(ticket, best) && self.may_join(run, ticket)
+    }
+
+    // The lowest ticket of those that may join and stand with this edge at this sector, unless the best so far is lower.
+    // Only what lies in the range of the places is looked at.
+    fn lower_at(&self, run: &Run, edge: Edge, sector: u64, best: Option<u64>) -> Option<u64>
+        requires { BestMay run.now self.now best }
+        ensures ascend { Ascend 0 self.now }
+        ensures may { BestMay run.now self.now result }
+        ensures not_above { (ticket : ℕ) → NotAbove best ticket → NotAbove result ticket }
+        ensures lowest { (ticket : ℕ) → StandsAlike run.now self.now edge sector ticket → may_join_at run.now self.now ticket ≡ true → NotAbove result ticket }
+    {
+        let first = Place {
+            part: run.part,
+            kind: run.kind,
+            edge,
+            sector,
+            ticket: 0,
+        };
+        let last = Place {
+            ticket: u64::MAX,
+            ..first
+        };
+        let mut best = best;
+        for place in self.places.items.range(first..=last) {
+            if self.is_better(run, place.ticket, best) {
+                best = Some(place.ticket);
+            }
+        }
+        best
+    }
+
+    // The lowest ticket of those that may join.
+    pub(crate) fn find(&self, run: &Run) -> Option<u64>
+        ensures { MatchOption result (NoneMay run.now self.now self.now) (λ t. IsLowest run.now self.now t) }
+    {
+        let best = self.lower_at(run, Edge::Start, run.end, None);
+        self.lower_at(run, Edge::End, run.start, best)
+    }
+}

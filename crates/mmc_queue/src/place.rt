@@ -1,0 +1,21 @@
+use crate::kind::Kind;
+use mmc_bus::Part;
+
+/// An end of a request's sectors, at which a run may be joined to them.
+#[derive(Clone, Copy, Debug, PartialEq, Eq, PartialOrd, Ord)]
+pub enum Edge {
+    /// Its first sector.
+    Start,
+    /// The sector behind its last one.
+    End,
+}
+
+/// Where a request can be found by its sectors. The order is that of the fields.
+#[derive(Clone, Copy, Debug, PartialEq, Eq, PartialOrd, Ord, Drop)]
+pub struct Place {
+    pub part: Part,
+    pub kind: Kind,
+    pub edge: Edge,
+    pub sector: u64,
+    pub ticket: u64,
+}

@@ -1,0 +1,82 @@
+ghost use Rattle.std.specs.Prelude.{◌≡◌, ◌+◌, ◌<◌, ◌≤◌, ◌^◌, true};
+ghost use Rattle.mmc_queue.specs.Requests.{end_of};
+ghost use Rattle.mmc_queue.specs.Rule.{fits, is_beside, run_of, widened};
+
+use crate::kind::Kind;
+use crate::request::{MAX_COUNT, Request};
+use mmc_bus::Part;
+
+/// The most requests of a group.
+pub const MAX_GROUP: usize = 16;
+
+/// The sectors that the requests of a group are together: one behind the other, without a gap.
+#[derive(Clone, Copy, Debug)]
+pub struct Run {
+    /// Their partition.
+    pub part: Part,
+    /// What is done with them.
+    pub kind: Kind,
+    /// The first sector.
+    pub start: u64,
+    /// The sector behind the last one.
+    pub end: u64,
+    /// How many requests they are of.
+    pub members: usize,
+}
+
+impl Run {
+    /// The sectors of one request.
+    pub fn of(request: &Request) -> Run
+        requires { end_of request.now ≤ 2 ^ 32 }
+        ensures { result ≡ run_of request.now }
+    {
+        Run {
+            part: request.part(),
+            kind: request.kind(),
+            start: request.start(),
+            end: request.start() + request.count(),
+            members: 1,
+        }
+    }
+
+    // Whether a request stands at one of its ends, is of its partition and kind, and keeps the limits with it.
+    pub(crate) fn fits(&self, request: &Request) -> bool
+        ensures { result ≡ fits self.now request.now }
+    {
+        let (start, count) = (request.start() as u128, request.count() as u128);
+        let is_alike = request.part() == self.part && request.kind() == self.kind;
+        let is_beside = start == self.end as u128 || start + count == self.start as u128;
+        let has_room = self.members < MAX_GROUP
+            && self.end as u128 + count <= self.start as u128 + MAX_COUNT as u128;
+        is_alike && self.kind.can_merge() && (is_beside && has_room)
+    }
+
+    // With a request that stands at one of its ends.
+    pub(crate) fn widened(self, request: &Request) -> Run
+        requires inside { end_of request.now ≤ 2 ^ 32 }
+        requires few { self.members < MAX_GROUP }
+        ensures { result ≡ widened self request.now }
+    {
+        if request.start() == self.end {
+            Run {
+                end: request.start() + request.count(),
+                members: self.members + 1,
+                ..self
+            }
+        } else {
+            Run {
+                start: request.start(),
+                members: self.members + 1,
+                ..self
+            }
+        }
+    }
+
+    // The sector that stands so many behind the first.
+    pub(crate) fn sector(self, i: usize) -> u64
+        requires { self.start + i < self.end }
+        ensures { result ≡ self.start + i }
+    {
+        self.start + i as u64
+    }
+}
