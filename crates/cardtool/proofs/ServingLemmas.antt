@@ -1,7 +1,7 @@
 -- A script that is served, one call of the device behind the other.
-use Rattle.std.proofs.Common.{◌≡◌, ◌<◌, ◌∙◌, ℕ, List, [], ◌∷◌, ◌++◌, Option, Result, Ok, Err, Bool, true, false, cond}
-use Rattle.std.proofs.Common.{sym, refl, ap, subst, append_assoc, append-nil, arith}
-use Rattle.std.specs.Prelude.{◌&&◌, ◌||◌, ◌==◌, IsErr, not}
+use Rattle.std.proofs.Common.{◌≡◌, ◌<◌, ◌+◌, ◌∙◌, ℕ, List, [], ◌∷◌, ◌++◌, Option, Result, Ok, Err, Bool, true, false, cond}
+use Rattle.std.proofs.Common.{sym, refl, ap, subst, append_assoc, append-nil, arith, length, length-append}
+use Rattle.std.specs.Prelude.{◌||◌, ◌==◌, IsErr}
 use Rattle.std.proofs.lemmas.Bool.{false≢true, ne_eqb}
 use Rattle.std.specs.Io.KnownBytes.{Appends}
 use Rattle.text_out.specs.Writing.{AppendsFront, Writes}
@@ -12,21 +12,18 @@ use Rattle.mmc_switch.specs.declared.info.Info.{Info}
 use Rattle.mmc_block.specs.declared.refused.Refused.{Refused}
 use Rattle.mmc_queue.specs.declared.request.Request.{Request}
 use Rattle.mmc_block.specs.Answers.{any_failed}
-use Rattle.mmc_block.specs.Device.{DeviceView}
-use Rattle.mmc_block.specs.Machine.{Machine, Turns}
-use Rattle.mmc_block.specs.Run.{Event as MachineEvent, Follow, Reply, Steps, unanswered}
-use Rattle.mmc_block.specs.Run.Event.{Submit as MachineSubmit}
+use Rattle.mmc_block.specs.Device.{Comes, DeviceView, Queues, unanswered_of}
+use Rattle.mmc_block.specs.Machine.{Waiting}
+use Rattle.mmc_block.specs.Run.{Counted, CountedRuns, CountedSteps, Event as MachineEvent, Follow, Reply}
+use Rattle.mmc_block.specs.Run.Event.{Submit as MachineSubmit, Turn as MachineTurn}
 use Rattle.mmc_block.specs.Run.Reply.{Accepted, Answers, RefusedFor}
 use Rattle.mmc_block.proofs.RunLemmas.{follow_then}
 use Rattle.cardtool.specs.declared.event.ScriptEvent.{ScriptEvent}
 use Rattle.cardtool.specs.declared.event.ScriptEvent.TheVariants.{Submit, Turn, Run}
 use Rattle.cardtool.specs.Output.{completions_text, queued_text, refused_text}
-use Rattle.cardtool.specs.Serving.{IdleStep, IsIdleMachineOf, IsNext, IsReadyAfter, RunsScript, ServesPrefix}
-use Rattle.cardtool.specs.Serving.{ServesScript, ServesUpTo, Standing, TurnsAndPrints, answer_if_printed, any_bad}
-use Rattle.cardtool.specs.Serving.{any_failure, events_behind, due_events, has_failure, is_bad, machine_event}
-use Rattle.cardtool.specs.Serving.{pending_after, standing_of}
-use Rattle.cardtool.specs.Serving.{text_of, texts}
-use Rattle.cardtool.proofs.Counts.{accepted_count, turn_count}
+use Rattle.cardtool.specs.Serving.{IsNext, RunsScript, ServesPrefix, ServesScript, ServesUpTo, Standing, TurnsAndPrints}
+use Rattle.cardtool.specs.Serving.{answer_if_printed, any_bad, due_events, events_behind, is_bad, machine_event}
+use Rattle.cardtool.specs.Serving.{pending_after, standing_of, text_of, texts}
 
 -- Where a script stands.
 
@@ -135,49 +132,38 @@ unfolding any_bad
 bad_then [] ss = refl
 bad_then (r ∷ rs) ss = ap (λ b. is_bad r || b) (bad_then rs ss) ∙ or_more (is_bad r) (any_bad rs) (any_bad ss)
 
-failure_then : (rs ss : List Reply) → any_failure (rs ++ ss) ≡ (any_failure rs || any_failure ss)
-unfolding any_failure
-failure_then [] ss = refl
-failure_then (r ∷ rs) ss =
-    ap (λ b. has_failure r || b) (failure_then rs ss) ∙ or_more (has_failure r) (any_failure rs) (any_failure ss)
-
-stays_ready : (r : Bool) → IsReadyAfter r false r
-stays_ready true = refl
-stays_ready false = refl
-
-and_not : (r a b : Bool) → ((r && not a) && not b) ≡ (r && not (a || b))
-and_not true true b = refl
-and_not true false b = refl
-and_not false a b = refl
-
-ready_then : (p q r a b c : Bool) → IsReadyAfter p a q → IsReadyAfter q b r → c ≡ (a || b) → IsReadyAfter p c r
-ready_then p q r a b c first second joined =
-    second ∙ ap (λ x. x && not b) first ∙ and_not p a b ∙ ap (λ x. p && not x) (sym joined)
-
-runs_then : (i : Info) (p q r : Bool) (m k n : Machine) (script fs left rest : List ScriptEvent)
+-- machines with own faults, from one device to the next
+comes_then : {B : Type 0} (view : B → BusView) (i : Info) (start mid now : DeviceView B)
     (es : List MachineEvent) (rs : List Reply) (us : List MachineEvent) (vs : List Reply)
-    → RunsScript i p q m k script (fs ++ left) es rs → RunsScript i q r k n fs rest us vs
-    → RunsScript i p r m n script (rest ++ left) (es ++ us) (rs ++ vs)
-runs_then i p q r m k n script fs left rest es rs us vs first second = record {
-  runs = follow_then (Steps i) m es rs k us vs n first.runs second.runs;
-  of_script = follow_then IsNext (standing_of (unanswered m) script) es rs
-      (standing_of (unanswered k) (fs ++ left)) us vs
-      (standing_of (unanswered n) (rest ++ left)) first.of_script
-      (script_goes_on (unanswered k) fs us vs (unanswered n) rest left second.of_script);
-  ready = ready_then p q r (any_failure rs) (any_failure vs) (any_failure (rs ++ vs)) first.ready second.ready
-      (failure_then rs vs);
+    → Comes view start (λ (c n : Counted). CountedRuns i c es rs n) mid
+    → Comes view mid (λ (c n : Counted). CountedRuns i c us vs n) now
+    → Comes view start (λ (c n : Counted). CountedRuns i c (es ++ us) (rs ++ vs) n) now
+comes_then view i start mid now es rs us vs first second = λ c agrees.
+    let (k, run, agrees_between) = first c agrees in
+    let (n, more, agrees_then) = second k agrees_between in
+    (n, follow_then (CountedSteps i) c es rs k us vs n run more, agrees_then)
+
+runs_then : {B : Type 0} (view : B → BusView) (start mid now : DeviceView B) (script fs left rest : List ScriptEvent)
+    (es : List MachineEvent) (rs : List Reply) (us : List MachineEvent) (vs : List Reply) → mid.info ≡ start.info
+    → RunsScript view start mid script (fs ++ left) es rs → RunsScript view mid now fs rest us vs
+    → RunsScript view start now script (rest ++ left) (es ++ us) (rs ++ vs)
+runs_then view start mid now script fs left rest es rs us vs same first second = record {
+  of_script = follow_then IsNext (standing_of (unanswered_of start) script) es rs
+      (standing_of (unanswered_of mid) (fs ++ left)) us vs
+      (standing_of (unanswered_of now) (rest ++ left)) first.of_script
+      (script_goes_on (unanswered_of mid) fs us vs (unanswered_of now) rest left second.of_script);
+  runs = comes_then view start.info start mid now es rs us vs first.runs
+      (subst (λ i. Comes view mid (λ (c n : Counted). CountedRuns i c us vs n) now) same second.runs);
 }
 
 pub serves_none : {B : Type 0} (view : B → BusView) (d : DeviceView B) (script : List ScriptEvent)
     (old : Option (List ℕ))
     → ServesUpTo view d d script script old old false
-unfolding texts any_bad any_failure
-serves_none view d script old = λ m of_device. record {
+unfolding texts any_bad
+serves_none view d script old = record {
   events = [];
   replies = [];
-  last = m;
-  of_device = of_device;
-  run = record { runs = refl; of_script = refl; ready = stays_ready d.is_ready };
+  run = record { of_script = refl; runs = λ c agrees. (c, refl, agrees) };
   printed = appends_none old;
   bad_is = refl;
 }
@@ -188,18 +174,13 @@ pub serves_then : {B : Type 0} (view : B → BusView) (start mid now : DeviceVie
     (old between new : Option (List ℕ)) (x y : Bool) → mid.info ≡ start.info
     → ServesUpTo view start mid script (fs ++ left) old between x → ServesUpTo view mid now fs rest between new y
     → ServesUpTo view start now script (rest ++ left) old new (y || x)
-serves_then view start mid now script fs left rest old between new x y same first second = λ m of_device.
-    let f = first m of_device in
-    let s = second f.last f.of_device in
-    let text_is = texts_then (Steps start.info) m f.events f.replies f.last s.events s.replies f.run.runs in
+serves_then view start mid now script fs left rest old between new x y same f s =
+    let text_is = texts_then IsNext (standing_of (unanswered_of start) script) f.events f.replies
+    (standing_of (unanswered_of mid) (fs ++ left)) s.events s.replies f.run.of_script in
     record {
       events = f.events ++ s.events;
       replies = f.replies ++ s.replies;
-      last = s.last;
-      of_device = s.of_device;
-      run = runs_then start.info start.is_ready mid.is_ready now.is_ready m f.last s.last script fs left rest
-          f.events f.replies s.events s.replies f.run
-          (subst (λ i. RunsScript i mid.is_ready now.is_ready f.last s.last fs rest s.events s.replies) same s.run);
+      run = runs_then view start mid now script fs left rest f.events f.replies s.events s.replies same f.run s.run;
       printed = subst (Appends old new) (sym text_is)
           (appends_more old between new (texts f.events f.replies) (texts s.events s.replies) f.printed s.printed);
       bad_is = or_swap y x ∙ ap (λ b. b || y) f.bad_is ∙ ap (λ b. any_bad f.replies || b) s.bad_is
@@ -211,19 +192,14 @@ pub breaks_then : {B : Type 0} (view : B → BusView) (start mid now : DeviceVie
     (old between new : Option (List ℕ)) (x : Bool) → mid.info ≡ start.info
     → ServesUpTo view start mid script (fs ++ left) old between x → ServesPrefix view mid now fs between new
     → ServesPrefix view start now script old new
-breaks_then view start mid now script fs left old between new x same first second = λ m of_device.
-    let f = first m of_device in
-    let s = second f.last f.of_device in
-    let text_is = texts_then (Steps start.info) m f.events f.replies f.last s.events s.replies f.run.runs in
+breaks_then view start mid now script fs left old between new x same f s =
+    let text_is = texts_then IsNext (standing_of (unanswered_of start) script) f.events f.replies
+    (standing_of (unanswered_of mid) (fs ++ left)) s.events s.replies f.run.of_script in
     record {
       events = f.events ++ s.events;
       replies = f.replies ++ s.replies;
-      last = s.last;
       left = s.left ++ left;
-      of_device = s.of_device;
-      run = runs_then start.info start.is_ready mid.is_ready now.is_ready m f.last s.last script fs left s.left
-          f.events f.replies s.events s.replies f.run
-          (subst (λ i. RunsScript i mid.is_ready now.is_ready f.last s.last fs s.left s.events s.replies) same s.run);
+      run = runs_then view start mid now script fs left s.left f.events f.replies s.events s.replies same f.run s.run;
       printed = subst (AppendsFront old new) (sym text_is)
           (front_after old between new (texts f.events f.replies) (texts s.events s.replies) f.printed s.printed);
     }
@@ -238,19 +214,18 @@ serves_broken view start now script old new (Err e) failed h = h
 -- One event.
 
 -- an event of a script is due and a step of the machine, and leaves so many without an answer
-record IsStepOfScript (i : Info) (m : Machine) (e : ScriptEvent) (r : Reply) (n : Machine) : Type 0 where
-  step : Steps i m (machine_event e) r n
-  is_due : due_events (unanswered m) (e ∷ []) ≡ e ∷ []
-  count : unanswered n ≡ pending_after (unanswered m) r
+record IsStepOfScript {B : Type 0} (view : B → BusView) (old : DeviceView B) (e : ScriptEvent) (r : Reply)
+    (new : DeviceView B) : Type 0 where
+  steps : Comes view old (λ (c n : Counted). CountedSteps old.info c (machine_event e) r n) new
+  is_due : due_events (unanswered_of old) (e ∷ []) ≡ e ∷ []
+  count : unanswered_of new ≡ pending_after (unanswered_of old) r
 
-run_one : (i : Info) (p q : Bool) (m n : Machine) (e : ScriptEvent) (r : Reply)
-    → IsStepOfScript i m e r n → IsReadyAfter p (has_failure r) q
-    → RunsScript i p q m n (e ∷ []) (events_behind e []) (machine_event e ∷ []) (r ∷ [])
-unfolding any_failure
-run_one i p q m n e r h ready = record {
-  runs = (n, h.step, refl);
+run_one : {B : Type 0} (view : B → BusView) (old new : DeviceView B) (e : ScriptEvent) (r : Reply)
+    → IsStepOfScript view old e r new
+    → RunsScript view old new (e ∷ []) (events_behind e []) (machine_event e ∷ []) (r ∷ [])
+run_one view old new e r h = record {
   of_script = (
-    standing_of (unanswered n) (events_behind e []),
+    standing_of (unanswered_of new) (events_behind e []),
     record {
       next = e;
       later = [];
@@ -260,176 +235,138 @@ run_one i p q m n e r h ready = record {
     },
     refl,
   );
-  ready = ready ∙ ap (λ b. p && not b) (or_swap false (has_failure r));
+  runs = λ c agrees. let (n, step, agrees_then) = h.steps c agrees in (n, (n, step, refl), agrees_then);
 }
 
 serves_one : {B : Type 0} (view : B → BusView) (start now : DeviceView B) (e : ScriptEvent) (r : Reply)
-    (old new : Option (List ℕ)) → IdleStep view start (λ (m n : Machine). IsStepOfScript start.info m e r n) now
-    → Appends old new (text_of (machine_event e) r) → IsReadyAfter start.is_ready (has_failure r) now.is_ready
+    (old new : Option (List ℕ)) → IsStepOfScript view start e r now
+    → Appends old new (text_of (machine_event e) r)
     → ServesUpTo view start now (e ∷ []) (events_behind e []) old new (is_bad r)
 unfolding texts any_bad
-serves_one view start now e r old new steps wrote ready = λ m of_device.
-    let s = steps m of_device in
-    record {
-      events = machine_event e ∷ [];
-      replies = r ∷ [];
-      last = s.machine;
-      of_device = s.of_device;
-      run = run_one start.info start.is_ready now.is_ready m s.machine e r s.property ready;
-      printed = subst (Appends old new) (sym (append-nil (text_of (machine_event e) r))) wrote;
-      bad_is = or_swap false (is_bad r);
-    }
+serves_one view start now e r old new step wrote = record {
+  events = machine_event e ∷ [];
+  replies = r ∷ [];
+  run = run_one view start now e r step;
+  printed = subst (Appends old new) (sym (append-nil (text_of (machine_event e) r))) wrote;
+  bad_is = or_swap false (is_bad r);
+}
 
 breaks_one : {B : Type 0} (view : B → BusView) (start now : DeviceView B) (e : ScriptEvent) (r : Reply)
-    (old new : Option (List ℕ)) → IdleStep view start (λ (m n : Machine). IsStepOfScript start.info m e r n) now
-    → AppendsFront old new (text_of (machine_event e) r) → IsReadyAfter start.is_ready (has_failure r) now.is_ready
-    → ServesPrefix view start now (e ∷ []) old new
+    (old new : Option (List ℕ)) → IsStepOfScript view start e r now
+    → AppendsFront old new (text_of (machine_event e) r) → ServesPrefix view start now (e ∷ []) old new
 unfolding texts
-breaks_one view start now e r old new steps wrote ready = λ m of_device.
-    let s = steps m of_device in
-    record {
-      events = machine_event e ∷ [];
-      replies = r ∷ [];
-      last = s.machine;
-      left = events_behind e [];
-      of_device = s.of_device;
-      run = run_one start.info start.is_ready now.is_ready m s.machine e r s.property ready;
-      printed = subst (AppendsFront old new) (sym (append-nil (text_of (machine_event e) r))) wrote;
-    }
+breaks_one view start now e r old new step wrote = record {
+  events = machine_event e ∷ [];
+  replies = r ∷ [];
+  left = events_behind e [];
+  run = run_one view start now e r step;
+  printed = subst (AppendsFront old new) (sym (append-nil (text_of (machine_event e) r))) wrote;
+}
 
 one_event : {B E : Type 0} (view : B → BusView) (start now : DeviceView B) (e : ScriptEvent) (r : Reply)
-    (old new : Option (List ℕ)) (printed : Result Unit E)
-    → IdleStep view start (λ (m n : Machine). IsStepOfScript start.info m e r n) now → events_behind e [] ≡ []
-    → Writes old new printed (text_of (machine_event e) r) → IsReadyAfter start.is_ready (has_failure r) now.is_ready
+    (old new : Option (List ℕ)) (printed : Result Unit E) → IsStepOfScript view start e r now
+    → events_behind e [] ≡ [] → Writes old new printed (text_of (machine_event e) r)
     → ServesScript view start now (e ∷ []) old new (answer_if_printed (is_bad r) printed)
-one_event view start now e r old new (Ok x) steps none wrote ready =
+one_event view start now e r old new (Ok x) step none wrote =
     subst (λ l. ServesUpTo view start now (e ∷ []) l old new (is_bad r)) none
-    (serves_one view start now e r old new steps wrote ready)
-one_event view start now e r old new (Err d) steps none wrote ready =
-    breaks_one view start now e r old new steps wrote ready
+    (serves_one view start now e r old new step wrote)
+one_event view start now e r old new (Err d) step none wrote = breaks_one view start now e r old new step wrote
 
 -- Turns.
 
 pub turned : {B E : Type 0} (view : B → BusView) (start now : DeviceView B) (cs : List Completion)
     (old new : Option (List ℕ)) (r : Result Unit E)
-    → IdleStep view start (λ (m n : Machine). Turns start.info m cs n) now → Writes old new r (completions_text cs)
-    → now.is_ready ≡ (start.is_ready && not (any_failed cs))
+    → Comes view start (λ (c n : Counted). CountedSteps start.info c MachineTurn (Answers cs) n) now
+    → unanswered_of now + length cs ≡ unanswered_of start → Writes old new r (completions_text cs)
     → TurnsAndPrints view start now old new (answer_if_printed (any_failed cs) r)
-turned view start now cs old new (Ok x) turns wrote ready =
-    record { completions = cs; turns = turns; printed = wrote; bad_is = refl; ready = ready }
-turned view start now cs old new (Err e) turns wrote ready =
-    record { completions = cs; turns = turns; printed = wrote; bad_is = tt; ready = ready }
+turned view start now cs old new (Ok x) turns leaves wrote =
+    record { completions = cs; turns = turns; leaves = leaves; printed = wrote; bad_is = refl }
+turned view start now cs old new (Err e) turns leaves wrote =
+    record { completions = cs; turns = turns; leaves = leaves; printed = wrote; bad_is = tt }
 
--- a turn of the script, or of a `run` that isn't over
-turn_is_step : {B : Type 0} (view : B → BusView) (start now : DeviceView B) (e : ScriptEvent) (cs : List Completion)
-    → ((m : Machine) → IsIdleMachineOf view start m → due_events (unanswered m) (e ∷ []) ≡ e ∷ [])
-    → ((m n : Machine) → Turns start.info m cs n → Steps start.info m (machine_event e) (Answers cs) n)
-    → IdleStep view start (λ (m n : Machine). Turns start.info m cs n) now
-    → IdleStep view start (λ (m n : Machine). IsStepOfScript start.info m e (Answers cs) n) now
-turn_is_step view start now e cs is_due steps turns = λ m of_device.
-    let s = turns m of_device in
-    let count = turn_count start.info m cs s.machine s.property in
-    record {
-      machine = s.machine;
-      of_device = s.of_device;
-      property = record {
-        step = steps m s.machine s.property;
-        is_due = is_due m of_device;
-        count = omega (arith, count);
-      };
-    }
+-- a single turn of the script
+turn_is_step : {B E : Type 0} (view : B → BusView) (start now : DeviceView B) (old new : Option (List ℕ))
+    (r : Result Bool E) (t : TurnsAndPrints view start now old new r)
+    → IsStepOfScript view start Turn (Answers t.completions) now
+turn_is_step view start now old new r t =
+    record { steps = t.turns; is_due = refl; count = omega (arith, t.leaves) }
 
-run_is_step : {B : Type 0} (view : B → BusView) (start now : DeviceView B) (waiting : ℕ) (cs : List Completion)
-    → 0 < waiting → ((m : Machine) → IsIdleMachineOf view start m → waiting ≡ unanswered m)
-    → IdleStep view start (λ (m n : Machine). Turns start.info m cs n) now
-    → IdleStep view start (λ (m n : Machine). IsStepOfScript start.info m Run (Answers cs) n) now
-run_is_step view start now waiting cs some counts turns =
-    turn_is_step view start now Run cs
-    (λ m of_device. due_run (unanswered m) [] (subst (λ k. 0 < k) (counts m of_device) some)) (λ m n t. t) turns
-
-pub run_turn : {B E : Type 0} (view : B → BusView) (start now : DeviceView B) (old new : Option (List ℕ))
-    (waiting : ℕ) (bad : Bool) → 0 < waiting
-    → ((m : Machine) → IsIdleMachineOf view start m → waiting ≡ unanswered m)
-    → TurnsAndPrints {B = B} {E = E} view start now old new (Ok bad)
-    → ServesUpTo view start now (Run ∷ []) (Run ∷ []) old new bad
-unfolding text_of is_bad
-run_turn view start now old new waiting bad some counts t =
-    subst (λ b. ServesUpTo view start now (Run ∷ []) (Run ∷ []) old new b) (sym t.bad_is)
-    (serves_one view start now Run (Answers t.completions) old new
-    (run_is_step view start now waiting t.completions some counts t.turns) t.printed t.ready)
-
-pub run_turn_broken : {B E : Type 0} (view : B → BusView) (start now : DeviceView B) (old new : Option (List ℕ))
-    (waiting : ℕ) (e : E) → 0 < waiting
-    → ((m : Machine) → IsIdleMachineOf view start m → waiting ≡ unanswered m)
-    → TurnsAndPrints view start now old new (Err e) → ServesPrefix view start now (Run ∷ []) old new
-unfolding text_of
-run_turn_broken view start now old new waiting e some counts t =
-    breaks_one view start now Run (Answers t.completions) old new
-    (run_is_step view start now waiting t.completions some counts t.turns) t.printed t.ready
-
--- a `run` is over where nothing waits
-pub run_idle : {B : Type 0} (view : B → BusView) (d : DeviceView B) (old : Option (List ℕ)) (waiting : ℕ) → waiting ≡ 0
-    → ((m : Machine) → IsIdleMachineOf view d m → waiting ≡ unanswered m)
-    → ServesUpTo view d d (Run ∷ []) [] old old false
-unfolding texts any_bad any_failure
-run_idle view d old waiting none counts = λ m of_device. record {
-  events = [];
-  replies = [];
-  last = m;
-  of_device = of_device;
-  run = record {
-    runs = refl;
-    of_script = run_over (unanswered m) (sym (counts m of_device) ∙ none);
-    ready = stays_ready d.is_ready;
-  };
-  printed = appends_none old;
-  bad_is = refl;
-}
-
--- a single turn
 pub one_turn : {B E : Type 0} (view : B → BusView) (start now : DeviceView B) (old new : Option (List ℕ))
     (r : Result Bool E) → TurnsAndPrints view start now old new r → ServesScript view start now (Turn ∷ []) old new r
 unfolding text_of is_bad
 one_turn view start now old new (Ok bad) t =
     subst (λ b. ServesUpTo view start now (Turn ∷ []) [] old new b) (sym t.bad_is)
     (serves_one view start now Turn (Answers t.completions) old new
-    (turn_is_step view start now Turn t.completions (λ m of_device. refl) (λ m n h. h) t.turns) t.printed t.ready)
+    (turn_is_step view start now old new (Ok bad) t) t.printed)
 one_turn view start now old new (Err e) t =
     breaks_one view start now Turn (Answers t.completions) old new
-    (turn_is_step view start now Turn t.completions (λ m of_device. refl) (λ m n h. h) t.turns) t.printed t.ready
+    (turn_is_step view start now old new (Err e) t) t.printed
+
+-- a turn of a `run` that isn't over
+run_is_step : {B E : Type 0} (view : B → BusView) (start now : DeviceView B) (old new : Option (List ℕ))
+    (r : Result Bool E) → 0 < unanswered_of start → (t : TurnsAndPrints view start now old new r)
+    → IsStepOfScript view start Run (Answers t.completions) now
+run_is_step view start now old new r some t =
+    record { steps = t.turns; is_due = due_run (unanswered_of start) [] some; count = omega (arith, t.leaves) }
+
+pub run_turn : {B E : Type 0} (view : B → BusView) (start now : DeviceView B) (old new : Option (List ℕ))
+    (bad : Bool) → 0 < unanswered_of start → TurnsAndPrints {B = B} {E = E} view start now old new (Ok bad)
+    → ServesUpTo view start now (Run ∷ []) (Run ∷ []) old new bad
+unfolding text_of is_bad
+run_turn view start now old new bad some t =
+    subst (λ b. ServesUpTo view start now (Run ∷ []) (Run ∷ []) old new b) (sym t.bad_is)
+    (serves_one view start now Run (Answers t.completions) old new
+    (run_is_step view start now old new (Ok bad) some t) t.printed)
+
+pub run_turn_broken : {B E : Type 0} (view : B → BusView) (start now : DeviceView B) (old new : Option (List ℕ))
+    (e : E) → 0 < unanswered_of start → TurnsAndPrints view start now old new (Err e)
+    → ServesPrefix view start now (Run ∷ []) old new
+unfolding text_of
+run_turn_broken view start now old new e some t =
+    breaks_one view start now Run (Answers t.completions) old new
+    (run_is_step view start now old new (Err e) some t) t.printed
+
+-- a `run` is over where no request is without an answer
+pub run_idle : {B : Type 0} (view : B → BusView) (d : DeviceView B) (old : Option (List ℕ)) → unanswered_of d ≡ 0
+    → ServesUpTo view d d (Run ∷ []) [] old old false
+unfolding texts any_bad
+run_idle view d old none = record {
+  events = [];
+  replies = [];
+  run = record { of_script = run_over (unanswered_of d) none; runs = λ c agrees. (c, refl, agrees) };
+  printed = appends_none old;
+  bad_is = refl;
+}
 
 -- Submissions.
 
+queued_count : {B : Type 0} (old : DeviceView B) (client ticket : ℕ) (q : Request) (new : DeviceView B)
+    → Queues old client q ticket new → unanswered_of new ≡ unanswered_of old + 1
+queued_count old client ticket q new queues =
+    let w : Waiting = record { ticket = old.next; client = client; request = q } in
+    let all : length (old.waits ++ w ∷ []) ≡ length old.waits + 1 = length-append old.waits (w ∷ []) in
+    ap unanswered_of queues.waits ∙ omega (arith, all)
+
 pub queued : {B E : Type 0} (view : B → BusView) (start now : DeviceView B) (client ticket : ℕ) (request : Request)
-    (old new : Option (List ℕ)) (r : Result Unit E)
-    → IdleStep view start (λ (m n : Machine). Steps start.info m (MachineSubmit client request) (Accepted ticket) n) now
-    → Writes old new r (queued_text ticket client) → now.is_ready ≡ start.is_ready
+    (old new : Option (List ℕ)) (r : Result Unit E) → Queues start client request ticket now
+    → Comes view start
+    (λ (c n : Counted). CountedSteps start.info c (MachineSubmit client request) (Accepted ticket) n) now
+    → Writes old new r (queued_text ticket client)
     → ServesScript view start now (Submit client request ∷ []) old new (answer_if_printed false r)
 unfolding text_of is_bad
-queued view start now client ticket request old new r steps wrote same =
+queued view start now client ticket request old new r queues steps wrote =
     one_event view start now (Submit client request) (Accepted ticket) old new r
-    (λ m of_device. let s = steps m of_device in record {
-      machine = s.machine;
-      of_device = s.of_device;
-      property = record {
-        step = s.property;
-        is_due = refl;
-        count = accepted_count m client request ticket s.machine s.property.1;
-      };
-    })
-    refl wrote (same ∙ stays_ready start.is_ready)
+    (record { steps = steps; is_due = refl; count = queued_count start client ticket request now queues })
+    refl wrote
 
 pub refused : {B E : Type 0} (view : B → BusView) (start now : DeviceView B) (client : ℕ) (request : Request)
-    (why : Refused) (old new : Option (List ℕ)) (r : Result Unit E)
-    → IdleStep view start (λ (m n : Machine). Steps start.info m (MachineSubmit client request) (RefusedFor why) n) now
-    → Writes old new r (refused_text client why) → now.is_ready ≡ start.is_ready
+    (why : Refused) (old new : Option (List ℕ)) (r : Result Unit E) → now ≡ start
+    → Comes view start
+    (λ (c n : Counted). CountedSteps start.info c (MachineSubmit client request) (RefusedFor why) n) now
+    → Writes old new r (refused_text client why)
     → ServesScript view start now (Submit client request ∷ []) old new (answer_if_printed true r)
 unfolding text_of is_bad
-refused view start now client request why old new r steps wrote same =
+refused view start now client request why old new r same steps wrote =
     one_event view start now (Submit client request) (RefusedFor why) old new r
-    (λ m of_device. let s = steps m of_device in record {
-      machine = s.machine;
-      of_device = s.of_device;
-      property = record { step = s.property; is_due = refl; count = ap unanswered s.property.1 };
-    })
-    refl wrote (same ∙ stays_ready start.is_ready)
+    (record { steps = steps; is_due = refl; count = ap unanswered_of same })
+    refl wrote

@@ -1,7 +1,7 @@
 -- The whole: a script that was served from the machine that holds what the card held, and a card that wasn't opened.
-use Rattle.std.proofs.Common.{◌&&◌, ◌≡◌, ◌≤◌, ◌-◌, ◌+◌, ℕ, List, [], ◌∷◌, ◌++◌, Option, None}
-use Rattle.std.proofs.Common.{Result, Ok, Err, Bool, false, true, sym, refl, ap, subst, arith, append-nil}
-use Rattle.std.specs.Prelude.{IfErr, not}
+use Rattle.std.proofs.Common.{◌≡◌, ◌≤◌, ◌-◌, ◌+◌, ◌*◌, ◌∙◌, ℕ, List, [], ◌∷◌, ◌++◌, Option, None, length}
+use Rattle.std.proofs.Common.{Result, Ok, Err, Bool, true, sym, refl, ap, ap₂, subst, arith, append-nil}
+use Rattle.std.specs.Prelude.{IfErr}
 use Rattle.std.specs.Io.KnownBytes.{Appends}
 use Rattle.text_out.proofs.WritingLemmas.{front_before}
 use Rattle.mmc_bus.specs.Learned.{Stays}
@@ -18,10 +18,12 @@ use Rattle.mmc_card_sim.specs.declared.spec.BuildFault.TheVariants as Refused
 use Rattle.mmc_card_sim.specs.declared.spec.CardSpec.{CardSpec}
 use Rattle.mmc_switch.specs.Info.{IsInfo}
 use Rattle.mmc_switch.specs.declared.info.Info.{Info}
-use Rattle.mmc_block.specs.Device.{Agrees, DeviceView, opened}
-use Rattle.mmc_block.specs.InOrder.{AreDecided, EndsInOrder, IsInOrder, MayHold, history}
-use Rattle.mmc_block.specs.Machine.{Machine, all_failed}
-use Rattle.mmc_block.specs.Run.{Event as MachineEvent, Reply, Runs, unanswered}
+use Rattle.mmc_block.specs.Answers.{failures}
+use Rattle.mmc_block.specs.Device.{Agrees, AgreesCounted, DeviceView, IsOpened, opened, unanswered_of}
+use Rattle.mmc_block.specs.InOrder.{AreDecided, EndsInOrder, IsInOrder, MayHold, answers, history}
+use Rattle.mmc_block.specs.Machine.{Machine, Waiting, all_failed}
+use Rattle.mmc_block.specs.Run.{Counted, CountedRuns, Event as MachineEvent, Follow, Reply, Runs, unanswered}
+use Rattle.mmc_block.specs.Service.{in_service_of}
 use Rattle.mmc_block.specs.declared.open_fault.OpenFault.{OpenFault}
 use Rattle.mmc_block.specs.declared.open_fault.OpenFault.TheVariants as Unopened
 use Rattle.cardtool.specs.declared.event.ScriptEvent.{ScriptEvent}
@@ -29,16 +31,26 @@ use Rattle.cardtool.specs.declared.fault.ServeFault.{ServeFault}
 use Rattle.cardtool.specs.declared.fault.ServeFault.TheVariants.{Locked, NoCard, NoMemory}
 use Rattle.cardtool.specs.declared.fault.ServeFault.TheVariants.{Unsupported, Voltage, Write}
 use Rattle.cardtool.specs.declared.event.ScriptEvent.TheVariants.{Run}
-use Rattle.cardtool.specs.Serving.{IsLaterDevice, RunsScript, ServesScript, any_failure, due_events, texts}
+use Rattle.cardtool.specs.Serving.{IsLaterDevice, IsNext, RunsScript, ServesScript, Standing, due_events}
+use Rattle.cardtool.specs.Serving.{standing_of, texts}
 use Rattle.cardtool.specs.Whole.{IsServed, IsServedOnNewCard, IsServedOnSpec, IsUnopened, IsUnwritten, IsWhyUnbuilt}
-use Rattle.cardtool.specs.Whole.{RunOverSectors, building_fault, new_card, opening_fault, outcome_of, status_of}
+use Rattle.cardtool.specs.Whole.{RunsInAnyProfile, building_fault, new_card, opened_after}
+use Rattle.cardtool.specs.Whole.{opening_fault, outcome_of, status_of}
+use Rattle.cardtool.proofs.EndLemmas.{ends_answered}
 
--- a device that is ready after all answers has failed none
-none_failed : (failed was is : Bool) → was ≡ true → is ≡ true → is ≡ (was && not failed) → failed ≡ false
-none_failed true was is before after h = cc
-none_failed false was is before after h = refl
+-- What the laws of the sector machine say of every run.
 
--- what the laws about order say of every run
+abbrev pub CountedLaw : Type 0
+CountedLaw =
+    (info : Info) (old : Counted) (events : List MachineEvent) (replies : List Reply) (new : Counted)
+    → CountedRuns info old events replies new → Runs info old.machine events replies new.machine
+
+abbrev pub FaultLaw : Type 0
+FaultLaw =
+    (info : Info) (old : Counted) (events : List MachineEvent) (replies : List Reply) (new : Counted)
+    → old.in_profile ≡ true → old.machine.waits ≡ [] → old.machine.in_service ≡ []
+    → CountedRuns info old events replies new → old.faults + 4 * failures (answers replies) ≤ new.faults
+
 abbrev pub OrderLaw : Type 0
 OrderLaw =
     (info : Info) (old : Machine) (events : List MachineEvent) (replies : List Reply) (new : Machine)
@@ -54,43 +66,129 @@ EndLaw =
     → MayHold sets contents
     → EndsInOrder (history info old.sets events replies) sets new.next contents
 
--- a run from the machine that holds what the card held, over the sectors that the device has then
-run_over_sectors : (info : Info) (before later : Sets) (fell : ℕ) (script left : List ScriptEvent)
-    (events : List MachineEvent) (replies : List Reply) (was is : Bool) (n : Machine)
-    → OrderLaw → EndLaw → AreDecided before → Within later n.sets → was ≡ true → (fell ≡ 0 → is ≡ true)
-    → RunsScript info was is (opened before) n script left events replies
-    → RunOverSectors info before later fell script (due_events (unanswered n) left) events replies
-run_over_sectors info before later fell script left events replies was is n order ends decided within ready fine run =
-    record {
-      last = n;
-      pending = unanswered n;
-      runs = run.runs;
-      of_script = run.of_script;
-      within = within;
-      in_order = order info (opened before) events replies n decided refl refl run.runs;
-      ends_in_order = λ contents holds.
-          ends info (opened before) events replies n later contents decided refl refl run.runs within holds;
-      none_failed = λ none. none_failed (any_failure replies) was is ready (fine none) run.ready;
-    }
+pub record Laws : Type 0 where
+  pub counted : CountedLaw
+  pub faults : FaultLaw
+  pub order : OrderLaw
+  pub ends : EndLaw
 
 -- What is known of a device that was opened, and of what was served on it.
 pub record Served {B : Type 0} (view : B → BusView) (start now : DeviceView B) (made : Made) (before later : Sets)
     (fell : ℕ) : Type 0 where
   pub of_card : IsInfo made start.info
-  pub ready : start.is_ready ≡ true
-  pub agrees : Agrees view start (opened before)
-  pub within : (m : Machine) → Agrees view now m → Within later m.sets
-  pub fine : fell ≡ 0 → now.is_ready ≡ true
+  pub idle : unanswered_of start ≡ 0
+  pub agrees : (in_profile : Bool) → (in_profile ≡ true → InProfile made)
+      → AgreesCounted view start (opened_after (view start.bus).faults in_profile before)
+  pub info : now.info ≡ start.info
+  pub within : (m : Machine) → Agrees view now m
+      → Within later (all_failed now.info (in_service_of now.service) m.sets)
+  pub faults : (view now.bus).faults ≤ (view start.bus).faults + fell
 
--- a device with nothing to do, and the machine that may hold no less than its card
-pub agrees_wider : {B : Type 0} (view : B → BusView) (device : DeviceView B) (sets : Sets) → device.waits ≡ []
-    → device.in_service ≡ [] → device.next ≡ 0 → Within (holds (view device.bus).card) sets
-    → Agrees view device (opened sets)
-agrees_wider view device sets waits idle next within = record {
-  waits = sym waits;
-  in_service = sym idle;
-  next = sym next;
-  within = subst (λ ws. Within (holds (view device.bus).card) (all_failed device.info ws sets)) (sym idle) within;
+no_length : (ws : List Waiting) → length ws ≡ 0 → ws ≡ []
+no_length [] none = refl
+no_length (w ∷ ws) none = absurd (omega (arith, none))
+
+none_unanswered : (m : Machine) → unanswered m ≡ 0 → (m.waits ≡ []) × (m.in_service ≡ [])
+none_unanswered m none =
+    (no_length m.waits (omega (arith, none)), no_length m.in_service (omega (arith, none)))
+
+unanswered_is : {B : Type 0} (view : B → BusView) (device : DeviceView B) (m : Machine) → Agrees view device m
+    → unanswered m ≡ unanswered_of device
+unanswered_is view device m agrees =
+    ap₂ (λ (ws vs : List Waiting). length ws + length vs) agrees.waits agrees.in_service
+
+-- nothing in service is left to change a sector
+none_to_change : (info : Info) (later : Sets) (m : Machine) → m.in_service ≡ []
+    → Within later (all_failed info m.in_service m.sets) → Within later m.sets
+none_to_change info later m idle within = subst (λ ws. Within later (all_failed info ws m.sets)) idle within
+
+module _ {B : Type 0} (view : B → BusView) (start now : DeviceView B) (made : Made) (before later : Sets)
+    (fell : ℕ) (laws : Laws) (decided : AreDecided before) (device : Served view start now made before later fell)
+    (script : List ScriptEvent) where
+  -- a run from the machine that holds what the card held, over the sectors that the device has then
+  run_over_sectors : (left : List ScriptEvent) (events : List MachineEvent) (replies : List Reply)
+      → RunsScript view start now (script ++ Run ∷ []) left events replies
+      → RunsInAnyProfile made start.info before later fell (script ++ Run ∷ []) (due_events (unanswered_of now) left)
+      events replies
+  run_over_sectors left events replies run = λ in_profile profile.
+      let earlier = (view start.bus).faults in
+      let first = opened_after earlier in_profile before in
+      let left_now = due_events (unanswered_of now) left in
+      let (last, runs, agrees) = run.runs first (device.agrees in_profile profile) in
+      let plain = laws.counted start.info first events replies last runs in
+      let count = unanswered_is view now last.machine agrees.agrees in
+      let fewer : last.faults ≤ earlier + fell = subst (λ k. k ≤ earlier + fell) (sym agrees.faults) device.faults in
+      let follows : Follow IsNext (standing_of 0 (script ++ Run ∷ [])) events replies
+      (standing_of (unanswered_of now) left) =
+      subst (λ k. Follow IsNext (standing_of k (script ++ Run ∷ [])) events replies
+      (standing_of (unanswered_of now) left)) device.idle run.of_script in
+      let within : Within later (all_failed start.info last.machine.in_service last.machine.sets) =
+      subst (λ i. Within later (all_failed i last.machine.in_service last.machine.sets)) device.info
+      (subst (λ ws. Within later (all_failed now.info ws last.machine.sets)) (sym agrees.agrees.in_service)
+      (device.within last.machine agrees.agrees)) in
+      record {
+        last = last;
+        earlier = earlier;
+        runs = runs;
+        fewer = fewer;
+        of_script = subst (λ k. Follow IsNext (standing_of 0 (script ++ Run ∷ [])) events replies
+            (let s : Standing = record { pending = k; left = left_now } in s)) (sym count) follows;
+        within = within;
+        all_answered = λ none.
+            none_unanswered last.machine (count ∙ ends_answered script events replies
+            (standing_of (unanswered_of now) left) follows none);
+        in_order = laws.order start.info (opened before) events replies last.machine decided refl refl plain;
+        ends_in_order = λ idle contents may_hold.
+            laws.ends start.info (opened before) events replies last.machine later contents decided refl refl plain
+            (none_to_change start.info later last.machine idle within) may_hold;
+        four_each = λ profile.
+            let all = laws.faults start.info first events replies last profile refl refl runs in
+            omega (arith, all, fewer);
+      }
+
+  pub is_served : {E : Type 0} (old new : Option (List ℕ)) (r : Result Bool E)
+      → ServesScript view start now (script ++ Run ∷ []) old new r
+      → IsServed made before later fell (script ++ Run ∷ []) None old new (outcome_of r)
+  is_served old new (Ok bad) served = record {
+    info = start.info;
+    of_card = device.of_card;
+    events = served.events;
+    replies = served.replies;
+    run = run_over_sectors [] served.events served.replies served.run;
+    text_behind = [];
+    traced = refl;
+    printed = subst (Appends old new) (sym (append-nil (texts served.events served.replies))) served.printed;
+    status_is = ap status_of served.bad_is;
+  }
+  is_served old new (Err e) served = record {
+    info = start.info;
+    of_card = device.of_card;
+    events = served.events;
+    replies = served.replies;
+    left = due_events (unanswered_of now) served.left;
+    run = run_over_sectors served.left served.events served.replies served.run;
+    text_behind = [];
+    traced = refl;
+    printed = front_before old new (texts served.events served.replies) [] served.printed;
+  }
+
+-- a device that was just opened, and the machine that may hold no less than its card
+agrees_wider : {B : Type 0} (view : B → BusView) (device : DeviceView B) (faults : ℕ) (in_profile : Bool) (sets : Sets)
+    → in_service_of device.service ≡ [] → Within (holds (view device.bus).card) sets
+    → AgreesCounted view device (opened_after faults in_profile (holds (view device.bus).card))
+    → AgreesCounted view device (opened_after faults in_profile sets)
+agrees_wider view device faults in_profile sets idle within agrees = record {
+  agrees = record {
+    waits = agrees.agrees.waits;
+    in_service = agrees.agrees.in_service;
+    next = agrees.agrees.next;
+    within = subst (λ ws. Within (holds (view device.bus).card) (all_failed device.info ws sets)) (sym idle) within;
+  };
+  faults = agrees.faults;
+  in_profile = agrees.in_profile;
+  fell = agrees.fell;
+  placed = agrees.placed;
+  own = agrees.own;
 }
 
 pub kept_at_end : {B : Type 0} (view : B → BusView) (last now : B) → last ≡ now → (view last).is_kept ≡ true
@@ -98,68 +196,39 @@ pub kept_at_end : {B : Type 0} (view : B → BusView) (last now : B) → last �
 kept_at_end view last now same kept = subst (λ b. (view b).is_kept ≡ true) same kept
 
 module _ {B : Type 0} (view : B → BusView) (start now : DeviceView B) (first last : B)
-    (info : (view start.bus).is_kept ≡ true → IsInfo (view first).card.made start.info) (ready : start.is_ready ≡ true)
-    (waits : start.waits ≡ []) (idle : start.in_service ≡ []) (next : start.next ≡ 0)
+    (info : (view start.bus).is_kept ≡ true → IsInfo (view first).card.made start.info)
+    (waits : start.waits ≡ []) (idle : in_service_of start.service ≡ [])
     (opens : (view start.bus).is_kept ≡ true → Stays (view first) (view start.bus) × Narrows (view first) (view start.bus))
+    (machine : (view start.bus).is_kept ≡ true → (c : Counted) → IsOpened (view start.bus) c → AgreesCounted view start c)
     (later : IsLaterDevice view start now) (ends : last ≡ now.bus)
-    (within : (m : Machine) → Agrees view now m → Within (holds (view last).card) m.sets)
+    (within : (m : Machine) → Agrees view now m
+    → Within (holds (view last).card) (all_failed now.info (in_service_of now.service) m.sets))
     (kept : (view last).is_kept ≡ true) where
-  kept_now : (view now.bus).is_kept ≡ true
-  kept_now = kept_at_end view last now.bus ends kept
-
   was_kept : (view start.bus).is_kept ≡ true
-  was_kept = later.kept kept_now
+  was_kept = later.kept (kept_at_end view last now.bus ends kept)
 
   -- a device that was opened on a bus, and served, and closed
   pub served_device : Served view start now (view first).card.made (holds (view first).card) (holds (view last).card)
       ((view last).faults - (view first).faults)
-  served_device = record {
-    of_card = info was_kept;
-    ready = ready;
-    agrees = agrees_wider view start (holds (view first).card) waits idle next (opens was_kept).1;
-    within = within;
-    fine = λ none.
-        let before = (opens was_kept).0.later in
-        let more = later.faults kept_now in
-        let at_last : (view last).faults ≡ (view now.bus).faults = ap (λ b. (view b).faults) ends in
-        later.ready kept_now ready (omega (arith, none, before, more, at_last));
-  }
-
-pub is_served : {B E : Type 0} (view : B → BusView) (start now : DeviceView B) (made : Made) (before later : Sets)
-    (fell : ℕ) (script : List ScriptEvent) (old new : Option (List ℕ)) (r : Result Bool E)
-    → OrderLaw → EndLaw → AreDecided before → Served view start now made before later fell
-    → ServesScript view start now script old new r
-    → IsServed made before later fell script None old new (outcome_of r)
-is_served view start now made before later fell script old new (Ok bad) order ends decided device serves =
-    let served = serves (opened before) (record { agrees = device.agrees; idle = refl }) in
-    record {
-      info = start.info;
-      of_card = device.of_card;
-      events = served.events;
-      replies = served.replies;
-      run = run_over_sectors start.info before later fell script [] served.events served.replies start.is_ready
-          now.is_ready served.last order ends decided (device.within served.last served.of_device.agrees) device.ready
-          device.fine served.run;
-      text_behind = [];
-      traced = refl;
-      printed = subst (Appends old new) (sym (append-nil (texts served.events served.replies))) served.printed;
-      status_is = ap status_of served.bad_is;
-    }
-is_served view start now made before later fell script old new (Err e) order ends decided device serves =
-    let served = serves (opened before) (record { agrees = device.agrees; idle = refl }) in
-    record {
-      info = start.info;
-      of_card = device.of_card;
-      events = served.events;
-      replies = served.replies;
-      left = due_events (unanswered served.last) served.left;
-      run = run_over_sectors start.info before later fell script served.left served.events served.replies
-          start.is_ready now.is_ready served.last order ends decided
-          (device.within served.last served.of_device.agrees) device.ready device.fine served.run;
-      text_behind = [];
-      traced = refl;
-      printed = front_before old new (texts served.events served.replies) [] served.printed;
-    }
+  served_device =
+      let (stays, narrows) = opens was_kept in record {
+        of_card = info was_kept;
+        idle = ap₂ (λ (ws vs : List Waiting). length ws + length vs) waits idle;
+        agrees = λ in_profile profile.
+            agrees_wider view start (view start.bus).faults in_profile (holds (view first).card) idle narrows
+            (machine was_kept (opened_after (view start.bus).faults in_profile (holds (view start.bus).card))
+            (record {
+              machine = refl;
+              faults = refl;
+              in_profile = λ is. subst InProfile (sym stays.carried.made) (profile is);
+            }));
+        info = later.info;
+        within = within;
+        faults =
+            let before = stays.later in
+            let at_last : (view last).faults ≡ (view now.bus).faults = ap (λ b. (view b).faults) ends in
+            omega (arith, before, at_last);
+      }
 
 pub unwritten : {E : Type 0} (old new : Option (List ℕ)) (r : Result Bool E)
     → IfErr (outcome_of r) (λ fault. IsUnwritten old new fault)

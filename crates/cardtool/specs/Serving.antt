@@ -1,17 +1,14 @@
 -- A script that is served on a device: the events of the machine behind it, what they print, and how requests fared.
-use Rattle.std.specs.Prelude.{◌≡◌, ℕ, ◌+◌, ◌-◌, ◌≤◌, ◌==◌, ◌&&◌, if◌then◌else◌, length, List, [], ◌∷◌, ◌++◌, Bool, true}
-use Rattle.std.specs.Prelude.{false, not, ◌||◌, Option, Result, Ok, Err, IfOk}
+use Rattle.std.specs.Prelude.{◌≡◌, ℕ, ◌+◌, ◌-◌, ◌==◌, if◌then◌else◌, length, List, [], ◌∷◌, ◌++◌, Bool, true}
+use Rattle.std.specs.Prelude.{false, ◌||◌, Option, Result, Ok, Err, IfOk}
 use Rattle.std.specs.Io.KnownBytes.{Appends}
 use Rattle.text_out.specs.Writing.{AppendsFront, Writes}
-use Rattle.mmc_card.specs.Faults.{NoFault}
 use Rattle.mmc_card.specs.BusView.{BusView}
 use Rattle.mmc_block.specs.declared.completion.Completion.{Completion}
-use Rattle.mmc_switch.specs.declared.info.Info.{Info}
 use Rattle.mmc_block.specs.Answers.{any_failed}
-use Rattle.mmc_block.specs.Device.{Agrees, DeviceView}
+use Rattle.mmc_block.specs.Device.{Comes, DeviceView, unanswered_of}
 use Rattle.mmc_block.specs.InOrder.{answers_in}
-use Rattle.mmc_block.specs.Machine.{Machine, Turns}
-use Rattle.mmc_block.specs.Run.{Event as MachineEvent, Follow, Reply, Runs, unanswered}
+use Rattle.mmc_block.specs.Run.{Counted, CountedRuns, CountedSteps, Event as MachineEvent, Follow, Reply}
 use Rattle.mmc_block.specs.Run.Event.{Submit as MachineSubmit, Turn as MachineTurn}
 use Rattle.mmc_block.specs.Run.Reply.{Accepted, Answers, GivenBack, RefusedFor}
 use Rattle.cardtool.specs.declared.event.ScriptEvent.{ScriptEvent}
@@ -83,11 +80,6 @@ texts _ _ = []
 abbrev pub has_failure : Reply → Bool
 has_failure reply = any_failed (answers_in reply)
 
--- so for some reply
-unfoldable pub any_failure : List Reply → Bool
-any_failure [] = false
-any_failure (r ∷ rs) = has_failure r || any_failure rs
-
 -- a request was refused, or failed
 unfoldable pub is_bad : Reply → Bool
 is_bad (RefusedFor why) = true
@@ -100,80 +92,39 @@ any_bad (r ∷ rs) = is_bad r || any_bad rs
 
 -- From device to device.
 
--- the machine is the device's, and nothing is in service, as between any two calls
-pub record IsIdleMachineOf {B : Type 0} (view : B → BusView) (device : DeviceView B) (machine : Machine) : Type 0 where
-  pub agrees : Agrees view device machine
-  pub idle : machine.in_service ≡ []
-
--- a machine of the device, with nothing in service, of which this holds
-pub record IdleMachineWith {B : Type 0} (view : B → BusView) (device : DeviceView B) (Property : Machine → Type 0)
-    : Type 0 where
-  pub machine : Machine
-  pub of_device : IsIdleMachineOf view device machine
-  pub property : Property machine
-
--- from each machine of the old device with nothing in service such a step leads to one of the new device
-abbrev pub IdleStep : {B : Type 0} → (B → BusView) → DeviceView B → (Machine → Machine → Type 0) → DeviceView B → Type 0
-IdleStep view old Step new = (m : Machine) → IsIdleMachineOf view old m → IdleMachineWith view new (Step m)
-
--- What a call of a device leaves: what is known of the card, a bus that was kept before where it is, with no fewer
--- faults, and, where no fault fell, a device that was ready as it was.
+-- What a call of a device leaves: what is known of the card, and a bus that was kept before where it is.
 pub record IsLaterDevice {B : Type 0} (view : B → BusView) (old new : DeviceView B) : Type 0 where
   pub info : new.info ≡ old.info
   pub kept : (view new.bus).is_kept ≡ true → (view old.bus).is_kept ≡ true
-  pub faults : (view new.bus).is_kept ≡ true → (view old.bus).faults ≤ (view new.bus).faults
-  pub ready : (view new.bus).is_kept ≡ true → old.is_ready ≡ true → NoFault (view old.bus) (view new.bus)
-      → new.is_ready ≡ true
 
--- the device is ready as long as no request has failed
-abbrev pub IsReadyAfter : Bool → Bool → Bool → Type 0
-IsReadyAfter was failed is = is ≡ (was && not failed)
-
--- A run of the machine by these events and replies, which are the script's up to what is left. The device was ready
--- before or not, and is then or not.
-pub record RunsScript (info : Info) (was_ready is_ready : Bool) (old new : Machine) (script left : List ScriptEvent)
+-- Events with their replies from one device to another: they are the script's up to what is left, and a run of the machine
+-- with own faults.
+pub record RunsScript {B : Type 0} (view : B → BusView) (old new : DeviceView B) (script left : List ScriptEvent)
     (events : List MachineEvent) (replies : List Reply) : Type 0 where
-  pub runs : Runs info old events replies new
-  pub of_script : Follow IsNext (standing_of (unanswered old) script) events replies (standing_of (unanswered new) left)
-  pub ready : IsReadyAfter was_ready (any_failure replies) is_ready
+  pub of_script : Follow IsNext (standing_of (unanswered_of old) script) events replies
+      (standing_of (unanswered_of new) left)
+  pub runs : Comes view old (λ (c n : Counted). CountedRuns old.info c events replies n) new
 
--- A run of a script from this machine to one of the new device, up to what is left. Its lines went out, and `bad` says
--- whether some request was refused or failed.
-pub record PrintedRun {B : Type 0} (view : B → BusView) (old_device new_device : DeviceView B)
+-- The script was served up to what is left. Its lines went out, and `bad` says whether some request was refused or failed.
+pub record ServesUpTo {B : Type 0} (view : B → BusView) (old_device new_device : DeviceView B)
     (script left : List ScriptEvent)
-    (old new : Option (List ℕ)) (bad : Bool) (first : Machine) : Type 0 where
+    (old new : Option (List ℕ)) (bad : Bool) : Type 0 where
   pub events : List MachineEvent
   pub replies : List Reply
-  pub last : Machine
-  pub of_device : IsIdleMachineOf view new_device last
-  pub run : RunsScript old_device.info old_device.is_ready new_device.is_ready first last script left events replies
+  pub run : RunsScript view old_device new_device script left events replies
   pub printed : Appends old new (texts events replies)
   pub bad_is : bad ≡ any_bad replies
 
--- A run of a prefix of a script, in which the writer failed: a prefix of its lines went out.
-pub record BrokenRun {B : Type 0} (view : B → BusView) (old_device new_device : DeviceView B)
+-- A prefix of the script was served, and then the writer failed: a prefix of its lines went out.
+pub record ServesPrefix {B : Type 0} (view : B → BusView) (old_device new_device : DeviceView B)
     (script : List ScriptEvent)
-    (old new : Option (List ℕ)) (first : Machine) : Type 0 where
+    (old new : Option (List ℕ)) : Type 0 where
   pub events : List MachineEvent
   pub replies : List Reply
-  pub last : Machine
   -- what of the script wasn't served
   pub left : List ScriptEvent
-  pub of_device : IsIdleMachineOf view new_device last
-  pub run : RunsScript old_device.info old_device.is_ready new_device.is_ready first last script left events replies
+  pub run : RunsScript view old_device new_device script left events replies
   pub printed : AppendsFront old new (texts events replies)
-
--- the script was served up to what is left, whichever machine of the old device it began with
-abbrev pub ServesUpTo : {B : Type 0} → (B → BusView) → DeviceView B → DeviceView B → List ScriptEvent → List ScriptEvent
-    → Option (List ℕ) → Option (List ℕ) → Bool → Type 0
-ServesUpTo view old_device new_device script left old new bad =
-    (m : Machine) → IsIdleMachineOf view old_device m → PrintedRun view old_device new_device script left old new bad m
-
--- a prefix of the script was served so, and then the writer failed
-abbrev pub ServesPrefix : {B : Type 0} → (B → BusView) → DeviceView B → DeviceView B → List ScriptEvent
-    → Option (List ℕ) → Option (List ℕ) → Type 0
-ServesPrefix view old_device new_device script old new =
-    (m : Machine) → IsIdleMachineOf view old_device m → BrokenRun view old_device new_device script old new m
 
 -- the whole script was served and its lines went out, or the writer failed
 abbrev pub ServesScript : {B E : Type 0} → (B → BusView) → DeviceView B → DeviceView B → List ScriptEvent
@@ -203,7 +154,8 @@ print_result (Err e) = Err e
 pub record TurnsAndPrints {B E : Type 0} (view : B → BusView) (old_device new_device : DeviceView B)
     (old new : Option (List ℕ)) (result : Result Bool E) : Type 0 where
   pub completions : List Completion
-  pub turns : IdleStep view old_device (λ (m n : Machine). Turns old_device.info m completions n) new_device
+  pub turns : Comes view old_device
+      (λ (c n : Counted). CountedSteps old_device.info c MachineTurn (Answers completions) n) new_device
+  pub leaves : unanswered_of new_device + length completions ≡ unanswered_of old_device
   pub printed : Writes old new (print_result result) (completions_text completions)
   pub bad_is : IfOk result (λ bad. bad ≡ any_failed completions)
-  pub ready : IsReadyAfter old_device.is_ready (any_failed completions) new_device.is_ready

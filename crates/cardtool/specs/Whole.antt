@@ -1,5 +1,5 @@
 -- The whole: a script that is served, the text of its answers, the trace behind it, and the status.
-use Rattle.std.specs.Prelude.{◌≡◌, ◌-◌, ◌≤◌, ℕ, List, [], ◌∷◌, ◌++◌, codes, length, Bool, false, true, Option}
+use Rattle.std.specs.Prelude.{◌≡◌, ◌+◌, ◌-◌, ◌*◌, ◌≤◌, ℕ, List, [], ◌∷◌, ◌++◌, codes, length, Bool, true, Option}
 use Rattle.std.specs.Prelude.{None, Some, Result, Ok, Err, if◌then◌else◌, ⊤}
 use Rattle.std.specs.Fmt.{decimal}
 use Rattle.std.specs.List.{All}
@@ -22,18 +22,19 @@ use Rattle.mmc_card_sim.specs.declared.spec.BuildFault.TheVariants as Refused
 use Rattle.mmc_card_sim.specs.declared.spec.CardSpec.{CardSpec}
 use Rattle.mmc_switch.specs.Info.{IsInfo}
 use Rattle.mmc_switch.specs.declared.info.Info.{Info}
+use Rattle.mmc_block.specs.Answers.{failures}
 use Rattle.mmc_block.specs.Device.{opened}
-use Rattle.mmc_block.specs.InOrder.{AreDecided, EndsInOrder, IsInOrder, MayHold, history}
-use Rattle.mmc_block.specs.Machine.{Machine}
+use Rattle.mmc_block.specs.InOrder.{AreDecided, EndsInOrder, IsInOrder, MayHold, answers, history}
+use Rattle.mmc_block.specs.Machine.{all_failed}
 use Rattle.mmc_block.specs.declared.open_fault.OpenFault.{OpenFault}
 use Rattle.mmc_block.specs.declared.open_fault.OpenFault.TheVariants as Unopened
-use Rattle.mmc_block.specs.Run.{Event as MachineEvent, Reply, Runs}
+use Rattle.mmc_block.specs.Run.{Counted, CountedRuns, Event as MachineEvent, Reply, unanswered}
 use Rattle.cardtool.specs.declared.event.ScriptEvent.{ScriptEvent}
 use Rattle.cardtool.specs.declared.event.ScriptEvent.TheVariants.{Run}
 use Rattle.cardtool.specs.declared.fault.ServeFault.{ServeFault}
 use Rattle.cardtool.specs.declared.fault.ServeFault.TheVariants.{ImageSize, Locked, NoCard, NoMemory, Register}
 use Rattle.cardtool.specs.declared.fault.ServeFault.TheVariants.{Unsupported, Voltage, Write}
-use Rattle.cardtool.specs.Serving.{FollowScript, any_bad, any_failure, texts}
+use Rattle.cardtool.specs.Serving.{FollowScript, any_bad, texts}
 
 -- 1 where some request was refused or failed
 abbrev pub status_of : Bool → ℕ
@@ -84,23 +85,44 @@ IsTraceBehind None left text = text ≡ []
 IsTraceBehind (Some n) (event ∷ left) text = text ≡ []
 IsTraceBehind (Some n) [] text = IsTrace n text
 
+-- the machine that is opened on these sectors, after so many faults; none of them is a request's own
+abbrev pub opened_after : ℕ → Bool → Sets → Counted
+opened_after faults in_profile sets = record {
+  machine = opened sets;
+  in_profile = in_profile;
+  faults = faults;
+  own_faults = λ ticket. 0;
+}
+
 -- A run by these events and replies, which are the script's up to what is left, over sectors that held `before` and
 -- then `later`, while so many faults fell.
-pub record RunOverSectors (info : Info) (before later : Sets) (fell : ℕ) (script left : List ScriptEvent)
+pub record RunOverSectors (info : Info) (in_profile : Bool) (before later : Sets) (fell : ℕ)
+    (script left : List ScriptEvent)
     (events : List MachineEvent) (replies : List Reply) : Type 0 where
-  pub last : Machine
-  -- how many requests have no answer then
-  pub pending : ℕ
-  -- a run of the machine that is opened on the first sectors; it allows what the sectors hold then
-  pub runs : Runs info (opened before) events replies last
-  pub of_script : FollowScript script events replies (record { pending = pending; left = left })
-  pub within : Within later last.sets
-  -- the answers are in order, and what the sectors hold then
+  pub last : Counted
+  -- the faults before the first event
+  pub earlier : ℕ
+  -- a run of the machine that is opened on the first sectors, in which no more faults fell
+  pub runs : CountedRuns info (opened_after earlier in_profile before) events replies last
+  pub fewer : last.faults ≤ earlier + fell
+  pub of_script : FollowScript script events replies (record { pending = unanswered last.machine; left = left })
+  -- it allows what the sectors hold then; of one in service each is old or new
+  pub within : Within later (all_failed info last.machine.in_service last.machine.sets)
+  -- where nothing is left each request has its answer
+  pub all_answered : left ≡ [] → (last.machine.waits ≡ []) × (last.machine.in_service ≡ [])
+  -- the answers are in order, and so, while nothing is in service, is what the sectors hold then
   pub in_order : IsInOrder (history info before events replies)
-  pub ends_in_order : (contents : Part → ℕ → Sector) → MayHold later contents
-      → EndsInOrder (history info before events replies) later last.next contents
-  -- without a fault no request failed
-  pub none_failed : fell ≡ 0 → any_failure replies ≡ false
+  pub ends_in_order : last.machine.in_service ≡ [] → (contents : Part → ℕ → Sector) → MayHold later contents
+      → EndsInOrder (history info before events replies) later last.machine.next contents
+  -- in profile each failure takes four faults
+  pub four_each : in_profile ≡ true → 4 * failures (answers replies) ≤ fell
+
+-- So for a card that is taken to be in profile, where it is, and for one of which that isn't said.
+abbrev pub RunsInAnyProfile : Made → Info → Sets → Sets → ℕ → List ScriptEvent → List ScriptEvent → List MachineEvent
+    → List Reply → Type 0
+RunsInAnyProfile made info before later fell script left events replies =
+    (in_profile : Bool) → (in_profile ≡ true → InProfile made)
+    → RunOverSectors info in_profile before later fell script left events replies
 
 -- The script was served and its text went out, with the trace behind it, and the status tells how its requests fared.
 pub record IsServedToItsEnd (made : Made) (before later : Sets) (fell : ℕ) (script : List ScriptEvent)
@@ -110,7 +132,7 @@ pub record IsServedToItsEnd (made : Made) (before later : Sets) (fell : ℕ) (sc
   pub of_card : IsInfo made info
   pub events : List MachineEvent
   pub replies : List Reply
-  pub run : RunOverSectors info before later fell script [] events replies
+  pub run : RunsInAnyProfile made info before later fell script [] events replies
   -- what was printed behind the answers
   pub text_behind : List ℕ
   pub traced : IsTraceBehind trace [] text_behind
@@ -126,7 +148,7 @@ pub record IsServedInPart (made : Made) (before later : Sets) (fell : ℕ) (scri
   pub replies : List Reply
   -- what of the script wasn't served
   pub left : List ScriptEvent
-  pub run : RunOverSectors info before later fell script left events replies
+  pub run : RunsInAnyProfile made info before later fell script left events replies
   -- what is printed behind the answers
   pub text_behind : List ℕ
   pub traced : IsTraceBehind trace left text_behind
@@ -154,7 +176,7 @@ IsServed made before later fell script trace old new (Err Locked) = IsUnopened m
 IsServed made before later fell script trace old new (Err fault) = ⊥
 
 -- So over a bus that is kept to the end, if the sectors of its card were decided. At the script's end turns are taken
--- until nothing waits.
+-- until each request has its answer.
 abbrev pub IsServedOver : BusView → BusView → List ScriptEvent → Option ℕ → Option (List ℕ) → Option (List ℕ)
     → Result ℕ ServeFault → Type 0
 IsServedOver before later script trace old new result =

@@ -1,5 +1,6 @@
 // Plays the events of a script on a device, and prints what becomes of them.
-ghost use Rattle.std.specs.Prelude.{◌<◌, ◌≡◌, ◌++◌, ◌∷◌, [], length, true};
+ghost use Rattle.std.specs.Prelude.{◌<◌, ◌≡◌, ◌++◌, ◌∷◌, [], true};
+ghost use Rattle.mmc_block.specs.Device.{work_of};
 ghost use Rattle.cardtool.specs.declared.event.ScriptEvent.TheVariants.{Run, Submit};
 ghost use Rattle.cardtool.specs.Serving.{IsLaterDevice, Plays, TurnsAndPrints, answer_if_printed};
 
@@ -27,19 +28,19 @@ fn turn<B: Bus, W: Write>(device: &mut BlockDev<B>, out: &mut W) -> io::Result<b
     ensures turns { (B.view device.new.bus).is_kept ≡ true
         → TurnsAndPrints B.view device.old device.new (W.contents out.old) (W.contents out.new) result }
     ensures later_device { IsLaterDevice B.view device.old device.new }
-    ensures falls { 0 < length device.old.waits → length device.new.waits < length device.old.waits }
+    ensures falls { 0 < work_of device.old → work_of device.new < work_of device.old }
 {
     let completions = device.turn();
     let printed = put_completions(out, completions.as_slice());
     answer(printed, has_failure(completions.as_slice()))
 }
 
-// Turns until nothing waits.
+// Turns until no request is without an answer.
 fn run<B: Bus, W: Write>(device: &mut BlockDev<B>, out: &mut W) -> io::Result<bool>
     ensures { Plays B.view device.old device.new (Run ∷ []) (W.contents out.old) (W.contents out.new) result }
 {
     let mut bad = false;
-    while device.waiting() > 0 {
+    while device.work_left() > 0 {
         bad = turn(device, out)? | bad;
     }
     Ok(bad)
@@ -83,8 +84,8 @@ fn play_event<B: Bus, W: Write>(
     }
 }
 
-/// Plays all events of a script, and then takes turns until nothing waits. The answer says whether some request failed or
-/// was refused.
+/// Plays all events of a script, and then takes turns until no request is without an answer. The answer says whether some
+/// request failed or was refused.
 pub fn play<B: Bus, W: Write>(
     alloc: Global,
     device: &mut BlockDev<B>,

@@ -12,7 +12,10 @@ use crate::new_card::built;
 use crate::play::play;
 use crate::script::Script;
 use crate::trace::{end_with_trace, traced};
-use mmc_block::laws::{a_card_at_rest_is_decided, answers_are_in_order, contents_are_in_order};
+use mmc_block::laws::{
+    a_card_at_rest_is_decided, a_counted_run_is_a_run, a_failure_takes_four_faults, answers_are_in_order,
+    contents_are_in_order,
+};
 use mmc_block::{BlockDev, OpenFault};
 use mmc_bus::Bus;
 use mmc_card_sim::{CardSpec, Fault};
@@ -58,6 +61,8 @@ fn serve_untraced<B: Bus + Drop, W: Write>(
     ensures served { IsServedOver (B.view bus) (B.view result.0) script None (W.contents out.old) (W.contents out.new) result.1 }
     ensures unwritten { IfErr result.1 (λ fault. IsUnwritten (W.contents out.old) (W.contents out.new) fault) }
 {
+    a_counted_run_is_a_run();
+    a_failure_takes_four_faults();
     answers_are_in_order();
     contents_are_in_order();
     let mut device = match BlockDev::open(alloc, bus) {
@@ -91,9 +96,9 @@ fn serve_traced<B: Bus + Drop, W: Write>(
     (bus.into_inner(), ended)
 }
 
-/// Opens the card of a bus, serves a script on it, and takes turns until nothing waits, with a line for each answer. With
-/// `trace`, from 1 to 65,536, the last so many exchanges follow. The bus is handed back with the exit status: 0 where
-/// every request was answered `Done` or `Data`, 1 where some request failed or was refused.
+/// Opens the card of a bus, serves a script on it, and takes turns until each request has its answer, with a line for each
+/// answer. With `trace`, from 1 to 65,536, the last so many exchanges follow. The bus is handed back with the exit status:
+/// 0 where every request was answered `Done` or `Data`, 1 where some request failed or was refused.
 ///
 /// # Errors
 /// `NoMemory` where the trace or the device can't be made, and each refusal of `BlockDev::open`; nothing was written

@@ -1,5 +1,5 @@
 -- Rounds of opening a card.
-use Rattle.std.proofs.Common.{◌+◌, ◌<◌, ◌≤◌, arith, refl, subst, sym}
+use Rattle.std.proofs.Common.{◌+◌, ◌<◌, ◌≡◌, ◌≤◌, [], ap, arith, refl, subst, sym}
 use Rattle.std.specs.Prelude.{Err, IfOk, IsErr, IsOk, Ok, Result}
 use Rattle.mmc_card.specs.BusView.{BusView}
 use Rattle.mmc_card.specs.Profile.{InProfile}
@@ -8,6 +8,13 @@ use Rattle.mmc_bus.specs.Learned.{Stays}
 use Rattle.mmc_bus.specs.Work.{Moved, Narrows}
 use Rattle.mmc_switch.specs.Place.{IsReady}
 use Rattle.mmc_switch.specs.declared.session.Session.{Session}
+use Rattle.mmc_switch.specs.declared.info.Info.{Info}
+use Rattle.mmc_card.specs.Card.{holds}
+use Rattle.mmc_block.specs.Device.{AgreesCounted, IsOpened, opened}
+use Rattle.mmc_block.specs.Machine.{Machine}
+use Rattle.mmc_block.specs.Run.{Counted}
+use Rattle.mmc_block.specs.declared.service.Link.TheVariants.{Up}
+use Rattle.mmc_block.specs.declared.service.Service.TheVariants.{Idle}
 use Rattle.mmc_block.specs.declared.open_fault.OpenFault.{OpenFault}
 
 -- what some rounds do
@@ -36,7 +43,8 @@ fell_in (Ok session) a b err p profile = cc err
 fell_in (Err fault) a b err p profile = fell a b p.stays (λ same. cc (p.fine same profile))
 
 pub fell_in_three : (first second third : Result Session OpenFault) (a b c d : BusView) → IsErr first → IsErr second
-    → IsErr third → Opens first a b → Opens second b c → Opens third c d → InProfile a.card.made → a.faults + 3 ≤ d.faults
+    → IsErr third → Opens first a b → Opens second b c → Opens third c d → InProfile a.card.made
+    → a.faults + 3 ≤ d.faults
 fell_in_three first second third a b c d one two three p q r profile =
     let then_b = profile_then first a b p profile in
     let in_first = fell_in first a b one p profile in
@@ -54,3 +62,23 @@ stays_as_is a = (
   record { carried = record { made = refl; sizes = λ part. refl }; later = omega arith },
   λ part sector value h. h,
 )
+
+-- A device of which nothing waits agrees with a machine of its own.
+pub opens_agreed : {B : Type 0} (view : B → BusView) (bus : B) (info : Info) (session : Session) (c : Counted)
+    → IsReady session (view bus) → IsOpened (view bus) c
+    → AgreesCounted view (record { bus = bus; info = info; service = Idle (Up session); waits = []; next = 0 }) c
+opens_agreed view bus info session c ready new =
+    let is : c.machine ≡ opened (holds (view bus).card) = new.machine in
+    record {
+      agrees = record {
+        waits = ap (λ (m : Machine). m.waits) is;
+        in_service = ap (λ (m : Machine). m.in_service) is;
+        next = ap (λ (m : Machine). m.next) is;
+        within = rw is (λ part sector value may. may);
+      };
+      faults = new.faults;
+      in_profile = new.in_profile;
+      fell = 0;
+      placed = ready;
+      own = λ profile. tt;
+    }

@@ -35,7 +35,7 @@ counted_turn : (info : Info) (old : Counted) (completions : List Completion) (ne
     → Turns info old.machine completions new.machine
 counted_turn info old completions new t = record { started = t.started; start = t.start; answers = t.answers }
 
-counted_step : (info : Info) (old : Counted) (event : Event) (reply : Reply) (new : Counted)
+pub counted_step : (info : Info) (old : Counted) (event : Event) (reply : Reply) (new : Counted)
     → CountedSteps info old event reply new
     → Steps info old.machine event reply new.machine
 counted_step info old (Submit client request) (Accepted ticket) new h = h.0

@@ -256,7 +256,7 @@ nothing_noted accepted ended event reply old new none_accepted none_ended same b
   book = rw (none_accepted, none_ended) (subst (BookOf accepted ended) (sym same) b);
 }
 
-event_noted : (accepted ended : List ℕ) (info : Info) (old : Machine) (event : Event) (reply : Reply) (new : Machine)
+pub event_noted : (accepted ended : List ℕ) (info : Info) (old : Machine) (event : Event) (reply : Reply) (new : Machine)
     → BookOf accepted ended old → Steps info old event reply new → Noted accepted ended event reply new
 event_noted accepted ended info old (Submit client request) (Accepted ticket) new b h =
     let q = accepted_book accepted ended old client request ticket new h.1 b in
@@ -288,7 +288,7 @@ events_once accepted ended info old (e ∷ es) (r ∷ rs) new b (mid, first, res
     )
 events_once accepted ended info old _ _ new b run = absurd run
 
-empty_book : (old : Machine) → old.waits ≡ [] → old.in_service ≡ [] → BookOf [] [] old
+pub empty_book : (old : Machine) → old.waits ≡ [] → old.in_service ≡ [] → BookOf [] [] old
 empty_book old no_waits no_serves =
     let none : (t : ℕ) → held old t ≡ 0 = λ t. rw (no_waits, no_serves) refl in
     record {

@@ -1,5 +1,5 @@
 -- A run of the sector machine: events with their replies, one behind the other.
-use Rattle.std.specs.Prelude.{◌+◌, ◌==◌, ◌∷◌, ◌≡◌, ◌≤◌, List, None, Option, Some, [], if◌then◌else◌, length, ℕ}
+use Rattle.std.specs.Prelude.{◌+◌, ◌==◌, ◌∷◌, ◌≡◌, ◌≤◌, Bool, List, None, Option, Some, [], if◌then◌else◌, length, true, ℕ}
 use Rattle.mmc_block.specs.declared.completion.Answer.{Answer}
 use Rattle.mmc_block.specs.declared.completion.Answer.TheVariants.{Data, Done, Failed}
 use Rattle.mmc_block.specs.declared.completion.Completion.{Completion}
@@ -60,9 +60,10 @@ Runs info old events replies new = Follow (Steps info) old events replies new
 
 -- Own faults.
 
--- A machine, the faults that have fallen, and to each ticket how many of them are its own.
+-- A machine, whether its card is in profile, the faults that have fallen, and to each ticket how many of them are its own.
 pub record Counted : Type 0 where
   pub machine : Machine
+  pub in_profile : Bool
   pub faults : ℕ
   pub own_faults : ℕ → ℕ
 
@@ -85,7 +86,8 @@ abbrev pub AllHaveFour : (ℕ → ℕ) → List Completion → Type 0
 AllHaveFour own [] = Unit {0}
 AllHaveFour own (c ∷ cs) = HasFour (own c.ticket) c.answer × AllHaveFour own cs
 
--- A turn in which so many faults fell: they count for at most one request, which is in service.
+-- A turn in which so many faults fell: they count for at most one request, which is in service. Of a card in profile a
+-- request fails only with four faults of its own.
 pub record CountedTurn (info : Info) (old : Counted) (completions : List Completion) (new : Counted) : Type 0 where
   pub started : Machine
   pub start : StartsIfIdle old.machine started
@@ -95,7 +97,7 @@ pub record CountedTurn (info : Info) (old : Counted) (completions : List Complet
   pub whose : Option ℕ
   pub in_service : IsNoneOrTicketOf whose started.in_service
   pub counts : (ticket : ℕ) → new.own_faults ticket ≡ own_after fell whose old.own_faults ticket
-  pub four : AllHaveFour new.own_faults completions
+  pub four : old.in_profile ≡ true → AllHaveFour new.own_faults completions
 
 -- Outside a turn no fault falls, and who is accepted has none of its own.
 abbrev pub AreCounted : Event → Reply → Counted → Counted → Type 0
@@ -109,7 +111,7 @@ abbrev pub CountedSteps : Info → Counted → Event → Reply → Counted → T
 CountedSteps info old event reply new =
     Happens info old.machine (λ (completions : List Completion). CountedTurn info old completions new) event reply
     new.machine
-    × AreCounted event reply old new
+    × AreCounted event reply old new × (new.in_profile ≡ old.in_profile)
 
 -- A run with own faults.
 abbrev pub CountedRuns : Info → Counted → List Event → List Reply → Counted → Type 0

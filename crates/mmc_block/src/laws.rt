@@ -1,20 +1,29 @@
 //! Laws about the sector machine. Each function does nothing; its contract is the law, which a caller then knows.
-ghost use Rattle.std.specs.Prelude.{◌≡◌, ◌↔◌, ◌⊎◌, List, [], false, true, ℕ};
+ghost use Rattle.std.specs.Prelude.{◌*◌, ◌+◌, ◌≡◌, ◌≤◌, ◌↔◌, ◌⊎◌, List, [], false, true, ℕ};
 ghost use Rattle.mmc_card.specs.declared.part.Part.{Part};
 ghost use Rattle.mmc_card.specs.Card.{Card, holds};
 ghost use Rattle.mmc_card.specs.Sectors.{IsDecided, Sector, Sets, Within, touches};
 ghost use Rattle.mmc_block.specs.declared.completion.Completion.{Completion};
 ghost use Rattle.mmc_switch.specs.declared.info.Info.{Info};
 ghost use Rattle.mmc_queue.specs.declared.request.Request.{Request};
-ghost use Rattle.mmc_block.specs.Answers.{is_failed};
+ghost use Rattle.mmc_block.specs.Answers.{any_failed, failures, is_failed};
 ghost use Rattle.mmc_block.specs.Machine.{Completes, Decides, Machine, Turns};
 ghost use Rattle.mmc_block.specs.MachineLaws.{EachOnce, KeepsValues};
 ghost use Rattle.mmc_block.specs.Changes.{change_of};
+ghost use Rattle.mmc_queue.specs.Group.{IsJoined};
+ghost use Rattle.mmc_queue.specs.declared.group.Group.{Group};
+ghost use Rattle.mmc_block.specs.Entries.{waits_of};
+ghost use Rattle.mmc_block.specs.Groups.{IsChangeOf};
+ghost use Rattle.mmc_block.specs.Service.{change_of_group};
 ghost use Rattle.mmc_queue.specs.Requests.{ShareSector, conflicts, is_read};
 ghost use Rattle.mmc_block.specs.Run.{Counted, CountedRuns, Event, Reply, Runs};
-ghost use Rattle.mmc_block.specs.InOrder.{AreDecided, EndsInOrder, IsInOrder, MayHold, history};
+ghost use Rattle.mmc_block.specs.InOrder.{AreDecided, EndsInOrder, IsInOrder, MayHold, answers, history};
 
 use mmc_bus::card_laws;
+use mmc_queue::laws::{
+    a_group_is_a_run_of_sectors, a_group_lends_each_sector_of_its_run,
+    a_group_lends_the_blocks_of_its_members,
+};
 pub use mmc_queue::laws::{a_conflict_is_a_common_sector, conflict_is_symmetric};
 
 /// A sector that has a value never loses its last one, neither by an answer nor by a turn.
@@ -44,6 +53,17 @@ pub fn a_counted_run_is_a_run()
         → CountedRuns info old events replies new → Runs info old.machine events replies new.machine }
 {}
 
+/// In a run of a card in profile, from a machine in which no request waits or is in service, each failure takes four
+/// faults of its own. So where fewer than four faults fall no answer is a failure.
+pub fn a_failure_takes_four_faults()
+    ensures each { (info : Info) (old : Counted) (events : List Event) (replies : List Reply) (new : Counted)
+        → old.in_profile ≡ true → old.machine.waits ≡ [] → old.machine.in_service ≡ [] → CountedRuns info old events replies new
+        → old.faults + 4 * failures (answers replies) ≤ new.faults }
+    ensures any { (info : Info) (old : Counted) (events : List Event) (replies : List Reply) (new : Counted)
+        → old.in_profile ≡ true → old.machine.waits ≡ [] → old.machine.in_service ≡ [] → CountedRuns info old events replies new
+        → any_failed (answers replies) ≡ true → old.faults + 4 ≤ new.faults }
+{}
+
 /// In a run from a machine whose sectors are decided, and in which no request waits or is in service, each answer with data
 /// gives for each sector its ordered value below the request's ticket: what the earlier requests leave in it in order of
 /// submission, whichever order the machine completed them in, where of each failed write each sector is old or new.
@@ -65,4 +85,15 @@ pub fn a_card_at_rest_is_decided()
     ensures { (card : Card) → card.values ≡ [] → AreDecided (holds card) }
 {
     card_laws::a_card_at_rest_holds_what_it_stores();
+}
+
+/// The change that the run of a group makes is that of its requests together: it changes just the sectors that one of them does,
+/// and gives each of them the same value.
+pub fn a_group_changes_what_its_members_do()
+    ensures { (info : Info) (group : Group) → IsJoined group.members.items group.run
+        → IsChangeOf info (waits_of group.members.items) (change_of_group info group) }
+{
+    a_group_is_a_run_of_sectors();
+    a_group_lends_each_sector_of_its_run();
+    a_group_lends_the_blocks_of_its_members();
 }

@@ -9,7 +9,7 @@ use thiserror::Error;
 /// Why a card isn't opened. After three rounds it is told by the last one.
 #[derive(Clone, Copy, Debug, PartialEq, Eq, Error)]
 pub enum OpenFault {
-    /// Memory for the requests was refused, before any exchange.
+    /// Memory was refused, before any exchange. Opening takes none today.
     #[error("no memory")]
     NoMemory,
     /// No card answered, or it didn't answer soundly.

@@ -28,37 +28,31 @@ asked_as {old} {argument} {heard} {new} same asked = subst (AskedOf old argument
 
 -- Naming a sector erases none, and belongs to a run, whatever kind the card is of.
 
-first_means : (host card : Kind) (app : Bool) (c : Card) (argument : ℕ)
-    → (erased_by_command (command_of card app (first_index host)) c argument ≡ None)
-    × (is_of_run (command_of card app (first_index host)) ≡ true)
-first_means Sd Sd app c argument = (refl, refl)
-first_means Sd Mmc app c argument = (refl, refl)
-first_means Mmc Sd app c argument = (refl, refl)
-first_means Mmc Mmc app c argument = (refl, refl)
+abbrev pub NamesOnly : (Kind → ℕ) → Type 0
+NamesOnly index =
+    (host card : Kind) (app : Bool) (c : Card) (argument : ℕ)
+    → (erased_by_command (command_of card app (index host)) c argument ≡ None)
+    × (is_of_run (command_of card app (index host)) ≡ true)
 
-pub first_erases_nothing : (host : Kind) (card : Card) (argument : ℕ)
-    → erased_by card (Some (first_index host, argument)) ≡ None
-first_erases_nothing host card argument = (first_means host card.made.kind card.app card argument).0
+pub first_names_only : NamesOnly first_index
+first_names_only Sd Sd app c argument = (refl, refl)
+first_names_only Sd Mmc app c argument = (refl, refl)
+first_names_only Mmc Sd app c argument = (refl, refl)
+first_names_only Mmc Mmc app c argument = (refl, refl)
 
-pub first_is_of_a_run : (host : Kind) (card : Card) (argument : ℕ)
-    → is_frame_of_run card (Some (first_index host, argument)) ≡ true
-first_is_of_a_run host card argument = (first_means host card.made.kind card.app card argument).1
+pub last_names_only : NamesOnly last_index
+last_names_only Sd Sd app c argument = (refl, refl)
+last_names_only Sd Mmc app c argument = (refl, refl)
+last_names_only Mmc Sd app c argument = (refl, refl)
+last_names_only Mmc Mmc app c argument = (refl, refl)
 
-last_means : (host card : Kind) (app : Bool) (c : Card) (argument : ℕ)
-    → (erased_by_command (command_of card app (last_index host)) c argument ≡ None)
-    × (is_of_run (command_of card app (last_index host)) ≡ true)
-last_means Sd Sd app c argument = (refl, refl)
-last_means Sd Mmc app c argument = (refl, refl)
-last_means Mmc Sd app c argument = (refl, refl)
-last_means Mmc Mmc app c argument = (refl, refl)
+pub erases_nothing : (index : Kind → ℕ) → NamesOnly index → (host : Kind) (card : Card) (argument : ℕ)
+    → erased_by card (Some (index host, argument)) ≡ None
+erases_nothing index names host card argument = (names host card.made.kind card.app card argument).0
 
-pub last_erases_nothing : (host : Kind) (card : Card) (argument : ℕ)
-    → erased_by card (Some (last_index host, argument)) ≡ None
-last_erases_nothing host card argument = (last_means host card.made.kind card.app card argument).0
-
-pub last_is_of_a_run : (host : Kind) (card : Card) (argument : ℕ)
-    → is_frame_of_run card (Some (last_index host, argument)) ≡ true
-last_is_of_a_run host card argument = (last_means host card.made.kind card.app card argument).1
+pub is_of_a_run : (index : Kind → ℕ) → NamesOnly index → (host : Kind) (card : Card) (argument : ℕ)
+    → is_frame_of_run card (Some (index host, argument)) ≡ true
+is_of_a_run index names host card argument = (names host card.made.kind card.app card argument).1
 
 -- What each tells, by the kind.
 

@@ -1,10 +1,10 @@
 // Runs a turn at a time: each turn is one exchange.
-ghost use Rattle.std.specs.Prelude.{◌≡◌, ◌+◌, ◌≤◌, IfOk, IsSome, IsTrue, false, true, ℕ};
+ghost use Rattle.std.specs.Prelude.{◌≡◌, ◌+◌, ◌<◌, ◌≤◌, IfOk, IsSome, IsTrue, false, true, ℕ};
 ghost use Rattle.mmc_card.specs.BusView.{BusView};
 ghost use Rattle.mmc_card.specs.RowsErase.{is_boot};
 ghost use Rattle.mmc_switch.specs.Place.{IsReady};
 ghost use Rattle.mmc_switch.specs.UnderWay.{FailsBy, part_of, room_of};
-ghost use Rattle.mmc_erase.specs.Fits.{some_fits};
+ghost use Rattle.mmc_erase.specs.Fits.{phase_fits, phase_left, some_fits};
 ghost use Rattle.mmc_erase.specs.Job.{suits};
 ghost use Rattle.mmc_erase.specs.Run.{HasProgressed, HasTurned, IsRunning, IsSameRun, Lowers, exchanges_left};
 
@@ -13,7 +13,7 @@ use crate::job::Job;
 use crate::phase::Phase;
 use crate::run::EraseRun;
 use crate::steps::step;
-use mmc_bus::{Bus, Cause};
+use mmc_bus::{Bus, Cause, MAX_POLLS};
 use mmc_switch::{Progress, Session};
 
 impl EraseRun {
@@ -29,6 +29,7 @@ impl EraseRun {
         ensures session { result.job.session ≡ session }
         ensures start { result.job.start ≡ start }
         ensures count { result.job.count ≡ count }
+        ensures how { result.job.how ≡ how }
         ensures bounded { exchanges_left result ≤ 20 }
         ensures running { (view : BusView) → IsReady session view → IsRunning result 0 view }
     {
@@ -41,6 +42,15 @@ impl EraseRun {
             },
             phase: Phase::First,
         }
+    }
+
+    /// How many exchanges it may still take at most, of which each turn makes one: for a bound on the wait.
+    pub fn exchanges_left(&self) -> u64
+        ensures left { result ≡ exchanges_left self.now }
+        ensures some { 0 < result }
+        ensures bounded { result ≤ 20 }
+    {
+        phase_left(self.phase)
     }
 
     /// The next exchange.
@@ -56,6 +66,22 @@ impl EraseRun {
         let EraseRun { job, phase } = self;
         let result = step(bus, &job, phase);
         progress(job, result)
+    }
+}
+
+// The exchanges that are left at most, from this phase on.
+fn phase_left(phase: Phase) -> u64
+    requires fits { IsTrue (phase_fits phase) }
+    ensures left { result ≡ phase_left phase }
+    ensures some { 0 < result }
+    ensures bounded { result ≤ 20 }
+{
+    match phase {
+        Phase::First => 20,
+        Phase::Last => 19,
+        Phase::Erase => 18,
+        Phase::Wait { polls } => MAX_POLLS + 1 - polls,
+        Phase::Confirm => 1,
     }
 }
 

@@ -7,7 +7,7 @@ use Rattle.std.proofs.lemmas.Bool.Decides.{nat_tests}
 use Rattle.mmc_card.specs.Sectors.{Sector}
 use Rattle.mmc_bus.specs.BlockLaws.{length_pieces}
 use Rattle.mmc_bus.specs.Bytes.{blocks_in}
-use Rattle.mmc_queue.specs.Group.{AreAlike, IsFair, any_has, has_sector}
+use Rattle.mmc_queue.specs.Group.{AreAlike, IsJoined, any_has, has_sector}
 use Rattle.mmc_queue.specs.Lent.{before_rest, block_at, block_of, blocks_from, blocks_held, blocks_of, has_block, held_by, write_blocks_of}
 use Rattle.mmc_queue.specs.Requests.{bytes_of, count_of, has_its_bytes, kind_of, room_of, start_of}
 use Rattle.mmc_queue.specs.Waiting.{AreSound, IsSound}
@@ -21,27 +21,27 @@ use Rattle.mmc_queue.specs.declared.request.Request.TheVariants.{Erase, Read, Tr
 use Rattle.mmc_queue.specs.declared.run.Run.{Run}
 use Rattle.mmc_queue.proofs.FindLemmas.{same_number}
 
-room_of_read : (r : Request) → kind_of r ≡ kind.Read → room_of r ≡ 512 * count_of r
+pub room_of_read : (r : Request) → kind_of r ≡ kind.Read → room_of r ≡ 512 * count_of r
 room_of_read (Read part start count) h = refl
 room_of_read (Write part start count bytes) h = cc
 room_of_read (Erase part start count) h = cc
 room_of_read (Trim part start count) h = cc
 
-length_of_write : (r : Request) → kind_of r ≡ kind.Write → has_its_bytes r ≡ true → length (bytes_of r) ≡ 512 * count_of r
+pub length_of_write : (r : Request) → kind_of r ≡ kind.Write → has_its_bytes r ≡ true → length (bytes_of r) ≡ 512 * count_of r
 length_of_write (Read part start count) h has = cc
 length_of_write (Write part start count bytes) h has = same_number (length bytes) (512 * count) has
 length_of_write (Erase part start count) h has = cc
 length_of_write (Trim part start count) h has = cc
 
-whole : (n m : ℕ) → n ≡ 512 * m → n / 512 ≡ m
+pub whole : (n m : ℕ) → n ≡ 512 * m → n / 512 ≡ m
 whole n m h = omega (arith, h)
 
 -- 512 bytes for each sector
-abbrev IsFilled : Held → Entry → Type 0
+abbrev pub IsFilled : Held → Entry → Type 0
 IsFilled held e = length (held_by held e) ≡ 512 * count_of e.request
 
 -- an entry with these has a block for each of its sectors
-same_sectors : (held : Held) (e : Entry) (s : ℕ) → IsFilled held e → has_block e (held_by held e) s ≡ has_sector e.request s
+pub same_sectors : (held : Held) (e : Entry) (s : ℕ) → IsFilled held e → has_block e (held_by held e) s ≡ has_sector e.request s
 same_sectors held e s filled =
     let n : ℕ = length (held_by held e) / 512 in
     let count : length (blocks_in (held_by held e)) ≡ count_of e.request =
@@ -83,21 +83,19 @@ all_blocks held es s (suc n) h =
 inside : (start end t : ℕ) → start ≤ t → t < start + (end - start) → (nat_le start t && nat_lt t end) ≡ true
 inside start end t p q = grind (arith, nat_tests)
 
-all_lent : (held : Held) (waits : List Entry) (g : Group) (left : List Entry) → IsFair waits g.members.items g.run left
+pub all_lent : (held : Held) (g : Group) → IsJoined g.members.items g.run
     → ((e : Entry) → IsSound e → kind_of e.request ≡ g.run.kind → IsFilled held e)
     → length (blocks_held held g) ≡ g.run.end - g.run.start
-all_lent held waits g left f filled =
+all_lent held g f filled =
     all_blocks held g.members.items g.run.start (g.run.end - g.run.start)
     (λ t p q. some_block held g.run g.members.items t filled f.alike f.sound (f.one_run t ∙ inside g.run.start g.run.end t p q))
 
-pub reads_lend_all : (waits : List Entry) (g : Group) (left : List Entry) → IsFair waits g.members.items g.run left
-    → g.run.kind ≡ kind.Read
+pub reads_lend_all : (g : Group) → IsJoined g.members.items g.run → g.run.kind ≡ kind.Read
     → length (blocks_of g) ≡ g.run.end - g.run.start
-reads_lend_all waits g left f is =
-    all_lent Room waits g left f (λ e sound same. sound.room ∙ room_of_read e.request (same ∙ is))
+reads_lend_all g f is =
+    all_lent Room g f (λ e sound same. sound.room ∙ room_of_read e.request (same ∙ is))
 
-pub writes_lend_all : (waits : List Entry) (g : Group) (left : List Entry) → IsFair waits g.members.items g.run left
-    → g.run.kind ≡ kind.Write
+pub writes_lend_all : (g : Group) → IsJoined g.members.items g.run → g.run.kind ≡ kind.Write
     → length (write_blocks_of g) ≡ g.run.end - g.run.start
-writes_lend_all waits g left f is =
-    all_lent Bytes waits g left f (λ e sound same. length_of_write e.request (same ∙ is) sound.bytes)
+writes_lend_all g f is =
+    all_lent Bytes g f (λ e sound same. length_of_write e.request (same ∙ is) sound.bytes)

@@ -4,9 +4,9 @@ use Rattle.std.proofs.Common.{subst, suc, sym, true, ℕ}
 use Rattle.std.specs.Prelude.{◌==◌, ◌||◌, if◌then◌else◌, nat_le, nat_lt, not}
 use Rattle.std.proofs.lemmas.Bool.{and_parts, true≢false}
 use Rattle.std.proofs.lemmas.Bool.Decides.{nat_tests}
-use Rattle.mmc_queue.specs.Group.{AreAlike, AreApart, IsFair, IsMerged, PassNone, any_has, has_sector}
+use Rattle.mmc_queue.specs.Group.{AreAlike, AreApart, IsFair, IsJoined, IsMerged, PassNone, any_has, has_sector}
 use Rattle.mmc_queue.specs.Requests.{can_merge, count_of, end_of, kind_of, part_of, start_of}
-use Rattle.mmc_queue.specs.Rule.{Grows, Joins, begins, comes_first, fits, joins, passes_none, widened, with_member}
+use Rattle.mmc_queue.specs.Rule.{Grows, Joins, begins, comes_first, fits, joins, passes_none, run_of, widened, with_member}
 use Rattle.mmc_queue.specs.Waiting.{AreSound, Ascend, IsSound, Takes}
 use Rattle.mmc_queue.specs.declared.entry.Entry.{Entry}
 use Rattle.mmc_queue.specs.declared.request.Request.{Request}
@@ -117,7 +117,7 @@ or_none : (a b : Bool) → a ≡ false → b ≡ false → (a || b) ≡ false
 or_none true b p q = absurd (true≢false p)
 or_none false b p q = q
 
-not_both : (b c : Bool) → (b ≡ true → c ≡ false) → c ≡ true → b ≡ false
+pub not_both : (b c : Bool) → (b ≡ true → c ≡ false) → c ≡ true → b ≡ false
 not_both true c h k = absurd (true≢false (sym k ∙ h refl))
 not_both false c h k = refl
 
@@ -279,6 +279,7 @@ step : (waits members : List Entry) (run : Run) (left : List Entry) (e : Entry) 
     × ((widened run e.request).start ≤ (widened run e.request).end) × AreSound rest
 step waits members run left e rest up old j =
     let f = old.0 in
+    let g = f.joined in
     let r = e.request in
     let may = and_parts (fits run r) (passes_none e left) j.may in
     let fit = fits_parts run r may.0 in
@@ -293,7 +294,7 @@ step waits members run left e rest up old j =
     let long = length_with members e in
     let more = widened_members run r in
     let few = less_than run.members 16 room.0 in
-    let counted = f.counted in
+    let counted = g.counted in
     let sounds = subst AreSound t.2 old.2 in (
       record {
         oldest = f.oldest;
@@ -303,17 +304,20 @@ step waits members run left e rest up old j =
         waits_are = f.waits_are;
         parts = subst (λ vs. IsMerged f.later (with_member f.others e) vs) (sym t.3)
             (member_merged (f.oldest.ticket + 1) f.later f.others left t.0 e t.1 later_up f.parts t.2);
-        alike = alike_with new e members (fit.part_is ∙ sym part) (fit.kind_is ∙ sym kind) (alike_still run new members part kind f.alike);
-        one_run = λ s.
-            any_with members e s ∙ (ap (λ b. has_sector r s || b) (f.one_run s) ∙ covers run r new s at old.1);
-        apart = apart_with members e
-            (λ s h. f.one_run s ∙ outside run.start run.end (start_of r) (end_of r) s (fit.beside) h) f.apart;
-        counted = omega (arith, long, more, counted);
-        few = omega (arith, long, few, counted);
-        short = λ m. short_by run r new at (at_most (run.end + count_of r) (run.start + 1024) room.1);
-        alone = λ no. absurd (true≢false (sym fit.merges ∙ (ap can_merge (sym kind) ∙ no)));
+        joined = record {
+          alike = alike_with new e members (fit.part_is ∙ sym part) (fit.kind_is ∙ sym kind) (alike_still run new members part kind g.alike);
+          one_run = λ s.
+              any_with members e s ∙ (ap (λ b. has_sector r s || b) (g.one_run s) ∙ covers run r new s at old.1);
+          apart = apart_with members e
+              (λ s h. g.one_run s ∙ outside run.start run.end (start_of r) (end_of r) s (fit.beside) h) g.apart;
+          counted = omega (arith, long, more, counted);
+          some = omega (arith, long);
+          few = omega (arith, long, few, counted);
+          short = λ m. short_by run r new at (at_most (run.end + count_of r) (run.start + 1024) room.1);
+          alone = λ no. absurd (true≢false (sym fit.merges ∙ (ap can_merge (sym kind) ∙ no)));
+          sound = sound_with members e (sound_one t.0 e t.1 sounds) g.sound;
+        };
         pass_none = pass_with rest e members (passes_less e left e rest t may.1) (all_pass members left e rest t f.pass_none);
-        sound = sound_with members e (sound_one t.0 e t.1 sounds) f.sound;
       },
       forward run r new at old.1,
       subst AreSound (sym t.3) (sound_without t.0 e t.1 sounds),
@@ -335,6 +339,20 @@ one_sector true true = refl
 one_sector true false = refl
 one_sector false b = refl
 
+-- a request is served alone
+pub one_joined : (e : Entry) → IsSound e → IsJoined (e ∷ []) (run_of e.request)
+one_joined e one = record {
+  alike = (refl, refl, tt);
+  one_run = λ s. one_sector (nat_le (start_of e.request) s) (nat_lt s (end_of e.request));
+  apart = ((λ s h. refl), tt);
+  counted = refl;
+  some = omega arith;
+  few = omega arith;
+  short = λ m. let k = one.few m in omega (arith, k);
+  alone = λ no. refl;
+  sound = (one, tt);
+}
+
 pub fair : (waits members : List Entry) (run : Run) (left : List Entry) → Ascend 0 waits → AreSound waits
     → Grows waits members run left
     → IsFair waits members run left × (run.start ≤ run.end) × AreSound left
@@ -348,15 +366,8 @@ fair waits members run left up sound (begins oldest later is) =
         members_are = refl;
         waits_are = is;
         parts = all_left later;
-        alike = (refl, refl, tt);
-        one_run = λ s. one_sector (nat_le (start_of oldest.request) s) (nat_lt s (end_of oldest.request));
-        apart = ((λ s h. refl), tt);
-        counted = refl;
-        few = omega arith;
-        short = λ m. let k = one.few m in omega (arith, k);
-        alone = λ no. refl;
+        joined = one_joined oldest one;
         pass_none = (pass_later oldest (oldest.ticket + 1) later (omega arith) more, tt);
-        sound = (one, tt);
       },
       omega arith,
       (subst AreSound is sound).1,

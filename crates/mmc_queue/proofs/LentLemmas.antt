@@ -45,7 +45,7 @@ or_else : Sector → Option Sector → Sector
 or_else d None = d
 or_else d (Some x) = x
 
-same_some : (a b : Sector) → Some a ≡ Some b → a ≡ b
+pub same_some : (a b : Sector) → Some a ≡ Some b → a ≡ b
 unfolding or_else
 same_some a b h = ap (or_else a) h
 

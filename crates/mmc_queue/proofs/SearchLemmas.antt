@@ -1,17 +1,21 @@
 -- The search for the lowest ticket that may join.
 use Rattle.std.proofs.Common.{◌&&◌, ◌∙◌, ◌∷◌, ◌≡◌, ◌⊎◌, Bool, List, None, Option, Some, [], ap, arith, cond}
 use Rattle.std.proofs.Common.{false, inl, inr, refl, subst, sym, true, ℕ}
-use Rattle.std.specs.Prelude.{◌-◌, ◌^◌, ◌||◌, filter}
+use Rattle.std.specs.Prelude.{◌-◌, ◌==◌, ◌^◌, ◌||◌, filter, nat_lt, not}
 use Rattle.std.specs.BTreeMap.{BTreeMap, get, is_at, values}
-use Rattle.std.specs.BTreeMap.Range.{range_contains}
+use Rattle.std.specs.BTreeMap.Range.{entries_between, is_past_end, range_contains}
 use Rattle.std.specs.BTreeSet.{BTreeSet, keys_between}
 use Rattle.std.specs.List.{list_any}
-use Rattle.std.specs.Ordering.{nat_cmp}
-use Rattle.std.specs.declared.ops.Bound.TheVariants.{Included}
+use Rattle.std.specs.Map.{values_of}
+use Rattle.std.specs.Ordering.{is_le, nat_cmp}
+use Rattle.std.specs.declared.cmp.Ordering.TheVariants.{Equal, Greater, Less}
+use Rattle.std.specs.declared.ops.Bound.TheVariants.{Excluded, Included, Unbounded}
 use Rattle.std.proofs.lemmas.Bool.{and_parts, true≢false}
 use Rattle.std.proofs.lemmas.Bool.Decides.{nat_tests}
-use Rattle.mmc_queue.specs.Mirror.{Mirrors}
+use Rattle.mmc_queue.specs.Mirror.{AreKeyed, Mirrors}
 use Rattle.mmc_queue.specs.Places.{is_place_of, place_cmp, place_of, shows, stands_at}
+use Rattle.mmc_queue.specs.Requests.{conflicts}
+use Rattle.mmc_queue.specs.Rule.{passes_none}
 use Rattle.mmc_queue.specs.Search.{NotAbove, StandsAlike, is_better, is_lower, may_join_at}
 use Rattle.mmc_queue.specs.declared.entry.Entry.{Entry}
 use Rattle.mmc_queue.specs.declared.place.Edge.{Edge}
@@ -108,3 +112,36 @@ covers_passed run ws best p ps t not may (inr (inr h)) = inr h
 pub covers_all : (best : Option ℕ) (t : ℕ) → Covers best [] t → NotAbove best t
 covers_all best t (inl h) = h
 covers_all best t (inr h) = absurd h
+
+-- Those that came before.
+
+below_by : (l e b : Bool) → (l ≡ true → b ≡ false) → (e ≡ true → b ≡ false) → (l ≡ false → e ≡ false → b ≡ true)
+    → not (is_le (cond l Less (cond e Equal Greater))) ≡ b
+below_by true e b p q r = sym (p refl)
+below_by false true b p q r = sym (q refl)
+below_by false false b p q r = sym (r refl refl)
+
+is_below : (t k : ℕ) → not (is_past_end nat_cmp (Excluded t) k) ≡ nat_lt k t
+is_below t k =
+    below_by (nat_lt t k) (t == k) (nat_lt k t)
+    (λ h. grind (arith, nat_tests)) (λ h. grind (arith, nat_tests)) (λ h g. grind (arith, nat_tests))
+
+passes_by : (e : Entry) (x : ℕ × Entry) (below es : List (ℕ × Entry)) (b : Bool) → nat_lt x.1.ticket e.ticket ≡ b
+    → passes_none e (values_of below) ≡ passes_none e (values_of es)
+    → passes_none e (values_of (cond b (x ∷ below) below))
+    ≡ (not (b && conflicts x.1.request e.request) && passes_none e (values_of es))
+passes_by e x below es true is rest =
+    ap (λ b. not (b && conflicts x.1.request e.request) && passes_none e (values_of below)) is
+    ∙ ap (λ p. not (conflicts x.1.request e.request) && p) rest
+passes_by e x below es false is rest = rest
+
+-- the others don't count
+pub passes_below : (e : Entry) (es : List (ℕ × Entry)) → AreKeyed es
+    → passes_none e (values_of (entries_between nat_cmp Unbounded (Excluded e.ticket) es)) ≡ passes_none e (values_of es)
+passes_below e [] keyed = refl
+passes_below e (x ∷ es) keyed =
+    let below : List (ℕ × Entry) = entries_between nat_cmp Unbounded (Excluded e.ticket) es in
+    let same : not (is_past_end nat_cmp (Excluded e.ticket) x.0) ≡ nat_lt x.1.ticket e.ticket =
+    is_below e.ticket x.0 ∙ ap (λ k. nat_lt k e.ticket) keyed.0 in
+    ap (λ b. passes_none e (values_of (cond b (x ∷ below) below))) same
+    ∙ passes_by e x below es (nat_lt x.1.ticket e.ticket) refl (passes_below e es keyed.2)

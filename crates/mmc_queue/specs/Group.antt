@@ -1,6 +1,7 @@
 -- What the rule makes of a group.
-use Rattle.std.specs.Prelude.{◌&&◌, ◌+◌, ◌∷◌, ◌≡◌, ◌≤◌, ◌||◌, ◌⊎◌, Bool, List, [], false, length, nat_le, nat_lt, true, ℕ}
-use Rattle.mmc_queue.specs.Requests.{can_merge, end_of, kind_of, part_of, start_of}
+use Rattle.std.specs.Prelude.{◌&&◌, ◌+◌, ◌<◌, ◌^◌, ◌↔◌, ◌∷◌, ◌≡◌, ◌≤◌, ◌||◌, ◌⊎◌, Bool, List, [], false, length, nat_le, nat_lt, true, ℕ}
+use Rattle.mmc_card.specs.declared.part.Part.{Part}
+use Rattle.mmc_queue.specs.Requests.{Names, can_merge, end_of, kind_of, part_of, start_of}
 use Rattle.mmc_queue.specs.Rule.{passes_none}
 use Rattle.mmc_queue.specs.Waiting.{AreSound}
 use Rattle.mmc_queue.specs.declared.entry.Entry.{Entry}
@@ -15,6 +16,15 @@ IsMerged [] xs ys = (xs ≡ []) × (ys ≡ [])
 IsMerged (z ∷ zs) xs ys =
     ((rest : List Entry) × (xs ≡ z ∷ rest) × IsMerged zs rest ys)
     ⊎ ((rest : List Entry) × (ys ≡ z ∷ rest) × IsMerged zs xs rest)
+
+-- it is one of these
+abbrev pub IsOneOf : List Entry → Entry → Type 0
+IsOneOf [] e = ⊥
+IsOneOf (v ∷ vs) e = (v ≡ e) ⊎ IsOneOf vs e
+
+-- one of these names the sector
+abbrev pub SomeNames : List Entry → Part → ℕ → Type 0
+SomeNames es part sector = (e : Entry) × IsOneOf es e × Names e.request part sector
 
 -- all of one partition and kind
 abbrev pub AreAlike : Run → List Entry → Type 0
@@ -44,6 +54,34 @@ abbrev pub PassNone : List Entry → List Entry → Type 0
 PassNone [] left = Unit {0}
 PassNone (e ∷ es) left = (passes_none e left ≡ true) × PassNone es left
 
+-- Requests that can be served as one run of sectors.
+pub record IsJoined (members : List Entry) (run : Run) : Type 0 where
+  -- they are the sectors of the run, of one partition and kind, and no two of them name one sector
+  pub alike : AreAlike run members
+  pub one_run : AreOneRun run members
+  pub apart : AreApart members
+  -- they keep the limits
+  pub counted : length members ≡ run.members
+  pub some : 0 < length members
+  pub few : length members ≤ MAX_GROUP
+  pub short : can_merge run.kind ≡ true → run.end ≤ run.start + MAX_COUNT
+  -- an erase or a trim is alone
+  pub alone : can_merge run.kind ≡ false → length members ≡ 1
+  -- each has the bytes and the room that go with its request
+  pub sound : AreSound members
+
+-- What joined requests are together: a run of sectors.
+pub record FormRun (members : List Entry) (run : Run) : Type 0 where
+  -- there is one sector at least, and none lies past 2^32
+  pub some : run.start < run.end
+  pub inside : run.end ≤ 2 ^ 32
+  -- a sector is of the run just where a member names it
+  pub named : (sector : ℕ) → ((run.start ≤ sector) × (sector < run.end)) ↔ SomeNames members run.part sector
+  -- each member lies within the run, and is of its partition and kind; one of them ends where the run does
+  pub within : (e : Entry) → IsOneOf members e → (run.start ≤ start_of e.request) × (end_of e.request ≤ run.end)
+  pub alike : (e : Entry) → IsOneOf members e → (part_of e.request ≡ run.part) × (kind_of e.request ≡ run.kind)
+  pub last : (e : Entry) × IsOneOf members e × (end_of e.request ≡ run.end)
+
 -- A group, of all that waited, and those that are left.
 pub record IsFair (waits members : List Entry) (run : Run) (left : List Entry) : Type 0 where
   pub oldest : Entry
@@ -53,16 +91,7 @@ pub record IsFair (waits members : List Entry) (run : Run) (left : List Entry) :
   pub members_are : members ≡ oldest ∷ others
   pub waits_are : waits ≡ oldest ∷ later
   pub parts : IsMerged later others left
-  -- the members are one run of sectors, of one partition and kind, without overlap and within the limits
-  pub alike : AreAlike run members
-  pub one_run : AreOneRun run members
-  pub apart : AreApart members
-  pub counted : length members ≡ run.members
-  pub few : length members ≤ MAX_GROUP
-  pub short : can_merge run.kind ≡ true → run.end ≤ run.start + MAX_COUNT
-  -- an erase or a trim is alone
-  pub alone : can_merge run.kind ≡ false → others ≡ []
+  -- the members can be served as one run
+  pub joined : IsJoined members run
   -- no member passes an earlier one that is left and conflicts with it
   pub pass_none : PassNone members left
-  -- and each has the bytes and the room that go with its request
-  pub sound : AreSound members

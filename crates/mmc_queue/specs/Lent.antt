@@ -1,6 +1,6 @@
 -- The members' buffers as the blocks of a run: each block is found by its sector.
-use Rattle.std.specs.Prelude.{◌&&◌, ◌+◌, ◌-◌, ◌≡◌, ◌∷◌, Bool, List, None, Option, Some, [], false, if◌then◌else◌, length}
-use Rattle.std.specs.Prelude.{nat_le, nat_lt, slice_index_or, suc, true, zero, ℕ}
+use Rattle.std.specs.Prelude.{◌&&◌, ◌+◌, ◌-◌, ◌≡◌, ◌∷◌, Bool, List, None, Option, Some, [], false, if◌then◌else◌}
+use Rattle.std.specs.Prelude.{length, nat_le, nat_lt, slice_index_or, suc, true, zero, ℕ}
 use Rattle.arrayvec.specs.ArrayVec.{with_item}
 use Rattle.mmc_card.specs.declared.part.Part.TheVariants.{User}
 use Rattle.mmc_card.specs.Sectors.{Sector}
@@ -68,6 +68,20 @@ with_sector (e ∷ es) sector left =
 
 abbrev pub with_lent : Group → ℕ → List ℕ → Group
 with_lent g i left = record g { members = record { items = with_sector g.members.items (g.run.start + i) left } }
+
+-- the same request of the same client with as much room: only what is in the room may differ
+pub record IsLent (old new : Entry) : Type 0 where
+  pub ticket : new.ticket ≡ old.ticket
+  pub client : new.client ≡ old.client
+  pub request : new.request ≡ old.request
+  pub room : length new.buffer ≡ length old.buffer
+
+-- so it is of each of these, in order
+abbrev pub AreLent : List Entry → List Entry → Type 0
+AreLent [] [] = Unit {0}
+AreLent [] (new ∷ news) = ⊥
+AreLent (old ∷ olds) [] = ⊥
+AreLent (old ∷ olds) (new ∷ news) = IsLent old new × AreLent olds news
 
 -- One member.
 

@@ -28,11 +28,11 @@ fn is_lower(ticket: u64, best: Option<u64>) -> bool
 }
 
 impl Queue {
-    // Whether no request that came before an entry conflicts with it.
+    // Whether no request that came before an entry conflicts with it. Only those before it are looked at.
     fn passes_none(&self, entry: &Entry) -> bool
         ensures { result ≡ passes_none entry.now self.now }
     {
-        for other in self.by_ticket.values() {
+        for (_, other) in self.by_ticket.range(..entry.ticket) {
             if comes_first(other, entry) {
                 return false;
             }

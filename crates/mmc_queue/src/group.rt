@@ -1,7 +1,8 @@
-ghost use Rattle.std.specs.Prelude.{◌≡◌, ◌<◌, ◌≤◌, ℕ, List, [], insert, IfSome, MatchOption};
+ghost use Rattle.std.specs.Prelude.{◌≡◌, ◌<◌, ◌≤◌, ◌∷◌, ℕ, List, [], insert, IfSome, MatchOption};
 ghost use Rattle.arrayvec.specs.ArrayVec.{array_vec_len};
-ghost use Rattle.mmc_queue.specs.Group.{IsFair};
-ghost use Rattle.mmc_queue.specs.Rule.{Grows, IsGroup, with_member};
+ghost use Rattle.mmc_queue.specs.Group.{IsFair, IsJoined};
+ghost use Rattle.mmc_queue.specs.Rule.{Grows, IsGroup, run_of, with_member};
+ghost use Rattle.mmc_queue.specs.Waiting.{IsSound};
 ghost use Rattle.mmc_queue.specs.declared.entry.Entry.{Entry};
 ghost use Rattle.mmc_queue.specs.declared.run.TheConstants.{MAX_GROUP};
 
@@ -34,6 +35,21 @@ fn index_for(members: &Members, ticket: u64) -> usize
         }
     }
     members.len()
+}
+
+impl Group {
+    /// The group of one request. It takes no memory.
+    pub fn alone(alloc: Global, entry: Entry) -> Group
+        requires { IsSound entry }
+        ensures members { result.members.items ≡ entry ∷ [] }
+        ensures run { result.run ≡ run_of entry.request }
+        ensures joined { IsJoined result.members.items result.run }
+    {
+        let run = Run::of(&entry.request);
+        let mut members = ArrayVec::new_in(alloc);
+        members.push(entry);
+        Group { members, run }
+    }
 }
 
 impl Queue {
@@ -69,9 +85,7 @@ impl Queue {
         ensures rule { MatchOption result ((self.old ≡ []) × (self.new ≡ [])) (λ g. IsGroup self.old g.members.items g.run self.new) }
     {
         let oldest = self.take_oldest()?;
-        let run = Run::of(&oldest.request);
-        let mut members = ArrayVec::new_in(self.alloc);
-        members.push(oldest);
+        let Group { members, run } = Group::alone(self.alloc, oldest);
         Some(self.grow(members, run))
     }
 }

@@ -74,16 +74,19 @@ module _ (job : Job) (blocks : List Sector) (all : length blocks ≡ job.count) 
 
   module _ (faults polls : ℕ) (a b : BusView) (at : IsIn job blocks (Other (Finish polls)) faults a) where
     -- yes
-    pub finish_fails : (cause : Cause) → polls + 1 ≡ 16 → Polls true a b → Turned job blocks faults a (Err cause) b
-    finish_fails cause last work = record {
+    pub finish_fails : (result : Result (Option Phase) Cause) → IsErr result → polls + 1 ≡ 16 → Polls true a b
+        → Turned job blocks faults a result b
+    finish_fails (Ok next) not last work = cc
+    finish_fails (Err cause) not last work = record {
       stays = work.stays;
       within = no_more job blocks (Other (Finish polls)) faults a b at work;
       left = wait_fails job.session _ _ can_end job.selected faults polls a b at
           (record { session = job.session; cause = cause; must_reset = false }) refl last work;
     }
 
-    pub polls_still : Polls true a b → Turned job blocks faults a (Ok (Some (Other (Finish (polls + 1))))) b
-    polls_still work = record {
+    pub polls_still : (more : ℕ) → more ≡ polls + 1 → Polls true a b
+        → Turned job blocks faults a (Ok (Some (Other (Finish more)))) b
+    polls_still more is work = rw is record {
       stays = work.stays;
       within = no_more job blocks (Other (Finish polls)) faults a b at work;
       left = wait_more job.session _ _ can_end job.selected faults polls a b at work;

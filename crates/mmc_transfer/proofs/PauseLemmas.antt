@@ -1,6 +1,6 @@
 -- Polls between the blocks of a write.
 use Rattle.std.proofs.Common.{◌+◌, ◌≡◌, List, false, refl, subst, sym, true, ℕ}
-use Rattle.std.specs.Prelude.{Err, Ok, Some}
+use Rattle.std.specs.Prelude.{IsErr, Ok, Option, Result, Some}
 use Rattle.mmc_switch.proofs.UnderWayLemmas.{quiet_by}
 use Rattle.mmc_frame.specs.declared.card_state.State.TheVariants.{Rcv}
 use Rattle.mmc_card.specs.Blocks.{rested}
@@ -15,6 +15,7 @@ use Rattle.mmc_transfer.proofs.PollLemmas.{taking_still}
 use Rattle.mmc_transfer.proofs.StepLemmas.{each_way, either_way, turn_fails, turn_goes_on, turn_goes_there}
 use Rattle.mmc_transfer.specs.Running.{IsIn, IsTaking, Turned}
 use Rattle.mmc_transfer.specs.declared.job.Job.{Job}
+use Rattle.mmc_transfer.specs.declared.phase.Phase.{Phase}
 use Rattle.mmc_transfer.specs.declared.phase.Phase.TheVariants.{Block, Other}
 use Rattle.mmc_transfer.specs.declared.phase.Step.TheVariants.{Pause, Stop}
 
@@ -36,18 +37,21 @@ rested_in_rcv done job blocks card taking =
 module _ (job : Job) (blocks : List Sector) (faults done polls : ℕ) (a b : BusView)
     (at : IsIn job blocks (Other (Pause done polls)) faults a) where
   -- yes
-  pub pause_fails : (cause : Cause) → polls + 1 ≡ 16 → Polls true a b → Turned job blocks faults a (Err cause) b
-  pause_fails cause last work =
-      turn_fails job blocks (Other (Pause done polls)) faults a b at work (Err cause) refl
+  pub pause_fails : (result : Result (Option Phase) Cause) → IsErr result → polls + 1 ≡ 16 → Polls true a b
+      → Turned job blocks faults a result b
+  pause_fails result err last work =
+      turn_fails job blocks (Other (Pause done polls)) faults a b at work result err
       (λ exact same. either_way job.way (λ reads none. absurd none)
       (λ writes taking. not_so_often polls a b last work.own taking.1 same) exact)
 
-  pub pauses_still : Polls true a b → Turned job blocks faults a (Ok (Some (Other (Pause done (polls + 1))))) b
-  pauses_still work =
-      turn_goes_there job blocks (Other (Pause done polls)) faults a b at work (Other (Pause done (polls + 1))) tt
+  pub pauses_still : (more : ℕ) → more ≡ polls + 1 → Polls true a b
+      → Turned job blocks faults a (Ok (Some (Other (Pause done more)))) b
+  pauses_still more is work =
+      rw is (turn_goes_there job blocks (Other (Pause done polls)) faults a b at work
+      (Other (Pause done (polls + 1))) tt
       (λ exact. each_way job.way (λ reads none. none)
       (λ writes taking. subst (λ card. IsTaking Rcv done job blocks card × IsBusyAfter (polls + 1) card)
-      (sym (work.own.yes refl).1) (taking_still Rcv done polls job blocks a.card taking)) exact)
+      (sym (work.own.yes refl).1) (taking_still Rcv done polls job blocks a.card taking)) exact))
 
   -- no
   accepts_by : b.card ≡ rested a.card → IsTaking Rcv done job blocks a.card

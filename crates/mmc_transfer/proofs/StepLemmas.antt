@@ -1,6 +1,6 @@
 -- A turn that moves no block: what it leaves, from what its exchange did.
 use Rattle.std.proofs.Common.{◌≡◌, List, false, refl, subst, ℕ}
-use Rattle.std.specs.Prelude.{Err, IsErr, Ok, Option, Result, Some}
+use Rattle.std.specs.Prelude.{Err, IsErr, IsTrue, Ok, Option, Result, Some}
 use Rattle.mmc_card.proofs.SectorLemmas.{old_maybe}
 use Rattle.mmc_card.specs.BusView.{BusView}
 use Rattle.mmc_card.specs.Card.{holds}
@@ -9,6 +9,7 @@ use Rattle.mmc_card.specs.Sectors.{Sector, Within, maybe_changed}
 use Rattle.mmc_bus.specs.Work.{Narrows, Worked}
 use Rattle.mmc_bus.specs.declared.cause.Cause.{Cause}
 use Rattle.mmc_switch.proofs.UnderWayLemmas.{goes_on, has_failed}
+use Rattle.mmc_transfer.specs.Fits.{step_fits}
 use Rattle.mmc_transfer.specs.Running.{Exact, IsIn, Shown, Turned, by_way, change_of}
 use Rattle.mmc_transfer.specs.declared.job.Job.{Job}
 use Rattle.mmc_transfer.specs.declared.phase.Phase.{Phase}
@@ -77,3 +78,8 @@ module _ {Own Fine : BusView → BusView → Type 0} (job : Job) (blocks : List 
 pub in_step : (job : Job) (blocks : List Sector) (faults : ℕ) (view : BusView) {step other : Step} → step ≡ other
     → IsIn job blocks (Other step) faults view → IsIn job blocks (Other other) faults view
 in_step job blocks faults view is at = subst (λ step. IsIn job blocks (Other step) faults view) is at
+
+-- and that it is a step of this run
+pub fits_as : (job : Job) {step other : Step} → step ≡ other
+    → IsTrue (step_fits job.count job.session.info.cmd23 step) → IsTrue (step_fits job.count job.session.info.cmd23 other)
+fits_as job is fits = subst (λ step. IsTrue (step_fits job.count job.session.info.cmd23 step)) is fits

@@ -11,12 +11,12 @@ abbrev pub first_of : ℕ → Bool → Step
 first_of count cmd23 = if nat_lt 1 count && cmd23 then Preset else Command
 
 -- The phases of a run of so many blocks, with CMD23 or not: a count is preset where there are several blocks, no more
--- blocks than these are moved, and a card is polled sixteen times; behind the last block only one that doesn't know that
--- it was the last is in a pause.
+-- blocks than these are moved, and a card is polled sixteen times; a pause is behind a block, behind the last one only
+-- where the card doesn't know that it was the last.
 abbrev pub step_fits : ℕ → Bool → Step → Bool
 step_fits count cmd23 Preset = cmd23 && nat_lt 1 count
 step_fits count cmd23 (Pause done polls) =
-    nat_lt done (if is_counted_by count cmd23 then count else count + 1) && nat_lt polls 16
+    nat_lt 0 done && nat_lt done (if is_counted_by count cmd23 then count else count + 1) && nat_lt polls 16
 step_fits count cmd23 (Finish polls) = nat_lt polls 16
 step_fits count cmd23 _ = true
 

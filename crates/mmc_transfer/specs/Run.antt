@@ -27,10 +27,10 @@ IsSameRun run (More next) = next.job ≡ run.job
 IsSameRun run (Done session) = session ≡ run.job.session
 IsSameRun run (Failed broken) = broken ≡ broken_off run.job.session broken.cause
 
--- each turn brings it nearer to its end
+-- each turn brings it nearer to its end, which was still to come
 abbrev pub Lowers : Run → Progress Run → Type 0
 Lowers run (More next) = exchanges_left next < exchanges_left run
-Lowers run _ = Unit {0}
+Lowers run _ = 0 < exchanges_left run
 
 -- What a turn leaves: the run goes on; it is done, with its whole effect, and the card is ready; or it has failed, and a
 -- fault fell in it.

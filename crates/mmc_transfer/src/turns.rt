@@ -1,5 +1,5 @@
 // Runs of blocks, a turn at a time: each turn is one exchange.
-ghost use Rattle.std.specs.Prelude.{◌≡◌, ◌*◌, ◌+◌, ◌≤◌, IfOk, IsSome, IsTrue, List, false, length, true, ℕ};
+ghost use Rattle.std.specs.Prelude.{◌≡◌, ◌*◌, ◌+◌, ◌<◌, ◌≤◌, IfOk, IsSome, IsTrue, List, false, length, true, ℕ};
 ghost use Rattle.mmc_card.specs.BusView.{BusView};
 ghost use Rattle.mmc_card.specs.Sectors.{Sector};
 ghost use Rattle.mmc_bus.specs.Lending.{IsRewritten};
@@ -8,15 +8,15 @@ ghost use Rattle.mmc_switch.specs.UnderWay.{FailsBy, room_of};
 ghost use Rattle.mmc_transfer.specs.declared.job.TheConstants.{MAX_BLOCKS};
 ghost use Rattle.mmc_transfer.specs.declared.way.Way.TheVariants.{Read, Write};
 ghost use Rattle.mmc_transfer.specs.Run.{HasProgressed, HasTurned, IsRunning, IsSameRun, Lowers, exchanges_left};
-ghost use Rattle.mmc_transfer.specs.Fits.{some_fits};
+ghost use Rattle.mmc_transfer.specs.Fits.{phase_fits, phase_left, some_fits};
 
 use crate::job::{Job, MAX_BLOCKS};
 use crate::moves::{give, take};
-use crate::phase::Phase;
+use crate::phase::{Phase, Step};
 use crate::run::Run;
 use crate::steps::step;
 use crate::way::Way;
-use mmc_bus::{Blocks, BlocksMut, Bus, Cause};
+use mmc_bus::{Blocks, BlocksMut, Bus, Cause, MAX_POLLS};
 use mmc_switch::{Progress, Session};
 
 impl Run {
@@ -46,6 +46,16 @@ impl Run {
             job,
             phase: Phase::Other(first),
         }
+    }
+
+    /// How many exchanges it may still take at most, of which each turn makes one: for a bound on the wait.
+    pub fn exchanges_left(&self) -> u64
+        ensures left { result ≡ exchanges_left self.now }
+        ensures some { 0 < result }
+        ensures bounded { result ≤ 17 * self.now.job.count + 19 }
+        ensures few { self.now.job.count ≤ MAX_BLOCKS }
+    {
+        phase_left(&self.job, self.phase)
     }
 
     /// The next exchange of a write, with the same blocks at each turn.
@@ -98,6 +108,29 @@ impl Run {
                 progress(job, result)
             }
         }
+    }
+}
+
+// The exchanges that are left at most, from this phase on: 17 for each block, with the polls behind it, and what ends the
+// run.
+fn phase_left(job: &Job, phase: Phase) -> u64
+    requires fits { IsTrue (phase_fits job.now.count job.now.session.info.cmd23 phase) }
+    ensures { result ≡ phase_left job.now.count job.now.session.info.cmd23 phase }
+{
+    let count = u64::from(job.count);
+    let end = if job.is_counted() { 17 } else { 18 };
+    match phase {
+        Phase::Block { done } => 17 * (count - u64::from(done)) + end,
+        Phase::Other(step) => match step {
+            Step::Preset => 17 * count + end + 2,
+            Step::Command => 17 * count + end + 1,
+            Step::Pause { done, polls } => 17 * (count - u64::from(done))
+                + end
+                + (MAX_POLLS - polls),
+            Step::Stop => 18,
+            Step::Finish { polls } => MAX_POLLS + 1 - polls,
+            Step::Confirm => 1,
+        },
     }
 }
 

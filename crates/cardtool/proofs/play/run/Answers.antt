@@ -1,6 +1,6 @@
 use Rattle.std.proofs.Common.{[], ◌∷◌, arith}
 use Rattle.cardtool.specs.declared.event.ScriptEvent.TheVariants.{Run}
-use Rattle.cardtool.proofs.DeviceLemmas.{later_none, later_then, so_far_broken, so_far_none, so_far_then, waiting_is}
+use Rattle.cardtool.proofs.DeviceLemmas.{later_none, later_then, so_far_broken, so_far_none, so_far_then, some_unanswered}
 use Rattle.cardtool.proofs.ServingLemmas.{run_idle, run_turn, run_turn_broken}
 use Rattle.cardtool.proofs.play.run.Goals as goal
 
@@ -11,9 +11,8 @@ pub loop-device-preserved : goal.loop-device-preserved
 loop-device-preserved g c =
     so_far_then g.B.Bus.view c.args.device.now c.loop-device.device c.turn.new.device (Run ∷ []) (Run ∷ []) []
     (Run ∷ []) _ (g.W.Write.contents c.loop-device.out) _ _ _ c.loop-device.invariant c.turn.ensures.later_device
-    (λ kept. run_turn g.B.Bus.view c.loop-device.device c.turn.new.device _ _ c.waiting.result _
-    c.loop-device-test.true
-    (λ m h. waiting_is g.B.Bus.view c.loop-device.device m c.waiting.result c.waiting.ensures h)
+    (λ kept. run_turn g.B.Bus.view c.loop-device.device c.turn.new.device _ _ _
+    (some_unanswered c.work_left.result _ c.work_left.ensures.none c.loop-device-test.true)
     (c.in_ok-bad.ensures.turns kept))
 
 pub returns-in_err-bad : goal.returns-in_err-bad
@@ -21,9 +20,8 @@ returns-in_err-bad g c = record {
   serves = so_far_broken g.B.Bus.view c.args.device.now c.loop-device.device c.turn.new.device (Run ∷ []) (Run ∷ [])
       [] _ (g.W.Write.contents c.loop-device.out) _ _ c.from_residual.result c.from_residual.ensures.0
       c.loop-device.invariant c.turn.ensures.later_device
-      (λ kept. run_turn_broken g.B.Bus.view c.loop-device.device c.turn.new.device _ _ c.waiting.result _
-      c.loop-device-test.true
-      (λ m h. waiting_is g.B.Bus.view c.loop-device.device m c.waiting.result c.waiting.ensures h)
+      (λ kept. run_turn_broken g.B.Bus.view c.loop-device.device c.turn.new.device _ _ _
+      (some_unanswered c.work_left.result _ c.work_left.ensures.none c.loop-device-test.true)
       (c.in_err-bad.ensures.turns kept));
   later_device = later_then _ _ _ _ c.loop-device.invariant.later_device c.turn.ensures.later_device;
 }
@@ -33,6 +31,5 @@ returns g c =
     let ended = so_far_then g.B.Bus.view c.args.device.now c.loop-device.device c.loop-device.device (Run ∷ [])
     (Run ∷ []) [] [] _ (g.W.Write.contents c.loop-device.out) (g.W.Write.contents c.loop-device.out) _ _
     c.loop-device.invariant (later_none g.B.Bus.view c.loop-device.device)
-    (λ kept. run_idle g.B.Bus.view c.loop-device.device _ c.waiting.result (omega arith)
-    (λ m h. waiting_is g.B.Bus.view c.loop-device.device m c.waiting.result c.waiting.ensures h)) in
+    (λ kept. run_idle g.B.Bus.view c.loop-device.device _ (c.work_left.ensures.none.0 (omega arith))) in
     record { serves = ended.serves; later_device = ended.later_device }

@@ -1,4 +1,5 @@
-use Rattle.std.proofs.Common.{[], ◌∷◌, length}
+use Rattle.std.proofs.Common.{[], ◌∷◌}
+use Rattle.mmc_block.specs.Device.{work_of}
 use Rattle.cardtool.specs.declared.event.ScriptEvent.TheVariants.{Run}
 use Rattle.cardtool.proofs.DeviceLemmas.{ServedSoFar}
 use Rattle.cardtool.proofs.play.run.Given as goal
@@ -9,4 +10,4 @@ invariant-loop-device g l =
     (g.W.Write.contents l.out) l.bad
 
 abbrev pub decreases-loop-device : goal.decreases-loop-device
-decreases-loop-device g l = length l.device.waits
+decreases-loop-device g l = work_of l.device

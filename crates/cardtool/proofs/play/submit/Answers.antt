@@ -1,6 +1,6 @@
-use Rattle.std.proofs.Common.{ap, subst, sym}
+use Rattle.std.proofs.Common.{subst, sym}
 use Rattle.cardtool.specs.Serving.{IsLaterDevice}
-use Rattle.cardtool.proofs.DeviceLemmas.{idle_queued, idle_refused, later_none, later_queued}
+use Rattle.cardtool.proofs.DeviceLemmas.{later_none, later_queued}
 use Rattle.cardtool.proofs.ServingLemmas.{queued, refused}
 use Rattle.cardtool.proofs.play.submit.Goals as goal
 use Rattle.cardtool.proofs.play.submit.Goals.{in-Err, in-Ok}
@@ -14,9 +14,7 @@ returns g c =
         serves = λ kept.
             rw (w.result-is, w.out-is, w.answer.ensures)
             (queued g.B.Bus.view c.args.device.now _ c.args.client w.in-Ok.ticket c.args.request _ _ _
-            (idle_queued g.B.Bus.view c.args.device.now _ c.args.client w.in-Ok.ticket c.args.request
-            w.in-Ok.ensures.accepted w.in-Ok.ensures.machine)
-            w.put_queued-printed.ensures (ap (λ d. d.is_ready) w.in-Ok.ensures.accepted.waits));
+            w.in-Ok.ensures.accepted w.in-Ok.ensures.machine w.put_queued-printed.ensures);
       }
       | in-Err w ↦ record {
         later_device = subst (λ d. IsLaterDevice g.B.Bus.view c.args.device.now d) (sym w.in-Err.ensures.refused)
@@ -24,8 +22,6 @@ returns g c =
         serves = λ kept.
             rw (w.result-is, w.out-is, w.answer-in-Err.ensures)
             (refused g.B.Bus.view c.args.device.now _ c.args.client c.args.request w.in-Err.refused _ _ _
-            (idle_refused g.B.Bus.view c.args.device.now _ c.args.client c.args.request w.in-Err.refused
-            w.in-Err.ensures.refused w.in-Err.ensures.first)
-            w.put_refused-printed.ensures (ap (λ d. d.is_ready) w.in-Err.ensures.refused));
+            w.in-Err.ensures.refused w.in-Err.ensures.machine w.put_refused-printed.ensures);
       }
     ]

@@ -1,6 +1,6 @@
 use Rattle.std.proofs.Common.{◌-◌}
 use Rattle.mmc_card.specs.Card.{holds}
-use Rattle.cardtool.proofs.WholeLemmas.{is_served, kept_at_end, served_device, unopened, unwritten}
+use Rattle.cardtool.proofs.WholeLemmas.{Laws, is_served, kept_at_end, served_device, unopened, unwritten}
 use Rattle.cardtool.proofs.serve.serve_untraced.Goals as goal
 
 pub returns-clause-served : goal.returns-clause-served
@@ -8,13 +8,19 @@ returns-clause-served g c = λ kept decided.
     let o = c.in-Ok.ensures in
     let first = g.B.Bus.view c.args.bus in
     let last = g.B.Bus.view c.close-bus.result in
+    let laws : Laws = record {
+      counted = c.a_counted_run_is_a_run.ensures;
+      faults = c.a_failure_takes_four_faults.ensures.each;
+      order = c.answers_are_in_order.ensures;
+      ends = c.contents_are_in_order.ensures;
+    } in
     rw c.outcome.ensures
     (is_served g.B.Bus.view c.in-Ok.device c.play-served.new.device first.card.made (holds first.card) (holds last.card)
-    (last.faults - first.faults) _ _ _ c.play-served.result c.answers_are_in_order.ensures
-    c.contents_are_in_order.ensures decided
+    (last.faults - first.faults) laws decided
     (served_device g.B.Bus.view c.in-Ok.device c.play-served.new.device c.args.bus c.close-bus.result o.info o.ok.0
-    o.ok.1 o.ok.2 o.ok.3 o.stays c.play-served.ensures.later_device c.close-bus.ensures.bus
+    o.ok.1 o.stays o.machine c.play-served.ensures.later_device c.close-bus.ensures.bus
     c.close-bus.ensures.agrees kept)
+    c.args.script _ _ c.play-served.result
     (c.play-served.ensures.serves (kept_at_end g.B.Bus.view _ _ c.close-bus.ensures.bus kept)))
 
 pub returns-in-Err-clause-served : goal.returns-in-Err-clause-served

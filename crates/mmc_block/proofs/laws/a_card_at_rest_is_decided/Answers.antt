@@ -1,4 +1,4 @@
-use Rattle.mmc_block.proofs.TurnLemmas.{rest_decided}
+use Rattle.mmc_block.proofs.RestLemmas.{rest_decided}
 use Rattle.mmc_block.proofs.laws.a_card_at_rest_is_decided.Goals as goal
 
 pub returns : goal.returns

@@ -1,7 +1,8 @@
 use Rattle.mmc_bus.proofs.WorkLemmas.{command_worked}
 use Rattle.mmc_card.specs.Card.{First}
-use Rattle.mmc_erase.proofs.CommandLemmas.{asked_as, done_where_answered, done_where_it_can, last_erases_nothing}
-use Rattle.mmc_erase.proofs.CommandLemmas.{last_is_of_a_run, last_law}
+use Rattle.mmc_erase.proofs.CommandLemmas.{asked_as, done_where_answered, done_where_it_can, erases_nothing}
+use Rattle.mmc_erase.proofs.CommandLemmas.{is_of_a_run, last_law, last_names_only}
+use Rattle.mmc_erase.specs.Commands.{last_index}
 use Rattle.mmc_erase.proofs.commands.hold_last.Goals as goal
 
 pub returns-clause-works : goal.returns-clause-works
@@ -11,8 +12,8 @@ returns-clause-works g c kept =
     let asked = asked_as c.last_command.ensures.named c.ask.ensures.asked in
     let k = asked.exchanged.kept kept in
     let e = c.cmd33_and_cmd36_hold_the_last_address.ensures in
-    command_worked asked (last_erases_nothing kind old.card c.args.address) (last_is_of_a_run kind old.card c.args.address)
-    kept
+    command_worked asked (erases_nothing last_index last_names_only kind old.card c.args.address)
+    (is_of_a_run last_index last_names_only kind old.card c.args.address) kept
     (λ first ok is one. let told = c.check_r1.ensures.ok ok in
     done_where_answered kind _ old _ _ (last_law e.sd e.mmc kind old _ first c.args.address _ k.step is one) told.0 told.1)
     (λ same first can. done_where_it_can kind _ old _ _

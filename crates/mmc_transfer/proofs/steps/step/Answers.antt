@@ -1,26 +1,93 @@
-use Rattle.mmc_transfer.proofs.StepLemmas.{in_step}
+use Rattle.mmc_switch.proofs.EndingLemmas.{polls_by}
+use Rattle.mmc_transfer.proofs.BeginLemmas.{begin_fails, begin_goes_on}
+use Rattle.mmc_transfer.proofs.EndLemmas.{end_fails, end_goes_on}
+use Rattle.mmc_transfer.proofs.FinishLemmas.{close_ends, close_fails, finish_ends, finish_fails, polls_still}
+use Rattle.mmc_transfer.proofs.PauseLemmas.{pause_ends, pause_fails, pause_stops, pauses_still}
+use Rattle.mmc_transfer.proofs.PresetLemmas.{preset_fails, preset_goes_on}
+use Rattle.mmc_transfer.proofs.StepLemmas.{fits_as, in_step}
 use Rattle.mmc_transfer.proofs.steps.step.Goals as goal
 
-pub returns-in-Preset-clause-turned : goal.returns-in-Preset-clause-turned
-returns-in-Preset-clause-turned g c kept blocks faults all at =
-    c.preset_count.ensures.turned kept blocks faults (in_step c.args.job.now blocks faults _ c.in-Preset.is at)
+pub returns-in_err-preset-in-Preset-clause-turned :
+    goal.returns-in_err-preset-in-Preset-clause-turned
+returns-in_err-preset-in-Preset-clause-turned g c kept blocks faults all at =
+    preset_fails c.args.job.now blocks faults _ _ _ (fits_as c.args.job.now c.in-Preset.is c.requires.fits)
+    (in_step c.args.job.now blocks faults _ c.in-Preset.is at) _ c.from_residual.ensures.0
+    (c.in_err-preset-in-Preset.ensures.works kept)
 
-pub returns-in-Command-clause-turned : goal.returns-in-Command-clause-turned
-returns-in-Command-clause-turned g c kept blocks faults all at =
-    c.begin_transfer.ensures.turned kept blocks faults (in_step c.args.job.now blocks faults _ c.in-Command.is at)
+pub returns-in_ok-preset-in-Preset-clause-turned : goal.returns-in_ok-preset-in-Preset-clause-turned
+returns-in_ok-preset-in-Preset-clause-turned g c kept blocks faults all at =
+    preset_goes_on c.args.job.now blocks faults _ _ _ (fits_as c.args.job.now c.in-Preset.is c.requires.fits)
+    (in_step c.args.job.now blocks faults _ c.in-Preset.is at) (c.in_ok-preset-in-Preset.ensures.works kept)
 
-pub returns-in-Pause-clause-turned : goal.returns-in-Pause-clause-turned
-returns-in-Pause-clause-turned g c kept blocks faults all at =
-    c.pause.ensures.turned kept blocks faults (in_step c.args.job.now blocks faults _ c.in-Pause.is at)
+pub returns-in_err-start-in-Command-clause-turned :
+    goal.returns-in_err-start-in-Command-clause-turned
+returns-in_err-start-in-Command-clause-turned g c kept blocks faults all at =
+    begin_fails c.args.job.now blocks faults _ _ _ _ c.address.ensures
+    (in_step c.args.job.now blocks faults _ c.in-Command.is at) _ c.from_residual-in_err-start-in-Command.ensures.0
+    (c.in_err-start-in-Command.ensures.works kept)
 
-pub returns-in-Stop-clause-turned : goal.returns-in-Stop-clause-turned
-returns-in-Stop-clause-turned g c kept blocks faults all at =
-    c.end_transfer.ensures.turned kept blocks faults (in_step c.args.job.now blocks faults _ c.in-Stop.is at)
+pub returns-in_ok-start-in-Command-clause-turned : goal.returns-in_ok-start-in-Command-clause-turned
+returns-in_ok-start-in-Command-clause-turned g c kept blocks faults all at =
+    begin_goes_on c.args.job.now blocks faults _ _ _ _ c.address.ensures
+    (in_step c.args.job.now blocks faults _ c.in-Command.is at) (c.in_ok-start-in-Command.ensures.works kept)
 
-pub returns-in-Finish-clause-turned : goal.returns-in-Finish-clause-turned
-returns-in-Finish-clause-turned g c kept blocks faults all at =
-    c.finish.ensures.turned kept blocks faults all (in_step c.args.job.now blocks faults _ c.in-Finish.is at)
+pub returns-in_err-polls-in-Pause-clause-turned : goal.returns-in_err-polls-in-Pause-clause-turned
+returns-in_err-polls-in-Pause-clause-turned g c kept blocks faults all at =
+    pause_fails c.args.job.now blocks faults _ _ _ _ (in_step c.args.job.now blocks faults _ c.in-Pause.is at) _
+    c.from_residual-in_err-polls-in-Pause.ensures.0 c.in_err-polls-in-Pause.ensures.err.1
+    (polls_by _ _ c.if-poll.ensures.polled kept)
 
-pub returns-in-Confirm-clause-turned : goal.returns-in-Confirm-clause-turned
-returns-in-Confirm-clause-turned g c kept blocks faults all at =
-    c.close.ensures.turned kept blocks faults all (in_step c.args.job.now blocks faults _ c.in-Confirm.is at)
+pub returns-in_ok-polls-in-Pause-clause-turned : goal.returns-in_ok-polls-in-Pause-clause-turned
+returns-in_ok-polls-in-Pause-clause-turned g c kept blocks faults all at =
+    pauses_still c.args.job.now blocks faults _ _ _ _ (in_step c.args.job.now blocks faults _ c.in-Pause.is at) _
+    c.in_ok-polls-in-Pause.ensures.ok.0 (polls_by _ _ c.if-poll.ensures.polled kept)
+
+pub returns-then-done-job-clause-turned : goal.returns-then-done-job-clause-turned
+returns-then-done-job-clause-turned g c kept blocks faults all at =
+    pause_stops c.args.job.now blocks faults _ _ _ _ (in_step c.args.job.now blocks faults _ c.in-Pause.is at)
+    c.if-done-job.true (polls_by _ _ c.if-poll.ensures.polled kept)
+
+pub returns-else-done-job-clause-turned : goal.returns-else-done-job-clause-turned
+returns-else-done-job-clause-turned g c kept blocks faults all at =
+    pause_ends c.args.job.now blocks faults _ _ _ _ (in_step c.args.job.now blocks faults _ c.in-Pause.is at)
+    (polls_by _ _ c.if-poll.ensures.polled kept)
+
+pub returns-in_err-stop-in-Stop-clause-turned : goal.returns-in_err-stop-in-Stop-clause-turned
+returns-in_err-stop-in-Stop-clause-turned g c kept blocks faults all at =
+    end_fails c.args.job.now blocks faults _ _ _ _ c.ends_partition.ensures
+    (in_step c.args.job.now blocks faults _ c.in-Stop.is at) _ c.from_residual-in_err-stop-in-Stop.ensures.0
+    (c.in_err-stop-in-Stop.ensures.works kept)
+
+pub returns-in_ok-stop-in-Stop-clause-turned : goal.returns-in_ok-stop-in-Stop-clause-turned
+returns-in_ok-stop-in-Stop-clause-turned g c kept blocks faults all at =
+    end_goes_on c.args.job.now blocks faults _ _ _ _ c.ends_partition.ensures
+    (in_step c.args.job.now blocks faults _ c.in-Stop.is at) (c.in_ok-stop-in-Stop.ensures.works kept)
+
+pub returns-in_err-polls-in-Finish-clause-turned : goal.returns-in_err-polls-in-Finish-clause-turned
+returns-in_err-polls-in-Finish-clause-turned g c kept blocks faults all at =
+    finish_fails c.args.job.now blocks all faults _ _ _ (in_step c.args.job.now blocks faults _ c.in-Finish.is at) _
+    c.from_residual-in_err-polls-in-Finish.ensures.0 c.in_err-polls-in-Finish.ensures.err.1
+    (polls_by _ _ c.if-poll-2.ensures.polled kept)
+
+pub returns-in_ok-polls-in-Finish-clause-turned : goal.returns-in_ok-polls-in-Finish-clause-turned
+returns-in_ok-polls-in-Finish-clause-turned g c kept blocks faults all at =
+    polls_still c.args.job.now blocks all faults _ _ _ (in_step c.args.job.now blocks faults _ c.in-Finish.is at) _
+    c.in_ok-polls-in-Finish.ensures.ok.0 (polls_by _ _ c.if-poll-2.ensures.polled kept)
+
+pub returns-else-poll-2-clause-turned : goal.returns-else-poll-2-clause-turned
+returns-else-poll-2-clause-turned g c kept blocks faults all at =
+    finish_ends c.args.job.now blocks all faults _ _ _ (in_step c.args.job.now blocks faults _ c.in-Finish.is at)
+    c.programming_carries_a_change_out.ensures.changes (polls_by _ _ c.if-poll-2.ensures.polled kept)
+
+pub returns-in_err-confirm-in-Confirm-clause-turned :
+    goal.returns-in_err-confirm-in-Confirm-clause-turned
+returns-in_err-confirm-in-Confirm-clause-turned g c kept blocks faults all at =
+    close_fails c.args.job.now blocks all faults _ _ _ _ c.rca.ensures
+    (in_step c.args.job.now blocks faults _ c.in-Confirm.is at) _ c.from_residual-in_err-confirm-in-Confirm.ensures.0
+    (c.in_err-confirm-in-Confirm.ensures.works kept)
+
+pub returns-in_ok-confirm-in-Confirm-clause-turned :
+    goal.returns-in_ok-confirm-in-Confirm-clause-turned
+returns-in_ok-confirm-in-Confirm-clause-turned g c kept blocks faults all at =
+    close_ends c.args.job.now blocks all faults _ _ _ _ c.rca.ensures
+    (in_step c.args.job.now blocks faults _ c.in-Confirm.is at) (c.in_ok-confirm-in-Confirm.ensures.works kept)

@@ -1,0 +1,22 @@
+-- The request leaves the queue, and the machine gives it back.
+use Rattle.std.proofs.Common.{refl}
+use Rattle.mmc_block.proofs.CancelLemmas.{gives_back, is_unknown, none_waits, taken_ok}
+use Rattle.mmc_block.proofs.device.BlockDev.cancel.Goals as goal
+
+pub returns-in_default-clause-machine : goal.returns-in_default-clause-machine
+returns-in_default-clause-machine g c =
+    let none = c.in_default.ensures.taken in
+    rw (← c.self.view_is, none.1) (is_unknown g.B.Bus.view _ c.args.ticket
+    (c.if-is_in_service.ensures.no refl)
+    (none_waits c.args.ticket c.self.inside.queue none.0))
+
+pub invariant_of-self-2 : goal.invariant_of-self-2
+invariant_of-self-2 g c =
+    taken_ok c.self.inside.info c.self.inside.queue c.take.new.self c.self.inside.service c.in-Ok.entry
+    c.self.inside.next c.in-Ok.ensures.taken.2 c.self.invariant
+
+pub returns-clause-machine : goal.returns-clause-machine
+returns-clause-machine g c =
+    let taken = c.in-Ok.ensures.taken in
+    rw (← c.self.view_is) (gives_back g.B.Bus.view _ c.self.inside.queue c.take.new.self c.in-Ok.entry c.args.ticket
+    refl taken.0 taken.2)

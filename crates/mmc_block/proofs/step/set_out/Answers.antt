@@ -1,0 +1,31 @@
+use Rattle.std.proofs.Common.{arith, subst}
+use Rattle.mmc_switch.specs.UnderWay.{faults_then}
+use Rattle.mmc_switch.specs.declared.session.Session.{Session}
+use Rattle.mmc_block.specs.Service.{Did, change_of_group}
+use Rattle.mmc_block.proofs.BeginLemmas.{run_exists}
+use Rattle.mmc_block.proofs.StepLemmas.{down_did, up_did}
+use Rattle.mmc_block.proofs.step.set_out.Goals as goal
+
+pub returns-then-eq-clause-did : goal.returns-then-eq-clause-did
+returns-then-eq-clause-did g c kept ready =
+    let old = g.B.Bus.view c.args.bus.now in
+    let new = g.B.Bus.view c.exchange.new.bus in
+    subst (λ (s : Session). Did (change_of_group s.info c.args.group.now) c.exchange.new.group (faults_then 0 old new) old c.exchange.result new)
+    c.begin-run.ensures.session (c.exchange.ensures.did kept 0 (c.begin-run.ensures.under_way old ready))
+
+pub select-requires : goal.select-requires
+select-requires g c = record {
+  exists = run_exists c.args.session.info c.args.group.now c.requires.servable
+      (c.a_group_is_a_run_of_sectors.ensures _ _ c.requires.joined);
+}
+
+pub returns-in-Ok-clause-did : goal.returns-in-Ok-clause-did
+returns-in-Ok-clause-did g c kept ready =
+    up_did _ c.args.group.now _ c.in-Ok.session _ _ (c.in-Ok.ensures.stays kept ready) (c.in-Ok.ensures.ready kept ready)
+
+pub returns-in-Err-clause-did : goal.returns-in-Err-clause-did
+returns-in-Err-clause-did g c kept ready =
+    let loose = c.in-Err.ensures.loose kept ready in
+    let fell = loose.1 in
+    down_did _ c.args.group.now _ c.in-Err.broken _ _ (c.in-Err.ensures.stays kept ready) loose.0
+    (λ made. omega (arith, fell))

@@ -1,0 +1,80 @@
+-- What a turn does over any bus, and what a machine calls the answers of calls.
+use Rattle.std.specs.Prelude.{◌++◌, ◌*◌, ◌∷◌, ◌≡◌, ◌⊎◌, Bool, Err, List, Ok, Result, [], false, length, ℕ}
+use Rattle.mmc_bus.specs.declared.cause.Cause.{Cause}
+use Rattle.mmc_queue.specs.declared.request.Request.{Request}
+use Rattle.mmc_queue.specs.declared.request.Request.TheVariants.{Read}
+use Rattle.mmc_block.specs.Groups.{PassNone}
+use Rattle.mmc_block.specs.Machine.{IsMerged, Waiting}
+use Rattle.mmc_block.specs.Run.{Reply}
+use Rattle.mmc_block.specs.Run.Reply.{Accepted, GivenBack, InService, RefusedFor, Unknown}
+use Rattle.mmc_block.specs.Work.{is_down}
+use Rattle.mmc_block.specs.declared.cancel.CancelFault.{CancelFault}
+use Rattle.mmc_block.specs.declared.cancel.CancelFault.TheVariants as fault
+use Rattle.mmc_block.specs.declared.completion.Answer.{Answer}
+use Rattle.mmc_block.specs.declared.completion.Answer.TheVariants.{Data, Done, Failed}
+use Rattle.mmc_block.specs.declared.completion.Completion.{Completion}
+use Rattle.mmc_block.specs.declared.refused.Refused.{Refused}
+use Rattle.mmc_block.specs.declared.service.Service.{Service}
+use Rattle.mmc_block.specs.declared.service.Service.TheVariants.{Idle, Serving, Taken}
+use Rattle.mmc_block.specs.declared.service.Stage.TheVariants.{At}
+
+-- Who is answered.
+
+-- an answer of the right kind
+abbrev pub Fits : Request → Answer → Type 0
+Fits (Read part start count) Done = ⊥
+Fits (Read part start count) (Data bytes) = length bytes ≡ 512 * count
+Fits (Read part start count) (Failed cause) = Unit {0}
+Fits request Done = Unit {0}
+Fits request (Data bytes) = ⊥
+Fits request (Failed cause) = Unit {0}
+
+-- answers to these, in order, each under its ticket and client
+abbrev pub AreFor : List Waiting → List Completion → Type 0
+AreFor [] completions = completions ≡ []
+AreFor (w ∷ ws) completions =
+    (answer : Answer) × (rest : List Completion)
+    × (completions ≡ record { ticket = w.ticket; client = w.client; answer = answer } ∷ rest)
+    × Fits w.request answer × AreFor ws rest
+
+-- Where nothing is in service some of those that wait go into service. Then the first in service are answered, and the
+-- others stay; none that is answered passes an earlier one that waits and conflicts.
+pub record Answers (waits in_service : List Waiting) (completions : List Completion)
+    (waits_new in_service_new : List Waiting) : Type 0 where
+  pub started : List Waiting
+  pub start : ((started ≡ in_service) × (waits_new ≡ waits)) ⊎ ((in_service ≡ []) × IsMerged waits started waits_new)
+  pub answered : List Waiting
+  pub served : started ≡ answered ++ in_service_new
+  pub named : AreFor answered completions
+  pub passes_none : PassNone answered waits_new
+
+-- Causes.
+
+-- the cause of a failure
+abbrev pub IfFailed : Answer → (Cause → Type 0) → Type 0
+IfFailed Done P = Unit {0}
+IfFailed (Data bytes) P = Unit {0}
+IfFailed (Failed cause) P = P cause
+
+abbrev pub IfEachFailed : List Completion → (Cause → Type 0) → Type 0
+IfEachFailed [] P = Unit {0}
+IfEachFailed (c ∷ cs) P = IfFailed c.answer P × IfEachFailed cs P
+
+-- something had failed, and the card is to be settled before anything else
+abbrev pub holds_broken : Service → Bool
+holds_broken (Idle link) = is_down (At link)
+holds_broken (Serving stage attempt) = is_down stage
+holds_broken Taken = false
+
+-- Replies.
+
+-- what the machine's events call the answer to a submission
+abbrev pub submitted_reply : Result ℕ (Request × Refused) → Reply
+submitted_reply (Ok ticket) = Accepted ticket
+submitted_reply (Err e) = RefusedFor e.1
+
+-- and to a cancellation
+abbrev pub cancelled_reply : Result Request CancelFault → Reply
+cancelled_reply (Ok request) = GivenBack request
+cancelled_reply (Err fault.InService) = InService
+cancelled_reply (Err fault.Unknown) = Unknown

@@ -1,0 +1,236 @@
+-- What the service of a device means.
+use Rattle.std.specs.Prelude.{◌++◌, ◌+◌, ◌-◌, ◌<◌, ◌∷◌, ◌≡◌, ◌≤◌, ◌⊎◌, List, [], length, map, ℕ}
+use Rattle.mmc_card.specs.BusView.{BusView}
+use Rattle.mmc_card.specs.Card.{holds}
+use Rattle.mmc_card.specs.Profile.{InProfile}
+use Rattle.mmc_card.specs.Sectors.{Change, Sector, Within, changed, maybe_changed}
+use Rattle.mmc_bus.specs.Learned.{Stays}
+use Rattle.mmc_erase.specs.Run.{IsRunning as IsErasing}
+use Rattle.mmc_erase.specs.declared.how.How.{How}
+use Rattle.mmc_erase.specs.declared.how.How.TheVariants as how
+use Rattle.mmc_queue.specs.Group.{IsFair, IsJoined}
+use Rattle.mmc_queue.specs.Lent.{blocks_of, write_blocks_of}
+use Rattle.mmc_queue.specs.Waiting.{AreSound}
+use Rattle.mmc_queue.specs.declared.entry.Entry.{Entry}
+use Rattle.mmc_queue.specs.declared.group.Group.{Group}
+use Rattle.mmc_queue.specs.declared.kind.Kind.{Kind}
+use Rattle.mmc_queue.specs.declared.kind.Kind.TheVariants as kind
+use Rattle.mmc_switch.specs.Place.{IsLoose, IsReady}
+use Rattle.mmc_switch.specs.UnderWay.{part_of}
+use Rattle.mmc_switch.specs.declared.broken.Broken.{Broken}
+use Rattle.mmc_switch.specs.declared.info.Info.{Info}
+use Rattle.mmc_switch.specs.declared.session.Session.{Session}
+use Rattle.mmc_transfer.specs.Run.{IsRunning as IsMoving}
+use Rattle.mmc_transfer.specs.declared.way.Way.{Way}
+use Rattle.mmc_transfer.specs.declared.way.Way.TheVariants as way
+use Rattle.mmc_block.specs.Changes.{erased_at}
+use Rattle.mmc_block.specs.Entries.{AreServable, HoldWhatTheyRead, completion_of, waits_of}
+use Rattle.mmc_block.specs.Groups.{AreInOrder, AreOneKind, PassNone}
+use Rattle.mmc_block.specs.Machine.{Waiting}
+use Rattle.mmc_block.specs.declared.completion.Answer.TheVariants.{Failed as FailedFor}
+use Rattle.mmc_block.specs.declared.completion.Completion.{Completion}
+use Rattle.mmc_block.specs.declared.service.Attempt.{Attempt}
+use Rattle.mmc_block.specs.declared.service.Link.{Link}
+use Rattle.mmc_block.specs.declared.service.Link.TheVariants.{Down, Up}
+use Rattle.mmc_block.specs.declared.service.Outcome.{Outcome}
+use Rattle.mmc_block.specs.declared.service.Outcome.TheVariants.{Done, Failed, More}
+use Rattle.mmc_block.specs.declared.service.Run.{Run}
+use Rattle.mmc_block.specs.declared.service.Run.TheVariants.{Blocks, Erase}
+use Rattle.mmc_block.specs.declared.service.Service.{Service}
+use Rattle.mmc_block.specs.declared.service.Service.TheVariants.{Idle, Serving, Taken}
+use Rattle.mmc_block.specs.declared.service.Stage.{Stage}
+use Rattle.mmc_block.specs.declared.service.Stage.TheVariants.{At, Running}
+
+-- What is known of the card.
+
+abbrev pub info_of_link : Link → Info
+info_of_link (Up session) = session.info
+info_of_link (Down broken) = broken.session.info
+
+abbrev pub session_of : Run → Session
+session_of (Blocks run) = run.job.session
+session_of (Erase run) = run.job.session
+
+abbrev pub info_of_stage : Stage → Info
+info_of_stage (At link) = info_of_link link
+info_of_stage (Running run) = (session_of run).info
+
+abbrev pub info_of_outcome : Outcome → Info
+info_of_outcome (More stage) = info_of_stage stage
+info_of_outcome (Done session) = session.info
+info_of_outcome (Failed broken) = broken.session.info
+
+-- A run for a group.
+
+abbrev pub kind_of_way : Way → Kind
+kind_of_way way.Read = kind.Read
+kind_of_way way.Write = kind.Write
+
+abbrev pub kind_of_how : How → Kind
+kind_of_how how.Erase = kind.Erase
+kind_of_how how.Trim = kind.Trim
+
+-- the session's partition and these sectors are those of the group
+pub record IsFor (group : Group) (session : Session) (start count : ℕ) : Type 0 where
+  pub part : part_of session ≡ group.run.part
+  pub start_is : start ≡ group.run.start
+  pub count_is : count ≡ group.run.end - group.run.start
+
+-- the run does what the requests of the group ask
+abbrev pub IsRunOf : Group → Run → Type 0
+IsRunOf group (Blocks run) =
+    IsFor group run.job.session run.job.start run.job.count × (group.run.kind ≡ kind_of_way run.job.way)
+IsRunOf group (Erase run) =
+    IsFor group run.job.session run.job.start run.job.count × (group.run.kind ≡ kind_of_how run.job.how)
+
+abbrev pub IsStageOf : Group → Stage → Type 0
+IsStageOf group (At link) = Unit {0}
+IsStageOf group (Running run) = IsRunOf group run
+
+abbrev pub IsOutcomeOf : Group → Outcome → Type 0
+IsOutcomeOf group (More stage) = IsStageOf group stage
+IsOutcomeOf group (Done session) = Unit {0}
+IsOutcomeOf group (Failed broken) = Unit {0}
+
+-- the blocks that a group lends to a run which moves blocks this way
+abbrev pub lent_for : Way → Group → List Sector
+lent_for way.Read group = blocks_of group
+lent_for way.Write group = write_blocks_of group
+
+-- the change that a run for a group makes, by its kind
+abbrev pub change_by : Info → Group → Kind → Change
+change_by info group kind.Read = record { part = group.run.part; start = group.run.start; values = [] }
+change_by info group kind.Write = record { part = group.run.part; start = group.run.start; values = write_blocks_of group }
+change_by info group kind.Erase = erased_at info group.run.part group.run.start (group.run.end - group.run.start)
+change_by info group kind.Trim = erased_at info group.run.part group.run.start (group.run.end - group.run.start)
+
+abbrev pub change_of_group : Info → Group → Change
+change_of_group info group = change_by info group group.run.kind
+
+-- Where the card is.
+
+abbrev pub IsLinked : Link → BusView → Type 0
+IsLinked (Up session) view = IsReady session view
+IsLinked (Down broken) view = IsLoose broken view
+
+-- the run is under way with the blocks of the group, after so many faults in its turns
+abbrev pub IsUnderWay : Run → Group → ℕ → BusView → Type 0
+IsUnderWay (Blocks run) group faults view = IsMoving run (lent_for run.job.way group) faults view
+IsUnderWay (Erase run) group faults view = IsErasing run faults view
+
+-- the card is where the attempt says
+abbrev pub IsAt : Stage → Group → ℕ → BusView → Type 0
+IsAt (At link) group faults view = IsLinked link view
+IsAt (Running run) group faults view = IsUnderWay run group faults view
+
+-- What a turn of an attempt leaves, after so many faults in the turns of its run: it goes on; or it is done with its whole
+-- effect, and the card is ready; or it has failed, which in profile takes a fault.
+abbrev pub HasLeft : Change → Group → ℕ → BusView → Outcome → BusView → Type 0
+HasLeft change group faults old (More stage) new =
+    (later : ℕ) × (later ≤ faults) × IsAt stage group later new
+    × Within (holds new.card) (maybe_changed change (holds old.card))
+HasLeft change group faults old (Done session) new =
+    IsReady session new × Within (holds new.card) (changed change (holds old.card))
+    × HoldWhatTheyRead (holds new.card) group.members.items
+HasLeft change group faults old (Failed broken) new =
+    IsLoose broken new × (InProfile old.card.made → 0 < faults)
+    × Within (holds new.card) (maybe_changed change (holds old.card))
+
+pub record Did (change : Change) (group : Group) (faults : ℕ) (old : BusView) (outcome : Outcome)
+    (new : BusView) : Type 0 where
+  pub stays : Stays old new
+  pub left : HasLeft change group faults old outcome new
+
+-- Who is in service.
+
+-- the service is not in the hands of a call
+abbrev pub IsHeld : Service → Type 0
+IsHeld (Idle link) = Unit {0}
+IsHeld (Serving stage attempt) = Unit {0}
+IsHeld Taken = ⊥
+
+abbrev pub in_service_of : Service → List Waiting
+in_service_of (Idle link) = []
+in_service_of (Serving stage attempt) = waits_of attempt.group.members.items ++ waits_of attempt.others.items
+in_service_of Taken = []
+
+-- how many attempts these have
+abbrev pub tries : {A : Type 0} → List A → ℕ
+tries [] = 0
+tries (w ∷ []) = 4
+tries (w ∷ v ∷ ws) = 2
+
+-- several are served together only where they are all
+abbrev pub AreAll : List Entry → List Entry → Type 0
+AreAll [] others = Unit {0}
+AreAll (w ∷ []) others = Unit {0}
+AreAll (w ∷ v ∷ ws) others = others ≡ []
+
+-- What an attempt keeps true of its fields.
+pub record AttemptOk (info : Info) (attempt : Attempt) : Type 0 where
+  pub joined : IsJoined attempt.group.members.items attempt.group.run
+  pub servable : AreServable info (attempt.group.members.items ++ attempt.others.items)
+  pub sound : AreSound attempt.others.items
+  pub fits : attempt.failed < tries attempt.group.members.items
+  pub all : AreAll attempt.group.members.items attempt.others.items
+  pub few : length attempt.group.members.items + length attempt.others.items ≤ 16
+
+-- Those in service are of one partition and kind, by ticket, and pass no earlier one of these that conflicts.
+pub record AreServed (in_service waits : List Waiting) (next : ℕ) : Type 0 where
+  pub one_kind : AreOneKind in_service
+  pub in_order : AreInOrder 0 in_service next
+  pub passes_none : PassNone in_service waits
+
+abbrev pub ServiceOk : Info → Service → List Waiting → ℕ → Type 0
+ServiceOk info (Idle link) waits next = info_of_link link ≡ info
+ServiceOk info (Serving stage attempt) waits next =
+    (info_of_stage stage ≡ info) × IsStageOf attempt.group stage × AttemptOk info attempt
+    × AreServed (in_service_of (Serving stage attempt)) waits next
+ServiceOk info Taken waits next = ⊥
+
+-- What the device decides.
+
+-- an attempt at these alone, of which none has failed, before these others
+pub record IsFirstTry (attempt : Attempt) (members others : List Entry) : Type 0 where
+  pub members_are : attempt.group.members.items ≡ members
+  pub others_are : attempt.others.items ≡ others
+  pub joined : IsJoined attempt.group.members.items attempt.group.run
+  pub failed : attempt.failed ≡ 0
+
+-- where nothing is in service, the next group goes into service, if something waits
+abbrev pub HasStarted : List Entry → Service → List Entry → Service → Type 0
+HasStarted old (Idle link) left service =
+    ((old ≡ []) × (left ≡ []) × (service ≡ Idle link))
+    ⊎ ((attempt : Attempt) × (service ≡ Serving (At link) attempt) × IsFirstTry attempt attempt.group.members.items []
+    × IsFair old attempt.group.members.items attempt.group.run left)
+HasStarted old (Serving stage attempt) left service = (service ≡ Serving stage attempt) × (left ≡ old)
+HasStarted old Taken left service = ⊥
+
+-- the first of those that are to be served alone, or none
+abbrev pub IsNext : Link → List Entry → Service → Type 0
+IsNext link [] service = service ≡ Idle link
+IsNext link (e ∷ es) service = (attempt : Attempt) × (service ≡ Serving (At link) attempt) × IsFirstTry attempt (e ∷ []) es
+
+-- after the last attempt has failed: one alone fails, and of several each is served alone
+abbrev pub AfterFailure : Broken → List Entry → List Entry → Service → List Completion → Type 0
+AfterFailure broken [] others service completions = ⊥
+AfterFailure broken (e ∷ []) others service completions =
+    IsNext (Down broken) others service
+    × (completions ≡ record { ticket = e.ticket; client = e.client; answer = FailedFor broken.cause } ∷ [])
+AfterFailure broken (e ∷ f ∷ es) others service completions =
+    IsNext (Down broken) (e ∷ f ∷ es) service × (completions ≡ [])
+
+-- after a failure there is another attempt, until the last one has failed
+abbrev pub AfterAttempt : Broken → Attempt → Service → List Completion → Type 0
+AfterAttempt broken attempt service completions =
+    ((attempt.failed + 1 < tries attempt.group.members.items)
+    × (service ≡ Serving (At (Down broken)) (record attempt { failed = attempt.failed + 1 })) × (completions ≡ []))
+    ⊎ ((attempt.failed + 1 ≡ tries attempt.group.members.items)
+    × AfterFailure broken attempt.group.members.items attempt.others.items service completions)
+
+-- what follows a turn of an attempt
+abbrev pub Concludes : Outcome → Attempt → Service → List Completion → Type 0
+Concludes (More stage) attempt service completions = (service ≡ Serving stage attempt) × (completions ≡ [])
+Concludes (Done session) attempt service completions =
+    IsNext (Up session) attempt.others.items service × (completions ≡ map completion_of attempt.group.members.items)
+Concludes (Failed broken) attempt service completions = AfterAttempt broken attempt service completions

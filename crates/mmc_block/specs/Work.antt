@@ -1,0 +1,91 @@
+-- The work that is left, as a bound on the turns, and the causes of failures.
+use Rattle.std.specs.Prelude.{◌*◌, ◌+◌, ◌-◌, ◌<◌, ◌==◌, ◌≡◌, ◌≤◌, Bool, List, None, Option, Some, [], ◌∷◌, false}
+use Rattle.std.specs.Prelude.{if◌then◌else◌, length, true, ℕ}
+use Rattle.mmc_card.specs.BusView.{BusView}
+use Rattle.mmc_card.specs.Sectors.{part_number}
+use Rattle.mmc_card.specs.declared.part.Part.{Part}
+use Rattle.mmc_bus.specs.Heard.{cause_of}
+use Rattle.mmc_bus.specs.declared.cause.Cause.{Cause}
+use Rattle.mmc_bus.specs.declared.cause.Cause.TheVariants.{Recovery}
+use Rattle.mmc_erase.specs.Run.{exchanges_left as erases_left}
+use Rattle.mmc_transfer.specs.Run.{exchanges_left as moves_left}
+use Rattle.mmc_queue.specs.declared.entry.Entry.{Entry}
+use Rattle.mmc_queue.specs.declared.run.TheConstants.{MAX_GROUP}
+use Rattle.mmc_block.specs.Service.{tries}
+use Rattle.mmc_block.specs.declared.service.Attempt.{Attempt}
+use Rattle.mmc_block.specs.declared.service.Link.TheVariants.{Down, Up}
+use Rattle.mmc_block.specs.declared.service.Outcome.{Outcome}
+use Rattle.mmc_block.specs.declared.service.Outcome.TheVariants.{Done, Failed, More}
+use Rattle.mmc_block.specs.declared.service.Run.{Run}
+use Rattle.mmc_block.specs.declared.service.Run.TheVariants.{Blocks, Erase}
+use Rattle.mmc_block.specs.declared.service.Service.{Service}
+use Rattle.mmc_block.specs.declared.service.Service.TheVariants.{Idle, Serving, Taken}
+use Rattle.mmc_block.specs.declared.service.Stage.{Stage}
+use Rattle.mmc_block.specs.declared.service.Stage.TheVariants.{At, Running}
+use Rattle.mmc_block.specs.declared.work.TheConstants.{TURNS_OF_AN_ATTEMPT, TURNS_OF_A_RUN}
+
+-- Turns.
+
+-- the partition is selected
+abbrev pub is_on : Option Part → Part → Bool
+is_on None part = false
+is_on (Some selected) part = part_number selected == part_number part
+
+abbrev pub run_left : Run → ℕ
+run_left (Blocks run) = moves_left run
+run_left (Erase run) = erases_left run
+
+-- what is left of an attempt at a group of this partition: a settle, a select, and a run
+abbrev pub stage_left : Stage → Part → ℕ
+stage_left (At (Down broken)) part = TURNS_OF_A_RUN + 2
+stage_left (At (Up session)) part = if is_on session.selected part then TURNS_OF_A_RUN else TURNS_OF_A_RUN + 1
+stage_left (Running run) part = run_left run
+
+-- an attempt of which so much was left is nearer to its end
+abbrev pub Lowers : ℕ → Part → Outcome → Type 0
+Lowers left part (More stage) = stage_left stage part < left
+Lowers left part (Done session) = 0 < left
+Lowers left part (Failed broken) = 0 < left
+
+-- the attempts that are left after this one: those at the group, and then those at each request of several alone
+abbrev pub split : List Entry → ℕ
+split [] = 0
+split (e ∷ []) = 0
+split (e ∷ f ∷ es) = 4 * length (e ∷ f ∷ es)
+
+abbrev pub attempts_left : Attempt → ℕ
+attempts_left attempt =
+    (tries attempt.group.members.items - (attempt.failed + 1)) + split attempt.group.members.items
+    + 4 * length attempt.others.items
+
+-- an attempt at some requests, of which not all have failed, and not at too many
+abbrev pub IsCountable : Service → Type 0
+IsCountable (Idle link) = Unit {0}
+IsCountable (Serving stage attempt) =
+    (0 < length attempt.group.members.items) × (attempt.failed < tries attempt.group.members.items)
+    × (length attempt.group.members.items + length attempt.others.items ≤ MAX_GROUP)
+IsCountable Taken = Unit {0}
+
+-- a bound on the turns of those in service
+abbrev pub service_left : Service → ℕ
+service_left (Idle link) = 0
+service_left (Serving stage attempt) =
+    stage_left stage attempt.group.run.part + TURNS_OF_AN_ATTEMPT * attempts_left attempt
+service_left Taken = 0
+
+-- Causes.
+
+-- something had failed, and the card is to be settled
+abbrev pub is_down : Stage → Bool
+is_down (At (Down broken)) = true
+is_down (At (Up session)) = false
+is_down (Running run) = false
+
+-- want of recovery where the card was to be settled, otherwise what the last exchange tells
+abbrev pub IsCauseAfter : Bool → Cause → BusView → Type 0
+IsCauseAfter true cause view = cause ≡ Recovery
+IsCauseAfter false cause view = cause_of view.last ≡ Some cause
+
+abbrev pub IsCausedBy : Bool → Outcome → BusView → Type 0
+IsCausedBy down (Failed broken) view = IsCauseAfter down broken.cause view
+IsCausedBy down outcome view = Unit {0}

@@ -1,0 +1,70 @@
+// The service of a device: which requests are served, and how far that has come. It is moved from turn to turn, never copied.
+//
+// 1. The requests of a group are served by one run. An attempt at it settles the card where something had failed, selects
+//    the partition where another one is selected, and makes the run; each of these takes a turn of its own, and so does each
+//    exchange of the run.
+// 2. A group of several has two attempts. Then each of its requests is served alone, by ticket, before anything else.
+// 3. A request that is served alone has four attempts. Then it fails, with the cause of the last one, and nobody else.
+use mmc_erase::EraseRun;
+use mmc_queue::{Group, Members};
+use mmc_switch::{Broken, Session};
+
+/// How the device stands to its card between runs.
+#[derive(Debug, Drop)]
+pub enum Link {
+    /// The card is ready.
+    Up(Session),
+    /// Something failed, and the card is to be settled.
+    Down(Broken),
+}
+
+/// A run for a group.
+#[derive(Debug, Drop)]
+pub enum Run {
+    /// It reads or writes blocks.
+    Blocks(mmc_transfer::Run),
+    /// It erases or trims.
+    Erase(EraseRun),
+}
+
+/// How far an attempt has come.
+#[derive(Debug, Drop)]
+pub enum Stage {
+    /// The run is still to begin.
+    At(Link),
+    /// The run is under way.
+    Running(Run),
+}
+
+/// An attempt at requests in service.
+#[derive(Drop)]
+pub struct Attempt {
+    /// Those that are served together.
+    pub group: Group,
+    /// Those that are to be served alone after them, by ticket.
+    pub others: Members,
+    /// How many attempts at the group have failed.
+    pub failed: u8,
+}
+
+/// What the device is at.
+#[derive(Drop)]
+pub enum Service {
+    /// Nothing is in service.
+    Idle(Link),
+    /// A group is.
+    Serving(Stage, Attempt),
+    /// It is in the hands of a call.
+    Taken,
+}
+
+/// What one settle, one select or one exchange made of an attempt.
+#[derive(Debug, Drop)]
+pub enum Outcome {
+    /// It goes on.
+    More(Stage),
+    /// It is done, and the card is ready.
+    Done(Session),
+    /// It has failed.
+    Failed(Broken),
+}
