@@ -13,8 +13,8 @@ use crate::play::play;
 use crate::script::Script;
 use crate::trace::{end_with_trace, traced};
 use mmc_block::laws::{
-    a_card_at_rest_is_decided, a_counted_run_is_a_run, a_failure_takes_four_faults, answers_are_in_order,
-    contents_are_in_order,
+    a_card_at_rest_is_decided, a_counted_run_is_a_run, a_failure_takes_four_faults,
+    answers_are_in_order, contents_are_in_order,
 };
 use mmc_block::{BlockDev, OpenFault};
 use mmc_bus::Bus;
