@@ -3,7 +3,7 @@ use Rattle.std.proofs.Common.{◌<◌, ◌≡◌, ◌∙◌, ℕ, zero, suc, Lis
 use Rattle.std.specs.Prelude.{◌||◌, ◌↔◌, Bool, IsErr, Option, Result, false}
 use Rattle.mmc_card.specs.BusView.{BusView}
 use Rattle.mmc_queue.specs.declared.request.Request.{Request}
-use Rattle.mmc_block.specs.Device.{DeviceView, Queues}
+use Rattle.mmc_block.specs.Device.{DeviceView, Queues, Withdraws}
 use Rattle.cardtool.specs.declared.event.ScriptEvent.{ScriptEvent}
 use Rattle.cardtool.specs.Serving.{IsLaterDevice, ServesPrefix, ServesScript, ServesUpTo}
 use Rattle.cardtool.proofs.ServingLemmas.{breaks_then, serves_broken, serves_none, serves_then}
@@ -27,6 +27,14 @@ pub later_queued : {B : Type 0} (view : B → BusView) (old new : DeviceView B) 
 later_queued view old new client ticket q queues = record {
   info = ap (λ d. d.info) queues.waits;
   kept = λ k. subst (λ d. (view d.bus).is_kept ≡ true) queues.waits k;
+}
+
+-- a request is cancelled
+pub later_cancelled : {B : Type 0} (view : B → BusView) (old new : DeviceView B) (ticket : ℕ) (q : Request)
+    → Withdraws old ticket q new → IsLaterDevice view old new
+later_cancelled view old new ticket q gone = record {
+  info = ap (λ d. d.info) gone.waits;
+  kept = λ k. subst (λ d. (view d.bus).is_kept ≡ true) gone.waits k;
 }
 
 -- What a loop keeps: the device so far, and the events that were served over a bus that is kept.

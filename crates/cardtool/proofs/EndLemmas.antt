@@ -4,7 +4,7 @@ use Rattle.std.specs.Prelude.{◌==◌}
 use Rattle.std.proofs.lemmas.Bool.{eqb-true}
 use Rattle.mmc_block.specs.Run.{Event as MachineEvent, Follow, Reply}
 use Rattle.cardtool.specs.declared.event.ScriptEvent.{ScriptEvent}
-use Rattle.cardtool.specs.declared.event.ScriptEvent.TheVariants.{Run, Submit, Turn}
+use Rattle.cardtool.specs.declared.event.ScriptEvent.TheVariants.{Cancel, Run, Submit, Turn}
 use Rattle.cardtool.specs.Serving.{IsNext, Standing, due_events, events_behind, standing_of}
 
 -- something comes
@@ -15,6 +15,7 @@ IsMore script = script ≡ [] → ⊥
 abbrev EndsInRun : List ScriptEvent → Type 0
 EndsInRun [] = Unit {0}
 EndsInRun (Submit client request ∷ script) = IsMore script × EndsInRun script
+EndsInRun (Cancel ticket ∷ script) = IsMore script × EndsInRun script
 EndsInRun (Turn ∷ script) = IsMore script × EndsInRun script
 EndsInRun (Run ∷ script) = EndsInRun script
 
@@ -25,6 +26,7 @@ more_is_more (e ∷ script) event h = absurd cc
 run_at_end : (script : List ScriptEvent) → EndsInRun (script ++ Run ∷ [])
 run_at_end [] = tt
 run_at_end (Submit c r ∷ script) = (more_is_more script Run, run_at_end script)
+run_at_end (Cancel t ∷ script) = (more_is_more script Run, run_at_end script)
 run_at_end (Turn ∷ script) = (more_is_more script Run, run_at_end script)
 run_at_end (Run ∷ script) = run_at_end script
 
@@ -36,6 +38,7 @@ due_either false pending script ends due = ends
 due_ends : (pending : ℕ) (script : List ScriptEvent) → EndsInRun script → EndsInRun (due_events pending script)
 due_ends pending [] ends = tt
 due_ends pending (Submit c r ∷ script) ends = ends
+due_ends pending (Cancel t ∷ script) ends = ends
 due_ends pending (Turn ∷ script) ends = ends
 due_ends pending (Run ∷ script) ends = due_either (pending == 0) pending script ends (due_ends pending script ends)
 
@@ -47,6 +50,7 @@ run_is_over false pending script is none = absurd cc
 none_due : (pending : ℕ) (script : List ScriptEvent) → IsMore script → due_events pending script ≡ [] → pending ≡ 0
 none_due pending [] more none = absurd (more refl)
 none_due pending (Submit c r ∷ script) more none = absurd cc
+none_due pending (Cancel t ∷ script) more none = absurd cc
 none_due pending (Turn ∷ script) more none = absurd cc
 none_due pending (Run ∷ script) more none = run_is_over (pending == 0) pending script refl none
 
@@ -63,6 +67,7 @@ stands_before_run pending script more ends =
 behind_event : (pending : ℕ) (next : ScriptEvent) (later : List ScriptEvent) → EndsInRun (next ∷ later)
     → IsBeforeRun (standing_of pending (events_behind next later))
 behind_event pending (Submit c r) later (more, ends) = stands_before_run pending later more ends
+behind_event pending (Cancel t) later (more, ends) = stands_before_run pending later more ends
 behind_event pending Turn later (more, ends) = stands_before_run pending later more ends
 behind_event pending Run later ends = stands_before_run pending (Run ∷ later) (λ h. absurd cc) ends
 

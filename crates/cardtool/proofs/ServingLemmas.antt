@@ -1,7 +1,7 @@
 -- A script that is served, one call of the device behind the other.
 use Rattle.std.proofs.Common.{◌≡◌, ◌<◌, ◌+◌, ◌∙◌, ℕ, List, [], ◌∷◌, ◌++◌, Option, Result, Ok, Err, Bool, true, false, cond}
 use Rattle.std.proofs.Common.{sym, refl, ap, subst, append_assoc, append-nil, arith, length, length-append}
-use Rattle.std.specs.Prelude.{◌||◌, ◌==◌, IsErr}
+use Rattle.std.specs.Prelude.{◌||◌, ◌-◌, ◌==◌, IsErr}
 use Rattle.std.proofs.lemmas.Bool.{false≢true, ne_eqb}
 use Rattle.std.specs.Io.KnownBytes.{Appends}
 use Rattle.text_out.specs.Writing.{AppendsFront, Writes}
@@ -12,15 +12,18 @@ use Rattle.mmc_switch.specs.declared.info.Info.{Info}
 use Rattle.mmc_block.specs.declared.refused.Refused.{Refused}
 use Rattle.mmc_queue.specs.declared.request.Request.{Request}
 use Rattle.mmc_block.specs.Answers.{any_failed}
-use Rattle.mmc_block.specs.Device.{Comes, DeviceView, Queues, unanswered_of}
+use Rattle.mmc_block.specs.Device.{Comes, DeviceView, Queues, Withdraws, unanswered_of}
 use Rattle.mmc_block.specs.Machine.{Waiting}
 use Rattle.mmc_block.specs.Run.{Counted, CountedRuns, CountedSteps, Event as MachineEvent, Follow, Reply}
-use Rattle.mmc_block.specs.Run.Event.{Submit as MachineSubmit, Turn as MachineTurn}
-use Rattle.mmc_block.specs.Run.Reply.{Accepted, Answers, RefusedFor}
+use Rattle.mmc_block.specs.Any.{cancelled_reply}
+use Rattle.mmc_block.specs.Run.Event.{Cancel as MachineCancel, Submit as MachineSubmit, Turn as MachineTurn}
+use Rattle.mmc_block.specs.Run.Reply.{Accepted, Answers, GivenBack, InService, RefusedFor, Unknown}
+use Rattle.mmc_block.specs.declared.cancel.CancelFault.{CancelFault}
+use Rattle.mmc_block.specs.declared.cancel.CancelFault.TheVariants as fault
 use Rattle.mmc_block.proofs.RunLemmas.{follow_then}
 use Rattle.cardtool.specs.declared.event.ScriptEvent.{ScriptEvent}
-use Rattle.cardtool.specs.declared.event.ScriptEvent.TheVariants.{Submit, Turn, Run}
-use Rattle.cardtool.specs.Output.{completions_text, queued_text, refused_text}
+use Rattle.cardtool.specs.declared.event.ScriptEvent.TheVariants.{Submit, Cancel, Turn, Run}
+use Rattle.cardtool.specs.Output.{cancelled_text, completions_text, queued_text, refused_text, uncancelled_text}
 use Rattle.cardtool.specs.Serving.{IsNext, RunsScript, ServesPrefix, ServesScript, ServesUpTo, Standing, TurnsAndPrints}
 use Rattle.cardtool.specs.Serving.{answer_if_printed, any_bad, due_events, events_behind, is_bad, machine_event}
 use Rattle.cardtool.specs.Serving.{pending_after, standing_of, text_of, texts}
@@ -47,6 +50,7 @@ due_again : (pending : ℕ) (script more : List ScriptEvent)
     → due_events pending (due_events pending script ++ more) ≡ due_events pending (script ++ more)
 due_again pending [] more = refl
 due_again pending (Submit c r ∷ script) more = refl
+due_again pending (Cancel t ∷ script) more = refl
 due_again pending (Turn ∷ script) more = refl
 due_again pending (Run ∷ script) more = again_so (pending == 0) pending script more refl (due_again pending script more)
 
@@ -62,6 +66,7 @@ due_more : (pending : ℕ) (script : List ScriptEvent) (next : ScriptEvent) (lat
     → due_events pending (script ++ more) ≡ next ∷ (later ++ more)
 due_more pending [] next later more h = absurd cc
 due_more pending (Submit c r ∷ script) next later more h = ap (λ l. l ++ more) h
+due_more pending (Cancel t ∷ script) next later more h = ap (λ l. l ++ more) h
 due_more pending (Turn ∷ script) next later more h = ap (λ l. l ++ more) h
 due_more pending (Run ∷ script) next later more h =
     more_so (pending == 0) pending script next later more (due_more pending script next later more) h
@@ -69,6 +74,7 @@ due_more pending (Run ∷ script) next later more h =
 behind_more : (next : ScriptEvent) (later more : List ScriptEvent)
     → events_behind next later ++ more ≡ events_behind next (later ++ more)
 behind_more (Submit c r) later more = refl
+behind_more (Cancel t) later more = refl
 behind_more Turn later more = refl
 behind_more Run later more = refl
 
@@ -368,5 +374,44 @@ pub refused : {B E : Type 0} (view : B → BusView) (start now : DeviceView B) (
 unfolding text_of is_bad
 refused view start now client request why old new r same steps wrote =
     one_event view start now (Submit client request) (RefusedFor why) old new r
+    (record { steps = steps; is_due = refl; count = ap unanswered_of same })
+    refl wrote
+
+-- Cancellations.
+
+withdrawn_count : {B : Type 0} (old : DeviceView B) (ticket : ℕ) (q : Request) (new : DeviceView B)
+    → Withdraws old ticket q new → unanswered_of new ≡ unanswered_of old - 1
+withdrawn_count old ticket q new gone =
+    let was : length old.waits ≡ length gone.before + length (gone.w ∷ gone.after) =
+    ap length gone.waited ∙ length-append gone.before (gone.w ∷ gone.after) in
+    let is : length (gone.before ++ gone.after) ≡ length gone.before + length gone.after =
+    length-append gone.before gone.after in
+    ap unanswered_of gone.waits ∙ omega (arith, was, is)
+
+pub cancelled : {B E : Type 0} (view : B → BusView) (start now : DeviceView B) (ticket : ℕ) (request : Request)
+    (old new : Option (List ℕ)) (r : Result Unit E) → Withdraws start ticket request now
+    → Comes view start
+    (λ (c n : Counted). CountedSteps start.info c (MachineCancel ticket) (GivenBack request) n) now
+    → Writes old new r (cancelled_text ticket)
+    → ServesScript view start now (Cancel ticket ∷ []) old new (answer_if_printed false r)
+unfolding text_of is_bad
+cancelled view start now ticket request old new r gone steps wrote =
+    one_event view start now (Cancel ticket) (GivenBack request) old new r
+    (record { steps = steps; is_due = refl; count = withdrawn_count start ticket request now gone })
+    refl wrote
+
+pub uncancelled : {B E : Type 0} (view : B → BusView) (start now : DeviceView B) (ticket : ℕ) (why : CancelFault)
+    (old new : Option (List ℕ)) (r : Result Unit E) → now ≡ start
+    → Comes view start
+    (λ (c n : Counted). CountedSteps start.info c (MachineCancel ticket) (cancelled_reply (Err why)) n) now
+    → Writes old new r (uncancelled_text ticket why)
+    → ServesScript view start now (Cancel ticket ∷ []) old new (answer_if_printed true r)
+unfolding text_of is_bad
+uncancelled view start now ticket fault.InService old new r same steps wrote =
+    one_event view start now (Cancel ticket) InService old new r
+    (record { steps = steps; is_due = refl; count = ap unanswered_of same })
+    refl wrote
+uncancelled view start now ticket fault.Unknown old new r same steps wrote =
+    one_event view start now (Cancel ticket) Unknown old new r
     (record { steps = steps; is_due = refl; count = ap unanswered_of same })
     refl wrote

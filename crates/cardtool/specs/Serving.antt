@@ -9,17 +9,19 @@ use Rattle.mmc_block.specs.Answers.{any_failed}
 use Rattle.mmc_block.specs.Device.{Comes, DeviceView, unanswered_of}
 use Rattle.mmc_block.specs.InOrder.{answers_in}
 use Rattle.mmc_block.specs.Run.{Counted, CountedRuns, CountedSteps, Event as MachineEvent, Follow, Reply}
-use Rattle.mmc_block.specs.Run.Event.{Submit as MachineSubmit, Turn as MachineTurn}
-use Rattle.mmc_block.specs.Run.Reply.{Accepted, Answers, GivenBack, RefusedFor}
+use Rattle.mmc_block.specs.Run.Event.{Cancel as MachineCancel, Submit as MachineSubmit, Turn as MachineTurn}
+use Rattle.mmc_block.specs.Run.Reply.{Accepted, Answers, GivenBack, InService, RefusedFor, Unknown}
+use Rattle.mmc_block.specs.declared.cancel.CancelFault.TheVariants as fault
 use Rattle.cardtool.specs.declared.event.ScriptEvent.{ScriptEvent}
-use Rattle.cardtool.specs.declared.event.ScriptEvent.TheVariants.{Submit, Turn, Run}
-use Rattle.cardtool.specs.Output.{completions_text, queued_text, refused_text}
+use Rattle.cardtool.specs.declared.event.ScriptEvent.TheVariants.{Submit, Cancel, Turn, Run}
+use Rattle.cardtool.specs.Output.{cancelled_text, completions_text, queued_text, refused_text, uncancelled_text}
 
 -- The events of a script.
 
 -- an event of a script, as the machine's; a `run` is turns
 abbrev pub machine_event : ScriptEvent → MachineEvent
 machine_event (Submit client request) = MachineSubmit client request
+machine_event (Cancel ticket) = MachineCancel ticket
 machine_event Turn = MachineTurn
 machine_event Run = MachineTurn
 
@@ -69,6 +71,9 @@ unfoldable pub text_of : MachineEvent → Reply → List ℕ
 text_of (MachineSubmit client request) (Accepted ticket) = queued_text ticket client
 text_of (MachineSubmit client request) (RefusedFor why) = refused_text client why
 text_of MachineTurn (Answers completions) = completions_text completions
+text_of (MachineCancel ticket) (GivenBack request) = cancelled_text ticket
+text_of (MachineCancel ticket) InService = uncancelled_text ticket fault.InService
+text_of (MachineCancel ticket) Unknown = uncancelled_text ticket fault.Unknown
 text_of event reply = []
 
 -- the lines of all events, one behind the other
@@ -80,9 +85,11 @@ texts _ _ = []
 abbrev pub has_failure : Reply → Bool
 has_failure reply = any_failed (answers_in reply)
 
--- a request was refused, or failed
+-- a submission or a cancellation was refused, or a request failed
 unfoldable pub is_bad : Reply → Bool
 is_bad (RefusedFor why) = true
+is_bad InService = true
+is_bad Unknown = true
 is_bad reply = has_failure reply
 
 -- so for some reply

@@ -1,13 +1,15 @@
 // Plays the events of a script on a device, and prints what becomes of them.
 ghost use Rattle.std.specs.Prelude.{◌<◌, ◌≡◌, ◌++◌, ◌∷◌, [], true};
 ghost use Rattle.mmc_block.specs.Device.{work_of};
-ghost use Rattle.cardtool.specs.declared.event.ScriptEvent.TheVariants.{Run, Submit};
+ghost use Rattle.cardtool.specs.declared.event.ScriptEvent.TheVariants.{Cancel, Run, Submit};
 ghost use Rattle.cardtool.specs.Serving.{IsLaterDevice, Plays, TurnsAndPrints, answer_if_printed};
 
 use crate::event::ScriptEvent;
-use crate::output::{has_failure, put_completions, put_queued, put_refused};
+use crate::output::{
+    has_failure, put_cancelled, put_completions, put_queued, put_refused, put_uncancelled,
+};
 use crate::script::Script;
-use mmc_block::{BlockDev, Request};
+use mmc_block::{BlockDev, Request, Ticket};
 use mmc_bus::Bus;
 use std::alloc::Global;
 use std::io::{self, Write};
@@ -22,8 +24,8 @@ fn answer(printed: io::Result<()>, bad: bool) -> io::Result<bool>
     }
 }
 
-// One turn, and a line for each completion. The answer of this and the next functions says whether some request
-// failed or was refused.
+// One turn, and a line for each completion. The answer of this and the next functions says whether some request failed,
+// or a submission or a cancellation was refused.
 fn turn<B: Bus, W: Write>(device: &mut BlockDev<B>, out: &mut W) -> io::Result<bool>
     ensures turns { (B.view device.new.bus).is_kept ≡ true
         → TurnsAndPrints B.view device.old device.new (W.contents out.old) (W.contents out.new) result }
@@ -68,6 +70,26 @@ fn submit<B: Bus, W: Write>(
     }
 }
 
+// A cancellation, with its line.
+fn cancel<B: Bus, W: Write>(
+    device: &mut BlockDev<B>,
+    ticket: Ticket,
+    out: &mut W,
+) -> io::Result<bool>
+    ensures { Plays B.view device.old device.new (Cancel ticket ∷ []) (W.contents out.old) (W.contents out.new) result }
+{
+    match device.cancel(ticket) {
+        Ok(_) => {
+            let printed = put_cancelled(out, ticket);
+            answer(printed, false)
+        }
+        Err(fault) => {
+            let printed = put_uncancelled(out, ticket, fault);
+            answer(printed, true)
+        }
+    }
+}
+
 // One event, with its lines.
 fn play_event<B: Bus, W: Write>(
     alloc: Global,
@@ -79,13 +101,14 @@ fn play_event<B: Bus, W: Write>(
 {
     match event {
         ScriptEvent::Submit { client, request } => submit(alloc, device, client, request, out),
+        ScriptEvent::Cancel { ticket } => cancel(device, ticket, out),
         ScriptEvent::Turn => turn(device, out),
         ScriptEvent::Run => run(device, out),
     }
 }
 
 /// Plays all events of a script, and then takes turns until no request is without an answer. The answer says whether some
-/// request failed or was refused.
+/// request failed, or a submission or a cancellation was refused.
 pub fn play<B: Bus, W: Write>(
     alloc: Global,
     device: &mut BlockDev<B>,

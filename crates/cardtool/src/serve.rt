@@ -24,7 +24,7 @@ use std::io::{self, Read, Write};
 
 // The exit status where every request was answered `Done` or `Data`.
 const ALL_WELL: u8 = 0;
-// The exit status where some request failed or was refused.
+// The exit status where some request failed, or a submission or a cancellation was refused.
 const SOME_FAILED: u8 = 1;
 
 // The exit status, or the fault of a write.
@@ -97,8 +97,9 @@ fn serve_traced<B: Bus + Drop, W: Write>(
 }
 
 /// Opens the card of a bus, serves a script on it, and takes turns until each request has its answer, with a line for each
-/// answer. With `trace`, from 1 to 65,536, the last so many exchanges follow. The bus is handed back with the exit status:
-/// 0 where every request was answered `Done` or `Data`, 1 where some request failed or was refused.
+/// submission, cancellation and answer. With `trace`, from 1 to 65,536, the last so many exchanges follow. The bus is handed
+/// back with the exit status: 0 where every request was answered `Done` or `Data`, or cancelled; 1 where some request
+/// failed, or a submission or a cancellation was refused.
 ///
 /// # Errors
 /// `NoMemory` where the trace or the device can't be made, and each refusal of `BlockDev::open`; nothing was written
@@ -144,8 +145,8 @@ pub fn serve_on<W: Write>(
 }
 
 /// Serves a script on the card of a card file, which holds an image where one is given, with a line for each answer, and
-/// gives the exit status: 0 where every request was answered `Done` or `Data`, 1 where some request failed or was refused.
-/// With `trace`, from 1 to 65,536, the last so many exchanges follow.
+/// gives the exit status: 0 where every request was answered `Done` or `Data`, or cancelled; 1 where some request failed,
+/// or a submission or a cancellation was refused. With `trace`, from 1 to 65,536, the last so many exchanges follow.
 ///
 /// # Errors
 /// The first in this order: those of `read_files`, then those of `serve_on`. Nothing was written but with `Write`; a

@@ -9,7 +9,7 @@ use Rattle.mmc_queue.specs.Waiting.{Takes, at_ticket}
 use Rattle.mmc_queue.specs.declared.entry.Entry.{Entry}
 use Rattle.mmc_queue.specs.declared.queue.TheConstants.{MAX_WAITING}
 use Rattle.mmc_switch.specs.declared.info.Info.{Info}
-use Rattle.mmc_block.specs.Device.{Comes, DeviceOk, DeviceView}
+use Rattle.mmc_block.specs.Device.{Comes, DeviceOk, DeviceView, Withdraws}
 use Rattle.mmc_block.specs.Entries.{AreServable, waiting_of, waits_of}
 use Rattle.mmc_block.specs.Groups.{AreInOrder, PassNone}
 use Rattle.mmc_block.specs.Machine.{IsTicketOf, PassesNone, Waiting}
@@ -131,7 +131,23 @@ taken_ok info old new service e next t ok =
           (subst (λ ws. ServiceOk info service ws next) was ok.serves));
     }
 
--- Cancels, of a machine that agrees.
+-- Cancels.
+
+pub withdrawn : {B : Type 0} (old : DeviceView B) (es left : List Entry) (e : Entry) (ticket : ℕ)
+    → old.waits ≡ waits_of es → e.ticket ≡ ticket → Takes es e left
+    → Withdraws old ticket e.request (record old { waits = waits_of left })
+withdrawn {B} old es left e ticket waits is t = record {
+  before = waits_of t.0;
+  w = waiting_of e;
+  after = waits_of t.1;
+  waited = waits ∙ ap waits_of t.2 ∙ map-append waiting_of t.0 (e ∷ t.1);
+  ticket_is = is;
+  request_is = refl;
+  waits = ap (λ ws. let d : DeviceView B = record old { waits = ws } in d)
+      (ap waits_of t.3 ∙ map-append waiting_of t.0 t.1);
+}
+
+-- a machine that agrees gives it back too
 
 pub gives_back : {B : Type 0} (view : B → BusView) (old : DeviceView B) (es left : List Entry) (e : Entry) (ticket : ℕ)
     → old.waits ≡ waits_of es → e.ticket ≡ ticket → Takes es e left

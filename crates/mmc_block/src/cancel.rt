@@ -1,4 +1,4 @@
-ghost use Rattle.std.specs.Prelude.{◌≡◌, OnErr, MatchOption, false, true, ℕ};
+ghost use Rattle.std.specs.Prelude.{◌≡◌, IfOk, OnErr, MatchOption, false, true, ℕ};
 ghost use Rattle.mmc_block.specs.Entries.{waits_of};
 ghost use Rattle.mmc_block.specs.Machine.{IsTicketOf};
 ghost use Rattle.mmc_block.specs.Service.{in_service_of};
@@ -48,7 +48,7 @@ fn is_in_service(service: &Service, ticket: u64) -> bool
 
 impl<B: Bus> BlockDev<B> {
     ghost use Rattle.mmc_block.specs.Any.{cancelled_reply};
-    ghost use Rattle.mmc_block.specs.Device.{Comes};
+    ghost use Rattle.mmc_block.specs.Device.{Comes, Withdraws};
     ghost use Rattle.mmc_block.specs.Run.{Counted, CountedSteps};
     ghost use Rattle.mmc_block.specs.Run.Event.{Cancel};
 
@@ -59,7 +59,7 @@ impl<B: Bus> BlockDev<B> {
     /// Nothing has changed then.
     pub fn cancel(&mut self, ticket: u64) -> Result<Request, CancelFault>
         ensures machine { Comes B.view self.old (λ (c n : Counted). CountedSteps self.old.info c (Cancel ticket) (cancelled_reply result) n) self.new }
-        ensures same { (self.new.bus ≡ self.old.bus) × (self.new.info ≡ self.old.info) × (self.new.service ≡ self.old.service) × (self.new.next ≡ self.old.next) }
+        ensures cancelled { IfOk result (λ request. Withdraws self.old ticket request self.new) }
         ensures refused { OnErr result (self.new ≡ self.old) }
     {
         if is_in_service(&self.service, ticket) {

@@ -1,6 +1,6 @@
 -- The request leaves the queue, and the machine gives it back.
 use Rattle.std.proofs.Common.{refl}
-use Rattle.mmc_block.proofs.CancelLemmas.{gives_back, is_unknown, none_waits, taken_ok}
+use Rattle.mmc_block.proofs.CancelLemmas.{gives_back, is_unknown, none_waits, taken_ok, withdrawn}
 use Rattle.mmc_block.proofs.device.BlockDev.cancel.Goals as goal
 
 pub returns-in_default-clause-machine : goal.returns-in_default-clause-machine
@@ -20,3 +20,9 @@ returns-clause-machine g c =
     let taken = c.in-Ok.ensures.taken in
     rw (← c.self.view_is) (gives_back g.B.Bus.view _ c.self.inside.queue c.take.new.self c.in-Ok.entry c.args.ticket
     refl taken.0 taken.2)
+
+pub returns-clause-cancelled : goal.returns-clause-cancelled
+returns-clause-cancelled g c =
+    let taken = c.in-Ok.ensures.taken in
+    rw (← c.self.view_is)
+    (withdrawn _ c.self.inside.queue c.take.new.self c.in-Ok.entry c.args.ticket refl taken.0 taken.2)
