@@ -6,7 +6,7 @@ use Rattle.cardtool.specs.declared.event.ScriptEvent.{ScriptEvent}
 use Rattle.cardtool.specs.declared.fault.ServeFault.{ServeFault}
 use Rattle.cardtool.specs.declared.fault.ServeFault.TheVariants.{NoMemory, ReadImage, ReadScript, ScriptLine}
 use Rattle.cardtool.specs.CardFile.{IsCardFile}
-use Rattle.cardtool.specs.Files.{AreRefused, Files, HasCard, HasEvents, IsUnread}
+use Rattle.cardtool.specs.Files.{AreRefused, Files, HasCard, HasEvents, IsOutcomeOfFiles, IsServedFromFiles, IsUnread}
 use Rattle.cardtool.specs.Planning.{PlannedFault}
 use Rattle.cardtool.specs.Script.{IsBadLine, events_in, lines}
 
@@ -53,3 +53,9 @@ module _ (files : Files) where
   image_unread fault has events given (inl same) =
       subst (λ f. AreRefused files f) (sym same) (has, events, given same)
   image_unread fault has events given (inr same) = subst (λ f. AreRefused files f) (sym same) tt
+
+-- what was read and served is the outcome
+pub from_files : (files : Files) (trace : Option ℕ) (old new : Option (List ℕ)) (r : Result ℕ ServeFault)
+    → IsServedFromFiles files trace old new r → IsOutcomeOfFiles files trace old new r
+from_files files trace old new (Ok status) served = served
+from_files files trace old new (Err fault) served = inr served

@@ -6,6 +6,7 @@ use Rattle.std.proofs.lemmas.Bool.{false≢true, ne_eqb}
 use Rattle.std.specs.Io.KnownBytes.{Appends}
 use Rattle.text_out.specs.Writing.{AppendsFront, Writes}
 use Rattle.text_out.proofs.WritingLemmas.{appends_none, appends_more, front_after}
+use Rattle.mmc_bus.proofs.WorkLemmas.{stays_same, stays_then}
 use Rattle.mmc_card.specs.BusView.{BusView}
 use Rattle.mmc_block.specs.declared.completion.Completion.{Completion}
 use Rattle.mmc_switch.specs.declared.info.Info.{Info}
@@ -145,9 +146,13 @@ comes_then : {B : Type 0} (view : B → BusView) (i : Info) (start mid now : Dev
     → Comes view mid (λ (c n : Counted). CountedRuns i c us vs n) now
     → Comes view start (λ (c n : Counted). CountedRuns i c (es ++ us) (rs ++ vs) n) now
 comes_then view i start mid now es rs us vs first second = λ c agrees.
-    let (k, run, agrees_between) = first c agrees in
-    let (n, more, agrees_then) = second k agrees_between in
-    (n, follow_then (CountedSteps i) c es rs k us vs n run more, agrees_then)
+    let f = first c agrees in
+    let (k, run, agrees_between) = f.1 in
+    let s = second k agrees_between in
+    let (n, more, agrees_then) = s.1 in (
+      stays_then (view start.bus) (view mid.bus) (view now.bus) f.0 s.0,
+      (n, follow_then (CountedSteps i) c es rs k us vs n run more, agrees_then),
+    )
 
 runs_then : {B : Type 0} (view : B → BusView) (start mid now : DeviceView B) (script fs left rest : List ScriptEvent)
     (es : List MachineEvent) (rs : List Reply) (us : List MachineEvent) (vs : List Reply) → mid.info ≡ start.info
@@ -169,7 +174,7 @@ unfolding texts any_bad
 serves_none view d script old = record {
   events = [];
   replies = [];
-  run = record { of_script = refl; runs = λ c agrees. (c, refl, agrees) };
+  run = record { of_script = refl; runs = λ c agrees. (stays_same (view d.bus) (view d.bus).lines, (c, refl, agrees)) };
   printed = appends_none old;
   bad_is = refl;
 }
@@ -241,7 +246,8 @@ run_one view old new e r h = record {
     },
     refl,
   );
-  runs = λ c agrees. let (n, step, agrees_then) = h.steps c agrees in (n, (n, step, refl), agrees_then);
+  runs = λ c agrees.
+      let s = h.steps c agrees in let (n, step, agrees_then) = s.1 in (s.0, (n, (n, step, refl), agrees_then));
 }
 
 serves_one : {B : Type 0} (view : B → BusView) (start now : DeviceView B) (e : ScriptEvent) (r : Reply)
@@ -339,7 +345,7 @@ unfolding texts any_bad
 run_idle view d old none = record {
   events = [];
   replies = [];
-  run = record { of_script = run_over (unanswered_of d) none; runs = λ c agrees. (c, refl, agrees) };
+  run = record { of_script = run_over (unanswered_of d) none; runs = λ c agrees. (stays_same (view d.bus) (view d.bus).lines, (c, refl, agrees)) };
   printed = appends_none old;
   bad_is = refl;
 }

@@ -1,18 +1,22 @@
 -- The whole: a script that was served from the machine that holds what the card held, and a card that wasn't opened.
 use Rattle.std.proofs.Common.{◌≡◌, ◌≤◌, ◌-◌, ◌+◌, ◌*◌, ◌∙◌, ℕ, List, [], ◌∷◌, ◌++◌, Option, None, length}
 use Rattle.std.proofs.Common.{Result, Ok, Err, Bool, true, sym, refl, ap, ap₂, subst, arith, append-nil}
-use Rattle.std.specs.Prelude.{IfErr}
+use Rattle.std.specs.Prelude.{IfErr, IsSomeAnd, Some, false}
+use Rattle.std.proofs.lemmas.Bool.{false≢true}
 use Rattle.std.specs.Io.KnownBytes.{Appends}
 use Rattle.text_out.proofs.WritingLemmas.{front_before}
 use Rattle.mmc_bus.specs.Learned.{Stays}
 use Rattle.mmc_bus.specs.Work.{Narrows}
 use Rattle.mmc_card.specs.BusView.{BusView}
+use Rattle.mmc_card.specs.Faults.{FallAtMost, FallNoMore}
 use Rattle.mmc_card.specs.Card.{Card, holds}
 use Rattle.mmc_card.specs.Made.{Made}
 use Rattle.mmc_card.specs.Profile.{InProfile}
 use Rattle.mmc_card.specs.declared.part.Part.{Part}
 use Rattle.mmc_card.specs.Sectors.{Sector, Sets, Within}
-use Rattle.mmc_card_sim.specs.CardSpec.{IsRefusal}
+use Rattle.mmc_card_sim.specs.CardSpec.{IsRefusal, refusal_of}
+use Rattle.mmc_card_sim.specs.SimView.{SimView, sim_bus_view}
+use Rattle.mmc_card_sim.proofs.PlanLemmas.{all_to_come}
 use Rattle.mmc_card_sim.specs.declared.spec.BuildFault.{BuildFault}
 use Rattle.mmc_card_sim.specs.declared.spec.BuildFault.TheVariants as Refused
 use Rattle.mmc_card_sim.specs.declared.spec.CardSpec.{CardSpec}
@@ -33,8 +37,9 @@ use Rattle.cardtool.specs.declared.fault.ServeFault.TheVariants.{Unsupported, Vo
 use Rattle.cardtool.specs.declared.event.ScriptEvent.TheVariants.{Run}
 use Rattle.cardtool.specs.Serving.{IsLaterDevice, IsNext, RunsScript, ServesScript, Standing, due_events}
 use Rattle.cardtool.specs.Serving.{standing_of, texts}
-use Rattle.cardtool.specs.Whole.{IsServed, IsServedOnNewCard, IsServedOnSpec, IsUnopened, IsUnwritten, IsWhyUnbuilt}
-use Rattle.cardtool.specs.Whole.{RunsInAnyProfile, building_fault, new_card, opened_after}
+use Rattle.cardtool.specs.Planning.{PlannedFault}
+use Rattle.cardtool.specs.Whole.{IsNew, IsServed, IsServedOnNewCard, IsServedOnSpec, IsUnopened, IsUnwritten, IsWhyUnbuilt}
+use Rattle.cardtool.specs.Whole.{RunsInAnyProfile, building_fault, opened_after}
 use Rattle.cardtool.specs.Whole.{opening_fault, outcome_of, status_of}
 use Rattle.cardtool.proofs.EndLemmas.{ends_answered}
 
@@ -114,7 +119,7 @@ module _ {B : Type 0} (view : B → BusView) (start now : DeviceView B) (made : 
       let earlier = (view start.bus).faults in
       let first = opened_after earlier in_profile before in
       let left_now = due_events (unanswered_of now) left in
-      let (last, runs, agrees) = run.runs first (device.agrees in_profile profile) in
+      let (last, runs, agrees) = (run.runs first (device.agrees in_profile profile)).1 in
       let plain = laws.counted start.info first events replies last runs in
       let count = unanswered_is view now last.machine agrees.agrees in
       let fewer : last.faults ≤ earlier + fell = subst (λ k. k ≤ earlier + fell) (sym agrees.faults) device.faults in
@@ -171,6 +176,13 @@ module _ {B : Type 0} (view : B → BusView) (start now : DeviceView B) (made : 
     traced = refl;
     printed = front_before old new (texts served.events served.replies) [] served.printed;
   }
+
+-- what stays of a card while a script is served, whether its text went out or not
+script_stays : {B E : Type 0} (view : B → BusView) (start now : DeviceView B) (script : List ScriptEvent)
+    (old new : Option (List ℕ)) (r : Result Bool E) (c : Counted) → AgreesCounted view start c
+    → ServesScript view start now script old new r → Stays (view start.bus) (view now.bus)
+script_stays view start now script old new (Ok bad) c agrees served = (served.run.runs c agrees).0
+script_stays view start now script old new (Err e) c agrees served = (served.run.runs c agrees).0
 
 -- a device that was just opened, and the machine that may hold no less than its card
 agrees_wider : {B : Type 0} (view : B → BusView) (device : DeviceView B) (faults : ℕ) (in_profile : Bool) (sets : Sets)
@@ -230,6 +242,16 @@ module _ {B : Type 0} (view : B → BusView) (start now : DeviceView B) (first l
             omega (arith, before, at_last);
       }
 
+  -- no more faults are to fall than before it was opened
+  pub bounded_device : {E : Type 0} (script : List ScriptEvent) (old new : Option (List ℕ)) (r : Result Bool E)
+      → ServesScript view start now script old new r → FallNoMore (view first) (view last)
+  bounded_device script old new r served =
+      let (stays, narrows) = opens was_kept in
+      let c : Counted = opened_after (view start.bus).faults false (holds (view start.bus).card) in
+      let agrees = machine was_kept c (record { machine = refl; faults = refl; in_profile = λ is. absurd (false≢true is) }) in
+      let behind = script_stays view start now script old new r c agrees served in
+      λ most few. subst (λ b. FallAtMost most (view b)) (sym ends) (behind.bounded most (stays.bounded most few))
+
 pub unwritten : {E : Type 0} (old new : Option (List ℕ)) (r : Result Bool E)
     → IfErr (outcome_of r) (λ fault. IsUnwritten old new fault)
 unwritten old new (Ok bad) = tt
@@ -248,46 +270,65 @@ left_alone view first last old within three = record {
 
 -- a card that wasn't opened
 pub unopened : {B : Type 0} (view : B → BusView) (first last : B) (script : List ScriptEvent) (old : Option (List ℕ))
-    (fault : OpenFault) → (fault ≡ Unopened.NoMemory → last ≡ first)
-    → ((fault ≡ Unopened.NoMemory → ⊥) → Stays (view first) (view last) × Narrows (view first) (view last))
-    → ((fault ≡ Unopened.NoMemory → ⊥) → InProfile (view first).card.made → (view first).faults + 3 ≤ (view last).faults)
+    (fault : OpenFault) → (fault ≡ Unopened.NoMemory → ⊥)
+    → Narrows (view first) (view last)
+    → (InProfile (view first).card.made → (view first).faults + 3 ≤ (view last).faults)
     → IsServed (view first).card.made (holds (view first).card) (holds (view last).card)
     ((view last).faults - (view first).faults) script None old old (Err (opening_fault fault))
-unopened view first last script old Unopened.NoMemory same unharmed three =
-    (ap (λ b. holds (view b).card) (same refl), refl)
-unopened view first last script old Unopened.NoCard same unharmed three =
-    left_alone view first last old (unharmed (λ h. cc h)).1 (three (λ h. cc h))
-unopened view first last script old Unopened.Voltage same unharmed three =
-    left_alone view first last old (unharmed (λ h. cc h)).1 (three (λ h. cc h))
-unopened view first last script old Unopened.Unsupported same unharmed three =
-    left_alone view first last old (unharmed (λ h. cc h)).1 (three (λ h. cc h))
-unopened view first last script old Unopened.Locked same unharmed three =
-    left_alone view first last old (unharmed (λ h. cc h)).1 (three (λ h. cc h))
+unopened view first last script old Unopened.NoMemory never within three = absurd (never refl)
+unopened view first last script old Unopened.NoCard never within three = left_alone view first last old within three
+unopened view first last script old Unopened.Voltage never within three = left_alone view first last old within three
+unopened view first last script old Unopened.Unsupported never within three = left_alone view first last old within three
+unopened view first last script old Unopened.Locked never within three = left_alone view first last old within three
 
 -- a card that wasn't built
 pub why_unbuilt : (spec : CardSpec) (why : BuildFault) → IsRefusal spec why → IsWhyUnbuilt spec (building_fault why)
 why_unbuilt spec Refused.Register refused = refused
 why_unbuilt spec Refused.ImageSize refused = refused
-why_unbuilt spec Refused.NoMemory refused = tt
+why_unbuilt spec Refused.NoMemory refused = refused
 
 -- A script that was served on the card of a spec.
-module _ (spec : CardSpec) (card : Card) (same : card ≡ new_card spec) (later : Sets) (fell : ℕ)
+
+fell_few : (may_fall : Option ℕ) (fell most : ℕ) → IsSomeAnd may_fall (λ more. fell + more ≤ most) → fell ≤ most
+fell_few None fell most bounded = absurd bounded
+fell_few (Some more) fell most bounded = omega (arith, bounded)
+
+module _ (spec : CardSpec) (plan : List PlannedFault) (unrefused : refusal_of spec ≡ None) (sim : SimView)
+    (is_new : IsNew spec plan sim) (later : BusView) (bounded : FallNoMore (sim_bus_view sim) later)
     (script : List ScriptEvent) (trace : Option ℕ) (old new : Option (List ℕ)) where
-  pub on_new_card : (r : Result ℕ ServeFault)
-      → IsServed card.made (holds card) later fell (script ++ Run ∷ []) trace old new r
-      → IsServedOnNewCard spec script trace old new r
-  on_new_card r served = record {
-    later = later;
-    fell = fell;
-    served = subst (λ (k : Card). IsServed k.made (holds k) later fell (script ++ Run ∷ []) trace old new r) same served;
-  }
+  -- no more faults fell than were planned
+  few_fell : later.faults - sim.faults ≤ length plan
+  few_fell =
+      let none = is_new.unused.faults in
+      let others = is_new.no_others in
+      let to_come = all_to_come sim.plan sim.wire.exchanges in
+      let fell = fell_few later.may_fall later.faults (length plan)
+      (bounded (length plan) (omega (arith, none, others, to_come))) in
+      omega (arith, fell)
+
+  on_new_card : (r : Result ℕ ServeFault)
+      → IsServed sim.card.made (holds sim.card) (holds later.card) (later.faults - sim.faults) (script ++ Run ∷ []) trace
+      old new r
+      → (refusal_of spec ≡ None) × IsServedOnNewCard spec plan script trace old new r
+  on_new_card r served = (
+    unrefused,
+    record {
+      sim = sim;
+      is_new = is_new;
+      later = holds later.card;
+      fell = later.faults - sim.faults;
+      few = few_fell;
+      served = served;
+    },
+  )
 
   pub on_spec : (r : Result ℕ ServeFault)
-      → IsServed card.made (holds card) later fell (script ++ Run ∷ []) trace old new r
-      → IsServedOnSpec spec script trace old new r
+      → IsServed sim.card.made (holds sim.card) (holds later.card) (later.faults - sim.faults) (script ++ Run ∷ []) trace
+      old new r
+      → IsServedOnSpec spec plan script trace old new r
   on_spec (Ok status) served = on_new_card (Ok status) served
   on_spec (Err Write) served = on_new_card (Err Write) served
-  on_spec (Err NoMemory) served = on_new_card (Err NoMemory) served
+  on_spec (Err NoMemory) served = (unrefused, served.1)
   on_spec (Err NoCard) served = on_new_card (Err NoCard) served
   on_spec (Err Voltage) served = on_new_card (Err Voltage) served
   on_spec (Err Unsupported) served = on_new_card (Err Unsupported) served

@@ -53,13 +53,13 @@ IsImage None image = image ≡ None
 IsImage (Some file) None = ⊥
 IsImage (Some file) (Some bytes) = IfSome file (λ all. bytes ≡ take (512 * MAX_SECTORS + 1) all)
 
--- the card file, with the image, gives this spec, and the script these events
-pub record AreRead (files : Files) (spec : CardSpec) (events : List ScriptEvent) : Type 0 where
+-- the card file, with the image, gives this spec and plans these faults, and the script gives these events
+pub record AreRead (files : Files) (spec : CardSpec) (plan : List PlannedFault) (events : List ScriptEvent)
+    : Type 0 where
   pub card_text : List ℕ
   pub script_text : List ℕ
-  -- the card without its image, and the faults that are planned
+  -- the card without its image
   pub bare : CardSpec
-  pub plan : List PlannedFault
   pub card_file : IfSome files.card (λ all. card_text ≡ all)
   pub script_file : IfSome files.script (λ all. script_text ≡ all)
   pub image_file : IsImage files.image spec.image
@@ -67,13 +67,14 @@ pub record AreRead (files : Files) (spec : CardSpec) (events : List ScriptEvent)
   pub spec_is : spec ≡ record bare { image = spec.image }
   pub events_are : events_in (lines script_text) ≡ Some events
 
--- the files were read, and the events were served on the card that they describe
+-- the files were read, and the events were served on the card that they describe, with the faults that they plan
 pub record IsServedFromFiles (files : Files) (trace : Option ℕ) (old new : Option (List ℕ))
     (result : Result ℕ ServeFault) : Type 0 where
   pub spec : CardSpec
+  pub plan : List PlannedFault
   pub events : List ScriptEvent
-  pub read : AreRead files spec events
-  pub served : IsServedOnSpec spec events trace old new result
+  pub read : AreRead files spec plan events
+  pub served : IsServedOnSpec spec plan events trace old new result
 
 -- So with an exit status; with a fault either they were refused, and nothing was written, or it is one of serving.
 abbrev pub IsOutcomeOfFiles : Files → Option ℕ → Option (List ℕ) → Option (List ℕ) → Result ℕ ServeFault → Type 0

@@ -1,6 +1,6 @@
 -- The whole: a script that is served, the text of its answers, the trace behind it, and the status.
-use Rattle.std.specs.Prelude.{◌≡◌, ◌+◌, ◌-◌, ◌*◌, ◌≤◌, ℕ, List, [], ◌∷◌, ◌++◌, codes, length, Bool, true, Option}
-use Rattle.std.specs.Prelude.{None, Some, Result, Ok, Err, if◌then◌else◌, ⊤}
+use Rattle.std.specs.Prelude.{◌≡◌, ◌+◌, ◌-◌, ◌*◌, ◌≤◌, ℕ, List, [], ◌∷◌, ◌++◌, codes, length, Bool, false, true, Option}
+use Rattle.std.specs.Prelude.{None, Some, Result, Ok, Err, if◌then◌else◌}
 use Rattle.std.specs.Fmt.{decimal}
 use Rattle.std.specs.List.{All}
 use Rattle.std.specs.Io.KnownBytes.{Appends}
@@ -8,15 +8,18 @@ use Rattle.text_out.specs.Writing.{AppendsFront}
 use Rattle.mmc_card.specs.declared.exchange.Exchange.{Exchange}
 use Rattle.mmc_bus.specs.ExchangeText.{lines_text}
 use Rattle.mmc_bus.specs.Trace.{HasItsFrame}
+use Rattle.mmc_bus.specs.Wires.{IsUnused}
 use Rattle.mmc_card.specs.BusView.{BusView}
+use Rattle.mmc_card.specs.Faults.{FallNoMore}
 use Rattle.mmc_card.specs.Card.{Card, holds, powered_on}
 use Rattle.mmc_card.specs.Made.{Made}
 use Rattle.mmc_card.specs.Profile.{InProfile}
 use Rattle.mmc_card.specs.declared.part.Part.{Part}
 use Rattle.mmc_card.specs.Sectors.{Sector, Sets, Within}
 use Rattle.mmc_card_sim.specs.CardSpec.{refusal_of}
+use Rattle.mmc_card_sim.specs.Plan.{fault_at}
 use Rattle.mmc_card_sim.specs.Registers.{made_of}
-use Rattle.mmc_card_sim.specs.SimView.{first_parts}
+use Rattle.mmc_card_sim.specs.SimView.{SimView, first_parts, sim_bus_view}
 use Rattle.mmc_card_sim.specs.declared.spec.BuildFault.{BuildFault}
 use Rattle.mmc_card_sim.specs.declared.spec.BuildFault.TheVariants as Refused
 use Rattle.mmc_card_sim.specs.declared.spec.CardSpec.{CardSpec}
@@ -34,6 +37,7 @@ use Rattle.cardtool.specs.declared.event.ScriptEvent.TheVariants.{Run}
 use Rattle.cardtool.specs.declared.fault.ServeFault.{ServeFault}
 use Rattle.cardtool.specs.declared.fault.ServeFault.TheVariants.{ImageSize, Locked, NoCard, NoMemory, Register}
 use Rattle.cardtool.specs.declared.fault.ServeFault.TheVariants.{Unsupported, Voltage, Write}
+use Rattle.cardtool.specs.Planning.{PlannedFault}
 use Rattle.cardtool.specs.Serving.{FollowScript, any_bad, texts}
 
 -- 1 where some request was refused or failed
@@ -58,6 +62,14 @@ opening_fault Unopened.NoCard = NoCard
 opening_fault Unopened.Voltage = Voltage
 opening_fault Unopened.Unsupported = Unsupported
 opening_fault Unopened.Locked = Locked
+
+-- a card wasn't opened
+abbrev pub is_unopened : ServeFault → Bool
+is_unopened NoCard = true
+is_unopened Voltage = true
+is_unopened Unsupported = true
+is_unopened Locked = true
+is_unopened _ = false
 
 -- the exit status, or the fault of a write behind it
 abbrev pub ended_by : {E : Type 0} → ℕ → Result Unit E → Result ℕ ServeFault
@@ -175,13 +187,14 @@ IsServed made before later fell script trace old new (Err Unsupported) = IsUnope
 IsServed made before later fell script trace old new (Err Locked) = IsUnopened made before later fell old new
 IsServed made before later fell script trace old new (Err fault) = ⊥
 
--- So over a bus that is kept to the end, if the sectors of its card were decided. At the script's end turns are taken
--- until each request has its answer.
+-- So over a bus that is kept to the end, if the sectors of its card were decided; no more faults are to fall than before.
+-- At the script's end turns are taken until each request has its answer.
 abbrev pub IsServedOver : BusView → BusView → List ScriptEvent → Option ℕ → Option (List ℕ) → Option (List ℕ)
     → Result ℕ ServeFault → Type 0
 IsServedOver before later script trace old new result =
     later.is_kept ≡ true → AreDecided (holds before.card)
-    → IsServed before.card.made (holds before.card) (holds later.card) (later.faults - before.faults)
+    → FallNoMore before later
+    × IsServed before.card.made (holds before.card) (holds later.card) (later.faults - before.faults)
     (script ++ Run ∷ []) trace old new result
 
 -- nothing went out, unless the writer failed
@@ -194,27 +207,37 @@ IsUnwritten old new fault = (fault ≡ Write → ⊥) → new ≡ old
 abbrev pub new_card : CardSpec → Card
 new_card spec = powered_on (made_of spec.registers) (first_parts spec)
 
--- a script was served on a new card, by some faults
-pub record IsServedOnNewCard (spec : CardSpec) (script : List ScriptEvent) (trace : Option ℕ)
+-- The card in memory is new, as its spec says, and just these faults are planned for it.
+pub record IsNew (spec : CardSpec) (plan : List PlannedFault) (sim : SimView) : Type 0 where
+  pub card : sim.card ≡ new_card spec
+  pub unused : IsUnused (sim_bus_view sim)
+  pub planned : All (λ p. fault_at sim.plan p.0 ≡ Some p.1) plan
+  pub no_others : length sim.plan ≤ length plan
+
+-- A script was served on such a card. So many faults fell, no more than were planned.
+pub record IsServedOnNewCard (spec : CardSpec) (plan : List PlannedFault) (script : List ScriptEvent) (trace : Option ℕ)
     (old new : Option (List ℕ)) (result : Result ℕ ServeFault) : Type 0 where
+  pub sim : SimView
+  pub is_new : IsNew spec plan sim
   -- what the card holds then
   pub later : Sets
   pub fell : ℕ
-  pub served : IsServed (made_of spec.registers) (holds (new_card spec)) later fell (script ++ Run ∷ []) trace old new
-      result
+  pub few : fell ≤ length plan
+  pub served : IsServed sim.card.made (holds sim.card) later fell (script ++ Run ∷ []) trace old new result
 
--- why a card isn't built: what its spec is refused for, or want of memory
+-- why a card isn't built: what its spec is refused for, or want of memory where it isn't refused
 abbrev pub IsWhyUnbuilt : CardSpec → ServeFault → Type 0
 IsWhyUnbuilt spec Register = refusal_of spec ≡ Some Refused.Register
 IsWhyUnbuilt spec ImageSize = refusal_of spec ≡ Some Refused.ImageSize
-IsWhyUnbuilt spec NoMemory = ⊤
+IsWhyUnbuilt spec NoMemory = refusal_of spec ≡ None
 IsWhyUnbuilt spec fault = ⊥
 
--- what became of a script on the card of a spec
-abbrev pub IsServedOnSpec : CardSpec → List ScriptEvent → Option ℕ → Option (List ℕ) → Option (List ℕ)
-    → Result ℕ ServeFault → Type 0
-IsServedOnSpec spec script trace old new (Err Register) =
-    IsWhyUnbuilt spec Register × (new ≡ old)
-IsServedOnSpec spec script trace old new (Err ImageSize) =
-    IsWhyUnbuilt spec ImageSize × (new ≡ old)
-IsServedOnSpec spec script trace old new result = IsServedOnNewCard spec script trace old new result
+-- What became of a script on the card of a spec, with these faults planned: the spec is refused, or memory was, and
+-- nothing was served or printed; or the script was served.
+abbrev pub IsServedOnSpec : CardSpec → List PlannedFault → List ScriptEvent → Option ℕ → Option (List ℕ)
+    → Option (List ℕ) → Result ℕ ServeFault → Type 0
+IsServedOnSpec spec plan script trace old new (Err Register) = IsWhyUnbuilt spec Register × (new ≡ old)
+IsServedOnSpec spec plan script trace old new (Err ImageSize) = IsWhyUnbuilt spec ImageSize × (new ≡ old)
+IsServedOnSpec spec plan script trace old new (Err NoMemory) = IsWhyUnbuilt spec NoMemory × (new ≡ old)
+IsServedOnSpec spec plan script trace old new result =
+    (refusal_of spec ≡ None) × IsServedOnNewCard spec plan script trace old new result

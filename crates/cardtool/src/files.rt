@@ -75,7 +75,7 @@ pub fn read_files<C: Read, S: Read, I: Read>(
     image: &mut Option<I>,
 ) -> Result<FilesRead, ServeFault>
     ensures plan { IfOk result (λ read. CanBePlanned read.plan.items) }
-    ensures ok { IfOk result (λ read. AreRead (record { card = C.remaining card.old; script = S.remaining script.old; image = option_map (λ i. I.remaining i) image.old }) read.spec read.script) }
+    ensures ok { IfOk result (λ read. AreRead (record { card = C.remaining card.old; script = S.remaining script.old; image = option_map (λ i. I.remaining i) image.old }) read.spec read.plan.items read.script) }
     ensures err { IfErr result (λ fault. AreRefused (record { card = C.remaining card.old; script = S.remaining script.old; image = option_map (λ i. I.remaining i) image.old }) fault) }
 {
     let text = whole(alloc, card, MAX_CARD_FILE, ServeFault::ReadCard)?;

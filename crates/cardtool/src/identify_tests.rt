@@ -2,7 +2,7 @@
 use crate::test_cards::*;
 use mmc_bus::{Bus, BusAnswer, Reply, ScriptedBus};
 use mmc_card_sim::Fault;
-use mmc_frame::{Addressing, Kind};
+use mmc_frame::{Addressing, Kind, encode_r2, encode_r3, encode_response};
 use mmc_identify::{IdentFault, identify};
 use std::collections::VecDeque;
 use std::test::Fail;
@@ -88,5 +88,29 @@ fn fails_by_a_fault_alone(rt: HostRuntime) -> Result<(), Fail> {
     assert_eq!(rt; refusal(&mut card), Some(IdentFault::NoAnswer));
     assert_eq!(rt; card.faults(), 1);
     assert_eq!(rt; refusal(&mut card), None);
+    Ok(())
+}
+
+// An SD card that publishes RCA 0: CMD0, CMD8, CMD55, ACMD41, CMD2 and CMD3.
+#[test]
+fn refuses_rca_0(rt: HostRuntime) -> Result<(), Fail> {
+    let mut cid = [0; 16];
+    cid[15] = 1;
+    let mut answers = VecDeque::new(rt.alloc());
+    for reply in [
+        Reply::Silent,
+        Reply::Short([0x08, 0x00, 0x00, 0x01, 0xaa, 0x13]),
+        Reply::Short(encode_response(55, 0x120)),
+        Reply::Short(encode_r3(0x80ff_8000)),
+        Reply::Long(encode_r2(&cid)),
+        Reply::Short(encode_response(3, 0x0000_0500)),
+    ] {
+        answers
+            .push_back(BusAnswer::Command(reply))
+            .ok()
+            .ok_or("no room")?;
+    }
+    let mut card = ScriptedBus::new(answers);
+    assert_eq!(rt; refusal(&mut card), Some(IdentFault::Register));
     Ok(())
 }

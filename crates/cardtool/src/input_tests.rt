@@ -1,7 +1,7 @@
 use crate::input::{ReadFault, read_bounded, read_front};
 use std::io::{self, ErrorKind, Read};
 
-// A reader of `left` bytes, a hundred a call at most, that fails at one of its calls.
+// A reader of `left` bytes, a hundred a call at most, that fails at one of its calls, counts them all, and goes on.
 #[derive(Drop)]
 struct Broken {
     left: usize,
@@ -11,10 +11,11 @@ struct Broken {
 
 impl Read for Broken {
     fn read(&mut self, bytes: &mut [u8]) -> io::Result<usize> {
-        if self.calls == self.fails_at {
+        let call = self.calls;
+        self.calls = call.saturating_add(1);
+        if call == self.fails_at {
             return Err(ErrorKind::Interrupted.into());
         }
-        self.calls = self.calls.saturating_add(1);
         let count = self.left.min(bytes.len()).min(100);
         self.left -= count;
         Ok(count)
@@ -71,4 +72,19 @@ fn keeps_the_bytes_of_a_front(rt: HostRuntime) {
     };
     assert!(rt; front.as_slice() == &all[..700]);
     assert!(rt; reader.len() == 800);
+}
+
+// A reader's contract doesn't tell how often it was called.
+#[test]
+fn reads_nothing_behind_a_fault(rt: HostRuntime) {
+    for fails_at in 0..4 {
+        let mut reader = reader_failing_at(fails_at);
+        let read = read_bounded(rt.alloc(), &mut reader, 250);
+        assert!(rt; read.map(|bytes| bytes.len()) == Err(ReadFault::Reader));
+        assert!(rt; reader.calls == fails_at + 1);
+    }
+    let mut reader = reader_failing_at(9);
+    let read = read_bounded(rt.alloc(), &mut reader, 199);
+    assert!(rt; read.map(|bytes| bytes.len()) == Err(ReadFault::TooLong));
+    assert!(rt; reader.calls == 2);
 }

@@ -1,11 +1,12 @@
 // The card that a script is served on: a new one in memory, with the faults that are planned for it.
-ghost use Rattle.std.specs.Prelude.{◌≡◌, ◌≤◌, IfErr, IfOk, Some, [], length};
+ghost use Rattle.std.specs.Prelude.{◌≡◌, ◌≤◌, IfErr, IfOk, IsOk, None, Some, [], length};
 ghost use Rattle.mmc_bus.specs.Wires.{IsUnused};
+ghost use Rattle.mmc_card_sim.specs.CardSpec.{refusal_of};
 ghost use Rattle.mmc_card_sim.specs.Plan.{fault_at};
 ghost use Rattle.mmc_card_sim.specs.SimView.{sim_bus_view};
 ghost use Rattle.std.specs.List.{All};
 ghost use Rattle.cardtool.specs.Planning.{CanBePlanned};
-ghost use Rattle.cardtool.specs.Whole.{IsWhyUnbuilt, building_fault, new_card};
+ghost use Rattle.cardtool.specs.Whole.{IsNew, IsWhyUnbuilt, building_fault};
 
 use crate::fault::ServeFault;
 use mmc_card_sim::{BuildFault, CardSpec, Fault, SimCard};
@@ -42,9 +43,8 @@ fn of_building(fault: BuildFault) -> ServeFault
 /// `Register`, `ImageSize` or `NoMemory`, as `SimCard::build` has it.
 pub fn built(alloc: Global, spec: CardSpec, plan: &[(u64, Fault)]) -> Result<SimCard, ServeFault>
     requires { CanBePlanned plan.now }
-    ensures card { IfOk result (λ sim. sim.card ≡ new_card spec) }
-    ensures planned { IfOk result (λ sim. All (λ p. fault_at sim.plan p.0 ≡ Some p.1) plan.now) }
-    ensures no_others { IfOk result (λ sim. length sim.plan ≤ length plan.now) }
+    ensures taken { IsOk result → refusal_of spec ≡ None }
+    ensures new { IfOk result (IsNew spec plan.now) }
     ensures err { IfErr result (λ fault. IsWhyUnbuilt spec fault) }
 {
     match SimCard::build(alloc, spec) {

@@ -137,7 +137,7 @@ pub fn serve_on<W: Write>(
 ) -> Result<u8, ServeFault>
     requires planned { CanBePlanned plan.now }
     requires bounded { ForSome trace (λ n. (1 ≤ n) × (n ≤ MAX_KEPT)) }
-    ensures { IsServedOnSpec spec script trace (W.contents out.old) (W.contents out.new) result }
+    ensures { IsServedOnSpec spec plan.now script trace (W.contents out.old) (W.contents out.new) result }
 {
     a_card_at_rest_is_decided();
     let card = built(alloc, spec, plan)?;

@@ -1,7 +1,7 @@
 // Opening cards in memory: identification, width and speed.
 use crate::test_cards::*;
 use mmc_bus::{Bus, Part, ScriptedBus, Timing, Width};
-use mmc_card_sim::CardSpec;
+use mmc_card_sim::{CardSpec, Fault};
 use mmc_identify::{Found, identify};
 use mmc_switch::{SwitchFault, widen};
 use std::test::Fail;
@@ -99,5 +99,16 @@ fn refuses_an_ext_csd(rt: HostRuntime) -> Result<(), Fail> {
         let found = identify(&mut bus).ok().ok_or("not found")?;
         assert_eq!(rt; refusal(&mut bus, found), Some(SwitchFault::Register));
     }
+    Ok(())
+}
+
+// A lost response is named as such.
+#[test]
+fn names_an_exchange_that_failed(rt: HostRuntime) -> Result<(), Fail> {
+    let mut card = built(rt.alloc(), card_a())?;
+    let found = identify(&mut card).ok().ok_or("not found")?;
+    let next = card.exchanges();
+    assert!(rt; card.plan(next, Fault::LoseReply).is_ok());
+    assert_eq!(rt; refusal(&mut card, found), Some(SwitchFault::Exchange));
     Ok(())
 }

@@ -12,11 +12,11 @@ use Rattle.mmc_switch.specs.declared.broken.Broken.{Broken}
 use Rattle.mmc_switch.specs.declared.info.Info.{Info}
 use Rattle.mmc_block.specs.Any.{Answers, AreFor, Fits, IfEachFailed, IfFailed, holds_broken}
 use Rattle.mmc_block.specs.Entries.{AreServable, completion_of, done_answer, waiting_of, waits_of}
-use Rattle.mmc_block.specs.Groups.{PassNone}
-use Rattle.mmc_block.specs.Machine.{IsMerged, Waiting}
+use Rattle.mmc_block.specs.Groups.{AreInOrder, PassNone}
+use Rattle.mmc_block.specs.Machine.{IsMerged, PassesNone, Waiting}
 use Rattle.mmc_block.specs.Service.{AfterFailure, AreAll, AttemptOk, Concludes, HasStarted, IsNext}
 use Rattle.mmc_block.specs.Service.{in_service_of}
-use Rattle.mmc_block.specs.Work.{IsCauseAfter, IsCausedBy, is_down, service_left}
+use Rattle.mmc_block.specs.Work.{IsCauseAfter, IsCausedBy, is_down, most_at, most_exchanges, service_left}
 use Rattle.mmc_block.specs.declared.completion.Answer.TheVariants.{Failed as FailedFor}
 use Rattle.mmc_block.specs.declared.completion.Completion.{Completion}
 use Rattle.mmc_block.specs.declared.service.Attempt.{Attempt}
@@ -29,7 +29,7 @@ use Rattle.mmc_block.specs.declared.service.Service.TheVariants.{Idle, Serving, 
 use Rattle.mmc_block.specs.declared.service.Stage.{Stage}
 use Rattle.mmc_block.specs.declared.work.TheConstants.{TURNS_OF_A_REQUEST}
 use Rattle.mmc_block.proofs.EntryLemmas.{length-waits_of, merged_waits, servable_parts}
-use Rattle.mmc_block.proofs.ServiceLemmas.{all_served, first_serves, merged_length, pass_first}
+use Rattle.mmc_block.proofs.ServiceLemmas.{all_served, first_serves, in_order-rest, merged_length, pass_first}
 
 -- Who is answered.
 
@@ -116,24 +116,45 @@ start_of_waits old left (Idle link) new (inr s) =
 start_of_waits old left (Serving stage attempt) new s = inl (rw (s.0, s.1) (refl, refl))
 start_of_waits old left Taken new s = absurd s
 
-pub answers_of : (old left : List Entry) (service started new : Service) (cs : List Completion)
+-- of requests by ticket none passes one behind it
+passes_behind : (w : Waiting) (low : ℕ) (ws : List Waiting) (next : ℕ) → w.ticket < low → AreInOrder low ws next
+    → PassesNone w ws
+passes_behind w low [] next above order = tt
+passes_behind w low (v ∷ vs) next above order =
+    let least = order.0 in (
+      λ earlier. absurd (omega (arith, above, least, earlier)),
+      passes_behind w (v.ticket + 1) vs next (omega (arith, above, least)) order.1,
+    )
+
+pass_behind : (low : ℕ) (answered left : List Waiting) (next : ℕ) → AreInOrder low (answered ++ left) next
+    → PassNone answered left
+pass_behind low [] left next order = tt
+pass_behind low (w ∷ ws) left next order = (
+  passes_behind w (w.ticket + 1) left next (omega arith) (in_order-rest (w.ticket + 1) ws left next order.1),
+  pass_behind (w.ticket + 1) ws left next order.1,
+)
+
+pub answers_of : (old left : List Entry) (service started new : Service) (cs : List Completion) (next : ℕ)
     → HasStarted old service left started → Leaves (in_service_of started) cs (in_service_of new) (waits_of left)
+    → AreInOrder 0 (in_service_of started) next
     → Answers (waits_of old) (in_service_of service) cs (waits_of left) (in_service_of new)
-answers_of old left service started new cs s l = record {
+answers_of old left service started new cs next s l order = record {
   started = in_service_of started;
   start = start_of_waits old left service started s;
   answered = l.answered;
   served = l.served;
   named = l.named;
   passes_none = l.passes_none;
+  passes_none_served = pass_behind 0 l.answered (in_service_of new) next
+      (subst (λ ws. AreInOrder 0 ws next) l.served order);
 }
 
 pub answers_none : (old left : List Entry) (service : Service) (link : Link) (cs : List Completion)
     → HasStarted old service left (Idle link) → cs ≡ []
     → Answers (waits_of old) (in_service_of service) cs (waits_of left) []
 answers_none old left service link cs s e =
-    answers_of old left service (Idle link) (Idle link) cs s
-    (record { answered = []; served = refl; named = e; passes_none = tt })
+    answers_of old left service (Idle link) (Idle link) cs 0 s
+    (record { answered = []; served = refl; named = e; passes_none = tt }) (omega arith)
 
 length_for : (ws : List Waiting) (cs : List Completion) → AreFor ws cs → length cs ≡ length ws
 length_for [] cs a = rw a refl
@@ -233,6 +254,15 @@ started_broken old left (Idle link) stage attempt (inl s) = let e = s.2 in cc
 started_broken old left (Idle link) stage attempt (inr s) = let e = s.1 in ap holds_broken e
 started_broken old left (Serving st attempt') stage attempt s = ap holds_broken s.0
 started_broken old left Taken stage attempt s = absurd s
+
+-- Exchanges.
+
+pub started_most : (old left : List Entry) (service : Service) (stage : Stage) (attempt : Attempt)
+    → HasStarted old service left (Serving stage attempt) → most_at stage ≡ most_exchanges service
+started_most old left (Idle link) stage attempt (inl s) = let e = s.2 in cc
+started_most old left (Idle link) stage attempt (inr s) = let e = s.1 in ap most_exchanges e
+started_most old left (Serving st attempt') stage attempt s = ap most_exchanges s.0
+started_most old left Taken stage attempt s = absurd s
 
 pub cause_served : (old left : List Entry) (service new : Service) (stage : Stage) (attempt after : Attempt)
     (o : Outcome) (cs : List Completion) (view : BusView) → HasStarted old service left (Serving stage attempt)

@@ -33,11 +33,11 @@ only_one (e ∷ []) a b one (inl p) (inr q) = absurd q
 only_one (e ∷ []) a b one (inr p) q = absurd p
 only_one (e ∷ f ∷ es) a b one p q = absurd (omega (arith, one))
 
-write_is_no_read : (r : Request) → kind_of r ≡ kind.Write → is_read r ≡ false
-write_is_no_read (Read part start count) is = cc
-write_is_no_read (Write part start count bytes) is = refl
-write_is_no_read (Erase part start count) is = refl
-write_is_no_read (Trim part start count) is = refl
+other_is_no_read : (r : Request) → (kind_of r ≡ kind.Read → ⊥) → is_read r ≡ false
+other_is_no_read (Read part start count) other = absurd (other refl)
+other_is_no_read (Write part start count bytes) other = refl
+other_is_no_read (Erase part start count) other = refl
+other_is_no_read (Trim part start count) other = refl
 
 -- what an erase or a trim keeps to
 abbrev pub IsSuited : How → Info → Request → Type 0
@@ -88,8 +88,8 @@ module _ (session : Session) (g : Group) (selected : session.selected ≡ Some g
       let room = its_room in
       omega (arith, fits, end, some, room)
 
-  pub run_writable : g.run.kind ≡ kind.Write → session.info.read_only ≡ false
-  run_writable is = may.writable (write_is_no_read last.request (alike.1 ∙ is))
+  pub run_writable : (g.run.kind ≡ kind.Read → ⊥) → session.info.read_only ≡ false
+  run_writable other = may.writable (other_is_no_read last.request (λ read. other (sym alike.1 ∙ read)))
 
   -- one that is alone
   module _ (how : How) (is : g.run.kind ≡ kind_of_how how) (one : length g.members.items ≡ 1) where

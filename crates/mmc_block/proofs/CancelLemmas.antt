@@ -9,6 +9,7 @@ use Rattle.mmc_queue.specs.Waiting.{Takes, at_ticket}
 use Rattle.mmc_queue.specs.declared.entry.Entry.{Entry}
 use Rattle.mmc_queue.specs.declared.queue.TheConstants.{MAX_WAITING}
 use Rattle.mmc_switch.specs.declared.info.Info.{Info}
+use Rattle.mmc_bus.proofs.WorkLemmas.{stays_same}
 use Rattle.mmc_block.specs.Device.{Comes, DeviceOk, DeviceView, Withdraws}
 use Rattle.mmc_block.specs.Entries.{AreServable, waiting_of, waits_of}
 use Rattle.mmc_block.specs.Groups.{AreInOrder, PassNone}
@@ -133,6 +134,17 @@ taken_ok info old new service e next t ok =
 
 -- Cancels.
 
+ticket_among : (bs zs : List Entry) (e : Entry) → IsTicketOf e.ticket (waits_of (bs ++ e ∷ zs))
+ticket_among [] zs e = inl refl
+ticket_among (b ∷ bs) zs e = inr (ticket_among bs zs e)
+
+-- the one that was taken had waited
+pub had_waited : (es left : List Entry) (e : Entry) (ticket : ℕ) → e.ticket ≡ ticket → Takes es e left
+    → IsTicketOf ticket (waits_of es)
+had_waited es left e ticket is t =
+    subst (λ (xs : List Entry). IsTicketOf ticket (waits_of xs)) (sym t.2)
+    (subst (λ n. IsTicketOf n (waits_of (t.0 ++ e ∷ t.1))) is (ticket_among t.0 t.1 e))
+
 pub withdrawn : {B : Type 0} (old : DeviceView B) (es left : List Entry) (e : Entry) (ticket : ℕ)
     → old.waits ≡ waits_of es → e.ticket ≡ ticket → Takes es e left
     → Withdraws old ticket e.request (record old { waits = waits_of left })
@@ -156,54 +168,62 @@ pub gives_back : {B : Type 0} (view : B → BusView) (old : DeviceView B) (es le
 gives_back view old es left e ticket waits is t c a =
     let bs = waits_of t.0 in
     let zs = waits_of t.1 in (
-      record c { machine = record c.machine { waits = bs ++ zs } },
+      stays_same (view old.bus) (view old.bus).lines,
       (
+        record c { machine = record c.machine { waits = bs ++ zs } },
+        (
+          record {
+            before = bs;
+            w = waiting_of e;
+            after = zs;
+            waited = a.agrees.waits ∙ waits ∙ ap waits_of t.2 ∙ map-append waiting_of t.0 (e ∷ t.1);
+            ticket_is = is;
+            request_is = refl;
+            leaves = refl;
+          },
+          (refl, λ u. refl),
+          refl,
+        ),
         record {
-          before = bs;
-          w = waiting_of e;
-          after = zs;
-          waited = a.agrees.waits ∙ waits ∙ ap waits_of t.2 ∙ map-append waiting_of t.0 (e ∷ t.1);
-          ticket_is = is;
-          request_is = refl;
-          leaves = refl;
+          agrees = record {
+            waits = sym (ap waits_of t.3 ∙ map-append waiting_of t.0 t.1);
+            in_service = a.agrees.in_service;
+            next = a.agrees.next;
+            within = a.agrees.within;
+          };
+          faults = a.faults;
+          in_profile = a.in_profile;
+          fell = a.fell;
+          placed = a.placed;
+          own = a.own;
         },
-        (refl, λ u. refl),
-        refl,
       ),
-      record {
-        agrees = record {
-          waits = sym (ap waits_of t.3 ∙ map-append waiting_of t.0 t.1);
-          in_service = a.agrees.in_service;
-          next = a.agrees.next;
-          within = a.agrees.within;
-        };
-        faults = a.faults;
-        in_profile = a.in_profile;
-        fell = a.fell;
-        placed = a.placed;
-        own = a.own;
-      },
     )
 
 pub is_in_service : {B : Type 0} (view : B → BusView) (d : DeviceView B) (ticket : ℕ)
     → IsTicketOf ticket (in_service_of d.service)
     → Comes view d (λ (c n : Counted). CountedSteps d.info c (Cancel ticket) InService n) d
-is_in_service view d ticket h c a =
-    (c, ((subst (IsTicketOf ticket) (sym a.agrees.in_service) h, refl), (refl, λ u. refl), refl), a)
+is_in_service view d ticket h c a = (
+  stays_same (view d.bus) (view d.bus).lines,
+  (c, ((subst (IsTicketOf ticket) (sym a.agrees.in_service) h, refl), (refl, λ u. refl), refl), a),
+)
 
 pub is_unknown : {B : Type 0} (view : B → BusView) (d : DeviceView B) (ticket : ℕ)
     → (IsTicketOf ticket (in_service_of d.service) → ⊥) → (IsTicketOf ticket d.waits → ⊥)
     → Comes view d (λ (c n : Counted). CountedSteps d.info c (Cancel ticket) Unknown n) d
 is_unknown view d ticket p q c a = (
-  c,
+  stays_same (view d.bus) (view d.bus).lines,
   (
+    c,
     (
-      (λ h. p (subst (IsTicketOf ticket) a.agrees.in_service h)),
-      (λ h. q (subst (IsTicketOf ticket) a.agrees.waits h)),
+      (
+        (λ h. p (subst (IsTicketOf ticket) a.agrees.in_service h)),
+        (λ h. q (subst (IsTicketOf ticket) a.agrees.waits h)),
+        refl,
+      ),
+      (refl, λ u. refl),
       refl,
     ),
-    (refl, λ u. refl),
-    refl,
+    a,
   ),
-  a,
 )

@@ -8,6 +8,7 @@ use Rattle.mmc_card.specs.Made.{Made}
 use Rattle.mmc_card.specs.Profile.{InProfile}
 use Rattle.mmc_card.specs.Sectors.{Change, Sets, Within}
 use Rattle.mmc_bus.specs.Learned.{Stays}
+use Rattle.mmc_bus.proofs.WorkLemmas.{stays_same}
 use Rattle.mmc_queue.specs.Group.{IsFair}
 use Rattle.mmc_queue.specs.Requests.{room_of}
 use Rattle.mmc_queue.specs.declared.entry.Entry.{Entry}
@@ -303,23 +304,26 @@ pub turn_idle : {B : Type 0} (view : B → BusView) (bus : B) (info : Info) (ser
 turn_idle view bus info service link old left next cs ok s none c a =
     let b = begins view bus info service (Idle link) old left next c ok s a in
     rw none (
-      counted_with c b.started,
+      stays_same (view bus) (view bus).lines,
       (
-        record {
-          started = b.started;
-          start = b.start;
-          answers = record { completes = refl; ascend = tt };
-          fell = 0;
-          faults = omega arith;
-          whose = None;
-          in_service = tt;
-          counts = λ t. refl;
-          four = λ p. tt;
-        },
-        tt,
-        refl,
+        counted_with c b.started,
+        (
+          record {
+            started = b.started;
+            start = b.start;
+            answers = record { completes = refl; ascend = tt };
+            fell = 0;
+            faults = omega arith;
+            whose = None;
+            in_service = tt;
+            counts = λ t. refl;
+            four = λ p. tt;
+          },
+          tt,
+          refl,
+        ),
+        b.agrees,
       ),
-      b.agrees,
     )
 
 in_profile_still : (old new : BusView) → Stays old new → InProfile old.card.made → InProfile new.card.made
@@ -356,47 +360,36 @@ turn_serves view bus bus' info service new old left next stage attempt after cha
     let t = k.turned in
     let later = d.stays.later in
     let faults : c.faults ≡ (view bus).faults = a.faults in (
-      record {
-        machine = serving n t.sets (in_service_of new);
-        in_profile = c.in_profile;
-        faults = c.faults + fell;
-        own_faults = own_after fell k.whose c.own_faults;
-      },
+      d.stays,
       (
         record {
-          started = n;
-          start = b.start;
-          answers = t.answers;
-          fell = fell;
-          faults = refl;
-          whose = k.whose;
-          in_service = t.in_service;
-          counts = λ ticket. refl;
-          four = t.four;
+          machine = serving n t.sets (in_service_of new);
+          in_profile = c.in_profile;
+          faults = c.faults + fell;
+          own_faults = own_after fell k.whose c.own_faults;
         },
-        tt,
-        refl,
+        (
+          record {
+            started = n;
+            start = b.start;
+            answers = t.answers;
+            fell = fell;
+            faults = refl;
+            whose = k.whose;
+            in_service = t.in_service;
+            counts = λ ticket. refl;
+            four = t.four;
+          },
+          tt,
+          refl,
+        ),
+        record {
+          agrees = record { waits = waits; in_service = refl; next = x.agrees.next; within = t.within };
+          faults = omega (arith, faults, later);
+          in_profile = λ p. in_profile_still (view bus) (view bus') d.stays (a.in_profile p);
+          fell = k.run_fell;
+          placed = k.placed;
+          own = k.counted;
+        },
       ),
-      record {
-        agrees = record { waits = waits; in_service = refl; next = x.agrees.next; within = t.within };
-        faults = omega (arith, faults, later);
-        in_profile = λ p. in_profile_still (view bus) (view bus') d.stays (a.in_profile p);
-        fell = k.run_fell;
-        placed = k.placed;
-        own = k.counted;
-      },
     )
-
--- and what the card is made with stays
-pub turn_stays : {B : Type 0} (view : B → BusView) (bus bus' : B) (info : Info) (service : Service)
-    (old left : List Entry) (next : ℕ) (stage : Stage) (attempt : Attempt) (group : Group) (change : Change)
-    (o : Outcome) (c : Counted)
-    → DeviceOk info old service next → HasStarted old service left (Serving stage attempt)
-    → ((k : ℕ) → IsAt stage attempt.group k (view bus)
-    → Did change group (k + ((view bus').faults - (view bus).faults)) (view bus) o (view bus'))
-    → AgreesCounted view (view_of bus info service old next) c → Stays (view bus) (view bus')
-turn_stays view bus bus' info service old left next stage attempt group change o c ok s did a =
-    let b = begins view bus info service (Serving stage attempt) old left next c ok s a in
-    let x : AgreesCounted view (view_of bus info (Serving stage attempt) left next) (counted_with c b.started) =
-    b.agrees in
-    (did x.fell x.placed).stays

@@ -3,7 +3,7 @@ use Rattle.std.proofs.Common.{◌+◌, ◌<◌, ◌≡◌, ◌≤◌, [], ap, ar
 use Rattle.std.specs.Prelude.{Err, IfOk, IsErr, IsOk, Ok, Result}
 use Rattle.mmc_card.specs.BusView.{BusView}
 use Rattle.mmc_card.specs.Profile.{InProfile}
-use Rattle.mmc_bus.proofs.WorkLemmas.{fell, moved_then, quiet_parts}
+use Rattle.mmc_bus.proofs.WorkLemmas.{fell, moved_then, quiet_parts, stays_same}
 use Rattle.mmc_bus.specs.Learned.{Stays}
 use Rattle.mmc_bus.specs.Work.{Moved, Narrows}
 use Rattle.mmc_switch.specs.Place.{IsReady}
@@ -59,7 +59,7 @@ opens_stays r a b p = (p.stays, p.sectors)
 -- Where nothing was done.
 pub stays_as_is : (a : BusView) → Stays a a × Narrows a a
 stays_as_is a = (
-  record { carried = record { made = refl; sizes = λ part. refl }; later = omega arith },
+  stays_same a a.lines,
   λ part sector value h. h,
 )
 

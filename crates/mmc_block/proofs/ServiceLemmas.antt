@@ -63,7 +63,7 @@ pub pass_first : (ms os waits : List Waiting) → PassNone (ms ++ os) waits → 
 pass_first [] os waits h = tt
 pass_first (m ∷ ms) os waits h = (h.0, pass_first ms os waits h.1)
 
-in_order-rest : (low : ℕ) (ms os : List Waiting) (next : ℕ) → AreInOrder low (ms ++ os) next → AreInOrder low os next
+pub in_order-rest : (low : ℕ) (ms os : List Waiting) (next : ℕ) → AreInOrder low (ms ++ os) next → AreInOrder low os next
 in_order-rest low [] os next h = h
 in_order-rest low (m ∷ ms) os next h =
     let l = h.0 in

@@ -15,6 +15,7 @@ use Rattle.mmc_queue.specs.declared.queue.TheConstants.{MAX_WAITING}
 use Rattle.mmc_queue.specs.declared.request.Request.{Request}
 use Rattle.mmc_switch.specs.Sizes.{size_of}
 use Rattle.mmc_switch.specs.declared.info.Info.{Info}
+use Rattle.mmc_bus.proofs.WorkLemmas.{stays_same}
 use Rattle.mmc_block.specs.Device.{Comes, DeviceOk, DeviceView, IsCountedIn, Queues, unanswered_of}
 use Rattle.mmc_block.specs.Entries.{IsServable, waiting_of, waits_of}
 use Rattle.mmc_block.specs.Groups.{AreInOrder, IsCounted, PassNone}
@@ -169,35 +170,38 @@ pub accepted : {B : Type 0} (view : B → BusView) (old new : DeviceView B) (cli
     → Comes view old (λ (c n : Counted). CountedSteps old.info c (Submit client request) (Accepted ticket) n) new
 accepted view old new client ticket request ok q c a =
     rw (q.waits, q.ticket) (
-      record {
-        machine = record c.machine {
-          waits = c.machine.waits ++ record { ticket = c.machine.next; client = client; request = request } ∷ [];
-          next = c.machine.next + 1;
-        };
-        in_profile = c.in_profile;
-        faults = c.faults;
-        own_faults = λ t. if t == old.next then 0 else c.own_faults t;
-      },
+      stays_same (view old.bus) (view old.bus).lines,
       (
+        record {
+          machine = record c.machine {
+            waits = c.machine.waits ++ record { ticket = c.machine.next; client = client; request = request } ∷ [];
+            next = c.machine.next + 1;
+          };
+          in_profile = c.in_profile;
+          faults = c.faults;
+          own_faults = λ t. if t == old.next then 0 else c.own_faults t;
+        },
         (
-          rw (a.agrees.waits, a.agrees.in_service, a.agrees.next) q.not_refused,
-          record { ticket_is = sym a.agrees.next; waits = refl },
+          (
+            rw (a.agrees.waits, a.agrees.in_service, a.agrees.next) q.not_refused,
+            record { ticket_is = sym a.agrees.next; waits = refl },
+          ),
+          (refl, λ t. refl),
+          refl,
         ),
-        (refl, λ t. refl),
-        refl,
+        record {
+          agrees = record {
+            waits = rw (a.agrees.waits, a.agrees.next) refl;
+            in_service = a.agrees.in_service;
+            next = ap (λ n. n + 1) a.agrees.next;
+            within = a.agrees.within;
+          };
+          faults = a.faults;
+          in_profile = a.in_profile;
+          fell = a.fell;
+          placed = a.placed;
+          own = λ profile.
+              service_counted-new old.info old.service old.waits a.fell old.next c.own_faults ok (a.own profile);
+        },
       ),
-      record {
-        agrees = record {
-          waits = rw (a.agrees.waits, a.agrees.next) refl;
-          in_service = a.agrees.in_service;
-          next = ap (λ n. n + 1) a.agrees.next;
-          within = a.agrees.within;
-        };
-        faults = a.faults;
-        in_profile = a.in_profile;
-        fell = a.fell;
-        placed = a.placed;
-        own = λ profile.
-            service_counted-new old.info old.service old.waits a.fell old.next c.own_faults ok (a.own profile);
-      },
     )

@@ -38,7 +38,7 @@ AreFor (w ∷ ws) completions =
     × Fits w.request answer × AreFor ws rest
 
 -- Where nothing is in service some of those that wait go into service. Then the first in service are answered, and the
--- others stay; none that is answered passes an earlier one that waits and conflicts.
+-- others stay; none that is answered passes an earlier one that conflicts, whether it waits or is in service still.
 pub record Answers (waits in_service : List Waiting) (completions : List Completion)
     (waits_new in_service_new : List Waiting) : Type 0 where
   pub started : List Waiting
@@ -47,6 +47,7 @@ pub record Answers (waits in_service : List Waiting) (completions : List Complet
   pub served : started ≡ answered ++ in_service_new
   pub named : AreFor answered completions
   pub passes_none : PassNone answered waits_new
+  pub passes_none_served : PassNone answered in_service_new
 
 -- Causes.
 

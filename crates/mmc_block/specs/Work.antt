@@ -73,6 +73,19 @@ service_left (Serving stage attempt) =
     stage_left stage attempt.group.run.part + TURNS_OF_AN_ATTEMPT * attempts_left attempt
 service_left Taken = 0
 
+-- Exchanges.
+
+-- how many exchanges a turn may make at most: those of a settle, of a select, or one of a run
+abbrev pub most_at : Stage → ℕ
+most_at (At (Down broken)) = 119
+most_at (At (Up session)) = 18
+most_at (Running run) = 1
+
+abbrev pub most_exchanges : Service → ℕ
+most_exchanges (Idle link) = most_at (At link)
+most_exchanges (Serving stage attempt) = most_at stage
+most_exchanges Taken = 0
+
 -- Causes.
 
 -- something had failed, and the card is to be settled

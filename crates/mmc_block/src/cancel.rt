@@ -1,4 +1,4 @@
-ghost use Rattle.std.specs.Prelude.{◌≡◌, IfOk, OnErr, MatchOption, false, true, ℕ};
+ghost use Rattle.std.specs.Prelude.{◌≡◌, ◌↔◌, Err, IfOk, OnErr, MatchOption, false, true, ℕ};
 ghost use Rattle.mmc_block.specs.Entries.{waits_of};
 ghost use Rattle.mmc_block.specs.Machine.{IsTicketOf};
 ghost use Rattle.mmc_block.specs.Service.{in_service_of};
@@ -48,6 +48,7 @@ fn is_in_service(service: &Service, ticket: u64) -> bool
 
 impl<B: Bus> BlockDev<B> {
     ghost use Rattle.mmc_block.specs.Any.{cancelled_reply};
+    ghost use Rattle.mmc_block.specs.declared.cancel.CancelFault.TheVariants.{InService, Unknown};
     ghost use Rattle.mmc_block.specs.Device.{Comes, Withdraws};
     ghost use Rattle.mmc_block.specs.Run.{Counted, CountedSteps};
     ghost use Rattle.mmc_block.specs.Run.Event.{Cancel};
@@ -61,6 +62,9 @@ impl<B: Bus> BlockDev<B> {
         ensures machine { Comes B.view self.old (λ (c n : Counted). CountedSteps self.old.info c (Cancel ticket) (cancelled_reply result) n) self.new }
         ensures cancelled { IfOk result (λ request. Withdraws self.old ticket request self.new) }
         ensures refused { OnErr result (self.new ≡ self.old) }
+        ensures in_service { (result ≡ Err InService) ↔ IsTicketOf ticket (in_service_of self.old.service) }
+        ensures unknown { (result ≡ Err Unknown)
+            ↔ ((IsTicketOf ticket self.old.waits → ⊥) × (IsTicketOf ticket (in_service_of self.old.service) → ⊥)) }
     {
         if is_in_service(&self.service, ticket) {
             return Err(CancelFault::InService);

@@ -10,7 +10,7 @@ ghost use Rattle.mmc_transfer.specs.Run.{HasTurned, IsRunning, IsSameRun, Lowers
 ghost use Rattle.mmc_block.specs.Entries.{AreServable};
 ghost use Rattle.mmc_block.specs.Service as service;
 ghost use Rattle.mmc_block.specs.Service.{Did, IsAt, IsOutcomeOf, IsRunOf, IsStageOf, IsUnderWay, change_of_group, info_of_outcome, info_of_stage, lent_for, session_of};
-ghost use Rattle.mmc_block.specs.Work.{IsCausedBy, Lowers, is_down, run_left, stage_left};
+ghost use Rattle.mmc_block.specs.Work.{IsCausedBy, Lowers, is_down, most_at, run_left, stage_left};
 ghost use Rattle.mmc_block.specs.declared.service.Link.TheVariants.{Up};
 ghost use Rattle.mmc_block.specs.declared.service.Run.TheVariants.{Blocks};
 ghost use Rattle.mmc_block.specs.declared.service.Stage.TheVariants.{At};
@@ -165,7 +165,7 @@ pub fn step<B: Bus>(bus: &mut B, stage: Stage, group: &mut Group) -> Outcome
     ensures servable { AreServable (info_of_stage stage) group.new.members.items }
     ensures of { IsOutcomeOf group.new result }
     ensures info { info_of_outcome result ≡ info_of_stage stage }
-    ensures bounded { (B.view bus.new).exchanges ≤ (B.view bus.old).exchanges + 119 }
+    ensures bounded { (B.view bus.new).exchanges ≤ (B.view bus.old).exchanges + most_at stage }
     ensures lowers { Lowers (stage_left stage group.old.run.part) group.old.run.part result }
     ensures cause { IsCausedBy (is_down stage) result (B.view bus.new) }
 

@@ -11,6 +11,9 @@ use Rattle.mmc_card.specs.declared.exchange.DataOut.{DataOut}
 use Rattle.mmc_card.specs.declared.exchange.Exchange.{Exchange}
 use Rattle.mmc_card.specs.declared.exchange.Exchange.TheVariants.{Command}
 use Rattle.mmc_card.specs.declared.exchange.Reply.{Reply}
+use Rattle.mmc_card.specs.declared.exchange.Want.{Want}
+use Rattle.mmc_card.specs.Wanted.{response_to}
+use Rattle.mmc_frame.specs.declared.kind.Kind.{Kind}
 use Rattle.mmc_bus.specs.declared.host.Unheard.{Unheard}
 use Rattle.mmc_card.proofs.FaultCount.{command_counts, write_counts, poll_counts, read_counts}
 use Rattle.mmc_card.proofs.Narrow.{both}
@@ -23,14 +26,15 @@ use Rattle.mmc_card.specs.ErrorBits.{general_error}
 use Rattle.mmc_card.specs.Blocks.{accepted, can_send, can_accept, next_block, rested, sent, waited}
 use Rattle.mmc_card.specs.Card.{Card, IsCard, holds, is_in, is_selected}
 use Rattle.mmc_bus.specs.Exchanges.{Exchanged}
-use Rattle.mmc_card.specs.Faults.{CommandStep, WriteStep, IsFlipped, IsPatient, NoFault, OneFault, PollStep, Spells}
+use Rattle.mmc_card.specs.Faults.{CommandStep, FallNoMore, WriteStep, IsFlipped, IsPatient, NoFault, OneFault}
+use Rattle.mmc_card.specs.Faults.{PollStep, Spells}
 use Rattle.mmc_card.specs.Faults.{ReadStep, bad_block, brownout, fail, faithful, flip_command, flip_reply, lose_command}
 use Rattle.mmc_card.specs.Faults.{lose_reply, lose_status, reject, slow_inquiry, slow_poll}
 use Rattle.mmc_bus.specs.Heard.{cause_of, cause_of_command}
 use Rattle.mmc_card.specs.Laws.{CountsAtMostOne, erased_by, is_frame_of_run, maybe_erased}
 use Rattle.mmc_bus.specs.Learned.{Asked, CommandFacts, Faithful, WriteFacts, Obeyed, PollFacts, ReadFacts, carried_out}
 use Rattle.mmc_bus.specs.Learned.{may_fail, meant}
-use Rattle.mmc_card.specs.Rows.{answered, is_foreign, is_legal, reached, respond}
+use Rattle.mmc_card.specs.Rows.{command_of, answered, is_foreign, is_legal, reached, respond}
 use Rattle.mmc_card.specs.Sectors.{Sector, Within}
 use Rattle.mmc_card.specs.BusView.{BusView}
 use Rattle.mmc_card.specs.declared.exchange.DataIn.TheVariants as Received
@@ -187,12 +191,16 @@ pub command_facts : {X : Type 0} (Fits : CardAnswer → Type 0) (hears : Reply �
     (answers : CardAnswer → Result X Unheard)
     (old : BusView) (frame : List ℕ) (index argument : ℕ) (reply : Reply) (new : BusView)
     → Reads Fits hears answers → ((choice : Choice) → Fits (respond choice old.card index argument).1)
-    → command_in frame ≡ Some (index, argument) → CommandStep old frame reply new
+    → command_in frame ≡ Some (index, argument) → FallNoMore old new → CommandStep old frame reply new
     → CommandFacts answers old index argument (hears reply) new
-command_facts Fits hears answers old frame index argument reply new reads fits command step =
+command_facts Fits hears answers old frame index argument reply new reads fits command bounded step =
     let widens = command_widens old frame reply new step in
     record {
-      stays = record { carried = widens.carried; later = later old new (command_counts old frame reply new step) };
+      stays = record {
+        carried = widens.carried;
+        later = later old new (command_counts old frame reply new step);
+        bounded = bounded;
+      };
       narrows = subst (λ s. Within (holds new.card) (maybe_erased (erased_by old.card s) (holds old.card))) command
           widens.widens;
       stands = λ run. command_stands old frame reply new (ap (is_frame_of_run old.card) command ∙ run) step;
@@ -268,12 +276,17 @@ poll_ways old said new (brownout choice lands after patient count card answer) =
       fine = λ same h. fell old new count same;
     }
 
-pub poll_facts : (old : BusView) (said : Bool) (new : BusView) → PollStep old said new → PollFacts old said new
-poll_facts old said new step =
+pub poll_facts : (old : BusView) (said : Bool) (new : BusView) → FallNoMore old new → PollStep old said new
+    → PollFacts old said new
+poll_facts old said new bounded step =
     let keeps = poll_keeps old said new step in
     let ways = poll_ways old said new step in
     record {
-      stays = record { carried = keeps.carried; later = later old new (poll_counts old said new step) };
+      stays = record {
+        carried = keeps.carried;
+        later = later old new (poll_counts old said new step);
+        bounded = bounded;
+      };
       narrows = keeps.narrows;
       stands = poll_stands old said new step;
       yes = ways.yes;
@@ -325,13 +338,17 @@ write_ways old block got new (lose_status is_accepted can count card answer) = u
 write_ways old block got new (brownout lands after count card answer) = unaccepted old block got new count
     (not_nothing got answer)
 
-pub write_facts : (old : BusView) (block : Sector) (got : DataOut) (new : BusView) → WriteStep old block got new
-    → WriteFacts old block got new
-write_facts old block got new step =
+pub write_facts : (old : BusView) (block : Sector) (got : DataOut) (new : BusView) → FallNoMore old new
+    → WriteStep old block got new → WriteFacts old block got new
+write_facts old block got new bounded step =
     let adds = write_adds old block got new step in
     let ways = write_ways old block got new step in
     record {
-      stays = record { carried = adds.carried; later = later old new (write_counts old block got new step) };
+      stays = record {
+        carried = adds.carried;
+        later = later old new (write_counts old block got new step);
+        bounded = bounded;
+      };
       widens = adds.adds;
       stands = write_stands old block got new step;
       accepts = ways.accepts;
@@ -384,12 +401,16 @@ read_ways old size got block new (brownout choice lands after count card answer)
     (bad_or_nothing false got answer)
 
 pub read_facts : (old : BusView) (size : ℕ) (got : DataIn) (block : List ℕ) (new : BusView)
-    → ReadStep old size got block new → ReadFacts old size got block new
-read_facts old size got block new step =
+    → FallNoMore old new → ReadStep old size got block new → ReadFacts old size got block new
+read_facts old size got block new bounded step =
     let keeps = read_keeps old size got block new step in
     let ways = read_ways old size got block new step in
     record {
-      stays = record { carried = keeps.carried; later = later old new (read_counts old size got block new step) };
+      stays = record {
+        carried = keeps.carried;
+        later = later old new (read_counts old size got block new step);
+        bounded = bounded;
+      };
       narrows = keeps.narrows;
       stands = read_stands old size got block new step;
       good = ways.good;
@@ -401,7 +422,7 @@ read_facts old size got block new step =
 
 -- what is known of a step is known of the exchange
 pub with_facts : {Step Facts : Type 0} (old : BusView) (exchange : Exchange) (new : BusView)
-    → Exchanged old exchange Step new → (IsCard old.card → Step → Facts)
+    → Exchanged old exchange Step new → (IsCard old.card → FallNoMore old new → Step → Facts)
     → Exchanged old exchange Facts new
 with_facts old exchange new e facts = record {
   lines = e.lines;
@@ -410,25 +431,29 @@ with_facts old exchange new e facts = record {
   kept = λ k. let s = e.kept k in record {
     was_kept = s.was_kept;
     was_card = s.was_card;
-    step = facts s.was_card s.step;
+    step = facts s.was_card s.bounded s.step;
     is_card = s.is_card;
+    bounded = s.bounded;
   };
 }
 
 pub asked : {X : Type 0} (Fits : CardAnswer → Type 0) (hears : Reply → Result X Unheard)
     (answers : CardAnswer → Result X Unheard)
-    (old : BusView) (frame : List ℕ) (index argument : ℕ) (reply : Reply) (heard : Result X Unheard) (new : BusView)
-    → Reads Fits hears answers → (IsCard old.card → (choice : Choice) → Fits (respond choice old.card index argument).1)
-    → command_in frame ≡ Some (index, argument) → heard ≡ hears reply
-    → Exchanged old (Command frame reply) (CommandStep old frame reply new) new
+    (old : BusView) (frame : List ℕ) (index argument : ℕ) (want : Want) (reply : Reply) (heard : Result X Unheard)
+    (new : BusView) → Reads Fits hears answers → (IsCard old.card → (choice : Choice) → Fits (respond choice old.card index argument).1)
+    → command_in frame ≡ Some (index, argument)
+    → ((kind : Kind) (app : Bool) → want ≡ response_to (command_of kind app index)) → heard ≡ hears reply
+    → Exchanged old (Command frame want reply) (CommandStep old frame reply new) new
     → Asked hears answers old index argument heard new
-asked Fits hears answers old frame index argument reply heard new reads fits command hearing e = record {
+asked Fits hears answers old frame index argument want reply heard new reads fits command wanted hearing e = record {
   frame = frame;
+  want = want;
   reply = reply;
   command = command;
+  wanted = wanted;
   hearing = hearing;
   cause = ap cause_of e.last ∙ ap (λ s. Some (cause_of_command s reply)) command;
-  exchanged = with_facts old (Command frame reply) new e
-      (λ k step. subst (λ x. CommandFacts answers old index argument x new) (sym hearing)
-      (command_facts Fits hears answers old frame index argument reply new reads (fits k) command step));
+  exchanged = with_facts old (Command frame want reply) new e
+      (λ k bounded step. subst (λ x. CommandFacts answers old index argument x new) (sym hearing)
+      (command_facts Fits hears answers old frame index argument reply new reads (fits k) command bounded step));
 }

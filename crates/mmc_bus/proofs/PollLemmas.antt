@@ -6,7 +6,7 @@ use Rattle.mmc_frame.specs.declared.kind.Kind.{Kind}
 use Rattle.mmc_bus.specs.declared.cause.Cause.{Cause}
 use Rattle.mmc_card.specs.CardAnswer.{counted, shown}
 use Rattle.mmc_card.specs.CardLaws.{IsInOrder}
-use Rattle.mmc_bus.proofs.WorkLemmas.{joined, narrows_then, quiet_parts, refuted, set_then, stays_then, worked_as}
+use Rattle.mmc_bus.proofs.WorkLemmas.{joined, narrows_then, quiet_parts, refuted, set_then, stays_same, stays_then, worked_as}
 use Rattle.mmc_card.specs.Blocks.{rested}
 use Rattle.mmc_card.specs.Card.{Card, IsCard, is_selected}
 use Rattle.mmc_bus.specs.Exchanges.{Kept}
@@ -49,7 +49,7 @@ polling_none old kept =
     record {
       was_kept = kept;
       cards = λ h. absurd (omega (arith, h));
-      stays = record { carried = record { made = refl; sizes = λ i. refl }; later = omega arith };
+      stays = stays_same old old.lines;
       set = record { lines = refl; stands = λ setting s. s };
       narrows = λ part sector value h. h;
       card = refl;

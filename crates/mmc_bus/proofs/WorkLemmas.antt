@@ -22,7 +22,16 @@ stays_then a b c p q =
     record {
       carried = record { made = q.carried.made ∙ p.carried.made; sizes = λ i. q.carried.sizes i ∙ p.carried.sizes i };
       later = omega (arith, l, m);
+      bounded = λ most h. q.bounded most (p.bounded most h);
     }
+
+-- a bus that stays as it is, but for the lines of the host
+pub stays_same : (a : BusView) (lines : Lines) → Stays a (record a { lines = lines })
+stays_same a lines = record {
+  carried = record { made = refl; sizes = λ part. refl };
+  later = omega arith;
+  bounded = λ most h. h;
+}
 
 pub set_then : (a b c : BusView) → StaysSet a b → StaysSet b c → StaysSet a c
 set_then a b c p q = record { lines = q.lines ∙ p.lines; stands = λ setting s. q.stands setting (p.stands setting s) }
@@ -143,7 +152,7 @@ moved_none a kept card own fine = record {
   was_kept = kept;
   was_card = card;
   is_card = card;
-  stays = record { carried = record { made = refl; sizes = λ part. refl }; later = omega arith };
+  stays = stays_same a a.lines;
   set = tt;
   sectors = λ part sector value h. h;
   own = own;
@@ -165,7 +174,7 @@ moved_on a b lines p own fine = record {
   was_kept = p.was_kept;
   was_card = p.was_card;
   is_card = p.is_card;
-  stays = record { carried = p.stays.carried; later = p.stays.later };
+  stays = stays_then a b (record b { lines = lines }) p.stays (stays_same b lines);
   set = tt;
   sectors = p.sectors;
   own = own;

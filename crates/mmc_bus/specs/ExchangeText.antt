@@ -32,7 +32,7 @@ poll_text false = codes "no"
 
 -- a line, with its line feed
 unfoldable pub exchange_text : Exchange → List ℕ
-exchange_text (Command frame reply) =
+exchange_text (Command frame want reply) =
     codes "cmd " ++ (hex_text frame ++ (codes " rsp " ++ (reply_text reply ++ (10 ∷ []))))
 exchange_text (In len got) = codes "in " ++ (decimal len ++ (codes " " ++ (received_text got ++ (10 ∷ []))))
 exchange_text (Out got) = codes "out " ++ (sent_text got ++ (10 ∷ []))

@@ -3,16 +3,18 @@
 use Rattle.std.specs.Prelude.{◌&&◌, ◌<◌, ◌≡◌, ◌≤◌, Bool, List, Ok, Result, Some, false, not, true, ℕ}
 use Rattle.mmc_frame.specs.Frame.{command_in}
 use Rattle.mmc_frame.specs.declared.card_state.State.TheVariants.{Prg}
+use Rattle.mmc_frame.specs.declared.kind.Kind.{Kind}
 use Rattle.mmc_bus.specs.declared.host.Unheard.{Unheard}
 use Rattle.mmc_card.specs.declared.part.Part.{Part}
 use Rattle.mmc_card.specs.declared.exchange.DataIn.{DataIn}
 use Rattle.mmc_card.specs.declared.exchange.DataOut.{DataOut}
 use Rattle.mmc_card.specs.declared.exchange.Reply.{Reply}
+use Rattle.mmc_card.specs.declared.exchange.Want.{Want}
 use Rattle.mmc_card.specs.CardAnswer.{CardAnswer, Choice, Silent, refused}
 use Rattle.mmc_card.specs.Blocks.{accepted, can_send, can_accept, next_block, rested, sent, waited}
 use Rattle.mmc_card.specs.Card.{Card, holds, is_in, is_selected}
 use Rattle.mmc_bus.specs.Exchanges.{Exchanged}
-use Rattle.mmc_card.specs.Faults.{IsPatient, NoFault}
+use Rattle.mmc_card.specs.Faults.{FallNoMore, IsPatient, NoFault}
 use Rattle.mmc_bus.specs.Heard.{cause_of, cause_of_command}
 use Rattle.mmc_card.specs.Laws.{Carried, StandsIn, StillStands, SwitchesTo, WithinOrAccepted, erased_by}
 use Rattle.mmc_card.specs.Laws.{is_frame_of_run, maybe_erased}
@@ -20,14 +22,17 @@ use Rattle.mmc_card.specs.declared.command.Command.{Command}
 use Rattle.mmc_card.specs.Rows.{command_of, is_foreign, is_legal, reached, row}
 use Rattle.mmc_card.specs.Sectors.{Sector, Within}
 use Rattle.mmc_card.specs.BusView.{BusView}
+use Rattle.mmc_card.specs.Wanted.{response_to}
 use Rattle.mmc_card.specs.declared.exchange.DataIn.TheVariants as Received
 use Rattle.mmc_card.specs.declared.exchange.DataOut.TheVariants as Sent
 use Rattle.mmc_card.specs.declared.exchange.Exchange.TheVariants as Did
 
--- What the card is made with stays, and the sizes of its partitions; the count of faults doesn't fall.
+-- What the card is made with stays, and the sizes of its partitions; the count of faults doesn't fall, and no more are to
+-- fall than before.
 pub record Stays (old new : BusView) : Type 0 where
   pub carried : Carried old.card new.card
   pub later : old.faults ≤ new.faults
+  pub bounded : FallNoMore old new
 
 -- Commands.
 
@@ -74,16 +79,19 @@ pub record CommandFacts {X : Type 0} (answers : CardAnswer → Result X Unheard)
   pub sound : (x : X) → heard ≡ Ok x → Obeyed answers old.card index argument heard new.card
   pub fine : NoFault old new → Faithful answers old.card index argument heard new.card
 
--- One exchange: a command with this index and argument, and what was heard.
+-- One exchange: a command with this index and argument, the response that is wanted of it, whichever kind the card is and
+-- whether it is an application command or not, and what was heard.
 pub record Asked {X : Type 0} (hears : Reply → Result X Unheard) (answers : CardAnswer → Result X Unheard)
     (old : BusView) (index argument : ℕ) (heard : Result X Unheard) (new : BusView) : Type 0 where
   pub frame : List ℕ
+  pub want : Want
   pub reply : Reply
   pub command : command_in frame ≡ Some (index, argument)
+  pub wanted : (kind : Kind) (app : Bool) → want ≡ response_to (command_of kind app index)
   pub hearing : heard ≡ hears reply
   -- its cause, by the reply alone
   pub cause : cause_of new.last ≡ Some (cause_of_command (Some (index, argument)) reply)
-  pub exchanged : Exchanged old (Did.Command frame reply) (CommandFacts answers old index argument heard new) new
+  pub exchanged : Exchanged old (Did.Command frame want reply) (CommandFacts answers old index argument heard new) new
 
 -- Polls.
 

@@ -6,7 +6,7 @@ use Rattle.mmc_card.specs.declared.exchange.Exchange.TheVariants.{Busy, Command,
 
 -- a command has its six bytes
 abbrev pub HasItsFrame : Exchange → Type 0
-HasItsFrame (Command frame reply) = length frame ≡ 6
+HasItsFrame (Command frame want reply) = length frame ≡ 6
 HasItsFrame (In len got) = Unit {0}
 HasItsFrame (Out got) = Unit {0}
 HasItsFrame (Busy said) = Unit {0}

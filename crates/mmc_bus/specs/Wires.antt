@@ -1,5 +1,5 @@
 -- What a bus keeps of its exchanges at run time, and the view of a bus that keeps nothing else.
-use Rattle.std.specs.Prelude.{◌+◌, ◌-◌, ◌^◌, ◌≡◌, Bool, None, Some, [], false, min, ℕ}
+use Rattle.std.specs.Prelude.{◌+◌, ◌-◌, ◌^◌, ◌≡◌, Bool, None, Option, Some, [], false, min, ℕ}
 use Rattle.mmc_frame.specs.declared.kind.Kind.TheVariants.{Sd}
 use Rattle.mmc_card.specs.declared.exchange.Exchange.{Exchange}
 use Rattle.mmc_card.specs.declared.exchange.Timing.TheVariants.{Default}
@@ -15,15 +15,16 @@ pub record Notes (old : Wire) (exchange : Exchange) (new : Wire) : Type 0 where
   pub last : new.last ≡ Some exchange
   pub exchanges : new.exchanges ≡ min (old.exchanges + 1) (2 ^ 64 - 1)
 
--- the view with this card, on which so many faults have fallen
-abbrev pub bus_view_with : Card → ℕ → Bool → Wire → BusView
-bus_view_with card faults is_kept wire =
+-- the view with this card, on which so many faults have fallen, and so many may still fall
+abbrev pub bus_view_with : Card → ℕ → Option ℕ → Bool → Wire → BusView
+bus_view_with card faults may_fall is_kept wire =
     record {
       card = card;
       lines = wire.lines;
       last = wire.last;
       exchanges = wire.exchanges;
       faults = faults;
+      may_fall = may_fall;
       is_kept = is_kept;
     }
 
@@ -49,6 +50,6 @@ pub record IsUnused (view : BusView) : Type 0 where
   pub exchanges : view.exchanges ≡ 0
   pub faults : view.faults ≡ 0
 
--- The view of a bus that never is kept: its card says nothing.
+-- The view of a bus that never is kept: its card says nothing, nor how many faults may fall.
 abbrev pub unkept : Wire → BusView
-unkept wire = bus_view_with (powered_on nothing_made []) 0 false wire
+unkept wire = bus_view_with (powered_on nothing_made []) 0 None false wire

@@ -58,7 +58,7 @@ pub fn write_exchange<W: Write>(exchange: &Exchange, out: &mut W) -> io::Result<
     ensures { Writes (W.contents out.old) (W.contents out.new) result (exchange_text exchange.now) }
 {
     match exchange {
-        Exchange::Command { frame, reply } => {
+        Exchange::Command { frame, reply, .. } => {
             let answer = reply_piece(reply);
             put_pieces(
                 out,

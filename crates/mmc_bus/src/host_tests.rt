@@ -1,6 +1,8 @@
 // Frames that were worked by hand from the standard, and what a host hears of each.
+ghost use Rattle.std.specs.Prelude.{◌<◌};
+
 use crate::*;
-use mmc_frame::{Kind, encode_r2, encode_r3, encode_response};
+use mmc_frame::{Kind, encode, encode_r2, encode_r3, encode_response};
 use std::alloc::Global;
 use std::collections::VecDeque;
 use std::test::Fail;
@@ -18,6 +20,49 @@ const R2: [u8; 17] = [
     0x3f, 0x00, 0x00, 0x00, 0x00, 0x00, 0x09, 0x00, 0x00, 0x00, 0x00, 0x40, 0x00, 0x02, 0x40, 0x00,
     0x9b,
 ];
+
+// A bus that nobody answers on, and that keeps what it was asked for last.
+#[derive(Drop)]
+struct DeafBus {
+    wire: Wire,
+}
+
+impl Bus for DeafBus {
+    ghost use Rattle.mmc_bus.specs.Wires.{unkept};
+
+    ghost view = { λ bus. unkept bus.wire };
+
+    fn command(&mut self, frame: [u8; 6], want: Want) -> Reply {
+        let reply = Reply::Silent;
+        self.wire.note(Exchange::Command { frame, want, reply });
+        reply
+    }
+
+    fn read_data(&mut self, buffer: &mut [u8]) -> DataIn {
+        let got = DataIn::Nothing;
+        self.wire.note(Exchange::In {
+            len: buffer.len(),
+            got,
+        });
+        got
+    }
+
+    fn write_data(&mut self, _block: &[u8; 512]) -> DataOut {
+        let got = DataOut::Nothing;
+        self.wire.note(Exchange::Out { got });
+        got
+    }
+
+    fn busy(&mut self) -> bool {
+        let yes = false;
+        self.wire.note(Exchange::Busy { yes });
+        yes
+    }
+
+    fn set_lines(&mut self, width: Width, timing: Timing) {
+        self.wire.set_lines(width, timing);
+    }
+}
 
 // A bus with these two answers, behind a trace of three exchanges.
 fn answering(
@@ -60,7 +105,14 @@ fn asks(rt: HostRuntime) -> Result<(), Fail> {
         let mut bus = replying(rt.alloc(), reply)?;
         assert_eq!(rt; ask(&mut bus, 17, 0), heard, "{reply:?}");
         assert_eq!(rt; bus.len(), 1);
-        assert_eq!(rt; bus.exchange(0), Some(Exchange::Command { frame, reply }));
+        assert_eq!(rt;
+            bus.exchange(0),
+            Some(Exchange::Command {
+                frame,
+                want: Want::Short,
+                reply
+            })
+        );
     }
     let echo = Reply::Short([0x08, 0x00, 0x00, 0x01, 0xaa, 0x13]);
     let mut bus = replying(rt.alloc(), echo)?;
@@ -95,7 +147,14 @@ fn asks_for_an_ocr(rt: HostRuntime) -> Result<(), Fail> {
             let mut bus = replying(rt.alloc(), reply)?;
             assert_eq!(rt; ask_ocr(&mut bus, kind, 0x40ff_8000), heard, "{reply:?}");
             assert_eq!(rt; bus.len(), 1);
-            assert_eq!(rt; bus.exchange(0), Some(Exchange::Command { frame, reply }));
+            assert_eq!(rt;
+                bus.exchange(0),
+                Some(Exchange::Command {
+                    frame,
+                    want: Want::Short,
+                    reply
+                })
+            );
         }
     }
     Ok(())
@@ -123,7 +182,14 @@ fn asks_for_a_register(rt: HostRuntime) -> Result<(), Fail> {
         let mut bus = replying(rt.alloc(), reply)?;
         assert_eq!(rt; ask_register(&mut bus, 9, 0x0001_0000), heard, "{reply:?}");
         assert_eq!(rt; bus.len(), 1);
-        assert_eq!(rt; bus.exchange(0), Some(Exchange::Command { frame, reply }));
+        assert_eq!(rt;
+            bus.exchange(0),
+            Some(Exchange::Command {
+                frame,
+                want: Want::Long,
+                reply
+            })
+        );
     }
     Ok(())
 }
@@ -141,7 +207,14 @@ fn ignores_what_nobody_wanted(rt: HostRuntime) -> Result<(), Fail> {
         let mut bus = answering(rt.alloc(), BusAnswer::Command(reply), own)?;
         tell(&mut bus, 0, 0);
         assert_eq!(rt; bus.len(), 1);
-        assert_eq!(rt; bus.exchange(0), Some(Exchange::Command { frame, reply }));
+        assert_eq!(rt;
+            bus.exchange(0),
+            Some(Exchange::Command {
+                frame,
+                want: Want::Nothing,
+                reply
+            })
+        );
         assert_eq!(rt; ask(&mut bus, 17, 0), Ok(0x900), "{reply:?}");
     }
     Ok(())
@@ -227,4 +300,42 @@ fn wants_the_response_of_its_kind(rt: HostRuntime) {
     assert_eq!(rt; bus.want, Want::Short);
     tell(&mut bus, 0, 0);
     assert_eq!(rt; bus.want, Want::Nothing);
+}
+
+// What the bus behind a trace was asked for, by the command with this index.
+fn handed_on(alloc: Global, index: u8) -> Result<(Option<Exchange>, Option<Exchange>), Fail>
+    requires { index < 64 }
+{
+    let deaf = DeafBus { wire: Wire::new() };
+    let mut bus = TraceBus::new(alloc, deaf, 1).ok().ok_or("no trace")?;
+    tell(&mut bus, index, 0);
+    let traced = bus.exchange(0);
+    Ok((traced, bus.into_inner().wire.last))
+}
+
+// A command with this index that wants this response, and gets none.
+fn unanswered(index: u8, want: Want) -> Option<Exchange>
+    requires { index < 64 }
+{
+    Some(Exchange::Command {
+        frame: encode(index, 0),
+        want,
+        reply: Reply::Silent,
+    })
+}
+
+// The response that each command has (SD Physical Layer 6.00, section 4.7.4), asked for through a trace.
+#[test]
+fn asks_for_the_response_of_the_command(rt: HostRuntime) -> Result<(), Fail> {
+    let none = unanswered(0, Want::Nothing);
+    assert_eq!(rt; handed_on(rt.alloc(), 0)?, (none, none));
+    let cid = unanswered(2, Want::Long);
+    assert_eq!(rt; handed_on(rt.alloc(), 2)?, (cid, cid));
+    let csd = unanswered(9, Want::Long);
+    assert_eq!(rt; handed_on(rt.alloc(), 9)?, (csd, csd));
+    let status = unanswered(13, Want::Short);
+    assert_eq!(rt; handed_on(rt.alloc(), 13)?, (status, status));
+    let scr = unanswered(51, Want::Short);
+    assert_eq!(rt; handed_on(rt.alloc(), 51)?, (scr, scr));
+    Ok(())
 }

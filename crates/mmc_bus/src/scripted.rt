@@ -111,12 +111,11 @@ impl Bus for ScriptedBus {
     ghost view = { scripted_bus_view };
 
     fn command(&mut self, frame: [u8; 6], want: Want) -> Reply
-        ensures exchanged { Commanded (scripted_bus_view self.old) frame result (scripted_bus_view self.new) }
+        ensures exchanged { Commanded (scripted_bus_view self.old) frame want result (scripted_bus_view self.new) }
         ensures next { RepliesNext (answers_of self.old) result (answers_of self.new) }
     {
-        let _ = want;
         let reply = next_reply(&mut self.answers);
-        self.wire.note(Exchange::Command { frame, reply });
+        self.wire.note(Exchange::Command { frame, want, reply });
         reply
     }
 

@@ -22,6 +22,7 @@ fn writes_each_exchange(rt: HostRuntime) -> Result<(), Fail> {
         (
             Exchange::Command {
                 frame: encode(0, 0),
+                want: Want::Nothing,
                 reply: Reply::Silent,
             },
             b"cmd 400000000095 rsp none\n",
@@ -29,6 +30,7 @@ fn writes_each_exchange(rt: HostRuntime) -> Result<(), Fail> {
         (
             Exchange::Command {
                 frame: [0x42, 0, 0, 0, 0, 0x4d],
+                want: Want::Long,
                 reply: Reply::Long(long),
             },
             b"cmd 42000000004d rsp 3f00000000000000000000000000000001\n",

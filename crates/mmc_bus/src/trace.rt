@@ -110,11 +110,12 @@ impl<B: Bus> Bus for TraceBus<B> {
     ghost view = { λ t. B.view t.bus };
 
     fn command(&mut self, frame: [u8; 6], want: Want) -> Reply
-        ensures exchanged { Commanded (B.view self.old.bus) frame result (B.view self.new.bus) }
-        ensures traced { Traces self.old (Command frame result) self.new }
+        ensures exchanged { Commanded (B.view self.old.bus) frame want result (B.view self.new.bus) }
+        ensures traced { Traces self.old (Command frame want result) self.new }
     {
         let reply = self.bus.command(frame, want);
-        self.last.push_back(Exchange::Command { frame, reply });
+        self.last
+            .push_back(Exchange::Command { frame, want, reply });
         reply
     }
 

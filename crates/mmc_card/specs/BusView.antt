@@ -15,5 +15,7 @@ pub record BusView : Type 0 where
   pub exchanges : ℕ
   -- how many faults have fallen while the bus was kept
   pub faults : ℕ
+  -- how many may still fall at most, where the bus says so
+  pub may_fall : Option ℕ
   -- each exchange so far was a step of a card
   pub is_kept : Bool

@@ -1,6 +1,7 @@
 -- The steps of a kept bus: each exchange is a faithful step, or one fault, which adds one to the count of faults. What
 -- may go wrong, and what a card does then, is the project's own.
-use Rattle.std.specs.Prelude.{◌&&◌, ◌+◌, ◌<◌, ◌≡◌, ◌≤◌, Bool, List, None, Ok, Option, Some, false, if◌then◌else◌}
+use Rattle.std.specs.Prelude.{◌&&◌, ◌+◌, ◌<◌, ◌≡◌, ◌≤◌, Bool, IsSomeAnd, List, None, Ok, Option, Some, false}
+use Rattle.std.specs.Prelude.{if◌then◌else◌}
 use Rattle.std.specs.Prelude.{length, true, ℕ}
 use Rattle.mmc_frame.specs.Check.{bits_of}
 use Rattle.mmc_frame.specs.Flips.{AreBytes, Flips}
@@ -30,6 +31,14 @@ NoFault old new = new.faults ≡ old.faults
 
 abbrev pub OneFault : BusView → BusView → Type 0
 OneFault old new = new.faults ≡ old.faults + 1
+
+-- at most so many faults fall in all: those that fell, and those that may still fall
+abbrev pub FallAtMost : ℕ → BusView → Type 0
+FallAtMost most view = IsSomeAnd view.may_fall (λ more. view.faults + more ≤ most)
+
+-- No more faults are to fall than before: what bounded them all bounds them still.
+abbrev pub FallNoMore : BusView → BusView → Type 0
+FallNoMore old new = (most : ℕ) → FallAtMost most old → FallAtMost most new
 
 -- the reply is this answer
 abbrev pub Spells : CardAnswer → Reply → Type 0

@@ -14,3 +14,4 @@ pub mod RowsIdentify
 pub mod RowsSwitch
 pub mod RowsTransfer
 pub mod Sectors
+pub mod Wanted

@@ -80,6 +80,8 @@ pub enum Exchange {
     Command {
         /// The six bytes that were sent.
         frame: [u8; 6],
+        /// The response that was wanted.
+        want: Want,
         /// What came back.
         reply: Reply,
     },

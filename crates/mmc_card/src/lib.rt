@@ -7,6 +7,6 @@ mod exchange;
 pub mod laws;
 mod part;
 
-pub use command::{Command, is_addressed, leaves_erase};
+pub use command::{Command, is_addressed, leaves_erase, wanted};
 pub use exchange::{DataIn, DataOut, Exchange, Lines, Reply, Timing, Want, Width};
 pub use part::Part;

@@ -1,11 +1,12 @@
 -- Looking a fault up in a plan, and planning one.
-use Rattle.std.proofs.Common.{◌++◌, ◌<◌, ◌∷◌, ◌∙◌, ◌≡◌, Bool, List, None, Some, [], ap, arith, cond, false, length}
+use Rattle.std.proofs.Common.{◌++◌, ◌<◌, ◌∷◌, ◌∙◌, ◌≡◌, ◌≤◌, ◌+◌, Bool, List, None, Some, [], ap, arith, cond, false, length}
 use Rattle.std.proofs.Common.{refl, suc, sym, take, true, zero, ℕ}
-use Rattle.std.specs.Prelude.{◌-◌, ◌==◌, ◌^◌, ◌||◌, Err, IsOk, Ok, OnErr, Option, Result, if◌then◌else◌, nat_lt, slice_index_or, slice_set}
+use Rattle.std.specs.Prelude.{◌-◌, ◌==◌, ◌^◌, ◌||◌, Err, IsOk, Ok, OnErr, Option, Result, if◌then◌else◌, min, nat_le, nat_lt, slice_index_or, slice_set}
 use Rattle.std.proofs.lemmas.Bool.{eq-eqb, eqb-true}
+use Rattle.std.proofs.lemmas.Bool.Decides.{nat_tests}
 use Rattle.mmc_card_sim.specs.declared.fault.Fault.{Fault}
 use Rattle.mmc_card_sim.specs.declared.plan.Planned.{Planned}
-use Rattle.mmc_card_sim.specs.Plan.{fault_at, is_full, refusal_of}
+use Rattle.mmc_card_sim.specs.Plan.{fault_at, is_full, refusal_of, to_come}
 use Rattle.mmc_card_sim.specs.declared.plan.PlanFault.{PlanFault}
 use Rattle.mmc_card_sim.specs.declared.plan.PlanFault.TheVariants.{InThePast, PlanFull}
 
@@ -99,3 +100,63 @@ never_planned was now exchange made fault (Ok done) same planned replaced never 
     ∙ by_false (exchange == 2 ^ 64 - 1) (Some fault) (fault_at was (2 ^ 64 - 1)) late ∙ never
 never_planned was now exchange made fault (Err why) same planned replaced never =
     ap (λ plan. fault_at plan (2 ^ 64 - 1)) same ∙ never
+
+-- Exchanges that are still to come.
+
+is_later : (exchange made later : ℕ) → made ≤ later
+    → (if nat_le later exchange then 1 else 0) ≤ (if nat_le made exchange then 1 else 0)
+is_later exchange made later more = grind (arith, nat_tests, more)
+
+-- no more of them are to come later
+fewer_later : (plan : List Planned) (made later : ℕ) → made ≤ later → to_come plan later ≤ to_come plan made
+fewer_later [] made later more = omega arith
+fewer_later (p ∷ plan) made later more =
+    omega (arith, is_later p.exchange made later more, fewer_later plan made later more)
+
+is_now : (exchange made : ℕ) → exchange ≡ made
+    → (if nat_le (made + 1) exchange then 1 else 0) + 1 ≤ (if nat_le made exchange then 1 else 0)
+is_now exchange made same = grind (arith, nat_tests, same)
+
+by_first : (b : Bool) (p : Planned) (plan : List Planned) (made : ℕ) (fault : Fault) → (p.exchange == made) ≡ b
+    → cond b (Some p.fault) (fault_at plan made) ≡ Some fault
+    → (fault_at plan made ≡ Some fault → to_come plan (made + 1) + 1 ≤ to_come plan made)
+    → to_come (p ∷ plan) (made + 1) + 1 ≤ to_come (p ∷ plan) made
+by_first true p plan made fault here found behind =
+    omega (arith, is_now p.exchange made (eqb-true p.exchange made here), fewer_later plan made (made + 1) (omega arith))
+by_first false p plan made fault other found behind =
+    omega (arith, is_later p.exchange made (made + 1) (omega arith), behind found)
+
+-- one that is planned for now is to come no more
+one_less : (plan : List Planned) (made : ℕ) (fault : Fault) → fault_at plan made ≡ Some fault
+    → to_come plan (made + 1) + 1 ≤ to_come plan made
+one_less [] made fault found = absurd cc
+one_less (p ∷ plan) made fault found =
+    by_first (p.exchange == made) p plan made fault refl found (one_less plan made fault)
+
+-- no more are to come than are planned
+pub all_to_come : (plan : List Planned) (made : ℕ) → to_come plan made ≤ length plan
+all_to_come [] made = omega arith
+all_to_come (p ∷ plan) made = omega (arith, one_at_most (nat_le made p.exchange), all_to_come plan made)
+  where
+    one_at_most : (b : Bool) → (if b then 1 else 0) ≤ 1
+    one_at_most true = omega arith
+    one_at_most false = omega arith
+
+unfallen : (plan : List Planned) (exchanges made : ℕ) → exchanges ≤ 2 ^ 64 - 1
+    → made ≡ min (exchanges + 1) (2 ^ 64 - 1) → to_come plan made ≤ to_come plan exchanges
+unfallen plan exchanges made small is = fewer_later plan exchanges made (omega (arith, small, is))
+
+-- Where a fault fell, it was planned for this exchange; so those that fell and those to come are no more than before.
+pub spent : (plan : List Planned) (fault : Option Fault) (fell : Bool) (faults later exchanges made : ℕ)
+    → fault ≡ fault_at plan exchanges → (fault ≡ None → fell ≡ false) → fault_at plan (2 ^ 64 - 1) ≡ None
+    → exchanges ≤ 2 ^ 64 - 1 → later ≡ (if fell then faults + 1 else faults)
+    → made ≡ min (exchanges + 1) (2 ^ 64 - 1) → later + to_come plan made ≤ faults + to_come plan exchanges
+spent plan fault false faults later exchanges made is unplanned never small counts next =
+    omega (arith, unfallen plan exchanges made small next, counts)
+spent plan None true faults later exchanges made is unplanned never small counts next = absurd (cc (unplanned refl))
+spent plan (Some fault) true faults later exchanges made is unplanned never small counts next =
+    let last : exchanges ≡ 2 ^ 64 - 1 → ⊥ = λ e. cc (is, ap (fault_at plan) e, never) in
+    let is_next : made ≡ exchanges + 1 = omega (arith, small, next, last) in
+    let less = one_less plan exchanges fault (sym is) in
+    let same : to_come plan made ≡ to_come plan (exchanges + 1) = ap (to_come plan) is_next in
+    omega (arith, less, same, counts)

@@ -9,6 +9,7 @@ use Rattle.mmc_card.specs.declared.exchange.DataOut.{DataOut}
 use Rattle.mmc_card.specs.declared.exchange.Exchange.{Exchange}
 use Rattle.mmc_card.specs.declared.exchange.Exchange.TheVariants.{Busy, Command, In, Out}
 use Rattle.mmc_card.specs.declared.exchange.Reply.{Reply}
+use Rattle.mmc_card.specs.declared.exchange.Want.{Want}
 use Rattle.mmc_card.specs.BusView.{BusView}
 use Rattle.mmc_card.specs.Card.{Card, IsBlock, IsCard, is_in}
 use Rattle.mmc_card.specs.Faults.{CommandStep, IsPatient, PollStep, ReadStep, WriteStep}
@@ -27,8 +28,9 @@ use Rattle.mmc_card_sim.specs.Chip.{choice_of, inquiry_choice}
 use Rattle.mmc_card_sim.specs.FaultyExchanges.{Commands, IsHeard, Polls, Reads, Writes, after_command, after_poll}
 use Rattle.mmc_card_sim.specs.FaultyExchanges.{after_read, after_write, fits_command, fits_poll, fits_read, fits_write}
 use Rattle.mmc_card_sim.specs.FaultyExchanges.{heeded, is_answer, is_busy_fault, poll_choice, read_in, written_out}
-use Rattle.mmc_card_sim.specs.Plan.{fault_at}
+use Rattle.mmc_card_sim.specs.Plan.{fault_at, to_come}
 use Rattle.mmc_card_sim.specs.SimView.{SimOk, SimView}
+use Rattle.mmc_card_sim.proofs.PlanLemmas.{spent}
 use Rattle.mmc_card_sim.specs.Store.{lands_by}
 use Rattle.mmc_card_sim.specs.declared.delays.Delays.{Delays}
 use Rattle.mmc_card_sim.specs.declared.fault.Fault.{Fault}
@@ -37,18 +39,27 @@ use Rattle.mmc_card_sim.specs.declared.fault.Outcome.TheVariants.{New, Old}
 use Rattle.mmc_card_sim.specs.declared.plan.Planned.{Planned}
 use Rattle.mmc_card_sim.proofs.FlipLemmas.{is_flipped}
 
--- a bus with this card, that is kept
-abbrev pub kept_with : Card → ℕ → Wire → BusView
-kept_with card faults wire = bus_view_with card faults true wire
+-- a bus with this card and this plan, that is kept
+abbrev pub kept_with : List Planned → Card → ℕ → Wire → BusView
+kept_with plan card faults wire = bus_view_with card faults (Some (to_come plan wire.exchanges)) true wire
 
-exchanged : {Step : Type 0} (old new : Card) (faults later : ℕ) (before after : Wire) (exchange : Exchange)
-    → Notes before exchange after
-    → IsCard old → IsCard new → Step → Exchanged (kept_with old faults before) exchange Step (kept_with new later after)
-exchanged old new faults later before after exchange notes was is step = record {
+exchanged : {Step : Type 0} (plan : List Planned) (old new : Card) (faults later : ℕ) (before after : Wire)
+    (exchange : Exchange) → Notes before exchange after
+    → later + to_come plan after.exchanges ≤ faults + to_come plan before.exchanges
+    → IsCard old → IsCard new → Step
+    → Exchanged (kept_with plan old faults before) exchange Step (kept_with plan new later after)
+exchanged plan old new faults later before after exchange notes in_bounds was is step = record {
   lines = notes.lines;
   last = notes.last;
   exchanges = notes.exchanges;
-  kept = λ kept. record { was_kept = refl; was_card = was; step = step; is_card = is };
+  kept = λ kept.
+      record {
+        was_kept = refl;
+        was_card = was;
+        step = step;
+        is_card = is;
+        bounded = λ most few. omega (arith, in_bounds, few);
+      };
 }
 
 -- Commands.
@@ -60,11 +71,11 @@ soon_ready : (delays : Delays) (card : Card) → delays.ready ≤ 8
     → IsPatient (inquiry_choice delays.ready card) card.inquiries
 soon_ready delays card few slow = few_times delays.ready card.inquiries few slow
 
-module _ (old new : Card) (delays : Delays) (soon : delays.ready ≤ 8) (faults later : ℕ) (before after : Wire) where
+module _ (plan : List Planned) (old new : Card) (delays : Delays) (soon : delays.ready ≤ 8) (faults later : ℕ) (before after : Wire) where
   command_fault : (fault : Option Fault) (frame : List ℕ) (reply : Reply) → later ≡ faults + 1
       → fits_command fault delays old frame ≡ true
       → new ≡ after_command fault delays old frame → IsHeard fault (heeded delays old frame).1 reply
-      → CommandStep (kept_with old faults before) frame reply (kept_with new later after)
+      → CommandStep (kept_with plan old faults before) frame reply (kept_with plan new later after)
   command_fault None frame reply one fits card heard = cc
   command_fault (Some Is.LoseCommand) frame reply one fits card heard = lose_command one card heard
   command_fault (Some (Is.FlipCommand flips)) frame reply one fits card heard = flip_command false one card heard
@@ -86,31 +97,32 @@ module _ (old new : Card) (delays : Delays) (soon : delays.ready ≤ 8) (faults 
   command_step : (fault : Option Fault) (frame : List ℕ) (reply : Reply) (fell : Bool)
       → later ≡ (if fell then faults + 1 else faults)
       → Commands fault delays old frame reply fell new
-      → CommandStep (kept_with old faults before) frame reply (kept_with new later after)
+      → CommandStep (kept_with plan old faults before) frame reply (kept_with plan new later after)
   command_step fault frame reply false counts does =
       does_command (inquiry_choice delays.ready old) (soon_ready delays old soon) counts (does.card refl)
       (does.answer refl)
   command_step fault frame reply true counts does =
       command_fault fault frame reply counts (sym does.fell_is) (does.fault_card refl) (does.fault_reply refl)
 
-  pub commanded : (fault : Option Fault) (frame : List ℕ) (reply : Reply) (fell : Bool)
+  pub commanded : (fault : Option Fault) (frame : List ℕ) (want : Want) (reply : Reply) (fell : Bool)
       → later ≡ (if fell then faults + 1 else faults) → Commands fault delays old frame reply fell new
-      → IsCard old → Notes before (Command frame reply) after
-      → Commanded (kept_with old faults before) frame reply (kept_with new later after) × IsCard new
-  commanded fault frame reply fell counts does k notes =
+      → IsCard old → Notes before (Command frame want reply) after
+      → later + to_come plan after.exchanges ≤ faults + to_come plan before.exchanges
+      → Commanded (kept_with plan old faults before) frame want reply (kept_with plan new later after) × IsCard new
+  commanded fault frame want reply fell counts does k notes in_bounds =
       let step = command_step fault frame reply fell counts does in
-      let is = command_leaves_card (kept_with old faults before) frame reply (kept_with new later after) step k in
-      (exchanged old new faults later before after (Command frame reply) notes k is step, is)
+      let is = command_leaves_card (kept_with plan old faults before) frame reply (kept_with plan new later after) step k in
+      (exchanged plan old new faults later before after (Command frame want reply) notes in_bounds k is step, is)
 
 -- Blocks.
 
-module _ (old new : Card) (faults later : ℕ) (before after : Wire) where
+module _ (plan : List Planned) (old new : Card) (faults later : ℕ) (before after : Wire) where
   -- Blocks that the host reads.
 
   read_fault : (fault : Option Fault) (size : ℕ) (got : DataIn) (block : List ℕ) → later ≡ faults + 1
       → fits_read fault old before.lines size ≡ true
-      → new ≡ after_read fault old → got ≡ read_in fault → ReadStep (kept_with old faults before) size got block
-      (kept_with new later after)
+      → new ≡ after_read fault old → got ≡ read_in fault → ReadStep (kept_with plan old faults before) size got block
+      (kept_with plan new later after)
   read_fault (Some Is.BadBlock) size got block one fits card answer = bad_block (choice_of false) true fits one card answer
   read_fault (Some Is.NoBlock) size got block one fits card answer = bad_block (choice_of false) false fits one card answer
   read_fault (Some (Is.Brownout outcome)) size got block one fits card answer =
@@ -127,8 +139,8 @@ module _ (old new : Card) (faults later : ℕ) (before after : Wire) where
 
   read_step : (fault : Option Fault) (size : ℕ) (got : DataIn) (block : List ℕ) (fell : Bool)
       → later ≡ (if fell then faults + 1 else faults)
-      → Reads fault old before.lines size got block fell new → ReadStep (kept_with old faults before) size got block
-      (kept_with new later after)
+      → Reads fault old before.lines size got block fell new → ReadStep (kept_with plan old faults before) size got block
+      (kept_with plan new later after)
   read_step fault size got block false counts does =
       let s = does.sends refl in does_read (choice_of false) counts s.card s.got_is s.block_is
   read_step fault size got block true counts does =
@@ -137,18 +149,19 @@ module _ (old new : Card) (faults later : ℕ) (before after : Wire) where
   pub data_read : (fault : Option Fault) (size : ℕ) (got : DataIn) (block : List ℕ) (fell : Bool)
       → later ≡ (if fell then faults + 1 else faults)
       → Reads fault old before.lines size got block fell new → IsCard old → Notes before (In size got) after
-      → DataRead (kept_with old faults before) size got block (kept_with new later after) × IsCard new
-  data_read fault size got block fell counts does k notes =
+      → later + to_come plan after.exchanges ≤ faults + to_come plan before.exchanges
+      → DataRead (kept_with plan old faults before) size got block (kept_with plan new later after) × IsCard new
+  data_read fault size got block fell counts does k notes in_bounds =
       let step = read_step fault size got block fell counts does in
-      let is = read_leaves_card (kept_with old faults before) size got block (kept_with new later after) step k in
-      (exchanged old new faults later before after (In size got) notes k is step, is)
+      let is = read_leaves_card (kept_with plan old faults before) size got block (kept_with plan new later after) step k in
+      (exchanged plan old new faults later before after (In size got) notes in_bounds k is step, is)
 
   -- Blocks that the host writes.
 
   write_fault : (fault : Option Fault) (block : Sector) (got : DataOut) → later ≡ faults + 1
       → fits_write fault old before.lines ≡ true
       → new ≡ after_write fault old block → got ≡ written_out fault
-      → WriteStep (kept_with old faults before) block got (kept_with new later after)
+      → WriteStep (kept_with plan old faults before) block got (kept_with plan new later after)
   write_fault (Some Is.Reject) block got one fits card answer = reject fits one card answer
   write_fault (Some (Is.LoseStatus Old)) block got one fits card answer = lose_status false fits one card answer
   write_fault (Some (Is.LoseStatus New)) block got one fits card answer = lose_status true fits one card answer
@@ -166,8 +179,8 @@ module _ (old new : Card) (faults later : ℕ) (before after : Wire) where
 
   write_step : (fault : Option Fault) (block : Sector) (got : DataOut) (fell : Bool)
       → later ≡ (if fell then faults + 1 else faults)
-      → Writes fault old before.lines block got fell new → WriteStep (kept_with old faults before) block got
-      (kept_with new later after)
+      → Writes fault old before.lines block got fell new → WriteStep (kept_with plan old faults before) block got
+      (kept_with plan new later after)
   write_step fault block got false counts does = does_write counts (does.card refl) (does.got_is refl)
   write_step fault block got true counts does =
       write_fault fault block got counts (sym does.fell_is) (does.fault_card refl) (does.fault_got refl)
@@ -175,11 +188,12 @@ module _ (old new : Card) (faults later : ℕ) (before after : Wire) where
   pub data_written : (fault : Option Fault) (block : Sector) (got : DataOut) (fell : Bool)
       → later ≡ (if fell then faults + 1 else faults)
       → Writes fault old before.lines block got fell new → IsBlock block → IsCard old → Notes before (Out got) after
-      → DataWritten (kept_with old faults before) block got (kept_with new later after) × IsCard new
-  data_written fault block got fell counts does size k notes =
+      → later + to_come plan after.exchanges ≤ faults + to_come plan before.exchanges
+      → DataWritten (kept_with plan old faults before) block got (kept_with plan new later after) × IsCard new
+  data_written fault block got fell counts does size k notes in_bounds =
       let step = write_step fault block got fell counts does in
-      let is = write_leaves_card (kept_with old faults before) block got (kept_with new later after) size step k in
-      (exchanged old new faults later before after (Out got) notes k is step, is)
+      let is = write_leaves_card (kept_with plan old faults before) block got (kept_with plan new later after) size step k in
+      (exchanged plan old new faults later before after (Out got) notes in_bounds k is step, is)
 
 -- Polls.
 
@@ -202,10 +216,10 @@ is_false false h = refl
 at_least : (limit times : ℕ) → nat_le limit times ≡ true → limit ≤ times
 at_least limit times h = grind (arith, nat_tests, h)
 
-module _ (old new : Card) (delays : Delays) (soon : delays.busy ≤ 8) (faults later : ℕ) (before after : Wire) where
+module _ (plan : List Planned) (old new : Card) (delays : Delays) (soon : delays.busy ≤ 8) (faults later : ℕ) (before after : Wire) where
   poll_fault : (fault : Option Fault) (said : Bool) → later ≡ faults + 1 → fits_poll fault old ≡ true
       → new ≡ after_poll fault old → said ≡ is_busy_fault fault
-      → PollStep (kept_with old faults before) said (kept_with new later after)
+      → PollStep (kept_with plan old faults before) said (kept_with plan new later after)
   poll_fault (Some (Is.Fail outcome)) said one fits card is =
       let parts = and_true (is_in old.state Prg) (not old.is_switching) fits in
       fail (lands_by outcome) parts.0 (is_false old.is_switching parts.1) one card is
@@ -226,7 +240,7 @@ module _ (old new : Card) (delays : Delays) (soon : delays.busy ≤ 8) (faults l
 
   poll_step : (fault : Option Fault) (said fell : Bool) → later ≡ (if fell then faults + 1 else faults)
       → Polls fault delays old said fell new
-      → PollStep (kept_with old faults before) said (kept_with new later after)
+      → PollStep (kept_with plan old faults before) said (kept_with plan new later after)
   poll_step fault said false counts does =
       does_poll (poll_choice fault delays old) (soon_rested fault delays old soon) counts (does.card refl)
       (does.said_is refl)
@@ -235,13 +249,23 @@ module _ (old new : Card) (delays : Delays) (soon : delays.busy ≤ 8) (faults l
 
   pub polled : (fault : Option Fault) (said fell : Bool) → later ≡ (if fell then faults + 1 else faults)
       → Polls fault delays old said fell new → IsCard old → Notes before (Busy said) after
-      → Polled (kept_with old faults before) said (kept_with new later after) × IsCard new
-  polled fault said fell counts does k notes =
+      → later + to_come plan after.exchanges ≤ faults + to_come plan before.exchanges
+      → Polled (kept_with plan old faults before) said (kept_with plan new later after) × IsCard new
+  polled fault said fell counts does k notes in_bounds =
       let step = poll_step fault said fell counts does in
-      let is = poll_leaves_card (kept_with old faults before) said (kept_with new later after) step k in
-      (exchanged old new faults later before after (Busy said) notes k is step, is)
+      let is = poll_leaves_card (kept_with plan old faults before) said (kept_with plan new later after) step k in
+      (exchanged plan old new faults later before after (Busy said) notes in_bounds k is step, is)
 
 -- What holds of the card in memory.
+
+-- faults that fell, and those that are planned for exchanges to come
+pub in_all : (sim : SimView) (fault : Option Fault) (fell : Bool) (later : ℕ) (exchange : Exchange) (after : Wire)
+    → SimOk sim → fault ≡ fault_at sim.plan sim.wire.exchanges → (fault ≡ None → fell ≡ false)
+    → later ≡ (if fell then sim.faults + 1 else sim.faults) → Notes sim.wire exchange after
+    → later + to_come sim.plan after.exchanges ≤ sim.faults + to_come sim.plan sim.wire.exchanges
+in_all sim fault fell later exchange after ok is unplanned counts notes =
+    spent sim.plan fault fell sim.faults later sim.wire.exchanges after.exchanges is unplanned ok.never ok.bounded counts
+    notes.exchanges
 
 fell_some : (fell : Bool) (fault : Option _) (plan : List Planned) (exchanges : ℕ) → fault ≡ fault_at plan exchanges
     → (fault ≡ None → fell ≡ false)

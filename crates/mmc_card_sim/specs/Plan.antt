@@ -1,5 +1,5 @@
 -- Faults that are planned for exchanges.
-use Rattle.std.specs.Prelude.{◌||◌, ◌-◌, ◌==◌, ◌^◌, Bool, List, None, Option, Some, [], ◌∷◌, false, if◌then◌else◌}
+use Rattle.std.specs.Prelude.{◌||◌, ◌+◌, ◌-◌, ◌==◌, ◌^◌, Bool, List, None, Option, Some, [], ◌∷◌, false, if◌then◌else◌}
 use Rattle.std.specs.Prelude.{length, nat_le, nat_lt, ℕ}
 use Rattle.mmc_card_sim.specs.declared.fault.Fault.{Fault}
 use Rattle.mmc_card_sim.specs.declared.plan.Planned.{Planned}
@@ -11,6 +11,11 @@ use Rattle.mmc_card_sim.specs.declared.plan.TheConstants.{MAX_PLANNED}
 abbrev pub fault_at : List Planned → ℕ → Option Fault
 fault_at [] exchange = None
 fault_at (p ∷ plan) exchange = if p.exchange == exchange then Some p.fault else fault_at plan exchange
+
+-- how many of the planned exchanges are still to come, where so many have been made
+abbrev pub to_come : List Planned → ℕ → ℕ
+to_come [] made = 0
+to_come (p ∷ plan) made = (if nat_le made p.exchange then 1 else 0) + to_come plan made
 
 -- as many exchanges are planned as may be, unless this one is among them
 abbrev pub is_full : List Planned → Option Fault → Bool

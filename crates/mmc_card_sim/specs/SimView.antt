@@ -1,13 +1,13 @@
 -- The views of a card in memory that follows a plan of faults: what contracts see of it, and what they see of it as a
--- bus, which is always kept.
-use Rattle.std.specs.Prelude.{◌-◌, ◌^◌, ◌≡◌, ◌≤◌, List, None, Option, true, ℕ}
+-- bus, which is always kept, and on which no more faults may fall than are planned for exchanges to come.
+use Rattle.std.specs.Prelude.{◌-◌, ◌^◌, ◌≡◌, ◌≤◌, List, None, Option, Some, true, ℕ}
 use Rattle.mmc_bus.specs.declared.wire.Wire.{Wire}
 use Rattle.mmc_bus.specs.Wires.{bus_view_with}
 use Rattle.mmc_card.specs.BusView.{BusView}
 use Rattle.mmc_card.specs.Card.{Card, IsCard}
 use Rattle.mmc_card.specs.Made.{erased_byte_of_card}
 use Rattle.mmc_card_sim.specs.CardSpec.{sizes_of}
-use Rattle.mmc_card_sim.specs.Plan.{fault_at}
+use Rattle.mmc_card_sim.specs.Plan.{fault_at, to_come}
 use Rattle.mmc_card_sim.specs.Registers.{made_of}
 use Rattle.mmc_card_sim.specs.Sizes.{total}
 use Rattle.mmc_card_sim.specs.Store.{first_sectors, split}
@@ -25,7 +25,8 @@ pub record SimView : Type 0 where
   pub faults : ℕ
 
 abbrev pub sim_bus_view : SimView → BusView
-sim_bus_view sim = bus_view_with sim.card sim.faults true sim.wire
+sim_bus_view sim =
+    bus_view_with sim.card sim.faults (Some (to_come sim.plan sim.wire.exchanges)) true sim.wire
 
 -- the fault that is planned for its next exchange
 abbrev pub planned_fault : SimView → Option Fault

@@ -150,17 +150,16 @@ impl SimCard {
 
     /// Sends a command, and gives what came back, whatever response is wanted.
     pub fn command(&mut self, frame: [u8; 6], want: Want) -> Reply
-        ensures exchanged { Commanded (sim_bus_view self.old) frame result (sim_bus_view self.new) }
+        ensures exchanged { Commanded (sim_bus_view self.old) frame want result (sim_bus_view self.new) }
         ensures does { Commands (planned_fault self.old) self.old.delays self.old.card frame result (fits_command (planned_fault self.old) self.old.delays self.old.card frame) self.new.card }
         ensures counts { self.new.faults ≡ (if fits_command (planned_fault self.old) self.old.delays self.old.card frame then self.old.faults + 1 else self.old.faults) }
         ensures delays { self.new.delays ≡ self.old.delays }
         ensures plan { self.new.plan ≡ self.old.plan }
     {
-        let _ = want;
         let fault = self.plan.fault(self.wire.exchanges);
         let (reply, fell) = self.chip.faulty_command(fault, self.delays, &frame);
         self.faults = counted(self.faults, fell);
-        self.wire.note(Exchange::Command { frame, reply });
+        self.wire.note(Exchange::Command { frame, want, reply });
         reply
     }
 
@@ -217,7 +216,7 @@ impl Bus for SimCard {
     ghost view = { sim_bus_view };
 
     fn command(&mut self, frame: [u8; 6], want: Want) -> Reply
-        ensures { Commanded (sim_bus_view self.old) frame result (sim_bus_view self.new) }
+        ensures { Commanded (sim_bus_view self.old) frame want result (sim_bus_view self.new) }
     {
         SimCard::command(self, frame, want)
     }

@@ -18,7 +18,7 @@ use mmc_switch::{Progress, Session};
 
 impl EraseRun {
     /// Begins to erase or trim so many sectors, 1 at least, from this one of the selected partition on, inside which they
-    /// are, and which isn't a boot partition. An erase is of whole erase units, but that the last one may end with the
+    /// are, and which isn't a boot partition, of a card that isn't write protected. An erase is of whole erase units, but that the last one may end with the
     /// partition; a trim is of a card that trims. Nothing is sent yet.
     pub fn begin(session: Session, start: u64, count: u64, how: How) -> EraseRun
         requires selected { IsSome session.selected }
@@ -26,6 +26,7 @@ impl EraseRun {
         requires inside { start + count ≤ room_of session }
         requires erasable { is_boot (part_of session) ≡ false }
         requires suits { suits how session.info (room_of session) start count ≡ true }
+        requires writable { session.info.read_only ≡ false }
         ensures session { result.job.session ≡ session }
         ensures start { result.job.start ≡ start }
         ensures count { result.job.count ≡ count }

@@ -30,6 +30,7 @@ pub fn erase_run<B: Bus>(
     requires inside { start + count ≤ room_of session }
     requires erasable { is_boot (part_of session) ≡ false }
     requires suits { suits how session.info (room_of session) start count ≡ true }
+    requires writable { session.info.read_only ≡ false }
     ensures bounded { (B.view bus.new).exchanges ≤ (B.view bus.old).exchanges + 20 }
     ensures kept { (B.view bus.new).is_kept ≡ true → (B.view bus.old).is_kept ≡ true }
     ensures same { IsSameSession session result }

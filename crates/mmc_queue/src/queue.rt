@@ -1,4 +1,4 @@
-ghost use Rattle.std.specs.Prelude.{◌≡◌, ◌++◌, ◌∷◌, [], length, IfOk, MatchOption, MatchResult, None, Some};
+ghost use Rattle.std.specs.Prelude.{◌≡◌, ◌<◌, ◌++◌, ◌∷◌, [], length, IfOk, MatchOption, MatchResult, None, OnOk, Some};
 ghost use Rattle.mmc_queue.specs.Waiting.{AreBelow, AreSound, Ascend, IsRefused, IsSound, Takes, at_ticket};
 
 use crate::entry::Entry;
@@ -64,7 +64,8 @@ impl Queue {
     pub fn push(&mut self, entry: Entry) -> Result<(), (Entry, PushFault)>
         requires last { AreBelow entry.ticket self.old }
         requires sound { IsSound entry }
-        ensures { MatchResult result (λ _. self.new ≡ self.old ++ entry ∷ []) (λ e. (self.new ≡ self.old) × (e.0 ≡ entry) × IsRefused e.1 (length self.old)) }
+        ensures room { OnOk result (length self.old < MAX_WAITING) }
+        ensures pushed { MatchResult result (λ _. self.new ≡ self.old ++ entry ∷ []) (λ e. (self.new ≡ self.old) × (e.0 ≡ entry) × IsRefused e.1 (length self.old)) }
     {
         if self.by_ticket.len() >= MAX_WAITING {
             return Err((entry, PushFault::Full));

@@ -11,7 +11,7 @@ use Rattle.mmc_card.specs.Laws.{Carried}
 use Rattle.mmc_card.specs.Sectors.{Change, IsIn, Same, Sector, Sets, Within, changed, maybe_changed, part_number}
 use Rattle.mmc_card.specs.Sectors.{touches, value_of}
 use Rattle.mmc_bus.specs.Learned.{Stays}
-use Rattle.mmc_bus.proofs.WorkLemmas.{stays_then}
+use Rattle.mmc_bus.proofs.WorkLemmas.{stays_same, stays_then}
 use Rattle.mmc_switch.specs.UnderWay.{Turn, faults_then}
 
 -- what a card at rest holds
@@ -111,7 +111,7 @@ pub record IsSoFar (change : Change) (Running : ℕ → BusView → Type 0) (fir
 pub so_far_first : (change : Change) (Running : ℕ → BusView → Type 0) (first : BusView) → Running 0 first
     → IsSoFar change Running first first
 so_far_first change Running first running = record {
-  stays = record { carried = record { made = refl; sizes = λ part. refl }; later = omega arith };
+  stays = stays_same first first.lines;
   within = old_maybe change (holds first.card);
   running = let none : 0 ≡ first.faults - first.faults = omega arith in subst (λ n. Running n first) none running;
 }

@@ -1,10 +1,11 @@
 ghost use Rattle.std.specs.Prelude.{◌≡◌, None, true};
+ghost use Rattle.mmc_card.specs.BusView.{BusView};
 ghost use Rattle.mmc_bus.specs.declared.cause.Cause.TheVariants as Why;
 ghost use Rattle.mmc_switch.specs.Place.{IsReady};
 
 use crate::info::Info;
 use crate::session::Session;
-use mmc_bus::{Bus, Cause, Part};
+use mmc_bus::{Cause, Part};
 
 /// A card that something failed with. It isn't ready until it was settled.
 #[derive(Debug, Drop)]
@@ -44,18 +45,11 @@ impl Broken {
         self.must_reset
     }
 
-    /// The session as it was, for a card that is ready again.
-    pub fn resume<B: Bus>(self, bus: &B) -> Session
-        requires ready { (B.view bus.now).is_kept ≡ true → IsReady self.session (B.view bus.now) }
-        ensures { result ≡ self.session }
-    {
-        let _ = bus;
-        self.session
-    }
-
-    /// The session as it was. That its card is ready again is for the caller's contract to say.
+    /// The session as it was, once the card was brought back in order: ready wherever the card is as that session says.
+    /// Nothing here brings it in order; what does, says so in its own contract.
     pub fn into_session(self) -> Session
-        ensures { result ≡ self.session }
+        ensures session { result ≡ self.session }
+        ensures ready { (view : BusView) → IsReady self.session view → IsReady result view }
     {
         self.session
     }

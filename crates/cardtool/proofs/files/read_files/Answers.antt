@@ -45,7 +45,6 @@ returns-clause-ok g c = record {
   card_text = c.in_ok-text.text.items;
   script_text = c.in_ok-text-2.text.items;
   bare = c.in_ok-spec.field-0.spec;
-  plan = c.in_ok-spec.field-0.plan.items;
   card_file = c.in_ok-text.ensures.ok;
   script_file = c.in_ok-text-2.ensures.ok;
   image_file = c.in_ok-image.ensures.ok;

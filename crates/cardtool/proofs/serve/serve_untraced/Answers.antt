@@ -1,6 +1,6 @@
 use Rattle.std.proofs.Common.{◌-◌}
 use Rattle.mmc_card.specs.Card.{holds}
-use Rattle.cardtool.proofs.WholeLemmas.{Laws, is_served, kept_at_end, served_device, unopened, unwritten}
+use Rattle.cardtool.proofs.WholeLemmas.{Laws, bounded_device, is_served, kept_at_end, served_device, unopened, unwritten}
 use Rattle.cardtool.proofs.serve.serve_untraced.Goals as goal
 
 pub returns-clause-served : goal.returns-clause-served
@@ -14,21 +14,27 @@ returns-clause-served g c = λ kept decided.
       order = c.answers_are_in_order.ensures;
       ends = c.contents_are_in_order.ensures;
     } in
-    rw c.outcome.ensures
-    (is_served g.B.Bus.view c.in-Ok.device c.play-served.new.device first.card.made (holds first.card) (holds last.card)
-    (last.faults - first.faults) laws decided
-    (served_device g.B.Bus.view c.in-Ok.device c.play-served.new.device c.args.bus c.close-bus.result o.info o.ok.0
-    o.ok.1 o.stays o.machine c.play-served.ensures.later_device c.close-bus.ensures.bus
-    c.close-bus.ensures.agrees kept)
-    c.args.script _ _ c.play-served.result
-    (c.play-served.ensures.serves (kept_at_end g.B.Bus.view _ _ c.close-bus.ensures.bus kept)))
+    let serves = c.play-served.ensures.serves (kept_at_end g.B.Bus.view _ _ c.close-bus.ensures.bus kept) in
+    rw c.outcome.ensures (
+      bounded_device g.B.Bus.view c.in-Ok.device c.play-served.new.device c.args.bus c.close-bus.result o.info o.ok.0
+          o.ok.1 o.stays o.machine c.play-served.ensures.later_device c.close-bus.ensures.bus
+          c.close-bus.ensures.agrees kept _ _ _ c.play-served.result serves,
+      is_served g.B.Bus.view c.in-Ok.device c.play-served.new.device first.card.made (holds first.card) (holds last.card)
+          (last.faults - first.faults) laws decided
+          (served_device g.B.Bus.view c.in-Ok.device c.play-served.new.device c.args.bus c.close-bus.result o.info o.ok.0
+          o.ok.1 o.stays o.machine c.play-served.ensures.later_device c.close-bus.ensures.bus
+          c.close-bus.ensures.agrees kept)
+          c.args.script _ _ c.play-served.result serves,
+    )
 
 pub returns-in-Err-clause-served : goal.returns-in-Err-clause-served
 returns-in-Err-clause-served g c = λ kept decided.
     let e = c.in-Err.ensures in
-    rw c.of_opening.ensures
-    (unopened g.B.Bus.view c.args.bus c.in-Err.bus _ (g.W.Write.contents c.args.out.now) c.in-Err.fault e.no_memory
-    (λ other. e.stays kept) (λ other. e.refused other kept))
+    rw c.of_opening.ensures (
+      (e.stays kept).0.bounded,
+      unopened g.B.Bus.view c.args.bus c.in-Err.bus _ (g.W.Write.contents c.args.out.now) c.in-Err.fault e.no_memory
+          (e.stays kept).1 (e.refused kept),
+    )
 
 pub returns-clause-unwritten : goal.returns-clause-unwritten
 returns-clause-unwritten g c = rw c.outcome.ensures (unwritten _ _ c.play-served.result)

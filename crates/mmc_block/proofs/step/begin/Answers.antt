@@ -1,6 +1,6 @@
 use Rattle.mmc_erase.specs.declared.how.How.TheVariants as how
 use Rattle.mmc_queue.specs.Requests.{can_merge}
-use Rattle.std.proofs.Common.{ap}
+use Rattle.std.proofs.Common.{◌∙◌, ap, sym}
 use Rattle.mmc_block.proofs.BeginLemmas.{run_erasable, run_inside, run_suits, run_writable}
 use Rattle.mmc_block.proofs.step.begin.Goals as goal
 
@@ -17,7 +17,7 @@ begin-requires-in-Write-clause-inside c =
 pub begin-requires-in-Write-clause-writable : goal.begin-requires-in-Write-clause-writable
 begin-requires-in-Write-clause-writable c writes =
     run_writable c.args.session c.args.group.now c.requires.selected c.requires.servable
-    (c.a_group_is_a_run_of_sectors.ensures _ _ c.requires.joined) c.in-Write.is
+    (c.a_group_is_a_run_of_sectors.ensures _ _ c.requires.joined) (λ read. let e = sym c.in-Write.is ∙ read in cc)
 
 pub begin-requires-in-Erase-clause-inside : goal.begin-requires-in-Erase-clause-inside
 begin-requires-in-Erase-clause-inside c =
@@ -29,6 +29,11 @@ begin-requires-in-Erase-clause-erasable c =
     run_erasable c.args.session c.args.group.now c.requires.selected c.requires.servable
     (c.a_group_is_a_run_of_sectors.ensures _ _ c.requires.joined) how.Erase c.in-Erase.is
     (c.requires.joined.alone (ap can_merge c.in-Erase.is))
+
+pub begin-requires-in-Erase-clause-writable : goal.begin-requires-in-Erase-clause-writable
+begin-requires-in-Erase-clause-writable c =
+    run_writable c.args.session c.args.group.now c.requires.selected c.requires.servable
+    (c.a_group_is_a_run_of_sectors.ensures _ _ c.requires.joined) (λ read. let e = sym c.in-Erase.is ∙ read in cc)
 
 pub begin-requires-in-Erase-clause-suits : goal.begin-requires-in-Erase-clause-suits
 begin-requires-in-Erase-clause-suits c =
@@ -46,6 +51,11 @@ begin-requires-in-Trim-clause-erasable c =
     run_erasable c.args.session c.args.group.now c.requires.selected c.requires.servable
     (c.a_group_is_a_run_of_sectors.ensures _ _ c.requires.joined) how.Trim c.in-Trim.is
     (c.requires.joined.alone (ap can_merge c.in-Trim.is))
+
+pub begin-requires-in-Trim-clause-writable : goal.begin-requires-in-Trim-clause-writable
+begin-requires-in-Trim-clause-writable c =
+    run_writable c.args.session c.args.group.now c.requires.selected c.requires.servable
+    (c.a_group_is_a_run_of_sectors.ensures _ _ c.requires.joined) (λ read. let e = sym c.in-Trim.is ∙ read in cc)
 
 pub begin-requires-in-Trim-clause-suits : goal.begin-requires-in-Trim-clause-suits
 begin-requires-in-Trim-clause-suits c =

@@ -16,7 +16,7 @@ pub returns-in-Ok-clause-settled : goal.returns-in-Ok-clause-settled
 returns-in-Ok-clause-settled g c kept loose =
     restored_ready c.args.broken c.into_session.result c.info.result.now (g.B.Bus.view c.args.bus.now)
     (g.B.Bus.view c.restore.new.bus) (sym c.must_reset.ensures ∙ c.if-must_reset.false) c.info.ensures
-    c.into_session.ensures (c.in-Ok.ensures.moves kept) loose
+    c.into_session.ensures.session (c.in-Ok.ensures.moves kept) loose
 
 pub returns-in-Err-clause-stays : goal.returns-in-Err-clause-stays
 returns-in-Err-clause-stays g c kept =

@@ -19,8 +19,8 @@ invariant_of-self-in-Ok-insert c =
     c.self.invariant (subst (AreBelow c.args.entry.ticket) (sym c.self.view_is) c.requires.last) c.requires.sound.ticket c.requires.sound
     c.in-Ok-insert.ensures.entries c.in-Ok-insert.ensures.updates c.in-Ok-insert.ensures.ordered c.in-Ok.ensures.ok
 
-pub returns-in-Ok-insert : goal.returns-in-Ok-insert
-returns-in-Ok-insert c =
+pub returns-in-Ok-insert-clause-pushed : goal.returns-in-Ok-insert-clause-pushed
+returns-in-Ok-insert-clause-pushed c =
     pushed_values c.self.inside.by_ticket c.insert-2.new.self c.args.entry c.self.invariant.keyed
     (subst (AreBelow c.args.entry.ticket) (sym c.self.view_is) c.requires.last) c.in-Ok-insert.ensures.entries
     ∙ ap (λ xs. xs ++ c.args.entry ∷ []) c.self.view_is
