@@ -4,7 +4,7 @@ use Rattle.std.specs.Prelude.{◌||◌, ◌↔◌, Bool, IsErr, Option, Result, 
 use Rattle.mmc_card.specs.BusView.{BusView}
 use Rattle.mmc_queue.specs.declared.request.Request.{Request}
 use Rattle.mmc_block.specs.Device.{DeviceView, Queues, Withdraws}
-use Rattle.cardtool.specs.declared.event.ScriptEvent.{ScriptEvent}
+use Rattle.card_text.specs.declared.event.ScriptEvent.{ScriptEvent}
 use Rattle.cardtool.specs.Serving.{IsLaterDevice, ServesPrefix, ServesScript, ServesUpTo}
 use Rattle.cardtool.proofs.ServingLemmas.{breaks_then, serves_broken, serves_none, serves_then}
 

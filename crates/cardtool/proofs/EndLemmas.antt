@@ -3,8 +3,8 @@ use Rattle.std.proofs.Common.{◌≡◌, ◌++◌, ◌∷◌, ℕ, Bool, List, [
 use Rattle.std.specs.Prelude.{◌==◌}
 use Rattle.std.proofs.lemmas.Bool.{eqb-true}
 use Rattle.mmc_block.specs.Run.{Event as MachineEvent, Follow, Reply}
-use Rattle.cardtool.specs.declared.event.ScriptEvent.{ScriptEvent}
-use Rattle.cardtool.specs.declared.event.ScriptEvent.TheVariants.{Cancel, Run, Submit, Turn}
+use Rattle.card_text.specs.declared.event.ScriptEvent.{ScriptEvent}
+use Rattle.card_text.specs.declared.event.ScriptEvent.TheVariants.{Cancel, Run, Submit, Turn}
 use Rattle.cardtool.specs.Serving.{IsNext, Standing, due_events, events_behind, standing_of}
 
 -- something comes

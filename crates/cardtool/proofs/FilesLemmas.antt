@@ -2,13 +2,18 @@
 use Rattle.std.proofs.Common.{◌≡◌, ℕ, List, Option, None, Some, Result, Ok, Err, inl, inr, sym, subst}
 use Rattle.std.specs.Prelude.{◌⊎◌, IfErr, IfSome, IsErrAnd, IsSome}
 use Rattle.mmc_card_sim.specs.declared.spec.CardSpec.{CardSpec}
-use Rattle.cardtool.specs.declared.event.ScriptEvent.{ScriptEvent}
+use Rattle.card_text.specs.declared.event.ScriptEvent.{ScriptEvent}
+use Rattle.card_text.specs.declared.fault.CardFault.{CardFault}
+use Rattle.card_text.specs.declared.fault.CardFault.TheVariants as OfCard
+use Rattle.card_text.specs.declared.fault.ScriptFault.{ScriptFault}
+use Rattle.card_text.specs.declared.fault.ScriptFault.TheVariants as OfScript
+use Rattle.cardtool.specs.Faults.{of_card, of_script}
 use Rattle.cardtool.specs.declared.fault.ServeFault.{ServeFault}
-use Rattle.cardtool.specs.declared.fault.ServeFault.TheVariants.{NoMemory, ReadImage, ReadScript, ScriptLine}
-use Rattle.cardtool.specs.CardFile.{IsCardFile}
+use Rattle.cardtool.specs.declared.fault.ServeFault.TheVariants.{NoMemory, ReadImage, ReadScript}
+use Rattle.card_text.specs.CardFile.{IsBadCard, IsCardFile}
 use Rattle.cardtool.specs.Files.{AreRefused, Files, HasCard, HasEvents, IsOutcomeOfFiles, IsServedFromFiles, IsUnread}
-use Rattle.cardtool.specs.Planning.{PlannedFault}
-use Rattle.cardtool.specs.Script.{IsBadLine, events_in, lines}
+use Rattle.card_text.specs.Planning.{PlannedFault}
+use Rattle.card_text.specs.Script.{IsBadLine, events_in, lines}
 
 -- what holds of a fault holds of one that is handed on
 pub err_is : {X : Type 0} (P : ServeFault → Type 0) (r : Result X ServeFault) (fault : ServeFault)
@@ -41,12 +46,19 @@ module _ (files : Files) where
   script_unread fault has (inr (inl same)) = subst (λ f. AreRefused files f) (sym same) tt
   script_unread fault has (inr (inr (same, longer))) = subst (λ f. AreRefused files f) (sym same) (inr (has, longer))
 
-  pub bad_script : (text : List ℕ) (fault : ServeFault) → HasCard files → IfSome files.script (λ all. text ≡ all)
-      → IsBadLine (lines text) fault → AreRefused files fault
-  bad_script text (ScriptLine n) has same bad =
-      (has, known_text (λ all. IsBadLine (lines all) (ScriptLine n)) files.script text same bad)
-  bad_script text NoMemory has same bad = tt
-  bad_script text fault has same bad = absurd bad
+  pub bad_card : (text : List ℕ) (fault : CardFault) → IfSome files.card (λ all. text ≡ all)
+      → IsBadCard (lines text) fault → AreRefused files (of_card fault)
+  bad_card text (OfCard.BadLine n) same bad =
+      known_text (λ all. IsBadCard (lines all) (OfCard.BadLine n)) files.card text same bad
+  bad_card text OfCard.Incomplete same bad =
+      known_text (λ all. IsBadCard (lines all) OfCard.Incomplete) files.card text same bad
+  bad_card text OfCard.NoMemory same bad = tt
+
+  pub bad_script : (text : List ℕ) (fault : ScriptFault) → HasCard files → IfSome files.script (λ all. text ≡ all)
+      → IsBadLine (lines text) fault → AreRefused files (of_script fault)
+  bad_script text (OfScript.BadLine n) has same bad =
+      (has, known_text (λ all. IsBadLine (lines all) (OfScript.BadLine n)) files.script text same bad)
+  bad_script text OfScript.NoMemory has same bad = tt
 
   pub image_unread : (fault : ServeFault) → HasCard files → HasEvents files → (fault ≡ ReadImage → IsSome files.image)
       → (fault ≡ ReadImage) ⊎ (fault ≡ NoMemory) → AreRefused files fault

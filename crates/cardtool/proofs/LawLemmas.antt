@@ -6,9 +6,9 @@ use Rattle.mmc_card.specs.Card.{Card}
 use Rattle.mmc_card.specs.Profile.{InProfile}
 use Rattle.mmc_card_sim.specs.Registers.{made_of}
 use Rattle.mmc_card_sim.specs.declared.spec.CardSpec.{CardSpec}
-use Rattle.cardtool.specs.Planning.{PlannedFault}
+use Rattle.card_text.specs.Planning.{PlannedFault}
 use Rattle.cardtool.specs.Whole.{IsServedOnNewCard, IsServedOnSpec, is_unopened}
-use Rattle.cardtool.specs.declared.event.ScriptEvent.{ScriptEvent}
+use Rattle.card_text.specs.declared.event.ScriptEvent.{ScriptEvent}
 use Rattle.cardtool.specs.declared.fault.ServeFault.{ServeFault}
 use Rattle.cardtool.specs.declared.fault.ServeFault.TheVariants.{Locked, NoCard, Unsupported, Voltage}
 use Rattle.std.specs.Prelude.{Result}

@@ -12,7 +12,7 @@ use Rattle.mmc_card_sim.specs.declared.plan.PlanFault.{PlanFault}
 use Rattle.mmc_card_sim.specs.declared.plan.PlanFault.TheVariants.{InThePast, PlanFull}
 use Rattle.mmc_card_sim.specs.declared.plan.Planned.{Planned}
 use Rattle.mmc_card_sim.specs.declared.plan.TheConstants.{MAX_PLANNED}
-use Rattle.cardtool.specs.Planning.{CanBePlanned, PlannedFault}
+use Rattle.card_text.specs.Planning.{CanBePlanned, PlannedFault}
 
 each_apart : (e : ℕ) (xs : List PlannedFault) (i : ℕ) (d : PlannedFault)
     → AllByRecursion (λ y. (e == y) ≡ false) (map (λ p. p.0) xs) → i < length xs

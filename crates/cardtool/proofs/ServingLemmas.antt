@@ -22,9 +22,9 @@ use Rattle.mmc_block.specs.Run.Reply.{Accepted, Answers, GivenBack, InService, R
 use Rattle.mmc_block.specs.declared.cancel.CancelFault.{CancelFault}
 use Rattle.mmc_block.specs.declared.cancel.CancelFault.TheVariants as fault
 use Rattle.mmc_block.proofs.RunLemmas.{follow_then}
-use Rattle.cardtool.specs.declared.event.ScriptEvent.{ScriptEvent}
-use Rattle.cardtool.specs.declared.event.ScriptEvent.TheVariants.{Submit, Cancel, Turn, Run}
-use Rattle.cardtool.specs.Output.{cancelled_text, completions_text, queued_text, refused_text, uncancelled_text}
+use Rattle.card_text.specs.declared.event.ScriptEvent.{ScriptEvent}
+use Rattle.card_text.specs.declared.event.ScriptEvent.TheVariants.{Submit, Cancel, Turn, Run}
+use Rattle.card_text.specs.Output.{cancelled_text, completions_text, queued_text, refused_text, uncancelled_text}
 use Rattle.cardtool.specs.Serving.{IsNext, RunsScript, ServesPrefix, ServesScript, ServesUpTo, Standing, TurnsAndPrints}
 use Rattle.cardtool.specs.Serving.{answer_if_printed, any_bad, due_events, events_behind, is_bad, machine_event}
 use Rattle.cardtool.specs.Serving.{pending_after, standing_of, text_of, texts}

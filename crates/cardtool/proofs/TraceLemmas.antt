@@ -11,7 +11,7 @@ use Rattle.mmc_card.specs.declared.exchange.Exchange.{Exchange}
 use Rattle.mmc_card.specs.Made.{Made}
 use Rattle.mmc_card.specs.Sectors.{Sets}
 use Rattle.mmc_bus.specs.Trace.{HasItsFrame, last_of}
-use Rattle.cardtool.specs.declared.event.ScriptEvent.{ScriptEvent}
+use Rattle.card_text.specs.declared.event.ScriptEvent.{ScriptEvent}
 use Rattle.cardtool.specs.declared.fault.ServeFault.{ServeFault}
 use Rattle.cardtool.specs.declared.fault.ServeFault.TheVariants.{Locked, NoCard, NoMemory, Unsupported, Voltage, Write}
 use Rattle.cardtool.specs.Serving.{texts}

@@ -30,14 +30,14 @@ use Rattle.mmc_block.specs.Run.{Counted, CountedRuns, Event as MachineEvent, Fol
 use Rattle.mmc_block.specs.Service.{in_service_of}
 use Rattle.mmc_block.specs.declared.open_fault.OpenFault.{OpenFault}
 use Rattle.mmc_block.specs.declared.open_fault.OpenFault.TheVariants as Unopened
-use Rattle.cardtool.specs.declared.event.ScriptEvent.{ScriptEvent}
+use Rattle.card_text.specs.declared.event.ScriptEvent.{ScriptEvent}
 use Rattle.cardtool.specs.declared.fault.ServeFault.{ServeFault}
 use Rattle.cardtool.specs.declared.fault.ServeFault.TheVariants.{Locked, NoCard, NoMemory}
 use Rattle.cardtool.specs.declared.fault.ServeFault.TheVariants.{Unsupported, Voltage, Write}
-use Rattle.cardtool.specs.declared.event.ScriptEvent.TheVariants.{Run}
+use Rattle.card_text.specs.declared.event.ScriptEvent.TheVariants.{Run}
 use Rattle.cardtool.specs.Serving.{IsLaterDevice, IsNext, RunsScript, ServesScript, Standing, due_events}
 use Rattle.cardtool.specs.Serving.{standing_of, texts}
-use Rattle.cardtool.specs.Planning.{PlannedFault}
+use Rattle.card_text.specs.Planning.{PlannedFault}
 use Rattle.cardtool.specs.Whole.{IsNew, IsServed, IsServedOnNewCard, IsServedOnSpec, IsUnopened, IsUnwritten, IsWhyUnbuilt}
 use Rattle.cardtool.specs.Whole.{RunsInAnyProfile, building_fault, opened_after}
 use Rattle.cardtool.specs.Whole.{opening_fault, outcome_of, status_of}

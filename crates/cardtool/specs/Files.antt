@@ -2,14 +2,15 @@
 use Rattle.std.specs.Prelude.{◌≡◌, ◌⊎◌, ◌*◌, ◌+◌, ◌<◌, ℕ, IfSome, IsSome, List, Option, None, Some, Result, Ok, Err, take, length, ⊤}
 use Rattle.mmc_card_sim.specs.declared.spec.CardSpec.{CardSpec}
 use Rattle.mmc_card_sim.specs.declared.store.TheConstants.{MAX_SECTORS}
-use Rattle.cardtool.specs.declared.event.ScriptEvent.{ScriptEvent}
+use Rattle.card_text.specs.declared.event.ScriptEvent.{ScriptEvent}
+use Rattle.card_text.specs.declared.fault.CardFault.TheVariants as OfCard
 use Rattle.cardtool.specs.declared.fault.ServeFault.{ServeFault}
 use Rattle.cardtool.specs.declared.fault.ServeFault.TheVariants.{CardIncomplete, CardLine, NoMemory, ReadCard}
 use Rattle.cardtool.specs.declared.fault.ServeFault.TheVariants.{ReadImage, ReadScript, ScriptLine, TooLong}
 use Rattle.cardtool.specs.declared.files.TheConstants.{MAX_CARD_FILE, MAX_SCRIPT}
-use Rattle.cardtool.specs.CardFile.{IsBadCard, IsCardFile}
-use Rattle.cardtool.specs.Planning.{PlannedFault}
-use Rattle.cardtool.specs.Script.{IsFirstBadLine, events_in, lines}
+use Rattle.card_text.specs.CardFile.{IsBadCard, IsCardFile}
+use Rattle.card_text.specs.Planning.{PlannedFault}
+use Rattle.card_text.specs.Script.{IsFirstBadLine, events_in, lines}
 use Rattle.cardtool.specs.Whole.{IsServedOnSpec}
 
 -- the texts of the files, as far as their readers tell; the image may be left out
@@ -38,8 +39,8 @@ HasEvents files = IfSome files.script (λ all. (events : List ScriptEvent) × (e
 -- was taken, and one of the image only where the script was taken too.
 abbrev pub AreRefused : Files → ServeFault → Type 0
 AreRefused files ReadCard = ⊤
-AreRefused files (CardLine n) = IfSome files.card (λ all. IsBadCard (lines all) (CardLine n))
-AreRefused files CardIncomplete = IfSome files.card (λ all. IsBadCard (lines all) CardIncomplete)
+AreRefused files (CardLine n) = IfSome files.card (λ all. IsBadCard (lines all) (OfCard.BadLine n))
+AreRefused files CardIncomplete = IfSome files.card (λ all. IsBadCard (lines all) OfCard.Incomplete)
 AreRefused files TooLong = IsLonger files.card MAX_CARD_FILE ⊎ (HasCard files × IsLonger files.script MAX_SCRIPT)
 AreRefused files ReadScript = HasCard files
 AreRefused files (ScriptLine n) = HasCard files × IfSome files.script (λ all. IsFirstBadLine (lines all) n)

@@ -12,9 +12,9 @@ use Rattle.mmc_block.specs.Run.{Counted, CountedRuns, CountedSteps, Event as Mac
 use Rattle.mmc_block.specs.Run.Event.{Cancel as MachineCancel, Submit as MachineSubmit, Turn as MachineTurn}
 use Rattle.mmc_block.specs.Run.Reply.{Accepted, Answers, GivenBack, InService, RefusedFor, Unknown}
 use Rattle.mmc_block.specs.declared.cancel.CancelFault.TheVariants as fault
-use Rattle.cardtool.specs.declared.event.ScriptEvent.{ScriptEvent}
-use Rattle.cardtool.specs.declared.event.ScriptEvent.TheVariants.{Submit, Cancel, Turn, Run}
-use Rattle.cardtool.specs.Output.{cancelled_text, completions_text, queued_text, refused_text, uncancelled_text}
+use Rattle.card_text.specs.declared.event.ScriptEvent.{ScriptEvent}
+use Rattle.card_text.specs.declared.event.ScriptEvent.TheVariants.{Submit, Cancel, Turn, Run}
+use Rattle.card_text.specs.Output.{cancelled_text, completions_text, queued_text, refused_text, uncancelled_text}
 
 -- The events of a script.
 

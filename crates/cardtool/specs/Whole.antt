@@ -32,12 +32,12 @@ use Rattle.mmc_block.specs.Machine.{all_failed}
 use Rattle.mmc_block.specs.declared.open_fault.OpenFault.{OpenFault}
 use Rattle.mmc_block.specs.declared.open_fault.OpenFault.TheVariants as Unopened
 use Rattle.mmc_block.specs.Run.{Counted, CountedRuns, Event as MachineEvent, Reply, unanswered}
-use Rattle.cardtool.specs.declared.event.ScriptEvent.{ScriptEvent}
-use Rattle.cardtool.specs.declared.event.ScriptEvent.TheVariants.{Run}
+use Rattle.card_text.specs.declared.event.ScriptEvent.{ScriptEvent}
+use Rattle.card_text.specs.declared.event.ScriptEvent.TheVariants.{Run}
 use Rattle.cardtool.specs.declared.fault.ServeFault.{ServeFault}
 use Rattle.cardtool.specs.declared.fault.ServeFault.TheVariants.{ImageSize, Locked, NoCard, NoMemory, Register}
 use Rattle.cardtool.specs.declared.fault.ServeFault.TheVariants.{Unsupported, Voltage, Write}
-use Rattle.cardtool.specs.Planning.{PlannedFault}
+use Rattle.card_text.specs.Planning.{PlannedFault}
 use Rattle.cardtool.specs.Serving.{FollowScript, any_bad, texts}
 
 -- 1 where some request was refused or failed

@@ -2,12 +2,12 @@
 ghost use Rattle.std.specs.Prelude.{◌≡◌, ◌⊎◌, IfErr, IfOk, IfSome, IsSome, option_map};
 ghost use Rattle.cardtool.specs.declared.fault.ServeFault.TheVariants.{NoMemory, ReadImage};
 ghost use Rattle.cardtool.specs.Files.{AreRead, AreRefused, IsImage, IsUnread};
-ghost use Rattle.cardtool.specs.Planning.{CanBePlanned};
+ghost use Rattle.card_text.specs.Planning.{CanBePlanned};
 
-use crate::card_file::{CardFile, read_card};
 use crate::fault::ServeFault;
 use crate::input::{ReadFault, read_bounded, read_front};
-use crate::script::{Script, read_script};
+use card_text::card_file::{CardFile, read_card};
+use card_text::script::{Script, read_script};
 use mmc_bus::Bytes;
 use mmc_card_sim::{CardSpec, Fault, MAX_SECTORS};
 use std::alloc::Global;

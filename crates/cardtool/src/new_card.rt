@@ -5,7 +5,7 @@ ghost use Rattle.mmc_card_sim.specs.CardSpec.{refusal_of};
 ghost use Rattle.mmc_card_sim.specs.Plan.{fault_at};
 ghost use Rattle.mmc_card_sim.specs.SimView.{sim_bus_view};
 ghost use Rattle.std.specs.List.{All};
-ghost use Rattle.cardtool.specs.Planning.{CanBePlanned};
+ghost use Rattle.card_text.specs.Planning.{CanBePlanned};
 ghost use Rattle.cardtool.specs.Whole.{IsNew, IsWhyUnbuilt, building_fault};
 
 use crate::fault::ServeFault;

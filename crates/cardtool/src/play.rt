@@ -1,14 +1,14 @@
 // Plays the events of a script on a device, and prints what becomes of them.
 ghost use Rattle.std.specs.Prelude.{◌<◌, ◌≡◌, ◌++◌, ◌∷◌, [], true};
 ghost use Rattle.mmc_block.specs.Device.{work_of};
-ghost use Rattle.cardtool.specs.declared.event.ScriptEvent.TheVariants.{Cancel, Run, Submit};
+ghost use Rattle.card_text.specs.declared.event.ScriptEvent.TheVariants.{Cancel, Run, Submit};
 ghost use Rattle.cardtool.specs.Serving.{IsLaterDevice, Plays, TurnsAndPrints, answer_if_printed};
 
-use crate::event::ScriptEvent;
-use crate::output::{
+use card_text::event::ScriptEvent;
+use card_text::output::{
     has_failure, put_cancelled, put_completions, put_queued, put_refused, put_uncancelled,
 };
-use crate::script::Script;
+use card_text::script::Script;
 use mmc_block::{BlockDev, Request, Ticket};
 use mmc_bus::Bus;
 use std::alloc::Global;

@@ -3,15 +3,15 @@ ghost use Rattle.std.specs.Prelude.{◌≡◌, ◌≤◌, IfErr, None, Some, opt
 ghost use Rattle.std.specs.Option.{ForSome};
 ghost use Rattle.mmc_bus.specs.declared.trace.TheConstants.{MAX_KEPT};
 ghost use Rattle.cardtool.specs.Files.{IsOutcomeOfFiles};
-ghost use Rattle.cardtool.specs.Planning.{CanBePlanned};
+ghost use Rattle.card_text.specs.Planning.{CanBePlanned};
 ghost use Rattle.cardtool.specs.Whole.{IsServedOnSpec, IsServedOver, IsUnwritten, opening_fault, outcome_of};
 
 use crate::fault::ServeFault;
 use crate::files::{FilesRead, read_files};
 use crate::new_card::built;
 use crate::play::play;
-use crate::script::Script;
 use crate::trace::{end_with_trace, traced};
+use card_text::script::Script;
 use mmc_block::laws::{
     a_card_at_rest_is_decided, a_counted_run_is_a_run, a_failure_takes_four_faults,
     answers_are_in_order, contents_are_in_order,

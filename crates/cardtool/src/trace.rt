@@ -6,7 +6,7 @@ ghost use Rattle.mmc_card.specs.Made.{Made};
 ghost use Rattle.mmc_card.specs.Sectors.{Sets};
 ghost use Rattle.mmc_bus.specs.Trace.{HasItsFrame, last_of};
 ghost use Rattle.mmc_bus.specs.declared.trace.TheConstants.{MAX_KEPT};
-ghost use Rattle.cardtool.specs.declared.event.ScriptEvent.{ScriptEvent};
+ghost use Rattle.card_text.specs.declared.event.ScriptEvent.{ScriptEvent};
 ghost use Rattle.cardtool.specs.Whole.{IsServed, IsUnwritten, ended_by, trace_text};
 
 use crate::fault::ServeFault;

@@ -16,7 +16,7 @@ fn refuses_specs(rt: HostRuntime) -> Result<(), Fail> {
         let spec = CardSpec {
             ready,
             image: Some(Bytes::new(vec![in rt.alloc(); 7; len]?)),
-            ..card_a()
+            ..sdsc()
         };
         let built = SimCard::build(rt.alloc(), spec);
         assert_eq!(rt; built.err(), wanted, "{ready} and {len}");

@@ -9,7 +9,7 @@ use std::test::Fail;
 
 // An eMMC device with byte addresses and this CSD, whose sectors are numbered.
 fn with_byte_addresses(alloc: Global, csd: u128, sectors: u32) -> Result<CardSpec, Fail> {
-    let mut ext_csd = ext_csd_m();
+    let mut ext_csd = ext_csd_of_emmc();
     ext_csd[226] = 0x00;
     let made = mmc(ext_csd, u64::from(sectors));
     Ok(CardSpec {
@@ -80,7 +80,7 @@ fn expect_switch(rt: &impl Abort, card: &mut SimCard, argument: u32, status: u32
 // of the switch.
 #[test]
 fn has_seven_partitions(rt: HostRuntime) -> Result<(), Fail> {
-    let mut ext_csd = ext_csd_m();
+    let mut ext_csd = ext_csd_of_emmc();
     (ext_csd[212], ext_csd[213]) = (0x04, 0x00);
     (ext_csd[155], ext_csd[143]) = (0x01, 0x01);
     let mut spec = mmc(ext_csd, 4);
@@ -110,7 +110,7 @@ fn has_seven_partitions(rt: HostRuntime) -> Result<(), Fail> {
 // With `ready` 2 the first two inquiries since CMD0 find the card not ready; its OCR comes without bit 31.
 #[test]
 fn is_ready_at_the_third_inquiry(rt: HostRuntime) -> Result<(), Fail> {
-    let mut spec = card_a();
+    let mut spec = sdsc();
     spec.ready = 2;
     let mut card = built(rt.alloc(), spec)?;
     for _times in 0..2 {
@@ -128,7 +128,7 @@ fn is_ready_at_the_third_inquiry(rt: HostRuntime) -> Result<(), Fail> {
 // `ready` ones, and are no faults.
 #[test]
 fn waits_for_sector_addresses(rt: HostRuntime) -> Result<(), Fail> {
-    let mut spec = card_h();
+    let mut spec = sdhc();
     spec.ready = 8;
     let mut card = built(rt.alloc(), spec)?;
     for _inquiry in 0..10 {
@@ -146,7 +146,7 @@ fn waits_for_sector_addresses(rt: HostRuntime) -> Result<(), Fail> {
 // With `busy` 3 three polls of each busy time are answered yes. The card isn't ready for data in that time.
 #[test]
 fn is_busy_for_three_polls(rt: HostRuntime) -> Result<(), Fail> {
-    let mut spec = card_a();
+    let mut spec = sdsc();
     spec.busy = 3;
     let mut card = built(rt.alloc(), spec)?;
     for (index, argument) in [(55, 0), (41, 0x0030_0000), (2, 0), (3, 0)] {
@@ -172,7 +172,7 @@ fn is_busy_for_three_polls(rt: HostRuntime) -> Result<(), Fail> {
 // itself.
 #[test]
 fn reads_up_to_the_end(rt: HostRuntime) -> Result<(), Fail> {
-    let mut card = selected_sd(rt.alloc(), card_b())?;
+    let mut card = selected_sd(rt.alloc(), sdsc_cmd23())?;
     expect_r1(&rt, &mut card, 18, 1024, 0x900);
     expect_sector(&rt, &mut card, 0);
     expect_sector(&rt, &mut card, 0);
@@ -191,7 +191,7 @@ fn reads_up_to_the_end(rt: HostRuntime) -> Result<(), Fail> {
 // A write of two blocks that CMD23 has counted ends in prg by itself. While it is unfinished, the old bytes are shown.
 #[test]
 fn writes_two_counted_blocks(rt: HostRuntime) -> Result<(), Fail> {
-    let mut card = selected_sd(rt.alloc(), card_b())?;
+    let mut card = selected_sd(rt.alloc(), sdsc_cmd23())?;
     expect_r1(&rt, &mut card, 23, 2, 0x900);
     expect_r1(&rt, &mut card, 25, 512, 0x900);
     expect_taken(&rt, &mut card, 0x11, DataOut::Accepted);
@@ -238,7 +238,7 @@ fn erase(rt: &impl Abort, card: &mut SimCard, first: u32, last: u32, argument: u
 #[test]
 fn erases_units_and_trims_sectors(rt: HostRuntime) -> Result<(), Fail> {
     for (content, erased) in [(0x01, 0xff), (0x00, 0x00)] {
-        let mut ext_csd = ext_csd_m();
+        let mut ext_csd = ext_csd_of_emmc();
         ext_csd[181] = content;
         ext_csd[226] = 0x00;
         let mut spec = mmc(ext_csd, 2048);
@@ -259,7 +259,7 @@ fn erases_units_and_trims_sectors(rt: HostRuntime) -> Result<(), Fail> {
 // The sequence of an erase: its addresses are dropped by another command, but not by CMD13, and each error shows once.
 #[test]
 fn erases_in_sequence(rt: HostRuntime) -> Result<(), Fail> {
-    let mut card = selected_sd(rt.alloc(), card_a())?;
+    let mut card = selected_sd(rt.alloc(), sdsc())?;
     expect_r1(&rt, &mut card, 38, 0, 0x1000_0900);
     expect_r1(&rt, &mut card, 32, 512, 0x0900);
     expect_r1(&rt, &mut card, 13, RCA, 0x0900);
@@ -276,7 +276,7 @@ fn erases_in_sequence(rt: HostRuntime) -> Result<(), Fail> {
 // With an erase unit of 1, an erase of SD takes the sectors from the first address to the last.
 #[test]
 fn erases_sectors_of_sd(rt: HostRuntime) -> Result<(), Fail> {
-    let mut spec = card_a();
+    let mut spec = sdsc();
     spec.image = numbered_image(rt.alloc(), 4)?;
     let mut card = selected_sd(rt.alloc(), spec)?;
     for (index, argument) in [(32, 512), (33, 1024), (38, 0)] {
@@ -292,7 +292,7 @@ fn erases_sectors_of_sd(rt: HostRuntime) -> Result<(), Fail> {
 // the card hasn't in the response to its own command.
 #[test]
 fn shows_errors_once(rt: HostRuntime) -> Result<(), Fail> {
-    let mut card = selected_sd(rt.alloc(), card_a())?;
+    let mut card = selected_sd(rt.alloc(), sdsc())?;
     expect_silence(&rt, &mut card, [0x4d, 0, 1, 0, 0, 0x51]);
     expect_silence(&rt, &mut card, encode(58, 0));
     expect_silence(&rt, &mut card, encode(13, 0x0002_0000));
@@ -311,7 +311,7 @@ fn shows_errors_once(rt: HostRuntime) -> Result<(), Fail> {
 // A block comes over the lines of the card alone, and in its own length.
 #[test]
 fn sends_over_its_lines(rt: HostRuntime) -> Result<(), Fail> {
-    let mut card = selected_sd(rt.alloc(), card_a())?;
+    let mut card = selected_sd(rt.alloc(), sdsc())?;
     expect_r1(&rt, &mut card, 17, 0, 0x900);
     for (width, timing) in [
         (Width::Four, Timing::Default),
@@ -331,7 +331,7 @@ fn sends_over_its_lines(rt: HostRuntime) -> Result<(), Fail> {
 // A locked card says so in every status, but not in its R6.
 #[test]
 fn is_locked(rt: HostRuntime) -> Result<(), Fail> {
-    let mut spec = card_a();
+    let mut spec = sdsc();
     spec.registers.is_locked = true;
     let mut card = built(rt.alloc(), spec)?;
     expect_r1(&rt, &mut card, 55, 0, 0x0200_0120);

@@ -20,9 +20,9 @@ fn two(first: u8, second: u8) -> Flips {
     }
 }
 
-// Card B in tran, with a fault that is planned for the exchange after so many more.
+// Card `sdsc_cmd23` in tran, with a fault that is planned for the exchange after so many more.
 fn faulty(alloc: Global, others: u64, fault: Fault) -> Result<SimCard, Fail> {
-    let mut card = selected_sd(alloc, card_b())?;
+    let mut card = selected_sd(alloc, sdsc_cmd23())?;
     plan_after(&mut card, others, fault)?;
     Ok(card)
 }
@@ -89,7 +89,7 @@ fn keeps_an_ocr(rt: HostRuntime) -> Result<(), Fail> {
         (two(7, 39), [0x3f, 0x80, 0xff, 0x80, 0, 0xff], 0),
         (one(8), [0x3f, 0x80, 0xff, 0x80, 0, 0xff], 0),
     ] {
-        let mut card = built(rt.alloc(), card_a())?;
+        let mut card = built(rt.alloc(), sdsc())?;
         plan_after(&mut card, 1, Fault::FlipReply(flips))?;
         expect_r1(&rt, &mut card, 55, 0, 0x120);
         expect_frame(&rt, &mut card, encode(41, 0x0030_0000), heard);
@@ -165,7 +165,7 @@ fn offers_a_rejected_block_again(rt: HostRuntime) -> Result<(), Fail> {
 #[test]
 fn fails_writes(rt: HostRuntime) -> Result<(), Fail> {
     for (outcome, byte) in [(Outcome::Old, 0x00), (Outcome::New, 0x5a)] {
-        let mut spec = card_b();
+        let mut spec = sdsc_cmd23();
         spec.busy = 2;
         let mut card = selected_sd(rt.alloc(), spec)?;
         plan_after(&mut card, 3, Fault::Fail(outcome))?;
@@ -198,7 +198,7 @@ fn fails_what_is_programmed(rt: HostRuntime) -> Result<(), Fail> {
     expect_status(&rt, &mut card, 0x0008_0900);
     assert_eq!(rt; card.faults(), 1);
 
-    let mut card = selected_mmc(rt.alloc(), card_m())?;
+    let mut card = selected_mmc(rt.alloc(), emmc())?;
     plan_after(&mut card, 1, fault)?;
     expect_r1(&rt, &mut card, 6, 0x03af_0100, 0x900);
     expect_polls(&rt, &mut card, 0);
@@ -211,7 +211,7 @@ fn fails_what_is_programmed(rt: HostRuntime) -> Result<(), Fail> {
 #[test]
 fn is_busy_longer(rt: HostRuntime) -> Result<(), Fail> {
     for (busy, others, yes, faults) in [(0, 2, 1, 0), (2, 2, 2, 0), (7, 9, 8, 0), (8, 10, 9, 1)] {
-        let mut spec = card_b();
+        let mut spec = sdsc_cmd23();
         spec.busy = busy;
         let mut card = selected_sd(rt.alloc(), spec)?;
         plan_after(&mut card, others, Fault::Busy)?;
@@ -298,7 +298,7 @@ fn has_only_faults_that_fit(rt: HostRuntime) -> Result<(), Fail> {
 // A fault is planned for an exchange that is still to come, and the later one of two holds.
 #[test]
 fn plans_what_is_to_come(rt: HostRuntime) -> Result<(), Fail> {
-    let mut card = built(rt.alloc(), card_a())?;
+    let mut card = built(rt.alloc(), sdsc())?;
     send(&mut card, encode(0, 0));
     assert_eq!(rt; card.plan(0, Fault::LoseCommand), Err(PlanFault::InThePast));
     assert_eq!(rt; card.plan(1, Fault::LoseCommand), Ok(()));

@@ -79,19 +79,19 @@ fn opened_sd(
     Ok(card)
 }
 
-// Card A is opened. It doesn't know CMD23, and says so in its next status.
+// Card `sdsc` is opened. It doesn't know CMD23, and says so in its next status.
 #[test]
-fn opens_card_a(rt: HostRuntime) -> Result<(), Fail> {
-    let mut card = opened_sd(&rt, rt.alloc(), card_a(), [0, 5, 0, 0, 0, 0, 0, 0])?;
+fn opens_sdsc(rt: HostRuntime) -> Result<(), Fail> {
+    let mut card = opened_sd(&rt, rt.alloc(), sdsc(), [0, 5, 0, 0, 0, 0, 0, 0])?;
     expect_silence(&rt, &mut card, encode(23, 2));
     expect_status(&rt, &mut card, 0x0040_0900);
     Ok(())
 }
 
-// Card B is opened by the same frames. It knows CMD23, and four lines carry its sectors.
+// Card `sdsc_cmd23` is opened by the same frames. It knows CMD23, and four lines carry its sectors.
 #[test]
-fn opens_card_b(rt: HostRuntime) -> Result<(), Fail> {
-    let mut card = opened_sd(&rt, rt.alloc(), card_b(), [0, 5, 0, 2, 0, 0, 0, 0])?;
+fn opens_sdsc_cmd23(rt: HostRuntime) -> Result<(), Fail> {
+    let mut card = opened_sd(&rt, rt.alloc(), sdsc_cmd23(), [0, 5, 0, 2, 0, 0, 0, 0])?;
     expect_r1(&rt, &mut card, 23, 1, 0x900);
     expect_r1(&rt, &mut card, 18, 0, 0x900);
     expect_sector(&rt, &mut card, 0x00);
@@ -109,10 +109,10 @@ fn expect_switch_status(rt: &impl Abort, card: &mut SimCard) {
     assert!(rt; block == wanted);
 }
 
-// Card H is opened: it answers CMD8, has sector addresses, and switches to high speed.
+// Card `sdhc` is opened: it answers CMD8, has sector addresses, and switches to high speed.
 #[test]
-fn opens_card_h(rt: HostRuntime) -> Result<(), Fail> {
-    let mut card = built(rt.alloc(), card_h())?;
+fn opens_sdhc(rt: HostRuntime) -> Result<(), Fail> {
+    let mut card = built(rt.alloc(), sdhc())?;
     expect_silence(&rt, &mut card, [0x40, 0, 0, 0, 0, 0x95]);
     expect_frame(
         &rt,
@@ -174,7 +174,7 @@ fn expect_switch(rt: &impl Abort, card: &mut SimCard, frame: [u8; 6]) {
     expect_status(rt, card, 0x900);
 }
 
-// Card M is identified: it doesn't know CMD8 in idle, and CMD55 names another card.
+// Card `emmc` is identified: it doesn't know CMD8 in idle, and CMD55 names another card.
 fn identified_m(rt: &impl Abort, alloc: Global, ext_csd: [u8; 512]) -> Result<SimCard, Fail> {
     let mut spec = mmc(ext_csd, 2048);
     spec.busy = 2;
@@ -212,14 +212,14 @@ fn identified_m(rt: &impl Abort, alloc: Global, ext_csd: [u8; 512]) -> Result<Si
     Ok(card)
 }
 
-// Card M is opened. What can be switched is as after power on, whatever its EXT_CSD is made with; after the switches
+// Card `emmc` is opened. What can be switched is as after power on, whatever its EXT_CSD is made with; after the switches
 // eight lines at high speed carry it.
 #[test]
-fn opens_card_m(rt: HostRuntime) -> Result<(), Fail> {
-    let mut made = ext_csd_m();
+fn opens_emmc(rt: HostRuntime) -> Result<(), Fail> {
+    let mut made = ext_csd_of_emmc();
     (made[175], made[179], made[183], made[185]) = (0x01, 0x49, 0x02, 0x01);
     let mut card = identified_m(&rt, rt.alloc(), made)?;
-    let mut ext_csd = ext_csd_m();
+    let mut ext_csd = ext_csd_of_emmc();
     ext_csd[179] = 0x48;
     expect_ext_csd(&rt, &mut card, &ext_csd);
     expect_switch(&rt, &mut card, [0x46, 0x03, 0xaf, 0x01, 0, 0x43]);

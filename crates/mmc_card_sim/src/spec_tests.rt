@@ -1,6 +1,6 @@
 // Changes of cards `A` and `M` that have one fault each.
 use crate::judging::{Judged, judge};
-use crate::test_cards::{card_a, card_m, ext_csd_m, mmc};
+use crate::test_cards::{emmc, ext_csd_of_emmc, mmc, sdsc};
 use crate::{BuildFault, CardSpec, KindRegisters, Registers, SdRegisters};
 use mmc_bus::Bytes;
 use std::test::Fail;
@@ -9,7 +9,7 @@ use std::test::Fail;
 const EMPTY_CSD: u128 = 0x0000_0000_0000_0000_0000_0000_0000_0001;
 
 fn sd() -> Registers {
-    card_a().registers
+    sdsc().registers
 }
 
 fn sd_with_rca(rca: u16) -> KindRegisters {
@@ -51,8 +51,8 @@ fn good_specs(rt: HostRuntime) -> Result<(), Fail> {
         is_read_only: false,
         block_length: 512,
     };
-    assert_eq!(rt; judge(&spec(card_m().registers, 2048)), Ok(of_mmc));
-    let mut full = ext_csd_m();
+    assert_eq!(rt; judge(&spec(emmc().registers, 2048)), Ok(of_mmc));
+    let mut full = ext_csd_of_emmc();
     full[213] = 0xfe;
     let of_full = Judged {
         sizes: [65_024, 256, 256, 0, 0, 0, 0],
@@ -67,7 +67,7 @@ fn good_specs(rt: HostRuntime) -> Result<(), Fail> {
 
 #[test]
 fn refused_registers(rt: HostRuntime) {
-    let mut no_erase_unit = ext_csd_m();
+    let mut no_erase_unit = ext_csd_of_emmc();
     no_erase_unit[224] = 0x00;
     for (registers, fault) in [
         (
@@ -130,14 +130,14 @@ fn refused_registers(rt: HostRuntime) {
         (
             Registers {
                 ocr: 0x20ff_8080,
-                ..card_m().registers
+                ..emmc().registers
             },
             "access mode 1",
         ),
         (
             Registers {
                 ocr: 0x60ff_8080,
-                ..card_m().registers
+                ..emmc().registers
             },
             "access mode 3",
         ),
@@ -169,7 +169,7 @@ fn refused_numbers(rt: HostRuntime) {
         refused
     );
     assert_eq!(rt; judge(&spec(sd(), 5)), refused);
-    let mut empty = ext_csd_m();
+    let mut empty = ext_csd_of_emmc();
     empty[213] = 0x00;
     assert_eq!(rt; judge(&spec(mmc(empty, 0).registers, 0)), refused);
 }
@@ -180,11 +180,11 @@ fn refused_sizes(rt: HostRuntime) -> Result<(), Fail> {
     let mut card = spec(sd(), 4);
     card.image = Some(Bytes::new(vec![in rt.alloc(); 7; 2047]?));
     assert_eq!(rt; judge(&card), refused);
-    let mut large = ext_csd_m();
+    let mut large = ext_csd_of_emmc();
     large[213] = 0xff;
     assert_eq!(rt; judge(&spec(mmc(large, 65_280).registers, 65_280)), refused);
     // A general purpose partition that is too large to exist.
-    let mut no_partition = ext_csd_m();
+    let mut no_partition = ext_csd_of_emmc();
     no_partition[155] = 0x01;
     no_partition[145] = 0xff;
     assert_eq!(rt;

@@ -1,5 +1,6 @@
-// Four cards, and what tests say of them. `A`, `B` and `H` are SD cards: `A` has byte addresses, `B` knows CMD23 too,
-// and `H` has sector addresses and high speed. `M` is an eMMC device with sector addresses.
+// Four cards, by the names that they have in `examples/`, and what tests say of them: three SD cards, `sdsc` with byte addresses,
+// `sdsc_cmd23`, which knows CMD23 too, and `sdhc` with sector addresses and high speed; and `emmc`, an eMMC device with sector
+// addresses.
 ghost use Rattle.std.specs.Prelude.{◌<◌};
 
 use crate::{CardSpec, Fault, KindRegisters, MmcRegisters, Registers, SdRegisters, SimCard};
@@ -16,13 +17,13 @@ pub const RCA: u32 = 0x0001_0000;
 // The CID of each card. As a CSD it says nothing, as `M` has it.
 const CID: u128 = 0x0000_0000_0000_0000_0000_0000_0000_0001;
 
-/// Card `A`, of 4 sectors.
-pub fn card_a() -> CardSpec {
+/// Card `sdsc`, of 4 sectors.
+pub fn sdsc() -> CardSpec {
     sd(0x0005_0000_0000_0000)
 }
 
-/// Card `B`, of 4 sectors.
-pub fn card_b() -> CardSpec {
+/// Card `sdsc_cmd23`, of 4 sectors.
+pub fn sdsc_cmd23() -> CardSpec {
     sd(0x0005_0002_0000_0000)
 }
 
@@ -50,8 +51,8 @@ pub fn sd_with_csd(scr: u64, csd: u128) -> CardSpec {
     )
 }
 
-/// Card `H`, of 1,024 sectors.
-pub fn card_h() -> CardSpec {
+/// Card `sdhc`, of 1,024 sectors.
+pub fn sdhc() -> CardSpec {
     let scr: u64 = 0x0205_0002_0000_0000;
     let csd: u128 = 0x4000_0000_0009_0000_0000_4000_0240_00df;
     spec(
@@ -71,13 +72,13 @@ pub fn card_h() -> CardSpec {
     )
 }
 
-/// Card `M`, of 2,048 sectors and two boot partitions of 256.
-pub fn card_m() -> CardSpec {
-    mmc(ext_csd_m(), 2048)
+/// Card `emmc`, of 2,048 sectors and two boot partitions of 256.
+pub fn emmc() -> CardSpec {
+    mmc(ext_csd_of_emmc(), 2048)
 }
 
-/// The EXT_CSD of card `M`.
-pub fn ext_csd_m() -> [u8; 512] {
+/// The EXT_CSD of card `emmc`.
+pub fn ext_csd_of_emmc() -> [u8; 512] {
     let mut block = [0; 512];
     block[181] = 0x01;
     block[192] = 0x08;

@@ -1,6 +1,6 @@
 use Rattle.std.proofs.Common.{[], ◌∷◌, ◌++◌, List, subst}
-use Rattle.cardtool.specs.declared.event.ScriptEvent.{ScriptEvent}
-use Rattle.cardtool.specs.declared.event.ScriptEvent.TheVariants.{Run}
+use Rattle.card_text.specs.declared.event.ScriptEvent.{ScriptEvent}
+use Rattle.card_text.specs.declared.event.ScriptEvent.TheVariants.{Run}
 use Rattle.cardtool.proofs.DeviceLemmas.{ServedSoFar, later_then, so_far_broken, so_far_none, so_far_then}
 use Rattle.cardtool.proofs.play.play.Goals as goal
 

@@ -1,5 +1,5 @@
 use Rattle.std.proofs.Common.{[], ◌∷◌, subst, sym}
-use Rattle.cardtool.specs.declared.event.ScriptEvent.{ScriptEvent}
+use Rattle.card_text.specs.declared.event.ScriptEvent.{ScriptEvent}
 use Rattle.cardtool.specs.Serving.{Plays}
 use Rattle.cardtool.proofs.ServingLemmas.{one_turn}
 use Rattle.cardtool.proofs.play.play_event.Goals as goal

@@ -1,5 +1,5 @@
 use Rattle.std.proofs.Common.{[], ◌∷◌, arith}
-use Rattle.cardtool.specs.declared.event.ScriptEvent.TheVariants.{Run}
+use Rattle.card_text.specs.declared.event.ScriptEvent.TheVariants.{Run}
 use Rattle.cardtool.proofs.DeviceLemmas.{later_none, later_then, so_far_broken, so_far_none, so_far_then, some_unanswered}
 use Rattle.cardtool.proofs.ServingLemmas.{run_idle, run_turn, run_turn_broken}
 use Rattle.cardtool.proofs.play.run.Goals as goal

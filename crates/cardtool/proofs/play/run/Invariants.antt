@@ -1,6 +1,6 @@
 use Rattle.std.proofs.Common.{[], ◌∷◌}
 use Rattle.mmc_block.specs.Device.{work_of}
-use Rattle.cardtool.specs.declared.event.ScriptEvent.TheVariants.{Run}
+use Rattle.card_text.specs.declared.event.ScriptEvent.TheVariants.{Run}
 use Rattle.cardtool.proofs.DeviceLemmas.{ServedSoFar}
 use Rattle.cardtool.proofs.play.run.Given as goal
 

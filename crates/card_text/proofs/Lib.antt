@@ -1,0 +1,10 @@
+pub mod CardFileLemmas
+pub mod CardLineLemmas
+pub mod DataLemmas
+pub mod Lookups
+pub mod NumberLemmas
+pub mod OutputLemmas
+pub mod PartLemmas
+pub mod PlanLemmas
+pub mod PrintedLemmas
+pub mod ScriptLemmas

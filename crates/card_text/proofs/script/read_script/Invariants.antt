@@ -1,0 +1,11 @@
+use Rattle.std.proofs.Common.{length}
+use Rattle.card_text.specs.Parts.{left_parts}
+use Rattle.card_text.specs.Script.{lines}
+use Rattle.card_text.proofs.ScriptLemmas.{ScriptRead}
+use Rattle.card_text.proofs.script.read_script.Given as goal
+
+abbrev pub invariant-loop-rest : goal.invariant-loop-rest
+invariant-loop-rest l = ScriptRead (lines l.fn.text) (left_parts 10 l.rest) l.number l.events.items
+
+abbrev pub decreases-loop-rest : goal.decreases-loop-rest
+decreases-loop-rest l = length (left_parts 10 l.rest)

@@ -1,0 +1,115 @@
+-- What a card is built by, as the lines of its file say.
+use Rattle.std.specs.Prelude.{Bool, List, None, Option, Some, [], false, fold, replicate, slice_set, unwrap_or, ◌∷◌, ℕ}
+use Rattle.std.specs.Option.{option_or}
+use Rattle.mmc_card_sim.specs.declared.registers.KindRegisters.{KindRegisters}
+use Rattle.mmc_card_sim.specs.declared.registers.KindRegisters.TheVariants as Has
+use Rattle.mmc_card_sim.specs.declared.spec.CardSpec.{CardSpec}
+use Rattle.mmc_frame.specs.declared.kind.Kind.{Kind as CardKind}
+use Rattle.mmc_frame.specs.declared.kind.Kind.TheVariants.{Mmc, Sd}
+use Rattle.card_text.specs.declared.card_line.CardLine.{CardLine}
+use Rattle.card_text.specs.declared.card_line.CardLine.TheVariants.{Busy, Cid, Cmd8, Csd, Ext, HighSpeed, Kind, Locked}
+use Rattle.card_text.specs.declared.card_line.CardLine.TheVariants.{Ocr, Rca, Ready, Scr, Sectors}
+
+-- the value of the first element that has one
+unfoldable pub first_of : {A B : Type 0} → (A → Option B) → List A → Option B
+first_of value [] = None
+first_of value (x ∷ others) = option_or (value x) (first_of value others)
+
+-- the value that a line gives, for each key
+abbrev pub kind_of_line : CardLine → Option CardKind
+kind_of_line (Kind kind) = Some kind
+kind_of_line line = None
+
+abbrev pub ocr_of_line : CardLine → Option ℕ
+ocr_of_line (Ocr ocr) = Some ocr
+ocr_of_line line = None
+
+abbrev pub cid_of_line : CardLine → Option (List ℕ)
+cid_of_line (Cid bytes) = Some bytes
+cid_of_line line = None
+
+abbrev pub csd_of_line : CardLine → Option (List ℕ)
+csd_of_line (Csd bytes) = Some bytes
+csd_of_line line = None
+
+abbrev pub sectors_of_line : CardLine → Option ℕ
+sectors_of_line (Sectors count) = Some count
+sectors_of_line line = None
+
+abbrev pub ready_of_line : CardLine → Option ℕ
+ready_of_line (Ready count) = Some count
+ready_of_line line = None
+
+abbrev pub busy_of_line : CardLine → Option ℕ
+busy_of_line (Busy count) = Some count
+busy_of_line line = None
+
+abbrev pub locked_of_line : CardLine → Option Bool
+locked_of_line (Locked choice) = Some choice
+locked_of_line line = None
+
+abbrev pub scr_of_line : CardLine → Option (List ℕ)
+scr_of_line (Scr bytes) = Some bytes
+scr_of_line line = None
+
+abbrev pub rca_of_line : CardLine → Option ℕ
+rca_of_line (Rca address) = Some address
+rca_of_line line = None
+
+abbrev pub cmd8_of_line : CardLine → Option Bool
+cmd8_of_line (Cmd8 choice) = Some choice
+cmd8_of_line line = None
+
+abbrev pub high_speed_of_line : CardLine → Option Bool
+high_speed_of_line (HighSpeed choice) = Some choice
+high_speed_of_line line = None
+
+-- the byte that a line gives, in its place
+abbrev pub with_byte : List ℕ → CardLine → List ℕ
+with_byte block (Ext place value) = slice_set block place value
+with_byte block line = block
+
+-- 512 bytes, which are 00 but where a line gives another; the last line for a place counts
+unfoldable pub ext_csd_of : List CardLine → List ℕ
+ext_csd_of ls = fold with_byte (replicate 512 0) ls
+
+-- the second step, where the first gave a value
+infixl 10 ◌>>=◌
+abbrev pub ◌>>=◌ : {A B : Type 0} → Option A → (A → Option B) → Option B
+None >>= f = None
+Some x >>= f = f x
+
+-- what a card has by its kind: an SD card must have an SCR
+abbrev pub own_registers_of : CardKind → List CardLine → Option KindRegisters
+own_registers_of Sd ls = do
+  scr ← first_of scr_of_line ls
+  Some (Has.Sd (record {
+    scr = scr;
+    rca = unwrap_or (first_of rca_of_line ls) 1;
+    answers_cmd8 = unwrap_or (first_of cmd8_of_line ls) false;
+    has_high_speed = unwrap_or (first_of high_speed_of_line ls) false;
+  }))
+own_registers_of Mmc ls = Some (Has.Mmc (record { ext_csd = ext_csd_of ls }))
+
+-- what the card is built by, or None where a key is missing that must stand
+unfoldable pub spec_of : List CardLine → Option CardSpec
+spec_of ls = do
+  kind ← first_of kind_of_line ls
+  own ← own_registers_of kind ls
+  ocr ← first_of ocr_of_line ls
+  cid ← first_of cid_of_line ls
+  csd ← first_of csd_of_line ls
+  sectors ← first_of sectors_of_line ls
+  Some (record {
+    registers = record {
+      kind = own;
+      ocr = ocr;
+      cid = cid;
+      csd = csd;
+      is_locked = unwrap_or (first_of locked_of_line ls) false;
+    };
+    sectors = sectors;
+    ready = unwrap_or (first_of ready_of_line ls) 0;
+    busy = unwrap_or (first_of busy_of_line ls) 0;
+    image = None;
+  })

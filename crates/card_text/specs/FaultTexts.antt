@@ -1,0 +1,56 @@
+-- The text of a planned fault.
+use Rattle.std.specs.Prelude.{ℕ, List, [], ◌∷◌, Option, None, Some, codes, if◌then◌else◌, min, option_and_then, option_map}
+use Rattle.std.specs.Str.{bytes_eq}
+use Rattle.mmc_card_sim.specs.declared.fault.Fault.{Fault}
+use Rattle.mmc_card_sim.specs.declared.fault.Fault.TheVariants.{BadBlock, Brownout, Busy, Fail, FlipCommand, FlipReply}
+use Rattle.mmc_card_sim.specs.declared.fault.Fault.TheVariants.{LoseCommand, LoseReply, LoseStatus, NoBlock, Reject}
+use Rattle.mmc_card_sim.specs.declared.fault.Flips.{Flips}
+use Rattle.mmc_card_sim.specs.declared.fault.Outcome.{Outcome}
+use Rattle.mmc_card_sim.specs.declared.fault.Outcome.TheVariants.{New, Old}
+use Rattle.card_text.specs.Numbers.{number_of}
+
+-- no frame has 255 bits, so that a larger position is past the frame as 255 is
+unfoldable pub position_of : List ℕ → Option ℕ
+position_of text = option_map (λ n. min n 255) (number_of text)
+
+-- one position, or two
+unfoldable pub flips_of : List (List ℕ) → Option Flips
+flips_of (a ∷ []) = option_map (λ first. record { first = first; second = None }) (position_of a)
+flips_of (a ∷ b ∷ []) =
+    option_and_then
+    (λ first. option_map (λ second. record { first = first; second = Some second }) (position_of b))
+    (position_of a)
+flips_of words = None
+
+-- `old` or `new`
+unfoldable pub outcome_of : List (List ℕ) → Option Outcome
+outcome_of (word ∷ []) =
+    if bytes_eq word (codes "old") then Some Old
+    else (if bytes_eq word (codes "new") then Some New else None)
+outcome_of words = None
+
+-- a fault that one word says
+unfoldable pub lone_fault_of : List ℕ → Option Fault
+lone_fault_of word =
+    if bytes_eq word (codes "lose-command") then Some LoseCommand
+    else (if bytes_eq word (codes "lose-reply") then Some LoseReply
+    else (if bytes_eq word (codes "bad-block") then Some BadBlock
+    else (if bytes_eq word (codes "no-block") then Some NoBlock
+    else (if bytes_eq word (codes "reject") then Some Reject
+    else (if bytes_eq word (codes "busy") then Some Busy else None)))))
+
+-- a fault whose name has further words
+unfoldable pub fault_with_words_of : List ℕ → List (List ℕ) → Option Fault
+fault_with_words_of name words =
+    if bytes_eq name (codes "flip-command") then option_map (λ flips. FlipCommand flips) (flips_of words)
+    else (if bytes_eq name (codes "flip-reply") then option_map (λ flips. FlipReply flips) (flips_of words)
+    else (if bytes_eq name (codes "lose-status") then option_map (λ outcome. LoseStatus outcome) (outcome_of words)
+    else (if bytes_eq name (codes "fail") then option_map (λ outcome. Fail outcome) (outcome_of words)
+    else (if bytes_eq name (codes "brownout") then option_map (λ outcome. Brownout outcome) (outcome_of words)
+    else None))))
+
+-- the text of a fault, by its fields
+unfoldable pub fault_of : List (List ℕ) → Option Fault
+fault_of [] = None
+fault_of (name ∷ []) = lone_fault_of name
+fault_of (name ∷ words) = fault_with_words_of name words

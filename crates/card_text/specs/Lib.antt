@@ -1,0 +1,13 @@
+pub mod CardFile
+pub mod CardLines
+pub mod CardSpecs
+pub mod Data
+pub mod FaultTexts
+pub mod Hexadecimal
+pub mod Lines
+pub mod Numbers
+pub mod Output
+pub mod Parts
+pub mod Planning
+pub mod Script
+pub mod Words

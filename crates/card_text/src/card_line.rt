@@ -1,0 +1,258 @@
+// Reads one line of a card file.
+ghost use Rattle.std.specs.Prelude.{◌≡◌, option_map, option_to_list};
+ghost use Rattle.card_text.specs.CardLines.{card_line_of, card_line_of_fields, choice_of, delay_of, ext_line_of};
+ghost use Rattle.card_text.specs.CardLines.{fault_line_of, kind_of, line_of_key, sd_line_of, value_line_of};
+ghost use Rattle.card_text.specs.Parts.{left_parts, parts};
+
+use crate::cut::cut;
+use crate::fault_text::fault;
+use crate::hexadecimal::bytes;
+use crate::number::{byte, number};
+use mmc_card_sim::Fault;
+use mmc_frame::Kind;
+
+/// What one line of a card file gives.
+#[derive(Clone, Copy, Debug, PartialEq, Eq)]
+pub enum CardLine {
+    /// The kind of the card.
+    Kind(Kind),
+    /// The OCR without its ready bit.
+    Ocr(u32),
+    /// The CID, the highest byte first.
+    Cid([u8; 16]),
+    /// The CSD, the highest byte first.
+    Csd([u8; 16]),
+    /// The number of sectors of the user partition. The card's building judges it.
+    Sectors(u64),
+    /// How many of the first readiness inquiries are answered with not ready, 0 to 8.
+    Ready(u8),
+    /// How many of the first polls of a busy time are answered yes, 0 to 8.
+    Busy(u8),
+    /// Whether the card is locked.
+    Locked(bool),
+    /// The SCR of an SD card, the highest byte first.
+    Scr([u8; 8]),
+    /// The RCA that an SD card publishes.
+    Rca(u16),
+    /// Whether an SD card knows CMD8.
+    Cmd8(bool),
+    /// Whether an SD card has high speed.
+    HighSpeed(bool),
+    /// A byte of the EXT_CSD of an eMMC device.
+    Ext {
+        /// Its place, 0 to 511.
+        place: u16,
+        /// The byte.
+        value: u8,
+    },
+    /// A planned fault.
+    Fault {
+        /// The exchange for which it is planned, counted from 0 and below 2^64 - 1.
+        exchange: u64,
+        /// What is to happen in it.
+        fault: Fault,
+    },
+}
+
+impl CardLine {
+    ghost use Rattle.card_text.specs.CardLines.{is_of, repeats};
+
+    /// Whether a card of this kind may have it.
+    pub fn is_of(&self, kind: Kind) -> bool
+        ensures { result ≡ is_of kind self.now }
+    {
+        match *self {
+            CardLine::Ext { .. } => kind == Kind::Mmc,
+            CardLine::Scr(_) | CardLine::Rca(_) | CardLine::Cmd8(_) | CardLine::HighSpeed(_) => {
+                kind == Kind::Sd
+            }
+            _ => true,
+        }
+    }
+
+    /// Whether it gives again what the other line gives: the same key, of which a card file has one, or a fault for the
+    /// same exchange.
+    pub fn repeats(&self, other: &CardLine) -> bool
+        ensures { result ≡ repeats self.now other.now }
+    {
+        match (*self, *other) {
+            (CardLine::Kind(_), CardLine::Kind(_))
+            | (CardLine::Ocr(_), CardLine::Ocr(_))
+            | (CardLine::Cid(_), CardLine::Cid(_))
+            | (CardLine::Csd(_), CardLine::Csd(_))
+            | (CardLine::Sectors(_), CardLine::Sectors(_))
+            | (CardLine::Ready(_), CardLine::Ready(_))
+            | (CardLine::Busy(_), CardLine::Busy(_))
+            | (CardLine::Locked(_), CardLine::Locked(_))
+            | (CardLine::Scr(_), CardLine::Scr(_))
+            | (CardLine::Rca(_), CardLine::Rca(_))
+            | (CardLine::Cmd8(_), CardLine::Cmd8(_))
+            | (CardLine::HighSpeed(_), CardLine::HighSpeed(_)) => true,
+            (
+                CardLine::Fault { exchange, .. },
+                CardLine::Fault {
+                    exchange: other,
+                    ..
+                },
+            ) => exchange == other,
+            _ => false,
+        }
+    }
+}
+
+// `sd` or `mmc`.
+#[tactic(auto, unfolding(crate::specs::CardLines::kind_of))]
+fn kind(text: &[u8]) -> Option<Kind>
+    ensures { result ≡ kind_of text.now }
+{
+    if text == b"sd".as_slice() {
+        Some(Kind::Sd)
+    } else if text == b"mmc".as_slice() {
+        Some(Kind::Mmc)
+    } else {
+        None
+    }
+}
+
+// `yes` or `no`.
+#[tactic(auto, unfolding(crate::specs::CardLines::choice_of))]
+fn choice(text: &[u8]) -> Option<bool>
+    ensures { result ≡ choice_of text.now }
+{
+    if text == b"yes".as_slice() {
+        Some(true)
+    } else if text == b"no".as_slice() {
+        Some(false)
+    } else {
+        None
+    }
+}
+
+// A number from 0 to 8.
+#[tactic(auto, unfolding(crate::specs::CardLines::delay_of))]
+fn delay(text: &[u8]) -> Option<u8>
+    ensures { result ≡ delay_of text.now }
+{
+    let count = number(text)?;
+    if count <= 8 { Some(count as u8) } else { None }
+}
+
+// A key of SD cards with its value.
+#[tactic(auto, unfolding(crate::specs::CardLines::sd_line_of))]
+fn sd_line(key: &[u8], text: &[u8]) -> Option<CardLine>
+    ensures { result ≡ sd_line_of key.now text.now }
+{
+    if key == b"scr".as_slice() {
+        Some(CardLine::Scr(bytes(text)?))
+    } else if key == b"rca".as_slice() {
+        Some(CardLine::Rca(u16::from_be_bytes(bytes(text)?)))
+    } else if key == b"cmd8".as_slice() {
+        Some(CardLine::Cmd8(choice(text)?))
+    } else if key == b"highspeed".as_slice() {
+        Some(CardLine::HighSpeed(choice(text)?))
+    } else {
+        None
+    }
+}
+
+// A key that stands once with its value.
+#[tactic(auto, unfolding(crate::specs::CardLines::line_of_key))]
+fn line_of_key(key: &[u8], text: &[u8]) -> Option<CardLine>
+    ensures { result ≡ line_of_key key.now text.now }
+{
+    if key == b"kind".as_slice() {
+        Some(CardLine::Kind(kind(text)?))
+    } else if key == b"ocr".as_slice() {
+        Some(CardLine::Ocr(u32::from_be_bytes(bytes(text)?)))
+    } else if key == b"cid".as_slice() {
+        Some(CardLine::Cid(bytes(text)?))
+    } else if key == b"csd".as_slice() {
+        Some(CardLine::Csd(bytes(text)?))
+    } else if key == b"sectors".as_slice() {
+        Some(CardLine::Sectors(number(text)?))
+    } else if key == b"ready".as_slice() {
+        Some(CardLine::Ready(delay(text)?))
+    } else if key == b"busy".as_slice() {
+        Some(CardLine::Busy(delay(text)?))
+    } else if key == b"locked".as_slice() {
+        Some(CardLine::Locked(choice(text)?))
+    } else {
+        sd_line(key, text)
+    }
+}
+
+// A byte of the EXT_CSD.
+#[tactic(auto, unfolding(crate::specs::CardLines::ext_line_of))]
+fn ext_line(place: &[u8], value: &[u8]) -> Option<CardLine>
+    ensures { result ≡ ext_line_of place.now value.now }
+{
+    let place = number(place)?;
+    let value = byte(value)?;
+    if place < 512 {
+        Some(CardLine::Ext {
+            place: place as u16,
+            value,
+        })
+    } else {
+        None
+    }
+}
+
+// A fault for an exchange. None is planned for the number at which their count stays.
+#[tactic(auto, unfolding(crate::specs::CardLines::fault_line_of))]
+fn fault_line(exchange: &[u8], text: Option<&[u8]>) -> Option<CardLine>
+    ensures { result ≡ fault_line_of exchange.now (left_parts 32 text.entry) }
+{
+    let exchange = number(exchange)?;
+    let fault = fault(text)?;
+    if exchange < u64::MAX {
+        Some(CardLine::Fault { exchange, fault })
+    } else {
+        None
+    }
+}
+
+// A key with its value, or `ext` with a place and a byte.
+#[tactic(auto, unfolding(crate::specs::CardLines::value_line_of))]
+fn value_line(key: &[u8], value: &[u8], others: Option<&[u8]>) -> Option<CardLine>
+    ensures { result ≡ value_line_of key.now value.now (left_parts 32 others.entry) }
+{
+    let others = match others {
+        None => return line_of_key(key, value),
+        Some(others) => others,
+    };
+    let byte = match cut(others, b' ') {
+        (_, Some(_)) => return None,
+        (byte, None) => byte,
+    };
+    if key == b"ext".as_slice() {
+        ext_line(value, byte)
+    } else {
+        None
+    }
+}
+
+// What the fields of a line say, and nothing where they aren't of the grammar.
+#[tactic(auto, unfolding(crate::specs::CardLines::card_line_of_fields))]
+fn line_of_fields(line: &[u8]) -> Option<CardLine>
+    ensures { result ≡ card_line_of_fields (parts 32 line.now) }
+{
+    let (key, fields) = cut(line, b' ');
+    let (value, others) = cut(fields?, b' ');
+    if key == b"fault".as_slice() {
+        fault_line(value, others)
+    } else {
+        value_line(key, value, others)
+    }
+}
+
+/// What a line says: `Some(None)` where it is empty or a comment, and nothing where it isn't of the grammar.
+#[tactic(auto, unfolding(crate::specs::CardLines::card_line_of))]
+pub fn card_line(line: &[u8]) -> Option<Option<CardLine>>
+    ensures { option_map (λ said. option_to_list said) result ≡ card_line_of line.now }
+{
+    match line {
+        [] | [b'#', ..] => Some(None),
+        _ => Some(Some(line_of_fields(line)?)),
+    }
+}

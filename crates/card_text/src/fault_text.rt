@@ -1,0 +1,110 @@
+// Reads the text of a planned fault.
+ghost use Rattle.std.specs.Prelude.{◌≡◌};
+ghost use Rattle.card_text.specs.FaultTexts.{fault_of, fault_with_words_of, flips_of, lone_fault_of, outcome_of, position_of};
+ghost use Rattle.card_text.specs.Parts.{left_parts, parts};
+
+use crate::cut::cut;
+use crate::number::number;
+use mmc_card_sim::{Fault, Flips, Outcome};
+
+// A position of a bit in a frame: one past the frame, however large, as 255.
+#[tactic(auto, unfolding(crate::specs::FaultTexts::position_of))]
+fn position(digits: &[u8]) -> Option<u8>
+    ensures { result ≡ position_of digits.now }
+{
+    let position = number(digits)?;
+    Some(position.min(255) as u8)
+}
+
+// One position or two.
+#[tactic(auto, unfolding(crate::specs::FaultTexts::flips_of))]
+fn flips(words: &[u8]) -> Option<Flips>
+    ensures { result ≡ flips_of (parts 32 words.now) }
+{
+    let (first, rest) = cut(words, b' ');
+    let first = position(first)?;
+    match rest {
+        None => Some(Flips {
+            first,
+            second: None,
+        }),
+        Some(rest) => match cut(rest, b' ') {
+            (_, Some(_)) => None,
+            (second, None) => Some(Flips {
+                first,
+                second: Some(position(second)?),
+            }),
+        },
+    }
+}
+
+// `old` or `new`.
+#[tactic(auto, unfolding(crate::specs::FaultTexts::outcome_of))]
+fn outcome(words: &[u8]) -> Option<Outcome>
+    ensures { result ≡ outcome_of (parts 32 words.now) }
+{
+    let word = match cut(words, b' ') {
+        (_, Some(_)) => return None,
+        (word, None) => word,
+    };
+    if word == b"old".as_slice() {
+        Some(Outcome::Old)
+    } else if word == b"new".as_slice() {
+        Some(Outcome::New)
+    } else {
+        None
+    }
+}
+
+// A fault that one word says.
+#[tactic(auto, unfolding(crate::specs::FaultTexts::lone_fault_of))]
+fn lone_fault(word: &[u8]) -> Option<Fault>
+    ensures { result ≡ lone_fault_of word.now }
+{
+    if word == b"lose-command".as_slice() {
+        Some(Fault::LoseCommand)
+    } else if word == b"lose-reply".as_slice() {
+        Some(Fault::LoseReply)
+    } else if word == b"bad-block".as_slice() {
+        Some(Fault::BadBlock)
+    } else if word == b"no-block".as_slice() {
+        Some(Fault::NoBlock)
+    } else if word == b"reject".as_slice() {
+        Some(Fault::Reject)
+    } else if word == b"busy".as_slice() {
+        Some(Fault::Busy)
+    } else {
+        None
+    }
+}
+
+// A fault whose name has further words.
+#[tactic(auto, unfolding(crate::specs::FaultTexts::fault_with_words_of))]
+fn fault_with_words(name: &[u8], words: &[u8]) -> Option<Fault>
+    ensures { result ≡ fault_with_words_of name.now (parts 32 words.now) }
+{
+    if name == b"flip-command".as_slice() {
+        Some(Fault::FlipCommand(flips(words)?))
+    } else if name == b"flip-reply".as_slice() {
+        Some(Fault::FlipReply(flips(words)?))
+    } else if name == b"lose-status".as_slice() {
+        Some(Fault::LoseStatus(outcome(words)?))
+    } else if name == b"fail".as_slice() {
+        Some(Fault::Fail(outcome(words)?))
+    } else if name == b"brownout".as_slice() {
+        Some(Fault::Brownout(outcome(words)?))
+    } else {
+        None
+    }
+}
+
+/// The fault that a text says, and nothing where there is no text or it isn't of the grammar.
+#[tactic(auto, unfolding(crate::specs::FaultTexts::fault_of))]
+pub fn fault(text: Option<&[u8]>) -> Option<Fault>
+    ensures { result ≡ fault_of (left_parts 32 text.entry) }
+{
+    match cut(text?, b' ') {
+        (name, None) => lone_fault(name),
+        (name, Some(words)) => fault_with_words(name, words),
+    }
+}

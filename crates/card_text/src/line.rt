@@ -1,0 +1,199 @@
+// Reads one line of a script.
+ghost use Rattle.std.specs.Prelude.{◌≡◌, [], ◌∷◌, IfOk};
+ghost use Rattle.card_text.specs.Parts.{parts};
+ghost use Rattle.card_text.specs.Lines.{part_of, client_of, event_of};
+ghost use Rattle.card_text.specs.Words.{AreWords};
+
+use crate::cut::cut;
+use crate::data::data;
+use crate::event::ScriptEvent;
+use crate::number::number;
+use mmc_block::Request;
+use mmc_bus::Part;
+use std::alloc::{AllocError, Global};
+
+/// The fields of a line, for each number of fields that a line may have.
+#[derive(Clone, Copy)]
+pub enum Words<'a> {
+    /// One field.
+    One(&'a [u8]),
+    /// Two fields.
+    Two(&'a [u8], &'a [u8]),
+    /// Five fields.
+    Five(&'a [u8], &'a [u8], &'a [u8], &'a [u8], &'a [u8]),
+    /// Six fields.
+    Six(&'a [u8], &'a [u8], &'a [u8], &'a [u8], &'a [u8], &'a [u8]),
+    /// Any other number of fields, which no line has.
+    Other,
+}
+
+/// The parts of a line between its spaces.
+#[tactic(auto, unfolding(crate::specs::Lines::event_of))]
+pub fn split_fields(line: &[u8]) -> Words<'_>
+    ensures { AreWords result (parts 32 line.now) }
+{
+    let (first, rest) = match cut(line, b' ') {
+        (first, None) => return Words::One(first),
+        (first, Some(rest)) => (first, rest),
+    };
+    let (second, rest) = match cut(rest, b' ') {
+        (second, None) => return Words::Two(first, second),
+        (second, Some(rest)) => (second, rest),
+    };
+    let (third, rest) = match cut(rest, b' ') {
+        (_, None) => return Words::Other,
+        (third, Some(rest)) => (third, rest),
+    };
+    let (fourth, rest) = match cut(rest, b' ') {
+        (_, None) => return Words::Other,
+        (fourth, Some(rest)) => (fourth, rest),
+    };
+    let (fifth, rest) = match cut(rest, b' ') {
+        (fifth, None) => return Words::Five(first, second, third, fourth, fifth),
+        (fifth, Some(rest)) => (fifth, rest),
+    };
+    match cut(rest, b' ') {
+        (sixth, None) => Words::Six(first, second, third, fourth, fifth, sixth),
+        (_, Some(_)) => Words::Other,
+    }
+}
+
+// The partition of this name.
+#[tactic(auto, unfolding(crate::specs::Lines::part_of))]
+fn part(text: &[u8]) -> Option<Part>
+    ensures { result ≡ part_of text.now }
+{
+    if text == b"user".as_slice() {
+        Some(Part::User)
+    } else if text == b"boot1".as_slice() {
+        Some(Part::Boot1)
+    } else if text == b"boot2".as_slice() {
+        Some(Part::Boot2)
+    } else if text == b"gp1".as_slice() {
+        Some(Part::Gp1)
+    } else if text == b"gp2".as_slice() {
+        Some(Part::Gp2)
+    } else if text == b"gp3".as_slice() {
+        Some(Part::Gp3)
+    } else if text == b"gp4".as_slice() {
+        Some(Part::Gp4)
+    } else {
+        None
+    }
+}
+
+// The client of this number, below 2^32.
+#[tactic(auto, unfolding(crate::specs::Lines::client_of))]
+fn client(text: &[u8]) -> Option<u32>
+    ensures { result ≡ client_of text.now }
+{
+    u32::try_from(number(text)?).ok()
+}
+
+// An event that one word says.
+#[tactic(auto, unfolding(crate::specs::Lines::event_of))]
+fn simple(word: &[u8]) -> Option<ScriptEvent>
+    ensures { result ≡ event_of (word.now ∷ []) }
+{
+    if word == b"turn".as_slice() {
+        Some(ScriptEvent::Turn)
+    } else if word == b"run".as_slice() {
+        Some(ScriptEvent::Run)
+    } else {
+        None
+    }
+}
+
+// A cancellation.
+#[tactic(auto, unfolding(crate::specs::Lines::event_of))]
+fn cancellation(word: &[u8], ticket: &[u8]) -> Option<ScriptEvent>
+    ensures { result ≡ event_of (word.now ∷ ticket.now ∷ []) }
+{
+    if word != b"cancel".as_slice() {
+        return None;
+    }
+    let ticket = number(ticket)?;
+    Some(ScriptEvent::Cancel { ticket })
+}
+
+// The submission of a request that gives no bytes.
+#[tactic(auto, unfolding(crate::specs::Lines::event_of))]
+fn submission(
+    client_text: &[u8],
+    verb: &[u8],
+    part_text: &[u8],
+    start: &[u8],
+    count: &[u8],
+) -> Option<ScriptEvent>
+    ensures { result ≡ event_of (client_text.now ∷ verb.now ∷ part_text.now ∷ start.now ∷ count.now ∷ []) }
+{
+    let client = client(client_text)?;
+    let part = part(part_text)?;
+    let start = number(start)?;
+    let count = number(count)?;
+    let request = if verb == b"read".as_slice() {
+        Request::Read { part, start, count }
+    } else if verb == b"erase".as_slice() {
+        Request::Erase { part, start, count }
+    } else if verb == b"trim".as_slice() {
+        Request::Trim { part, start, count }
+    } else {
+        return None;
+    };
+    Some(ScriptEvent::Submit { client, request })
+}
+
+// The submission of a write.
+#[tactic(auto, unfolding(crate::specs::Lines::event_of))]
+fn write(
+    alloc: Global,
+    client_text: &[u8],
+    verb: &[u8],
+    part_text: &[u8],
+    start: &[u8],
+    count: &[u8],
+    bytes: &[u8],
+) -> Result<Option<ScriptEvent>, AllocError>
+    ensures { IfOk result (λ e. e ≡ event_of (client_text.now ∷ verb.now ∷ part_text.now ∷ start.now ∷ count.now ∷ bytes.now ∷ [])) }
+{
+    if verb != b"write".as_slice() {
+        return Ok(None);
+    }
+    let (Some(client), Some(part), Some(start), Some(count)) = (
+        client(client_text),
+        part(part_text),
+        number(start),
+        number(count),
+    ) else {
+        return Ok(None);
+    };
+    let Some(bytes) = data(alloc, bytes)? else {
+        return Ok(None);
+    };
+    Ok(Some(ScriptEvent::Submit {
+        client,
+        request: Request::Write {
+            part,
+            start,
+            count,
+            bytes,
+        },
+    }))
+}
+
+/// What a line says, and nothing where it is not of the grammar.
+pub fn event(alloc: Global, line: &[u8]) -> Result<Option<ScriptEvent>, AllocError>
+    ensures { IfOk result (λ e. e ≡ event_of (parts 32 line.now)) }
+{
+    match split_fields(line) {
+        Words::One(word) => Ok(simple(word)),
+        Words::Two(word, ticket) => Ok(cancellation(word, ticket)),
+        Words::Five(client, verb, part, start, count) => Ok(submission(
+            client, verb, part, start, count,
+        )),
+        Words::Six(client, verb, part, start, count, bytes) => write(
+            alloc, client, verb, part, start, count, bytes,
+        ),
+        Words::Other => Ok(None),
+    }
+}
