@@ -2,7 +2,7 @@
 use Rattle.std.proofs.Common.{◌≡◌, ◌++◌, ◌∷◌, ℕ, Bool, List, [], cond, false, refl, subst, sym, true}
 use Rattle.std.specs.Prelude.{◌==◌}
 use Rattle.std.proofs.lemmas.Bool.{eqb-true}
-use Rattle.mmc_block.specs.Run.{Event as MachineEvent, Follow, Reply}
+use Rattle.mmc_block.specs.Execution.{Event as MachineEvent, Follow, Reply}
 use Rattle.card_text.specs.declared.event.ScriptEvent.{ScriptEvent}
 use Rattle.card_text.specs.declared.event.ScriptEvent.TheVariants.{Cancel, Run, Submit, Turn}
 use Rattle.cardtool.specs.Serving.{IsNext, Standing, due_events, events_behind, standing_of}

@@ -44,6 +44,6 @@ module _ (spec : CardSpec) (plan : List PlannedFault) (script : List ScriptEvent
       → (s : IsServedOnSpec spec plan script trace old new (Ok status))
       → failures (answers s.1.served.replies) ≡ 0
   few_fail_none status profile few s =
-      let each = (s.1.served.run true (λ is. in_profile profile s.1)).four_each refl in
+      let each = (s.1.served.execution true (λ is. in_profile profile s.1)).four_each refl in
       let most = s.1.few in
       omega (arith, each, most, few)

@@ -15,17 +15,17 @@ use Rattle.mmc_queue.specs.declared.request.Request.{Request}
 use Rattle.mmc_block.specs.Answers.{any_failed}
 use Rattle.mmc_block.specs.Device.{Comes, DeviceView, Queues, Withdraws, unanswered_of}
 use Rattle.mmc_block.specs.Machine.{Waiting}
-use Rattle.mmc_block.specs.Run.{Counted, CountedRuns, CountedSteps, Event as MachineEvent, Follow, Reply}
+use Rattle.mmc_block.specs.Execution.{Counted, IsCountedExecution, CountedSteps, Event as MachineEvent, Follow, Reply}
 use Rattle.mmc_block.specs.Any.{cancelled_reply}
-use Rattle.mmc_block.specs.Run.Event.{Cancel as MachineCancel, Submit as MachineSubmit, Turn as MachineTurn}
-use Rattle.mmc_block.specs.Run.Reply.{Accepted, Answers, GivenBack, InService, RefusedFor, Unknown}
+use Rattle.mmc_block.specs.Execution.Event.{Cancel as MachineCancel, Submit as MachineSubmit, Turn as MachineTurn}
+use Rattle.mmc_block.specs.Execution.Reply.{Accepted, Answers, GivenBack, InService, RefusedFor, Unknown}
 use Rattle.mmc_block.specs.declared.cancel.CancelFault.{CancelFault}
 use Rattle.mmc_block.specs.declared.cancel.CancelFault.TheVariants as fault
-use Rattle.mmc_block.proofs.RunLemmas.{follow_then}
+use Rattle.mmc_block.proofs.ExecutionLemmas.{follow_then}
 use Rattle.card_text.specs.declared.event.ScriptEvent.{ScriptEvent}
 use Rattle.card_text.specs.declared.event.ScriptEvent.TheVariants.{Submit, Cancel, Turn, Run}
 use Rattle.card_text.specs.Output.{cancelled_text, completions_text, queued_text, refused_text, uncancelled_text}
-use Rattle.cardtool.specs.Serving.{IsNext, RunsScript, ServesPrefix, ServesScript, ServesUpTo, Standing, TurnsAndPrints}
+use Rattle.cardtool.specs.Serving.{IsNext, ServesEvents, ServesPrefix, ServesScript, ServesUpTo, Standing, TurnsAndPrints}
 use Rattle.cardtool.specs.Serving.{answer_if_printed, any_bad, due_events, events_behind, is_bad, machine_event}
 use Rattle.cardtool.specs.Serving.{pending_after, standing_of, text_of, texts}
 
@@ -142,9 +142,9 @@ bad_then (r ∷ rs) ss = ap (λ b. is_bad r || b) (bad_then rs ss) ∙ or_more (
 -- machines with own faults, from one device to the next
 comes_then : {B : Type 0} (view : B → BusView) (i : Info) (start mid now : DeviceView B)
     (es : List MachineEvent) (rs : List Reply) (us : List MachineEvent) (vs : List Reply)
-    → Comes view start (λ (c n : Counted). CountedRuns i c es rs n) mid
-    → Comes view mid (λ (c n : Counted). CountedRuns i c us vs n) now
-    → Comes view start (λ (c n : Counted). CountedRuns i c (es ++ us) (rs ++ vs) n) now
+    → Comes view start (λ (c n : Counted). IsCountedExecution i c es rs n) mid
+    → Comes view mid (λ (c n : Counted). IsCountedExecution i c us vs n) now
+    → Comes view start (λ (c n : Counted). IsCountedExecution i c (es ++ us) (rs ++ vs) n) now
 comes_then view i start mid now es rs us vs first second = λ c agrees.
     let f = first c agrees in
     let (k, run, agrees_between) = f.1 in
@@ -154,17 +154,17 @@ comes_then view i start mid now es rs us vs first second = λ c agrees.
       (n, follow_then (CountedSteps i) c es rs k us vs n run more, agrees_then),
     )
 
-runs_then : {B : Type 0} (view : B → BusView) (start mid now : DeviceView B) (script fs left rest : List ScriptEvent)
+served_then : {B : Type 0} (view : B → BusView) (start mid now : DeviceView B) (script fs left rest : List ScriptEvent)
     (es : List MachineEvent) (rs : List Reply) (us : List MachineEvent) (vs : List Reply) → mid.info ≡ start.info
-    → RunsScript view start mid script (fs ++ left) es rs → RunsScript view mid now fs rest us vs
-    → RunsScript view start now script (rest ++ left) (es ++ us) (rs ++ vs)
-runs_then view start mid now script fs left rest es rs us vs same first second = record {
+    → ServesEvents view start mid script (fs ++ left) es rs → ServesEvents view mid now fs rest us vs
+    → ServesEvents view start now script (rest ++ left) (es ++ us) (rs ++ vs)
+served_then view start mid now script fs left rest es rs us vs same first second = record {
   of_script = follow_then IsNext (standing_of (unanswered_of start) script) es rs
       (standing_of (unanswered_of mid) (fs ++ left)) us vs
       (standing_of (unanswered_of now) (rest ++ left)) first.of_script
       (script_goes_on (unanswered_of mid) fs us vs (unanswered_of now) rest left second.of_script);
-  runs = comes_then view start.info start mid now es rs us vs first.runs
-      (subst (λ i. Comes view mid (λ (c n : Counted). CountedRuns i c us vs n) now) same second.runs);
+  executed = comes_then view start.info start mid now es rs us vs first.executed
+      (subst (λ i. Comes view mid (λ (c n : Counted). IsCountedExecution i c us vs n) now) same second.executed);
 }
 
 pub serves_none : {B : Type 0} (view : B → BusView) (d : DeviceView B) (script : List ScriptEvent)
@@ -174,7 +174,7 @@ unfolding texts any_bad
 serves_none view d script old = record {
   events = [];
   replies = [];
-  run = record { of_script = refl; runs = λ c agrees. (stays_same (view d.bus) (view d.bus).lines, (c, refl, agrees)) };
+  execution = record { of_script = refl; executed = λ c agrees. (stays_same (view d.bus) (view d.bus).lines, (c, refl, agrees)) };
   printed = appends_none old;
   bad_is = refl;
 }
@@ -187,11 +187,11 @@ pub serves_then : {B : Type 0} (view : B → BusView) (start mid now : DeviceVie
     → ServesUpTo view start now script (rest ++ left) old new (y || x)
 serves_then view start mid now script fs left rest old between new x y same f s =
     let text_is = texts_then IsNext (standing_of (unanswered_of start) script) f.events f.replies
-    (standing_of (unanswered_of mid) (fs ++ left)) s.events s.replies f.run.of_script in
+    (standing_of (unanswered_of mid) (fs ++ left)) s.events s.replies f.execution.of_script in
     record {
       events = f.events ++ s.events;
       replies = f.replies ++ s.replies;
-      run = runs_then view start mid now script fs left rest f.events f.replies s.events s.replies same f.run s.run;
+      execution = served_then view start mid now script fs left rest f.events f.replies s.events s.replies same f.execution s.execution;
       printed = subst (Appends old new) (sym text_is)
           (appends_more old between new (texts f.events f.replies) (texts s.events s.replies) f.printed s.printed);
       bad_is = or_swap y x ∙ ap (λ b. b || y) f.bad_is ∙ ap (λ b. any_bad f.replies || b) s.bad_is
@@ -205,12 +205,12 @@ pub breaks_then : {B : Type 0} (view : B → BusView) (start mid now : DeviceVie
     → ServesPrefix view start now script old new
 breaks_then view start mid now script fs left old between new x same f s =
     let text_is = texts_then IsNext (standing_of (unanswered_of start) script) f.events f.replies
-    (standing_of (unanswered_of mid) (fs ++ left)) s.events s.replies f.run.of_script in
+    (standing_of (unanswered_of mid) (fs ++ left)) s.events s.replies f.execution.of_script in
     record {
       events = f.events ++ s.events;
       replies = f.replies ++ s.replies;
       left = s.left ++ left;
-      run = runs_then view start mid now script fs left s.left f.events f.replies s.events s.replies same f.run s.run;
+      execution = served_then view start mid now script fs left s.left f.events f.replies s.events s.replies same f.execution s.execution;
       printed = subst (AppendsFront old new) (sym text_is)
           (front_after old between new (texts f.events f.replies) (texts s.events s.replies) f.printed s.printed);
     }
@@ -231,10 +231,10 @@ record IsStepOfScript {B : Type 0} (view : B → BusView) (old : DeviceView B) (
   is_due : due_events (unanswered_of old) (e ∷ []) ≡ e ∷ []
   count : unanswered_of new ≡ pending_after (unanswered_of old) r
 
-run_one : {B : Type 0} (view : B → BusView) (old new : DeviceView B) (e : ScriptEvent) (r : Reply)
+executed_one : {B : Type 0} (view : B → BusView) (old new : DeviceView B) (e : ScriptEvent) (r : Reply)
     → IsStepOfScript view old e r new
-    → RunsScript view old new (e ∷ []) (events_behind e []) (machine_event e ∷ []) (r ∷ [])
-run_one view old new e r h = record {
+    → ServesEvents view old new (e ∷ []) (events_behind e []) (machine_event e ∷ []) (r ∷ [])
+executed_one view old new e r h = record {
   of_script = (
     standing_of (unanswered_of new) (events_behind e []),
     record {
@@ -246,7 +246,7 @@ run_one view old new e r h = record {
     },
     refl,
   );
-  runs = λ c agrees.
+  executed = λ c agrees.
       let s = h.steps c agrees in let (n, step, agrees_then) = s.1 in (s.0, (n, (n, step, refl), agrees_then));
 }
 
@@ -258,7 +258,7 @@ unfolding texts any_bad
 serves_one view start now e r old new step wrote = record {
   events = machine_event e ∷ [];
   replies = r ∷ [];
-  run = run_one view start now e r step;
+  execution = executed_one view start now e r step;
   printed = subst (Appends old new) (sym (append-nil (text_of (machine_event e) r))) wrote;
   bad_is = or_swap false (is_bad r);
 }
@@ -271,7 +271,7 @@ breaks_one view start now e r old new step wrote = record {
   events = machine_event e ∷ [];
   replies = r ∷ [];
   left = events_behind e [];
-  run = run_one view start now e r step;
+  execution = executed_one view start now e r step;
   printed = subst (AppendsFront old new) (sym (append-nil (text_of (machine_event e) r))) wrote;
 }
 
@@ -345,7 +345,7 @@ unfolding texts any_bad
 run_idle view d old none = record {
   events = [];
   replies = [];
-  run = record { of_script = run_over (unanswered_of d) none; runs = λ c agrees. (stays_same (view d.bus) (view d.bus).lines, (c, refl, agrees)) };
+  execution = record { of_script = run_over (unanswered_of d) none; executed = λ c agrees. (stays_same (view d.bus) (view d.bus).lines, (c, refl, agrees)) };
   printed = appends_none old;
   bad_is = refl;
 }

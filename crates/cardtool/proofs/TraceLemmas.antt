@@ -36,7 +36,7 @@ with_trace made before later fell script n exchanges start old new status (Ok x)
       of_card = s.of_card;
       events = s.events;
       replies = s.replies;
-      run = s.run;
+      execution = s.execution;
       text_behind = trace_text exchanges;
       traced = record { exchanges = exchanges; few = few; framed = framed; text_is = refl };
       printed = appends_more start old new text (trace_text exchanges)
@@ -51,7 +51,7 @@ with_trace made before later fell script n exchanges start old new status (Err e
       events = s.events;
       replies = s.replies;
       left = [];
-      run = s.run;
+      execution = s.execution;
       text_behind = trace_text exchanges;
       traced = record { exchanges = exchanges; few = few; framed = framed; text_is = refl };
       printed = front_after start old new text (trace_text exchanges)
@@ -97,7 +97,7 @@ fault_with_trace made before later fell script n old new Write s =
       events = s.events;
       replies = s.replies;
       left = s.left;
-      run = s.run;
+      execution = s.execution;
       text_behind = front.text_behind;
       traced = front.traced;
       printed = front.printed;

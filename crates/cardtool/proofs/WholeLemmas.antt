@@ -26,7 +26,7 @@ use Rattle.mmc_block.specs.Answers.{failures}
 use Rattle.mmc_block.specs.Device.{Agrees, AgreesCounted, DeviceView, IsOpened, opened, unanswered_of}
 use Rattle.mmc_block.specs.InOrder.{AreDecided, EndsInOrder, IsInOrder, MayHold, answers, history}
 use Rattle.mmc_block.specs.Machine.{Machine, Waiting, all_failed}
-use Rattle.mmc_block.specs.Run.{Counted, CountedRuns, Event as MachineEvent, Follow, Reply, Runs, unanswered}
+use Rattle.mmc_block.specs.Execution.{Counted, IsCountedExecution, Event as MachineEvent, Follow, Reply, IsExecution, unanswered}
 use Rattle.mmc_block.specs.Service.{in_service_of}
 use Rattle.mmc_block.specs.declared.open_fault.OpenFault.{OpenFault}
 use Rattle.mmc_block.specs.declared.open_fault.OpenFault.TheVariants as Unopened
@@ -35,38 +35,38 @@ use Rattle.cardtool.specs.declared.fault.ServeFault.{ServeFault}
 use Rattle.cardtool.specs.declared.fault.ServeFault.TheVariants.{Locked, NoCard, NoMemory}
 use Rattle.cardtool.specs.declared.fault.ServeFault.TheVariants.{Unsupported, Voltage, Write}
 use Rattle.card_text.specs.declared.event.ScriptEvent.TheVariants.{Run}
-use Rattle.cardtool.specs.Serving.{IsLaterDevice, IsNext, RunsScript, ServesScript, Standing, due_events}
+use Rattle.cardtool.specs.Serving.{IsLaterDevice, IsNext, ServesEvents, ServesScript, Standing, due_events}
 use Rattle.cardtool.specs.Serving.{standing_of, texts}
 use Rattle.card_text.specs.Planning.{PlannedFault}
 use Rattle.cardtool.specs.Whole.{IsNew, IsServed, IsServedOnNewCard, IsServedOnSpec, IsUnopened, IsUnwritten, IsWhyUnbuilt}
-use Rattle.cardtool.specs.Whole.{RunsInAnyProfile, building_fault, opened_after}
+use Rattle.cardtool.specs.Whole.{ExecutedInAnyProfile, building_fault, opened_after}
 use Rattle.cardtool.specs.Whole.{opening_fault, outcome_of, status_of}
 use Rattle.cardtool.proofs.EndLemmas.{ends_answered}
 
--- What the laws of the sector machine say of every run.
+-- What the laws of the sector machine say of every execution.
 
 abbrev pub CountedLaw : Type 0
 CountedLaw =
     (info : Info) (old : Counted) (events : List MachineEvent) (replies : List Reply) (new : Counted)
-    → CountedRuns info old events replies new → Runs info old.machine events replies new.machine
+    → IsCountedExecution info old events replies new → IsExecution info old.machine events replies new.machine
 
 abbrev pub FaultLaw : Type 0
 FaultLaw =
     (info : Info) (old : Counted) (events : List MachineEvent) (replies : List Reply) (new : Counted)
     → old.in_profile ≡ true → old.machine.waits ≡ [] → old.machine.in_service ≡ []
-    → CountedRuns info old events replies new → old.faults + 4 * failures (answers replies) ≤ new.faults
+    → IsCountedExecution info old events replies new → old.faults + 4 * failures (answers replies) ≤ new.faults
 
 abbrev pub OrderLaw : Type 0
 OrderLaw =
     (info : Info) (old : Machine) (events : List MachineEvent) (replies : List Reply) (new : Machine)
     → AreDecided old.sets → old.waits ≡ [] → old.in_service ≡ []
-    → Runs info old events replies new → IsInOrder (history info old.sets events replies)
+    → IsExecution info old events replies new → IsInOrder (history info old.sets events replies)
 
 abbrev pub EndLaw : Type 0
 EndLaw =
     (info : Info) (old : Machine) (events : List MachineEvent) (replies : List Reply) (new : Machine) (sets : Sets)
     (contents : Part → ℕ → Sector)
-    → AreDecided old.sets → old.waits ≡ [] → old.in_service ≡ [] → Runs info old events replies new
+    → AreDecided old.sets → old.waits ≡ [] → old.in_service ≡ [] → IsExecution info old events replies new
     → Within sets new.sets
     → MayHold sets contents
     → EndsInOrder (history info old.sets events replies) sets new.next contents
@@ -110,23 +110,23 @@ none_to_change info later m idle within = subst (λ ws. Within later (all_failed
 module _ {B : Type 0} (view : B → BusView) (start now : DeviceView B) (made : Made) (before later : Sets)
     (fell : ℕ) (laws : Laws) (decided : AreDecided before) (device : Served view start now made before later fell)
     (script : List ScriptEvent) where
-  -- a run from the machine that holds what the card held, over the sectors that the device has then
-  run_over_sectors : (left : List ScriptEvent) (events : List MachineEvent) (replies : List Reply)
-      → RunsScript view start now (script ++ Run ∷ []) left events replies
-      → RunsInAnyProfile made start.info before later fell (script ++ Run ∷ []) (due_events (unanswered_of now) left)
+  -- an execution from the machine that holds what the card held, over the sectors that the device has then
+  executed_over_sectors : (left : List ScriptEvent) (events : List MachineEvent) (replies : List Reply)
+      → ServesEvents view start now (script ++ Run ∷ []) left events replies
+      → ExecutedInAnyProfile made start.info before later fell (script ++ Run ∷ []) (due_events (unanswered_of now) left)
       events replies
-  run_over_sectors left events replies run = λ in_profile profile.
+  executed_over_sectors left events replies served = λ in_profile profile.
       let earlier = (view start.bus).faults in
       let first = opened_after earlier in_profile before in
       let left_now = due_events (unanswered_of now) left in
-      let (last, runs, agrees) = (run.runs first (device.agrees in_profile profile)).1 in
-      let plain = laws.counted start.info first events replies last runs in
+      let (last, executed, agrees) = (served.executed first (device.agrees in_profile profile)).1 in
+      let plain = laws.counted start.info first events replies last executed in
       let count = unanswered_is view now last.machine agrees.agrees in
       let fewer : last.faults ≤ earlier + fell = subst (λ k. k ≤ earlier + fell) (sym agrees.faults) device.faults in
       let follows : Follow IsNext (standing_of 0 (script ++ Run ∷ [])) events replies
       (standing_of (unanswered_of now) left) =
       subst (λ k. Follow IsNext (standing_of k (script ++ Run ∷ [])) events replies
-      (standing_of (unanswered_of now) left)) device.idle run.of_script in
+      (standing_of (unanswered_of now) left)) device.idle served.of_script in
       let within : Within later (all_failed start.info last.machine.in_service last.machine.sets) =
       subst (λ i. Within later (all_failed i last.machine.in_service last.machine.sets)) device.info
       (subst (λ ws. Within later (all_failed now.info ws last.machine.sets)) (sym agrees.agrees.in_service)
@@ -134,7 +134,7 @@ module _ {B : Type 0} (view : B → BusView) (start now : DeviceView B) (made : 
       record {
         last = last;
         earlier = earlier;
-        runs = runs;
+        executed = executed;
         fewer = fewer;
         of_script = subst (λ k. Follow IsNext (standing_of 0 (script ++ Run ∷ [])) events replies
             (let s : Standing = record { pending = k; left = left_now } in s)) (sym count) follows;
@@ -147,7 +147,7 @@ module _ {B : Type 0} (view : B → BusView) (start now : DeviceView B) (made : 
             laws.ends start.info (opened before) events replies last.machine later contents decided refl refl plain
             (none_to_change start.info later last.machine idle within) may_hold;
         four_each = λ profile.
-            let all = laws.faults start.info first events replies last profile refl refl runs in
+            let all = laws.faults start.info first events replies last profile refl refl executed in
             omega (arith, all, fewer);
       }
 
@@ -159,7 +159,7 @@ module _ {B : Type 0} (view : B → BusView) (start now : DeviceView B) (made : 
     of_card = device.of_card;
     events = served.events;
     replies = served.replies;
-    run = run_over_sectors [] served.events served.replies served.run;
+    execution = executed_over_sectors [] served.events served.replies served.execution;
     text_behind = [];
     traced = refl;
     printed = subst (Appends old new) (sym (append-nil (texts served.events served.replies))) served.printed;
@@ -171,7 +171,7 @@ module _ {B : Type 0} (view : B → BusView) (start now : DeviceView B) (made : 
     events = served.events;
     replies = served.replies;
     left = due_events (unanswered_of now) served.left;
-    run = run_over_sectors served.left served.events served.replies served.run;
+    execution = executed_over_sectors served.left served.events served.replies served.execution;
     text_behind = [];
     traced = refl;
     printed = front_before old new (texts served.events served.replies) [] served.printed;
@@ -181,8 +181,8 @@ module _ {B : Type 0} (view : B → BusView) (start now : DeviceView B) (made : 
 script_stays : {B E : Type 0} (view : B → BusView) (start now : DeviceView B) (script : List ScriptEvent)
     (old new : Option (List ℕ)) (r : Result Bool E) (c : Counted) → AgreesCounted view start c
     → ServesScript view start now script old new r → Stays (view start.bus) (view now.bus)
-script_stays view start now script old new (Ok bad) c agrees served = (served.run.runs c agrees).0
-script_stays view start now script old new (Err e) c agrees served = (served.run.runs c agrees).0
+script_stays view start now script old new (Ok bad) c agrees served = (served.execution.executed c agrees).0
+script_stays view start now script old new (Err e) c agrees served = (served.execution.executed c agrees).0
 
 -- a device that was just opened, and the machine that may hold no less than its card
 agrees_wider : {B : Type 0} (view : B → BusView) (device : DeviceView B) (faults : ℕ) (in_profile : Bool) (sets : Sets)

@@ -8,9 +8,9 @@ use Rattle.mmc_block.specs.declared.completion.Completion.{Completion}
 use Rattle.mmc_block.specs.Answers.{any_failed}
 use Rattle.mmc_block.specs.Device.{Comes, DeviceView, unanswered_of}
 use Rattle.mmc_block.specs.InOrder.{answers_in}
-use Rattle.mmc_block.specs.Run.{Counted, CountedRuns, CountedSteps, Event as MachineEvent, Follow, Reply}
-use Rattle.mmc_block.specs.Run.Event.{Cancel as MachineCancel, Submit as MachineSubmit, Turn as MachineTurn}
-use Rattle.mmc_block.specs.Run.Reply.{Accepted, Answers, GivenBack, InService, RefusedFor, Unknown}
+use Rattle.mmc_block.specs.Execution.{Counted, IsCountedExecution, CountedSteps, Event as MachineEvent, Follow, Reply}
+use Rattle.mmc_block.specs.Execution.Event.{Cancel as MachineCancel, Submit as MachineSubmit, Turn as MachineTurn}
+use Rattle.mmc_block.specs.Execution.Reply.{Accepted, Answers, GivenBack, InService, RefusedFor, Unknown}
 use Rattle.mmc_block.specs.declared.cancel.CancelFault.TheVariants as fault
 use Rattle.card_text.specs.declared.event.ScriptEvent.{ScriptEvent}
 use Rattle.card_text.specs.declared.event.ScriptEvent.TheVariants.{Submit, Cancel, Turn, Run}
@@ -104,13 +104,13 @@ pub record IsLaterDevice {B : Type 0} (view : B → BusView) (old new : DeviceVi
   pub info : new.info ≡ old.info
   pub kept : (view new.bus).is_kept ≡ true → (view old.bus).is_kept ≡ true
 
--- Events with their replies from one device to another: they are the script's up to what is left, and a run of the machine
--- with own faults.
-pub record RunsScript {B : Type 0} (view : B → BusView) (old new : DeviceView B) (script left : List ScriptEvent)
+-- Events with their replies from one device to another: they are the script's up to what is left, and an execution of the
+-- machine with own faults.
+pub record ServesEvents {B : Type 0} (view : B → BusView) (old new : DeviceView B) (script left : List ScriptEvent)
     (events : List MachineEvent) (replies : List Reply) : Type 0 where
   pub of_script : Follow IsNext (standing_of (unanswered_of old) script) events replies
       (standing_of (unanswered_of new) left)
-  pub runs : Comes view old (λ (c n : Counted). CountedRuns old.info c events replies n) new
+  pub executed : Comes view old (λ (c n : Counted). IsCountedExecution old.info c events replies n) new
 
 -- The script was served up to what is left. Its lines went out, and `bad` says whether some request was refused or failed.
 pub record ServesUpTo {B : Type 0} (view : B → BusView) (old_device new_device : DeviceView B)
@@ -118,7 +118,7 @@ pub record ServesUpTo {B : Type 0} (view : B → BusView) (old_device new_device
     (old new : Option (List ℕ)) (bad : Bool) : Type 0 where
   pub events : List MachineEvent
   pub replies : List Reply
-  pub run : RunsScript view old_device new_device script left events replies
+  pub execution : ServesEvents view old_device new_device script left events replies
   pub printed : Appends old new (texts events replies)
   pub bad_is : bad ≡ any_bad replies
 
@@ -130,7 +130,7 @@ pub record ServesPrefix {B : Type 0} (view : B → BusView) (old_device new_devi
   pub replies : List Reply
   -- what of the script wasn't served
   pub left : List ScriptEvent
-  pub run : RunsScript view old_device new_device script left events replies
+  pub execution : ServesEvents view old_device new_device script left events replies
   pub printed : AppendsFront old new (texts events replies)
 
 -- the whole script was served and its lines went out, or the writer failed

@@ -31,7 +31,7 @@ use Rattle.mmc_block.specs.InOrder.{AreDecided, EndsInOrder, IsInOrder, MayHold,
 use Rattle.mmc_block.specs.Machine.{all_failed}
 use Rattle.mmc_block.specs.declared.open_fault.OpenFault.{OpenFault}
 use Rattle.mmc_block.specs.declared.open_fault.OpenFault.TheVariants as Unopened
-use Rattle.mmc_block.specs.Run.{Counted, CountedRuns, Event as MachineEvent, Reply, unanswered}
+use Rattle.mmc_block.specs.Execution.{Counted, IsCountedExecution, Event as MachineEvent, Reply, unanswered}
 use Rattle.card_text.specs.declared.event.ScriptEvent.{ScriptEvent}
 use Rattle.card_text.specs.declared.event.ScriptEvent.TheVariants.{Run}
 use Rattle.cardtool.specs.declared.fault.ServeFault.{ServeFault}
@@ -106,16 +106,16 @@ opened_after faults in_profile sets = record {
   own_faults = λ ticket. 0;
 }
 
--- A run by these events and replies, which are the script's up to what is left, over sectors that held `before` and
+-- An execution by these events and replies, which are the script's up to what is left, over sectors that held `before` and
 -- then `later`, while so many faults fell.
-pub record RunOverSectors (info : Info) (in_profile : Bool) (before later : Sets) (fell : ℕ)
+pub record ExecutionOverSectors (info : Info) (in_profile : Bool) (before later : Sets) (fell : ℕ)
     (script left : List ScriptEvent)
     (events : List MachineEvent) (replies : List Reply) : Type 0 where
   pub last : Counted
   -- the faults before the first event
   pub earlier : ℕ
-  -- a run of the machine that is opened on the first sectors, in which no more faults fell
-  pub runs : CountedRuns info (opened_after earlier in_profile before) events replies last
+  -- an execution of the machine that is opened on the first sectors, in which no more faults fell
+  pub executed : IsCountedExecution info (opened_after earlier in_profile before) events replies last
   pub fewer : last.faults ≤ earlier + fell
   pub of_script : FollowScript script events replies (record { pending = unanswered last.machine; left = left })
   -- it allows what the sectors hold then; of one in service each is old or new
@@ -130,11 +130,11 @@ pub record RunOverSectors (info : Info) (in_profile : Bool) (before later : Sets
   pub four_each : in_profile ≡ true → 4 * failures (answers replies) ≤ fell
 
 -- So for a card that is taken to be in profile, where it is, and for one of which that isn't said.
-abbrev pub RunsInAnyProfile : Made → Info → Sets → Sets → ℕ → List ScriptEvent → List ScriptEvent → List MachineEvent
+abbrev pub ExecutedInAnyProfile : Made → Info → Sets → Sets → ℕ → List ScriptEvent → List ScriptEvent → List MachineEvent
     → List Reply → Type 0
-RunsInAnyProfile made info before later fell script left events replies =
+ExecutedInAnyProfile made info before later fell script left events replies =
     (in_profile : Bool) → (in_profile ≡ true → InProfile made)
-    → RunOverSectors info in_profile before later fell script left events replies
+    → ExecutionOverSectors info in_profile before later fell script left events replies
 
 -- The script was served and its text went out, with the trace behind it, and the status tells how its requests fared.
 pub record IsServedToItsEnd (made : Made) (before later : Sets) (fell : ℕ) (script : List ScriptEvent)
@@ -144,7 +144,7 @@ pub record IsServedToItsEnd (made : Made) (before later : Sets) (fell : ℕ) (sc
   pub of_card : IsInfo made info
   pub events : List MachineEvent
   pub replies : List Reply
-  pub run : RunsInAnyProfile made info before later fell script [] events replies
+  pub execution : ExecutedInAnyProfile made info before later fell script [] events replies
   -- what was printed behind the answers
   pub text_behind : List ℕ
   pub traced : IsTraceBehind trace [] text_behind
@@ -160,7 +160,7 @@ pub record IsServedInPart (made : Made) (before later : Sets) (fell : ℕ) (scri
   pub replies : List Reply
   -- what of the script wasn't served
   pub left : List ScriptEvent
-  pub run : RunsInAnyProfile made info before later fell script left events replies
+  pub execution : ExecutedInAnyProfile made info before later fell script left events replies
   -- what is printed behind the answers
   pub text_behind : List ℕ
   pub traced : IsTraceBehind trace left text_behind

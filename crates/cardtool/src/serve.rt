@@ -13,7 +13,7 @@ use crate::play::play;
 use crate::trace::{end_with_trace, traced};
 use card_text::script::Script;
 use mmc_block::laws::{
-    a_card_at_rest_is_decided, a_counted_run_is_a_run, a_failure_takes_four_faults,
+    a_card_at_rest_is_decided, a_counted_execution_is_an_execution, a_failure_takes_four_faults,
     answers_are_in_order, contents_are_in_order,
 };
 use mmc_block::{BlockDev, OpenFault};
@@ -61,7 +61,7 @@ fn serve_untraced<B: Bus + Drop, W: Write>(
     ensures served { IsServedOver (B.view bus) (B.view result.0) script None (W.contents out.old) (W.contents out.new) result.1 }
     ensures unwritten { IfErr result.1 (λ fault. IsUnwritten (W.contents out.old) (W.contents out.new) fault) }
 {
-    a_counted_run_is_a_run();
+    a_counted_execution_is_an_execution();
     a_failure_takes_four_faults();
     answers_are_in_order();
     contents_are_in_order();

@@ -22,8 +22,8 @@ use Rattle.mmc_block.specs.declared.completion.Completion.{Completion}
 use Rattle.mmc_block.specs.declared.service.Attempt.{Attempt}
 use Rattle.mmc_block.specs.declared.service.Link.{Link}
 use Rattle.mmc_block.specs.declared.service.Link.TheVariants.{Down, Up}
-use Rattle.mmc_block.specs.declared.service.Outcome.{Outcome}
-use Rattle.mmc_block.specs.declared.service.Outcome.TheVariants.{Done, Failed, More}
+use Rattle.mmc_switch.specs.declared.progress.Progress.{Progress}
+use Rattle.mmc_switch.specs.declared.progress.Progress.TheVariants.{Done, Failed, More}
 use Rattle.mmc_block.specs.declared.service.Service.{Service}
 use Rattle.mmc_block.specs.declared.service.Service.TheVariants.{Idle, Serving, Taken}
 use Rattle.mmc_block.specs.declared.service.Stage.{Stage}
@@ -79,7 +79,7 @@ fails_leaves broken (e ∷ f ∷ es) others service cs waits all pass a =
     rw (next_serves (Down broken) (e ∷ f ∷ es) service a.0, a.1)
     (record { answered = []; served = all_served e f es others all; named = refl; passes_none = tt })
 
-pub concluded_leaves : (info : Info) (o : Outcome) (attempt : Attempt) (service : Service) (cs : List Completion)
+pub concluded_leaves : (info : Info) (o : Progress Stage) (attempt : Attempt) (service : Service) (cs : List Completion)
     (waits : List Waiting) → AttemptOk info attempt
     → PassNone (waits_of attempt.group.members.items ++ waits_of attempt.others.items) waits
     → Concludes o attempt service cs
@@ -108,7 +108,7 @@ start_of_waits old left (Idle link) new (inl s) = inl (rw (s.0, s.1, s.2) (refl,
 start_of_waits old left (Idle link) new (inr s) =
     let attempt : Attempt = s.0 in
     let members : List Entry = attempt.group.members.items in
-    let fair : IsFair old members attempt.group.run left = s.3 in
+    let fair : IsFair old members attempt.group.extent left = s.3 in
     let merged = merged_waits fair.later fair.others left fair.parts in
     let all : waits_of members ++ waits_of attempt.others.items ≡ waiting_of fair.oldest ∷ waits_of fair.others =
     rw s.2.others_are (append-nil (waits_of members)) ∙ ap waits_of fair.members_are in
@@ -197,7 +197,7 @@ pub none_waits : (old left : List Entry) (service : Service) (stage : Stage) (at
     → length (waits_of old) + length (in_service_of service) ≡ 0 → ⊥
 none_waits old left (Idle link) stage attempt (inl s) some none = let e = s.2 in cc
 none_waits old left (Idle link) stage attempt (inr s) some none =
-    let fair : IsFair old s.0.group.members.items s.0.group.run left = s.3 in
+    let fair : IsFair old s.0.group.members.items s.0.group.extent left = s.3 in
     let n : length (waits_of old) ≡ length (waits_of (fair.oldest ∷ fair.later)) =
     ap (λ (es : List Entry). length (waits_of es)) fair.waits_are in
     omega (arith, n, none)
@@ -237,7 +237,7 @@ fails_cause broken [] others service cs P a p = absurd a
 fails_cause broken (e ∷ []) others service cs P a p = rw a.1 (p, tt)
 fails_cause broken (e ∷ f ∷ es) others service cs P a p = rw a.1 tt
 
-concluded_cause : (down : Bool) (o : Outcome) (attempt : Attempt) (service : Service) (cs : List Completion)
+concluded_cause : (down : Bool) (o : Progress Stage) (attempt : Attempt) (service : Service) (cs : List Completion)
     (view : BusView) → Concludes o attempt service cs → IsCausedBy down o view
     → IfEachFailed cs (λ (cause : Cause). IsCauseAfter down cause view)
 concluded_cause down (More stage) attempt service cs view c p = rw c.1 tt
@@ -265,7 +265,7 @@ started_most old left (Serving st attempt') stage attempt s = ap most_exchanges 
 started_most old left Taken stage attempt s = absurd s
 
 pub cause_served : (old left : List Entry) (service new : Service) (stage : Stage) (attempt after : Attempt)
-    (o : Outcome) (cs : List Completion) (view : BusView) → HasStarted old service left (Serving stage attempt)
+    (o : Progress Stage) (cs : List Completion) (view : BusView) → HasStarted old service left (Serving stage attempt)
     → Concludes o after new cs → IsCausedBy (is_down stage) o view
     → IfEachFailed cs (λ (cause : Cause). IsCauseAfter (holds_broken service) cause view)
 cause_served old left service new stage attempt after o cs view s c p =

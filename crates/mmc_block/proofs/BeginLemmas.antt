@@ -4,7 +4,7 @@ use Rattle.mmc_card.specs.RowsErase.{is_boot}
 use Rattle.mmc_erase.specs.Job.{suits}
 use Rattle.mmc_erase.specs.declared.how.How.{How}
 use Rattle.mmc_erase.specs.declared.how.How.TheVariants as how
-use Rattle.mmc_queue.specs.Group.{FormRun, IsOneOf}
+use Rattle.mmc_queue.specs.Group.{FormExtent, IsOneOf}
 use Rattle.mmc_queue.specs.Requests.{count_of, is_read, kind_of, part_of, start_of}
 use Rattle.mmc_queue.specs.declared.entry.Entry.{Entry}
 use Rattle.mmc_queue.specs.declared.group.Group.{Group}
@@ -55,20 +55,20 @@ suited how.Trim info (Write part start count bytes) is may = cc
 suited how.Trim info (Erase part start count) is may = cc
 suited how.Trim info (Trim part start count) is may = may
 
-pub run_exists : (info : Info) (g : Group) → AreServable info g.members.items → FormRun g.members.items g.run
-    → IsSome (sectors_of info g.run.part)
+pub run_exists : (info : Info) (g : Group) → AreServable info g.members.items → FormExtent g.members.items g.extent
+    → IsSome (sectors_of info g.extent.part)
 run_exists info g servable run =
     let last = run.last.0 in
     subst (λ p. IsSome (sectors_of info p)) (run.alike last run.last.1).0
     (is_servable info g.members.items last run.last.1 servable).exists
 
 -- The session, whose partition is that of the group.
-module _ (session : Session) (g : Group) (selected : session.selected ≡ Some g.run.part)
-    (servable : AreServable session.info g.members.items) (run : FormRun g.members.items g.run) where
+module _ (session : Session) (g : Group) (selected : session.selected ≡ Some g.extent.part)
+    (servable : AreServable session.info g.members.items) (run : FormExtent g.members.items g.extent) where
   abbrev last : Entry
   last = run.last.0
 
-  alike : (part_of last.request ≡ g.run.part) × (kind_of last.request ≡ g.run.kind)
+  alike : (part_of last.request ≡ g.extent.part) × (kind_of last.request ≡ g.extent.kind)
   alike = run.alike last run.last.1
 
   its_part : selected_part session ≡ part_of last.request
@@ -80,7 +80,7 @@ module _ (session : Session) (g : Group) (selected : session.selected ≡ Some g
   may : IsServable session.info last.request last.buffer
   may = is_servable session.info g.members.items last run.last.1 servable
 
-  pub run_inside : g.run.start + (g.run.end - g.run.start) ≤ room_of session
+  pub run_inside : g.extent.start + (g.extent.end - g.extent.start) ≤ room_of session
   run_inside =
       let fits = may.in_range in
       let end = run.last.2 in
@@ -88,33 +88,33 @@ module _ (session : Session) (g : Group) (selected : session.selected ≡ Some g
       let room = its_room in
       omega (arith, fits, end, some, room)
 
-  pub run_writable : (g.run.kind ≡ kind.Read → ⊥) → session.info.read_only ≡ false
+  pub run_writable : (g.extent.kind ≡ kind.Read → ⊥) → session.info.read_only ≡ false
   run_writable other = may.writable (other_is_no_read last.request (λ read. other (sym alike.1 ∙ read)))
 
   -- one that is alone
-  module _ (how : How) (is : g.run.kind ≡ kind_of_how how) (one : length g.members.items ≡ 1) where
+  module _ (how : How) (is : g.extent.kind ≡ kind_of_how how) (one : length g.members.items ≡ 1) where
     suits_alone : IsSuited how session.info last.request
     suits_alone = suited how session.info last.request (alike.1 ∙ is) may.erasable
 
-    starts_there : start_of last.request ≡ g.run.start
+    starts_there : start_of last.request ≡ g.extent.start
     starts_there =
-        let x = (run.named g.run.start).0 (omega arith, run.some) in
+        let x = (run.named g.extent.start).0 (omega arith, run.some) in
         let same : x.0 ≡ last = only_one g.members.items x.0 last one x.1 run.last.1 in
         let from = x.2.from in
         let at : start_of x.0.request ≡ start_of last.request = ap (λ (e : Entry). start_of e.request) same in
         let low = (run.within last run.last.1).0 in
         omega (arith, from, at, low)
 
-    counts_all : count_of last.request ≡ g.run.end - g.run.start
+    counts_all : count_of last.request ≡ g.extent.end - g.extent.start
     counts_all = let end = run.last.2 in let at = starts_there in omega (arith, end, at)
 
     pub run_erasable : is_boot (selected_part session) ≡ false
     run_erasable = ap is_boot its_part ∙ suits_alone.0
 
-    pub run_suits : suits how session.info (room_of session) g.run.start (g.run.end - g.run.start) ≡ true
+    pub run_suits : suits how session.info (room_of session) g.extent.start (g.extent.end - g.extent.start) ≡ true
     run_suits =
-        ap (λ n. suits how session.info n g.run.start (g.run.end - g.run.start)) its_room
-        ∙ ap (λ n. suits how session.info (size_of session.info.sizes (part_of last.request)) n (g.run.end - g.run.start))
+        ap (λ n. suits how session.info n g.extent.start (g.extent.end - g.extent.start)) its_room
+        ∙ ap (λ n. suits how session.info (size_of session.info.sizes (part_of last.request)) n (g.extent.end - g.extent.start))
         (sym starts_there)
         ∙ ap (λ n. suits how session.info (size_of session.info.sizes (part_of last.request)) (start_of last.request) n)
         (sym counts_all)

@@ -14,9 +14,9 @@ use Rattle.mmc_block.specs.Device.{Comes, DeviceOk, DeviceView, Withdraws}
 use Rattle.mmc_block.specs.Entries.{AreServable, waiting_of, waits_of}
 use Rattle.mmc_block.specs.Groups.{AreInOrder, PassNone}
 use Rattle.mmc_block.specs.Machine.{IsTicketOf, PassesNone, Waiting}
-use Rattle.mmc_block.specs.Run.{Counted, CountedSteps}
-use Rattle.mmc_block.specs.Run.Event.{Cancel}
-use Rattle.mmc_block.specs.Run.Reply.{GivenBack, InService, Unknown}
+use Rattle.mmc_block.specs.Execution.{Counted, CountedSteps}
+use Rattle.mmc_block.specs.Execution.Event.{Cancel}
+use Rattle.mmc_block.specs.Execution.Reply.{GivenBack, InService, Unknown}
 use Rattle.mmc_block.specs.Service.{AreServed, ServiceOk, in_service_of}
 use Rattle.mmc_block.specs.declared.service.Service.{Service}
 use Rattle.mmc_block.specs.declared.service.Service.TheVariants.{Idle, Serving, Taken}

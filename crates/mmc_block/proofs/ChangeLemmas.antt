@@ -7,7 +7,7 @@ use Rattle.mmc_card.specs.declared.part.Part.{Part}
 use Rattle.mmc_card.specs.Sectors.{Change, Sector, part_number, pieces, touches, value_of}
 use Rattle.mmc_card.proofs.SectorLemmas.{by_touch, same_part, touched_by, untouched}
 use Rattle.mmc_bus.specs.BlockLaws.{length_pieces}
-use Rattle.mmc_queue.specs.Group.{FormRun, IsOneOf}
+use Rattle.mmc_queue.specs.Group.{FormExtent, IsOneOf}
 use Rattle.mmc_queue.specs.Lent.{write_blocks_of}
 use Rattle.mmc_queue.specs.Requests.{Names, bytes_of, count_of, is_read, kind_of, part_of, start_of}
 use Rattle.mmc_queue.specs.declared.entry.Entry.{Entry}
@@ -150,24 +150,24 @@ erased_value info (Trim part start count) p s writes other names = value_erased 
 
 -- A group, by the laws of the queue.
 
-module _ (info : Info) (g : Group) (run : FormRun g.members.items g.run)
-    (lends : g.run.kind ≡ kind.Write → length (write_blocks_of g) ≡ g.run.end - g.run.start)
-    (own : (e : Entry) (i : ℕ) → g.run.kind ≡ kind.Write → IsOneOf g.members.items e → i < count_of e.request
-    → slice_index_or (write_blocks_of g) (start_of e.request + i - g.run.start) []
+module _ (info : Info) (g : Group) (run : FormExtent g.members.items g.extent)
+    (lends : g.extent.kind ≡ kind.Write → length (write_blocks_of g) ≡ g.extent.end - g.extent.start)
+    (own : (e : Entry) (i : ℕ) → g.extent.kind ≡ kind.Write → IsOneOf g.members.items e → i < count_of e.request
+    → slice_index_or (write_blocks_of g) (start_of e.request + i - g.extent.start) []
     ≡ slice_index_or (pieces (count_of e.request) (bytes_of e.request)) i []) where
-  reads_as : (k : Kind) → g.run.kind ≡ k → (e : Entry) → IsOneOf g.members.items e → is_read e.request ≡ reads k
+  reads_as : (k : Kind) → g.extent.kind ≡ k → (e : Entry) → IsOneOf g.members.items e → is_read e.request ≡ reads k
   reads_as k is e at = read_by_kind e.request ∙ ap reads ((run.alike e at).1 ∙ is)
 
   -- a change of the run's sectors is of those that a member changes
-  all_touched : (c : Change) (k : Kind) → g.run.kind ≡ k → reads k ≡ false → c.part ≡ g.run.part → c.start ≡ g.run.start
-      → length c.values ≡ g.run.end - g.run.start → (p : Part) (s : ℕ)
+  all_touched : (c : Change) (k : Kind) → g.extent.kind ≡ k → reads k ≡ false → c.part ≡ g.extent.part → c.start ≡ g.extent.start
+      → length c.values ≡ g.extent.end - g.extent.start → (p : Part) (s : ℕ)
       → any_touches info (waits_of g.members.items) p s ≡ touches c p s
   all_touched c k is writes part start long p s =
       same_test (any_touches info (waits_of g.members.items) p s) (touches c p s)
       (λ t.
       let x = some_touched info g.members.items p s t in
       let names = names_touched info x.0.request p s (reads_as k is x.0 x.1 ∙ writes) x.2 in
-      let same : g.run.part ≡ p = sym (run.alike x.0 x.1).0 ∙ names.part_is in
+      let same : g.extent.part ≡ p = sym (run.alike x.0 x.1).0 ∙ names.part_is in
       let inside = (run.named s).1 (x.0, x.1, subst (λ q. Names x.0.request q s) (sym same) names) in
       let from = inside.0 in
       let to = inside.1 in
@@ -175,26 +175,26 @@ module _ (info : Info) (g : Group) (run : FormRun g.members.items g.run)
       (omega (arith, from, start)) (omega (arith, from, to, start, long)))
       (λ t.
       let h = by_touch (part_number c.part) (part_number p) c.start s (length c.values) t in
-      let same : g.run.part ≡ p = sym part ∙ same_part c.part p h.0 in
+      let same : g.extent.part ≡ p = sym part ∙ same_part c.part p h.0 in
       let from = h.1 in
       let to = h.2 in
       let x = (run.named s).0 (omega (arith, from, start), omega (arith, from, to, start, long)) in
       touched_one info g.members.items x.0 p s x.1
       (touched_named info x.0.request p s (reads_as k is x.0 x.1 ∙ writes) (subst (λ q. Names x.0.request q s) same x.2)))
 
-  erased_alike : (k : Kind) → g.run.kind ≡ k → reads k ≡ false → (k ≡ kind.Write → ⊥) → (p : Part) (s : ℕ) (e : Entry)
+  erased_alike : (k : Kind) → g.extent.kind ≡ k → reads k ≡ false → (k ≡ kind.Write → ⊥) → (p : Part) (s : ℕ) (e : Entry)
       → IsOneOf g.members.items e → touches (change_of info e.request) p s ≡ true
       → value_of (change_of info e.request) s
-      ≡ value_of (erased_at info g.run.part g.run.start (g.run.end - g.run.start)) s
+      ≡ value_of (erased_at info g.extent.part g.extent.start (g.extent.end - g.extent.start)) s
   erased_alike k is writes other p s e at t =
       let names = names_touched info e.request p s (reads_as k is e at ∙ writes) t in
       let inside = (run.named s).1 (e, at, subst (λ q. Names e.request q s) (sym names.part_is ∙ (run.alike e at).0) names) in
       let from = inside.0 in
       let to = inside.1 in
       erased_value info e.request p s (reads_as k is e at ∙ writes) (λ w. other (sym is ∙ sym (run.alike e at).1 ∙ w)) names
-      ∙ sym (value_erased info g.run.part g.run.start (g.run.end - g.run.start) s from (omega (arith, from, to)))
+      ∙ sym (value_erased info g.extent.part g.extent.start (g.extent.end - g.extent.start) s from (omega (arith, from, to)))
 
-  changed_by : (k : Kind) → g.run.kind ≡ k → IsChangeOf info (waits_of g.members.items) (change_by info g k)
+  changed_by : (k : Kind) → g.extent.kind ≡ k → IsChangeOf info (waits_of g.members.items) (change_by info g k)
   changed_by kind.Read is = record {
     touched = λ p s.
         never (any_touches info (waits_of g.members.items) p s)
@@ -215,20 +215,20 @@ module _ (info : Info) (g : Group) (run : FormRun g.members.items g.run)
         let back : start_of e.request + i ≡ s = omega (arith, from) in
         value_written info e.request s ((run.alike e at).1 ∙ is)
         ∙ sym (own e i is at (omega (arith, from, to)))
-        ∙ ap (λ n. slice_index_or (write_blocks_of g) (n - g.run.start) []) back);
+        ∙ ap (λ n. slice_index_or (write_blocks_of g) (n - g.extent.start) []) back);
   }
   changed_by kind.Erase is = record {
     touched = all_touched (change_by info g kind.Erase) kind.Erase is refl refl refl
-        (length-replicate (g.run.end - g.run.start) (replicate 512 info.erased_byte));
+        (length-replicate (g.extent.end - g.extent.start) (replicate 512 info.erased_byte));
     given = λ p s. all_give info g.members.items p s (value_of (change_by info g kind.Erase) s)
         (erased_alike kind.Erase is refl (λ e. cc) p s);
   }
   changed_by kind.Trim is = record {
     touched = all_touched (change_by info g kind.Trim) kind.Trim is refl refl refl
-        (length-replicate (g.run.end - g.run.start) (replicate 512 info.erased_byte));
+        (length-replicate (g.extent.end - g.extent.start) (replicate 512 info.erased_byte));
     given = λ p s. all_give info g.members.items p s (value_of (change_by info g kind.Trim) s)
         (erased_alike kind.Trim is refl (λ e. cc) p s);
   }
 
   pub group_changes : IsChangeOf info (waits_of g.members.items) (change_of_group info g)
-  group_changes = changed_by g.run.kind refl
+  group_changes = changed_by g.extent.kind refl

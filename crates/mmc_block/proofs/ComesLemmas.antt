@@ -25,9 +25,9 @@ use Rattle.mmc_block.specs.Entries.{waits_of}
 use Rattle.mmc_block.specs.Groups.{AreAnswersOf, AreOneKind, IsAnswerOf, IsChangeOf, IsCounted, alone}
 use Rattle.mmc_block.specs.InOrder.{AreDecided}
 use Rattle.mmc_block.specs.Machine.{Machine, StartsIfIdle, Waiting, all_failed}
-use Rattle.mmc_block.specs.Run.{Counted, CountedSteps, own_after}
-use Rattle.mmc_block.specs.Run.Event.{Turn}
-use Rattle.mmc_block.specs.Run.Reply.{Answers as Gives}
+use Rattle.mmc_block.specs.Execution.{Counted, CountedSteps, own_after}
+use Rattle.mmc_block.specs.Execution.Event.{Turn}
+use Rattle.mmc_block.specs.Execution.Reply.{Answers as Gives}
 use Rattle.mmc_block.specs.Service.{AfterFailure, AreAll, AreServed, AttemptOk, Concludes, Did, HasLeft, HasStarted}
 use Rattle.mmc_block.specs.Service.{IsAt}
 use Rattle.mmc_block.specs.Service.{IsLinked, IsNext, in_service_of, tries}
@@ -35,8 +35,8 @@ use Rattle.mmc_block.specs.declared.completion.Completion.{Completion}
 use Rattle.mmc_block.specs.declared.service.Attempt.{Attempt}
 use Rattle.mmc_block.specs.declared.service.Link.{Link}
 use Rattle.mmc_block.specs.declared.service.Link.TheVariants.{Down, Up}
-use Rattle.mmc_block.specs.declared.service.Outcome.{Outcome}
-use Rattle.mmc_block.specs.declared.service.Outcome.TheVariants.{Done, Failed, More}
+use Rattle.mmc_switch.specs.declared.progress.Progress.{Progress}
+use Rattle.mmc_switch.specs.declared.progress.Progress.TheVariants.{Done, Failed, More}
 use Rattle.mmc_block.specs.declared.service.Service.{Service}
 use Rattle.mmc_block.specs.declared.service.Service.TheVariants.{Idle, Serving, Taken}
 use Rattle.mmc_block.specs.declared.service.Stage.{Stage}
@@ -136,7 +136,7 @@ fails_comes info fell k next failed m in_profile own broken (e ∷ f ∷ es) oth
     (subst (λ ws. GoesOn own service ws new) (sym (all_served e f es others all)) goes))
 
 -- a settle, a select or an exchange, and what is decided then
-serve_comes : (info : Info) (fell k next : ℕ) (m : Machine) (in_profile : Bool) (own : ℕ → ℕ) (c : Change) (o : Outcome)
+serve_comes : (info : Info) (fell k next : ℕ) (m : Machine) (in_profile : Bool) (own : ℕ → ℕ) (c : Change) (o : Progress Stage)
     (attempt : Attempt) (service : Service) (cs : List Completion) (old new : BusView)
     → m.in_service ≡ waits_of attempt.group.members.items ++ waits_of attempt.others.items → AttemptOk info attempt
     → AreServed (waits_of attempt.group.members.items ++ waits_of attempt.others.items) m.waits next
@@ -237,13 +237,13 @@ begins view bus info (Idle link) new old left next c ok (inl s) a =
 begins view bus info (Idle link) new old left next c ok (inr s) a =
     let attempt : Attempt = s.0 in
     let members : List Entry = attempt.group.members.items in
-    let fair : IsFair old members attempt.group.run left = s.3 in
+    let fair : IsFair old members attempt.group.extent left = s.3 in
     let joined = fair.joined in
     let ms : List Waiting = waits_of members in
     let first : ms ≡ waiting_of fair.oldest ∷ waits_of fair.others = ap waits_of fair.members_are in
     let all : ms ++ waits_of attempt.others.items ≡ ms = rw s.2.others_are (append-nil ms) in
     let kind : AreOneKind (waiting_of fair.oldest ∷ waits_of fair.others) =
-    subst AreOneKind first (one_kind_by attempt.group.run members joined.alike) in
+    subst AreOneKind first (one_kind_by attempt.group.extent members joined.alike) in
     let n = length-waits_of fair.others in
     let few : length (fair.oldest ∷ fair.others) ≤ 16 =
     subst (λ (es : List Entry). length es ≤ 16) fair.members_are joined.few in
@@ -331,7 +331,7 @@ in_profile_still old new stays profile = subst (λ (made : Made). InProfile made
 
 -- a settle, a select or an exchange
 pub turn_serves : {B : Type 0} (view : B → BusView) (bus bus' : B) (info : Info) (service new : Service)
-    (old left : List Entry) (next : ℕ) (stage : Stage) (attempt after : Attempt) (change : Change) (o : Outcome)
+    (old left : List Entry) (next : ℕ) (stage : Stage) (attempt after : Attempt) (change : Change) (o : Progress Stage)
     (cs : List Completion)
     → DeviceOk info old service next → HasStarted old service left (Serving stage attempt) → AttemptOk info after
     → AreServed (waits_of attempt.group.members.items ++ waits_of attempt.others.items) (waits_of left) next

@@ -8,7 +8,7 @@ use Rattle.mmc_queue.specs.Requests.{conflicts, kind_of, part_of}
 use Rattle.mmc_queue.specs.Rule.{comes_first, passes_none}
 use Rattle.mmc_queue.specs.declared.entry.Entry.{Entry}
 use Rattle.mmc_queue.specs.declared.request.Request.{Request}
-use Rattle.mmc_queue.specs.declared.run.Run.{Run}
+use Rattle.mmc_queue.specs.declared.extent.Extent.{Extent}
 use Rattle.mmc_switch.specs.declared.info.Info.{Info}
 use Rattle.mmc_block.specs.Entries.{AreServable, IsServable, waiting_of, waits_of}
 use Rattle.mmc_block.specs.Groups.{AreOneKind, PassNone}
@@ -63,12 +63,12 @@ pub waits_pass : (es left : List Entry) → EntriesPassNone es left → PassNone
 waits_pass [] left h = tt
 waits_pass (e ∷ es) left h = (one_passes e left h.0, waits_pass es left h.1)
 
-alike_by : (run : Run) (r : Request) (es : List Entry) → part_of r ≡ run.part → kind_of r ≡ run.kind
-    → AreAlikeEntries run es → AreAlike r (waits_of es)
+alike_by : (extent : Extent) (r : Request) (es : List Entry) → part_of r ≡ extent.part → kind_of r ≡ extent.kind
+    → AreAlikeEntries extent es → AreAlike r (waits_of es)
 alike_by run r [] p k h = tt
 alike_by run r (e ∷ es) p k h = (h.0 ∙ sym p, h.1 ∙ sym k, alike_by run r es p k h.2)
 
-pub one_kind_by : (run : Run) (es : List Entry) → AreAlikeEntries run es → AreOneKind (waits_of es)
+pub one_kind_by : (extent : Extent) (es : List Entry) → AreAlikeEntries extent es → AreOneKind (waits_of es)
 one_kind_by run [] h = tt
 one_kind_by run (e ∷ es) h = alike_by run e.request es h.0 h.1 h.2
 

@@ -10,14 +10,14 @@ use Rattle.mmc_block.specs.InOrder.{answers, answers_in}
 use Rattle.mmc_block.specs.Machine.{Accepts, CompletesAll, GivesBack, IsMerged, Machine}
 use Rattle.mmc_block.specs.Machine.{StartsIfIdle, Waiting}
 use Rattle.mmc_block.specs.MachineLaws.{accepted_by, ended_by, noted}
-use Rattle.mmc_block.specs.Run.{AllHaveFour, AreCounted, Counted, CountedRuns, CountedSteps, CountedTurn, Event}
-use Rattle.mmc_block.specs.Run.{HasFour, Reply, own_after}
-use Rattle.mmc_block.specs.Run.Event.{Cancel, Submit, Turn}
-use Rattle.mmc_block.specs.Run.Reply.{Accepted, Answers, GivenBack, InService, RefusedFor, Unknown}
+use Rattle.mmc_block.specs.Execution.{AllHaveFour, AreCounted, Counted, IsCountedExecution, CountedSteps, CountedTurn, Event}
+use Rattle.mmc_block.specs.Execution.{HasFour, Reply, own_after}
+use Rattle.mmc_block.specs.Execution.Event.{Cancel, Submit, Turn}
+use Rattle.mmc_block.specs.Execution.Reply.{Accepted, Answers, GivenBack, InService, RefusedFor, Unknown}
 use Rattle.mmc_block.specs.declared.completion.Answer.{Answer}
 use Rattle.mmc_block.specs.declared.completion.Answer.TheVariants.{Data, Done, Failed}
 use Rattle.mmc_block.specs.declared.completion.Completion.{Completion}
-use Rattle.mmc_block.proofs.RunLemmas.{counted_step}
+use Rattle.mmc_block.proofs.ExecutionLemmas.{counted_step}
 use Rattle.mmc_block.proofs.TicketLemmas.{BookOf, count, empty_book, event_noted, group_held, held}
 
 -- Numbers of tickets, added up.
@@ -208,7 +208,7 @@ event_grows info old (Cancel ticket) InService new once profile h = stays_grows 
 event_grows info old (Cancel ticket) Unknown new once profile h = stays_grows old new h.0.2 h.1.0 h.1.1
 event_grows info old _ _ new once profile h = absurd h.0
 
--- Runs.
+-- Executions.
 
 failures_append : (cs ds : List Completion) → failures (cs ++ ds) ≡ failures cs + failures ds
 failures_append [] ds = omega arith
@@ -216,7 +216,7 @@ failures_append (c ∷ cs) ds = let h = failures_append cs ds in omega (arith, h
 
 run_grows : (accepted ended : List ℕ) (info : Info) (old : Counted) (events : List Event) (replies : List Reply)
     (new : Counted)
-    → BookOf accepted ended old.machine → old.in_profile ≡ true → CountedRuns info old events replies new
+    → BookOf accepted ended old.machine → old.in_profile ≡ true → IsCountedExecution info old events replies new
     → Grows old (failures (answers replies)) new
 run_grows accepted ended info old [] [] new book profile same =
     let totals = ap (λ (c : Counted). open_total c.own_faults c.machine) same in
@@ -233,7 +233,7 @@ run_grows accepted ended info old _ _ new book profile run = absurd run
 
 pub failures_take_faults : (info : Info) (old : Counted) (events : List Event) (replies : List Reply) (new : Counted)
     → old.in_profile ≡ true → old.machine.waits ≡ [] → old.machine.in_service ≡ []
-    → CountedRuns info old events replies new → old.faults + 4 * failures (answers replies) ≤ new.faults
+    → IsCountedExecution info old events replies new → old.faults + 4 * failures (answers replies) ≤ new.faults
 failures_take_faults info old events replies new profile no_waits no_serves run =
     let grows = run_grows [] [] info old events replies new (empty_book old.machine no_waits no_serves) profile run in
     let waits = ap (total old.own_faults) no_waits in
@@ -250,7 +250,7 @@ some_failures (c ∷ cs) some = failures_by (is_failed c.answer) (any_failed cs)
 
 pub failure_takes_faults : (info : Info) (old : Counted) (events : List Event) (replies : List Reply) (new : Counted)
     → old.in_profile ≡ true → old.machine.waits ≡ [] → old.machine.in_service ≡ []
-    → CountedRuns info old events replies new → any_failed (answers replies) ≡ true → old.faults + 4 ≤ new.faults
+    → IsCountedExecution info old events replies new → any_failed (answers replies) ≡ true → old.faults + 4 ≤ new.faults
 failure_takes_faults info old events replies new profile no_waits no_serves run some =
     let all = failures_take_faults info old events replies new profile no_waits no_serves run in
     let one = some_failures (answers replies) some in

@@ -12,7 +12,7 @@ use Rattle.mmc_switch.specs.declared.info.Info.{Info}
 use Rattle.mmc_card.specs.Card.{holds}
 use Rattle.mmc_block.specs.Device.{AgreesCounted, IsOpened, opened}
 use Rattle.mmc_block.specs.Machine.{Machine}
-use Rattle.mmc_block.specs.Run.{Counted}
+use Rattle.mmc_block.specs.Execution.{Counted}
 use Rattle.mmc_block.specs.declared.service.Link.TheVariants.{Up}
 use Rattle.mmc_block.specs.declared.service.Service.TheVariants.{Idle}
 use Rattle.mmc_block.specs.declared.open_fault.OpenFault.{OpenFault}

@@ -21,8 +21,9 @@ use Rattle.mmc_block.specs.declared.completion.Completion.{Completion}
 use Rattle.mmc_block.specs.declared.service.Attempt.{Attempt}
 use Rattle.mmc_block.specs.declared.service.Link.{Link}
 use Rattle.mmc_block.specs.declared.service.Link.TheVariants.{Down, Up}
-use Rattle.mmc_block.specs.declared.service.Outcome.{Outcome}
-use Rattle.mmc_block.specs.declared.service.Outcome.TheVariants.{Done, Failed, More}
+use Rattle.mmc_switch.specs.declared.progress.Progress.{Progress}
+use Rattle.mmc_block.specs.declared.service.Stage.{Stage}
+use Rattle.mmc_switch.specs.declared.progress.Progress.TheVariants.{Done, Failed, More}
 use Rattle.mmc_block.specs.declared.service.Service.{Service}
 use Rattle.mmc_block.specs.declared.service.Service.TheVariants.{Idle, Serving, Taken}
 use Rattle.mmc_block.proofs.EntryLemmas.{length-waits_of, lent_are_all, lent_length, lent_tries, lent_waits}
@@ -116,7 +117,7 @@ first_ok info attempt e es others first servable sound all few = record {
 
 -- the same attempt after a step, which may have changed the members' buffers
 pub lent_ok : (info : Info) (attempt : Attempt) (group : Group) → AttemptOk info attempt
-    → AreLent attempt.group.members.items group.members.items → IsJoined group.members.items group.run
+    → AreLent attempt.group.members.items group.members.items → IsJoined group.members.items group.extent
     → AreServable info group.members.items → AttemptOk info (record attempt { group = group })
 lent_ok info attempt group ok lent joined servable =
     let olds = attempt.group.members.items in
@@ -172,7 +173,7 @@ split_ok info broken (e ∷ f ∷ es) others service cs waits next is servable s
     (subst (λ ws. AreServed ws waits next) (all_served e f es others all) served) (omega (arith, few)) a.0
 
 -- after a decision
-pub concluded_ok : (info : Info) (outcome : Outcome) (attempt : Attempt) (service : Service) (cs : List Completion)
+pub concluded_ok : (info : Info) (outcome : Progress Stage) (attempt : Attempt) (service : Service) (cs : List Completion)
     (waits : List Waiting) (next : ℕ)
     → info_of_outcome outcome ≡ info → IsOutcomeOf attempt.group outcome → AttemptOk info attempt
     → AreServed (waits_of attempt.group.members.items ++ waits_of attempt.others.items) waits next
@@ -214,7 +215,7 @@ started_ok info old left (Idle link) new next ok (inl s) = rw (s.1, s.2) (record
 started_ok info old left (Idle link) new next ok (inr s) =
     let attempt : Attempt = s.0 in
     let members : List Entry = attempt.group.members.items in
-    let fair : IsFair old members attempt.group.run left = s.3 in
+    let fair : IsFair old members attempt.group.extent left = s.3 in
     let order : AreInOrder 0 (waiting_of fair.oldest ∷ waits_of fair.later) next = rw fair.waits_are at ok.in_order in
     let servable : AreServable info (fair.oldest ∷ fair.later) = rw fair.waits_are at ok.servable in
     let old_few : length (fair.oldest ∷ fair.later) + 0 ≤ MAX_WAITING = rw fair.waits_are at ok.few in
@@ -228,7 +229,7 @@ started_ok info old left (Idle link) new next ok (inr s) =
     subst (λ (es : List Entry). IsFirstTry attempt es []) fair.members_are s.2 in
     let is : waits_of members ++ waits_of attempt.others.items ≡ waits_of members =
     rw s.2.others_are (append-nil (waits_of members)) in
-    let kind : AreOneKind (waits_of members) = one_kind_by attempt.group.run members joined.alike in
+    let kind : AreOneKind (waits_of members) = one_kind_by attempt.group.extent members joined.alike in
     let members_in_order : AreInOrder 0 (waits_of members) next = rw fair.members_are (order.0, parts.0) in
     let served : AreServed (waits_of members) (waits_of left) next = record {
       one_kind = kind;

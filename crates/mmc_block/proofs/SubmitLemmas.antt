@@ -21,9 +21,9 @@ use Rattle.mmc_block.specs.Entries.{IsServable, waiting_of, waits_of}
 use Rattle.mmc_block.specs.Groups.{AreInOrder, IsCounted, PassNone}
 use Rattle.mmc_block.specs.Machine.{PassesNone, Waiting}
 use Rattle.mmc_block.specs.Refusal.{first_refusal}
-use Rattle.mmc_block.specs.Run.{Counted, CountedSteps}
-use Rattle.mmc_block.specs.Run.Event.{Submit}
-use Rattle.mmc_block.specs.Run.Reply.{Accepted}
+use Rattle.mmc_block.specs.Execution.{Counted, CountedSteps}
+use Rattle.mmc_block.specs.Execution.Event.{Submit}
+use Rattle.mmc_block.specs.Execution.Reply.{Accepted}
 use Rattle.mmc_block.specs.Service.{AreServed, ServiceOk, in_service_of}
 use Rattle.mmc_block.specs.declared.service.Service.{Service}
 use Rattle.mmc_block.specs.declared.service.Service.TheVariants.{Idle, Serving, Taken}

@@ -9,9 +9,9 @@ use Rattle.mmc_queue.specs.declared.request.Request.{Request}
 use Rattle.mmc_block.specs.Machine.{Accepts, Completes, CompletesAll, GivesBack, IsMerged, Machine, Starts}
 use Rattle.mmc_block.specs.Machine.{StartsIfIdle, Turns, Waiting}
 use Rattle.mmc_block.specs.MachineLaws.{AreNew, AreOpen, EachOnce, IsAmong, accepted_by, answered_by, ended_by, noted}
-use Rattle.mmc_block.specs.Run.{Event, Reply, Runs, Steps}
-use Rattle.mmc_block.specs.Run.Event.{Cancel, Submit, Turn}
-use Rattle.mmc_block.specs.Run.Reply.{Accepted, Answers, GivenBack, InService, RefusedFor, Unknown}
+use Rattle.mmc_block.specs.Execution.{Event, Reply, IsExecution, Steps}
+use Rattle.mmc_block.specs.Execution.Event.{Cancel, Submit, Turn}
+use Rattle.mmc_block.specs.Execution.Reply.{Accepted, Answers, GivenBack, InService, RefusedFor, Unknown}
 
 -- How often a list has a ticket.
 
@@ -240,7 +240,7 @@ given_book accepted ended old ticket request new g b =
     (ap (λ (m : Machine). m.next) g.leaves)
     (closed accepted ended (held old) (held new) old.next ticket (given_held old ticket request new g) b)
 
--- Runs.
+-- Executions.
 
 pub record Noted (accepted ended : List ℕ) (event : Event) (reply : Reply) (new : Machine) : Type 0 where
   pub fresh : AreNew accepted (accepted_by reply)
@@ -277,7 +277,7 @@ event_noted accepted ended info old _ _ new b h = absurd h
 
 events_once : (accepted ended : List ℕ) (info : Info) (old : Machine) (events : List Event) (replies : List Reply)
     (new : Machine)
-    → BookOf accepted ended old → Runs info old events replies new → EachOnce accepted ended events replies
+    → BookOf accepted ended old → IsExecution info old events replies new → EachOnce accepted ended events replies
 events_once accepted ended info old [] [] new b run = tt
 events_once accepted ended info old (e ∷ es) (r ∷ rs) new b (mid, first, rest) =
     let n = event_noted accepted ended info old e r mid b first in (
@@ -299,6 +299,6 @@ empty_book old no_waits no_serves =
     }
 
 pub run_each_once : (info : Info) (old : Machine) (events : List Event) (replies : List Reply) (new : Machine)
-    → old.waits ≡ [] → old.in_service ≡ [] → Runs info old events replies new → EachOnce [] [] events replies
+    → old.waits ≡ [] → old.in_service ≡ [] → IsExecution info old events replies new → EachOnce [] [] events replies
 run_each_once info old events replies new no_waits no_serves run =
     events_once [] [] info old events replies new (empty_book old no_waits no_serves) run

@@ -3,7 +3,7 @@ use Rattle.std.proofs.Common.{◌*◌, ◌+◌, ◌-◌, ◌<◌, ◌∷◌, ◌
 use Rattle.std.proofs.Common.{inl, inr, length, refl, suc, true, ℕ}
 use Rattle.mmc_card.specs.declared.part.Part.{Part}
 use Rattle.mmc_queue.specs.declared.entry.Entry.{Entry}
-use Rattle.mmc_queue.specs.declared.run.Run.{Run}
+use Rattle.mmc_queue.specs.declared.extent.Extent.{Extent}
 use Rattle.mmc_queue.specs.Group.{IsFair, IsMerged}
 use Rattle.mmc_queue.specs.Lent.{AreLent}
 use Rattle.mmc_switch.specs.declared.broken.Broken.{Broken}
@@ -11,8 +11,8 @@ use Rattle.mmc_block.specs.declared.completion.Completion.{Completion}
 use Rattle.mmc_block.specs.declared.service.Attempt.{Attempt}
 use Rattle.mmc_block.specs.declared.service.Link.{Link}
 use Rattle.mmc_block.specs.declared.service.Link.TheVariants.{Down, Up}
-use Rattle.mmc_block.specs.declared.service.Outcome.{Outcome}
-use Rattle.mmc_block.specs.declared.service.Outcome.TheVariants.{Done, Failed, More}
+use Rattle.mmc_switch.specs.declared.progress.Progress.{Progress}
+use Rattle.mmc_switch.specs.declared.progress.Progress.TheVariants.{Done, Failed, More}
 use Rattle.mmc_block.specs.declared.service.Service.{Service}
 use Rattle.mmc_block.specs.declared.service.Service.TheVariants.{Idle, Serving, Taken}
 use Rattle.mmc_block.specs.declared.service.Stage.{Stage}
@@ -52,7 +52,7 @@ next_left : (link : Link) (es : List Entry) (service : Service) → IsNext link 
 next_left link [] service next = rw next (omega arith)
 next_left link (e ∷ es) service next =
     let a : Attempt = next.0 in
-    let most = stage_most link a.group.run.part in
+    let most = stage_most link a.group.extent.part in
     rw (next.1, next.2.members_are, next.2.others_are, next.2.failed) (omega (arith, most))
 
 -- what is left, where so much is in this attempt
@@ -70,8 +70,8 @@ failed_left left broken (e ∷ f ∷ es) again others service completions some a
     let next = next_left (Down broken) (e ∷ f ∷ es) service after.0 in
     omega (arith, next, some)
 
-concluded_left : (left : ℕ) (outcome : Outcome) (attempt : Attempt) (service : Service) (completions : List Completion)
-    → Lowers left attempt.group.run.part outcome → Concludes outcome attempt service completions
+concluded_left : (left : ℕ) (outcome : Progress Stage) (attempt : Attempt) (service : Service) (completions : List Completion)
+    → Lowers left attempt.group.extent.part outcome → Concludes outcome attempt service completions
     → service_left service < left_with left attempt
 concluded_left left (More stage) attempt service completions lowers after =
     rw after.0 (omega (arith, lowers))
@@ -110,7 +110,7 @@ first_left : (link : Link) (attempt : Attempt) → IsFirstTry attempt attempt.gr
     → service_left (Serving (At link) attempt) ≤ TURNS_OF_A_REQUEST * length attempt.group.members.items
 first_left link attempt first =
     let members : List Entry = attempt.group.members.items in
-    let most = stage_most link attempt.group.run.part in
+    let most = stage_most link attempt.group.extent.part in
     let tried = some_tries members first.joined.some in
     let none = first.failed in
     let fits : attempt.failed < tries members = omega (arith, tried, none) in
@@ -118,7 +118,7 @@ first_left link attempt first =
     let alone : length attempt.others.items ≡ 0 = ap length first.others_are in
     omega (arith, most, count, alone)
 
-fair_length : (old members left : List Entry) (run : Run) → IsFair old members run left
+fair_length : (old members left : List Entry) (extent : Extent) → IsFair old members extent left
     → length (waits_of old) ≡ length members + length (waits_of left)
 fair_length old members left run fair =
     let whole : length old ≡ suc (length fair.later) = ap length fair.waits_are in
@@ -140,7 +140,7 @@ started_left old later (Idle link) stage attempt (inr new) =
     let taken : Attempt = new.0 in
     let same : service_left (Serving stage attempt) ≡ service_left (Serving (At link) taken) = ap service_left new.1 in
     let most = first_left link taken new.2 in
-    let parts = fair_length old taken.group.members.items later taken.group.run new.3 in
+    let parts = fair_length old taken.group.members.items later taken.group.extent new.3 in
     omega (arith, same, most, parts)
 started_left old later (Serving before tried) stage attempt same =
     let left : service_left (Serving stage attempt) ≡ service_left (Serving before tried) = ap service_left same.0 in
@@ -186,17 +186,17 @@ lent_attempts old new lent others failed =
 -- Each turn lowers the work that is left: where nothing was in service a group was taken; then one settle, one select,
 -- or one exchange was made of the attempt, and it was decided what follows.
 pub turn_work : (old later : List Entry) (service new : Service) (stage : Stage) (attempt turned : Attempt)
-    (outcome : Outcome) (completions : List Completion) → HasStarted old service later (Serving stage attempt)
-    → AreLent attempt.group.members.items turned.group.members.items → turned.group.run ≡ attempt.group.run
+    (outcome : Progress Stage) (completions : List Completion) → HasStarted old service later (Serving stage attempt)
+    → AreLent attempt.group.members.items turned.group.members.items → turned.group.extent ≡ attempt.group.extent
     → turned.others ≡ attempt.others → turned.failed ≡ attempt.failed
-    → Lowers (stage_left stage attempt.group.run.part) attempt.group.run.part outcome
+    → Lowers (stage_left stage attempt.group.extent.part) attempt.group.extent.part outcome
     → Concludes outcome turned new completions
     → TURNS_OF_A_REQUEST * length (waits_of later) + service_left new
     < TURNS_OF_A_REQUEST * length (waits_of old) + service_left service
 turn_work old later service new stage attempt turned outcome completions started lent run others failed lowers after =
-    let left : ℕ = stage_left stage attempt.group.run.part in
+    let left : ℕ = stage_left stage attempt.group.extent.part in
     let at_start = started_left old later service stage attempt started in
     let count = lent_attempts attempt turned lent others failed in
-    let lowers' : Lowers left turned.group.run.part outcome = rw run lowers in
+    let lowers' : Lowers left turned.group.extent.part outcome = rw run lowers in
     let turn = concluded_left left outcome turned new completions lowers' after in
     omega (arith, at_start, count, turn)

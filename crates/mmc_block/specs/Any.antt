@@ -5,8 +5,8 @@ use Rattle.mmc_queue.specs.declared.request.Request.{Request}
 use Rattle.mmc_queue.specs.declared.request.Request.TheVariants.{Read}
 use Rattle.mmc_block.specs.Groups.{PassNone}
 use Rattle.mmc_block.specs.Machine.{IsMerged, Waiting}
-use Rattle.mmc_block.specs.Run.{Reply}
-use Rattle.mmc_block.specs.Run.Reply.{Accepted, GivenBack, InService, RefusedFor, Unknown}
+use Rattle.mmc_block.specs.Execution.{Reply}
+use Rattle.mmc_block.specs.Execution.Reply.{Accepted, GivenBack, InService, RefusedFor, Unknown}
 use Rattle.mmc_block.specs.Work.{is_down}
 use Rattle.mmc_block.specs.declared.cancel.CancelFault.{CancelFault}
 use Rattle.mmc_block.specs.declared.cancel.CancelFault.TheVariants as fault

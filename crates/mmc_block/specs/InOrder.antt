@@ -11,11 +11,11 @@ use Rattle.mmc_block.specs.Machine.{Waiting}
 use Rattle.mmc_block.specs.MachineLaws.{IsAmong}
 use Rattle.mmc_block.specs.Changes.{change_of}
 use Rattle.mmc_queue.specs.Requests.{count_of, part_of, start_of}
-use Rattle.mmc_block.specs.Run.{Event, Reply}
-use Rattle.mmc_block.specs.Run.Event.{Submit}
-use Rattle.mmc_block.specs.Run.Reply.{Accepted, Answers}
+use Rattle.mmc_block.specs.Execution.{Event, Reply}
+use Rattle.mmc_block.specs.Execution.Event.{Submit}
+use Rattle.mmc_block.specs.Execution.Reply.{Accepted, Answers}
 
--- What a run did.
+-- What an execution did.
 
 -- the request that an event with its reply submitted, if it did
 abbrev pub submitted_by : Event → Reply → List Waiting
@@ -38,7 +38,7 @@ abbrev pub answers : List Reply → List Completion
 answers [] = []
 answers (r ∷ rs) = answers_in r ++ answers rs
 
--- what a run did to sectors that held this at its start
+-- what an execution did to sectors that held this at its start
 pub record History : Type 0 where
   pub info : Info
   pub start : Sets

@@ -32,10 +32,10 @@ use Rattle.mmc_block.specs.declared.completion.Completion.{Completion}
 use Rattle.mmc_block.specs.declared.service.Attempt.{Attempt}
 use Rattle.mmc_block.specs.declared.service.Link.{Link}
 use Rattle.mmc_block.specs.declared.service.Link.TheVariants.{Down, Up}
-use Rattle.mmc_block.specs.declared.service.Outcome.{Outcome}
-use Rattle.mmc_block.specs.declared.service.Outcome.TheVariants.{Done, Failed, More}
-use Rattle.mmc_block.specs.declared.service.Run.{Run}
-use Rattle.mmc_block.specs.declared.service.Run.TheVariants.{Blocks, Erase}
+use Rattle.mmc_switch.specs.declared.progress.Progress.{Progress}
+use Rattle.mmc_switch.specs.declared.progress.Progress.TheVariants.{Done, Failed, More}
+use Rattle.mmc_block.specs.declared.service.Work.{Work}
+use Rattle.mmc_block.specs.declared.service.Work.TheVariants.{Blocks, Erase}
 use Rattle.mmc_block.specs.declared.service.Service.{Service}
 use Rattle.mmc_block.specs.declared.service.Service.TheVariants.{Idle, Serving, Taken}
 use Rattle.mmc_block.specs.declared.service.Stage.{Stage}
@@ -47,15 +47,15 @@ abbrev pub info_of_link : Link → Info
 info_of_link (Up session) = session.info
 info_of_link (Down broken) = broken.session.info
 
-abbrev pub session_of : Run → Session
+abbrev pub session_of : Work → Session
 session_of (Blocks run) = run.job.session
 session_of (Erase run) = run.job.session
 
 abbrev pub info_of_stage : Stage → Info
 info_of_stage (At link) = info_of_link link
-info_of_stage (Running run) = (session_of run).info
+info_of_stage (Running work) = (session_of work).info
 
-abbrev pub info_of_outcome : Outcome → Info
+abbrev pub info_of_outcome : Progress Stage → Info
 info_of_outcome (More stage) = info_of_stage stage
 info_of_outcome (Done session) = session.info
 info_of_outcome (Failed broken) = broken.session.info
@@ -72,22 +72,22 @@ kind_of_how how.Trim = kind.Trim
 
 -- the session's partition and these sectors are those of the group
 pub record IsFor (group : Group) (session : Session) (start count : ℕ) : Type 0 where
-  pub part : part_of session ≡ group.run.part
-  pub start_is : start ≡ group.run.start
-  pub count_is : count ≡ group.run.end - group.run.start
+  pub part : part_of session ≡ group.extent.part
+  pub start_is : start ≡ group.extent.start
+  pub count_is : count ≡ group.extent.end - group.extent.start
 
 -- the run does what the requests of the group ask
-abbrev pub IsRunOf : Group → Run → Type 0
-IsRunOf group (Blocks run) =
-    IsFor group run.job.session run.job.start run.job.count × (group.run.kind ≡ kind_of_way run.job.way)
-IsRunOf group (Erase run) =
-    IsFor group run.job.session run.job.start run.job.count × (group.run.kind ≡ kind_of_how run.job.how)
+abbrev pub IsWorkOf : Group → Work → Type 0
+IsWorkOf group (Blocks run) =
+    IsFor group run.job.session run.job.start run.job.count × (group.extent.kind ≡ kind_of_way run.job.way)
+IsWorkOf group (Erase run) =
+    IsFor group run.job.session run.job.start run.job.count × (group.extent.kind ≡ kind_of_how run.job.how)
 
 abbrev pub IsStageOf : Group → Stage → Type 0
 IsStageOf group (At link) = Unit {0}
-IsStageOf group (Running run) = IsRunOf group run
+IsStageOf group (Running work) = IsWorkOf group work
 
-abbrev pub IsOutcomeOf : Group → Outcome → Type 0
+abbrev pub IsOutcomeOf : Group → Progress Stage → Type 0
 IsOutcomeOf group (More stage) = IsStageOf group stage
 IsOutcomeOf group (Done session) = Unit {0}
 IsOutcomeOf group (Failed broken) = Unit {0}
@@ -99,13 +99,13 @@ lent_for way.Write group = write_blocks_of group
 
 -- the change that a run for a group makes, by its kind
 abbrev pub change_by : Info → Group → Kind → Change
-change_by info group kind.Read = record { part = group.run.part; start = group.run.start; values = [] }
-change_by info group kind.Write = record { part = group.run.part; start = group.run.start; values = write_blocks_of group }
-change_by info group kind.Erase = erased_at info group.run.part group.run.start (group.run.end - group.run.start)
-change_by info group kind.Trim = erased_at info group.run.part group.run.start (group.run.end - group.run.start)
+change_by info group kind.Read = record { part = group.extent.part; start = group.extent.start; values = [] }
+change_by info group kind.Write = record { part = group.extent.part; start = group.extent.start; values = write_blocks_of group }
+change_by info group kind.Erase = erased_at info group.extent.part group.extent.start (group.extent.end - group.extent.start)
+change_by info group kind.Trim = erased_at info group.extent.part group.extent.start (group.extent.end - group.extent.start)
 
 abbrev pub change_of_group : Info → Group → Change
-change_of_group info group = change_by info group group.run.kind
+change_of_group info group = change_by info group group.extent.kind
 
 -- Where the card is.
 
@@ -114,18 +114,18 @@ IsLinked (Up session) view = IsReady session view
 IsLinked (Down broken) view = IsLoose broken view
 
 -- the run is under way with the blocks of the group, after so many faults in its turns
-abbrev pub IsUnderWay : Run → Group → ℕ → BusView → Type 0
+abbrev pub IsUnderWay : Work → Group → ℕ → BusView → Type 0
 IsUnderWay (Blocks run) group faults view = IsMoving run (lent_for run.job.way group) faults view
 IsUnderWay (Erase run) group faults view = IsErasing run faults view
 
 -- the card is where the attempt says
 abbrev pub IsAt : Stage → Group → ℕ → BusView → Type 0
 IsAt (At link) group faults view = IsLinked link view
-IsAt (Running run) group faults view = IsUnderWay run group faults view
+IsAt (Running work) group faults view = IsUnderWay work group faults view
 
 -- What a turn of an attempt leaves, after so many faults in the turns of its run: it goes on; or it is done with its whole
 -- effect, and the card is ready; or it has failed, which in profile takes a fault.
-abbrev pub HasLeft : Change → Group → ℕ → BusView → Outcome → BusView → Type 0
+abbrev pub HasLeft : Change → Group → ℕ → BusView → Progress Stage → BusView → Type 0
 HasLeft change group faults old (More stage) new =
     (later : ℕ) × (later ≤ faults) × IsAt stage group later new
     × Within (holds new.card) (maybe_changed change (holds old.card))
@@ -136,7 +136,7 @@ HasLeft change group faults old (Failed broken) new =
     IsLoose broken new × (InProfile old.card.made → 0 < faults)
     × Within (holds new.card) (maybe_changed change (holds old.card))
 
-pub record Did (change : Change) (group : Group) (faults : ℕ) (old : BusView) (outcome : Outcome)
+pub record Did (change : Change) (group : Group) (faults : ℕ) (old : BusView) (outcome : Progress Stage)
     (new : BusView) : Type 0 where
   pub stays : Stays old new
   pub left : HasLeft change group faults old outcome new
@@ -168,7 +168,7 @@ AreAll (w ∷ v ∷ ws) others = others ≡ []
 
 -- What an attempt keeps true of its fields.
 pub record AttemptOk (info : Info) (attempt : Attempt) : Type 0 where
-  pub joined : IsJoined attempt.group.members.items attempt.group.run
+  pub joined : IsJoined attempt.group.members.items attempt.group.extent
   pub servable : AreServable info (attempt.group.members.items ++ attempt.others.items)
   pub sound : AreSound attempt.others.items
   pub fits : attempt.failed < tries attempt.group.members.items
@@ -194,7 +194,7 @@ ServiceOk info Taken waits next = ⊥
 pub record IsFirstTry (attempt : Attempt) (members others : List Entry) : Type 0 where
   pub members_are : attempt.group.members.items ≡ members
   pub others_are : attempt.others.items ≡ others
-  pub joined : IsJoined attempt.group.members.items attempt.group.run
+  pub joined : IsJoined attempt.group.members.items attempt.group.extent
   pub failed : attempt.failed ≡ 0
 
 -- where nothing is in service, the next group goes into service, if something waits
@@ -202,7 +202,7 @@ abbrev pub HasStarted : List Entry → Service → List Entry → Service → Ty
 HasStarted old (Idle link) left service =
     ((old ≡ []) × (left ≡ []) × (service ≡ Idle link))
     ⊎ ((attempt : Attempt) × (service ≡ Serving (At link) attempt) × IsFirstTry attempt attempt.group.members.items []
-    × IsFair old attempt.group.members.items attempt.group.run left)
+    × IsFair old attempt.group.members.items attempt.group.extent left)
 HasStarted old (Serving stage attempt) left service = (service ≡ Serving stage attempt) × (left ≡ old)
 HasStarted old Taken left service = ⊥
 
@@ -229,7 +229,7 @@ AfterAttempt broken attempt service completions =
     × AfterFailure broken attempt.group.members.items attempt.others.items service completions)
 
 -- what follows a turn of an attempt
-abbrev pub Concludes : Outcome → Attempt → Service → List Completion → Type 0
+abbrev pub Concludes : Progress Stage → Attempt → Service → List Completion → Type 0
 Concludes (More stage) attempt service completions = (service ≡ Serving stage attempt) × (completions ≡ [])
 Concludes (Done session) attempt service completions =
     IsNext (Up session) attempt.others.items service × (completions ≡ map completion_of attempt.group.members.items)

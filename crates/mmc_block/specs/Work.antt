@@ -10,14 +10,14 @@ use Rattle.mmc_bus.specs.declared.cause.Cause.TheVariants.{Recovery}
 use Rattle.mmc_erase.specs.Run.{exchanges_left as erases_left}
 use Rattle.mmc_transfer.specs.Run.{exchanges_left as moves_left}
 use Rattle.mmc_queue.specs.declared.entry.Entry.{Entry}
-use Rattle.mmc_queue.specs.declared.run.TheConstants.{MAX_GROUP}
+use Rattle.mmc_queue.specs.declared.extent.TheConstants.{MAX_GROUP}
 use Rattle.mmc_block.specs.Service.{tries}
 use Rattle.mmc_block.specs.declared.service.Attempt.{Attempt}
 use Rattle.mmc_block.specs.declared.service.Link.TheVariants.{Down, Up}
-use Rattle.mmc_block.specs.declared.service.Outcome.{Outcome}
-use Rattle.mmc_block.specs.declared.service.Outcome.TheVariants.{Done, Failed, More}
-use Rattle.mmc_block.specs.declared.service.Run.{Run}
-use Rattle.mmc_block.specs.declared.service.Run.TheVariants.{Blocks, Erase}
+use Rattle.mmc_switch.specs.declared.progress.Progress.{Progress}
+use Rattle.mmc_switch.specs.declared.progress.Progress.TheVariants.{Done, Failed, More}
+use Rattle.mmc_block.specs.declared.service.Work.{Work}
+use Rattle.mmc_block.specs.declared.service.Work.TheVariants.{Blocks, Erase}
 use Rattle.mmc_block.specs.declared.service.Service.{Service}
 use Rattle.mmc_block.specs.declared.service.Service.TheVariants.{Idle, Serving, Taken}
 use Rattle.mmc_block.specs.declared.service.Stage.{Stage}
@@ -31,7 +31,7 @@ abbrev pub is_on : Option Part → Part → Bool
 is_on None part = false
 is_on (Some selected) part = part_number selected == part_number part
 
-abbrev pub run_left : Run → ℕ
+abbrev pub run_left : Work → ℕ
 run_left (Blocks run) = moves_left run
 run_left (Erase run) = erases_left run
 
@@ -39,10 +39,10 @@ run_left (Erase run) = erases_left run
 abbrev pub stage_left : Stage → Part → ℕ
 stage_left (At (Down broken)) part = TURNS_OF_A_RUN + 2
 stage_left (At (Up session)) part = if is_on session.selected part then TURNS_OF_A_RUN else TURNS_OF_A_RUN + 1
-stage_left (Running run) part = run_left run
+stage_left (Running work) part = run_left work
 
 -- an attempt of which so much was left is nearer to its end
-abbrev pub Lowers : ℕ → Part → Outcome → Type 0
+abbrev pub Lowers : ℕ → Part → Progress Stage → Type 0
 Lowers left part (More stage) = stage_left stage part < left
 Lowers left part (Done session) = 0 < left
 Lowers left part (Failed broken) = 0 < left
@@ -70,7 +70,7 @@ IsCountable Taken = Unit {0}
 abbrev pub service_left : Service → ℕ
 service_left (Idle link) = 0
 service_left (Serving stage attempt) =
-    stage_left stage attempt.group.run.part + TURNS_OF_AN_ATTEMPT * attempts_left attempt
+    stage_left stage attempt.group.extent.part + TURNS_OF_AN_ATTEMPT * attempts_left attempt
 service_left Taken = 0
 
 -- Exchanges.
@@ -79,7 +79,7 @@ service_left Taken = 0
 abbrev pub most_at : Stage → ℕ
 most_at (At (Down broken)) = 119
 most_at (At (Up session)) = 18
-most_at (Running run) = 1
+most_at (Running work) = 1
 
 abbrev pub most_exchanges : Service → ℕ
 most_exchanges (Idle link) = most_at (At link)
@@ -92,13 +92,13 @@ most_exchanges Taken = 0
 abbrev pub is_down : Stage → Bool
 is_down (At (Down broken)) = true
 is_down (At (Up session)) = false
-is_down (Running run) = false
+is_down (Running work) = false
 
 -- want of recovery where the card was to be settled, otherwise what the last exchange tells
 abbrev pub IsCauseAfter : Bool → Cause → BusView → Type 0
 IsCauseAfter true cause view = cause ≡ Recovery
 IsCauseAfter false cause view = cause_of view.last ≡ Some cause
 
-abbrev pub IsCausedBy : Bool → Outcome → BusView → Type 0
+abbrev pub IsCausedBy : Bool → Progress Stage → BusView → Type 0
 IsCausedBy down (Failed broken) view = IsCauseAfter down broken.cause view
 IsCausedBy down outcome view = Unit {0}

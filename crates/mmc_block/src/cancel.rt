@@ -50,8 +50,8 @@ impl<B: Bus> BlockDev<B> {
     ghost use Rattle.mmc_block.specs.Any.{cancelled_reply};
     ghost use Rattle.mmc_block.specs.declared.cancel.CancelFault.TheVariants.{InService, Unknown};
     ghost use Rattle.mmc_block.specs.Device.{Comes, Withdraws};
-    ghost use Rattle.mmc_block.specs.Run.{Counted, CountedSteps};
-    ghost use Rattle.mmc_block.specs.Run.Event.{Cancel};
+    ghost use Rattle.mmc_block.specs.Execution.{Counted, CountedSteps};
+    ghost use Rattle.mmc_block.specs.Execution.Event.{Cancel};
 
     /// Gives back a request that waits. Nothing is sent, and it takes no memory.
     ///

@@ -6,11 +6,11 @@ ghost use Rattle.mmc_block.specs.Service.{AfterAttempt, AfterFailure, AreAll, Co
 ghost use Rattle.mmc_block.specs.declared.completion.Answer.TheVariants.{Failed};
 
 use crate::completion::{Answer, Completion};
-use crate::service::{Attempt, Link, Outcome, Service, Stage};
+use crate::service::{Attempt, Link, Service, Stage};
 use arrayvec::ArrayVec;
 use mmc_bus::{Bytes, Cause};
 use mmc_queue::{Entry, Group, MAX_GROUP, Members, Request};
-use mmc_switch::Broken;
+use mmc_switch::{Broken, Progress};
 use std::alloc::Global;
 
 /// Answers by ticket.
@@ -144,7 +144,7 @@ fn retry(alloc: Global, broken: Broken, attempt: Attempt) -> (Service, Completio
 }
 
 /// What follows, and the answers. It takes no memory.
-pub fn conclude(alloc: Global, outcome: Outcome, attempt: Attempt) -> (Service, Completions)
+pub fn conclude(alloc: Global, outcome: Progress<Stage>, attempt: Attempt) -> (Service, Completions)
     requires some { 0 < length attempt.group.members.items }
     requires sound { AreSound attempt.group.members.items }
     requires others { AreSound attempt.others.items }
@@ -152,11 +152,11 @@ pub fn conclude(alloc: Global, outcome: Outcome, attempt: Attempt) -> (Service, 
     ensures { Concludes outcome attempt result.0 result.1.items }
 {
     match outcome {
-        Outcome::More(stage) => (Service::Serving(stage, attempt), ArrayVec::new()),
-        Outcome::Done(session) => {
+        Progress::More(stage) => (Service::Serving(stage, attempt), ArrayVec::new()),
+        Progress::Done(session) => {
             let answers = answer_all(attempt.group.members);
             (next(alloc, Link::Up(session), attempt.others), answers)
         }
-        Outcome::Failed(broken) => retry(alloc, broken, attempt),
+        Progress::Failed(broken) => retry(alloc, broken, attempt),
     }
 }

@@ -16,12 +16,12 @@ ghost use Rattle.mmc_block.specs.Entries.{waits_of};
 ghost use Rattle.mmc_block.specs.Groups.{IsChangeOf};
 ghost use Rattle.mmc_block.specs.Service.{change_of_group};
 ghost use Rattle.mmc_queue.specs.Requests.{ShareSector, conflicts, is_read};
-ghost use Rattle.mmc_block.specs.Run.{Counted, CountedRuns, Event, Reply, Runs};
+ghost use Rattle.mmc_block.specs.Execution.{Counted, IsCountedExecution, Event, Reply, IsExecution};
 ghost use Rattle.mmc_block.specs.InOrder.{AreDecided, EndsInOrder, IsInOrder, MayHold, answers, history};
 
 use mmc_bus::card_laws;
 use mmc_queue::laws::{
-    a_group_is_a_run_of_sectors, a_group_lends_each_sector_of_its_run,
+    a_group_is_one_extent, a_group_lends_each_sector_of_its_extent,
     a_group_lends_the_blocks_of_its_members,
 };
 pub use mmc_queue::laws::{a_conflict_is_a_common_sector, conflict_is_symmetric};
@@ -40,43 +40,43 @@ pub fn a_decided_sector_stays_decided()
     ensures decides { (old new : Sets) → Decides old new → (part : Part) (sector : ℕ) → IsDecided (old part sector) → IsDecided (new part sector) }
 {}
 
-/// In a run from a machine in which no request waits or is in service, each ticket is accepted at most once, and it is
+/// In an execution from a machine in which no request waits or is in service, each ticket is accepted at most once, and it is
 /// answered or given back at most once, and after it was accepted.
 pub fn a_ticket_is_answered_once_and_after_its_submission()
     ensures { (info : Info) (old : Machine) (events : List Event) (replies : List Reply) (new : Machine)
-        → old.waits ≡ [] → old.in_service ≡ [] → Runs info old events replies new → EachOnce [] [] events replies }
+        → old.waits ≡ [] → old.in_service ≡ [] → IsExecution info old events replies new → EachOnce [] [] events replies }
 {}
 
-/// A run with own faults is a run.
-pub fn a_counted_run_is_a_run()
+/// An execution with own faults is an execution.
+pub fn a_counted_execution_is_an_execution()
     ensures { (info : Info) (old : Counted) (events : List Event) (replies : List Reply) (new : Counted)
-        → CountedRuns info old events replies new → Runs info old.machine events replies new.machine }
+        → IsCountedExecution info old events replies new → IsExecution info old.machine events replies new.machine }
 {}
 
-/// In a run of a card in profile, from a machine in which no request waits or is in service, each failure takes four
+/// In an execution with a card in profile, from a machine in which no request waits or is in service, each failure takes four
 /// faults of its own. So where fewer than four faults fall no answer is a failure.
 pub fn a_failure_takes_four_faults()
     ensures each { (info : Info) (old : Counted) (events : List Event) (replies : List Reply) (new : Counted)
-        → old.in_profile ≡ true → old.machine.waits ≡ [] → old.machine.in_service ≡ [] → CountedRuns info old events replies new
+        → old.in_profile ≡ true → old.machine.waits ≡ [] → old.machine.in_service ≡ [] → IsCountedExecution info old events replies new
         → old.faults + 4 * failures (answers replies) ≤ new.faults }
     ensures any { (info : Info) (old : Counted) (events : List Event) (replies : List Reply) (new : Counted)
-        → old.in_profile ≡ true → old.machine.waits ≡ [] → old.machine.in_service ≡ [] → CountedRuns info old events replies new
+        → old.in_profile ≡ true → old.machine.waits ≡ [] → old.machine.in_service ≡ [] → IsCountedExecution info old events replies new
         → any_failed (answers replies) ≡ true → old.faults + 4 ≤ new.faults }
 {}
 
-/// In a run from a machine whose sectors are decided, and in which no request waits or is in service, each answer with data
+/// In an execution from a machine whose sectors are decided, and in which no request waits or is in service, each answer with data
 /// gives for each sector its ordered value below the request's ticket: what the earlier requests leave in it in order of
 /// submission, whichever order the machine completed them in, where of each failed write each sector is old or new.
 pub fn answers_are_in_order()
     ensures { (info : Info) (old : Machine) (events : List Event) (replies : List Reply) (new : Machine)
-        → AreDecided old.sets → old.waits ≡ [] → old.in_service ≡ [] → Runs info old events replies new → IsInOrder (history info old.sets events replies) }
+        → AreDecided old.sets → old.waits ≡ [] → old.in_service ≡ [] → IsExecution info old events replies new → IsInOrder (history info old.sets events replies) }
 {}
 
 /// The same with what the sectors hold at the end, where they hold no more than the last machine allows: it is the ordered
 /// value below the next ticket, by the same choices.
 pub fn contents_are_in_order()
     ensures { (info : Info) (old : Machine) (events : List Event) (replies : List Reply) (new : Machine) (sets : Sets) (contents : Part → ℕ → Sector)
-        → AreDecided old.sets → old.waits ≡ [] → old.in_service ≡ [] → Runs info old events replies new → Within sets new.sets → MayHold sets contents
+        → AreDecided old.sets → old.waits ≡ [] → old.in_service ≡ [] → IsExecution info old events replies new → Within sets new.sets → MayHold sets contents
         → EndsInOrder (history info old.sets events replies) sets new.next contents }
 {}
 
@@ -87,13 +87,13 @@ pub fn a_card_at_rest_is_decided()
     card_laws::a_card_at_rest_holds_what_it_stores();
 }
 
-/// The change that the run of a group makes is that of its requests together: it changes just the sectors that one of them does,
+/// The change that a group makes is that of its requests together: it changes just the sectors that one of them does,
 /// and gives each of them the same value.
 pub fn a_group_changes_what_its_members_do()
-    ensures { (info : Info) (group : Group) → IsJoined group.members.items group.run
+    ensures { (info : Info) (group : Group) → IsJoined group.members.items group.extent
         → IsChangeOf info (waits_of group.members.items) (change_of_group info group) }
 {
-    a_group_is_a_run_of_sectors();
-    a_group_lends_each_sector_of_its_run();
+    a_group_is_one_extent();
+    a_group_lends_each_sector_of_its_extent();
     a_group_lends_the_blocks_of_its_members();
 }

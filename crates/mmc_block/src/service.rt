@@ -8,6 +8,7 @@
 use mmc_erase::EraseRun;
 use mmc_queue::{Group, Members};
 use mmc_switch::{Broken, Session};
+use mmc_transfer::Run;
 
 /// How the device stands to its card between runs.
 #[derive(Debug, Drop)]
@@ -18,12 +19,12 @@ pub enum Link {
     Down(Broken),
 }
 
-/// A run for a group.
+/// What serves a group.
 #[derive(Debug, Drop)]
-pub enum Run {
-    /// It reads or writes blocks.
-    Blocks(mmc_transfer::Run),
-    /// It erases or trims.
+pub enum Work {
+    /// A run that reads or writes blocks.
+    Blocks(Run),
+    /// A run that erases or trims.
     Erase(EraseRun),
 }
 
@@ -33,7 +34,7 @@ pub enum Stage {
     /// The run is still to begin.
     At(Link),
     /// The run is under way.
-    Running(Run),
+    Running(Work),
 }
 
 /// An attempt at requests in service.
@@ -56,15 +57,4 @@ pub enum Service {
     Serving(Stage, Attempt),
     /// It is in the hands of a call.
     Taken,
-}
-
-/// What one settle, one select or one exchange made of an attempt.
-#[derive(Debug, Drop)]
-pub enum Outcome {
-    /// It goes on.
-    More(Stage),
-    /// It is done, and the card is ready.
-    Done(Session),
-    /// It has failed.
-    Failed(Broken),
 }

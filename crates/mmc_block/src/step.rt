@@ -8,70 +8,56 @@ ghost use Rattle.mmc_switch.specs.Place.{IsReady};
 ghost use Rattle.mmc_switch.specs.UnderWay.{FailsBy, faults_then};
 ghost use Rattle.mmc_transfer.specs.Run.{HasTurned, IsRunning, IsSameRun, Lowers as LowersBlocks};
 ghost use Rattle.mmc_block.specs.Entries.{AreServable};
-ghost use Rattle.mmc_block.specs.Service as service;
-ghost use Rattle.mmc_block.specs.Service.{Did, IsAt, IsOutcomeOf, IsRunOf, IsStageOf, IsUnderWay, change_of_group, info_of_outcome, info_of_stage, lent_for, session_of};
-ghost use Rattle.mmc_block.specs.Work.{IsCausedBy, Lowers, is_down, most_at, run_left, stage_left};
+ghost use Rattle.mmc_block.specs.Service.{Did, IsAt, IsStageOf, IsUnderWay, IsWorkOf, change_of_group, info_of_stage, lent_for, session_of};
+ghost use Rattle.mmc_block.specs.Step.{Advances};
+ghost use Rattle.mmc_block.specs.Work.{is_down, most_at, run_left, stage_left};
 ghost use Rattle.mmc_block.specs.declared.service.Link.TheVariants.{Up};
-ghost use Rattle.mmc_block.specs.declared.service.Run.TheVariants.{Blocks};
+ghost use Rattle.mmc_block.specs.declared.service.Work.TheVariants.{Blocks};
 ghost use Rattle.mmc_block.specs.declared.service.Stage.TheVariants.{At};
 ghost use Rattle.mmc_block.specs.declared.work.TheConstants.{TURNS_OF_A_RUN};
 
-use crate::service::{Link, Outcome, Run, Stage};
+use crate::service::{Link, Stage, Work};
 use crate::work::TURNS_OF_A_RUN;
 use mmc_bus::Bus;
 use mmc_erase::{EraseRun, How};
 use mmc_queue::laws::{
-    a_group_is_a_run_of_sectors, a_group_lends_each_sector_of_its_run,
+    a_group_is_one_extent, a_group_lends_each_sector_of_its_extent,
     a_group_lends_the_blocks_of_its_members, a_lent_group_keeps_its_requests,
 };
 use mmc_queue::{Group, Kind};
 use mmc_recovery::settle;
 use mmc_switch::{Progress, Session, select};
-use mmc_transfer::Way;
+use mmc_transfer::{Run, Way};
 
 // Begins the run of a group, whose partition is selected.
-fn begin(session: Session, group: &Group) -> Run
-    requires joined { IsJoined group.now.members.items group.now.run }
+fn begin(session: Session, group: &Group) -> Work
+    requires joined { IsJoined group.now.members.items group.now.extent }
     requires servable { AreServable session.info group.now.members.items }
-    requires selected { session.selected ≡ Some group.now.run.part }
-    ensures of { IsRunOf group.now result }
+    requires selected { session.selected ≡ Some group.now.extent.part }
+    ensures of { IsWorkOf group.now result }
     ensures session { session_of result ≡ session }
     ensures bounded { run_left result ≤ TURNS_OF_A_RUN }
     ensures under_way { (view : BusView) → IsReady session view → IsUnderWay result group.now 0 view }
 {
-    a_group_is_a_run_of_sectors();
-    let start = group.run.start;
-    let count = group.run.end - start;
-    match group.run.kind {
-        Kind::Read => Run::Blocks(mmc_transfer::Run::begin(
-            session,
-            start,
-            count as u32,
-            Way::Read,
-        )),
-        Kind::Write => Run::Blocks(mmc_transfer::Run::begin(
-            session,
-            start,
-            count as u32,
-            Way::Write,
-        )),
-        Kind::Erase => Run::Erase(EraseRun::begin(session, start, count, How::Erase)),
-        Kind::Trim => Run::Erase(EraseRun::begin(session, start, count, How::Trim)),
+    a_group_is_one_extent();
+    let start = group.extent.start;
+    let count = group.extent.end - start;
+    match group.extent.kind {
+        Kind::Read => Work::Blocks(Run::begin(session, start, count as u32, Way::Read)),
+        Kind::Write => Work::Blocks(Run::begin(session, start, count as u32, Way::Write)),
+        Kind::Erase => Work::Erase(EraseRun::begin(session, start, count, How::Erase)),
+        Kind::Trim => Work::Erase(EraseRun::begin(session, start, count, How::Trim)),
     }
 }
 
 // The next exchange of a run that moves blocks.
-fn move_on<B: Bus>(
-    bus: &mut B,
-    run: mmc_transfer::Run,
-    group: &mut Group,
-) -> Progress<mmc_transfer::Run>
-    requires joined { IsJoined group.old.members.items group.old.run }
-    requires of { IsRunOf group.old (Blocks run) }
+fn move_on<B: Bus>(bus: &mut B, run: Run, group: &mut Group) -> Progress<Run>
+    requires joined { IsJoined group.old.members.items group.old.extent }
+    requires of { IsWorkOf group.old (Blocks run) }
     ensures lent { AreLent group.old.members.items group.new.members.items }
-    ensures run { group.new.run ≡ group.old.run }
-    ensures joined { IsJoined group.new.members.items group.new.run }
-    ensures writes { group.old.run.kind ≡ kind.Write → group.new ≡ group.old }
+    ensures extent { group.new.extent ≡ group.old.extent }
+    ensures joined { IsJoined group.new.members.items group.new.extent }
+    ensures writes { group.old.extent.kind ≡ kind.Write → group.new ≡ group.old }
     ensures bounded { (B.view bus.new).exchanges ≤ (B.view bus.old).exchanges + 1 }
     ensures kept { (B.view bus.new).is_kept ≡ true → (B.view bus.old).is_kept ≡ true }
     ensures same { IsSameRun run result }
@@ -80,9 +66,9 @@ fn move_on<B: Bus>(
     ensures turned { (B.view bus.new).is_kept ≡ true → (faults : ℕ) → IsRunning run (lent_for run.job.way group.old) faults (B.view bus.old)
         → HasTurned run (lent_for run.job.way group.new) faults (B.view bus.old) result (B.view bus.new) }
 {
-    a_group_lends_each_sector_of_its_run();
+    a_group_lends_each_sector_of_its_extent();
     a_lent_group_keeps_its_requests();
-    match group.run.kind {
+    match group.extent.kind {
         Kind::Read => run.read_turn(bus, group),
         Kind::Write | Kind::Erase | Kind::Trim => run.write_turn(bus, &group.writes()),
     }
@@ -90,97 +76,70 @@ fn move_on<B: Bus>(
 
 // The next exchange of a run.
 #[tactic(auto, using(crate::proofs::StepLemmas::same_lent))]
-fn exchange<B: Bus>(bus: &mut B, run: Run, group: &mut Group) -> Outcome
-    requires joined { IsJoined group.old.members.items group.old.run }
-    requires of { IsRunOf group.old run }
-    ensures lent { AreLent group.old.members.items group.new.members.items }
-    ensures run { group.new.run ≡ group.old.run }
-    ensures joined { IsJoined group.new.members.items group.new.run }
-    ensures of { IsOutcomeOf group.new result }
-    ensures info { info_of_outcome result ≡ (session_of run).info }
-    ensures bounded { (B.view bus.new).exchanges ≤ (B.view bus.old).exchanges + 1 }
-    ensures kept { (B.view bus.new).is_kept ≡ true → (B.view bus.old).is_kept ≡ true }
-    ensures lowers { Lowers (run_left run) group.old.run.part result }
-    ensures cause { IsCausedBy false result (B.view bus.new) }
-    ensures did { (B.view bus.new).is_kept ≡ true → (faults : ℕ) → IsUnderWay run group.old faults (B.view bus.old)
-        → Did (change_of_group (session_of run).info group.old) group.new (faults_then faults (B.view bus.old) (B.view bus.new))
+fn exchange<B: Bus>(bus: &mut B, work: Work, group: &mut Group) -> Progress<Stage>
+    requires joined { IsJoined group.old.members.items group.old.extent }
+    requires of { IsWorkOf group.old work }
+    ensures advances { Advances (session_of work).info false 1 (run_left work) group.old (B.view bus.old) result group.new (B.view bus.new) }
+    ensures did { (B.view bus.new).is_kept ≡ true → (faults : ℕ) → IsUnderWay work group.old faults (B.view bus.old)
+        → Did (change_of_group (session_of work).info group.old) group.new (faults_then faults (B.view bus.old) (B.view bus.new))
         (B.view bus.old) result (B.view bus.new) }
 {
-    a_group_is_a_run_of_sectors();
-    a_group_lends_each_sector_of_its_run();
+    a_group_is_one_extent();
+    a_group_lends_each_sector_of_its_extent();
     a_group_lends_the_blocks_of_its_members();
-    match run {
-        Run::Blocks(run) => match move_on(bus, run, group) {
-            Progress::More(run) => Outcome::More(Stage::Running(Run::Blocks(run))),
-            Progress::Done(session) => Outcome::Done(session),
-            Progress::Failed(broken) => Outcome::Failed(broken),
+    match work {
+        Work::Blocks(run) => match move_on(bus, run, group) {
+            Progress::More(run) => Progress::More(Stage::Running(Work::Blocks(run))),
+            Progress::Done(session) => Progress::Done(session),
+            Progress::Failed(broken) => Progress::Failed(broken),
         },
-        Run::Erase(run) => match run.turn(bus) {
-            Progress::More(run) => Outcome::More(Stage::Running(Run::Erase(run))),
-            Progress::Done(session) => Outcome::Done(session),
-            Progress::Failed(broken) => Outcome::Failed(broken),
+        Work::Erase(run) => match run.turn(bus) {
+            Progress::More(run) => Progress::More(Stage::Running(Work::Erase(run))),
+            Progress::Done(session) => Progress::Done(session),
+            Progress::Failed(broken) => Progress::Failed(broken),
         },
     }
 }
 
 // From a card that is ready: the select, where another partition is selected, or the first exchange of the run.
 #[tactic(auto, using(crate::proofs::StepLemmas::same_lent))]
-fn set_out<B: Bus>(bus: &mut B, session: Session, group: &mut Group) -> Outcome
-    requires joined { IsJoined group.old.members.items group.old.run }
+fn set_out<B: Bus>(bus: &mut B, session: Session, group: &mut Group) -> Progress<Stage>
+    requires joined { IsJoined group.old.members.items group.old.extent }
     requires servable { AreServable session.info group.old.members.items }
-    ensures lent { AreLent group.old.members.items group.new.members.items }
-    ensures run { group.new.run ≡ group.old.run }
-    ensures joined { IsJoined group.new.members.items group.new.run }
-    ensures of { IsOutcomeOf group.new result }
-    ensures info { info_of_outcome result ≡ session.info }
-    ensures bounded { (B.view bus.new).exchanges ≤ (B.view bus.old).exchanges + 18 }
-    ensures kept { (B.view bus.new).is_kept ≡ true → (B.view bus.old).is_kept ≡ true }
-    ensures lowers { Lowers (stage_left (At (Up session)) group.old.run.part) group.old.run.part result }
-    ensures cause { IsCausedBy false result (B.view bus.new) }
+    ensures advances { Advances session.info false 18 (stage_left (At (Up session)) group.old.extent.part) group.old (B.view bus.old) result group.new (B.view bus.new) }
     ensures did { (B.view bus.new).is_kept ≡ true → IsReady session (B.view bus.old)
         → Did (change_of_group session.info group.old) group.new (faults_then 0 (B.view bus.old) (B.view bus.new))
         (B.view bus.old) result (B.view bus.new) }
 {
-    a_group_is_a_run_of_sectors();
-    if session.selected() == Some(group.run.part) {
-        let run = begin(session, group);
-        return exchange(bus, run, group);
+    a_group_is_one_extent();
+    if session.selected() == Some(group.extent.part) {
+        let work = begin(session, group);
+        return exchange(bus, work, group);
     }
-    match select(bus, session, group.run.part) {
-        Ok(session) => Outcome::More(Stage::At(Link::Up(session))),
-        Err(broken) => Outcome::Failed(broken),
+    match select(bus, session, group.extent.part) {
+        Ok(session) => Progress::More(Stage::At(Link::Up(session))),
+        Err(broken) => Progress::Failed(broken),
     }
 }
 
 /// One settle, one select, or one exchange.
 #[tactic(auto, using(crate::proofs::StepLemmas::same_lent))]
-pub fn step<B: Bus>(bus: &mut B, stage: Stage, group: &mut Group) -> Outcome
-    requires joined { IsJoined group.old.members.items group.old.run }
+pub fn step<B: Bus>(bus: &mut B, stage: Stage, group: &mut Group) -> Progress<Stage>
+    requires joined { IsJoined group.old.members.items group.old.extent }
     requires servable { AreServable (info_of_stage stage) group.old.members.items }
     requires of { IsStageOf group.old stage }
-    // Over any bus.
-    ensures lent { AreLent group.old.members.items group.new.members.items }
-    ensures run { group.new.run ≡ group.old.run }
-    ensures joined { IsJoined group.new.members.items group.new.run }
+    ensures advances { Advances (info_of_stage stage) (is_down stage) (most_at stage) (stage_left stage group.old.extent.part) group.old (B.view bus.old) result group.new (B.view bus.new) }
     ensures servable { AreServable (info_of_stage stage) group.new.members.items }
-    ensures of { IsOutcomeOf group.new result }
-    ensures info { info_of_outcome result ≡ info_of_stage stage }
-    ensures bounded { (B.view bus.new).exchanges ≤ (B.view bus.old).exchanges + most_at stage }
-    ensures lowers { Lowers (stage_left stage group.old.run.part) group.old.run.part result }
-    ensures cause { IsCausedBy (is_down stage) result (B.view bus.new) }
-
-    // Over a bus that is kept.
-    ensures kept { (B.view bus.new).is_kept ≡ true → (B.view bus.old).is_kept ≡ true }
     ensures did { (B.view bus.new).is_kept ≡ true → (faults : ℕ) → IsAt stage group.old faults (B.view bus.old)
         → Did (change_of_group (info_of_stage stage) group.old) group.new (faults_then faults (B.view bus.old) (B.view bus.new))
         (B.view bus.old) result (B.view bus.new) }
 {
     match stage {
-        Stage::Running(run) => exchange(bus, run, group),
+        Stage::Running(work) => exchange(bus, work, group),
         Stage::At(Link::Up(session)) => set_out(bus, session, group),
         Stage::At(Link::Down(broken)) => match settle(bus, broken) {
-            Ok(session) => Outcome::More(Stage::At(Link::Up(session))),
-            Err(broken) => Outcome::Failed(broken),
+            Ok(session) => Progress::More(Stage::At(Link::Up(session))),
+            Err(broken) => Progress::Failed(broken),
         },
     }
 }

@@ -5,13 +5,13 @@
 //    four at each of the others.
 // 3. A request that waits has at most one part in two attempts of a group and four of its own: 131,072 turns are enough.
 ghost use Rattle.std.specs.Prelude.{◌*◌, ◌+◌, ◌-◌, ◌<◌, ◌≡◌, ◌≤◌, ◌↔◌, [], length};
-ghost use Rattle.mmc_queue.specs.declared.run.TheConstants.{MAX_GROUP};
+ghost use Rattle.mmc_queue.specs.declared.extent.TheConstants.{MAX_GROUP};
 ghost use Rattle.mmc_block.specs.Service.{in_service_of, tries};
 ghost use Rattle.mmc_block.specs.Work.{IsCountable, attempts_left, is_on, run_left, service_left, split, stage_left};
 
 use crate::conclude::tries;
 use crate::device::BlockDev;
-use crate::service::{Attempt, Link, Run, Service, Stage};
+use crate::service::{Attempt, Link, Service, Stage, Work};
 use mmc_bus::{Bus, Part};
 use mmc_queue::Members;
 
@@ -32,14 +32,14 @@ fn is_on(selected: Option<Part>, part: Part) -> bool
 }
 
 // What is left of a run.
-fn run_left(run: &Run) -> u64
-    ensures left { result ≡ run_left run.now }
+fn run_left(work: &Work) -> u64
+    ensures left { result ≡ run_left work.now }
     ensures some { 0 < result }
     ensures bounded { result ≤ TURNS_OF_A_RUN }
 {
-    match run {
-        Run::Blocks(run) => run.exchanges_left(),
-        Run::Erase(run) => run.exchanges_left(),
+    match work {
+        Work::Blocks(run) => run.exchanges_left(),
+        Work::Erase(run) => run.exchanges_left(),
     }
 }
 
@@ -53,7 +53,7 @@ fn stage_left(stage: &Stage, part: Part) -> u64
         Stage::At(Link::Down(_)) => TURNS_OF_A_RUN + 2,
         Stage::At(Link::Up(session)) if is_on(session.selected(), part) => TURNS_OF_A_RUN,
         Stage::At(Link::Up(_)) => TURNS_OF_A_RUN + 1,
-        Stage::Running(run) => run_left(run),
+        Stage::Running(work) => run_left(work),
     }
 }
 
@@ -91,7 +91,8 @@ fn service_left(service: &Service) -> u64
     match service {
         Service::Idle(_) | Service::Taken => 0,
         Service::Serving(stage, attempt) => {
-            stage_left(stage, attempt.group.run.part) + TURNS_OF_AN_ATTEMPT * attempts_left(attempt)
+            stage_left(stage, attempt.group.extent.part)
+                + TURNS_OF_AN_ATTEMPT * attempts_left(attempt)
         }
     }
 }

@@ -18,7 +18,7 @@ use Rattle.mmc_queue.specs.declared.held.Held.TheVariants.{Bytes, Room}
 use Rattle.mmc_queue.specs.declared.kind.Kind.TheVariants as kind
 use Rattle.mmc_queue.specs.declared.request.Request.{Request}
 use Rattle.mmc_queue.specs.declared.request.Request.TheVariants.{Erase, Read, Trim, Write}
-use Rattle.mmc_queue.specs.declared.run.Run.{Run}
+use Rattle.mmc_queue.specs.declared.extent.Extent.{Extent}
 use Rattle.mmc_queue.proofs.FindLemmas.{same_number}
 
 pub room_of_read : (r : Request) → kind_of r ≡ kind.Read → room_of r ≡ 512 * count_of r
@@ -58,14 +58,14 @@ some_by : (held : Held) (e : Entry) (es : List Entry) (s : ℕ) (b : Bool) → (
 some_by held e es s true h rest = refl
 some_by held e es s false h rest = rest h
 
-some_block : (held : Held) (run : Run) (es : List Entry) (s : ℕ) → ((e : Entry) → IsSound e → kind_of e.request ≡ run.kind → IsFilled held e)
-    → AreAlike run es → AreSound es → any_has es s ≡ true
+some_block : (held : Held) (extent : Extent) (es : List Entry) (s : ℕ) → ((e : Entry) → IsSound e → kind_of e.request ≡ extent.kind → IsFilled held e)
+    → AreAlike extent es → AreSound es → any_has es s ≡ true
     → is_some (block_at (held_by held) es s) ≡ true
-some_block held run [] s filled alike sound h = absurd (true≢false (sym h))
-some_block held run (e ∷ es) s filled alike sound h =
+some_block held extent [] s filled alike sound h = absurd (true≢false (sym h))
+some_block held extent (e ∷ es) s filled alike sound h =
     let same = same_sectors held e s (filled e sound.0 alike.1) in
     some_by held e es s (has_block e (held_by held e) s) (ap (λ b. b || any_has es s) same ∙ h)
-    (λ k. some_block held run es s filled alike.2 sound.1 k)
+    (λ k. some_block held extent es s filled alike.2 sound.1 k)
 
 count_by : (o : Option Sector) (rest : List Sector) (n : ℕ) → is_some o ≡ true → length rest ≡ n
     → length (before_rest o rest) ≡ suc n
@@ -83,19 +83,19 @@ all_blocks held es s (suc n) h =
 inside : (start end t : ℕ) → start ≤ t → t < start + (end - start) → (nat_le start t && nat_lt t end) ≡ true
 inside start end t p q = grind (arith, nat_tests)
 
-pub all_lent : (held : Held) (g : Group) → IsJoined g.members.items g.run
-    → ((e : Entry) → IsSound e → kind_of e.request ≡ g.run.kind → IsFilled held e)
-    → length (blocks_held held g) ≡ g.run.end - g.run.start
+pub all_lent : (held : Held) (g : Group) → IsJoined g.members.items g.extent
+    → ((e : Entry) → IsSound e → kind_of e.request ≡ g.extent.kind → IsFilled held e)
+    → length (blocks_held held g) ≡ g.extent.end - g.extent.start
 all_lent held g f filled =
-    all_blocks held g.members.items g.run.start (g.run.end - g.run.start)
-    (λ t p q. some_block held g.run g.members.items t filled f.alike f.sound (f.one_run t ∙ inside g.run.start g.run.end t p q))
+    all_blocks held g.members.items g.extent.start (g.extent.end - g.extent.start)
+    (λ t p q. some_block held g.extent g.members.items t filled f.alike f.sound (f.one_extent t ∙ inside g.extent.start g.extent.end t p q))
 
-pub reads_lend_all : (g : Group) → IsJoined g.members.items g.run → g.run.kind ≡ kind.Read
-    → length (blocks_of g) ≡ g.run.end - g.run.start
+pub reads_lend_all : (g : Group) → IsJoined g.members.items g.extent → g.extent.kind ≡ kind.Read
+    → length (blocks_of g) ≡ g.extent.end - g.extent.start
 reads_lend_all g f is =
     all_lent Room g f (λ e sound same. sound.room ∙ room_of_read e.request (same ∙ is))
 
-pub writes_lend_all : (g : Group) → IsJoined g.members.items g.run → g.run.kind ≡ kind.Write
-    → length (write_blocks_of g) ≡ g.run.end - g.run.start
+pub writes_lend_all : (g : Group) → IsJoined g.members.items g.extent → g.extent.kind ≡ kind.Write
+    → length (write_blocks_of g) ≡ g.extent.end - g.extent.start
 writes_lend_all g f is =
     all_lent Bytes g f (λ e sound same. length_of_write e.request (same ∙ is) sound.bytes)

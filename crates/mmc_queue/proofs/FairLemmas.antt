@@ -6,11 +6,11 @@ use Rattle.std.proofs.lemmas.Bool.{and_parts, true≢false}
 use Rattle.std.proofs.lemmas.Bool.Decides.{nat_tests}
 use Rattle.mmc_queue.specs.Group.{AreAlike, AreApart, IsFair, IsJoined, IsMerged, PassNone, any_has, has_sector}
 use Rattle.mmc_queue.specs.Requests.{can_merge, count_of, end_of, kind_of, part_of, start_of}
-use Rattle.mmc_queue.specs.Rule.{Grows, Joins, begins, comes_first, fits, joins, passes_none, run_of, widened, with_member}
+use Rattle.mmc_queue.specs.Rule.{Grows, Joins, begins, comes_first, fits, joins, passes_none, extent_of, widened, with_member}
 use Rattle.mmc_queue.specs.Waiting.{AreSound, Ascend, IsSound, Takes}
 use Rattle.mmc_queue.specs.declared.entry.Entry.{Entry}
 use Rattle.mmc_queue.specs.declared.request.Request.{Request}
-use Rattle.mmc_queue.specs.declared.run.Run.{Run}
+use Rattle.mmc_queue.specs.declared.extent.Extent.{Extent}
 use Rattle.mmc_queue.proofs.FindLemmas.{fits_parts}
 use Rattle.mmc_queue.proofs.GrowLemmas.{widened_members}
 use Rattle.mmc_queue.proofs.MapLemmas.{sound_one, sound_without}
@@ -155,63 +155,63 @@ at_start : (start end first last s : ℕ) → last ≡ start → start ≤ end �
     → ((nat_le first s && nat_lt s last) || (nat_le start s && nat_lt s end)) ≡ (nat_le first s && nat_lt s end)
 at_start start end first last s h p q = grind (arith, nat_tests)
 
--- The run, and one more at one of its ends.
+-- The extent, and one more at one of its ends.
 
-abbrev Side : Run → Request → Run → Type 0
-Side run r new =
-    ((new ≡ record run { end = end_of r; members = run.members + 1 }) × (start_of r ≡ run.end))
-    ⊎ ((new ≡ record run { start = start_of r; members = run.members + 1 }) × (end_of r ≡ run.start))
+abbrev Side : Extent → Request → Extent → Type 0
+Side extent r new =
+    ((new ≡ record extent { end = end_of r; members = extent.members + 1 }) × (start_of r ≡ extent.end))
+    ⊎ ((new ≡ record extent { start = start_of r; members = extent.members + 1 }) × (end_of r ≡ extent.start))
 
-side_by : (run : Run) (r : Request) (b : Bool) → (start_of r == run.end) ≡ b → (start_of r ≡ run.end) ⊎ (end_of r ≡ run.start)
-    → Side run r (if b then record run { end = end_of r; members = run.members + 1 } else record run { start = start_of r; members = run.members + 1 })
-side_by run r true is beside = inl (refl, (grind (arith, nat_tests, is)))
-side_by run r false is (inr h) = inr (refl, h)
-side_by run r false is (inl h) = let yes : (start_of r == run.end) ≡ true = grind (arith, nat_tests, h) in absurd (true≢false (sym yes ∙ is))
+side_by : (extent : Extent) (r : Request) (b : Bool) → (start_of r == extent.end) ≡ b → (start_of r ≡ extent.end) ⊎ (end_of r ≡ extent.start)
+    → Side extent r (if b then record extent { end = end_of r; members = extent.members + 1 } else record extent { start = start_of r; members = extent.members + 1 })
+side_by extent r true is beside = inl (refl, (grind (arith, nat_tests, is)))
+side_by extent r false is (inr h) = inr (refl, h)
+side_by extent r false is (inl h) = let yes : (start_of r == extent.end) ≡ true = grind (arith, nat_tests, h) in absurd (true≢false (sym yes ∙ is))
 
-side : (run : Run) (r : Request) → (start_of r ≡ run.end) ⊎ (end_of r ≡ run.start) → Side run r (widened run r)
-side run r beside = side_by run r (start_of r == run.end) refl beside
+side : (extent : Extent) (r : Request) → (start_of r ≡ extent.end) ⊎ (end_of r ≡ extent.start) → Side extent r (widened extent r)
+side extent r beside = side_by extent r (start_of r == extent.end) refl beside
 
-same_part : (run : Run) (r : Request) (new : Run) → Side run r new → new.part ≡ run.part
-same_part run r new (inl h) = ap (λ (x : Run). x.part) h.0
-same_part run r new (inr h) = ap (λ (x : Run). x.part) h.0
+same_part : (extent : Extent) (r : Request) (new : Extent) → Side extent r new → new.part ≡ extent.part
+same_part extent r new (inl h) = ap (λ (x : Extent). x.part) h.0
+same_part extent r new (inr h) = ap (λ (x : Extent). x.part) h.0
 
-same_kind : (run : Run) (r : Request) (new : Run) → Side run r new → new.kind ≡ run.kind
-same_kind run r new (inl h) = ap (λ (x : Run). x.kind) h.0
-same_kind run r new (inr h) = ap (λ (x : Run). x.kind) h.0
+same_kind : (extent : Extent) (r : Request) (new : Extent) → Side extent r new → new.kind ≡ extent.kind
+same_kind extent r new (inl h) = ap (λ (x : Extent). x.kind) h.0
+same_kind extent r new (inr h) = ap (λ (x : Extent). x.kind) h.0
 
-forward : (run : Run) (r : Request) (new : Run) → Side run r new → run.start ≤ run.end → new.start ≤ new.end
-forward run r new (inl h) up =
-    let s = ap (λ (x : Run). x.start) h.0 in let e = ap (λ (x : Run). x.end) h.0 in let k = h.1 in omega (arith, s, e, k, up)
-forward run r new (inr h) up =
-    let s = ap (λ (x : Run). x.start) h.0 in let e = ap (λ (x : Run). x.end) h.0 in let k = h.1 in omega (arith, s, e, k, up)
+forward : (extent : Extent) (r : Request) (new : Extent) → Side extent r new → extent.start ≤ extent.end → new.start ≤ new.end
+forward extent r new (inl h) up =
+    let s = ap (λ (x : Extent). x.start) h.0 in let e = ap (λ (x : Extent). x.end) h.0 in let k = h.1 in omega (arith, s, e, k, up)
+forward extent r new (inr h) up =
+    let s = ap (λ (x : Extent). x.start) h.0 in let e = ap (λ (x : Extent). x.end) h.0 in let k = h.1 in omega (arith, s, e, k, up)
 
-short_by : (run : Run) (r : Request) (new : Run) → Side run r new → run.end + count_of r ≤ run.start + 1024 → new.end ≤ new.start + 1024
-short_by run r new (inl h) room =
-    let s = ap (λ (x : Run). x.start) h.0 in let e = ap (λ (x : Run). x.end) h.0 in let k = h.1 in omega (arith, s, e, k, room)
-short_by run r new (inr h) room =
-    let s = ap (λ (x : Run). x.start) h.0 in let e = ap (λ (x : Run). x.end) h.0 in let k = h.1 in omega (arith, s, e, k, room)
+short_by : (extent : Extent) (r : Request) (new : Extent) → Side extent r new → extent.end + count_of r ≤ extent.start + 1024 → new.end ≤ new.start + 1024
+short_by extent r new (inl h) room =
+    let s = ap (λ (x : Extent). x.start) h.0 in let e = ap (λ (x : Extent). x.end) h.0 in let k = h.1 in omega (arith, s, e, k, room)
+short_by extent r new (inr h) room =
+    let s = ap (λ (x : Extent). x.start) h.0 in let e = ap (λ (x : Extent). x.end) h.0 in let k = h.1 in omega (arith, s, e, k, room)
 
-covers : (run : Run) (r : Request) (new : Run) (s : ℕ) → Side run r new → run.start ≤ run.end
-    → (has_sector r s || (nat_le run.start s && nat_lt s run.end)) ≡ (nat_le new.start s && nat_lt s new.end)
-covers run r new s (inl h) up =
-    rw h.0 (at_end run.start run.end (start_of r) (end_of r) s h.1 up (omega arith))
-covers run r new s (inr h) up =
-    rw h.0 (at_start run.start run.end (start_of r) (end_of r) s h.1 up (omega arith))
+covers : (extent : Extent) (r : Request) (new : Extent) (s : ℕ) → Side extent r new → extent.start ≤ extent.end
+    → (has_sector r s || (nat_le extent.start s && nat_lt s extent.end)) ≡ (nat_le new.start s && nat_lt s new.end)
+covers extent r new s (inl h) up =
+    rw h.0 (at_end extent.start extent.end (start_of r) (end_of r) s h.1 up (omega arith))
+covers extent r new s (inr h) up =
+    rw h.0 (at_start extent.start extent.end (start_of r) (end_of r) s h.1 up (omega arith))
 
-alike_by : (new : Run) (e m : Entry) (ms : List Entry) (b : Bool) → AreAlike new (e ∷ m ∷ ms) → AreAlike new (with_member ms e)
+alike_by : (new : Extent) (e m : Entry) (ms : List Entry) (b : Bool) → AreAlike new (e ∷ m ∷ ms) → AreAlike new (with_member ms e)
     → AreAlike new (if b then (e ∷ m ∷ ms) else (m ∷ with_member ms e))
 alike_by new e m ms true all rest = all
 alike_by new e m ms false all rest = (all.2.0, all.2.1, rest)
 
-alike_with : (new : Run) (e : Entry) (ms : List Entry) → part_of e.request ≡ new.part → kind_of e.request ≡ new.kind → AreAlike new ms
+alike_with : (new : Extent) (e : Entry) (ms : List Entry) → part_of e.request ≡ new.part → kind_of e.request ≡ new.kind → AreAlike new ms
     → AreAlike new (with_member ms e)
 alike_with new e [] p k all = (p, k, tt)
 alike_with new e (m ∷ ms) p k all =
     alike_by new e m ms (nat_lt e.ticket m.ticket) (p, k, all) (alike_with new e ms p k all.2)
 
-alike_still : (run new : Run) (ms : List Entry) → new.part ≡ run.part → new.kind ≡ run.kind → AreAlike run ms → AreAlike new ms
-alike_still run new [] p k all = tt
-alike_still run new (m ∷ ms) p k all = (all.0 ∙ sym p, all.1 ∙ sym k, alike_still run new ms p k all.2)
+alike_still : (extent new : Extent) (ms : List Entry) → new.part ≡ extent.part → new.kind ≡ extent.kind → AreAlike extent ms → AreAlike new ms
+alike_still extent new [] p k all = tt
+alike_still extent new (m ∷ ms) p k all = (all.0 ∙ sym p, all.1 ∙ sym k, alike_still extent new ms p k all.2)
 
 length_by : (e m : Entry) (ms : List Entry) (b : Bool) → length (with_member ms e) ≡ suc (length ms)
     → length (if b then (e ∷ m ∷ ms) else (m ∷ with_member ms e)) ≡ suc (suc (length ms))
@@ -273,27 +273,27 @@ at_most a b h = grind (arith, nat_tests)
 less_than : (a b : ℕ) → nat_lt a b ≡ true → a < b
 less_than a b h = grind (arith, nat_tests)
 
-step : (waits members : List Entry) (run : Run) (left : List Entry) (e : Entry) (rest : List Entry) → Ascend 0 waits
-    → IsFair waits members run left × (run.start ≤ run.end) × AreSound left → Joins run left e rest
-    → IsFair waits (with_member members e) (widened run e.request) rest
-    × ((widened run e.request).start ≤ (widened run e.request).end) × AreSound rest
-step waits members run left e rest up old j =
+step : (waits members : List Entry) (extent : Extent) (left : List Entry) (e : Entry) (rest : List Entry) → Ascend 0 waits
+    → IsFair waits members extent left × (extent.start ≤ extent.end) × AreSound left → Joins extent left e rest
+    → IsFair waits (with_member members e) (widened extent e.request) rest
+    × ((widened extent e.request).start ≤ (widened extent e.request).end) × AreSound rest
+step waits members extent left e rest up old j =
     let f = old.0 in
     let g = f.joined in
     let r = e.request in
-    let may = and_parts (fits run r) (passes_none e left) j.may in
-    let fit = fits_parts run r may.0 in
-    let at = side run r fit.beside in
-    let new = widened run r in
-    let room = and_parts (nat_lt run.members 16) (nat_le (run.end + count_of r) (run.start + 1024)) fit.room in
+    let may = and_parts (fits extent r) (passes_none e left) j.may in
+    let fit = fits_parts extent r may.0 in
+    let at = side extent r fit.beside in
+    let new = widened extent r in
+    let room = and_parts (nat_lt extent.members 16) (nat_le (extent.end + count_of r) (extent.start + 1024)) fit.room in
     let t = j.leaves in
     let later_up : Ascend (f.oldest.ticket + 1) f.later = (subst (Ascend 0) f.waits_are up).1 in
     let above = left_above (f.oldest.ticket + 1) f.later f.others left t.0 e t.1 later_up f.parts t.2 in
-    let part = same_part run r new at in
-    let kind = same_kind run r new at in
+    let part = same_part extent r new at in
+    let kind = same_kind extent r new at in
     let long = length_with members e in
-    let more = widened_members run r in
-    let few = less_than run.members 16 room.0 in
+    let more = widened_members extent r in
+    let few = less_than extent.members 16 room.0 in
     let counted = g.counted in
     let sounds = subst AreSound t.2 old.2 in (
       record {
@@ -305,21 +305,21 @@ step waits members run left e rest up old j =
         parts = subst (λ vs. IsMerged f.later (with_member f.others e) vs) (sym t.3)
             (member_merged (f.oldest.ticket + 1) f.later f.others left t.0 e t.1 later_up f.parts t.2);
         joined = record {
-          alike = alike_with new e members (fit.part_is ∙ sym part) (fit.kind_is ∙ sym kind) (alike_still run new members part kind g.alike);
-          one_run = λ s.
-              any_with members e s ∙ (ap (λ b. has_sector r s || b) (g.one_run s) ∙ covers run r new s at old.1);
+          alike = alike_with new e members (fit.part_is ∙ sym part) (fit.kind_is ∙ sym kind) (alike_still extent new members part kind g.alike);
+          one_extent = λ s.
+              any_with members e s ∙ (ap (λ b. has_sector r s || b) (g.one_extent s) ∙ covers extent r new s at old.1);
           apart = apart_with members e
-              (λ s h. g.one_run s ∙ outside run.start run.end (start_of r) (end_of r) s (fit.beside) h) g.apart;
+              (λ s h. g.one_extent s ∙ outside extent.start extent.end (start_of r) (end_of r) s (fit.beside) h) g.apart;
           counted = omega (arith, long, more, counted);
           some = omega (arith, long);
           few = omega (arith, long, few, counted);
-          short = λ m. short_by run r new at (at_most (run.end + count_of r) (run.start + 1024) room.1);
+          short = λ m. short_by extent r new at (at_most (extent.end + count_of r) (extent.start + 1024) room.1);
           alone = λ no. absurd (true≢false (sym fit.merges ∙ (ap can_merge (sym kind) ∙ no)));
           sound = sound_with members e (sound_one t.0 e t.1 sounds) g.sound;
         };
         pass_none = pass_with rest e members (passes_less e left e rest t may.1) (all_pass members left e rest t f.pass_none);
       },
-      forward run r new at old.1,
+      forward extent r new at old.1,
       subst AreSound (sym t.3) (sound_without t.0 e t.1 sounds),
     )
 
@@ -340,10 +340,10 @@ one_sector true false = refl
 one_sector false b = refl
 
 -- a request is served alone
-pub one_joined : (e : Entry) → IsSound e → IsJoined (e ∷ []) (run_of e.request)
+pub one_joined : (e : Entry) → IsSound e → IsJoined (e ∷ []) (extent_of e.request)
 one_joined e one = record {
   alike = (refl, refl, tt);
-  one_run = λ s. one_sector (nat_le (start_of e.request) s) (nat_lt s (end_of e.request));
+  one_extent = λ s. one_sector (nat_le (start_of e.request) s) (nat_lt s (end_of e.request));
   apart = ((λ s h. refl), tt);
   counted = refl;
   some = omega arith;
@@ -353,10 +353,10 @@ one_joined e one = record {
   sound = (one, tt);
 }
 
-pub fair : (waits members : List Entry) (run : Run) (left : List Entry) → Ascend 0 waits → AreSound waits
-    → Grows waits members run left
-    → IsFair waits members run left × (run.start ≤ run.end) × AreSound left
-fair waits members run left up sound (begins oldest later is) =
+pub fair : (waits members : List Entry) (extent : Extent) (left : List Entry) → Ascend 0 waits → AreSound waits
+    → Grows waits members extent left
+    → IsFair waits members extent left × (extent.start ≤ extent.end) × AreSound left
+fair waits members extent left up sound (begins oldest later is) =
     let one : IsSound oldest = (subst AreSound is sound).0 in
     let more : Ascend (oldest.ticket + 1) later = (subst (Ascend 0) is up).1 in (
       record {
@@ -372,5 +372,5 @@ fair waits members run left up sound (begins oldest later is) =
       omega arith,
       (subst AreSound is sound).1,
     )
-fair waits members run left up sound (joins old_members old_run old_left e rest g j) =
-    step waits old_members old_run old_left e rest up (fair waits old_members old_run old_left up sound g) j
+fair waits members extent left up sound (joins old_members old_extent old_left e rest g j) =
+    step waits old_members old_extent old_left e rest up (fair waits old_members old_extent old_left up sound g) j

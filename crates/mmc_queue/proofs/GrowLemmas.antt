@@ -10,44 +10,44 @@ use Rattle.mmc_queue.specs.Search.{IsLowest}
 use Rattle.mmc_queue.specs.Waiting.{Takes, at_ticket}
 use Rattle.mmc_queue.specs.declared.entry.Entry.{Entry}
 use Rattle.mmc_queue.specs.declared.request.Request.{Request}
-use Rattle.mmc_queue.specs.declared.run.Run.{Run}
+use Rattle.mmc_queue.specs.declared.extent.Extent.{Extent}
 use Rattle.mmc_queue.proofs.FindLemmas.{fits_parts}
 
 less_is : (a b : ℕ) → nat_lt a b ≡ true → a < b
 less_is a b h = grind (arith, nat_tests)
 
 -- where one may join there are fewer members than may be
-pub few_members : (run : Run) (ws : List Entry) (t : ℕ) → IsLowest run ws t → run.members < 16
-few_members run ws t l =
+pub few_members : (extent : Extent) (ws : List Entry) (t : ℕ) → IsLowest extent ws t → extent.members < 16
+few_members extent ws t l =
     let r : Request = l.e.request in
-    let f = fits_parts run r (and_parts (fits run r) (passes_none l.e ws) l.may).0 in
-    less_is run.members 16 (and_parts (nat_lt run.members 16) (nat_le (run.end + count_of r) (run.start + 1024)) f.room).0
+    let f = fits_parts extent r (and_parts (fits extent r) (passes_none l.e ws) l.may).0 in
+    less_is extent.members 16 (and_parts (nat_lt extent.members 16) (nat_le (extent.end + count_of r) (extent.start + 1024)) f.room).0
 
-pub not_absent : (run : Run) (ws : List Entry) (t : ℕ) → IsLowest run ws t → at_ticket t ws ≡ None → ⊥
-not_absent run ws t l none = none-some l.e (sym none ∙ l.there)
+pub not_absent : (extent : Extent) (ws : List Entry) (t : ℕ) → IsLowest extent ws t → at_ticket t ws ≡ None → ⊥
+not_absent extent ws t l none = none-some l.e (sym none ∙ l.there)
 
-widened_by : (run : Run) (r : Request) (b : Bool)
-    → (if b then record run { end = end_of r; members = run.members + 1 } else record run { start = start_of r; members = run.members + 1 }).members
-    ≡ run.members + 1
-widened_by run r true = refl
-widened_by run r false = refl
+widened_by : (extent : Extent) (r : Request) (b : Bool)
+    → (if b then record extent { end = end_of r; members = extent.members + 1 } else record extent { start = start_of r; members = extent.members + 1 }).members
+    ≡ extent.members + 1
+widened_by extent r true = refl
+widened_by extent r false = refl
 
-pub widened_members : (run : Run) (r : Request) → (widened run r).members ≡ run.members + 1
-widened_members run r = widened_by run r (start_of r == run.end)
+pub widened_members : (extent : Extent) (r : Request) → (widened extent r).members ≡ extent.members + 1
+widened_members extent r = widened_by extent r (start_of r == extent.end)
 
 abbrev or_else : Entry → Option Entry → Entry
 or_else d None = d
 or_else d (Some x) = x
 
-pub joins_next : (waits members : List Entry) (run : Run) (left : List Entry) (t : ℕ) (e : Entry) (rest : List Entry)
-    → IsLowest run left t → e.ticket ≡ t → at_ticket t left ≡ Some e → Takes left e rest → Grows waits members run left
-    → Grows waits (with_member members e) (widened run e.request) rest
-joins_next waits members run left t e rest l is there leaves g =
+pub joins_next : (waits members : List Entry) (extent : Extent) (left : List Entry) (t : ℕ) (e : Entry) (rest : List Entry)
+    → IsLowest extent left t → e.ticket ≡ t → at_ticket t left ≡ Some e → Takes left e rest → Grows waits members extent left
+    → Grows waits (with_member members e) (widened extent e.request) rest
+joins_next waits members extent left t e rest l is there leaves g =
     let both : Some l.e ≡ Some e = sym l.there ∙ there in
     let same : l.e ≡ e = ap (or_else e) both in
-    joins members run left e rest g
+    joins members extent left e rest g
     (record {
-      may = subst (λ x. may_join run left x ≡ true) same l.may;
-      lowest = subst (λ k. NoneLower run left k left) (sym is) l.lowest;
+      may = subst (λ x. may_join extent left x ≡ true) same l.may;
+      lowest = subst (λ k. NoneLower extent left k left) (sym is) l.lowest;
       leaves = leaves;
     })

@@ -13,7 +13,7 @@ use Rattle.mmc_queue.specs.Waiting.{AreSound, IsSound}
 use Rattle.mmc_queue.specs.declared.entry.Entry.{Entry}
 use Rattle.mmc_queue.specs.declared.group.Group.{Group}
 use Rattle.mmc_queue.specs.declared.request.Request.{Request}
-use Rattle.mmc_queue.specs.declared.run.Run.{Run}
+use Rattle.mmc_queue.specs.declared.extent.Extent.{Extent}
 
 -- Requests and room stay.
 
@@ -60,16 +60,16 @@ one_lent : (es : List Entry) (s : ℕ) (left : List ℕ) → length left ≡ 512
 one_lent [] s left long = tt
 one_lent (e ∷ es) s left long = one_by e es s left (has_block e e.buffer s) refl long (one_lent es s left long)
 
-pub run_kept : (old new : Group) → IsRewritten blocks_of with_lent old new → new.run ≡ old.run
-run_kept old new nothing = refl
-run_kept old new (block now i left before below long) = run_kept old now before
+pub extent_kept : (old new : Group) → IsRewritten blocks_of with_lent old new → new.extent ≡ old.extent
+extent_kept old new nothing = refl
+extent_kept old new (block now i left before below long) = extent_kept old now before
 
 pub requests_kept : (old new : Group) → IsRewritten blocks_of with_lent old new
     → AreLent old.members.items new.members.items
 requests_kept old new nothing = none_lent old.members.items
 requests_kept old new (block now i left before below long) =
-    all_again old.members.items now.members.items (with_sector now.members.items (now.run.start + i) left)
-    (requests_kept old now before) (one_lent now.members.items (now.run.start + i) left long)
+    all_again old.members.items now.members.items (with_sector now.members.items (now.extent.start + i) left)
+    (requests_kept old now before) (one_lent now.members.items (now.extent.start + i) left long)
 
 -- So they are joined as before.
 
@@ -87,12 +87,12 @@ same_any (e ∷ es) (v ∷ vs) s l =
     ap (λ (r : Request). has_sector r s || any_has vs s) l.0.request
     ∙ ap (λ b. has_sector e.request s || b) (same_any es vs s l.1)
 
-alike_kept : (run : Run) (es vs : List Entry) → AreLent es vs → AreAlike run es → AreAlike run vs
-alike_kept run [] [] l all = tt
-alike_kept run [] (v ∷ vs) l all = absurd l
-alike_kept run (e ∷ es) [] l all = absurd l
-alike_kept run (e ∷ es) (v ∷ vs) l all =
-    (ap part_of l.0.request ∙ all.0, ap kind_of l.0.request ∙ all.1, alike_kept run es vs l.1 all.2)
+alike_kept : (extent : Extent) (es vs : List Entry) → AreLent es vs → AreAlike extent es → AreAlike extent vs
+alike_kept extent [] [] l all = tt
+alike_kept extent [] (v ∷ vs) l all = absurd l
+alike_kept extent (e ∷ es) [] l all = absurd l
+alike_kept extent (e ∷ es) (v ∷ vs) l all =
+    (ap part_of l.0.request ∙ all.0, ap kind_of l.0.request ∙ all.1, alike_kept extent es vs l.1 all.2)
 
 apart_kept : (es vs : List Entry) → AreLent es vs → AreApart es → AreApart vs
 apart_kept [] [] l all = tt
@@ -121,14 +121,14 @@ sound_kept [] (v ∷ vs) l all = absurd l
 sound_kept (e ∷ es) [] l all = absurd l
 sound_kept (e ∷ es) (v ∷ vs) l all = (one_sound_still e v l.0 all.0, sound_kept es vs l.1 all.1)
 
-joined_still : (es vs : List Entry) (run : Run) → AreLent es vs → IsJoined es run → IsJoined vs run
-joined_still es vs run l j =
+joined_still : (es vs : List Entry) (extent : Extent) → AreLent es vs → IsJoined es extent → IsJoined vs extent
+joined_still es vs extent l j =
     let long = same_length es vs l in
     let some = j.some in
     let few = j.few in
     record {
-      alike = alike_kept run es vs l j.alike;
-      one_run = λ s. same_any es vs s l ∙ j.one_run s;
+      alike = alike_kept extent es vs l j.alike;
+      one_extent = λ s. same_any es vs s l ∙ j.one_extent s;
       apart = apart_kept es vs l j.apart;
       counted = long ∙ j.counted;
       some = omega (arith, long, some);
@@ -138,8 +138,8 @@ joined_still es vs run l j =
       sound = sound_kept es vs l j.sound;
     }
 
-pub joined_kept : (old new : Group) → IsRewritten blocks_of with_lent old new → IsJoined old.members.items old.run
-    → IsJoined new.members.items new.run
+pub joined_kept : (old new : Group) → IsRewritten blocks_of with_lent old new → IsJoined old.members.items old.extent
+    → IsJoined new.members.items new.extent
 joined_kept old new r j =
-    subst (λ run. IsJoined new.members.items run) (sym (run_kept old new r))
-    (joined_still old.members.items new.members.items old.run (requests_kept old new r) j)
+    subst (λ extent. IsJoined new.members.items extent) (sym (extent_kept old new r))
+    (joined_still old.members.items new.members.items old.extent (requests_kept old new r) j)

@@ -34,22 +34,22 @@ own_block held (v ∷ es) e s filled apart (inr m) h =
     ∙ not_both (has_sector v.request s) (any_has es s) (apart.0 s) (has_any es e s m h) in
     rw no (own_block held es e s (λ x n. filled x (inr n)) apart.1 m h)
 
-held_block : (held : Held) (g : Group) → IsJoined g.members.items g.run
-    → ((e : Entry) → IsSound e → kind_of e.request ≡ g.run.kind → IsFilled held e)
+held_block : (held : Held) (g : Group) → IsJoined g.members.items g.extent
+    → ((e : Entry) → IsSound e → kind_of e.request ≡ g.extent.kind → IsFilled held e)
     → (e : Entry) (i : ℕ) → IsOneOf g.members.items e → i < count_of e.request
-    → slice_index_or (blocks_held held g) (start_of e.request + i - g.run.start) []
+    → slice_index_or (blocks_held held g) (start_of e.request + i - g.extent.start) []
     ≡ slice_index_or (pieces (count_of e.request) (held_by held e)) i []
 held_block held g j filled e i m below =
     let es : List Entry = g.members.items in
     let start : ℕ = start_of e.request in
-    let k : ℕ = start + i - g.run.start in
-    let full = λ (v : Entry) (n : IsOneOf es v). filled v (member_sound es g.run j v n) (member_alike es g.run j v n).1 in
-    let within = member_within es g.run j e m in
+    let k : ℕ = start + i - g.extent.start in
+    let full = λ (v : Entry) (n : IsOneOf es v). filled v (member_sound es g.extent j v n) (member_alike es g.extent j v n).1 in
+    let within = member_within es g.extent j e m in
     let front = within.0 in
     let back = within.1 in
     let all = all_lent held g j filled in
-    let here : g.run.start + k ≡ start + i = omega (arith, front) in
-    let nth = nth_block held es g.run.start (g.run.end - g.run.start) k (omega (arith, front, back, below, all)) in
+    let here : g.extent.start + k ≡ start + i = omega (arith, front) in
+    let nth = nth_block held es g.extent.start (g.extent.end - g.extent.start) k (omega (arith, front, back, below, all)) in
     let own = own_block held es e (start + i) full j.apart m
     (lies_in start (end_of e.request) (start + i) (omega arith) (omega (arith, below))) in
     let both = sym nth ∙ (ap (block_at (held_by held) es) here ∙ own) in
@@ -59,16 +59,16 @@ held_block held g j filled e i m below =
     ∙ (ap (λ n. slice_index_or (pieces n (held_by held e)) (start + i - start) []) count
     ∙ ap (λ n. slice_index_or (pieces (count_of e.request) (held_by held e)) n []) back_again)
 
-pub reads_own : (g : Group) (e : Entry) (i : ℕ) → IsJoined g.members.items g.run → g.run.kind ≡ kind.Read
+pub reads_own : (g : Group) (e : Entry) (i : ℕ) → IsJoined g.members.items g.extent → g.extent.kind ≡ kind.Read
     → IsOneOf g.members.items e → i < count_of e.request
-    → slice_index_or (blocks_of g) (start_of e.request + i - g.run.start) []
+    → slice_index_or (blocks_of g) (start_of e.request + i - g.extent.start) []
     ≡ slice_index_or (pieces (count_of e.request) e.buffer) i []
 reads_own g e i j is m below =
     held_block Room g j (λ v sound same. sound.room ∙ room_of_read v.request (same ∙ is)) e i m below
 
-pub writes_own : (g : Group) (e : Entry) (i : ℕ) → IsJoined g.members.items g.run → g.run.kind ≡ kind.Write
+pub writes_own : (g : Group) (e : Entry) (i : ℕ) → IsJoined g.members.items g.extent → g.extent.kind ≡ kind.Write
     → IsOneOf g.members.items e → i < count_of e.request
-    → slice_index_or (write_blocks_of g) (start_of e.request + i - g.run.start) []
+    → slice_index_or (write_blocks_of g) (start_of e.request + i - g.extent.start) []
     ≡ slice_index_or (pieces (count_of e.request) (bytes_of e.request)) i []
 writes_own g e i j is m below =
     held_block Bytes g j (λ v sound same. length_of_write v.request (same ∙ is) sound.bytes) e i m below

@@ -125,7 +125,7 @@ pub between_tickets : (p : Place) (low t high : ℕ) → low ≤ t → t ≤ hig
 between_tickets p low t high from to =
     rw (by_tickets p low t, by_tickets p high t) (grind (arith, nat_tests))
 
--- so a search from the first to the last is one that runs forward
-pub runs_forward : (p : Place) (low high : ℕ) → low ≤ high
+-- so a search from the first to the last is one that goes forward
+pub goes_forward : (p : Place) (low high : ℕ) → low ≤ high
     → is_gt (place_cmp (record p { ticket = low }) (record p { ticket = high })) ≡ false
-runs_forward p low high less = rw (by_tickets p low high) (grind (arith, nat_tests))
+goes_forward p low high less = rw (by_tickets p low high) (grind (arith, nat_tests))

@@ -20,7 +20,7 @@ use Rattle.mmc_queue.specs.Search.{NotAbove, StandsAlike, is_better, is_lower, m
 use Rattle.mmc_queue.specs.declared.entry.Entry.{Entry}
 use Rattle.mmc_queue.specs.declared.place.Edge.{Edge}
 use Rattle.mmc_queue.specs.declared.place.Place.{Place}
-use Rattle.mmc_queue.specs.declared.run.Run.{Run}
+use Rattle.mmc_queue.specs.declared.extent.Extent.{Extent}
 use Rattle.mmc_queue.proofs.MapLemmas.{same_lookup, small_ticket}
 use Rattle.mmc_queue.proofs.PlaceLemmas.{between_tickets, is_its_own_place, same_place}
 
@@ -54,11 +54,11 @@ in_filter test p (k ∷ ks) h passes =
     in_filter_by test p k ks (is_at (place_cmp p) k) refl passes h (λ r. in_filter test p ks r passes)
 
 -- each entry that stands there has its place in the range
-pub in_range : (m : BTreeMap ℕ Entry) (places : BTreeSet Place) (run : Run) (edge : Edge) (sector : ℕ) (first : Place) (t : ℕ)
-    → Mirrors m places → first ≡ record { part = run.part; kind = run.kind; edge = edge; sector = sector; ticket = 0 }
-    → StandsAlike run (values m) edge sector t
+pub in_range : (m : BTreeMap ℕ Entry) (places : BTreeSet Place) (extent : Extent) (edge : Edge) (sector : ℕ) (first : Place) (t : ℕ)
+    → Mirrors m places → first ≡ record { part = extent.part; kind = extent.kind; edge = edge; sector = sector; ticket = 0 }
+    → StandsAlike extent (values m) edge sector t
     → HasTicket t (keys_between place_cmp (Included (record first { ticket = 0 })) (Included (record first { ticket = 2 ^ 64 - 1 })) places)
-in_range m places run edge sector first t old is s =
+in_range m places extent edge sector first t old is s =
     let p : Place = record first { ticket = t } in
     let small = small_ticket t m.entries s.0 old.keyed s.1 in
     let there : get nat_cmp m t ≡ Some s.0 = sym (same_lookup t m.entries old.keyed) ∙ s.1 in
@@ -78,18 +78,18 @@ not_lower : (best : Option ℕ) (t : ℕ) → is_lower t best ≡ false → NotA
 not_lower None t is = absurd (true≢false is)
 not_lower (Some b) t is = grind (arith, nat_tests)
 
-pub better_parts : (run : Run) (ws : List Entry) (t : ℕ) (best : Option ℕ) → is_better run ws t best ≡ true
-    → (is_lower t best ≡ true) × (may_join_at run ws t ≡ true)
-better_parts run ws t best h = and_parts (is_lower t best) (may_join_at run ws t) h
+pub better_parts : (extent : Extent) (ws : List Entry) (t : ℕ) (best : Option ℕ) → is_better extent ws t best ≡ true
+    → (is_lower t best ≡ true) × (may_join_at extent ws t ≡ true)
+better_parts extent ws t best h = and_parts (is_lower t best) (may_join_at extent ws t) h
 
 not_better_by : (best : Option ℕ) (t : ℕ) (a b : Bool) → is_lower t best ≡ a → (a && b) ≡ false → b ≡ true → NotAbove best t
 not_better_by best t true b low h may = absurd (true≢false (sym may ∙ h))
 not_better_by best t false b low h may = not_lower best t low
 
-pub not_better : (run : Run) (ws : List Entry) (t : ℕ) (best : Option ℕ) → is_better run ws t best ≡ false
-    → may_join_at run ws t ≡ true
+pub not_better : (extent : Extent) (ws : List Entry) (t : ℕ) (best : Option ℕ) → is_better extent ws t best ≡ false
+    → may_join_at extent ws t ≡ true
     → NotAbove best t
-not_better run ws t best h may = not_better_by best t (is_lower t best) (may_join_at run ws t) refl h may
+not_better extent ws t best h may = not_better_by best t (is_lower t best) (may_join_at extent ws t) refl h may
 
 -- where what is left to look at has the ticket
 abbrev pub Covers : Option ℕ → List Place → ℕ → Type 0
@@ -101,13 +101,13 @@ covers_taken best p ps t low (inl h) = inl (lower_still best p.ticket t low h)
 covers_taken best p ps t low (inr (inl h)) = inl (omega (arith, h))
 covers_taken best p ps t low (inr (inr h)) = inr h
 
-pub covers_passed : (run : Run) (ws : List Entry) (best : Option ℕ) (p : Place) (ps : List Place) (t : ℕ)
-    → is_better run ws p.ticket best ≡ false → may_join_at run ws t ≡ true → Covers best (p ∷ ps) t
+pub covers_passed : (extent : Extent) (ws : List Entry) (best : Option ℕ) (p : Place) (ps : List Place) (t : ℕ)
+    → is_better extent ws p.ticket best ≡ false → may_join_at extent ws t ≡ true → Covers best (p ∷ ps) t
     → Covers best ps t
-covers_passed run ws best p ps t not may (inl h) = inl h
-covers_passed run ws best p ps t not may (inr (inl h)) =
-    inl (subst (NotAbove best) h (not_better run ws p.ticket best not (subst (λ u. may_join_at run ws u ≡ true) (sym h) may)))
-covers_passed run ws best p ps t not may (inr (inr h)) = inr h
+covers_passed extent ws best p ps t not may (inl h) = inl h
+covers_passed extent ws best p ps t not may (inr (inl h)) =
+    inl (subst (NotAbove best) h (not_better extent ws p.ticket best not (subst (λ u. may_join_at extent ws u ≡ true) (sym h) may)))
+covers_passed extent ws best p ps t not may (inr (inr h)) = inr h
 
 pub covers_all : (best : Option ℕ) (t : ℕ) → Covers best [] t → NotAbove best t
 covers_all best t (inl h) = h

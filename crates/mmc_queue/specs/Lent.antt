@@ -1,4 +1,4 @@
--- The members' buffers as the blocks of a run: each block is found by its sector.
+-- The members' buffers as the blocks of an extent: each block is found by its sector.
 use Rattle.std.specs.Prelude.{◌&&◌, ◌+◌, ◌-◌, ◌≡◌, ◌∷◌, Bool, List, None, Option, Some, [], false, if◌then◌else◌}
 use Rattle.std.specs.Prelude.{length, nat_le, nat_lt, slice_index_or, suc, true, zero, ℕ}
 use Rattle.arrayvec.specs.ArrayVec.{with_item}
@@ -43,9 +43,9 @@ held_by Room e = e.buffer
 held_by Bytes e = bytes_of e.request
 
 abbrev pub blocks_held : Held → Group → List Sector
-blocks_held held g = blocks_from (held_by held) g.members.items g.run.start (g.run.end - g.run.start)
+blocks_held held g = blocks_from (held_by held) g.members.items g.extent.start (g.extent.end - g.extent.start)
 
--- the buffers of a group as the blocks of its run
+-- the buffers of a group as the blocks of its extent
 abbrev pub blocks_of : Group → List Sector
 blocks_of g = blocks_held Room g
 
@@ -67,7 +67,7 @@ with_sector (e ∷ es) sector left =
     else (e ∷ with_sector es sector left)
 
 abbrev pub with_lent : Group → ℕ → List ℕ → Group
-with_lent g i left = record g { members = record { items = with_sector g.members.items (g.run.start + i) left } }
+with_lent g i left = record g { members = record { items = with_sector g.members.items (g.extent.start + i) left } }
 
 -- the same request of the same client with as much room: only what is in the room may differ
 pub record IsLent (old new : Entry) : Type 0 where

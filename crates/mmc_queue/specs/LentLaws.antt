@@ -144,7 +144,7 @@ written es s (suc n) i left below long =
 
 pub one_written : (g : Group) (i : ℕ) (left : List ℕ) → i < length (blocks_of g) → length left ≡ 512
     → blocks_of (with_lent g i left) ≡ slice_set (blocks_of g) i left
-one_written g i left below long = written g.members.items g.run.start (g.run.end - g.run.start) i left below long
+one_written g i left below long = written g.members.items g.extent.start (g.extent.end - g.extent.start) i left below long
 
 -- Where a block is.
 

@@ -7,34 +7,34 @@ use Rattle.mmc_queue.specs.Waiting.{Takes}
 use Rattle.mmc_queue.specs.declared.entry.Entry.{Entry}
 use Rattle.mmc_queue.specs.declared.request.Request.{Request}
 use Rattle.mmc_queue.specs.declared.request.TheConstants.{MAX_COUNT}
-use Rattle.mmc_queue.specs.declared.run.Run.{Run}
-use Rattle.mmc_queue.specs.declared.run.TheConstants.{MAX_GROUP}
+use Rattle.mmc_queue.specs.declared.extent.Extent.{Extent}
+use Rattle.mmc_queue.specs.declared.extent.TheConstants.{MAX_GROUP}
 
--- the run of one request
-abbrev pub run_of : Request → Run
-run_of r = record { part = part_of r; kind = kind_of r; start = start_of r; end = end_of r; members = 1 }
+-- the extent of one request
+abbrev pub extent_of : Request → Extent
+extent_of r = record { part = part_of r; kind = kind_of r; start = start_of r; end = end_of r; members = 1 }
 
--- the run, and a request at one of its ends
-abbrev pub widened : Run → Request → Run
-widened run r =
-    if start_of r == run.end then record run { end = end_of r; members = run.members + 1 }
-    else record run { start = start_of r; members = run.members + 1 }
+-- the extent, and a request at one of its ends
+abbrev pub widened : Extent → Request → Extent
+widened extent r =
+    if start_of r == extent.end then record extent { end = end_of r; members = extent.members + 1 }
+    else record extent { start = start_of r; members = extent.members + 1 }
 
--- the request is of the run's partition and kind
-abbrev pub is_alike : Run → Request → Bool
-is_alike run r = (part_number (part_of r) == part_number run.part) && (kind_number (kind_of r) == kind_number run.kind)
+-- the request is of the extent's partition and kind
+abbrev pub is_alike : Extent → Request → Bool
+is_alike extent r = (part_number (part_of r) == part_number extent.part) && (kind_number (kind_of r) == kind_number extent.kind)
 
--- it starts at the run's end, or ends at its start
-abbrev pub is_beside : Run → Request → Bool
-is_beside run r = (start_of r == run.end) || (end_of r == run.start)
+-- it starts at the extent's end, or ends at its start
+abbrev pub is_beside : Extent → Request → Bool
+is_beside extent r = (start_of r == extent.end) || (end_of r == extent.start)
 
--- with it the run keeps the limits
-abbrev pub has_room : Run → Request → Bool
-has_room run r = nat_lt run.members MAX_GROUP && nat_le (run.end + count_of r) (run.start + MAX_COUNT)
+-- with it the extent keeps the limits
+abbrev pub has_room : Extent → Request → Bool
+has_room extent r = nat_lt extent.members MAX_GROUP && nat_le (extent.end + count_of r) (extent.start + MAX_COUNT)
 
--- the request fits the run; to an erase or a trim none does
-abbrev pub fits : Run → Request → Bool
-fits run r = (is_alike run r && can_merge run.kind) && (is_beside run r && has_room run r)
+-- the request fits the extent; to an erase or a trim none does
+abbrev pub fits : Extent → Request → Bool
+fits extent r = (is_alike extent r && can_merge extent.kind) && (is_beside extent r && has_room extent r)
 
 -- v came before e, and they conflict
 abbrev pub comes_first : Entry → Entry → Bool
@@ -45,25 +45,25 @@ abbrev pub passes_none : Entry → List Entry → Bool
 passes_none e [] = true
 passes_none e (v ∷ vs) = not (comes_first v e) && passes_none e vs
 
--- e may join the run, while these wait outside the group
-abbrev pub may_join : Run → List Entry → Entry → Bool
-may_join run waits e = fits run e.request && passes_none e waits
+-- e may join the extent, while these wait outside the group
+abbrev pub may_join : Extent → List Entry → Entry → Bool
+may_join extent waits e = fits extent e.request && passes_none e waits
 
 -- none of these may
-abbrev pub NoneMay : Run → List Entry → List Entry → Type 0
-NoneMay run waits [] = Unit {0}
-NoneMay run waits (e ∷ es) = (may_join run waits e ≡ false) × NoneMay run waits es
+abbrev pub NoneMay : Extent → List Entry → List Entry → Type 0
+NoneMay extent waits [] = Unit {0}
+NoneMay extent waits (e ∷ es) = (may_join extent waits e ≡ false) × NoneMay extent waits es
 
 -- each of these that may has this ticket or a higher one
-abbrev pub NoneLower : Run → List Entry → ℕ → List Entry → Type 0
-NoneLower run waits ticket [] = Unit {0}
-NoneLower run waits ticket (e ∷ es) =
-    (may_join run waits e ≡ true → ticket ≤ e.ticket) × NoneLower run waits ticket es
+abbrev pub NoneLower : Extent → List Entry → ℕ → List Entry → Type 0
+NoneLower extent waits ticket [] = Unit {0}
+NoneLower extent waits ticket (e ∷ es) =
+    (may_join extent waits e ≡ true → ticket ≤ e.ticket) × NoneLower extent waits ticket es
 
 -- e joins: of those that may the one with the lowest ticket, and it waits no longer
-pub record Joins (run : Run) (waits : List Entry) (e : Entry) (left : List Entry) : Type 0 where
-  pub may : may_join run waits e ≡ true
-  pub lowest : NoneLower run waits e.ticket waits
+pub record Joins (extent : Extent) (waits : List Entry) (e : Entry) (left : List Entry) : Type 0 where
+  pub may : may_join extent waits e ≡ true
+  pub lowest : NoneLower extent waits e.ticket waits
   pub leaves : Takes waits e left
 
 -- members of a group, and one more, by ticket
@@ -72,14 +72,14 @@ with_member [] e = e ∷ []
 with_member (m ∷ ms) e = if nat_lt e.ticket m.ticket then (e ∷ m ∷ ms) else (m ∷ with_member ms e)
 
 -- A group begins with the oldest of those that wait, and one after another joins it.
-pub data Grows (waits : List Entry) : List Entry → Run → List Entry → Type 0 where
+pub data Grows (waits : List Entry) : List Entry → Extent → List Entry → Type 0 where
   begins : (oldest : Entry) (later : List Entry) → waits ≡ oldest ∷ later
-      → Grows waits (oldest ∷ []) (run_of oldest.request) later
-  joins : (members : List Entry) (run : Run) (left : List Entry) (e : Entry) (rest : List Entry)
-      → Grows waits members run left → Joins run left e rest
-      → Grows waits (with_member members e) (widened run e.request) rest
+      → Grows waits (oldest ∷ []) (extent_of oldest.request) later
+  joins : (members : List Entry) (extent : Extent) (left : List Entry) (e : Entry) (rest : List Entry)
+      → Grows waits members extent left → Joins extent left e rest
+      → Grows waits (with_member members e) (widened extent e.request) rest
 
--- the group that the rule gives, with its run, and those that are left: none of them may join any more
-pub record IsGroup (waits members : List Entry) (run : Run) (left : List Entry) : Type 0 where
-  pub grown : Grows waits members run left
-  pub whole : NoneMay run left left
+-- the group that the rule gives, with its extent, and those that are left: none of them may join any more
+pub record IsGroup (waits members : List Entry) (extent : Extent) (left : List Entry) : Type 0 where
+  pub grown : Grows waits members extent left
+  pub whole : NoneMay extent left left

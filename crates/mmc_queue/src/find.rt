@@ -8,7 +8,7 @@ use crate::conflict::conflicts;
 use crate::entry::Entry;
 use crate::place::{Edge, Place};
 use crate::queue::Queue;
-use crate::run::Run;
+use crate::extent::Extent;
 
 // Whether the first entry came before the second, and they conflict.
 fn comes_first(v: &Entry, e: &Entry) -> bool
@@ -41,34 +41,34 @@ impl Queue {
     }
 
     // Whether the entry with this ticket waits and may join.
-    fn may_join(&self, run: &Run, ticket: u64) -> bool
-        ensures { result ≡ may_join_at run.now self.now ticket }
+    fn may_join(&self, extent: &Extent, ticket: u64) -> bool
+        ensures { result ≡ may_join_at extent.now self.now ticket }
     {
         match self.by_ticket.get(&ticket) {
-            Some(entry) => run.fits(&entry.request) && self.passes_none(entry),
+            Some(entry) => extent.fits(&entry.request) && self.passes_none(entry),
             None => false,
         }
     }
 
     // The same, and its ticket is below the best one so far. That is asked first, since it costs less.
-    fn is_better(&self, run: &Run, ticket: u64, best: Option<u64>) -> bool
-        ensures { result ≡ is_better run.now self.now ticket best }
+    fn is_better(&self, extent: &Extent, ticket: u64, best: Option<u64>) -> bool
+        ensures { result ≡ is_better extent.now self.now ticket best }
     {
-        is_lower(ticket, best) && self.may_join(run, ticket)
+        is_lower(ticket, best) && self.may_join(extent, ticket)
     }
 
     // The lowest ticket of those that may join and stand with this edge at this sector, unless the best so far is lower.
     // Only what lies in the range of the places is looked at.
-    fn lower_at(&self, run: &Run, edge: Edge, sector: u64, best: Option<u64>) -> Option<u64>
-        requires { BestMay run.now self.now best }
+    fn lower_at(&self, extent: &Extent, edge: Edge, sector: u64, best: Option<u64>) -> Option<u64>
+        requires { BestMay extent.now self.now best }
         ensures ascend { Ascend 0 self.now }
-        ensures may { BestMay run.now self.now result }
+        ensures may { BestMay extent.now self.now result }
         ensures not_above { (ticket : ℕ) → NotAbove best ticket → NotAbove result ticket }
-        ensures lowest { (ticket : ℕ) → StandsAlike run.now self.now edge sector ticket → may_join_at run.now self.now ticket ≡ true → NotAbove result ticket }
+        ensures lowest { (ticket : ℕ) → StandsAlike extent.now self.now edge sector ticket → may_join_at extent.now self.now ticket ≡ true → NotAbove result ticket }
     {
         let first = Place {
-            part: run.part,
-            kind: run.kind,
+            part: extent.part,
+            kind: extent.kind,
             edge,
             sector,
             ticket: 0,
@@ -79,7 +79,7 @@ impl Queue {
         };
         let mut best = best;
         for place in self.places.items.range(first..=last) {
-            if self.is_better(run, place.ticket, best) {
+            if self.is_better(extent, place.ticket, best) {
                 best = Some(place.ticket);
             }
         }
@@ -87,10 +87,10 @@ impl Queue {
     }
 
     // The lowest ticket of those that may join.
-    pub(crate) fn find(&self, run: &Run) -> Option<u64>
-        ensures { MatchOption result (NoneMay run.now self.now self.now) (λ t. IsLowest run.now self.now t) }
+    pub(crate) fn find(&self, extent: &Extent) -> Option<u64>
+        ensures { MatchOption result (NoneMay extent.now self.now self.now) (λ t. IsLowest extent.now self.now t) }
     {
-        let best = self.lower_at(run, Edge::Start, run.end, None);
-        self.lower_at(run, Edge::End, run.start, best)
+        let best = self.lower_at(extent, Edge::Start, extent.end, None);
+        self.lower_at(extent, Edge::End, extent.start, best)
     }
 }

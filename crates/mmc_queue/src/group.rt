@@ -1,27 +1,27 @@
 ghost use Rattle.std.specs.Prelude.{◌≡◌, ◌<◌, ◌≤◌, ◌∷◌, ℕ, List, [], insert, IfSome, MatchOption};
 ghost use Rattle.arrayvec.specs.ArrayVec.{array_vec_len};
 ghost use Rattle.mmc_queue.specs.Group.{IsFair, IsJoined};
-ghost use Rattle.mmc_queue.specs.Rule.{Grows, IsGroup, run_of, with_member};
+ghost use Rattle.mmc_queue.specs.Rule.{Grows, IsGroup, extent_of, with_member};
 ghost use Rattle.mmc_queue.specs.Waiting.{IsSound};
 ghost use Rattle.mmc_queue.specs.declared.entry.Entry.{Entry};
-ghost use Rattle.mmc_queue.specs.declared.run.TheConstants.{MAX_GROUP};
+ghost use Rattle.mmc_queue.specs.declared.extent.TheConstants.{MAX_GROUP};
 
 use crate::entry::Entry;
 use crate::queue::Queue;
-use crate::run::{MAX_GROUP, Run};
+use crate::extent::{MAX_GROUP, Extent};
 use arrayvec::ArrayVec;
 use std::alloc::Global;
 
 /// Entries that are served together, by ticket.
 pub type Members = ArrayVec<Entry, MAX_GROUP, Global>;
 
-/// Requests of one partition and kind that are served as one run of sectors.
+/// Requests of one partition and kind that are served as one extent.
 #[derive(Drop)]
 pub struct Group {
     /// The requests, by ticket.
     pub members: Members,
     /// The sectors that they are together.
-    pub run: Run,
+    pub extent: Extent,
 }
 
 // Where an entry with this ticket goes among members by ticket.
@@ -42,50 +42,50 @@ impl Group {
     pub fn alone(alloc: Global, entry: Entry) -> Group
         requires { IsSound entry }
         ensures members { result.members.items ≡ entry ∷ [] }
-        ensures run { result.run ≡ run_of entry.request }
-        ensures joined { IsJoined result.members.items result.run }
+        ensures extent { result.extent ≡ extent_of entry.request }
+        ensures joined { IsJoined result.members.items result.extent }
     {
-        let run = Run::of(&entry.request);
+        let extent = Extent::of(&entry.request);
         let mut members = ArrayVec::new_in(alloc);
         members.push(entry);
-        Group { members, run }
+        Group { members, extent }
     }
 }
 
 impl Queue {
     // Lets one request after another join a group, until none may.
-    fn grow(&mut self, members: Members, run: Run) -> Group
-        requires counted { run.members ≡ array_vec_len members }
-        requires some { 0 < run.members }
-        requires few { run.members ≤ MAX_GROUP }
-        ensures { (waits : List Entry) → Grows waits members.items run self.old → IsGroup waits result.members.items result.run self.new }
+    fn grow(&mut self, members: Members, extent: Extent) -> Group
+        requires counted { extent.members ≡ array_vec_len members }
+        requires some { 0 < extent.members }
+        requires few { extent.members ≤ MAX_GROUP }
+        ensures { (waits : List Entry) → Grows waits members.items extent self.old → IsGroup waits result.members.items result.extent self.new }
     {
         let mut members = members;
-        let mut run = run;
+        let mut extent = extent;
         for _joined in 0..MAX_GROUP {
-            let Some(ticket) = self.find(&run) else {
-                return Group { members, run };
+            let Some(ticket) = self.find(&extent) else {
+                return Group { members, extent };
             };
             let Ok(entry) = self.take(ticket) else {
                 unreachable!()
             };
-            run = run.widened(&entry.request);
+            extent = extent.widened(&entry.request);
             let index = index_for(&members, entry.ticket);
             members.insert(index, entry);
         }
-        Group { members, run }
+        Group { members, extent }
     }
 
     /// Takes out the requests that are served next. A group begins with the oldest request, and the others of its partition and
-    /// kind that stand at an end of its run of sectors join it, each time the lowest ticket of those that may: the run stays
+    /// kind that stand at an end of its extent join it, each time the lowest ticket of those that may: the extent stays
     /// within `MAX_GROUP` requests and `MAX_COUNT` sectors, and no request joins before an earlier one outside the group that
     /// it conflicts with. An erase or a trim is alone. There is none just where nothing waits. It takes no memory.
     pub fn next_group(&mut self) -> Option<Group>
-        ensures fair { IfSome result (λ g. IsFair self.old g.members.items g.run self.new) }
-        ensures rule { MatchOption result ((self.old ≡ []) × (self.new ≡ [])) (λ g. IsGroup self.old g.members.items g.run self.new) }
+        ensures fair { IfSome result (λ g. IsFair self.old g.members.items g.extent self.new) }
+        ensures rule { MatchOption result ((self.old ≡ []) × (self.new ≡ [])) (λ g. IsGroup self.old g.members.items g.extent self.new) }
     {
         let oldest = self.take_oldest()?;
-        let Group { members, run } = Group::alone(self.alloc, oldest);
-        Some(self.grow(members, run))
+        let Group { members, extent } = Group::alone(self.alloc, oldest);
+        Some(self.grow(members, extent))
     }
 }

@@ -8,8 +8,8 @@ ghost use Rattle.mmc_queue.specs.declared.group.Group.{Group};
 ghost use Rattle.mmc_queue.specs.declared.kind.Kind.TheVariants.{Read, Write};
 ghost use Rattle.mmc_queue.specs.declared.request.Request.{Request};
 ghost use Rattle.mmc_queue.specs.declared.request.TheConstants.{MAX_COUNT};
-ghost use Rattle.mmc_queue.specs.declared.run.Run.{Run};
-ghost use Rattle.mmc_queue.specs.Group.{IsJoined, IsOneOf, FormRun};
+ghost use Rattle.mmc_queue.specs.declared.extent.Extent.{Extent};
+ghost use Rattle.mmc_queue.specs.Group.{IsJoined, IsOneOf, FormExtent};
 ghost use Rattle.mmc_queue.specs.Lent.{AreLent, blocks_of, with_lent, write_blocks_of};
 ghost use Rattle.mmc_queue.specs.Requests.{ShareSector, bytes_of, can_merge, conflicts, count_of, end_of, is_read, kind_of, part_of, start_of};
 ghost use Rattle.mmc_queue.specs.Waiting.{IsSound};
@@ -25,40 +25,40 @@ pub fn a_conflict_is_a_common_sector()
     ensures { (a b : Request) → (conflicts a b ≡ true) ↔ (ShareSector a b × ((is_read a ≡ false) ⊎ (is_read b ≡ false))) }
 {}
 
-/// Requests that are joined are a run of sectors.
-pub fn a_group_is_a_run_of_sectors()
-    ensures { (members : List Entry) (run : Run) → IsJoined members run → FormRun members run }
+/// Requests that are joined are an extent.
+pub fn a_group_is_one_extent()
+    ensures { (members : List Entry) (extent : Extent) → IsJoined members extent → FormExtent members extent }
 {}
 
-/// A group of reads lends a block of its buffers for each sector of its run, and a group of writes one of their bytes.
-pub fn a_group_lends_each_sector_of_its_run()
-    ensures reads { (group : Group) → IsJoined group.members.items group.run → group.run.kind ≡ Read
-        → length (blocks_of group) ≡ group.run.end - group.run.start }
-    ensures writes { (group : Group) → IsJoined group.members.items group.run → group.run.kind ≡ Write
-        → length (write_blocks_of group) ≡ group.run.end - group.run.start }
+/// A group of reads lends a block of its buffers for each sector of its extent, and a group of writes one of their bytes.
+pub fn a_group_lends_each_sector_of_its_extent()
+    ensures reads { (group : Group) → IsJoined group.members.items group.extent → group.extent.kind ≡ Read
+        → length (blocks_of group) ≡ group.extent.end - group.extent.start }
+    ensures writes { (group : Group) → IsJoined group.members.items group.extent → group.extent.kind ≡ Write
+        → length (write_blocks_of group) ≡ group.extent.end - group.extent.start }
 {}
 
 /// The block that is lent for a sector of a member's is that member's own: for the sector that stands `i` behind its
 /// first, block `i` of its buffer, or of the bytes that it writes.
 pub fn a_group_lends_the_blocks_of_its_members()
     ensures reads { (group : Group) (e : Entry) (i : ℕ)
-        → IsJoined group.members.items group.run → group.run.kind ≡ Read
+        → IsJoined group.members.items group.extent → group.extent.kind ≡ Read
         → IsOneOf group.members.items e → i < count_of e.request
-        → slice_index_or (blocks_of group) (start_of e.request + i - group.run.start) []
+        → slice_index_or (blocks_of group) (start_of e.request + i - group.extent.start) []
         ≡ slice_index_or (pieces (count_of e.request) e.buffer) i [] }
     ensures writes { (group : Group) (e : Entry) (i : ℕ)
-        → IsJoined group.members.items group.run → group.run.kind ≡ Write
+        → IsJoined group.members.items group.extent → group.extent.kind ≡ Write
         → IsOneOf group.members.items e → i < count_of e.request
-        → slice_index_or (write_blocks_of group) (start_of e.request + i - group.run.start) []
+        → slice_index_or (write_blocks_of group) (start_of e.request + i - group.extent.start) []
         ≡ slice_index_or (pieces (count_of e.request) (bytes_of e.request)) i [] }
 {}
 
-/// A group whose blocks were lent has the same run and the same requests, with as much room each, and is joined if it
+/// A group whose blocks were lent has the same extent and the same requests, with as much room each, and is joined if it
 /// was.
 pub fn a_lent_group_keeps_its_requests()
-    ensures run { (old new : Group) → IsRewritten blocks_of with_lent old new → new.run ≡ old.run }
+    ensures extent { (old new : Group) → IsRewritten blocks_of with_lent old new → new.extent ≡ old.extent }
     ensures requests { (old new : Group) → IsRewritten blocks_of with_lent old new
         → AreLent old.members.items new.members.items }
     ensures joined { (old new : Group) → IsRewritten blocks_of with_lent old new
-        → IsJoined old.members.items old.run → IsJoined new.members.items new.run }
+        → IsJoined old.members.items old.extent → IsJoined new.members.items new.extent }
 {}

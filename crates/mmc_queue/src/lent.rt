@@ -1,4 +1,4 @@
-// The buffers of a group, lent as the blocks of its run.
+// The buffers of a group, lent as the blocks of its extent.
 ghost use Rattle.std.specs.Prelude.{◌≡◌, ◌+◌, ◌-◌, ◌<◌, ◌≤◌, [], length, slice_index_or, MatchOption, None};
 ghost use Rattle.std.specs.Borrow.{Array, Lends, sem, u8 as byte};
 ghost use Rattle.mmc_bus.specs.Bytes.{blocks_in};
@@ -100,9 +100,9 @@ impl Group {
     // The member that has the block with this number, and which of its blocks it is.
     fn place(&self, held: Held, i: usize) -> (usize, usize)
         requires { i < length (blocks_held held self.now) }
-        ensures { IsPlace held self.now.members.items (self.now.run.start + i) result.0 result.1 }
+        ensures { IsPlace held self.now.members.items (self.now.extent.start + i) result.0 result.1 }
     {
-        let sector = self.run.sector(i);
+        let sector = self.extent.sector(i);
         match self.first_for(held, sector) {
             Some(k) => (k, (sector - self.member(k).request.start()) as usize),
             None => unreachable!(),
@@ -113,7 +113,7 @@ impl Group {
         ensures { result ≡ length (blocks_held held self.now) }
     {
         let mut len = 0;
-        for sector in self.run.start..self.run.end {
+        for sector in self.extent.start..self.extent.end {
             let Some(_) = self.first_for(held, sector) else {
                 return len;
             };
@@ -130,7 +130,7 @@ impl Group {
         self.member(k).block(held, j)
     }
 
-    /// The bytes that the writes of a group bring, as the blocks of its run.
+    /// The bytes that the writes of a group bring, as the blocks of its extent.
     pub fn writes(&self) -> Writes<'_>
         ensures { result.group.now ≡ self.now }
     {
@@ -138,7 +138,7 @@ impl Group {
     }
 }
 
-/// The bytes that the writes of a group bring, as the blocks of its run. Nothing is copied.
+/// The bytes that the writes of a group bring, as the blocks of its extent. Nothing is copied.
 #[derive(Drop)]
 pub struct Writes<'a> {
     group: &'a Group,
@@ -149,7 +149,7 @@ impl Blocks for Group {
 
     ghost blocks = { blocks_of };
 
-    /// The sectors of the run, up to the first for which no member has room: of a group of reads all.
+    /// The sectors of the extent, up to the first for which no member has room: of a group of reads all.
     fn len(&self) -> usize {
         self.count_held(Held::Room)
     }
@@ -164,7 +164,7 @@ impl<'a> Blocks for Writes<'a> {
 
     ghost blocks = { λ w. write_blocks_of w.group.now };
 
-    /// The sectors of the run, up to the first for which no member brings bytes: of a group of writes all.
+    /// The sectors of the extent, up to the first for which no member brings bytes: of a group of writes all.
     fn len(&self) -> usize {
         self.group.count_held(Held::Bytes)
     }

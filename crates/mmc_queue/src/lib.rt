@@ -1,4 +1,4 @@
-//! Requests of several clients that wait for a card: by ticket, and by the sectors where a run may be joined.
+//! Requests of several clients that wait for a card: by ticket, and by the sectors where an extent may be joined.
 #![tactic(auto)]
 
 mod conflict;
@@ -14,7 +14,7 @@ mod places;
 mod push_fault;
 mod queue;
 mod request;
-mod run;
+mod extent;
 
 pub use conflict::conflicts;
 pub use entry::Entry;
@@ -24,7 +24,7 @@ pub use lent::Writes;
 pub use push_fault::PushFault;
 pub use queue::{MAX_WAITING, Queue, Unknown};
 pub use request::{MAX_COUNT, Request};
-pub use run::{MAX_GROUP, Run};
+pub use extent::{MAX_GROUP, Extent};
 
 #[cfg(test)]
 mod rule_tests;

@@ -1,7 +1,7 @@
 use crate::kind::Kind;
 use mmc_bus::Part;
 
-/// An end of a request's sectors, at which a run may be joined to them.
+/// An end of a request's sectors, at which an extent may be joined to them.
 #[derive(Clone, Copy, Debug, PartialEq, Eq, PartialOrd, Ord)]
 pub enum Edge {
     /// Its first sector.

@@ -32,29 +32,29 @@ struct Sectors {
     end: u64,
 }
 
-// Whether a request may join: it is of the kind, starts at the run's end or ends at its start, the run stays within 1,024
+// Whether a request may join: it is of the kind, starts at the extent's end or ends at its start, the extent stays within 1,024
 // sectors, and it conflicts with no earlier one that waits.
-fn may_join(run: Sectors, waits: &[Waits], one: Waits) -> bool {
-    let beside = one.asked.start == run.end || one.asked.end() == run.start;
-    let sectors = run
+fn may_join(extent: Sectors, waits: &[Waits], one: Waits) -> bool {
+    let beside = one.asked.start == extent.end || one.asked.end() == extent.start;
+    let sectors = extent
         .end
-        .saturating_sub(run.start)
+        .saturating_sub(extent.start)
         .saturating_add(one.asked.count);
-    let mergeable = run.kind == Kind::Read || run.kind == Kind::Write;
+    let mergeable = extent.kind == Kind::Read || extent.kind == Kind::Write;
     let mut is_free = true;
     for other in waits {
         if other.ticket < one.ticket && other.asked.conflicts(one.asked) {
             is_free = false;
         }
     }
-    one.asked.kind == run.kind && mergeable && beside && sectors <= 1024 && is_free
+    one.asked.kind == extent.kind && mergeable && beside && sectors <= 1024 && is_free
 }
 
 // The lowest ticket that may join, since the list is by ticket.
-fn next_to_join(run: Sectors, waits: &[Waits]) -> Option<usize> {
+fn next_to_join(extent: Sectors, waits: &[Waits]) -> Option<usize> {
     let mut index = 0usize;
     for one in waits {
-        if may_join(run, waits, *one) {
+        if may_join(extent, waits, *one) {
             return Some(index);
         }
         index = index.saturating_add(1);
@@ -70,21 +70,21 @@ fn group_by_rule(alloc: Global, waits: &mut Vec<Waits>) -> Result<Vec<u64>, Fail
     }
     let oldest = waits.remove(0);
     group.push(oldest.ticket)?;
-    let mut run = Sectors {
+    let mut extent = Sectors {
         kind: oldest.asked.kind,
         start: oldest.asked.start,
         end: oldest.asked.end(),
     };
     for _joined in 1..16usize {
-        let Some(index) = next_to_join(run, waits.as_slice()) else {
+        let Some(index) = next_to_join(extent, waits.as_slice()) else {
             break;
         };
         if index >= waits.len() {
             break;
         }
         let one = waits.remove(index);
-        run.start = one.asked.start.min(run.start);
-        run.end = one.asked.end().max(run.end);
+        extent.start = one.asked.start.min(extent.start);
+        extent.end = one.asked.end().max(extent.end);
         group.push(one.ticket)?;
     }
     group.sort()?;

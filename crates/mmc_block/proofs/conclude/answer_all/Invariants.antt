@@ -1,6 +1,6 @@
 -- The answers so far and those of the members that are left are the answers to all.
 use Rattle.std.proofs.Common.{◌++◌, ◌+◌, ◌≡◌, ◌≤◌, length, map}
-use Rattle.mmc_queue.specs.declared.run.TheConstants.{MAX_GROUP}
+use Rattle.mmc_queue.specs.declared.extent.TheConstants.{MAX_GROUP}
 use Rattle.mmc_block.specs.Entries.{completion_of}
 use Rattle.mmc_block.proofs.conclude.answer_all.Given as goal
 

@@ -22,7 +22,7 @@ returns-in-Write g c =
     ∙ ap write_blocks_of (sym c.writes.ensures) in
     record {
       lent = c.a_lent_group_keeps_its_requests.ensures.requests c.args.group.now c.args.group.now nothing;
-      run = refl;
+      extent = refl;
       joined = c.requires.joined;
       writes = λ is. refl;
       bounded = c.write_turn.ensures.bounded;

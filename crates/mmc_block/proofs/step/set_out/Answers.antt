@@ -11,12 +11,12 @@ returns-then-eq-clause-did g c kept ready =
     let old = g.B.Bus.view c.args.bus.now in
     let new = g.B.Bus.view c.exchange.new.bus in
     subst (λ (s : Session). Did (change_of_group s.info c.args.group.now) c.exchange.new.group (faults_then 0 old new) old c.exchange.result new)
-    c.begin-run.ensures.session (c.exchange.ensures.did kept 0 (c.begin-run.ensures.under_way old ready))
+    c.begin-work.ensures.session (c.exchange.ensures.did kept 0 (c.begin-work.ensures.under_way old ready))
 
 pub select-requires : goal.select-requires
 select-requires g c = record {
   exists = run_exists c.args.session.info c.args.group.now c.requires.servable
-      (c.a_group_is_a_run_of_sectors.ensures _ _ c.requires.joined);
+      (c.a_group_is_one_extent.ensures _ _ c.requires.joined);
 }
 
 pub returns-in-Ok-clause-did : goal.returns-in-Ok-clause-did

@@ -8,12 +8,12 @@ use Rattle.mmc_block.proofs.step.step.Goals as goal
 pub returns-in-Running-clause-servable : goal.returns-in-Running-clause-servable
 returns-in-Running-clause-servable g c =
     lent_servable (info_of_stage c.args.stage) c.args.group.now.members.items c.exchange.new.group.members.items
-    c.exchange.ensures.lent c.requires.servable
+    c.exchange.ensures.advances.lent c.requires.servable
 
 pub returns-in-At-Up-clause-servable : goal.returns-in-At-Up-clause-servable
 returns-in-At-Up-clause-servable g c =
     lent_servable (info_of_stage c.args.stage) c.args.group.now.members.items c.set_out.new.group.members.items
-    c.set_out.ensures.lent c.requires.servable
+    c.set_out.ensures.advances.lent c.requires.servable
 
 pub returns-in-At-Up-clause-did : goal.returns-in-At-Up-clause-did
 returns-in-At-Up-clause-did g c kept faults at =

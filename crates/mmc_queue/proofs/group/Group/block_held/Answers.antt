@@ -9,17 +9,17 @@ use Rattle.mmc_queue.proofs.group.Group.block_held.Goals as goal
 
 pub member-requires : goal.member-requires
 member-requires c =
-    first_below c.args.held c.args.self.now.members.items (c.args.self.now.run.start + c.args.i) c.place-k.result.0 c.place-k.ensures.0
+    first_below c.args.held c.args.self.now.members.items (c.args.self.now.extent.start + c.args.i) c.place-k.result.0 c.place-k.ensures.0
 
 pub block-requires : goal.block-requires
 block-requires c =
     subst (λ (e : Entry). c.place-k.result.1 < length (blocks_in (held_by c.args.held e))) (sym c.member.ensures)
-    (place_below c.args.held c.args.self.now.members.items (c.args.self.now.run.start + c.args.i) c.place-k.result.0 c.place-k.result.1 c.place-k.ensures)
+    (place_below c.args.held c.args.self.now.members.items (c.args.self.now.extent.start + c.args.i) c.place-k.result.0 c.place-k.result.1 c.place-k.ensures)
 
 pub returns : goal.returns
 returns c =
-    let run = c.args.self.now.run in
+    let extent = c.args.self.now.extent in
     c.block.ensures
     ∙ ap (λ (e : Entry). slice_index_or (blocks_in (held_by c.args.held e)) c.place-k.result.1 []) c.member.ensures
-    ∙ place_gives c.args.held c.args.self.now.members.items run.start (run.end - run.start) c.args.i c.place-k.result.0 c.place-k.result.1 c.requires
+    ∙ place_gives c.args.held c.args.self.now.members.items extent.start (extent.end - extent.start) c.args.i c.place-k.result.0 c.place-k.result.1 c.requires
     c.place-k.ensures

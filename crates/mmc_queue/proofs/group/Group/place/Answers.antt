@@ -11,8 +11,8 @@ use Rattle.mmc_queue.proofs.group.Group.place.Goals as goal
 
 pub sector-sector-requires : goal.sector-sector-requires
 sector-sector-requires c =
-    let run = c.args.self.now.run in
-    let few = few_blocks c.args.held c.args.self.now.members.items run.start (run.end - run.start) in
+    let extent = c.args.self.now.extent in
+    let few = few_blocks c.args.held c.args.self.now.members.items extent.start (extent.end - extent.start) in
     let below = c.requires in omega (arith, few, below)
 
 pub member-requires : goal.member-requires
@@ -30,7 +30,7 @@ overflow_sub-result c =
 
 pub unreachable-requires : goal.unreachable-requires
 unreachable-requires c =
-    let run = c.args.self.now.run in
+    let extent = c.args.self.now.extent in
     let es = c.args.self.now.members.items in
-    let n = run.end - run.start in
-    none-some (slice_index_or (blocks_from (held_by c.args.held) es run.start n) c.args.i []) (sym c.in-None.ensures ∙ ap (block_at (held_by c.args.held) es) c.sector-sector.ensures ∙ nth_block c.args.held es run.start n c.args.i c.requires)
+    let n = extent.end - extent.start in
+    none-some (slice_index_or (blocks_from (held_by c.args.held) es extent.start n) c.args.i []) (sym c.in-None.ensures ∙ ap (block_at (held_by c.args.held) es) c.sector-sector.ensures ∙ nth_block c.args.held es extent.start n c.args.i c.requires)

@@ -7,21 +7,21 @@ use Rattle.mmc_queue.proofs.lent.GroupBlocksMut.block_mut.Goals as goal
 
 pub member_block_mut-requires-clause-member : goal.member_block_mut-requires-clause-member
 member_block_mut-requires-clause-member c =
-    first_below Room c.args.self.now.members.items (c.args.self.now.run.start + c.args.i) c.place-k.result.0 c.place-k.ensures.0
+    first_below Room c.args.self.now.members.items (c.args.self.now.extent.start + c.args.i) c.place-k.result.0 c.place-k.ensures.0
 
 pub member_block_mut-requires-clause-block : goal.member_block_mut-requires-clause-block
 member_block_mut-requires-clause-block c =
-    place_below Room c.args.self.now.members.items (c.args.self.now.run.start + c.args.i) c.place-k.result.0 c.place-k.result.1 c.place-k.ensures
+    place_below Room c.args.self.now.members.items (c.args.self.now.extent.start + c.args.i) c.place-k.result.0 c.place-k.result.1 c.place-k.ensures
 
 pub returns : goal.returns
 returns c =
-    let run = c.args.self.now.run in
+    let extent = c.args.self.now.extent in
     let es = c.args.self.now.members.items in
     let k = c.place-k.result.0 in
     let j = c.place-k.result.1 in (
-      (refl, λ left. rw (place_written es (run.start + c.args.i) k j left c.place-k.ensures) refl),
+      (refl, λ left. rw (place_written es (extent.start + c.args.i) k j left c.place-k.ensures) refl),
       record {
         writes_back = tt;
-        value = c.member_block_mut.ensures.value ∙ place_gives Room es run.start (run.end - run.start) c.args.i k j c.requires c.place-k.ensures;
+        value = c.member_block_mut.ensures.value ∙ place_gives Room es extent.start (extent.end - extent.start) c.args.i k j c.requires c.place-k.ensures;
       },
     )

@@ -6,6 +6,6 @@ lower_at-best-requires c = tt
 
 pub returns : goal.returns
 returns c =
-    let run = c.args.run.now in
-    found run c.args.self.now c.lower_at.result c.lower_at.ensures.ascend c.lower_at.ensures.may
+    let extent = c.args.extent.now in
+    found extent c.args.self.now c.lower_at.result c.lower_at.ensures.ascend c.lower_at.ensures.may
     (λ t s may. c.lower_at.ensures.not_above t (c.lower_at-best.ensures.lowest t s may)) c.lower_at.ensures.lowest

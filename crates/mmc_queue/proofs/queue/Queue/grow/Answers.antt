@@ -4,11 +4,11 @@ use Rattle.mmc_queue.proofs.queue.Queue.grow.Goals as goal
 
 pub loop-joined-preserved : goal.loop-joined-preserved
 loop-joined-preserved c =
-    let run = c.loop-joined.run in
+    let extent = c.loop-joined.extent in
     let left = c.loop-joined.self in
     let e = c.in-Ok.entry in
-    let few = few_members run left c.in-Some.ticket c.in-Some.ensures in
-    let wide = ap (λ r. r.members) c.widened-run.ensures ∙ widened_members run e.request in
+    let few = few_members extent left c.in-Some.ticket c.in-Some.ensures in
+    let wide = ap (λ r. r.members) c.widened-extent.ensures ∙ widened_members extent e.request in
     let long = c.insert.ensures.len in
     let same = c.loop-joined.invariant.0 in
     let low = c.loop-joined.invariant.1 in
@@ -17,7 +17,7 @@ loop-joined-preserved c =
       omega (arith, wide, low),
       omega (arith, wide, few),
       (λ waits g.
-          rw (c.widened-run.ensures, goes)
-          (joins_next waits c.loop-joined.members.items run left c.in-Some.ticket e c.take.new.self c.in-Some.ensures
+          rw (c.widened-extent.ensures, goes)
+          (joins_next waits c.loop-joined.members.items extent left c.in-Some.ticket e c.take.new.self c.in-Some.ensures
           c.in-Ok.ensures.taken.0 c.in-Ok.ensures.taken.1 c.in-Ok.ensures.taken.2 (c.loop-joined.invariant.3 waits g))),
     )

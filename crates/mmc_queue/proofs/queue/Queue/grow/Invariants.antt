@@ -6,5 +6,5 @@ use Rattle.mmc_queue.proofs.queue.Queue.grow.Given as goal
 
 abbrev pub invariant-loop-joined : goal.invariant-loop-joined
 invariant-loop-joined l =
-    (l.run.members ≡ array_vec_len l.members) × (l._joined + 1 ≤ l.run.members) × (l.run.members ≤ 16)
-    × ((waits : List Entry) → Grows waits l.initial.members.items l.initial.run l.initial.self → Grows waits l.members.items l.run l.self)
+    (l.extent.members ≡ array_vec_len l.members) × (l._joined + 1 ≤ l.extent.members) × (l.extent.members ≤ 16)
+    × ((waits : List Entry) → Grows waits l.initial.members.items l.initial.extent l.initial.self → Grows waits l.members.items l.extent l.self)

@@ -10,23 +10,23 @@ pub loop-place-init : goal.loop-place-init
 loop-place-init c =
     let m = c.self.inside.by_ticket in
     let places = c.self.inside.places.items in
-    let run = c.args.run.now in
-    let first : Place = record { part = run.part; kind = run.kind; edge = c.args.edge; sector = c.args.sector; ticket = 0 } in
+    let extent = c.args.extent.now in
+    let first : Place = record { part = extent.part; kind = extent.kind; edge = c.args.edge; sector = c.args.sector; ticket = 0 } in
     let is = c.into_iter-place-iterator.ensures.into_iter_gives ∙ c.range-place-items.ensures.between c.new.ensures.exhausted in (
       c.requires,
       (λ t h. h),
       (λ t s may. inr
           (rw (is, c.new.ensures.start, c.new.ensures.end)
-          (in_range m places run c.args.edge c.args.sector first t c.self.invariant refl
-          (subst (λ ws. StandsAlike run ws c.args.edge c.args.sector t) (sym c.self.view_is) s)))),
+          (in_range m places extent c.args.edge c.args.sector first t c.self.invariant refl
+          (subst (λ ws. StandsAlike extent ws c.args.edge c.args.sector t) (sym c.self.view_is) s)))),
     )
 
 pub loop-place-preserved-then-is_better : goal.loop-place-preserved-then-is_better
 loop-place-preserved-then-is_better c =
-    let run = c.args.run.now in
+    let extent = c.args.extent.now in
     let p = c.in-Some.place.now in
     let best = c.loop-place.best in
-    let parts = better_parts run c.args.self.now p.ticket best (sym c.is_better.ensures ∙ c.if-is_better.true) in (
+    let parts = better_parts extent c.args.self.now p.ticket best (sym c.is_better.ensures ∙ c.if-is_better.true) in (
       parts.1,
       (λ t h. lower_still best p.ticket t parts.0 (c.loop-place.invariant.1 t h)),
       (λ t s may. covers_taken best p c.next.new.self t parts.0
@@ -35,12 +35,12 @@ loop-place-preserved-then-is_better c =
 
 pub loop-place-preserved : goal.loop-place-preserved
 loop-place-preserved c =
-    let run = c.args.run.now in
+    let extent = c.args.extent.now in
     let p = c.in-Some.place.now in
     let best = c.loop-place.best in (
       c.loop-place.invariant.0,
       c.loop-place.invariant.1,
-      (λ t s may. covers_passed run c.args.self.now best p c.next.new.self t (sym c.is_better.ensures ∙ c.if-is_better.false) may
+      (λ t s may. covers_passed extent c.args.self.now best p c.next.new.self t (sym c.is_better.ensures ∙ c.if-is_better.false) may
           (subst (λ ps. Covers best ps t) c.in-Some.ensures.steps (c.loop-place.invariant.2 t s may))),
     )
 

@@ -5,5 +5,5 @@ use Rattle.mmc_queue.proofs.queue.Queue.lower_at.Given as goal
 
 abbrev pub invariant-loop-place : goal.invariant-loop-place
 invariant-loop-place l =
-    BestMay l.run l.self l.best × ((t : ℕ) → NotAbove l.fn.best t → NotAbove l.best t)
-    × ((t : ℕ) → StandsAlike l.run l.self l.fn.edge l.sector t → may_join_at l.run l.self t ≡ true → Covers l.best l.place-iterator t)
+    BestMay l.extent l.self l.best × ((t : ℕ) → NotAbove l.fn.best t → NotAbove l.best t)
+    × ((t : ℕ) → StandsAlike l.extent l.self l.fn.edge l.sector t → may_join_at l.extent l.self t ≡ true → Covers l.best l.place-iterator t)

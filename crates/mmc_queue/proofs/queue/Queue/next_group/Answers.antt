@@ -11,12 +11,12 @@ pub returns-clause-rule : goal.returns-clause-rule
 returns-clause-rule c =
     let e = c.in_ok-oldest.oldest in
     c.grow.ensures c.args.self.now
-    (rw (c.alone-members.ensures.run, c.alone-members.ensures.members) (begins e c.take_oldest.new.self c.in_ok-oldest.ensures.taken))
+    (rw (c.alone-members.ensures.extent, c.alone-members.ensures.members) (begins e c.take_oldest.new.self c.in_ok-oldest.ensures.taken))
 
 pub returns-clause-fair : goal.returns-clause-fair
 returns-clause-fair c =
     let e = c.in_ok-oldest.oldest in
     let g = c.grow.ensures c.args.self.now
-    (rw (c.alone-members.ensures.run, c.alone-members.ensures.members) (begins e c.take_oldest.new.self c.in_ok-oldest.ensures.taken)) in
-    (fair c.args.self.now c.grow.result.members.items c.grow.result.run c.grow.new.self c.in_ok-oldest.ensures.ascend
+    (rw (c.alone-members.ensures.extent, c.alone-members.ensures.members) (begins e c.take_oldest.new.self c.in_ok-oldest.ensures.taken)) in
+    (fair c.args.self.now c.grow.result.members.items c.grow.result.extent c.grow.new.self c.in_ok-oldest.ensures.ascend
     c.in_ok-oldest.ensures.sound g.grown).0

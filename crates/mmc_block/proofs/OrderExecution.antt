@@ -18,9 +18,9 @@ use Rattle.mmc_block.specs.Machine.{Accepts, Completes, CompletesAll, GivesBack,
 use Rattle.mmc_block.specs.Machine.{Turns, Waiting}
 use Rattle.mmc_block.specs.MachineLaws.{IsAmong}
 use Rattle.mmc_queue.specs.Requests.{count_of, part_of, start_of}
-use Rattle.mmc_block.specs.Run.{Event, Reply, Runs, Steps}
-use Rattle.mmc_block.specs.Run.Event.{Cancel, Submit, Turn}
-use Rattle.mmc_block.specs.Run.Reply.{Accepted, Answers, GivenBack, InService, RefusedFor, Unknown}
+use Rattle.mmc_block.specs.Execution.{Event, Reply, IsExecution, Steps}
+use Rattle.mmc_block.specs.Execution.Event.{Cancel, Submit, Turn}
+use Rattle.mmc_block.specs.Execution.Reply.{Accepted, Answers, GivenBack, InService, RefusedFor, Unknown}
 use Rattle.mmc_block.proofs.MachineLemmas.{start_keeps}
 use Rattle.mmc_block.proofs.OrderBooks.{Books, completed_books, completed_pended, given_books, queued, queued_books}
 use Rattle.mmc_block.proofs.OrderBooks.{start_books}
@@ -178,7 +178,7 @@ module _ (info : Info) (start : Sets) where
         (sym g.leaves) (s.explained part sector);
   }
 
-  -- Runs.
+  -- Executions.
 
   nothing_stands : (ws : List Waiting) (cs : List Completion) (event : Event) (reply : Reply) (m : Machine)
       → submitted_by event reply ≡ [] → answers_in reply ≡ [] → Stands info start ws cs m
@@ -214,7 +214,7 @@ module _ (info : Info) (start : Sets) where
 
   events_stand : (ws : List Waiting) (cs : List Completion) (old : Machine) (events : List Event) (replies : List Reply)
       (new : Machine)
-      → Runs info old events replies new → Stands info start ws cs old
+      → IsExecution info old events replies new → Stands info start ws cs old
       → Stands info start (ws ++ submitted events replies) (cs ++ answers replies) new
   events_stand ws cs old [] [] new same s =
       subst (λ xs. Stands info start xs (cs ++ []) new) (sym (append-nil ws))
@@ -290,13 +290,13 @@ ordered_by info start ws cs m s choices right c bytes h d =
     )
 
 run_stands : (info : Info) (old : Machine) (events : List Event) (replies : List Reply) (new : Machine)
-    → AreDecided old.sets → old.waits ≡ [] → old.in_service ≡ [] → Runs info old events replies new
+    → AreDecided old.sets → old.waits ≡ [] → old.in_service ≡ [] → IsExecution info old events replies new
     → Stands info old.sets (submitted events replies) (answers replies) new
 run_stands info old events replies new decided no_waits no_serves run =
     events_stand info old.sets [] [] old events replies new run (start_stands_so info old decided no_waits no_serves)
 
 pub run_in_order : (info : Info) (old : Machine) (events : List Event) (replies : List Reply) (new : Machine)
-    → AreDecided old.sets → old.waits ≡ [] → old.in_service ≡ [] → Runs info old events replies new
+    → AreDecided old.sets → old.waits ≡ [] → old.in_service ≡ [] → IsExecution info old events replies new
     → IsInOrder (history info old.sets events replies)
 run_in_order info old events replies new decided no_waits no_serves run =
     let s = run_stands info old events replies new decided no_waits no_serves run in (
@@ -319,7 +319,7 @@ held_by info part sector start ws answer values held v within (inr none) e =
 
 pub run_ends_in_order : (info : Info) (old : Machine) (events : List Event) (replies : List Reply) (new : Machine)
     (sets : Sets) (contents : Part → ℕ → Sector)
-    → AreDecided old.sets → old.waits ≡ [] → old.in_service ≡ [] → Runs info old events replies new
+    → AreDecided old.sets → old.waits ≡ [] → old.in_service ≡ [] → IsExecution info old events replies new
     → Within sets new.sets
     → MayHold sets contents
     → EndsInOrder (history info old.sets events replies) sets new.next contents

@@ -1,6 +1,6 @@
 ghost use Rattle.std.specs.Prelude.{◌≡◌, ◌+◌, ◌<◌, ◌≤◌, ◌^◌, true};
 ghost use Rattle.mmc_queue.specs.Requests.{end_of};
-ghost use Rattle.mmc_queue.specs.Rule.{fits, is_beside, run_of, widened};
+ghost use Rattle.mmc_queue.specs.Rule.{fits, is_beside, extent_of, widened};
 
 use crate::kind::Kind;
 use crate::request::{MAX_COUNT, Request};
@@ -11,7 +11,7 @@ pub const MAX_GROUP: usize = 16;
 
 /// The sectors that the requests of a group are together: one behind the other, without a gap.
 #[derive(Clone, Copy, Debug)]
-pub struct Run {
+pub struct Extent {
     /// Their partition.
     pub part: Part,
     /// What is done with them.
@@ -24,13 +24,13 @@ pub struct Run {
     pub members: usize,
 }
 
-impl Run {
+impl Extent {
     /// The sectors of one request.
-    pub fn of(request: &Request) -> Run
+    pub fn of(request: &Request) -> Extent
         requires { end_of request.now ≤ 2 ^ 32 }
-        ensures { result ≡ run_of request.now }
+        ensures { result ≡ extent_of request.now }
     {
-        Run {
+        Extent {
             part: request.part(),
             kind: request.kind(),
             start: request.start(),
@@ -52,19 +52,19 @@ impl Run {
     }
 
     // With a request that stands at one of its ends.
-    pub(crate) fn widened(self, request: &Request) -> Run
+    pub(crate) fn widened(self, request: &Request) -> Extent
         requires inside { end_of request.now ≤ 2 ^ 32 }
         requires few { self.members < MAX_GROUP }
         ensures { result ≡ widened self request.now }
     {
         if request.start() == self.end {
-            Run {
+            Extent {
                 end: request.start() + request.count(),
                 members: self.members + 1,
                 ..self
             }
         } else {
-            Run {
+            Extent {
                 start: request.start(),
                 members: self.members + 1,
                 ..self

@@ -1,11 +1,11 @@
--- Runs: steps that follow each other.
+-- Executions: steps that follow each other.
 use Rattle.std.proofs.Common.{◌++◌, ◌∷◌, List, [], ap, subst}
 use Rattle.mmc_block.specs.declared.completion.Completion.{Completion}
 use Rattle.mmc_switch.specs.declared.info.Info.{Info}
 use Rattle.mmc_block.specs.Machine.{Turns}
-use Rattle.mmc_block.specs.Run.{Counted, CountedRuns, CountedSteps, CountedTurn, Event, Follow, Reply, Runs, Steps}
-use Rattle.mmc_block.specs.Run.Event.{Cancel, Submit, Turn}
-use Rattle.mmc_block.specs.Run.Reply.{Accepted, Answers, GivenBack, InService, RefusedFor, Unknown}
+use Rattle.mmc_block.specs.Execution.{Counted, IsCountedExecution, CountedSteps, CountedTurn, Event, Follow, Reply, IsExecution, Steps}
+use Rattle.mmc_block.specs.Execution.Event.{Cancel, Submit, Turn}
+use Rattle.mmc_block.specs.Execution.Reply.{Accepted, Answers, GivenBack, InService, RefusedFor, Unknown}
 
 -- steps behind others
 pub follow_then : {S : Type 0} (Does : S → Event → Reply → S → Type 0) (old : S) (es : List Event) (rs : List Reply)
@@ -28,7 +28,7 @@ follow_as Does Other seen each old (e ∷ es) (r ∷ rs) new (mid, step, later) 
     (seen mid, each old e r mid step, follow_as Does Other seen each mid es rs new later)
 follow_as Does Other seen each old _ _ new run = absurd run
 
--- Runs with own faults.
+-- Executions with own faults.
 
 counted_turn : (info : Info) (old : Counted) (completions : List Completion) (new : Counted)
     → CountedTurn info old completions new
@@ -47,7 +47,7 @@ counted_step info old (Cancel ticket) Unknown new h = h.0
 counted_step info old _ _ new h = absurd h.0
 
 pub counted_run : (info : Info) (old : Counted) (events : List Event) (replies : List Reply) (new : Counted)
-    → CountedRuns info old events replies new → Runs info old.machine events replies new.machine
+    → IsCountedExecution info old events replies new → IsExecution info old.machine events replies new.machine
 counted_run info old events replies new run =
     follow_as (CountedSteps info) (Steps info) (λ (c : Counted). c.machine)
     (counted_step info) old events replies new run

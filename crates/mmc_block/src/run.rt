@@ -1,0 +1,55 @@
+// Serving all that waits, for a user who has nothing else to do meanwhile.
+ghost use Rattle.std.specs.Prelude.{◌≡◌, ◌*◌, ◌+◌, ◌++◌, ◌≤◌, IfOk, OnErr, OnOk, length, true, vec_capacity, vec_len};
+ghost use Rattle.mmc_block.specs.Service.{in_service_of};
+
+use crate::completion::Completion;
+use crate::conclude::Completions;
+use crate::device::BlockDev;
+use mmc_bus::Bus;
+use std::alloc::{AllocError, Global};
+
+// Appends answers, for which there is room.
+fn append(all: &mut Vec<Completion>, answers: Completions)
+    requires room { vec_len all.old + length answers.items ≤ vec_capacity all.old }
+    ensures items { all.new.items ≡ all.old.items ++ answers.items }
+    ensures len { vec_len all.new ≡ vec_len all.old + length answers.items }
+    ensures capacity { vec_capacity all.old ≤ vec_capacity all.new }
+{
+    let mut answers = answers;
+    while !answers.is_empty() {
+        let Ok(()) = all.push(answers.remove(0)) else {
+            unreachable!()
+        };
+    }
+}
+
+impl<B: Bus> BlockDev<B> {
+    ghost use Rattle.mmc_block.specs.Device.{Comes, unanswered_of, work_of};
+    ghost use Rattle.mmc_block.specs.Execution.{Counted};
+    ghost use Rattle.mmc_block.specs.Run.{AreEachAnswered, TakesTurns};
+
+    /// Takes turns until no request is without an answer, and gives the answers in the order in which they came. It takes the
+    /// memory for them before the first turn.
+    ///
+    /// # Errors
+    /// `AllocError` where there is no memory for the answers. No turn was taken then.
+    pub fn run(&mut self, alloc: Global) -> Result<Vec<Completion>, AllocError>
+        // Over a bus that is kept: turns of the sector machine.
+        ensures machine { IfOk result (λ answers. (B.view self.new.bus).is_kept ≡ true
+            → Comes B.view self.old (λ (c n : Counted). TakesTurns self.old.info c answers.items n) self.new) }
+        ensures kept { (B.view self.new.bus).is_kept ≡ true → (B.view self.old.bus).is_kept ≡ true }
+
+        // Over any bus.
+        ensures each { IfOk result (λ answers. AreEachAnswered (self.old.waits ++ in_service_of self.old.service) answers.items) }
+        ensures all { OnOk result (unanswered_of self.new ≡ 0) }
+        ensures same { (self.new.info ≡ self.old.info) × (self.new.next ≡ self.old.next) }
+        ensures bounded { (B.view self.new.bus).exchanges ≤ (B.view self.old.bus).exchanges + 119 * work_of self.old }
+        ensures no_memory { OnErr result (self.new ≡ self.old) }
+    {
+        let mut answers = Vec::with_capacity(alloc, self.waiting())?;
+        while self.work_left() > 0 {
+            append(&mut answers, self.turn());
+        }
+        Ok(answers)
+    }
+}
