@@ -212,8 +212,8 @@ fn identified_m(rt: &impl Abort, alloc: Global, ext_csd: [u8; 512]) -> Result<Si
     Ok(card)
 }
 
-// Card `emmc` is opened. What can be switched is as after power on, whatever its EXT_CSD is made with; after the switches
-// eight lines at high speed carry it.
+// Card `emmc` is opened. What can be switched is as after power on, whatever its EXT_CSD is made with; after the
+// switches eight lines at high speed carry it.
 #[test]
 fn opens_emmc(rt: HostRuntime) -> Result<(), Fail> {
     let mut made = ext_csd_of_emmc();

@@ -1,6 +1,6 @@
-// Four cards, by the names that they have in `examples/`, and what tests say of them: three SD cards, `sdsc` with byte addresses,
-// `sdsc_cmd23`, which knows CMD23 too, and `sdhc` with sector addresses and high speed; and `emmc`, an eMMC device with sector
-// addresses.
+// Four cards, by the names that they have in `examples/`, and what tests say of them: three SD cards, `sdsc` with byte
+// addresses, `sdsc_cmd23`, which knows CMD23 too, and `sdhc` with sector addresses and high speed; and `emmc`, an eMMC
+// device with sector addresses.
 ghost use Rattle.std.specs.Prelude.{◌<◌};
 
 use crate::{CardSpec, Fault, KindRegisters, MmcRegisters, Registers, SdRegisters, SimCard};
