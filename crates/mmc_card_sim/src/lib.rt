@@ -7,6 +7,7 @@ mod chip;
 mod command;
 mod delays;
 mod erase_rows;
+pub mod example_cards;
 mod fault;
 mod fault_rows;
 mod faulty_exchanges;

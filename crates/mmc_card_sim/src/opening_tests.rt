@@ -1,5 +1,6 @@
 // The exchanges with which a host identifies each card and learns what it can do, from power on (SD Physical Layer
 // 6.00, sections 4.2 and 4.3.10; JESD84-B51, sections 6.4 and 6.6).
+use crate::example_cards::*;
 use crate::test_cards::*;
 use crate::{CardSpec, SimCard};
 use mmc_bus::{Bus, DataIn, Reply, Timing, Want, Width};
@@ -176,7 +177,7 @@ fn expect_switch(rt: &impl Abort, card: &mut SimCard, frame: [u8; 6]) {
 
 // Card `emmc` is identified: it doesn't know CMD8 in idle, and CMD55 names another card.
 fn identified_m(rt: &impl Abort, alloc: Global, ext_csd: [u8; 512]) -> Result<SimCard, Fail> {
-    let mut spec = mmc(ext_csd, 2048);
+    let mut spec = emmc_with(ext_csd, 2048);
     spec.busy = 2;
     let mut card = built(alloc, spec)?;
     for frame in [
