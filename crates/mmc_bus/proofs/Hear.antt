@@ -29,7 +29,7 @@ use Rattle.mmc_bus.specs.Exchanges.{Exchanged}
 use Rattle.mmc_card.specs.Faults.{CommandStep, FallNoMore, WriteStep, IsFlipped, IsPatient, NoFault, OneFault}
 use Rattle.mmc_card.specs.Faults.{PollStep, Spells}
 use Rattle.mmc_card.specs.Faults.{ReadStep, bad_block, brownout, fail, faithful, flip_command, flip_reply, lose_command}
-use Rattle.mmc_card.specs.Faults.{lose_reply, lose_status, reject, slow_inquiry, slow_poll}
+use Rattle.mmc_card.specs.Faults.{busy, lose_reply, lose_status, reject, slow_inquiry}
 use Rattle.mmc_bus.specs.Heard.{cause_of, cause_of_command}
 use Rattle.mmc_card.specs.Laws.{CountsAtMostOne, erased_by, is_frame_of_run, maybe_erased}
 use Rattle.mmc_bus.specs.Learned.{Asked, CommandFacts, Faithful, WriteFacts, Obeyed, PollFacts, ReadFacts, carried_out}
@@ -218,7 +218,7 @@ polled_ways : (choice : Choice) (old : Card) (b said : Bool) (new : Card) → b 
     → (said ≡ true → (old.is_busy ≡ true) × (choice.is_slow ≡ true) × (new ≡ waited old))
     × (said ≡ false → new ≡ rested old)
 polled_ways choice old true said new e card answer =
-    let busy = both old.is_busy choice.is_slow (sym e) in (λ h. (busy.0, busy.1, card), λ h. cc)
+    let parts = both old.is_busy choice.is_slow (sym e) in (λ h. (parts.0, parts.1, card), λ h. cc)
 polled_ways choice old false said new e card answer = (λ h. cc, λ h. card)
 
 -- failed programming leaves its sign
@@ -250,9 +250,9 @@ poll_ways old said new (faithful choice patient count card answer) =
       patient = λ same h. patient (ways.0 h).1;
       fine = λ same h. ways.1 h;
     }
-poll_ways old said new (slow_poll busy late count card answer) =
+poll_ways old said new (busy is_busy late count card answer) =
     record {
-      yes = λ h. (busy, card);
+      yes = λ h. (is_busy, card);
       calm = λ h up quiet. cc;
       shown = λ h up none. cc;
       patient = λ same h. fell old new count same;

@@ -27,8 +27,8 @@ use Rattle.mmc_card.specs.declared.exchange.DataIn.TheVariants as Received
 use Rattle.mmc_card.specs.declared.exchange.DataOut.TheVariants as Sent
 use Rattle.mmc_card.specs.declared.exchange.Exchange.TheVariants as Did
 
--- What the card is made with stays, and the sizes of its partitions; the count of faults doesn't fall, and no more are to
--- fall than before.
+-- What the card is made with stays, and the sizes of its partitions; the count of faults doesn't fall, and no more are
+-- to fall than before.
 pub record Stays (old new : BusView) : Type 0 where
   pub carried : Carried old.card new.card
   pub later : old.faults ≤ new.faults
@@ -79,8 +79,8 @@ pub record CommandFacts {X : Type 0} (answers : CardAnswer → Result X Unheard)
   pub sound : (x : X) → heard ≡ Ok x → Obeyed answers old.card index argument heard new.card
   pub fine : NoFault old new → Faithful answers old.card index argument heard new.card
 
--- One exchange: a command with this index and argument, the response that is wanted of it, whichever kind the card is and
--- whether it is an application command or not, and what was heard.
+-- One exchange: a command with this index and argument, the response that is wanted of it, whichever kind the card is
+-- and whether it is an application command or not, and what was heard.
 pub record Asked {X : Type 0} (hears : Reply → Result X Unheard) (answers : CardAnswer → Result X Unheard)
     (old : BusView) (index argument : ℕ) (heard : Result X Unheard) (new : BusView) : Type 0 where
   pub frame : List ℕ

@@ -1,6 +1,6 @@
-//! Laws about the commands of identification and status: what a host may conclude from what it learned of an exchange, so
-//! that it never looks at the table of the card's commands. Each function does nothing; its contract is the law, which a
-//! caller then knows.
+//! Laws about the commands of identification and status: what a host may conclude from what it learned of an exchange,
+//! so that it never looks at the table of the card's commands. Each function does nothing; its contract is the law,
+//! which a caller then knows.
 ghost use Rattle.std.specs.Prelude.{◌≡◌, ◌⊎◌, Bool, List, Ok, Result, false, true, ℕ};
 ghost use Rattle.mmc_frame.specs.Field.{field};
 ghost use Rattle.mmc_frame.specs.declared.card_state.State.TheVariants.{Ident, Idle, Ready, Stby, Tran};
@@ -20,23 +20,26 @@ ghost use Rattle.mmc_card.specs.BusView.{BusView};
 
 use mmc_frame::laws;
 
-/// CMD0, GO_IDLE_STATE: where no fault fell, the card is as after power on, and some of an unfinished write or erase has
-/// landed.
+/// CMD0, GO_IDLE_STATE: where no fault fell, the card is as after power on, and some of an unfinished write or erase
+/// has landed.
 pub fn cmd0_resets_the_card()
-    ensures { (old new : BusView) (argument : ℕ) (heard : Result ℕ Unheard) → CommandFacts nothing_of old Index.GO_IDLE_STATE argument heard new
+    ensures { (old new : BusView) (argument : ℕ) (heard : Result ℕ Unheard)
+        → CommandFacts nothing_of old Index.GO_IDLE_STATE argument heard new
         → NoFault old new → (lands : ℕ → Bool) × (new.card ≡ reset lands old.card) }
 {}
 
-/// CMD1 of eMMC, SEND_OP_COND: a device in idle tells its OCR, and says at most eight times that it isn't ready. Only an
-/// eMMC device answers.
+/// CMD1 of eMMC, SEND_OP_COND: a device in idle tells its OCR, and says at most eight times that it isn't ready. Only
+/// an eMMC device answers.
 pub fn cmd1_asks_an_emmc_device_whether_it_is_ready()
-    ensures { (old new : BusView) (argument : ℕ) (heard : Result ℕ Unheard) → CommandFacts ocr_of old Index.SEND_OP_COND argument heard new → IsCard old.card
+    ensures { (old new : BusView) (argument : ℕ) (heard : Result ℕ Unheard)
+        → CommandFacts ocr_of old Index.SEND_OP_COND argument heard new → IsCard old.card
         → Inquires ((old.card.made.kind ≡ Mmc) × (old.card.state ≡ Idle)) Unit old heard new }
 {}
 
 /// CMD2, ALL_SEND_CID: a card in ready tells its CID, and is in ident after it.
 pub fn cmd2_tells_the_cid()
-    ensures { (old new : BusView) (argument : ℕ) (heard : Result (List ℕ) Unheard) → CommandFacts register_of old Index.ALL_SEND_CID argument heard new → IsCard old.card
+    ensures { (old new : BusView) (argument : ℕ) (heard : Result (List ℕ) Unheard)
+        → CommandFacts register_of old Index.ALL_SEND_CID argument heard new → IsCard old.card
         → Does (old.card.state ≡ Ready) old.card.made.cid (record (done old.card) { state = Ident }) old heard new }
 {
     laws::register_comes_back();
@@ -44,39 +47,55 @@ pub fn cmd2_tells_the_cid()
 
 /// CMD3 of SD, SEND_RELATIVE_ADDR: a card in ident or stby publishes its RCA, and goes by it in stby.
 pub fn cmd3_publishes_the_rca()
-    ensures { (old new : BusView) (argument : ℕ) (heard : Result ℕ Unheard) → Responded Index.SEND_RELATIVE_ADDR old argument heard new → IsCard old.card
+    ensures { (old new : BusView) (argument : ℕ) (heard : Result ℕ Unheard)
+        → Responded Index.SEND_RELATIVE_ADDR old argument heard new → IsCard old.card
         → old.card.made.kind ≡ Sd
-        → Does ((old.card.state ≡ Ident) ⊎ (old.card.state ≡ Stby)) (r6_argument old.card) (record (shown old.card) { state = Stby; rca = old.card.made.published }) old heard new }
+        → Does ((old.card.state ≡ Ident) ⊎ (old.card.state ≡ Stby))
+        (r6_argument old.card)
+        (record (shown old.card) { state = Stby; rca = old.card.made.published })
+        old heard new }
 {}
 
 /// CMD3 of eMMC, SET_RELATIVE_ADDR: a device in ident is assigned the RCA of the argument, and goes by it in stby.
 pub fn cmd3_gives_the_rca()
-    ensures { (old new : BusView) (argument : ℕ) (heard : Result ℕ Unheard) → Responded Index.SEND_RELATIVE_ADDR old argument heard new → IsCard old.card
+    ensures { (old new : BusView) (argument : ℕ) (heard : Result ℕ Unheard)
+        → Responded Index.SEND_RELATIVE_ADDR old argument heard new → IsCard old.card
         → old.card.made.kind ≡ Mmc
-        → Does (old.card.state ≡ Ident) (status false old.card) (record (shown old.card) { state = Stby; rca = field 31 16 argument }) old heard new }
+        → Does (old.card.state ≡ Ident)
+        (status false old.card)
+        (record (shown old.card) { state = Stby; rca = field 31 16 argument })
+        old heard new }
 {}
 
 /// CMD7, SELECT_CARD: a card in stby that is named is in tran after it, and may be busy.
 pub fn cmd7_selects_the_card()
-    ensures { (old new : BusView) (argument : ℕ) (heard : Result ℕ Unheard) → Responded Index.SELECT_CARD old argument heard new → IsCard old.card
-        → Does ((old.card.state ≡ Stby) × Names argument old.card) (status false old.card) (record (busied (shown old.card)) { state = Tran }) old heard new }
+    ensures { (old new : BusView) (argument : ℕ) (heard : Result ℕ Unheard)
+        → Responded Index.SELECT_CARD old argument heard new → IsCard old.card
+        → Does ((old.card.state ≡ Stby) × Names argument old.card)
+        (status false old.card) (record (busied (shown old.card)) { state = Tran }) old heard new }
 {}
 
-/// CMD8 of SD, SEND_IF_COND, for 2.7 to 3.6 V: a card in idle that knows CMD8 tells the voltage and the pattern again. Of one
-/// that doesn't know it nothing is heard, and neither of an eMMC device in idle.
+/// CMD8 of SD, SEND_IF_COND, for 2.7 to 3.6 V: a card in idle that knows CMD8 tells the voltage and the pattern again.
+/// Of one that doesn't know it nothing is heard, and neither of an eMMC device in idle.
 pub fn cmd8_is_repeated_by_a_card_that_knows_it()
-    ensures does { (old new : BusView) (argument : ℕ) (heard : Result ℕ Unheard) → Responded Index.SEND_IF_COND old argument heard new → IsCard old.card
+    ensures does { (old new : BusView) (argument : ℕ) (heard : Result ℕ Unheard)
+        → Responded Index.SEND_IF_COND old argument heard new → IsCard old.card
         → old.card.made.kind ≡ Sd → field 11 8 argument ≡ 1
-        → Does ((old.card.state ≡ Idle) × (old.card.made.answers_cmd8 ≡ true)) (field 11 0 argument) (done old.card) old heard new }
-    ensures unknown { (old new : BusView) (argument : ℕ) (heard : Result ℕ Unheard) → Responded Index.SEND_IF_COND old argument heard new → IsCard old.card
-        → old.card.made.kind ≡ Sd → old.card.made.answers_cmd8 ≡ false → old.card.state ≡ Idle → IsUnheard (refused old.card) old heard new }
-    ensures mmc { (old new : BusView) (argument : ℕ) (heard : Result ℕ Unheard) → Responded Index.SEND_IF_COND old argument heard new → IsCard old.card
+        → Does ((old.card.state ≡ Idle) × (old.card.made.answers_cmd8 ≡ true))
+        (field 11 0 argument) (done old.card) old heard new }
+    ensures unknown { (old new : BusView) (argument : ℕ) (heard : Result ℕ Unheard)
+        → Responded Index.SEND_IF_COND old argument heard new → IsCard old.card
+        → old.card.made.kind ≡ Sd → old.card.made.answers_cmd8 ≡ false → old.card.state ≡ Idle
+        → IsUnheard (refused old.card) old heard new }
+    ensures mmc { (old new : BusView) (argument : ℕ) (heard : Result ℕ Unheard)
+        → Responded Index.SEND_IF_COND old argument heard new → IsCard old.card
         → old.card.made.kind ≡ Mmc → old.card.state ≡ Idle → IsUnheard (refused old.card) old heard new }
 {}
 
 /// CMD9, SEND_CSD: a card in stby that is named tells its CSD.
 pub fn cmd9_tells_the_csd()
-    ensures { (old new : BusView) (argument : ℕ) (heard : Result (List ℕ) Unheard) → CommandFacts register_of old Index.SEND_CSD argument heard new → IsCard old.card
+    ensures { (old new : BusView) (argument : ℕ) (heard : Result (List ℕ) Unheard)
+        → CommandFacts register_of old Index.SEND_CSD argument heard new → IsCard old.card
         → Does ((old.card.state ≡ Stby) × Names argument old.card) old.card.made.csd (done old.card) old heard new }
 {
     laws::register_comes_back();
@@ -84,30 +103,49 @@ pub fn cmd9_tells_the_csd()
 
 /// CMD13, SEND_STATUS: an identified card tells its status, and holds no error after it.
 pub fn cmd13_tells_the_status()
-    ensures { (old new : BusView) (argument : ℕ) (heard : Result ℕ Unheard) → Responded Index.SEND_STATUS old argument heard new
-        → Does ((is_identified old.card.state ≡ true) × (old.card.app ≡ false) × Names argument old.card) (status false old.card) (shown old.card) old heard new }
+    ensures { (old new : BusView) (argument : ℕ) (heard : Result ℕ Unheard)
+        → Responded Index.SEND_STATUS old argument heard new
+        → Does ((is_identified old.card.state ≡ true) × (old.card.app ≡ false) × Names argument old.card)
+        (status false old.card) (shown old.card) old heard new }
 {}
 
-/// ACMD41, SD_SEND_OP_COND: a card in idle tells its OCR, and says to a host that serves it at most eight times that it isn't
-/// ready. Only an SD card answers, and only behind CMD55.
+/// ACMD41, SD_SEND_OP_COND: a card in idle tells its OCR, and says to a host that serves it at most eight times that it
+/// isn't ready. Only an SD card answers, and only behind CMD55.
 pub fn acmd41_asks_an_sd_card_whether_it_is_ready()
-    ensures { (old new : BusView) (argument : ℕ) (heard : Result ℕ Unheard) → CommandFacts ocr_of old Index.SD_SEND_OP_COND argument heard new → IsCard old.card
-        → Inquires ((old.card.made.kind ≡ Sd) × (old.card.app ≡ true) × (old.card.state ≡ Idle)) (is_served old.card argument ≡ true) old heard new }
+    ensures { (old new : BusView) (argument : ℕ) (heard : Result ℕ Unheard)
+        → CommandFacts ocr_of old Index.SD_SEND_OP_COND argument heard new → IsCard old.card
+        → Inquires ((old.card.made.kind ≡ Sd) × (old.card.app ≡ true) × (old.card.state ≡ Idle))
+        (is_served old.card argument ≡ true) old heard new }
 {}
 
-/// CMD55 of SD, APP_CMD: a card in idle, or an identified one, that is named expects the next command to be an application
-/// command. Only an SD card answers; an eMMC device isn't heard.
+/// CMD55 of SD, APP_CMD: a card in idle, or an identified one, that is named expects the next command to be an
+/// application command. Only an SD card answers; an eMMC device isn't heard.
 pub fn cmd55_announces_an_application_command()
-    ensures idle { (old new : BusView) (argument : ℕ) (heard : Result ℕ Unheard) → Responded Index.APP_CMD old argument heard new → IsCard old.card
-        → Does ((old.card.made.kind ≡ Sd) × ((old.card.state ≡ Idle) ⊎ (is_identified old.card.state ≡ true)) × Names argument old.card) (status true (without_addresses old.card)) (record (shown (forgotten old.card)) { app = true }) old heard new }
-    ensures mmc { (old new : BusView) (argument : ℕ) (heard : Result ℕ Unheard) → Responded Index.APP_CMD old argument heard new → IsCard old.card
-        → old.card.made.kind ≡ Mmc → Names argument old.card → IsUnheard (refused (without_addresses old.card)) old heard new }
+    ensures idle { (old new : BusView) (argument : ℕ) (heard : Result ℕ Unheard)
+        → Responded Index.APP_CMD old argument heard new → IsCard old.card
+        → Does ((old.card.made.kind ≡ Sd) × ((old.card.state ≡ Idle) ⊎ (is_identified old.card.state ≡ true))
+        × Names argument old.card)
+        (status true (without_addresses old.card))
+        (record (shown (forgotten old.card)) { app = true })
+        old heard new }
+    ensures mmc { (old new : BusView) (argument : ℕ) (heard : Result ℕ Unheard)
+        → Responded Index.APP_CMD old argument heard new → IsCard old.card
+        → old.card.made.kind ≡ Mmc → Names argument old.card
+        → IsUnheard (refused (without_addresses old.card)) old heard new }
 {}
 
 /// CMD7, CMD9, CMD13 and CMD55 to another card: nothing is heard, and nothing changes.
 pub fn a_command_to_another_card_changes_nothing()
-    ensures select_card { (old new : BusView) (argument : ℕ) (heard : Result ℕ Unheard) → Responded Index.SELECT_CARD old argument heard new → (Names argument old.card → ⊥) → IsUnheard old.card old heard new }
-    ensures send_csd { (old new : BusView) (argument : ℕ) (heard : Result (List ℕ) Unheard) → CommandFacts register_of old Index.SEND_CSD argument heard new → (Names argument old.card → ⊥) → IsUnheard old.card old heard new }
-    ensures send_status { (old new : BusView) (argument : ℕ) (heard : Result ℕ Unheard) → Responded Index.SEND_STATUS old argument heard new → (Names argument old.card → ⊥) → IsUnheard old.card old heard new }
-    ensures app_cmd { (old new : BusView) (argument : ℕ) (heard : Result ℕ Unheard) → Responded Index.APP_CMD old argument heard new → (Names argument old.card → ⊥) → IsUnheard old.card old heard new }
+    ensures select_card { (old new : BusView) (argument : ℕ) (heard : Result ℕ Unheard)
+        → Responded Index.SELECT_CARD old argument heard new → (Names argument old.card → ⊥)
+        → IsUnheard old.card old heard new }
+    ensures send_csd { (old new : BusView) (argument : ℕ) (heard : Result (List ℕ) Unheard)
+        → CommandFacts register_of old Index.SEND_CSD argument heard new → (Names argument old.card → ⊥)
+        → IsUnheard old.card old heard new }
+    ensures send_status { (old new : BusView) (argument : ℕ) (heard : Result ℕ Unheard)
+        → Responded Index.SEND_STATUS old argument heard new → (Names argument old.card → ⊥)
+        → IsUnheard old.card old heard new }
+    ensures app_cmd { (old new : BusView) (argument : ℕ) (heard : Result ℕ Unheard)
+        → Responded Index.APP_CMD old argument heard new → (Names argument old.card → ⊥)
+        → IsUnheard old.card old heard new }
 {}

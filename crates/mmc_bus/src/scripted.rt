@@ -24,7 +24,8 @@ pub enum BusAnswer {
 
 /// A bus for tests: it gives the answers of a list, in their order. It is never kept to a card.
 ///
-/// An exchange whose kind is that of the next answer uses it up. Any other leaves it, and gets `Silent`, `Nothing` or no.
+/// An exchange whose kind is that of the next answer uses it up. Any other leaves it, and gets `Silent`, `Nothing` or
+/// no.
 #[derive(Debug, Drop)]
 pub struct ScriptedBus {
     answers: VecDeque<BusAnswer>,
@@ -120,7 +121,8 @@ impl Bus for ScriptedBus {
     }
 
     fn read_data(&mut self, buffer: &mut [u8]) -> DataIn
-        ensures exchanged { DataRead (scripted_bus_view self.old) (length buffer.old) result buffer.new (scripted_bus_view self.new) }
+        ensures exchanged { DataRead (scripted_bus_view self.old) (length buffer.old) result buffer.new
+            (scripted_bus_view self.new) }
         ensures next { ReadsNext (answers_of self.old) result buffer.new (answers_of self.new) }
     {
         let got = next_block(&mut self.answers, buffer);

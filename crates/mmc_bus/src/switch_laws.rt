@@ -17,28 +17,42 @@ ghost use Rattle.mmc_card.specs.BusView.{BusView};
 
 /// CMD6 of eMMC, SWITCH: a device in tran carries out a switch that it knows, and is busy with it.
 pub fn cmd6_switches_an_emmc_device()
-    ensures { (old new : BusView) (argument : ℕ) (heard : Result ℕ Unheard) (switched_card : Card) → Responded Index.SWITCH_FUNC old argument heard new
+    ensures { (old new : BusView) (argument : ℕ) (heard : Result ℕ Unheard) (switched_card : Card)
+        → Responded Index.SWITCH_FUNC old argument heard new
         → old.card.made.kind ≡ Mmc → switched (without_addresses old.card) argument ≡ Some switched_card
-        → Does (old.card.state ≡ Tran) (status false (without_addresses old.card)) (programs_switch switched_card) old heard new }
+        → Does (old.card.state ≡ Tran)
+        (status false (without_addresses old.card)) (programs_switch switched_card) old heard new }
 {}
 
 /// CMD6 of SD, SWITCH_FUNC: a card in tran that knows it sends its switch status.
 pub fn cmd6_sends_the_switch_status()
-    ensures { (old new : BusView) (argument : ℕ) (heard : Result ℕ Unheard) → Responded Index.SWITCH_FUNC old argument heard new
+    ensures { (old new : BusView) (argument : ℕ) (heard : Result ℕ Unheard)
+        → Responded Index.SWITCH_FUNC old argument heard new
         → old.card.made.kind ≡ Sd → old.card.app ≡ false
-        → Does ((old.card.state ≡ Tran) × (has_switch_function old.card.made ≡ true)) (status false (without_addresses old.card)) (sending old.card.made.switch_status (timing_after old.card argument) (forgotten old.card)) old heard new }
+        → Does ((old.card.state ≡ Tran) × (has_switch_function old.card.made ≡ true))
+        (status false (without_addresses old.card))
+        (sending old.card.made.switch_status (timing_after old.card argument) (forgotten old.card))
+        old heard new }
 {}
 
 /// ACMD6, SET_BUS_WIDTH: a card in tran uses one line or four from then on, as the argument says.
 pub fn acmd6_sets_the_width()
-    ensures { (old new : BusView) (argument : ℕ) (heard : Result ℕ Unheard) → Responded Index.SET_BUS_WIDTH old argument heard new
+    ensures { (old new : BusView) (argument : ℕ) (heard : Result ℕ Unheard)
+        → Responded Index.SET_BUS_WIDTH old argument heard new
         → old.card.made.kind ≡ Sd → old.card.app ≡ true
-        → Does (old.card.state ≡ Tran) (status true (without_addresses old.card)) (record (shown (forgotten old.card)) { width = width_by (field 1 0 argument) old.card.width }) old heard new }
+        → Does (old.card.state ≡ Tran)
+        (status true (without_addresses old.card))
+        (record (shown (forgotten old.card)) { width = width_by (field 1 0 argument) old.card.width })
+        old heard new }
 {}
 
 /// CMD8 of eMMC, SEND_EXT_CSD: a device in tran sends its EXT_CSD.
 pub fn cmd8_sends_the_ext_csd()
-    ensures { (old new : BusView) (argument : ℕ) (heard : Result ℕ Unheard) → Responded Index.SEND_IF_COND old argument heard new
+    ensures { (old new : BusView) (argument : ℕ) (heard : Result ℕ Unheard)
+        → Responded Index.SEND_IF_COND old argument heard new
         → old.card.made.kind ≡ Mmc
-        → Does (old.card.state ≡ Tran) (status false (without_addresses old.card)) (sending (ext_csd_now old.card) old.card.timing (forgotten old.card)) old heard new }
+        → Does (old.card.state ≡ Tran)
+        (status false (without_addresses old.card))
+        (sending (ext_csd_now old.card) old.card.timing (forgotten old.card))
+        old heard new }
 {}

@@ -86,7 +86,8 @@ impl<B: Bus> TraceBus<B> {
     /// # Errors
     /// The fault of a write; a prefix of the lines went out then.
     pub fn write_last<W: Write>(&self, most: usize, out: &mut W) -> io::Result<()>
-        ensures { Writes (W.contents out.old) (W.contents out.new) result (lines_text (last_of most self.now.exchanges)) }
+        ensures { Writes (W.contents out.old) (W.contents out.new) result (lines_text
+            (last_of most self.now.exchanges)) }
     {
         for i in self.len().saturating_sub(most)..self.len() {
             let exchange = self.last.get(i).unwrap();

@@ -17,7 +17,11 @@ pub struct Wire {
 impl Wire {
     /// One line, default speed, and no exchange so far.
     pub fn new() -> Wire
-        ensures { result ≡ record { lines = record { width = Width.One; timing = Timing.Default }; last = None; exchanges = 0 } }
+        ensures { result ≡ record {
+          lines = record { width = Width.One; timing = Timing.Default };
+          last = None;
+          exchanges = 0;
+        } }
     {
         Wire {
             lines: Lines {

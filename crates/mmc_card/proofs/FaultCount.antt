@@ -3,9 +3,8 @@ use Rattle.std.proofs.Common.{Bool, List, inl, inr, ℕ}
 use Rattle.mmc_card.specs.declared.exchange.DataIn.{DataIn}
 use Rattle.mmc_card.specs.declared.exchange.DataOut.{DataOut}
 use Rattle.mmc_card.specs.declared.exchange.Reply.{Reply}
-use Rattle.mmc_card.specs.Faults.{CommandStep, WriteStep, PollStep, ReadStep, bad_block, brownout, fail, faithful}
+use Rattle.mmc_card.specs.Faults.{CommandStep, WriteStep, PollStep, ReadStep, bad_block, brownout, busy, fail, faithful}
 use Rattle.mmc_card.specs.Faults.{flip_command, flip_reply, lose_command, lose_reply, lose_status, reject, slow_inquiry}
-use Rattle.mmc_card.specs.Faults.{slow_poll}
 use Rattle.mmc_card.specs.Laws.{CountsAtMostOne}
 use Rattle.mmc_card.specs.Sectors.{Sector}
 use Rattle.mmc_card.specs.BusView.{BusView}
@@ -22,7 +21,7 @@ command_counts old frame reply new (brownout choice lands after patient count ca
 
 pub poll_counts : (old : BusView) (said : Bool) (new : BusView) → PollStep old said new → CountsAtMostOne old new
 poll_counts old said new (faithful choice patient count card answer) = inl count
-poll_counts old said new (slow_poll busy late count card answer) = inr count
+poll_counts old said new (busy is_busy late count card answer) = inr count
 poll_counts old said new (fail lands prg switching count card answer) = inr count
 poll_counts old said new (brownout choice lands after patient count card answer) = inr count
 

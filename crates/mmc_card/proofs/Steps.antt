@@ -12,9 +12,8 @@ use Rattle.mmc_card.specs.ErrorBits.{general_error}
 use Rattle.mmc_card.specs.Blocks.{accepted, asked_for, can_send, can_accept, offered, polled_once, programmed, rejected}
 use Rattle.mmc_card.specs.Blocks.{rested, sent, waited}
 use Rattle.mmc_card.specs.Card.{Card, is_in}
-use Rattle.mmc_card.specs.Faults.{CommandStep, WriteStep, PollStep, ReadStep, bad_block, brownout, fail, faithful}
+use Rattle.mmc_card.specs.Faults.{CommandStep, WriteStep, PollStep, ReadStep, bad_block, brownout, busy, fail, faithful}
 use Rattle.mmc_card.specs.Faults.{flip_command, flip_reply, lose_command, lose_reply, lose_status, reject, slow_inquiry}
-use Rattle.mmc_card.specs.Faults.{slow_poll}
 use Rattle.mmc_card.specs.Rows.{answered}
 use Rattle.mmc_card.specs.Sectors.{Sector}
 use Rattle.mmc_card.specs.BusView.{BusView}
@@ -49,7 +48,7 @@ after_poll P old said new stays rests slows fails survives step =
     (λ b. slows (both old.card.is_busy choice.is_slow b).0) (λ _. rests) in
     elim step [
       | faithful choice patient count card answer ↦ along P card (polls choice)
-      | slow_poll busy late count card answer ↦ along P card (slows busy)
+      | busy is_busy late count card answer ↦ along P card (slows is_busy)
       | fail lands prg switching count card answer ↦ along P card (fails lands prg switching)
       | brownout choice lands after patient count card answer ↦ along P card
           (survives lands _ (by_cond P after (λ _. polls choice) (λ _. stays)))

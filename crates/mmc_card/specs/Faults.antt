@@ -117,7 +117,7 @@ pub data PollStep (old : BusView) (said : Bool) (new : BusView) : Type 0 where
       → new.card ≡ (polled_once choice old.card).0 → said ≡ (polled_once choice old.card).1
       → PollStep old said new
   -- busy a ninth time, or more often
-  slow_poll : old.card.is_busy ≡ true → 8 ≤ old.card.polled → OneFault old new
+  busy : old.card.is_busy ≡ true → 8 ≤ old.card.polled → OneFault old new
       → new.card ≡ waited old.card → said ≡ true
       → PollStep old said new
   -- programming of a write, erase or trim fails: ERROR, and some of it has landed

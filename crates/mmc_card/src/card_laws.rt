@@ -1,5 +1,5 @@
-//! Laws about what a card shows and what it holds. Each function does nothing; its contract is the law, which a caller then
-//! knows.
+//! Laws about what a card shows and what it holds. Each function does nothing; its contract is the law, which a caller
+//! then knows.
 ghost use Rattle.std.specs.Prelude.{◌^◌, ◌≡◌, ◌↔◌, Bool, []};
 ghost use Rattle.mmc_frame.specs.Field.{field};
 ghost use Rattle.mmc_frame.specs.Status.{IsClean, error_bits, state_number};
@@ -12,13 +12,17 @@ ghost use Rattle.mmc_card.specs.CardLaws.{HasNoError, IsInOrder};
 ghost use Rattle.mmc_card.specs.ErrorBits.{out_of_range};
 ghost use Rattle.mmc_card.specs.Sectors.{AreRead, Change, Same, Sets, changed};
 
-/// A status has the state of its card. Its error bits are 0 just where the card holds no error, and it is clean just where,
-/// besides, the card is in tran and not busy. Of a card that holds OUT_OF_RANGE and no other error they are bit 31.
+/// A status has the state of its card. Its error bits are 0 just where the card holds no error, and it is clean just
+/// where, besides, the card is in tran and not busy. Of a card that holds OUT_OF_RANGE and no other error they are bit
+/// 31.
 pub fn a_status_tells_of_its_card()
     ensures state { (app : Bool) (card : Card) → field 12 9 (status app card) ≡ state_number card.state }
-    ensures errors { (kind : Kind) (app : Bool) (card : Card) → IsCard card → ((error_bits kind (status app card) ≡ 0) ↔ HasNoError kind card) }
-    ensures clean { (kind : Kind) (app : Bool) (card : Card) → IsCard card → (IsClean kind (status app card) ↔ IsInOrder kind card) }
-    ensures at_end { (kind : Kind) (app : Bool) (card : Card) → IsCard card → HasNoError kind (record card { errors = 0 }) → card.errors ≡ out_of_range
+    ensures errors { (kind : Kind) (app : Bool) (card : Card) → IsCard card
+        → ((error_bits kind (status app card) ≡ 0) ↔ HasNoError kind card) }
+    ensures clean { (kind : Kind) (app : Bool) (card : Card) → IsCard card
+        → (IsClean kind (status app card) ↔ IsInOrder kind card) }
+    ensures at_end { (kind : Kind) (app : Bool) (card : Card) → IsCard card
+        → HasNoError kind (record card { errors = 0 }) → card.errors ≡ out_of_range
         → error_bits kind (status app card) ≡ 2 ^ 31 }
 {}
 
@@ -27,10 +31,11 @@ pub fn a_card_at_rest_holds_what_it_stores()
     ensures { (card : Card) → card.values ≡ [] → Same (holds card) (known card) }
 {}
 
-/// Once programming has ended, what was unfinished is carried out: each of its sectors holds its new value alone, and each
-/// other one what was stored.
+/// Once programming has ended, what was unfinished is carried out: each of its sectors holds its new value alone, and
+/// each other one what was stored.
 pub fn programming_carries_a_change_out()
-    ensures changes { (card : Card) → card.state ≡ Prg → FitsPart card → Same (holds (rested card)) (changed (unfinished card) (known card)) }
+    ensures changes { (card : Card) → card.state ≡ Prg → FitsPart card
+        → Same (holds (rested card)) (changed (unfinished card) (known card)) }
     ensures nothing { (card : Card) → card.state ≡ Prg → card.values ≡ [] → Same (holds (rested card)) (holds card) }
 {}
 

@@ -6,8 +6,9 @@ ghost use Rattle.mmc_card.specs.Wanted.{response_to};
 use crate::exchange::Want;
 use mmc_frame::commands::{ALL_SEND_CID, GO_IDLE_STATE, SEND_CSD};
 
-/// The commands of the card relation, by the standards' names (SD Physical Layer 6.00, section 4.7.4; JESD84-B51, section
-/// 6.10.4). `SdSendOpCond`, `SetBusWidth` and `SendScr` are application commands: the host sends each behind CMD55.
+/// The commands of the card relation, by the standards' names (SD Physical Layer 6.00, section 4.7.4; JESD84-B51,
+/// section 6.10.4). `SdSendOpCond`, `SetBusWidth` and `SendScr` are application commands: the host sends each behind
+/// CMD55.
 #[derive(Clone, Copy, Debug, PartialEq, Eq)]
 pub enum Command {
     /// CMD0.
@@ -86,8 +87,8 @@ pub fn leaves_erase(command: Command) -> bool
     )
 }
 
-/// The response that a host wants of the command with this index, of whichever kind the card is, and whether the command is an
-/// application command or not (SD Physical Layer 6.00, section 4.7.4; JESD84-B51, section 6.10.4).
+/// The response that a host wants of the command with this index, of whichever kind the card is, and whether the
+/// command is an application command or not (SD Physical Layer 6.00, section 4.7.4; JESD84-B51, section 6.10.4).
 pub fn wanted(index: u8) -> Want
     ensures { (kind : Kind) (app : Bool) → result ≡ response_to (command_of kind app index) }
 {

@@ -1,7 +1,13 @@
 -- What a chip keeps true of its fields, and why a transfer doesn't begin.
-use Rattle.std.proofs.Common.{◌*◌, ◌+◌, ◌==◌, ◌∙◌, ◌≡◌, ◌≤◌, Bool, List, ap, arith, false, refl, true, ℕ}
+use Rattle.std.proofs.Common.{◌%◌, ◌*◌, ◌+◌, ◌/◌, ◌==◌, ◌^◌, ◌∙◌, ◌≡◌, ◌≤◌, Bool, List, ap, arith, bit_or, false, refl}
+use Rattle.std.proofs.Common.{true, ℕ}
 use Rattle.std.specs.Prelude.{if◌then◌else◌}
-use Rattle.std.proofs.lemmas.Nat.{le_or_l}
+use Rattle.std.specs.Int.{bit_at}
+use Rattle.std.specs.Int.Bits.{or_add_and}
+use Rattle.std.specs.Int.RustNames.{bit_and}
+use Rattle.std.proofs.lemmas.Bool.{ne_eqb}
+use Rattle.std.proofs.lemmas.Nat.{and_block, and_le_r, le_or_l, shr-shr, shr_split}
+use Rattle.std.proofs.lemmas.Nat.Bits.{bit_at_or, same_from_bits}
 use Rattle.mmc_card.specs.Card.{AreAmong, Card}
 use Rattle.mmc_card.specs.CardAnswer.{CardAnswer, Checked, bit, raised, shown, status}
 use Rattle.mmc_card.specs.ErrorBits.{address_error, block_len_error, command_error_bits, error_bits, out_of_range}
@@ -12,17 +18,52 @@ use Rattle.mmc_card_sim.specs.Chip.{Answers, card_of}
 use Rattle.mmc_card_sim.specs.declared.answer.Answer.{Answer}
 use Rattle.mmc_card_sim.specs.declared.chip.Chip.{Chip}
 
-pub command_errors_few : (c : ℕ) → AreAmong c command_error_bits → c ≤ command_error_bits
-command_errors_few c h = omega (arith, le_or_l c command_error_bits, h)
+-- Error bits, as a status has them and as a card has them, in units of bit 13.
 
-pub errors_few : (e : ℕ) → AreAmong e error_bits → e ≤ error_bits
-errors_few e h = omega (arith, le_or_l e error_bits, h)
+bit_at_held : (bits i : ℕ) → bit_at (bits / 2 ^ 13) i ≡ bit_at bits (13 + i)
+bit_at_held bits i = ap (λ n. n % 2) (shr-shr bits 13 i)
+
+pub or_held : (a b : ℕ) → bit_or a b / 2 ^ 13 ≡ bit_or (a / 2 ^ 13) (b / 2 ^ 13)
+or_held a b =
+    same_from_bits _ _ (λ i. omega (
+      arith,
+      bit_at_held (bit_or a b) i,
+      bit_at_held a i,
+      bit_at_held b i,
+      bit_at_or a b (13 + i),
+      bit_at_or (a / 2 ^ 13) (b / 2 ^ 13) i,
+    ))
+
+-- among bits from bit 13 on there is none below
+whole : (bits all : ℕ) → AreAmong bits (all * 2 ^ 13 + 0) → bits ≡ 2 ^ 13 * (bits / 2 ^ 13)
+whole bits all among =
+    let shared = ap (λ n. bit_and n (all * 2 ^ 13 + 0)) (shr_split bits 13) in
+    omega (
+      arith,
+      or_add_and bits (all * 2 ^ 13 + 0),
+      among,
+      shared,
+      and_block 13 (bits / 2 ^ 13) all (bits % 2 ^ 13) 0 (omega arith) (omega arith),
+      and_le_r (bits % 2 ^ 13) 0,
+    )
+
+pub command_errors_whole : (bits : ℕ) → AreAmong bits (2 ^ 13 * command_error_bits) → bits ≡ 2 ^ 13 * (bits / 2 ^ 13)
+command_errors_whole bits among = whole bits command_error_bits among
+
+pub errors_whole : (bits : ℕ) → AreAmong bits (2 ^ 13 * error_bits) → bits ≡ 2 ^ 13 * (bits / 2 ^ 13)
+errors_whole bits among = whole bits error_bits among
+
+pub command_errors_few : (bits : ℕ) → AreAmong bits (2 ^ 13 * command_error_bits) → bits ≤ 2 ^ 13 * command_error_bits
+command_errors_few bits among = omega (arith, le_or_l bits (2 ^ 13 * command_error_bits), among)
+
+pub errors_few : (bits : ℕ) → AreAmong bits (2 ^ 13 * error_bits) → bits ≤ 2 ^ 13 * error_bits
+errors_few bits among = omega (arith, le_or_l bits (2 ^ 13 * error_bits), among)
 
 -- what may keep a transfer from beginning are error bits
 pub transfer_errors_known : (beyond misaligned other protected : Bool) → AreAmong
-    (out_of_range * bit beyond + address_error * bit misaligned + block_len_error * bit other
-    + wp_violation * bit protected)
-    error_bits
+    (2 ^ 13 * out_of_range * bit beyond + 2 ^ 13 * address_error * bit misaligned
+    + 2 ^ 13 * block_len_error * bit other + 2 ^ 13 * wp_violation * bit protected)
+    (2 ^ 13 * error_bits)
 transfer_errors_known true true true true = refl
 transfer_errors_known true true true false = refl
 transfer_errors_known true true false true = refl
@@ -40,16 +81,22 @@ transfer_errors_known false false true false = refl
 transfer_errors_known false false false true = refl
 transfer_errors_known false false false false = refl
 
+-- a chip has an error where the card has one
+some_held : (bits errors : ℕ) → bits ≡ 2 ^ 13 * errors → (bits == 0) ≡ false → (errors == 0) ≡ false
+some_held bits errors held some =
+    ne_eqb errors 0 (λ none. cc (some, ap (λ n. n == 0) (held ∙ ap (λ n. 2 ^ 13 * n) none)))
+
 -- with errors no transfer begins, and the response shows them
-pub refused_transfer : (index errors : ℕ) (card after : Card) (now new : Chip) (answer : Answer)
-    → (errors == 0) ≡ false → card_of now ≡ raised errors card
+pub refused_transfer : (index bits errors : ℕ) (card after : Card) (now new : Chip) (answer : Answer)
+    → bits ≡ 2 ^ 13 * errors → (bits == 0) ≡ false → card_of now ≡ raised (bits / 2 ^ 13) card
     → Answers (shown (card_of now), Checked index (status false (card_of now))) new answer
     → Answers (transferred index errors card after) new answer
-refused_transfer index errors card after now new answer some is did =
+refused_transfer index bits errors card after now new answer held some raises did =
     let choose : Bool → Card × CardAnswer =
     λ b. if b then (after, Checked index (status false card))
     else (shown card, Checked index (status false (raised errors card))) in
-    rw (ap choose some)
+    let is : card_of now ≡ raised errors card = raises ∙ ap (λ n. raised n card) (omega (arith, held)) in
+    rw (ap choose (some_held bits errors held some))
     (did.0 ∙ ap shown is, did.1 ∙ ap (λ (c : Card). Checked index (status false c)) is, did.2)
 
 -- a change of a partition is unfinished

@@ -15,7 +15,7 @@ use Rattle.mmc_card.specs.Card.{Card, IsBlock, IsCard, is_in}
 use Rattle.mmc_card.specs.Faults.{CommandStep, IsPatient, PollStep, ReadStep, WriteStep}
 use Rattle.mmc_card.specs.Faults.CommandStep.{brownout as command_brownout, faithful as does_command, flip_command}
 use Rattle.mmc_card.specs.Faults.CommandStep.{flip_reply, lose_command, lose_reply}
-use Rattle.mmc_card.specs.Faults.PollStep.{brownout as poll_brownout, fail, faithful as does_poll, slow_poll}
+use Rattle.mmc_card.specs.Faults.PollStep.{brownout as poll_brownout, busy, fail, faithful as does_poll}
 use Rattle.mmc_card.specs.Faults.ReadStep.{bad_block, brownout as read_brownout, faithful as does_read}
 use Rattle.mmc_card.specs.Faults.WriteStep.{brownout as write_brownout, faithful as does_write, lose_status, reject}
 use Rattle.mmc_card.specs.Sectors.{Sector}
@@ -197,12 +197,12 @@ module _ (plan : List Planned) (old new : Card) (faults later : ℕ) (before aft
 
 -- Polls.
 
-slow_within : (early planned : Bool) (busy polled : ℕ) → busy ≤ 8 → early ≡ nat_lt polled busy
+slow_within : (early planned : Bool) (limit polled : ℕ) → limit ≤ 8 → early ≡ nat_lt polled limit
     → (early || (planned && nat_lt polled 8)) ≡ true
     → polled < 8
-slow_within true planned busy polled few early slow = few_times busy polled few (sym early)
-slow_within false true busy polled few early slow = few_times 8 polled (omega arith) slow
-slow_within false false busy polled few early slow = cc
+slow_within true planned limit polled few early slow = few_times limit polled few (sym early)
+slow_within false true limit polled few early slow = few_times 8 polled (omega arith) slow
+slow_within false false limit polled few early slow = cc
 
 soon_rested : (fault : Option Fault) (delays : Delays) (card : Card) → delays.busy ≤ 8
     → IsPatient (poll_choice fault delays card) card.polled
@@ -225,7 +225,7 @@ module _ (plan : List Planned) (old new : Card) (delays : Delays) (soon : delays
       fail (lands_by outcome) parts.0 (is_false old.is_switching parts.1) one card is
   poll_fault (Some Is.Busy) said one fits card is =
       let parts = and_true old.is_busy (nat_le 8 old.polled) fits in
-      slow_poll parts.0 (at_least 8 old.polled parts.1) one card is
+      busy parts.0 (at_least 8 old.polled parts.1) one card is
   poll_fault (Some (Is.Brownout outcome)) said one fits card is =
       poll_brownout (choice_of false) (lands_by outcome) false (λ slow. absurd cc) one card is
   poll_fault None said one fits card is = cc

@@ -1,5 +1,5 @@
 -- What a chip in memory stands for, and the choices that it makes where a card is free.
-use Rattle.std.specs.Prelude.{◌≡◌, Bool, List, false, if◌then◌else◌, length, nat_lt, true, ℕ}
+use Rattle.std.specs.Prelude.{◌/◌, ◌^◌, ◌≡◌, Bool, List, false, if◌then◌else◌, length, nat_lt, true, ℕ}
 use Rattle.mmc_card.specs.declared.exchange.DataIn.{DataIn}
 use Rattle.mmc_card.specs.declared.exchange.DataIn.TheVariants as Received
 use Rattle.mmc_card.specs.declared.exchange.Lines.{Lines}
@@ -31,6 +31,7 @@ abbrev pub IsBlockSource : Source → Type 0
 IsBlockSource From.Sectors = ⊥
 IsBlockSource (From.Block block timing) = Unit {0}
 
+-- A card has error bits in units of bit 13.
 abbrev pub card_of : Chip → Card
 card_of chip =
     record {
@@ -45,8 +46,8 @@ card_of chip =
       count = chip.count;
       app = chip.is_app;
       erase = held_in chip.addresses;
-      command_errors = chip.command_errors;
-      errors = chip.errors;
+      command_errors = chip.command_errors / 2 ^ 13;
+      errors = chip.errors / 2 ^ 13;
       switch_error = chip.has_switch_error;
       inquiries = chip.inquiries;
       is_busy = chip.is_busy;

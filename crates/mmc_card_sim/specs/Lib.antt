@@ -1,6 +1,7 @@
 pub mod Answer
 pub mod CardSpec
 pub mod Chip
+pub mod ExampleCards
 pub mod FaultyExchanges
 pub mod Plan
 pub mod Registers

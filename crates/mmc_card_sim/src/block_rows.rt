@@ -1,5 +1,6 @@
 // What the card in memory does with blocks and polls (SD Physical Layer 6.00, sections 4.3.3 and 4.3.4).
-ghost use Rattle.std.specs.Prelude.{◌&&◌, ◌<◌, ◌≡◌, if◌then◌else◌, false, length, true};
+ghost use Rattle.std.specs.Prelude.{◌&&◌, ◌*◌, ◌<◌, ◌≡◌, ◌^◌, if◌then◌else◌, false, length, true};
+ghost use Rattle.mmc_frame.specs.Status.{bits_in};
 ghost use Rattle.mmc_frame.specs.declared.card_state.State.TheVariants.{Data};
 ghost use Rattle.mmc_card.specs.Blocks.{is_last, one_less};
 ghost use Rattle.mmc_card.specs.Card.{AreAmong, is_in};
@@ -7,10 +8,10 @@ ghost use Rattle.mmc_card.specs.ErrorBits.{error_bits};
 ghost use Rattle.mmc_card_sim.specs.declared.store.TheConstants.{MAX_SECTORS};
 
 use crate::chip::{Chip, Source};
-use crate::error_bits::OUT_OF_RANGE;
 use crate::switch_rows::{timing_number, width_number};
+use bitflags::Flags;
 use mmc_card::{DataIn, DataOut, Lines};
-use mmc_frame::State;
+use mmc_frame::{State, Status};
 
 // The blocks to come after one more.
 fn one_less(left: Option<u32>) -> Option<u32>
@@ -33,7 +34,8 @@ fn state_after(left: Option<u32>, goes_on: State, ends: State) -> State
 }
 
 impl Chip {
-    ghost use Rattle.mmc_card.specs.Blocks.{can_accept, end_errors, lines_fit, offered, polled_once, rested, sent_from, waited};
+    ghost use Rattle.mmc_card.specs.Blocks.{can_accept, end_errors, lines_fit, offered, polled_once, rested, sent_from};
+    ghost use Rattle.mmc_card.specs.Blocks.{waited};
     ghost use Rattle.mmc_card.specs.Card.{FromSectors, stored};
     ghost use Rattle.mmc_card_sim.specs.Chip.{IsBlockSource, Sends, card_of, choice_of};
 
@@ -66,17 +68,17 @@ impl Chip {
     }
 
     // Behind the last sector of the partition an uncounted read shows OUT_OF_RANGE.
-    fn end_errors(&self) -> u32
+    fn end_errors(&self) -> Status
         requires { self.now.next < length (stored (card_of self.now) self.now.part) }
-        ensures errors { result ≡ end_errors true (card_of self.now) }
-        ensures known { AreAmong result error_bits }
+        ensures errors { bits_in result ≡ 2 ^ 13 * end_errors true (card_of self.now) }
+        ensures known { AreAmong (bits_in result) (2 ^ 13 * error_bits) }
         ensures few { self.now.next < MAX_SECTORS }
     {
         let size = self.store.size(self.part);
         if self.left.is_none() && self.next + 1 == size {
-            OUT_OF_RANGE
+            Status::OUT_OF_RANGE
         } else {
-            0
+            Status::empty()
         }
     }
 

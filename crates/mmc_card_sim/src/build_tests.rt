@@ -1,4 +1,5 @@
 // Building a card in memory by its spec.
+use crate::example_cards::{sdsc, sdsc_with_scr};
 use crate::test_cards::*;
 use crate::{BuildFault, CardSpec, SimCard};
 use mmc_bus::{Bytes, Part};
@@ -28,7 +29,7 @@ fn refuses_specs(rt: HostRuntime) -> Result<(), Fail> {
 #[test]
 fn is_erased_without_an_image(rt: HostRuntime) -> Result<(), Fail> {
     for (scr, erased) in [(0x0005_0000_0000_0000, 0x00), (0x0085_0000_0000_0000, 0xff)] {
-        let card = built(rt.alloc(), sd(scr))?;
+        let card = built(rt.alloc(), sdsc_with_scr(scr))?;
         assert_eq!(rt; card.contents(Part::User).len(), 2048);
         expect_filled(&rt, &card, Part::User, 0, &[erased; 4]);
         assert_eq!(rt; card.contents(Part::Boot1).len(), 0);

@@ -1,4 +1,5 @@
 // What a card does between two faults: addresses, partitions, waits, transfers, erase and trim.
+use crate::example_cards::*;
 use crate::test_cards::*;
 use crate::{CardSpec, Registers, SimCard};
 use mmc_bus::{Bus, DataIn, DataOut, Part, Timing, Width};
@@ -11,7 +12,7 @@ use std::test::Fail;
 fn with_byte_addresses(alloc: Global, csd: u128, sectors: u32) -> Result<CardSpec, Fail> {
     let mut ext_csd = ext_csd_of_emmc();
     ext_csd[226] = 0x00;
-    let made = mmc(ext_csd, u64::from(sectors));
+    let made = emmc_with(ext_csd, u64::from(sectors));
     Ok(CardSpec {
         registers: Registers {
             ocr: 0x00ff_8080,
@@ -83,7 +84,7 @@ fn has_seven_partitions(rt: HostRuntime) -> Result<(), Fail> {
     let mut ext_csd = ext_csd_of_emmc();
     (ext_csd[212], ext_csd[213]) = (0x04, 0x00);
     (ext_csd[155], ext_csd[143]) = (0x01, 0x01);
-    let mut spec = mmc(ext_csd, 4);
+    let mut spec = emmc_with(ext_csd, 4);
     spec.image = numbered_image(rt.alloc(), 4 + 256 + 256 + 1024)?;
     let mut card = selected_mmc(rt.alloc(), spec)?;
     expect_part(&rt, &card, Part::User, 4, 0, 3);
@@ -210,10 +211,12 @@ fn writes_two_counted_blocks(rt: HostRuntime) -> Result<(), Fail> {
 #[test]
 fn is_write_protected(rt: HostRuntime) -> Result<(), Fail> {
     for csd in [
-        0x0000_0000_0009_0000_0000_4000_0240_20ff,
+        0x0000_0000_0009_0000_0000_4000_0240_20ff_u128,
         0x0000_0000_0009_0000_0000_4000_0240_10a9,
     ] {
-        let mut card = selected_sd(rt.alloc(), sd_with_csd(0x0005_0000_0000_0000, csd))?;
+        let mut spec = sdsc();
+        spec.registers.csd = csd.to_be_bytes();
+        let mut card = selected_sd(rt.alloc(), spec)?;
         expect_r1(&rt, &mut card, 24, 0, 0x0400_0900);
         expect_taken(&rt, &mut card, 0x5a, DataOut::Nothing);
         expect_status(&rt, &mut card, 0x900);
@@ -241,7 +244,7 @@ fn erases_units_and_trims_sectors(rt: HostRuntime) -> Result<(), Fail> {
         let mut ext_csd = ext_csd_of_emmc();
         ext_csd[181] = content;
         ext_csd[226] = 0x00;
-        let mut spec = mmc(ext_csd, 2048);
+        let mut spec = emmc_with(ext_csd, 2048);
         spec.image = numbered_image(rt.alloc(), 2048)?;
         let mut card = selected_mmc(rt.alloc(), spec)?;
         expect_filled(&rt, &card, Part::User, 1022, &[18, 19, 20, 21, 22, 23]);

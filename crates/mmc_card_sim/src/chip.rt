@@ -1,6 +1,6 @@
 // The card in memory: where it is, what it remembers, and what it does with a command.
-ghost use Rattle.std.specs.Prelude.{◌<◌, ◌≡◌, ◌≤◌, ◌^◌};
-ghost use Rattle.mmc_frame.specs.Status.{state_number};
+ghost use Rattle.std.specs.Prelude.{◌*◌, ◌/◌, ◌<◌, ◌≡◌, ◌≤◌, ◌^◌};
+ghost use Rattle.mmc_frame.specs.Status.{bits_in, state_number};
 ghost use Rattle.mmc_card.specs.Card.{AreAmong};
 ghost use Rattle.mmc_card.specs.ErrorBits.{command_error_bits, error_bits};
 ghost use Rattle.mmc_card.specs.Made.{erase_unit_of_card, first_rca, is_read_only};
@@ -8,13 +8,17 @@ ghost use Rattle.mmc_card_sim.specs.Registers.{made_of};
 
 use crate::answer::Answer;
 use crate::command::command_of;
-use crate::error_bits::{CARD_IS_LOCKED, COM_CRC_ERROR, ERASE_RESET, ILLEGAL_COMMAND};
 use crate::registers::Registers;
+use crate::status_bits::bits_if;
 use crate::store::Store;
 use arrayvec::ArrayVec;
+use bitflags::Flags;
 use mmc_card::{Command, Part, Timing, Width, is_addressed, leaves_erase};
 use mmc_frame::commands::SEND_STATUS;
-use mmc_frame::{Kind, State, read_command};
+use mmc_frame::{Kind, State, Status, read_command};
+
+// CURRENT_STATE in a status, from bit 9 on.
+const CURRENT_STATE: u32 = 0x200;
 
 /// The addresses that an erase is to go by.
 #[derive(Clone, Copy, Debug)]
@@ -57,7 +61,7 @@ pub struct Chip {
     // The next command is an application command.
     pub is_app: bool,
     pub addresses: Addresses,
-    // Error bits that are to be shown, in units of bit 13: COM_CRC_ERROR and ILLEGAL_COMMAND, and the others.
+    // Error bits of the status that are to be shown: COM_CRC_ERROR and ILLEGAL_COMMAND, and the others from bit 13 on.
     pub command_errors: u32,
     pub errors: u32,
     pub has_switch_error: bool,
@@ -77,8 +81,8 @@ pub struct Chip {
     pub ghost small_unit: { erase_unit ≤ 2 ^ 20 },
     pub ghost protected: { is_protected ≡ is_read_only (made_of registers) },
     pub ghost ocr: { registers.ocr < 2 ^ 31 },
-    pub ghost known: { AreAmong command_errors command_error_bits },
-    pub ghost raised: { AreAmong errors error_bits },
+    pub ghost known: { AreAmong command_errors (2 ^ 13 * command_error_bits) },
+    pub ghost raised: { AreAmong errors (2 ^ 13 * error_bits) },
     pub ghost asked: { inquiries ≤ 8 },
     pub ghost waited: { polled ≤ 8 },
 }
@@ -180,25 +184,22 @@ impl Chip {
     pub fn status(&self, is_app: bool) -> u32
         ensures { result ≡ status is_app (card_of self.now) }
     {
-        let locked = if self.registers.is_locked {
-            CARD_IS_LOCKED
-        } else {
-            0
-        };
-        let errors = 0x2000 * (self.command_errors + self.errors + locked);
-        let ready = if self.is_busy { 0 } else { 0x100 };
-        let switch_error = if self.has_switch_error { 0x80 } else { 0 };
-        let app = if is_app { 0x20 } else { 0 };
-        errors + 0x200 * number_of(self.state) + ready + switch_error + app
+        self.command_errors
+            + self.errors
+            + bits_if(Status::CARD_IS_LOCKED, self.registers.is_locked)
+            + CURRENT_STATE * number_of(self.state)
+            + bits_if(Status::READY_FOR_DATA, !self.is_busy)
+            + bits_if(Status::SWITCH_ERROR, self.has_switch_error)
+            + bits_if(Status::APP_CMD, is_app)
     }
 
     /// Raises error bits, which stay until they are shown.
-    #[tactic(auto, using(mmc_card::proofs::Cards::among_more))]
-    pub fn raise(&mut self, errors: u32)
-        requires { AreAmong errors error_bits }
-        ensures { card_of self.new ≡ raised errors (card_of self.old) }
+    #[tactic(auto, using(mmc_card::proofs::Cards::among_more, crate::proofs::ChipLemmas::or_held))]
+    pub fn raise(&mut self, errors: Status)
+        requires { AreAmong (bits_in errors) (2 ^ 13 * error_bits) }
+        ensures { card_of self.new ≡ raised (bits_in errors / 2 ^ 13) (card_of self.old) }
     {
-        self.errors |= errors;
+        self.errors |= errors.bits();
     }
 
     /// All error bits are shown in a response, and cleared.
@@ -230,18 +231,18 @@ impl Chip {
     }
 
     /// A command that isn't carried out.
-    #[tactic(auto, using(mmc_card::proofs::Cards::among_more))]
+    #[tactic(auto, using(mmc_card::proofs::Cards::among_more, crate::proofs::ChipLemmas::or_held))]
     pub fn refuse(&mut self) -> Answer
         ensures { Answers (refused (card_of self.old), Silent) self.new result }
     {
         self.is_app = false;
         self.count = 0;
-        self.command_errors |= ILLEGAL_COMMAND;
+        self.command_errors |= Status::ILLEGAL_COMMAND.bits();
         Answer::Silent
     }
 
     // Any command but those of the erase sequence and CMD13 drops held addresses.
-    #[tactic(auto, using(mmc_card::proofs::Cards::among_more))]
+    #[tactic(auto, using(mmc_card::proofs::Cards::among_more, crate::proofs::ChipLemmas::or_held))]
     fn drop_erase_addresses(&mut self, command: Command)
         ensures card { card_of self.new ≡ reached command (card_of self.old) }
         ensures inquiries { self.new.inquiries ≡ self.old.inquiries }
@@ -249,7 +250,7 @@ impl Chip {
         if leaves_erase(command) || matches!(self.addresses, Addresses::None) {
             return;
         }
-        self.errors |= ERASE_RESET;
+        self.errors |= Status::ERASE_RESET.bits();
         self.addresses = Addresses::None;
     }
 
@@ -290,7 +291,8 @@ impl Chip {
     // Carries a command out. The first `ready` inquiries are answered with not ready.
     fn carry_out(&mut self, ready: u8, command: Command, index: u8, argument: u32) -> Answer
         requires { index < 64 }
-        ensures { Answers (row (inquiry_choice ready (card_of self.old)) command (card_of self.old) index argument) self.new result }
+        ensures { Answers (row (inquiry_choice ready (card_of self.old)) command (card_of self.old) index argument)
+            self.new result }
     {
         match command {
             Command::GoIdleState => self.go_idle_state(),
@@ -326,7 +328,8 @@ impl Chip {
     // The answer to a sound command. One that names another card changes nothing.
     fn respond(&mut self, ready: u8, index: u8, argument: u32) -> Answer
         requires { index < 64 }
-        ensures { Answers (respond (inquiry_choice ready (card_of self.old)) (card_of self.old) index argument) self.new result }
+        ensures { Answers (respond (inquiry_choice ready (card_of self.old)) (card_of self.old) index argument)
+            self.new result }
     {
         let command = command_of(self.registers.kind(), self.is_app, index);
         if is_addressed(command) && argument / 0x1_0000 != u32::from(self.rca) {
@@ -344,7 +347,8 @@ impl Chip {
     /// The answer to a command. The first `ready` readiness inquiries are answered with not ready. Where the check of
     /// the command is wrong, the card notes that, drops a preset count, and is silent.
     pub fn command(&mut self, ready: u8, frame: &[u8; 6]) -> Answer
-        ensures { Answers (answered (inquiry_choice ready (card_of self.old)) (card_of self.old) (command_in frame.now)) self.new result }
+        ensures { Answers (answered (inquiry_choice ready (card_of self.old)) (card_of self.old) (command_in frame.now))
+            self.new result }
     {
         match read_command(frame) {
             Some((index, argument)) => self.respond(ready, index, argument),

@@ -4,15 +4,15 @@ ghost use Rattle.std.specs.Prelude.{◌<◌, ◌≡◌, ◌≤◌, ◌^◌, leng
 
 use crate::answer::Answer;
 use crate::chip::{Addresses, Chip};
-use crate::error_bits::{ERASE_PARAM, ERASE_SEQ_ERROR};
 use mmc_card::Part;
 use mmc_frame::commands::ERASE;
-use mmc_frame::{Kind, State};
+use mmc_frame::{Kind, State, Status};
 
 impl Chip {
     ghost use Rattle.mmc_card.specs.Card.{Both, stored};
     ghost use Rattle.mmc_card.specs.Made.{sector_at};
-    ghost use Rattle.mmc_card.specs.RowsErase.{erase_held, erased_from, erased_to, erases, erasing, hold_first, hold_last, is_no_range, is_trim, out_of_sequence};
+    ghost use Rattle.mmc_card.specs.RowsErase.{erase_held, erased_from, erased_to, erases, erasing, hold_first};
+    ghost use Rattle.mmc_card.specs.RowsErase.{hold_last, is_no_range, is_trim, out_of_sequence};
     ghost use Rattle.mmc_card_sim.specs.Chip.{Answers, card_of};
 
     // A command out of the sequence: no address is held any more.
@@ -20,7 +20,7 @@ impl Chip {
         requires { index < 64 }
         ensures { Answers (out_of_sequence index (card_of self.old)) self.new result }
     {
-        self.raise(ERASE_SEQ_ERROR);
+        self.raise(Status::ERASE_SEQ_ERROR);
         self.addresses = Addresses::None;
         self.respond_status(index, false)
     }
@@ -52,8 +52,10 @@ impl Chip {
     // Whether these addresses name sectors that can be erased, the last not before the first.
     fn has_range(&self, first: u32, last: u32) -> bool
         ensures named { not result ≡ is_no_range (card_of self.now) first last }
-        ensures order { result ≡ true → sector_at (card_of self.now).made first ≤ sector_at (card_of self.now).made last }
-        ensures within { result ≡ true → sector_at (card_of self.now).made last < length (stored (card_of self.now) self.now.part) }
+        ensures order { result ≡ true
+            → sector_at (card_of self.now).made first ≤ sector_at (card_of self.now).made last }
+        ensures within { result ≡ true
+            → sector_at (card_of self.now).made last < length (stored (card_of self.now) self.now.part) }
     {
         !matches!(self.part, Part::Boot1 | Part::Boot2)
             && self.sector_at(first) <= self.sector_at(last)
@@ -82,7 +84,8 @@ impl Chip {
     // The end of what is erased: of an erase that of the last unit, as far as the partition goes.
     fn erased_to(&self, trims: bool, sector: usize) -> usize
         requires { sector < length (stored (card_of self.now) self.now.part) }
-        ensures to { result ≡ erased_to (card_of self.now).made trims (length (stored (card_of self.now) self.now.part)) sector }
+        ensures to { result
+            ≡ erased_to (card_of self.now).made trims (length (stored (card_of self.now) self.now.part)) sector }
         ensures behind { sector < result }
         ensures within { result ≤ length (stored (card_of self.now) self.now.part) }
     {
@@ -98,7 +101,8 @@ impl Chip {
     fn change_range(&mut self, trims: bool, first: u32, last: u32)
         requires order { sector_at (card_of self.old).made first ≤ sector_at (card_of self.old).made last }
         requires within { sector_at (card_of self.old).made last < length (stored (card_of self.old) self.old.part) }
-        ensures { card_of self.new ≡ record (card_of self.old) { start = (erasing (card_of self.old) trims first last).start; values = (erasing (card_of self.old) trims first last).values } }
+        ensures { let change = erasing (card_of self.old) trims first last in
+            card_of self.new ≡ record (card_of self.old) { start = change.start; values = change.values } }
     {
         let from = self.erased_from(trims, self.sector_at(first));
         let to = self.erased_to(trims, self.sector_at(last));
@@ -125,7 +129,7 @@ impl Chip {
         ensures { Answers (erase_held (card_of self.old) argument (Both first last)) self.new result }
     {
         if !self.has_range(first, last) {
-            self.raise(ERASE_PARAM);
+            self.raise(Status::ERASE_PARAM);
             self.addresses = Addresses::None;
             return self.respond_status(ERASE, false);
         }

@@ -4,9 +4,9 @@ ghost use Rattle.std.specs.Prelude.{◌≡◌, false};
 ghost use Rattle.mmc_card_sim.specs.Store.{lands_by};
 
 use crate::chip::Chip;
-use crate::error_bits::{COM_CRC_ERROR, GENERAL_ERROR};
 use crate::fault::Outcome;
-use mmc_frame::State;
+use bitflags::Flags;
+use mmc_frame::{State, Status};
 
 impl Chip {
     ghost use Rattle.mmc_card.specs.Blocks.{programmed, rejected};
@@ -15,11 +15,11 @@ impl Chip {
     ghost use Rattle.mmc_card_sim.specs.Chip.{card_of};
 
     /// A command with a bad check: the card notes that, and drops a preset count.
-    #[tactic(auto, using(mmc_card::proofs::Cards::among_more))]
+    #[tactic(auto, using(mmc_card::proofs::Cards::among_more, crate::proofs::ChipLemmas::or_held))]
     pub fn garble(&mut self)
         ensures { card_of self.new ≡ garbled false (card_of self.old) }
     {
-        self.command_errors |= COM_CRC_ERROR;
+        self.command_errors |= Status::COM_CRC_ERROR.bits();
         self.count = 0;
     }
 
@@ -41,7 +41,7 @@ impl Chip {
         self.state = State::Tran;
         self.is_busy = false;
         self.polled = 0;
-        self.raise(GENERAL_ERROR);
+        self.raise(Status::ERROR);
     }
 
     /// The power fails: the card is as after CMD0.

@@ -1,4 +1,5 @@
 // One short sequence for each fault, which shows what it does and whether it is counted.
+use crate::example_cards::*;
 use crate::test_cards::*;
 use crate::{Fault, Flips, Outcome, PlanFault, SimCard};
 use mmc_bus::{DataIn, DataOut, Part, Reply, Want};

@@ -27,7 +27,8 @@ impl Chip {
 
     // The response to a command, of which bits are flipped on the way.
     fn command_flipped(&mut self, delays: Delays, frame: &[u8; 6], flips: Flips) -> (Reply, bool)
-        ensures { Commands (Some (FlipReply flips)) delays (card_of self.old) frame.now result.0 result.1 (card_of self.new) }
+        ensures { Commands (Some (FlipReply flips)) delays (card_of self.old) frame.now result.0 result.1
+            (card_of self.new) }
     {
         let answer = self.command(delays.ready, frame);
         if can_flip(flips, answer) {
@@ -64,7 +65,8 @@ impl Chip {
 
     // A block that the host reads, which comes otherwise if the card sends one.
     fn send_spoiled(&mut self, comes: DataIn, lines: Lines, buffer: &mut [u8]) -> (DataIn, bool)
-        ensures { Spoils comes (card_of self.old) lines (length buffer.old) result.0 buffer.new result.1 (card_of self.new) }
+        ensures { Spoils comes (card_of self.old) lines (length buffer.old) result.0 buffer.new result.1
+            (card_of self.new) }
     {
         match self.send(lines, buffer) {
             DataIn::Good => (comes, true),
@@ -79,7 +81,8 @@ impl Chip {
         lines: Lines,
         buffer: &mut [u8],
     ) -> (DataIn, bool)
-        ensures { Reads fault (card_of self.old) lines (length buffer.old) result.0 buffer.new result.1 (card_of self.new) }
+        ensures { Reads fault (card_of self.old) lines (length buffer.old) result.0 buffer.new result.1
+            (card_of self.new) }
     {
         match fault {
             Some(Fault::BadBlock) => self.send_spoiled(DataIn::Bad, lines, buffer),

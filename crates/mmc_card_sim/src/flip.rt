@@ -2,7 +2,8 @@
 ghost use Rattle.std.specs.Prelude.{◌*◌, ◌<◌, ◌≡◌, length, true};
 ghost use Rattle.mmc_frame.specs.Check.{bits_of};
 ghost use Rattle.mmc_frame.specs.Flips.{AreBytes, flip_at};
-ghost use Rattle.mmc_card_sim.specs.Answer.{HasIndex, IsHeardFlipped, answer_of, are_beside_ocr, can_flip, flip_both, is_flip};
+ghost use Rattle.mmc_card_sim.specs.Answer.{HasIndex, IsHeardFlipped, answer_of, are_beside_ocr, can_flip, flip_both};
+ghost use Rattle.mmc_card_sim.specs.Answer.{is_flip};
 
 use crate::answer::Answer;
 use crate::fault::Flips;

@@ -9,21 +9,24 @@ use mmc_frame::State;
 use mmc_frame::commands::{APP_CMD, SELECT_CARD, SEND_IF_COND, SEND_RELATIVE_ADDR};
 use mmc_regs::Ocr;
 
-// Bit 31 of an OCR: the card is ready.
+// Bit 31 of an OCR: the card is ready (SD Physical Layer 6.00, section 5.1; JESD84-B51, section 7.1).
 const IS_READY: u32 = 0x8000_0000;
 
-// Bit 30 of the argument of ACMD41, HCS: the host knows sector addresses.
+// Bit 30 of the argument of ACMD41, HCS: the host knows sector addresses (SD Physical Layer 6.00, section 4.2.3.1).
 const HCS: u32 = 0x4000_0000;
 
 impl Chip {
     ghost use Rattle.mmc_card.specs.CardAnswer.{busied, r6_argument};
     ghost use Rattle.mmc_card.specs.Card.{powered_on};
-    ghost use Rattle.mmc_card.specs.RowsIdentify.{all_send_cid, app_cmd, go_idle_state, inquired, is_served, sd_send_op_cond, select_card, send_csd, send_if_cond, send_op_cond, send_relative_addr, set_relative_addr};
+    ghost use Rattle.mmc_card.specs.RowsIdentify.{all_send_cid, app_cmd, go_idle_state, inquired, is_served};
+    ghost use Rattle.mmc_card.specs.RowsIdentify.{sd_send_op_cond, select_card, send_csd, send_if_cond, send_op_cond};
+    ghost use Rattle.mmc_card.specs.RowsIdentify.{send_relative_addr, set_relative_addr};
     ghost use Rattle.mmc_card_sim.specs.Chip.{Answers, card_of, choice_of, inquiry_choice};
 
     /// All but the sectors and the block length is as after power on; what was unfinished is over.
     pub fn start_over(&mut self)
-        ensures { card_of self.new ≡ record (powered_on (card_of self.old).made (card_of self.old).sectors) { block_length = (card_of self.old).block_length } }
+        ensures { let old = card_of self.old in
+            card_of self.new ≡ record (powered_on old.made old.sectors) { block_length = old.block_length } }
     {
         self.store.begin(0);
         self.state = State::Idle;
@@ -94,7 +97,8 @@ impl Chip {
 
     /// ACMD41.
     pub fn sd_send_op_cond(&mut self, ready: u8, argument: u32) -> Answer
-        ensures { Answers (sd_send_op_cond (inquiry_choice ready (card_of self.old)) (card_of self.old) argument) self.new result }
+        ensures { Answers (sd_send_op_cond (inquiry_choice ready (card_of self.old)) (card_of self.old) argument)
+            self.new result }
     {
         let is_ready = self.is_served(argument) && self.is_ready(ready);
         self.inquire(is_ready)
@@ -109,7 +113,7 @@ impl Chip {
         Answer::R2(self.registers.cid)
     }
 
-    // The argument of an R6: the RCA, and some bits of the status.
+    // The argument of an R6: the RCA, and bits 23, 22, 19 and 12 to 0 of the status.
     fn r6_argument(&self) -> u32
         ensures { result ≡ r6_argument (card_of self.now) }
     {

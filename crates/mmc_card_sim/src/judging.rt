@@ -1,11 +1,14 @@
 // What is judged of a spec before a card is built.
-ghost use Rattle.std.specs.Prelude.{false, true, ◌≡◌, ◌≤◌, ◌*◌, ◌<◌, ◌^◌, IfErr, IfNone, IfOk, IfSome, None, OnOk, length, slice_index_or};
+ghost use Rattle.std.specs.Prelude.{false, true, ◌≡◌, ◌≤◌, ◌*◌, ◌<◌, ◌^◌, IfErr, IfNone, IfOk, IfSome, None, OnOk};
+ghost use Rattle.std.specs.Prelude.{length, slice_index_or};
 ghost use Rattle.mmc_frame.specs.Flips.{AreBytes};
 ghost use Rattle.mmc_regs.specs.Csd.{IsOfKind};
 ghost use Rattle.mmc_card.specs.Made.{HasRegisters, erase_unit_of_card, first_block_length, is_read_only, sectors_in};
 ghost use Rattle.mmc_card.specs.Sectors.{part_number};
 ghost use Rattle.mmc_card.specs.declared.part.Part.{Part};
-ghost use Rattle.mmc_card_sim.specs.CardSpec.{HasWidths, IsCsdOf, IsRefusal, each_register_is_taken, has_ocr, has_short_waits, has_user_sectors, kind_is_taken, refusal_of, sizes_of, takes_image};
+ghost use Rattle.mmc_card_sim.specs.CardSpec.{HasWidths, IsCsdOf, IsRefusal, each_register_is_taken, has_ocr};
+ghost use Rattle.mmc_card_sim.specs.CardSpec.{has_short_waits, has_user_sectors, kind_is_taken, refusal_of, sizes_of};
+ghost use Rattle.mmc_card_sim.specs.CardSpec.{takes_image};
 ghost use Rattle.mmc_card_sim.specs.Registers.{made_of};
 ghost use Rattle.mmc_card_sim.specs.Sizes.{total};
 ghost use Rattle.mmc_card_sim.specs.declared.store.TheConstants.{MAX_SECTORS};
@@ -42,7 +45,8 @@ pub fn judge(spec: &CardSpec) -> Result<Judged, BuildFault>
     ensures few { IfOk result (λ judged. total judged.sizes ≤ MAX_SECTORS) }
     ensures image { IfOk result (λ judged. IfSome spec.now.image (λ bytes. length bytes ≡ 512 * total judged.sizes)) }
     ensures image_bytes { OnOk result (IfSome spec.now.image AreBytes) }
-    ensures exist { IfOk result (λ judged. (part : Part) → slice_index_or judged.sizes (part_number part) 0 ≡ sectors_in (made_of spec.now.registers) part) }
+    ensures exist { IfOk result (λ judged. (part : Part)
+        → slice_index_or judged.sizes (part_number part) 0 ≡ sectors_in (made_of spec.now.registers) part) }
     ensures sizes { IfOk result (λ judged. judged.sizes ≡ sizes_of spec.now.registers) }
     ensures unit { IfOk result (λ judged. judged.erase_unit ≡ erase_unit_of_card (made_of spec.now.registers)) }
     ensures some_unit { IfOk result (λ judged. 1 ≤ judged.erase_unit) }

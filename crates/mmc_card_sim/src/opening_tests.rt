@@ -1,5 +1,6 @@
 // The exchanges with which a host identifies each card and learns what it can do, from power on (SD Physical Layer
 // 6.00, sections 4.2 and 4.3.10; JESD84-B51, sections 6.4 and 6.6).
+use crate::example_cards::*;
 use crate::test_cards::*;
 use crate::{CardSpec, SimCard};
 use mmc_bus::{Bus, DataIn, Reply, Timing, Want, Width};
@@ -176,7 +177,7 @@ fn expect_switch(rt: &impl Abort, card: &mut SimCard, frame: [u8; 6]) {
 
 // Card `emmc` is identified: it doesn't know CMD8 in idle, and CMD55 names another card.
 fn identified_m(rt: &impl Abort, alloc: Global, ext_csd: [u8; 512]) -> Result<SimCard, Fail> {
-    let mut spec = mmc(ext_csd, 2048);
+    let mut spec = emmc_with(ext_csd, 2048);
     spec.busy = 2;
     let mut card = built(alloc, spec)?;
     for frame in [
@@ -212,8 +213,8 @@ fn identified_m(rt: &impl Abort, alloc: Global, ext_csd: [u8; 512]) -> Result<Si
     Ok(card)
 }
 
-// Card `emmc` is opened. What can be switched is as after power on, whatever its EXT_CSD is made with; after the switches
-// eight lines at high speed carry it.
+// Card `emmc` is opened. What can be switched is as after power on, whatever its EXT_CSD is made with; after the
+// switches eight lines at high speed carry it.
 #[test]
 fn opens_emmc(rt: HostRuntime) -> Result<(), Fail> {
     let mut made = ext_csd_of_emmc();

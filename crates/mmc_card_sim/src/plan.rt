@@ -1,5 +1,6 @@
 // The faults that are planned for the exchanges of a card in memory.
-ghost use Rattle.std.specs.Prelude.{◌≡◌, ◌<◌, ◌≤◌, ◌==◌, ◌+◌, IfErr, IfNone, IfSome, IsOk, None, OnErr, Some, [], false, if◌then◌else◌, length, slice_index_or, take, ℕ};
+ghost use Rattle.std.specs.Prelude.{◌≡◌, ◌<◌, ◌≤◌, ◌==◌, ◌+◌, IfErr, IfNone, IfSome, IsOk, None, OnErr, Some, []};
+ghost use Rattle.std.specs.Prelude.{false, if◌then◌else◌, length, slice_index_or, take, ℕ};
 ghost use Rattle.mmc_card_sim.specs.declared.plan.Planned.{Planned};
 ghost use Rattle.mmc_card_sim.specs.Plan.{fault_at, is_full, refusal_of};
 
@@ -68,7 +69,8 @@ impl Plan {
     // The place of an exchange among those that are planned.
     fn place_of(&self, exchange: u64) -> Option<usize>
         ensures there { IfSome result (λ i. (i < length self.now) × (fault_at (take i self.now) exchange ≡ None)) }
-        ensures same { IfSome result (λ i. (default : Planned) → (slice_index_or self.now i default).exchange ≡ exchange) }
+        ensures same { IfSome result (λ i. (default : Planned)
+            → (slice_index_or self.now i default).exchange ≡ exchange) }
         ensures none { IfNone result (fault_at self.now exchange ≡ None) }
     {
         for i in 0..self.planned.len() {
@@ -124,7 +126,8 @@ impl Plan {
         ensures refused { IfErr result (λ why. refusal_of self.old exchange made ≡ Some why) }
         ensures unchanged { OnErr result (self.new ≡ self.old) }
         ensures planned { IsOk result → refusal_of self.old exchange made ≡ None }
-        ensures replaced { IsOk result → (e : ℕ) → fault_at self.new e ≡ (if exchange == e then Some fault else fault_at self.old e) }
+        ensures replaced { IsOk result → (e : ℕ)
+            → fault_at self.new e ≡ (if exchange == e then Some fault else fault_at self.old e) }
         ensures grows { length self.new ≤ length self.old + 1 }
     {
         if let Some(why) = self.refusal(exchange, made) {

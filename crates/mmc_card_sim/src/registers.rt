@@ -53,7 +53,8 @@ pub struct Registers {
 impl Registers {
     ghost use Rattle.std.specs.Prelude.{◌≡◌, ◌==◌};
     ghost use Rattle.mmc_ext_csd.specs.ExtCsd.{high_speed_at_52_mhz, partition_config};
-    ghost use Rattle.mmc_card.specs.Made.{erased_byte_of_card, has_cmd23, has_high_speed, has_sector_addresses, has_switch_function};
+    ghost use Rattle.mmc_card.specs.Made.{erased_byte_of_card, has_cmd23, has_high_speed, has_sector_addresses};
+    ghost use Rattle.mmc_card.specs.Made.{has_switch_function};
     ghost use Rattle.mmc_card_sim.specs.Registers.{made_of};
 
     /// SD or eMMC.

@@ -1,7 +1,9 @@
 // A card in memory of any kind, that has the faults that are planned.
-ghost use Rattle.std.specs.Prelude.{◌+◌, ◌-◌, ◌<◌, ◌==◌, ◌^◌, ◌≡◌, ◌≤◌, IfErr, IfOk, IsOk, None, OnErr, Some, [], if◌then◌else◌, length, true, ℕ};
+ghost use Rattle.std.specs.Prelude.{◌+◌, ◌-◌, ◌<◌, ◌==◌, ◌^◌, ◌≡◌, ◌≤◌, IfErr, IfOk, IsOk, None, OnErr, Some, []};
+ghost use Rattle.std.specs.Prelude.{if◌then◌else◌, length, true, ℕ};
 ghost use Rattle.mmc_card_sim.specs.Plan.{fault_at, refusal_of};
-ghost use Rattle.mmc_card_sim.specs.FaultyExchanges.{Commands, Polls, Reads, Writes, fits_command, fits_poll, fits_read, fits_write};
+ghost use Rattle.mmc_card_sim.specs.FaultyExchanges.{Commands, Polls, Reads, Writes, fits_command, fits_poll};
+ghost use Rattle.mmc_card_sim.specs.FaultyExchanges.{fits_read, fits_write};
 ghost use Rattle.mmc_card_sim.specs.SimView.{planned_fault, sim_bus_view};
 
 use crate::chip::Chip;
@@ -41,9 +43,21 @@ impl Model for SimCard {
 
     ghost Value = { SimView };
 
-    ghost view = { λ sim. record { card = card_of sim.chip; delays = sim.delays; wire = sim.wire; plan = sim.plan; faults = sim.faults } };
+    ghost view = { λ sim. record {
+      card = card_of sim.chip;
+      delays = sim.delays;
+      wire = sim.wire;
+      plan = sim.plan;
+      faults = sim.faults;
+    } };
 
-    ghost invariant = { λ sim. SimOk (record { card = card_of sim.chip; delays = sim.delays; wire = sim.wire; plan = sim.plan; faults = sim.faults }) };
+    ghost invariant = { λ sim. SimOk (record {
+      card = card_of sim.chip;
+      delays = sim.delays;
+      wire = sim.wire;
+      plan = sim.plan;
+      faults = sim.faults;
+    }) };
 }
 
 impl SimCard {
@@ -141,7 +155,8 @@ impl SimCard {
         ensures refused { IfErr result (λ why. refusal_of self.old.plan exchange self.old.wire.exchanges ≡ Some why) }
         ensures unchanged { OnErr result (self.new ≡ self.old) }
         ensures planned { IsOk result → refusal_of self.old.plan exchange self.old.wire.exchanges ≡ None }
-        ensures replaced { IsOk result → (e : ℕ) → fault_at self.new.plan e ≡ (if exchange == e then Some fault else fault_at self.old.plan e) }
+        ensures replaced { IsOk result → (e : ℕ)
+            → fault_at self.new.plan e ≡ (if exchange == e then Some fault else fault_at self.old.plan e) }
         ensures grows { length self.new.plan ≤ length self.old.plan + 1 }
         ensures stays { self.new ≡ record self.old { plan = self.new.plan } }
     {
@@ -151,8 +166,11 @@ impl SimCard {
     /// Sends a command, and gives what came back, whatever response is wanted.
     pub fn command(&mut self, frame: [u8; 6], want: Want) -> Reply
         ensures exchanged { Commanded (sim_bus_view self.old) frame want result (sim_bus_view self.new) }
-        ensures does { Commands (planned_fault self.old) self.old.delays self.old.card frame result (fits_command (planned_fault self.old) self.old.delays self.old.card frame) self.new.card }
-        ensures counts { self.new.faults ≡ (if fits_command (planned_fault self.old) self.old.delays self.old.card frame then self.old.faults + 1 else self.old.faults) }
+        ensures does { Commands (planned_fault self.old) self.old.delays self.old.card frame result
+            (fits_command (planned_fault self.old) self.old.delays self.old.card frame) self.new.card }
+        ensures counts { self.new.faults
+            ≡ (if fits_command (planned_fault self.old) self.old.delays self.old.card frame
+            then self.old.faults + 1 else self.old.faults) }
         ensures delays { self.new.delays ≡ self.old.delays }
         ensures plan { self.new.plan ≡ self.old.plan }
     {
@@ -165,9 +183,14 @@ impl SimCard {
 
     /// Reads a block of the buffer's length.
     pub fn read_data(&mut self, buffer: &mut [u8]) -> DataIn
-        ensures exchanged { DataRead (sim_bus_view self.old) (length buffer.old) result buffer.new (sim_bus_view self.new) }
-        ensures does { Reads (planned_fault self.old) self.old.card self.old.wire.lines (length buffer.old) result buffer.new (fits_read (planned_fault self.old) self.old.card self.old.wire.lines (length buffer.old)) self.new.card }
-        ensures counts { self.new.faults ≡ (if fits_read (planned_fault self.old) self.old.card self.old.wire.lines (length buffer.old) then self.old.faults + 1 else self.old.faults) }
+        ensures exchanged { DataRead (sim_bus_view self.old) (length buffer.old) result buffer.new
+            (sim_bus_view self.new) }
+        ensures does { Reads (planned_fault self.old) self.old.card self.old.wire.lines (length buffer.old) result
+            buffer.new (fits_read (planned_fault self.old) self.old.card self.old.wire.lines (length buffer.old))
+            self.new.card }
+        ensures counts { self.new.faults
+            ≡ (if fits_read (planned_fault self.old) self.old.card self.old.wire.lines (length buffer.old)
+            then self.old.faults + 1 else self.old.faults) }
         ensures delays { self.new.delays ≡ self.old.delays }
         ensures plan { self.new.plan ≡ self.old.plan }
     {
@@ -182,8 +205,11 @@ impl SimCard {
     /// Writes a block.
     pub fn write_data(&mut self, block: &[u8; 512]) -> DataOut
         ensures exchanged { DataWritten (sim_bus_view self.old) block.now result (sim_bus_view self.new) }
-        ensures does { Writes (planned_fault self.old) self.old.card self.old.wire.lines block.now result (fits_write (planned_fault self.old) self.old.card self.old.wire.lines) self.new.card }
-        ensures counts { self.new.faults ≡ (if fits_write (planned_fault self.old) self.old.card self.old.wire.lines then self.old.faults + 1 else self.old.faults) }
+        ensures does { Writes (planned_fault self.old) self.old.card self.old.wire.lines block.now result
+            (fits_write (planned_fault self.old) self.old.card self.old.wire.lines) self.new.card }
+        ensures counts { self.new.faults
+            ≡ (if fits_write (planned_fault self.old) self.old.card self.old.wire.lines
+            then self.old.faults + 1 else self.old.faults) }
         ensures delays { self.new.delays ≡ self.old.delays }
         ensures plan { self.new.plan ≡ self.old.plan }
     {
@@ -197,8 +223,10 @@ impl SimCard {
     /// Polls the card: whether it is busy.
     pub fn busy(&mut self) -> bool
         ensures exchanged { Polled (sim_bus_view self.old) result (sim_bus_view self.new) }
-        ensures does { Polls (planned_fault self.old) self.old.delays self.old.card result (fits_poll (planned_fault self.old) self.old.card) self.new.card }
-        ensures counts { self.new.faults ≡ (if fits_poll (planned_fault self.old) self.old.card then self.old.faults + 1 else self.old.faults) }
+        ensures does { Polls (planned_fault self.old) self.old.delays self.old.card result
+            (fits_poll (planned_fault self.old) self.old.card) self.new.card }
+        ensures counts { self.new.faults
+            ≡ (if fits_poll (planned_fault self.old) self.old.card then self.old.faults + 1 else self.old.faults) }
         ensures delays { self.new.delays ≡ self.old.delays }
         ensures plan { self.new.plan ≡ self.old.plan }
     {

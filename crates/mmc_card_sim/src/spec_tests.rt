@@ -1,6 +1,6 @@
-// Changes of cards `A` and `M` that have one fault each.
+// Changes of cards `sdsc` and `emmc` that have one fault each.
+use crate::example_cards::{emmc, emmc_with, ext_csd_of_emmc, sdsc};
 use crate::judging::{Judged, judge};
-use crate::test_cards::{emmc, ext_csd_of_emmc, mmc, sdsc};
 use crate::{BuildFault, CardSpec, KindRegisters, Registers, SdRegisters};
 use mmc_bus::Bytes;
 use std::test::Fail;
@@ -59,7 +59,7 @@ fn good_specs(rt: HostRuntime) -> Result<(), Fail> {
         ..of_mmc
     };
     assert_eq!(rt;
-        judge(&spec(mmc(full, 65_024).registers, 65_024)),
+        judge(&spec(emmc_with(full, 65_024).registers, 65_024)),
         Ok(of_full)
     );
     Ok(())
@@ -141,7 +141,7 @@ fn refused_registers(rt: HostRuntime) {
             },
             "access mode 3",
         ),
-        (mmc(no_erase_unit, 2048).registers, "no erase unit"),
+        (emmc_with(no_erase_unit, 2048).registers, "no erase unit"),
     ] {
         assert_eq!(rt;
             judge(&spec(registers, 2048)),
@@ -171,7 +171,7 @@ fn refused_numbers(rt: HostRuntime) {
     assert_eq!(rt; judge(&spec(sd(), 5)), refused);
     let mut empty = ext_csd_of_emmc();
     empty[213] = 0x00;
-    assert_eq!(rt; judge(&spec(mmc(empty, 0).registers, 0)), refused);
+    assert_eq!(rt; judge(&spec(emmc_with(empty, 0).registers, 0)), refused);
 }
 
 #[test]
@@ -182,13 +182,16 @@ fn refused_sizes(rt: HostRuntime) -> Result<(), Fail> {
     assert_eq!(rt; judge(&card), refused);
     let mut large = ext_csd_of_emmc();
     large[213] = 0xff;
-    assert_eq!(rt; judge(&spec(mmc(large, 65_280).registers, 65_280)), refused);
+    assert_eq!(rt;
+        judge(&spec(emmc_with(large, 65_280).registers, 65_280)),
+        refused
+    );
     // A general purpose partition that is too large to exist.
     let mut no_partition = ext_csd_of_emmc();
     no_partition[155] = 0x01;
     no_partition[145] = 0xff;
     assert_eq!(rt;
-        judge(&spec(mmc(no_partition, 2048).registers, 2048)),
+        judge(&spec(emmc_with(no_partition, 2048).registers, 2048)),
         refused
     );
     Ok(())

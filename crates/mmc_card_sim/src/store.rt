@@ -1,5 +1,6 @@
 // The sectors of a card in memory, and the write or erase of them that is unfinished.
-ghost use Rattle.std.specs.Prelude.{◌*◌, ◌+◌, ◌++◌, ◌/◌, ◌<◌, ◌^◌, ◌∷◌, ◌≡◌, ◌≤◌, IfOk, IfSome, None, Some, [], if◌then◌else◌, length, nat_lt, replicate, slice_index_or, slice_set, take, true};
+ghost use Rattle.std.specs.Prelude.{◌*◌, ◌+◌, ◌++◌, ◌/◌, ◌<◌, ◌^◌, ◌∷◌, ◌≡◌, ◌≤◌, IfOk, IfSome, None, Some, []};
+ghost use Rattle.std.specs.Prelude.{if◌then◌else◌, length, nat_lt, replicate, slice_index_or, slice_set, take, true};
 ghost use Rattle.mmc_card.specs.Sectors.{part_number, pieces};
 ghost use Rattle.mmc_card_sim.specs.Sizes.{total};
 ghost use Rattle.mmc_card_sim.specs.declared.store.TheConstants.{MAX_SECTORS};
@@ -120,7 +121,8 @@ impl Store {
     ) -> Result<Store, NoMemory>
         requires few { total sizes ≤ MAX_SECTORS }
         requires image { IfSome image.now (λ bytes. length bytes ≡ 512 * total sizes) }
-        ensures sectors { IfOk result (λ store. parts_of store ≡ split sizes (first_sectors image.now (total sizes) erased)) }
+        ensures sectors { IfOk result (λ store.
+            parts_of store ≡ split sizes (first_sectors image.now (total sizes) erased)) }
         ensures start { IfOk result (λ store. store.start ≡ 0) }
         ensures values { IfOk result (λ store. values_of store ≡ []) }
     {
@@ -160,7 +162,9 @@ impl Store {
 
     /// A sector of a partition, if there is such a sector.
     pub fn sector(&self, part: Part, sector: usize) -> Option<[u8; 512]>
-        ensures { result ≡ (if nat_lt sector (length (part_of self.now part)) then Some (slice_index_or (part_of self.now part) sector []) else None) }
+        ensures { result
+            ≡ (if nat_lt sector (length (part_of self.now part))
+            then Some (slice_index_or (part_of self.now part) sector []) else None) }
     {
         self.sectors_of(part).get(sector).copied()
     }
@@ -235,7 +239,9 @@ impl Store {
 
     /// What is unfinished in this partition is carried out.
     pub fn land(&mut self, part: Part)
-        ensures sectors { parts_of self.new ≡ slice_set (parts_of self.old) (part_number part) (landed_in (λ i. true) self.old.start (values_of self.old) (part_of self.old part)) }
+        ensures sectors { parts_of self.new
+            ≡ slice_set (parts_of self.old) (part_number part)
+            (landed_in (λ i. true) self.old.start (values_of self.old) (part_of self.old part)) }
         ensures start { self.new.start ≡ self.old.start }
         ensures values { values_of self.new ≡ [] }
     {

@@ -80,7 +80,9 @@ fn put(block: &mut ArrayVec<u8, 512>, place: usize, byte: u8)
 
 impl Chip {
     ghost use Rattle.mmc_card.specs.CardAnswer.{Checked, status};
-    ghost use Rattle.mmc_card.specs.RowsSwitch.{accessed, access_switched, ext_csd_now, partition_config_for, send_ext_csd, set_bus_width, switch_byte, switch_func, switched, timing_after};
+    ghost use Rattle.mmc_card.specs.RowsSwitch.{accessed, access_switched, ext_csd_now, partition_config_for};
+    ghost use Rattle.mmc_card.specs.RowsSwitch.{send_ext_csd, set_bus_width, switch_byte, switch_func, switched};
+    ghost use Rattle.mmc_card.specs.RowsSwitch.{timing_after};
     ghost use Rattle.mmc_card.specs.RowsTransfer.{send_scr, sending};
     ghost use Rattle.mmc_card_sim.specs.Chip.{Answers, card_of};
     ghost use Rattle.mmc_card_sim.specs.Switches.{switched_to, to_card};
@@ -94,7 +96,9 @@ impl Chip {
         timing: Timing,
     ) -> Answer
         requires { index < 64 }
-        ensures { Answers (sending block.items timing (card_of self.old), Checked index (status is_app (card_of self.old))) self.new result }
+        ensures { Answers
+            (sending block.items timing (card_of self.old), Checked index (status is_app (card_of self.old)))
+            self.new result }
     {
         let answer = self.respond_status(index, is_app);
         self.state = State::Data;

@@ -1,9 +1,7 @@
-// Four cards, by the names that they have in `examples/`, and what tests say of them: three SD cards, `sdsc` with byte addresses,
-// `sdsc_cmd23`, which knows CMD23 too, and `sdhc` with sector addresses and high speed; and `emmc`, an eMMC device with sector
-// addresses.
+// What tests say of the cards of `example_cards`.
 ghost use Rattle.std.specs.Prelude.{◌<◌};
 
-use crate::{CardSpec, Fault, KindRegisters, MmcRegisters, Registers, SdRegisters, SimCard};
+use crate::{CardSpec, Fault, SimCard};
 use mmc_bus::{Bytes, DataIn, DataOut, Part, Reply, Want};
 use mmc_frame::commands::SEND_STATUS;
 use mmc_frame::{encode, encode_response};
@@ -13,108 +11,6 @@ use std::test::Fail;
 
 /// The argument that names a card with RCA 1.
 pub const RCA: u32 = 0x0001_0000;
-
-// The CID of each card. As a CSD it says nothing, as `M` has it.
-const CID: u128 = 0x0000_0000_0000_0000_0000_0000_0000_0001;
-
-/// Card `sdsc`, of 4 sectors.
-pub fn sdsc() -> CardSpec {
-    sd(0x0005_0000_0000_0000)
-}
-
-/// Card `sdsc_cmd23`, of 4 sectors.
-pub fn sdsc_cmd23() -> CardSpec {
-    sd(0x0005_0002_0000_0000)
-}
-
-/// An SD card of 4 sectors with byte addresses and this SCR.
-pub fn sd(scr: u64) -> CardSpec {
-    sd_with_csd(scr, 0x0000_0000_0009_0000_0000_4000_0240_009b)
-}
-
-/// An SD card of 4 sectors with byte addresses, this SCR and this CSD.
-pub fn sd_with_csd(scr: u64, csd: u128) -> CardSpec {
-    spec(
-        Registers {
-            kind: KindRegisters::Sd(SdRegisters {
-                scr: scr.to_be_bytes(),
-                rca: 1,
-                answers_cmd8: false,
-                has_high_speed: false,
-            }),
-            ocr: 0x00ff_8000,
-            cid: CID.to_be_bytes(),
-            csd: csd.to_be_bytes(),
-            is_locked: false,
-        },
-        4,
-    )
-}
-
-/// Card `sdhc`, of 1,024 sectors.
-pub fn sdhc() -> CardSpec {
-    let scr: u64 = 0x0205_0002_0000_0000;
-    let csd: u128 = 0x4000_0000_0009_0000_0000_4000_0240_00df;
-    spec(
-        Registers {
-            kind: KindRegisters::Sd(SdRegisters {
-                scr: scr.to_be_bytes(),
-                rca: 1,
-                answers_cmd8: true,
-                has_high_speed: true,
-            }),
-            ocr: 0x40ff_8000,
-            cid: CID.to_be_bytes(),
-            csd: csd.to_be_bytes(),
-            is_locked: false,
-        },
-        1024,
-    )
-}
-
-/// Card `emmc`, of 2,048 sectors and two boot partitions of 256.
-pub fn emmc() -> CardSpec {
-    mmc(ext_csd_of_emmc(), 2048)
-}
-
-/// The EXT_CSD of card `emmc`.
-pub fn ext_csd_of_emmc() -> [u8; 512] {
-    let mut block = [0; 512];
-    block[181] = 0x01;
-    block[192] = 0x08;
-    block[196] = 0x03;
-    block[213] = 0x08;
-    block[221] = 0x01;
-    block[224] = 0x01;
-    block[226] = 0x01;
-    block[231] = 0x10;
-    block
-}
-
-/// An eMMC device with sector addresses, this EXT_CSD, and so many sectors by it.
-pub fn mmc(ext_csd: [u8; 512], sectors: u64) -> CardSpec {
-    spec(
-        Registers {
-            kind: KindRegisters::Mmc(MmcRegisters { ext_csd }),
-            ocr: 0x40ff_8080,
-            cid: CID.to_be_bytes(),
-            csd: CID.to_be_bytes(),
-            is_locked: false,
-        },
-        sectors,
-    )
-}
-
-// A card that is ready at once and never busy, without an image.
-fn spec(registers: Registers, sectors: u64) -> CardSpec {
-    CardSpec {
-        registers,
-        sectors,
-        ready: 0,
-        busy: 0,
-        image: None,
-    }
-}
 
 /// An image of so many sectors, each filled with the remainder of its number by 251.
 pub fn numbered_image(alloc: Global, sectors: u32) -> Result<Option<Bytes>, Fail> {

@@ -1,31 +1,26 @@
 // What the card in memory does with the commands of transfers (SD Physical Layer 6.00, sections 4.3.3 and 4.3.4;
 // JESD84-B51, sections 6.6.6 to 6.6.8), each where it is legal.
 ghost use Rattle.std.specs.Prelude.{◌*◌, ◌<◌, ◌≡◌, ◌≤◌, ◌^◌, if◌then◌else◌};
-ghost use Rattle.mmc_card.specs.CardAnswer.{bit};
+ghost use Rattle.mmc_frame.specs.Status.{bits_in};
 ghost use Rattle.mmc_frame.specs.declared.card_state.State.TheVariants.{Data, Rcv};
 ghost use Rattle.mmc_card.specs.Card.{AreAmong};
 ghost use Rattle.mmc_card.specs.ErrorBits.{error_bits};
 
 use crate::answer::Answer;
 use crate::chip::{Chip, Source};
-use crate::error_bits::{ADDRESS_ERROR, BLOCK_LEN_ERROR, OUT_OF_RANGE, WP_VIOLATION};
+use crate::status_bits::bits_if;
+use bitflags::Flags;
 use mmc_frame::commands::{
     READ_MULTIPLE_BLOCK, READ_SINGLE_BLOCK, SET_BLOCK_COUNT, SET_BLOCKLEN, STOP_TRANSMISSION,
     WRITE_BLOCK, WRITE_MULTIPLE_BLOCK,
 };
-use mmc_frame::{Kind, State};
-
-// This error bit, or none.
-fn error_if(error: u32, is_so: bool) -> u32
-    ensures bit { result ≡ error * bit is_so }
-    ensures small { result ≤ error }
-{
-    if is_so { error } else { 0 }
-}
+use mmc_frame::{Kind, State, Status};
 
 impl Chip {
     ghost use Rattle.mmc_card.specs.Made.{is_misaligned, sector_at};
-    ghost use Rattle.mmc_card.specs.RowsTransfer.{begun, preset, read_multiple_block, read_single_block, set_block_count_to, set_blocklen, stop_transmission, transfer_errors, transferred, write_block, write_multiple_block};
+    ghost use Rattle.mmc_card.specs.RowsTransfer.{begun, preset, read_multiple_block, read_single_block};
+    ghost use Rattle.mmc_card.specs.RowsTransfer.{set_block_count_to, set_blocklen, stop_transmission, transfer_errors};
+    ghost use Rattle.mmc_card.specs.RowsTransfer.{transferred, write_block, write_multiple_block};
     ghost use Rattle.mmc_card_sim.specs.Chip.{Answers, card_of};
 
     /// The sector that an address names.
@@ -48,15 +43,17 @@ impl Chip {
     }
 
     // The errors of a transfer that is to begin at an address.
-    fn errors_at(&self, is_write: bool, address: u32) -> u32
-        ensures errors { result ≡ transfer_errors is_write (card_of self.now) address }
-        ensures known { AreAmong result error_bits }
+    fn errors_at(&self, is_write: bool, address: u32) -> Status
+        ensures errors { bits_in result ≡ 2 ^ 13 * transfer_errors is_write (card_of self.now) address }
+        ensures known { AreAmong (bits_in result) (2 ^ 13 * error_bits) }
     {
         let is_beyond = self.sector_at(address) >= self.store.size(self.part);
-        error_if(OUT_OF_RANGE, is_beyond)
-            + error_if(ADDRESS_ERROR, self.is_misaligned(address))
-            + error_if(BLOCK_LEN_ERROR, self.block_length != 512)
-            + error_if(WP_VIOLATION, is_write && self.is_protected)
+        Status::from_bits_retain(
+            bits_if(Status::OUT_OF_RANGE, is_beyond)
+                + bits_if(Status::ADDRESS_ERROR, self.is_misaligned(address))
+                + bits_if(Status::BLOCK_LEN_ERROR, self.block_length != 512)
+                + bits_if(Status::WP_VIOLATION, is_write && self.is_protected),
+        )
     }
 
     // A transfer from an address on begins, in the state that it leads to.
@@ -88,7 +85,7 @@ impl Chip {
             (begun (if is_write then Rcv else Data) is_single left (card_of self.old) address)) self.new result }
     {
         let errors = self.errors_at(is_write, address);
-        if errors != 0 {
+        if !errors.is_empty() {
             self.raise(errors);
             return self.respond_status(index, false);
         }
@@ -161,7 +158,7 @@ impl Chip {
         if length == 512 {
             self.block_length = 512;
         } else {
-            self.raise(BLOCK_LEN_ERROR);
+            self.raise(Status::BLOCK_LEN_ERROR);
         }
         self.respond_status(SET_BLOCKLEN, false)
     }

@@ -1,108 +1,16 @@
-// Four cards, by the names that they have in `examples/`, and what tests do with them: three SD cards, `sdsc` with byte addresses,
-// `sdsc_cmd23`, which knows CMD23 too, and `sdhc` with sector addresses and high speed; and `emmc`, an eMMC device with sector
-// addresses.
+// What tests do with the cards of `mmc_card_sim::example_cards`.
 ghost use Rattle.std.specs.Prelude.{◌<◌};
 
 use mmc_bus::{Bus, BusAnswer, Bytes, DataIn, Reply, ScriptedBus};
-use mmc_card_sim::{
-    CardSpec, Fault, Flips, KindRegisters, MmcRegisters, Outcome, Registers, SdRegisters, SimCard,
+use mmc_card_sim::{CardSpec, Fault, Flips, Outcome, SimCard};
+pub use mmc_card_sim::example_cards::{
+    emmc, emmc_with, ext_csd_of_emmc, sdhc, sdsc, sdsc_cmd23, sdsc_with_scr,
 };
 use mmc_frame::{encode_r2, encode_r3, encode_response};
 use mmc_switch::{Session, initialize};
 use std::alloc::Global;
 use std::collections::VecDeque;
 use std::test::Fail;
-
-// The CID of each card. As a CSD it says nothing, as `emmc` has it.
-const CID: u128 = 0x0000_0000_0000_0000_0000_0000_0000_0001;
-
-fn spec(kind: KindRegisters, ocr: u32, csd: u128, sectors: u64) -> CardSpec {
-    CardSpec {
-        registers: Registers {
-            kind,
-            ocr,
-            cid: CID.to_be_bytes(),
-            csd: csd.to_be_bytes(),
-            is_locked: false,
-        },
-        sectors,
-        ready: 0,
-        busy: 0,
-        image: None,
-    }
-}
-
-/// The registers of an SD card with this SCR.
-pub fn sd_registers(scr: u64, is_new: bool) -> KindRegisters {
-    KindRegisters::Sd(SdRegisters {
-        scr: scr.to_be_bytes(),
-        rca: 1,
-        answers_cmd8: is_new,
-        has_high_speed: is_new,
-    })
-}
-
-/// Card `sdsc`, of 4 sectors.
-pub fn sdsc() -> CardSpec {
-    let csd = 0x0000_0000_0009_0000_0000_4000_0240_009b;
-    spec(
-        sd_registers(0x0005_0000_0000_0000, false),
-        0x00ff_8000,
-        csd,
-        4,
-    )
-}
-
-/// Card `sdsc_cmd23`, of 4 sectors.
-pub fn sdsc_cmd23() -> CardSpec {
-    let mut card = sdsc();
-    card.registers.kind = sd_registers(0x0005_0002_0000_0000, false);
-    card
-}
-
-/// Card `sdhc`, of 1,024 sectors.
-pub fn sdhc() -> CardSpec {
-    let csd = 0x4000_0000_0009_0000_0000_4000_0240_00df;
-    spec(
-        sd_registers(0x0205_0002_0000_0000, true),
-        0x40ff_8000,
-        csd,
-        1024,
-    )
-}
-
-/// Card `emmc`, of 2,048 sectors and two boot partitions of 256.
-pub fn emmc() -> CardSpec {
-    mmc(ext_csd_of_emmc(), 2048)
-}
-
-/// An eMMC device with sector addresses, this EXT_CSD, and so many sectors by it.
-pub fn mmc(ext_csd: [u8; 512], sectors: u64) -> CardSpec {
-    spec(
-        KindRegisters::Mmc(MmcRegisters { ext_csd }),
-        0x40ff_8080,
-        CID,
-        sectors,
-    )
-}
-
-/// The EXT_CSD of card `emmc`.
-pub fn ext_csd_of_emmc() -> [u8; 512] {
-    let mut block = [0; 512];
-    for (index, value) in [
-        (181, 0x01),
-        (192, 0x08),
-        (196, 0x03),
-        (213, 0x08),
-        (221, 0x01),
-        (224, 0x01),
-        (226, 0x01),
-        (231, 0x10),
-    ] {
-        block[index] = value;
-    }
-    block
-}
 
 /// One of the cards.
 #[derive(Clone, Copy)]

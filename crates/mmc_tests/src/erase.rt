@@ -49,9 +49,8 @@ pub fn given_up<B: Bus>(
 // An SD card of 68 sectors, all 5Ah, with an erase unit of 32, whose erased bytes are FFh.
 fn card_of_units(alloc: Global) -> Result<CardSpec, Fail> {
     let csd: u128 = 0x0000_0000_0009_0004_0000_0f80_0240_0029;
-    let mut card = sdsc();
+    let mut card = sdsc_with_scr(0x0085_0000_0000_0000);
     card.registers.csd = csd.to_be_bytes();
-    card.registers.kind = sd_registers(0x0085_0000_0000_0000, false);
     card.sectors = 68;
     card.image = Some(Bytes::new(vec![in alloc; 0x5a; 512 * 68]?));
     Ok(card)

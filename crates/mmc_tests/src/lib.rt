@@ -1,5 +1,5 @@
-//! Tests of the driver's layers over cards in memory and over buses that lie: identification, width and speed, partitions, runs of
-//! blocks, erases and trims, settling, and the device. Nothing else stands here.
+//! Tests of the driver's layers over cards in memory and over buses that lie: identification, width and speed,
+//! partitions, runs of blocks, erases and trims, settling, and the device. Nothing else stands here.
 #![tactic(auto)]
 
 #[cfg(test)]

@@ -10,7 +10,7 @@ use std::test::Fail;
 fn opened_m(alloc: Global) -> Result<(SimCard, Session), Fail> {
     let mut ext_csd = ext_csd_of_emmc();
     (ext_csd[155], ext_csd[143]) = (1, 1);
-    let mut card = built(alloc, mmc(ext_csd, 2048))?;
+    let mut card = built(alloc, emmc_with(ext_csd, 2048))?;
     let session = opened(&mut card).ok_or("not opened")?;
     Ok((card, session))
 }

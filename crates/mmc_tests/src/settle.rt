@@ -33,7 +33,7 @@ fn small(which: Which, work: Work) -> CardSpec {
             if !matches!(work, Work::Switch) {
                 ext_csd[226] = 0;
             }
-            mmc(ext_csd, 4)
+            emmc_with(ext_csd, 4)
         }
         other => spec_of(other),
     }

@@ -49,7 +49,7 @@ fn knows_what_the_registers_say(rt: HostRuntime) -> Result<(), Fail> {
 
     let mut ext_csd = ext_csd_of_emmc();
     (ext_csd[155], ext_csd[143]) = (1, 1);
-    let mut device = built(rt.alloc(), mmc(ext_csd, 2048))?;
+    let mut device = built(rt.alloc(), emmc_with(ext_csd, 2048))?;
     let session = opened(&mut device).ok_or("not opened")?;
     let info = session.info();
     for (part, sectors) in [
