@@ -1,4 +1,5 @@
 pub mod Address
+pub mod Ending
 pub mod Info
 pub mod Place
 pub mod Sizes

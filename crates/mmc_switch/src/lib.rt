@@ -2,6 +2,7 @@
 #![tactic(auto)]
 
 mod broken;
+mod ending;
 mod fault;
 mod info;
 mod initialization;
@@ -15,6 +16,7 @@ mod sizes;
 mod widening;
 
 pub use broken::Broken;
+pub use ending::{Ending, MAX_ENDING, one_more};
 pub use fault::SwitchFault;
 pub use info::Info;
 pub use initialization::{InitializationFault, initialize};
