@@ -14,7 +14,7 @@ use Rattle.mmc_bus.specs.declared.wait.TheConstants.{MAX_POLLS}
 use Rattle.mmc_switch.specs.UnderWay.{IsBusyAfter, IsCarriedOut, IsIdle, IsProgramming}
 use Rattle.mmc_switch.specs.declared.ending.Ending.{Ending}
 use Rattle.mmc_switch.specs.declared.ending.Ending.TheVariants.{Confirm, Wait}
-use Rattle.mmc_switch.specs.declared.ending.TheConstants.{MAX_ENDING}
+use Rattle.mmc_switch.specs.declared.ending.TheConstants.{EXCHANGES_OF_AN_ENDING}
 use Rattle.mmc_switch.specs.declared.session.Session.{Session}
 
 -- a card is polled so often
@@ -24,7 +24,7 @@ ending_fits Confirm = true
 
 -- the exchanges that are left at most
 abbrev pub ending_left : Ending → ℕ
-ending_left (Wait polls) = MAX_ENDING - polls
+ending_left (Wait polls) = EXCHANGES_OF_AN_ENDING - polls
 ending_left Confirm = 1
 
 -- A poll that said yes or no, as work.

@@ -13,8 +13,8 @@ ghost use Rattle.mmc_switch.specs.UnderWay.{left_then};
 use crate::session::Session;
 use mmc_bus::{Bus, Cause, MAX_POLLS, confirm, poll};
 
-/// The most exchanges of an ending.
-pub const MAX_ENDING: u64 = MAX_POLLS + 1;
+/// The most exchanges of an ending: the polls, and CMD13.
+pub const EXCHANGES_OF_AN_ENDING: u64 = MAX_POLLS + 1;
 
 /// The next exchange of an ending.
 #[derive(Clone, Copy, Debug, PartialEq, Eq)]
@@ -48,7 +48,7 @@ impl Ending {
         ensures { result ≡ ending_left self.now }
     {
         match self {
-            Ending::Wait { polls } => MAX_ENDING - *polls,
+            Ending::Wait { polls } => EXCHANGES_OF_AN_ENDING - *polls,
             Ending::Confirm => 1,
         }
     }
