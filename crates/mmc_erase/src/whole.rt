@@ -6,6 +6,7 @@ ghost use Rattle.mmc_switch.specs.Place.{IsReady};
 ghost use Rattle.mmc_switch.specs.UnderWay.{IsSameSession, part_of, room_of};
 ghost use Rattle.mmc_erase.specs.Job.{suits};
 ghost use Rattle.mmc_erase.specs.Whole.{HasErased};
+ghost use Rattle.mmc_erase.specs.declared.turns.TheConstants.{EXCHANGES_OF_AN_ERASE};
 
 use crate::how::How;
 use crate::run::EraseRun;
@@ -31,7 +32,7 @@ pub fn erase_run<B: Bus>(
     requires erasable { is_boot (part_of session) ≡ false }
     requires suits { suits how session.info (room_of session) start count ≡ true }
     requires writable { session.info.read_only ≡ false }
-    ensures bounded { (B.view bus.new).exchanges ≤ (B.view bus.old).exchanges + 20 }
+    ensures bounded { (B.view bus.new).exchanges ≤ (B.view bus.old).exchanges + EXCHANGES_OF_AN_ERASE }
     ensures kept { (B.view bus.new).is_kept ≡ true → (B.view bus.old).is_kept ≡ true }
     ensures same { IsSameSession session result }
     ensures cause { IfErr result (λ broken. cause_of (B.view bus.new).last ≡ Some broken.cause) }

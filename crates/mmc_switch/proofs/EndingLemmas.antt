@@ -4,7 +4,6 @@ use Rattle.std.proofs.Common.{◌+◌, ◌<◌, ◌∙◌, ◌∷◌, ◌≡◌,
 use Rattle.std.specs.Prelude.{Err, IsSome, None, Ok, Option, Result, Some, if◌then◌else◌, min}
 use Rattle.mmc_frame.specs.declared.card_state.State.{State}
 use Rattle.mmc_frame.specs.declared.card_state.State.TheVariants.{Prg}
-use Rattle.mmc_frame.specs.declared.kind.Kind.{Kind}
 use Rattle.mmc_card.specs.Blocks.{programmed, rested, waited}
 use Rattle.mmc_card.specs.BusView.{BusView}
 use Rattle.mmc_card.specs.Card.{Card, FitsPart, holds, is_in, is_selected, known, unfinished}
@@ -216,3 +215,9 @@ module _ (session : Session) (change : Change) (Exact : Ending → Card → Type
   ending_turned programs Confirm at (Ok (Some ending)) did = absurd did
   ending_turned programs Confirm at (Ok None) did = confirm_ends at did
   ending_turned programs Confirm at (Err cause) did = confirm_fails at cause did
+
+-- a failure is the same for any cause
+pub for_any_cause : (session : Session) (ending : Ending) (a b : BusView) (cause other : Cause)
+    → EndingDid session ending a (Err cause) b → EndingDid session ending a (Err other) b
+for_any_cause session (Wait polls) a b cause other did = did
+for_any_cause session Confirm a b cause other did = did

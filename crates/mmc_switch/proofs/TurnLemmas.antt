@@ -60,14 +60,14 @@ pub turn_leaves : {P R : Type 0} (session : Session) (change : Change) (IsIn : P
     → Turn change (Leaves IsRunning IsDone result) faults old new
 turn_leaves {P = P} {R = R} session change IsIn IsRunning IsDone IsNext runs outcome result makes faults old new t =
     record { stays = t.stays; within = t.within; left = leaves outcome result makes _ new t.left } where
-  leaves : (outcome : Result (Option P) Cause) (result : Progress R) → Makes session IsNext outcome result → (faults : ℕ)
-      (view : BusView) → LeftIn session IsIn IsDone outcome faults view → Leaves IsRunning IsDone result faults view
-  leaves (Ok (Some phase)) (More run) makes faults view left = runs phase run faults view makes left
-  leaves (Ok (Some phase)) (Done same) makes faults view left = absurd makes
-  leaves (Ok (Some phase)) (Failed broken) makes faults view left = absurd makes
-  leaves (Ok None) (More run) makes faults view left = absurd makes
-  leaves (Ok None) (Done same) makes faults view left = rw makes left
-  leaves (Ok None) (Failed broken) makes faults view left = absurd makes
-  leaves (Err cause) (More run) makes faults view left = absurd makes
-  leaves (Err cause) (Done same) makes faults view left = absurd makes
-  leaves (Err cause) (Failed broken) makes faults view left = rw makes left
+      leaves : (outcome : Result (Option P) Cause) (result : Progress R) → Makes session IsNext outcome result → (faults : ℕ)
+          (view : BusView) → LeftIn session IsIn IsDone outcome faults view → Leaves IsRunning IsDone result faults view
+      leaves (Ok (Some phase)) (More run) makes faults view left = runs phase run faults view makes left
+      leaves (Ok (Some phase)) (Done same) makes faults view left = absurd makes
+      leaves (Ok (Some phase)) (Failed broken) makes faults view left = absurd makes
+      leaves (Ok None) (More run) makes faults view left = absurd makes
+      leaves (Ok None) (Done same) makes faults view left = rw makes left
+      leaves (Ok None) (Failed broken) makes faults view left = absurd makes
+      leaves (Err cause) (More run) makes faults view left = absurd makes
+      leaves (Err cause) (Done same) makes faults view left = absurd makes
+      leaves (Err cause) (Failed broken) makes faults view left = rw makes left

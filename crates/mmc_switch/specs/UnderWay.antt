@@ -112,9 +112,9 @@ Leaves IsRunning IsDone (Done session) faults view = IsReady session view × IsD
 Leaves IsRunning IsDone (Failed broken) faults view = HasFailed broken faults view
 
 -- how much is left behind an exchange; once the work is over there is no phase
-abbrev pub left_then : {P : Type 0} → (P → ℕ) → Option P → ℕ
-left_then left (Some phase) = left phase
-left_then left None = 0
+abbrev pub left_after : {P : Type 0} → (P → ℕ) → Option P → ℕ
+left_after left (Some phase) = left phase
+left_after left None = 0
 
 -- each turn brings work nearer to its end, which was still to come
 abbrev pub LowersBy : {R : Type 0} → (R → ℕ) → R → Progress R → Type 0

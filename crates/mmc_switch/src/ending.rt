@@ -8,7 +8,7 @@ ghost use Rattle.mmc_bus.specs.Work.{Ends};
 ghost use Rattle.mmc_bus.specs.declared.cause.Cause.TheVariants.{Busy};
 ghost use Rattle.mmc_bus.specs.declared.wait.TheConstants.{MAX_POLLS};
 ghost use Rattle.mmc_switch.specs.Ending.{EndingDid, ending_fits, ending_left};
-ghost use Rattle.mmc_switch.specs.UnderWay.{left_then};
+ghost use Rattle.mmc_switch.specs.UnderWay.{left_after};
 
 use crate::session::Session;
 use mmc_bus::{Bus, Cause, MAX_POLLS, confirm, poll};
@@ -62,7 +62,7 @@ impl Ending {
         ensures ends { Ends 1 (B.view bus.old) result (B.view bus.new) }
         ensures kept { (B.view bus.new).is_kept ≡ true → (B.view bus.old).is_kept ≡ true }
         ensures fits { IfOk result (λ next. IfSome next (λ ending. IsTrue (ending_fits ending))) }
-        ensures lowers { IfOk result (λ next. left_then ending_left next < ending_left self) }
+        ensures lowers { IfOk result (λ next. left_after ending_left next < ending_left self) }
         ensures did { (B.view bus.new).is_kept ≡ true → EndingDid session.now self (B.view bus.old) result (B.view bus.new) }
     {
         match self {

@@ -16,7 +16,7 @@ mod sizes;
 mod widening;
 
 pub use broken::Broken;
-pub use ending::{Ending, EXCHANGES_OF_AN_ENDING, one_more};
+pub use ending::{EXCHANGES_OF_AN_ENDING, Ending, one_more};
 pub use fault::SwitchFault;
 pub use info::Info;
 pub use initialization::{EXCHANGES_OF_AN_INITIALIZATION, InitializationFault, initialize};
