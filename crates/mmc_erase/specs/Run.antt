@@ -2,7 +2,8 @@
 use Rattle.std.specs.Prelude.{◌≡◌, Option, Result, ℕ}
 use Rattle.mmc_card.specs.BusView.{BusView}
 use Rattle.mmc_bus.specs.declared.cause.Cause.{Cause}
-use Rattle.mmc_switch.specs.UnderWay.{IsCarriedOut, Leaves, LowersBy, Makes, StaysFor, Turn}
+use Rattle.mmc_switch.specs.Turns.{Leaves, LowersBy, Makes, StaysFor}
+use Rattle.mmc_switch.specs.UnderWay.{IsCarriedOut, Turn}
 use Rattle.mmc_switch.specs.declared.progress.Progress.{Progress}
 use Rattle.mmc_erase.specs.Fits.{phase_left}
 use Rattle.mmc_erase.specs.Running.{IsIn, change_of}

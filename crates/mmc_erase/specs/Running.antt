@@ -6,7 +6,8 @@ use Rattle.mmc_card.specs.Sectors.{Change}
 use Rattle.mmc_bus.specs.declared.cause.Cause.{Cause}
 use Rattle.mmc_switch.specs.Address.{address_of}
 use Rattle.mmc_switch.specs.Ending.{IsEnding, ShownIn}
-use Rattle.mmc_switch.specs.UnderWay.{IsCarriedOut, IsIdle, IsUnderWay, LeftIn, Turn}
+use Rattle.mmc_switch.specs.Turns.{LeftIn}
+use Rattle.mmc_switch.specs.UnderWay.{IsCarriedOut, IsIdle, IsUnderWay, Turn}
 use Rattle.mmc_erase.specs.Job.{erased}
 use Rattle.mmc_erase.specs.declared.job.Job.{Job}
 use Rattle.mmc_erase.specs.declared.phase.Phase.{Phase}

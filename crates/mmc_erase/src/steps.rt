@@ -5,7 +5,7 @@
 // 3. Anything else ends it at once.
 ghost use Rattle.std.specs.Prelude.{◌≡◌, ◌<◌, IfOk, IfSome, IsTrue, true, ℕ};
 ghost use Rattle.mmc_bus.specs.Work.{Ends};
-ghost use Rattle.mmc_switch.specs.UnderWay.{left_after};
+ghost use Rattle.mmc_switch.specs.Turns.{left_after};
 ghost use Rattle.mmc_erase.specs.Fits.{phase_fits, phase_left};
 ghost use Rattle.mmc_erase.specs.Running.{IsIn, Turned};
 ghost use Rattle.mmc_erase.specs.declared.phase.Phase.TheVariants.{End, Erase, First, Last};

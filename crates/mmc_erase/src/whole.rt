@@ -14,7 +14,7 @@ use mmc_bus::{Bus, card_laws};
 use mmc_switch::{Broken, Progress, Session};
 
 /// Erases or trims so many sectors, 1 at least, from this one of the selected partition on, as `EraseRun::begin` has it. It
-/// makes at most 20 exchanges.
+/// makes at most `EXCHANGES_OF_AN_ERASE` exchanges.
 ///
 /// # Errors
 /// What is left, with the cause of the last exchange. Each sector that is named is as before or erased then, and no other

@@ -23,7 +23,8 @@ use Rattle.mmc_switch.proofs.UnderWayLemmas.{knows_then, no_error, part_in, quie
 use Rattle.mmc_switch.proofs.UnderWayLemmas.{stands_then}
 use Rattle.mmc_switch.specs.Ending.{Confirms, EndingDid, IsEnding, Polls, ShownIn}
 use Rattle.mmc_switch.specs.Place.{IsReady}
-use Rattle.mmc_switch.specs.UnderWay.{IsBusyAfter, IsCarriedOut, IsIdle, IsProgramming, IsUnderWay, LeftIn, Turn, part_of}
+use Rattle.mmc_switch.specs.Turns.{LeftIn}
+use Rattle.mmc_switch.specs.UnderWay.{IsBusyAfter, IsCarriedOut, IsIdle, IsProgramming, IsUnderWay, Turn, part_of}
 use Rattle.mmc_switch.specs.declared.ending.Ending.{Ending}
 use Rattle.mmc_switch.specs.declared.ending.Ending.TheVariants.{Confirm, Wait}
 use Rattle.mmc_switch.specs.declared.session.Session.{Session}

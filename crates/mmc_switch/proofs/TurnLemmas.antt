@@ -9,7 +9,8 @@ use Rattle.mmc_card.specs.Sectors.{Change, Within, maybe_changed}
 use Rattle.mmc_bus.specs.Work.{Narrows, Worked}
 use Rattle.mmc_bus.specs.declared.cause.Cause.{Cause}
 use Rattle.mmc_switch.proofs.UnderWayLemmas.{goes_on, has_failed}
-use Rattle.mmc_switch.specs.UnderWay.{IsUnderWay, Leaves, LeftIn, Makes, Turn, broken_off}
+use Rattle.mmc_switch.specs.Turns.{Leaves, LeftIn, Makes}
+use Rattle.mmc_switch.specs.UnderWay.{IsUnderWay, Turn, broken_off}
 use Rattle.mmc_switch.specs.declared.progress.Progress.{Progress}
 use Rattle.mmc_switch.specs.declared.progress.Progress.TheVariants.{Done, Failed, More}
 use Rattle.mmc_switch.specs.declared.session.Session.{Session}

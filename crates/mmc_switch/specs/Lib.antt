@@ -4,4 +4,5 @@ pub mod Info
 pub mod Place
 pub mod Sizes
 pub mod Stages
+pub mod Turns
 pub mod UnderWay

@@ -8,7 +8,7 @@ ghost use Rattle.mmc_bus.specs.Work.{Ends};
 ghost use Rattle.mmc_bus.specs.declared.cause.Cause.TheVariants.{Busy};
 ghost use Rattle.mmc_bus.specs.declared.wait.TheConstants.{MAX_POLLS};
 ghost use Rattle.mmc_switch.specs.Ending.{EndingDid, ending_fits, ending_left};
-ghost use Rattle.mmc_switch.specs.UnderWay.{left_after};
+ghost use Rattle.mmc_switch.specs.Turns.{left_after};
 
 use crate::session::Session;
 use mmc_bus::{Bus, Cause, MAX_POLLS, confirm, poll};

@@ -26,8 +26,7 @@ pub enum InitializationFault {
 /// The most exchanges of an initialization.
 pub const EXCHANGES_OF_AN_INITIALIZATION: u64 = 98;
 
-/// Initializes the card, whatever became of it before: it is ready then, with the user partition selected. It makes at
-/// most 98 exchanges.
+/// Initializes the card, whatever became of it before: it is ready then, with the user partition selected.
 ///
 /// # Errors
 /// What the fault says; of a card in profile only where a fault fell.

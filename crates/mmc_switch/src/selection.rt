@@ -27,8 +27,8 @@ fn access_argument(partition_config: u8, part: Part) -> u32
     write_byte(179, partition_config / 8 * 8 + part.access_number())
 }
 
-/// Selects a partition that exists: it is selected then, and the card is ready. It makes at most 18 exchanges, none where
-/// that partition is selected already.
+/// Selects a partition that exists: it is selected then, and the card is ready. It makes at most the exchanges of a switch,
+/// none where that partition is selected already.
 ///
 /// # Errors
 /// What is left, with the cause of the last exchange; which partition is selected isn't known then. No sector has

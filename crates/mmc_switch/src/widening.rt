@@ -58,8 +58,8 @@ fn widen_by_kind<B: Bus>(bus: &mut B, found: &Found) -> Result<Session, SwitchFa
     }
 }
 
-/// Widens a card that was identified: it is ready then, with the user partition selected. It makes at most 57 exchanges,
-/// and at most 11 with an SD card.
+/// Widens a card that was identified: it is ready then, with the user partition selected. It makes at most three
+/// switches and three more exchanges, and at most 11 exchanges with an SD card.
 ///
 /// # Errors
 /// What the fault says; of a card in profile only where a fault fell.

@@ -3,7 +3,6 @@ use Rattle.std.proofs.Common.{◌&&◌, ◌||◌, ◌-◌, ◌<◌, ◌∙◌, �
 use Rattle.std.proofs.Common.{length, refl, subst, sym, true, ℕ}
 use Rattle.std.specs.Prelude.{◌==◌, IsErr, None, Ok, Option, Result, Some, if◌then◌else◌, nat_le}
 use Rattle.std.proofs.lemmas.Bool.Decides.{nat_tests}
-use Rattle.mmc_frame.specs.declared.card_state.State.TheVariants.{Rcv}
 use Rattle.mmc_frame.specs.declared.kind.Kind.{Kind}
 use Rattle.mmc_card.specs.BusView.{BusView}
 use Rattle.mmc_card.specs.Card.{NoAddress, is_selected, stored}

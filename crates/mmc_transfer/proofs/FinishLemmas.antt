@@ -1,5 +1,5 @@
 -- What ends a run: polls behind what ended the transfer, and CMD13.
-use Rattle.std.proofs.Common.{◌+◌, ◌≡◌, List, [], ap, arith, false, length, refl, subst, sym, true, ℕ}
+use Rattle.std.proofs.Common.{◌+◌, ◌≡◌, List, [], arith, length, refl, subst, sym, ℕ}
 use Rattle.std.specs.Prelude.{Err, IsErr, IsSomeAnd, MatchOption, None, Ok, Option, Result, Some, slice_index_or}
 use Rattle.mmc_frame.specs.declared.card_state.State.TheVariants.{Tran}
 use Rattle.mmc_card.proofs.SectorLemmas.{at_in, cond_in_old}

@@ -22,7 +22,8 @@ use Rattle.mmc_bus.specs.Work.{Narrows, Worked}
 use Rattle.mmc_switch.proofs.UnderWayLemmas.{goes_there, has_failed, knows_then, lines_in, part_in, quiet_by, ready_again}
 use Rattle.mmc_switch.proofs.UnderWayLemmas.{room_is, stands_then}
 use Rattle.mmc_switch.specs.Place.{IsReady}
-use Rattle.mmc_switch.specs.UnderWay.{IsQuiet, LeftIn, faults_then, part_of, room_of}
+use Rattle.mmc_switch.specs.Turns.{LeftIn}
+use Rattle.mmc_switch.specs.UnderWay.{IsQuiet, faults_then, part_of, room_of}
 use Rattle.mmc_transfer.proofs.GiveLemmas.{below, last_is, left_then}
 use Rattle.mmc_transfer.specs.declared.job.Job.{Job}
 use Rattle.mmc_transfer.specs.declared.phase.Phase.{Phase}

@@ -3,7 +3,8 @@ use Rattle.std.specs.Prelude.{◌≡◌, List, Option, Result, ℕ}
 use Rattle.mmc_card.specs.BusView.{BusView}
 use Rattle.mmc_card.specs.Sectors.{Sector}
 use Rattle.mmc_bus.specs.declared.cause.Cause.{Cause}
-use Rattle.mmc_switch.specs.UnderWay.{Leaves, LowersBy, Makes, StaysFor, Turn}
+use Rattle.mmc_switch.specs.Turns.{Leaves, LowersBy, Makes, StaysFor}
+use Rattle.mmc_switch.specs.UnderWay.{Turn}
 use Rattle.mmc_switch.specs.declared.progress.Progress.{Progress}
 use Rattle.mmc_transfer.specs.Fits.{phase_left}
 use Rattle.mmc_transfer.specs.Running.{HasEffect, IsIn, change_of}

@@ -8,7 +8,8 @@ use Rattle.mmc_card.specs.ErrorBits.{out_of_range}
 use Rattle.mmc_card.specs.Sectors.{AreRead, Change, Sector}
 use Rattle.mmc_bus.specs.declared.cause.Cause.{Cause}
 use Rattle.mmc_switch.specs.Ending.{IsEnding, ShownIn}
-use Rattle.mmc_switch.specs.UnderWay.{IsBusyAfter, IsCarriedOut, IsIdle, IsQuiet, IsUnderWay, LeftIn, Turn, part_of, room_of}
+use Rattle.mmc_switch.specs.Turns.{LeftIn}
+use Rattle.mmc_switch.specs.UnderWay.{IsBusyAfter, IsCarriedOut, IsIdle, IsQuiet, IsUnderWay, Turn, part_of, room_of}
 use Rattle.mmc_switch.specs.declared.session.Session.{Session}
 use Rattle.mmc_transfer.specs.Address.{is_counted_by}
 use Rattle.mmc_transfer.specs.declared.job.Job.{Job}

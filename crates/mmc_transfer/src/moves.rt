@@ -3,7 +3,7 @@ ghost use Rattle.std.specs.Prelude.{◌≡◌, ◌+◌, ◌<◌, ◌≤◌, IfOk
 ghost use Rattle.mmc_bus.specs.Lending.{IsRewritten};
 ghost use Rattle.mmc_bus.specs.Work.{Ends};
 ghost use Rattle.mmc_card.specs.Sectors.{Sector};
-ghost use Rattle.mmc_switch.specs.UnderWay.{left_after};
+ghost use Rattle.mmc_switch.specs.Turns.{left_after};
 ghost use Rattle.mmc_transfer.specs.Fits.{phase_fits, phase_left};
 ghost use Rattle.mmc_transfer.specs.Moves.{after_read, after_written};
 ghost use Rattle.mmc_transfer.specs.Running.{IsIn, Turned};

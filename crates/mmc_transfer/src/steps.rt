@@ -8,7 +8,7 @@
 ghost use Rattle.std.specs.Prelude.{◌≡◌, ◌<◌, IfOk, IfSome, IsTrue, List, length, true, ℕ};
 ghost use Rattle.mmc_bus.specs.Work.{Ends};
 ghost use Rattle.mmc_card.specs.Sectors.{Sector};
-ghost use Rattle.mmc_switch.specs.UnderWay.{left_after};
+ghost use Rattle.mmc_switch.specs.Turns.{left_after};
 ghost use Rattle.mmc_transfer.specs.Fits.{phase_fits, phase_left, step_fits};
 ghost use Rattle.mmc_transfer.specs.Running.{IsIn, Turned};
 ghost use Rattle.mmc_transfer.specs.declared.phase.Phase.TheVariants.{Other};
