@@ -1,9 +1,8 @@
 -- The exchanges of a run, each from what its command did.
 use Rattle.std.proofs.Common.{◌+◌, ◌-◌, ◌<◌, ◌∙◌, ◌≡◌, ◌≤◌, ◌||◌, Bool, ap, arith, false, length, refl, subst, sym, true, ℕ}
-use Rattle.std.specs.Prelude.{Err, IsErr, None, Ok, Option, Result, Some, nat_le, nat_lt}
+use Rattle.std.specs.Prelude.{Err, IsErr, IsSomeAnd, MatchOption, None, Ok, Option, Result, Some, nat_le, nat_lt}
 use Rattle.std.proofs.lemmas.Bool.Decides.{nat_tests}
 use Rattle.mmc_frame.specs.declared.kind.Kind.{Kind}
-use Rattle.mmc_card.proofs.SectorLemmas.{old_maybe}
 use Rattle.mmc_card.specs.BusView.{BusView}
 use Rattle.mmc_card.specs.Card.{Both, Card, First as FirstHeld, Held, NoAddress, holds, is_selected, stored}
 use Rattle.mmc_card.specs.CardAnswer.{shown}
@@ -15,44 +14,35 @@ use Rattle.mmc_card.specs.Sectors.{Within, maybe_changed}
 use Rattle.mmc_bus.specs.Work.{Narrows, Worked}
 use Rattle.mmc_bus.specs.declared.cause.Cause.{Cause}
 use Rattle.mmc_switch.proofs.AddressLemmas.{sector_named}
-use Rattle.mmc_switch.proofs.EndingLemmas.{CanEnd, Confirms, Polls, ProgramLaw, busy_still, carried_out, confirm_ends}
-use Rattle.mmc_switch.proofs.EndingLemmas.{confirm_fails, idle_programmed, idle_shown, wait_ends, wait_fails, wait_more}
-use Rattle.mmc_switch.proofs.UnderWayLemmas.{goes_there, has_failed, part_in, quiet_by, room_is}
-use Rattle.mmc_switch.specs.UnderWay.{part_of, room_of}
+use Rattle.mmc_switch.proofs.EndingLemmas.{EndingTurned, ProgramLaw, change_ends, ending_turned, for_any_cause, idle_shown}
+use Rattle.mmc_switch.proofs.TurnLemmas.{turn_fails, turn_goes_there}
+use Rattle.mmc_switch.proofs.UnderWayLemmas.{goes_there as goes_there_by, has_failed, part_in, quiet_by, room_is}
+use Rattle.mmc_switch.specs.Ending.{EndingDid, IsEnding}
+use Rattle.mmc_switch.specs.UnderWay.{IsCarriedOut, part_of, room_of}
+use Rattle.mmc_switch.specs.declared.ending.Ending.{Ending}
+use Rattle.mmc_switch.specs.declared.ending.Ending.TheVariants.{Wait}
 use Rattle.mmc_erase.proofs.ErasingLemmas.{erasing_is}
 use Rattle.mmc_erase.specs.Commands.{CanErase, CanHold, argument_of}
 use Rattle.mmc_erase.specs.Running.{Exact, IsHolding, IsIn, Shown, Turned, change_of, first_of, last_of}
 use Rattle.mmc_erase.specs.declared.job.Job.{Job}
 use Rattle.mmc_erase.specs.declared.phase.Phase.{Phase}
-use Rattle.mmc_erase.specs.declared.phase.Phase.TheVariants.{Confirm, Erase, First, Last, Wait}
+use Rattle.mmc_erase.specs.declared.phase.Phase.TheVariants.{End, Erase, First, Last}
 
 -- A turn, from what its exchange did.
 module _ {Own Fine : BusView → BusView → Type 0} (job : Job) (phase : Phase) (faults : ℕ) (a b : BusView)
     (at : IsIn job phase faults a) (work : Worked Narrows Own Fine a b) where
-  no_more : Within (holds b.card) (maybe_changed (change_of job) (holds a.card))
-  no_more part sector value h =
-      old_maybe (change_of job) (holds a.card) part sector value (work.sectors part sector value h)
-
-  -- it fails, which it can't without a fault
-  turn_fails : (result : Result (Option Phase) Cause) → IsErr result → (Exact job phase a.card → NoFault a b → ⊥)
+  fails : (result : Result (Option Phase) Cause) → IsErr result → (Exact job phase a.card → NoFault a b → ⊥)
       → Turned job faults a result b
-  turn_fails (Ok next) not calm = cc
-  turn_fails (Err cause) not calm = record {
-    stays = work.stays;
-    within = no_more;
-    left = has_failed job.session (Shown phase) (Exact job phase) faults a b at work
-        (record { session = job.session; cause = cause; must_reset = false }) refl calm;
-  }
+  fails (Ok next) not calm = cc
+  fails (Err cause) not calm =
+      turn_fails job.session (change_of job) Shown (Exact job) (IsCarriedOut (change_of job)) phase faults a b at work cause
+      calm
 
-  -- the exchange itself has shown where the card is
-  turn_goes_there : (next : Phase) → Shown phase a.card → (Exact job phase a.card → Exact job next b.card)
+  goes_there : (next : Phase) → Shown phase a.card → (Exact job phase a.card → Exact job next b.card)
       → Turned job faults a (Ok (Some next)) b
-  turn_goes_there next shown comes = record {
-    stays = work.stays;
-    within = no_more;
-    left = goes_there job.session (Shown phase) (Exact job phase) faults a b at work (Shown next) (Exact job next) shown
-        comes;
-  }
+  goes_there next shown comes =
+      turn_goes_there job.session (change_of job) Shown (Exact job) (IsCarriedOut (change_of job)) phase faults a b at work
+      next shown comes
 
 -- A card that holds what it is to hold.
 
@@ -93,12 +83,12 @@ module _ (job : Job) (faults : ℕ) (kind : Kind) (address : ℕ) (a b : BusView
   pub first_fails : (result : Result (Option Phase) Cause) → IsErr result → HoldsFirst kind address false a b
       → Turned job faults a result b
   first_fails result err work =
-      turn_fails job First faults a b at work result err
+      fails job First faults a b at work result err
       (λ exact same. cc (work.fine same (can_hold job kind NoAddress a.card named at.knows.info.kind exact)))
 
   pub first_goes_on : HoldsFirst kind address true a b → Turned job faults a (Ok (Some Last)) b
   first_goes_on work =
-      turn_goes_there job First faults a b at work Last tt
+      goes_there job First faults a b at work Last tt
       (λ exact.
       let is = work.own refl (sym (named ∙ at.knows.info.kind)) exact.erase in
       subst (IsHolding (FirstHeld (first_of job))) (sym (is ∙ ap (λ n. record (shown a.card) { erase = FirstHeld n }) addressed))
@@ -109,13 +99,13 @@ module _ (job : Job) (faults : ℕ) (kind : Kind) (address : ℕ) (a b : BusView
   pub last_fails : (result : Result (Option Phase) Cause) → IsErr result → HoldsLast kind address false a b
       → Turned job faults a result b
   last_fails result err work =
-      turn_fails job Last faults a b at work result err
+      fails job Last faults a b at work result err
       (λ exact same. cc (work.fine same (first_of job)
       (can_hold job kind (FirstHeld (first_of job)) a.card named at.knows.info.kind exact)))
 
   pub last_goes_on : HoldsLast kind address true a b → Turned job faults a (Ok (Some Erase)) b
   last_goes_on work =
-      turn_goes_there job Last faults a b at work Erase tt
+      goes_there job Last faults a b at work Erase tt
       (λ exact.
       let is = work.own (first_of job) refl (sym (named ∙ at.knows.info.kind)) exact.erase in
       subst (IsHolding (Both (first_of job) (last_of job)))
@@ -188,7 +178,7 @@ module _ (job : Job) (faults : ℕ) (kind : Kind) (argument : ℕ) (a b : BusVie
         })));
   }
 
-  programs : Exact job Erase a.card → Exact job (Wait 0) (erases (change_of job) a.card)
+  programs : Exact job Erase a.card → Exact job (End (Wait 0)) (erases (change_of job) a.card)
   programs held = (
     record {
       quiet = quiet_by refl refl refl refl refl refl refl;
@@ -198,80 +188,39 @@ module _ (job : Job) (faults : ℕ) (kind : Kind) (argument : ℕ) (a b : BusVie
     record { busy = refl; polled = λ few. refl },
   )
 
-  pub erase_goes_on : Erases kind argument true a b → Turned job faults a (Ok (Some (Wait 0))) b
+  pub erase_goes_on : Erases kind argument true a b → Turned job faults a (Ok (Some (End (Wait 0)))) b
   erase_goes_on work = record {
     stays = work.stays;
     within = erased_within work.sectors;
-    left = goes_there job.session (Shown Erase) (Exact job Erase) faults a b at work (Shown (Wait 0)) (Exact job (Wait 0)) tt
-        (λ held. subst (Exact job (Wait 0))
+    left = goes_there_by job.session (Shown Erase) (Exact job Erase) faults a b at work (Shown (End (Wait 0))) (Exact job (End (Wait 0))) tt
+        (λ held. subst (Exact job (End (Wait 0)))
         (sym (work.own (first_of job) (last_of job) refl held.erase is_range ∙ ap (λ change. erases change a.card) change_is))
         (programs held));
   }
 
 -- What ends the run.
 
-can_end : (job : Job) → CanEnd job.session (λ polls card. Exact job (Wait polls) card) (λ card. Exact job Confirm card)
-can_end job = record {
-  busy = λ polls card exact yes. exact.1;
-  yes = λ polls card exact yes. (
-    record {
-      quiet = quiet_by exact.0.quiet.state exact.0.quiet.app exact.0.quiet.command_errors exact.0.quiet.errors exact.0.quiet.switch_error exact.0.quiet.count exact.0.quiet.erase;
-      start = exact.0.start;
-      values = exact.0.values;
-    },
-    busy_still polls card exact.1,
-  );
-  no = λ law polls card exact fits part. (
-    idle_programmed _ _ card exact.0,
-    carried_out (change_of job) card law fits (part (ap is_selected exact.0.quiet.state)) exact.0,
-  );
-  idle = λ card exact. exact.0;
-  shows = λ card exact. (idle_shown card exact.0, exact.1);
-}
+module _ (job : Job) (faults : ℕ) (ending : Ending) (a b : BusView) (programs : ProgramLaw)
+    (at : IsIn job (End ending) faults a) where
+  ended : (result : Result (Option Ending) Cause) → EndingDid job.session ending a result b
+      → EndingTurned job.session (change_of job) (IsEnding (change_of job)) faults a result b
+  ended result did =
+      ending_turned job.session (change_of job) (IsEnding (change_of job)) (change_ends job.session (change_of job) refl)
+      job.selected faults a b programs ending at result did
 
-module _ (job : Job) (faults polls : ℕ) (a b : BusView) (at : IsIn job (Wait polls) faults a) where
-  pub waits_too_long : (cause : Cause) → polls + 1 ≡ 16 → Polls true a b → Turned job faults a (Err cause) b
-  waits_too_long cause last work = record {
-    stays = work.stays;
-    within = no_more job (Wait polls) faults a b at work;
-    left = wait_fails job.session _ _ (can_end job) job.selected faults polls a b at
-        (record { session = job.session; cause = cause; must_reset = false }) refl last work;
-  }
+  pub end_fails : (cause : Cause) (result : Result (Option Phase) Cause) → IsErr result
+      → EndingDid job.session ending a (Err cause) b → Turned job faults a result b
+  end_fails cause (Ok next) not did = cc
+  end_fails cause (Err other) not did = ended (Err other) (for_any_cause job.session ending a b cause other did)
 
-  pub waits_on : Polls true a b → Turned job faults a (Ok (Some (Wait (polls + 1)))) b
-  waits_on work = record {
-    stays = work.stays;
-    within = no_more job (Wait polls) faults a b at work;
-    left = wait_more job.session _ _ (can_end job) job.selected faults polls a b at work;
-  }
-
-  pub waits_no_more : ProgramLaw → Polls false a b → Turned job faults a (Ok (Some Confirm)) b
-  waits_no_more law work = record {
-    stays = work.stays;
-    within = no_more job (Wait polls) faults a b at work;
-    left = wait_ends job.session _ _ (can_end job) job.selected faults polls a b at law work;
-  }
-
-module _ (job : Job) (faults : ℕ) (kind : Kind) (rca : ℕ) (a b : BusView) (named : rca ≡ job.session.info.rca)
-    (at : IsIn job Confirm faults a) where
-  pub close_fails : (result : Result (Option Phase) Cause) → IsErr result → Confirms kind rca false a b
-      → Turned job faults a result b
-  close_fails (Ok next) not work = cc
-  close_fails (Err cause) not work = record {
-    stays = work.stays;
-    within = no_more job Confirm faults a b at work;
-    left = confirm_fails job.session _ _ (can_end job) job.selected faults kind rca named a b at
-        (record { session = job.session; cause = cause; must_reset = false }) refl work;
-  }
-
-  pub close_ends : Confirms kind rca true a b → Turned job faults a (Ok None) b
-  close_ends work =
-      let ends = confirm_ends job.session _ _ (can_end job) job.selected faults kind rca named a b at work in
-      record {
-        stays = work.stays;
-        within = no_more job Confirm faults a b at work;
-        left = (ends.0, ends.1.1);
-      }
+  pub end_goes_on : (next : Option Ending) (phase : Option Phase)
+      → MatchOption next (phase ≡ None) (λ ending. IsSomeAnd phase (λ known. known ≡ End ending))
+      → EndingDid job.session ending a (Ok next) b → Turned job faults a (Ok phase) b
+  end_goes_on (Some next) (Some phase) is did = rw is (ended (Ok (Some next)) did)
+  end_goes_on (Some next) None is did = absurd is
+  end_goes_on None phase is did =
+      let t = ended (Ok None) did in
+      rw is record { stays = t.stays; within = t.within; left = (t.left.0, t.left.1.1) }
 
 -- the phase by its name
 pub in_phase : (job : Job) (faults : ℕ) (view : BusView) {phase other : Phase} → phase ≡ other

@@ -1,17 +1,17 @@
 -- A turn of a run, from its exchange.
 use Rattle.std.proofs.Common.{refl, ℕ}
-use Rattle.std.specs.Prelude.{Err, None, Ok, Option, Result, Some}
+use Rattle.std.specs.Prelude.{Option, Result}
 use Rattle.mmc_card.specs.BusView.{BusView}
 use Rattle.mmc_card.specs.Card.{Card, NoAddress}
 use Rattle.mmc_bus.specs.declared.cause.Cause.{Cause}
+use Rattle.mmc_switch.proofs.TurnLemmas.{turn_leaves}
 use Rattle.mmc_switch.proofs.UnderWayLemmas.{begins, quiet_by}
 use Rattle.mmc_switch.specs.Place.{IsReady}
-use Rattle.mmc_switch.specs.UnderWay.{IsUnderWay}
+use Rattle.mmc_switch.specs.UnderWay.{IsCarriedOut, IsUnderWay}
 use Rattle.mmc_switch.specs.declared.session.Session.{Session}
 use Rattle.mmc_switch.specs.declared.progress.Progress.{Progress}
-use Rattle.mmc_switch.specs.declared.progress.Progress.TheVariants.{Done, Failed, More}
-use Rattle.mmc_erase.specs.Run.{HasProgressed, HasTurned}
-use Rattle.mmc_erase.specs.Running.{IsHolding, Turned}
+use Rattle.mmc_erase.specs.Run.{HasProgressed, HasTurned, IsRunning}
+use Rattle.mmc_erase.specs.Running.{IsHolding, IsIn, Turned, change_of}
 use Rattle.mmc_erase.specs.declared.phase.Phase.{Phase}
 use Rattle.mmc_erase.specs.declared.run.EraseRun.{EraseRun}
 
@@ -19,18 +19,9 @@ use Rattle.mmc_erase.specs.declared.run.EraseRun.{EraseRun}
 pub has_turned : (run : EraseRun) (faults : ℕ) (old : BusView) (outcome : Result (Option Phase) Cause)
     (result : Progress EraseRun) (new : BusView) → HasProgressed run.job outcome result
     → Turned run.job faults old outcome new → HasTurned run faults old result new
-has_turned run faults old (Ok (Some phase)) (More next) new is t =
-    record { stays = t.stays; within = t.within; left = rw (is.0, is.1) t.left }
-has_turned run faults old (Ok (Some phase)) (Done session) new is t = absurd is
-has_turned run faults old (Ok (Some phase)) (Failed broken) new is t = absurd is
-has_turned run faults old (Ok None) (More next) new is t = absurd is
-has_turned run faults old (Ok None) (Done session) new is t =
-    record { stays = t.stays; within = t.within; left = rw is t.left }
-has_turned run faults old (Ok None) (Failed broken) new is t = absurd is
-has_turned run faults old (Err cause) (More next) new is t = absurd is
-has_turned run faults old (Err cause) (Done session) new is t = absurd is
-has_turned run faults old (Err cause) (Failed broken) new is t =
-    record { stays = t.stays; within = t.within; left = rw is t.left }
+has_turned run faults old outcome result new makes t =
+    turn_leaves run.job.session (change_of run.job) (IsIn run.job) IsRunning (IsCarriedOut (change_of run.job)) _
+    (λ phase next faults view is at. rw (is.0, is.1) at) outcome result makes faults old new t
 
 -- A run begins with a card that is ready.
 pub begins_run : (session : Session) (view : BusView) → IsReady session view

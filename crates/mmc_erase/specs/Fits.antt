@@ -1,26 +1,17 @@
 -- How a run goes over any bus: which phases there are, and how many exchanges are left.
-use Rattle.std.specs.Prelude.{◌-◌, Bool, None, Option, Some, nat_lt, true, ℕ}
+use Rattle.std.specs.Prelude.{◌+◌, Bool, true, ℕ}
+use Rattle.mmc_switch.specs.Ending.{ending_fits, ending_left}
+use Rattle.mmc_switch.specs.declared.ending.TheConstants.{EXCHANGES_OF_AN_ENDING}
 use Rattle.mmc_erase.specs.declared.phase.Phase.{Phase}
-use Rattle.mmc_erase.specs.declared.phase.Phase.TheVariants.{Confirm, Erase, First, Last, Wait}
+use Rattle.mmc_erase.specs.declared.phase.Phase.TheVariants.{End, Erase, First, Last}
 
--- a card is polled sixteen times
 abbrev pub phase_fits : Phase → Bool
-phase_fits (Wait polls) = nat_lt polls 16
+phase_fits (End ending) = ending_fits ending
 phase_fits _ = true
 
 -- the exchanges that are left at most
 abbrev pub phase_left : Phase → ℕ
-phase_left First = 20
-phase_left Last = 19
-phase_left Erase = 18
-phase_left (Wait polls) = 17 - polls
-phase_left Confirm = 1
-
--- once the run is over there is no phase
-abbrev pub some_fits : Option Phase → Bool
-some_fits (Some phase) = phase_fits phase
-some_fits None = true
-
-abbrev pub some_left : Option Phase → ℕ
-some_left (Some phase) = phase_left phase
-some_left None = 0
+phase_left First = EXCHANGES_OF_AN_ENDING + 3
+phase_left Last = EXCHANGES_OF_AN_ENDING + 2
+phase_left Erase = EXCHANGES_OF_AN_ENDING + 1
+phase_left (End ending) = ending_left ending

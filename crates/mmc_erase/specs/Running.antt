@@ -1,17 +1,17 @@
 -- Where the card is in each phase of a run, over a bus that is kept.
-use Rattle.std.specs.Prelude.{◌+◌, ◌-◌, Err, None, Ok, Option, Result, Some, ℕ, ◌≡◌}
+use Rattle.std.specs.Prelude.{◌+◌, ◌-◌, ◌≡◌, Option, Result, ℕ}
 use Rattle.mmc_card.specs.BusView.{BusView}
 use Rattle.mmc_card.specs.Card.{Both, Card, First as FirstHeld, Held, NoAddress}
 use Rattle.mmc_card.specs.Sectors.{Change}
 use Rattle.mmc_bus.specs.declared.cause.Cause.{Cause}
 use Rattle.mmc_switch.specs.Address.{address_of}
-use Rattle.mmc_switch.specs.Place.{IsReady}
-use Rattle.mmc_switch.specs.UnderWay.{HasFailed, IsBusyAfter, IsCarriedOut, IsIdle, IsProgramming, IsSound, IsUnderWay}
-use Rattle.mmc_switch.specs.UnderWay.{Turn, broken_off}
+use Rattle.mmc_switch.specs.Ending.{IsEnding, ShownIn}
+use Rattle.mmc_switch.specs.Turns.{LeftIn}
+use Rattle.mmc_switch.specs.UnderWay.{IsCarriedOut, IsIdle, IsUnderWay, Turn}
 use Rattle.mmc_erase.specs.Job.{erased}
 use Rattle.mmc_erase.specs.declared.job.Job.{Job}
 use Rattle.mmc_erase.specs.declared.phase.Phase.{Phase}
-use Rattle.mmc_erase.specs.declared.phase.Phase.TheVariants.{Confirm, Erase, First, Last, Wait}
+use Rattle.mmc_erase.specs.declared.phase.Phase.TheVariants.{End, Erase, First, Last}
 
 abbrev pub change_of : Job → Change
 change_of job = erased job.session job.start job.count
@@ -33,26 +33,18 @@ abbrev pub Exact : Job → Phase → Card → Type 0
 Exact job First card = IsHolding NoAddress card
 Exact job Last card = IsHolding (FirstHeld (first_of job)) card
 Exact job Erase card = IsHolding (Both (first_of job) (last_of job)) card
-Exact job (Wait polls) card =
-    IsProgramming (change_of job).start (change_of job).values card × IsBusyAfter polls card
-Exact job Confirm card = IsIdle 0 card × IsCarriedOut (change_of job) card
+Exact job (End ending) card = IsEnding (change_of job) ending card
 
 -- By this a card shows that it is there, whatever fell.
 abbrev pub Shown : Phase → Card → Type 0
-Shown Confirm card = IsSound card
+Shown (End ending) card = ShownIn ending card
 Shown _ card = Unit {0}
 
 -- the run is in this phase after so many faults in its turns
 abbrev pub IsIn : Job → Phase → ℕ → BusView → Type 0
 IsIn job phase faults view = IsUnderWay job.session (Shown phase) (Exact job phase) faults view
 
--- What a turn leaves: the run goes on, or it is done, or it has failed.
-abbrev pub IsLeft : Job → Result (Option Phase) Cause → ℕ → BusView → Type 0
-IsLeft job (Ok (Some phase)) faults view = IsIn job phase faults view
-IsLeft job (Ok None) faults view = IsReady job.session view × IsCarriedOut (change_of job) view.card
-IsLeft job (Err cause) faults view = HasFailed (broken_off job.session cause) faults view
-
--- A turn of a run from this phase: each sector that it names holds no more than before or the erased byte, and no other
--- more than before.
+-- A turn of a run: each sector that it names holds no more than before or the erased byte, and no other more than before.
 abbrev pub Turned : Job → ℕ → BusView → Result (Option Phase) Cause → BusView → Type 0
-Turned job faults old result new = Turn (change_of job) (IsLeft job result) faults old new
+Turned job faults old result new =
+    Turn (change_of job) (LeftIn job.session (IsIn job) (IsCarriedOut (change_of job)) result) faults old new

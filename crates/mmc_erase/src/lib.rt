@@ -12,4 +12,5 @@ mod whole;
 
 pub use how::How;
 pub use run::EraseRun;
+pub use turns::EXCHANGES_OF_AN_ERASE;
 pub use whole::erase_run;

@@ -1,3 +1,5 @@
+use mmc_switch::Ending;
+
 /// The next exchange of a run.
 #[derive(Clone, Copy, Debug, PartialEq, Eq)]
 pub enum Phase {
@@ -7,8 +9,6 @@ pub enum Phase {
     Last,
     /// CMD38.
     Erase,
-    /// A poll, after so many.
-    Wait { polls: u64 },
-    /// CMD13.
-    Confirm,
+    /// What ends it.
+    End(Ending),
 }

@@ -1,19 +1,20 @@
 // The exchanges of a run, and what comes behind each.
 //
 // 1. CMD32 or CMD35 names the first sector, CMD33 or CMD36 the last one, and CMD38 erases or trims them.
-// 2. The card is polled until it isn't busy, at most sixteen times.
-// 3. At the end comes a CMD13 whose status has to be clean.
-// 4. Anything else ends the run at once.
-ghost use Rattle.std.specs.Prelude.{◌≡◌, ◌<◌, IfOk, IsTrue, true, ℕ};
+// 2. The run ends with polls and a clean status.
+// 3. Anything else ends it at once.
+ghost use Rattle.std.specs.Prelude.{◌≡◌, ◌<◌, IfOk, IfSome, IsTrue, true, ℕ};
 ghost use Rattle.mmc_bus.specs.Work.{Ends};
-ghost use Rattle.mmc_erase.specs.Fits.{phase_fits, phase_left, some_fits, some_left};
+ghost use Rattle.mmc_switch.specs.Turns.{left_after};
+ghost use Rattle.mmc_erase.specs.Fits.{phase_fits, phase_left};
 ghost use Rattle.mmc_erase.specs.Running.{IsIn, Turned};
-ghost use Rattle.mmc_erase.specs.declared.phase.Phase.TheVariants.{Confirm, Erase, First, Last, Wait};
+ghost use Rattle.mmc_erase.specs.declared.phase.Phase.TheVariants.{End, Erase, First, Last};
 
 use crate::commands::{erase, hold_first, hold_last};
 use crate::job::Job;
 use crate::phase::Phase;
-use mmc_bus::{Bus, Cause, MAX_POLLS, card_laws, confirm, poll};
+use mmc_bus::{Bus, Cause, card_laws};
+use mmc_switch::Ending;
 
 /// The exchange of this phase, and the phase behind it, or `None` where the run is done.
 ///
@@ -23,8 +24,8 @@ pub fn step<B: Bus>(bus: &mut B, job: &Job, phase: Phase) -> Result<Option<Phase
     requires fits { IsTrue (phase_fits phase) }
     ensures ends { Ends 1 (B.view bus.old) result (B.view bus.new) }
     ensures kept { (B.view bus.new).is_kept ≡ true → (B.view bus.old).is_kept ≡ true }
-    ensures fits { IfOk result (λ next. IsTrue (some_fits next)) }
-    ensures lowers { IfOk result (λ next. some_left next < phase_left phase) }
+    ensures fits { IfOk result (λ next. IfSome next (λ phase. IsTrue (phase_fits phase))) }
+    ensures lowers { IfOk result (λ next. left_after phase_left next < phase_left phase) }
     ensures turned { (B.view bus.new).is_kept ≡ true → (faults : ℕ) → IsIn job.now phase faults (B.view bus.old)
         → Turned job.now faults (B.view bus.old) result (B.view bus.new) }
 {
@@ -41,22 +42,8 @@ pub fn step<B: Bus>(bus: &mut B, job: &Job, phase: Phase) -> Result<Option<Phase
         }
         Phase::Erase => {
             erase(bus, kind, job.argument())?;
-            Ok(Some(Phase::Wait { polls: 0 }))
+            Ok(Some(Phase::End(Ending::Wait { polls: 0 })))
         }
-        Phase::Wait { polls } => {
-            if poll(bus) {
-                if polls + 1 == MAX_POLLS {
-                    Err(Cause::Busy)
-                } else {
-                    Ok(Some(Phase::Wait { polls: polls + 1 }))
-                }
-            } else {
-                Ok(Some(Phase::Confirm))
-            }
-        }
-        Phase::Confirm => {
-            confirm(bus, kind, job.session.rca())?;
-            Ok(None)
-        }
+        Phase::End(ending) => Ok(ending.step(bus, &job.session)?.map(Phase::End)),
     }
 }

@@ -1,10 +1,10 @@
 // Runs a turn at a time: each turn is one exchange.
-ghost use Rattle.std.specs.Prelude.{◌≡◌, ◌+◌, ◌<◌, ◌≤◌, IfOk, IsSome, IsTrue, false, true, ℕ};
+ghost use Rattle.std.specs.Prelude.{◌≡◌, ◌+◌, ◌<◌, ◌≤◌, IfOk, IfSome, IsSome, IsTrue, false, true, ℕ};
 ghost use Rattle.mmc_card.specs.BusView.{BusView};
 ghost use Rattle.mmc_card.specs.RowsErase.{is_boot};
 ghost use Rattle.mmc_switch.specs.Place.{IsReady};
 ghost use Rattle.mmc_switch.specs.UnderWay.{FailsBy, part_of, room_of};
-ghost use Rattle.mmc_erase.specs.Fits.{phase_fits, phase_left, some_fits};
+ghost use Rattle.mmc_erase.specs.Fits.{phase_fits, phase_left};
 ghost use Rattle.mmc_erase.specs.Job.{suits};
 ghost use Rattle.mmc_erase.specs.Run.{HasProgressed, HasTurned, IsRunning, IsSameRun, Lowers, exchanges_left};
 
@@ -13,8 +13,11 @@ use crate::job::Job;
 use crate::phase::Phase;
 use crate::run::EraseRun;
 use crate::steps::step;
-use mmc_bus::{Bus, Cause, MAX_POLLS};
-use mmc_switch::{Progress, Session};
+use mmc_bus::{Bus, Cause};
+use mmc_switch::{EXCHANGES_OF_AN_ENDING, Progress, Session};
+
+/// The most exchanges of a run: three commands, and those that end it.
+pub const EXCHANGES_OF_AN_ERASE: u64 = EXCHANGES_OF_AN_ENDING + 3;
 
 impl EraseRun {
     /// Begins to erase or trim so many sectors, 1 at least, from this one of the selected partition on, inside which they
@@ -31,7 +34,7 @@ impl EraseRun {
         ensures start { result.job.start ≡ start }
         ensures count { result.job.count ≡ count }
         ensures how { result.job.how ≡ how }
-        ensures bounded { exchanges_left result ≤ 20 }
+        ensures bounded { exchanges_left result ≤ EXCHANGES_OF_AN_ERASE }
         ensures running { (view : BusView) → IsReady session view → IsRunning result 0 view }
     {
         EraseRun {
@@ -49,7 +52,7 @@ impl EraseRun {
     pub fn exchanges_left(&self) -> u64
         ensures left { result ≡ exchanges_left self.now }
         ensures some { 0 < result }
-        ensures bounded { result ≤ 20 }
+        ensures bounded { result ≤ EXCHANGES_OF_AN_ERASE }
     {
         phase_left(self.phase)
     }
@@ -75,20 +78,19 @@ fn phase_left(phase: Phase) -> u64
     requires fits { IsTrue (phase_fits phase) }
     ensures left { result ≡ phase_left phase }
     ensures some { 0 < result }
-    ensures bounded { result ≤ 20 }
+    ensures bounded { result ≤ EXCHANGES_OF_AN_ERASE }
 {
     match phase {
-        Phase::First => 20,
-        Phase::Last => 19,
-        Phase::Erase => 18,
-        Phase::Wait { polls } => MAX_POLLS + 1 - polls,
-        Phase::Confirm => 1,
+        Phase::First => EXCHANGES_OF_AN_ENDING + 3,
+        Phase::Last => EXCHANGES_OF_AN_ENDING + 2,
+        Phase::Erase => EXCHANGES_OF_AN_ENDING + 1,
+        Phase::End(ending) => ending.left(),
     }
 }
 
 // What an exchange makes of a run.
 fn progress(job: Job, outcome: Result<Option<Phase>, Cause>) -> Progress<EraseRun>
-    requires fits { IfOk outcome (λ next. IsTrue (some_fits next)) }
+    requires fits { IfOk outcome (λ next. IfSome next (λ phase. IsTrue (phase_fits phase))) }
     ensures { HasProgressed job outcome result }
 {
     match outcome {

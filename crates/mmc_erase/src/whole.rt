@@ -6,6 +6,7 @@ ghost use Rattle.mmc_switch.specs.Place.{IsReady};
 ghost use Rattle.mmc_switch.specs.UnderWay.{IsSameSession, part_of, room_of};
 ghost use Rattle.mmc_erase.specs.Job.{suits};
 ghost use Rattle.mmc_erase.specs.Whole.{HasErased};
+ghost use Rattle.mmc_erase.specs.declared.turns.TheConstants.{EXCHANGES_OF_AN_ERASE};
 
 use crate::how::How;
 use crate::run::EraseRun;
@@ -13,7 +14,7 @@ use mmc_bus::{Bus, card_laws};
 use mmc_switch::{Broken, Progress, Session};
 
 /// Erases or trims so many sectors, 1 at least, from this one of the selected partition on, as `EraseRun::begin` has it. It
-/// makes at most 20 exchanges.
+/// makes at most `EXCHANGES_OF_AN_ERASE` exchanges.
 ///
 /// # Errors
 /// What is left, with the cause of the last exchange. Each sector that is named is as before or erased then, and no other
@@ -31,7 +32,7 @@ pub fn erase_run<B: Bus>(
     requires erasable { is_boot (part_of session) ≡ false }
     requires suits { suits how session.info (room_of session) start count ≡ true }
     requires writable { session.info.read_only ≡ false }
-    ensures bounded { (B.view bus.new).exchanges ≤ (B.view bus.old).exchanges + 20 }
+    ensures bounded { (B.view bus.new).exchanges ≤ (B.view bus.old).exchanges + EXCHANGES_OF_AN_ERASE }
     ensures kept { (B.view bus.new).is_kept ≡ true → (B.view bus.old).is_kept ≡ true }
     ensures same { IsSameSession session result }
     ensures cause { IfErr result (λ broken. cause_of (B.view bus.new).last ≡ Some broken.cause) }

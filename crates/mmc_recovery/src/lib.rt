@@ -5,4 +5,4 @@ mod order;
 mod reopening;
 mod settling;
 
-pub use settling::settle;
+pub use settling::{EXCHANGES_OF_A_SETTLE, settle};

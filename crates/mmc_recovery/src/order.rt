@@ -7,7 +7,8 @@ ghost use Rattle.mmc_bus.specs.Work.{Anything, Moves, Narrows, Works};
 ghost use Rattle.mmc_recovery.specs.Settled.{Restores};
 
 use mmc_bus::{
-    Bus, Cause, ask, confirm, identify_laws, rca_argument, transfer_laws, wait_while_busy,
+    Bus, Cause, MAX_POLLS, ask, confirm, identify_laws, rca_argument, transfer_laws,
+    wait_while_busy,
 };
 use mmc_frame::commands::{SEND_STATUS, SET_BLOCKLEN, STOP_TRANSMISSION};
 use mmc_frame::{State, state};
@@ -39,7 +40,7 @@ fn stop<B: Bus>(bus: &mut B) -> Result<(), Cause>
 
 // Ends what the card is at, by the state that its status shows.
 fn end_work<B: Bus>(bus: &mut B, rca: u16) -> Result<(), Cause>
-    ensures bounded { (B.view bus.new).exchanges ≤ (B.view bus.old).exchanges + 18 }
+    ensures bounded { (B.view bus.new).exchanges ≤ (B.view bus.old).exchanges + (MAX_POLLS + 2) }
     ensures works { Works Narrows Anything Anything (B.view bus.old) (B.view bus.new) }
 {
     match state(show_status(bus, rca)?) {
@@ -81,12 +82,15 @@ fn put_in_order<B: Bus>(bus: &mut B, info: &Info) -> Result<(), Cause>
     confirm(bus, info.kind, info.rca)
 }
 
-/// Brings a card of which this is known back in order, without a reset. It makes at most 21 exchanges.
+/// The most exchanges of a restoration: CMD13, CMD12 and polls; CMD16, and CMD13 twice.
+pub const EXCHANGES_OF_A_RESTORATION: u64 = MAX_POLLS + 5;
+
+/// Brings a card of which this is known back in order, without a reset.
 ///
 /// # Errors
 /// Any cause means that only a reset may help.
 pub fn restore<B: Bus>(bus: &mut B, info: &Info) -> Result<(), Cause>
-    ensures bounded { (B.view bus.new).exchanges ≤ (B.view bus.old).exchanges + 21 }
+    ensures bounded { (B.view bus.new).exchanges ≤ (B.view bus.old).exchanges + EXCHANGES_OF_A_RESTORATION }
     ensures moves { Moves (Restores info.now result) Anything (B.view bus.old) (B.view bus.new) }
 {
     end_work(bus, info.rca)?;

@@ -4,17 +4,18 @@ ghost use Rattle.mmc_card.specs.Profile.{InProfile};
 ghost use Rattle.mmc_card.specs.declared.part.Part.TheVariants.{User};
 ghost use Rattle.mmc_bus.specs.Work.{Moves};
 ghost use Rattle.mmc_switch.specs.Place.{Knows};
+ghost use Rattle.mmc_switch.specs.declared.initialization.TheConstants.{EXCHANGES_OF_AN_INITIALIZATION};
 ghost use Rattle.mmc_recovery.specs.Settled.{Leaves, given_up};
 
 use mmc_bus::Bus;
 use mmc_switch::{Broken, Session, initialize};
 
-/// Resets the card, whatever became of it. It makes at most 98 exchanges.
+/// Resets the card, whatever became of it.
 ///
 /// # Errors
 /// What is left, where the card isn't initialized or is another one; of a card in profile only where a fault fell.
 pub fn reset<B: Bus>(bus: &mut B, broken: Broken) -> Result<Session, Broken>
-    ensures bounded { (B.view bus.new).exchanges ≤ (B.view bus.old).exchanges + 98 }
+    ensures bounded { (B.view bus.new).exchanges ≤ (B.view bus.old).exchanges + EXCHANGES_OF_AN_INITIALIZATION }
     ensures ok { IfOk result (λ session. (session.info ≡ broken.session.info) × (session.selected ≡ Some User)) }
     ensures err { IfErr result (λ left. left ≡ given_up broken) }
     ensures moves { Moves

@@ -16,19 +16,21 @@ ghost use Rattle.mmc_bus.specs.Work.{Narrows};
 ghost use Rattle.mmc_switch.specs.Place.{IsLoose};
 ghost use Rattle.mmc_recovery.specs.Settled.{Leaves, given_up};
 
-use crate::order::restore;
+use crate::order::{EXCHANGES_OF_A_RESTORATION, restore};
 use crate::reopening::reset;
 use mmc_bus::Bus;
-use mmc_switch::{Broken, Session};
+use mmc_switch::{Broken, EXCHANGES_OF_AN_INITIALIZATION, Session};
+
+/// The most exchanges of a settle: a restoration that fails, and a reset.
+pub const EXCHANGES_OF_A_SETTLE: u64 = EXCHANGES_OF_A_RESTORATION + EXCHANGES_OF_AN_INITIALIZATION;
 
 /// Brings the card back in order: it is ready then, as its session says, or after a reset with the user partition
-/// selected. It makes at most 119 exchanges. No sector may hold more after it; those of a write that was unfinished are
-/// each old or new.
+/// selected. No sector may hold more after it; those of a write that was unfinished are each old or new.
 ///
 /// # Errors
 /// What is left has to be reset, with the cause `Recovery`; of a card in profile only where a fault fell.
 pub fn settle<B: Bus>(bus: &mut B, broken: Broken) -> Result<Session, Broken>
-    ensures bounded { (B.view bus.new).exchanges ≤ (B.view bus.old).exchanges + 119 }
+    ensures bounded { (B.view bus.new).exchanges ≤ (B.view bus.old).exchanges + EXCHANGES_OF_A_SETTLE }
     ensures ok { IfOk result (λ session. (session.info ≡ broken.session.info)
         × ((session ≡ broken.session) ⊎ (session.selected ≡ Some User))) }
     ensures err { IfErr result (λ left. left ≡ given_up broken) }

@@ -1,10 +1,9 @@
--- What ends a write, an erase or a trim: polls until the card isn't busy, and then a clean status. Where the work is after so
--- many polls, `Waits`, and where it is behind the last one, `Rests`, are the work's own.
+-- What ends a write, an erase or a trim: polls until the card isn't busy, and then a clean status. Where the card is exactly,
+-- after so many polls and behind the last one, is the work's own.
 use Rattle.std.proofs.Common.{◌+◌, ◌<◌, ◌∙◌, ◌∷◌, ◌≡◌, Bool, List, [], ap, arith, cond, false, refl, subst, sym, true, ℕ}
-use Rattle.std.specs.Prelude.{IsSome, if◌then◌else◌, min}
+use Rattle.std.specs.Prelude.{Err, IsSome, None, Ok, Option, Result, Some, if◌then◌else◌, min}
 use Rattle.mmc_frame.specs.declared.card_state.State.{State}
 use Rattle.mmc_frame.specs.declared.card_state.State.TheVariants.{Prg}
-use Rattle.mmc_frame.specs.declared.kind.Kind.{Kind}
 use Rattle.mmc_card.specs.Blocks.{programmed, rested, waited}
 use Rattle.mmc_card.specs.BusView.{BusView}
 use Rattle.mmc_card.specs.Card.{Card, FitsPart, holds, is_in, is_selected, known, unfinished}
@@ -16,33 +15,27 @@ use Rattle.mmc_card.specs.Sectors.{Change, IsIn as IsOneOf, Same, Sector, Sets, 
 use Rattle.mmc_card.specs.declared.exchange.Exchange.TheVariants.{Busy}
 use Rattle.mmc_bus.specs.Exchanges.{Exchanged}
 use Rattle.mmc_bus.specs.Learned.{PollFacts}
-use Rattle.mmc_bus.specs.Work.{Anything, Narrows, Worked}
+use Rattle.mmc_bus.specs.declared.cause.Cause.{Cause}
+use Rattle.mmc_bus.specs.declared.wait.TheConstants.{MAX_POLLS}
 use Rattle.mmc_bus.proofs.WorkLemmas.{done_by}
-use Rattle.mmc_switch.proofs.UnderWayLemmas.{goes_on, goes_there, has_failed, knows_then, no_error, part_in, quiet_by, ready_again, set_in}
+use Rattle.mmc_switch.proofs.TurnLemmas.{no_more, turn_fails, turn_goes_on, turn_goes_there}
+use Rattle.mmc_switch.proofs.UnderWayLemmas.{knows_then, no_error, part_in, quiet_by, ready_again, set_in}
 use Rattle.mmc_switch.proofs.UnderWayLemmas.{stands_then}
+use Rattle.mmc_switch.specs.Ending.{Confirms, EndingDid, IsEnding, Polls, ShownIn}
 use Rattle.mmc_switch.specs.Place.{IsReady}
-use Rattle.mmc_switch.specs.UnderWay.{HasFailed, IsBusyAfter, IsCarriedOut, IsIdle, IsProgramming, IsSound, IsUnderWay}
-use Rattle.mmc_switch.specs.UnderWay.{faults_then, part_of}
-use Rattle.mmc_switch.specs.declared.broken.Broken.{Broken}
+use Rattle.mmc_switch.specs.Turns.{LeftIn}
+use Rattle.mmc_switch.specs.UnderWay.{IsBusyAfter, IsCarriedOut, IsIdle, IsProgramming, IsUnderWay, Turn, part_of}
+use Rattle.mmc_switch.specs.declared.ending.Ending.{Ending}
+use Rattle.mmc_switch.specs.declared.ending.Ending.TheVariants.{Confirm, Wait}
 use Rattle.mmc_switch.specs.declared.session.Session.{Session}
 
--- A poll, and a status, as work.
-
-abbrev pub Polls : Bool → BusView → BusView → Type 0
-Polls said = Worked Narrows (λ old new. PollFacts old said new) Anything
-
+-- a poll, as work
 pub polls_by : {said : Bool} (a b : BusView) → Exchanged a (Busy said) (PollFacts a said b) b → b.is_kept ≡ true
     → Polls said a b
 polls_by a b polled kept =
     let k = polled.kept kept in
     done_by a b k k.step.stays (record { lines = polled.lines; stands = k.step.stands }) k.step.narrows k.step
     (λ same. tt)
-
--- what asking for a clean status does
-abbrev pub Confirms : Kind → ℕ → Bool → BusView → BusView → Type 0
-Confirms kind rca ok =
-    Worked Narrows (λ old new. ok ≡ true → IsInOrder kind old.card × (new.card ≡ shown old.card))
-    (λ old new. IsInOrder kind old.card → old.card.app ≡ false → old.card.rca ≡ rca → ok ≡ true)
 
 -- what a card holds once programming has ended
 abbrev pub ProgramLaw : Type 0
@@ -59,7 +52,7 @@ pub busy_still : (polls : ℕ) (card : Card) → IsBusyAfter polls card → IsBu
 busy_still polls card b = record { busy = b.busy; polled = polled_more card.polled polls b.polled }
 
 -- without a fault it doesn't say so a sixteenth time
-pub not_so_often : (polls : ℕ) (a b : BusView) → polls + 1 ≡ 16 → PollFacts a true b → IsBusyAfter polls a.card
+pub not_so_often : (polls : ℕ) (a b : BusView) → polls + 1 ≡ MAX_POLLS → PollFacts a true b → IsBusyAfter polls a.card
     → NoFault a b → ⊥
 not_so_often polls a b last facts busy same =
     let few = facts.patient same refl in
@@ -107,73 +100,125 @@ idle_shown card idle = record {
   rests = idle.rests;
 }
 
--- what some work leads to by itself, whatever it is
-pub record CanEnd (session : Session) (Waits : ℕ → Card → Type 0) (Rests : Card → Type 0) : Type 0 where
-  pub busy : (polls : ℕ) (card : Card) → Waits polls card → card.is_busy ≡ true → IsBusyAfter polls card
-  pub yes : (polls : ℕ) (card : Card) → Waits polls card → card.is_busy ≡ true → Waits (polls + 1) (waited card)
-  pub no : ProgramLaw → (polls : ℕ) (card : Card) → Waits polls card → FitsPart card
-      → (is_selected card.state ≡ true → card.part ≡ part_of session) → Rests (rested card)
-  pub idle : (card : Card) → Rests card → IsIdle 0 card
-  pub shows : (card : Card) → Rests card → Rests (shown card)
+-- where an ending leads to by itself
+pub record CanEnd (session : Session) (Exact : Ending → Card → Type 0) : Type 0 where
+  pub busy : (polls : ℕ) (card : Card) → Exact (Wait polls) card → card.is_busy ≡ true → IsBusyAfter polls card
+  pub yes : (polls : ℕ) (card : Card) → Exact (Wait polls) card → card.is_busy ≡ true
+      → Exact (Wait (polls + 1)) (waited card)
+  pub no : ProgramLaw → (polls : ℕ) (card : Card) → Exact (Wait polls) card → FitsPart card
+      → (is_selected card.state ≡ true → card.part ≡ part_of session) → Exact Confirm (rested card)
+  pub idle : (card : Card) → Exact Confirm card → IsIdle 0 card
+  pub shows : (card : Card) → Exact Confirm card → Exact Confirm (shown card)
 
-module _ (session : Session) (Waits : ℕ → Card → Type 0) (Rests : Card → Type 0) (ends : CanEnd session Waits Rests)
-    (some : IsSome session.selected) (faults polls : ℕ) (a b : BusView)
-    (at : IsUnderWay session (λ (card : Card). Unit {0}) (Waits polls) faults a) where
-  part : is_selected a.card.state ≡ true → a.card.part ≡ part_of session
-  part selected = part_in session a some at.stands selected
+-- that of a change
+pub change_ends : (session : Session) (change : Change) → change.part ≡ part_of session
+    → CanEnd session (IsEnding change)
+change_ends session change part = record {
+  busy = λ polls card exact yes. exact.1;
+  yes = λ polls card exact yes. (
+    record {
+      quiet = quiet_by exact.0.quiet.state exact.0.quiet.app exact.0.quiet.command_errors exact.0.quiet.errors exact.0.quiet.switch_error exact.0.quiet.count exact.0.quiet.erase;
+      start = exact.0.start;
+      values = exact.0.values;
+    },
+    busy_still polls card exact.1,
+  );
+  no = λ law polls card exact fits in_part. (
+    idle_programmed _ _ card exact.0,
+    carried_out change card law fits (in_part (ap is_selected exact.0.quiet.state) ∙ sym part) exact.0,
+  );
+  idle = λ card exact. exact.0;
+  shows = λ card exact. (idle_shown card exact.0, exact.1);
+}
 
-  -- yes, once too often
-  pub wait_fails : (broken : Broken) → broken.session ≡ session → polls + 1 ≡ 16 → Polls true a b
-      → HasFailed broken (faults_then faults a b) b
-  wait_fails broken same last work =
-      has_failed session (λ card. Unit {0}) (Waits polls) faults a b at work broken same
-      (λ waits quiet. not_so_often polls a b last work.own (ends.busy polls a.card waits (work.own.yes refl).0) quiet)
+-- A turn of an ending, from what its exchange did.
 
-  -- yes
-  pub wait_more : Polls true a b → IsUnderWay session (λ (card : Card). Unit {0}) (Waits (polls + 1)) (faults_then faults a b) b
-  wait_more work =
-      goes_there session (λ card. Unit {0}) (Waits polls) faults a b at work (λ card. Unit {0}) (Waits (polls + 1)) tt
-      (λ waits. let yes = work.own.yes refl in
-      subst (Waits (polls + 1)) (sym yes.1) (ends.yes polls a.card waits yes.0))
+abbrev pub EndingTurned : Session → Change → (Ending → Card → Type 0) → ℕ → BusView → Result (Option Ending) Cause → BusView
+    → Type 0
+EndingTurned session change Exact faults old result new =
+    Turn change
+    (LeftIn session (λ ending. IsUnderWay session (ShownIn ending) (Exact ending)) (Exact Confirm) result) faults old new
 
-  is_over : ProgramLaw → Waits polls a.card → b.card ≡ rested a.card → Rests b.card
-  is_over programs waits is = subst Rests (sym is) (ends.no programs polls a.card waits at.is_card.fits part)
+module _ (session : Session) (change : Change) (Exact : Ending → Card → Type 0) (ends : CanEnd session Exact)
+    (some : IsSome session.selected) (faults : ℕ) (a b : BusView) where
+  module _ (polls : ℕ) (at : IsUnderWay session (ShownIn (Wait polls)) (Exact (Wait polls)) faults a) where
+    -- yes, once too often
+    wait_fails : (cause : Cause) → polls + 1 ≡ MAX_POLLS → Polls true a b
+        → EndingTurned session change Exact faults a (Err cause) b
+    wait_fails cause last work =
+        turn_fails session change ShownIn Exact (Exact Confirm) (Wait polls) faults a b at work cause
+        (λ waits quiet. not_so_often polls a b last work.own (ends.busy polls a.card waits (work.own.yes refl).0) quiet)
 
-  -- no
-  pub wait_ends : ProgramLaw → Polls false a b → IsUnderWay session IsSound Rests (faults_then faults a b) b
-  wait_ends programs work =
-      goes_on session (λ card. Unit {0}) (Waits polls) faults a b at work IsSound Rests (λ sound. tt)
-      (λ waits sound. is_over programs waits (work.own.shown refl sound.0 sound.1))
-      (λ waits same. is_over programs waits (work.own.fine same refl))
+    -- yes
+    wait_more : Polls true a b → EndingTurned session change Exact faults a (Ok (Some (Wait (polls + 1)))) b
+    wait_more work =
+        turn_goes_there session change ShownIn Exact (Exact Confirm) (Wait polls) faults a b at work (Wait (polls + 1)) tt
+        (λ waits. let yes = work.own.yes refl in
+        subst (Exact (Wait (polls + 1))) (sym yes.1) (ends.yes polls a.card waits yes.0))
 
-module _ (session : Session) (Waits : ℕ → Card → Type 0) (Rests : Card → Type 0) (ends : CanEnd session Waits Rests)
-    (some : IsSome session.selected) (faults : ℕ) (kind : Kind) (rca : ℕ) (named : rca ≡ session.info.rca)
-    (a b : BusView) (at : IsUnderWay session IsSound Rests faults a) where
-  -- the status isn't clean
-  pub confirm_fails : (broken : Broken) → broken.session ≡ session → Confirms kind rca false a b
-      → HasFailed broken (faults_then faults a b) b
-  confirm_fails broken same work =
-      has_failed session IsSound Rests faults a b at work broken same
-      (λ rests quiet.
-      let idle = ends.idle a.card rests in
-      let selected : is_selected a.card.state ≡ true = ap is_selected idle.quiet.state in
-      let is_rca : a.card.rca ≡ rca =
-      ap (λ (s : Setting). s.rca) (set_in session a some at.stands selected) ∙ sym named in
-      let order : IsInOrder kind a.card = record {
-        no_error = no_error kind 0 a.card idle.quiet;
-        tran = idle.quiet.state;
-        rests = idle.rests;
-      } in
-      cc (work.fine quiet order idle.quiet.app is_rca))
+    is_over : ProgramLaw → Exact (Wait polls) a.card → b.card ≡ rested a.card → Exact Confirm b.card
+    is_over programs waits is =
+        subst (Exact Confirm) (sym is)
+        (ends.no programs polls a.card waits at.is_card.fits (λ selected. part_in session a some at.stands selected))
 
-  -- it is
-  pub confirm_ends : Confirms kind rca true a b → IsReady session b × Rests b.card
-  confirm_ends work =
-      let own = work.own refl in
-      let rests = at.shown (ap is_selected own.0.tran, own.0.no_error.errors) in
-      let stays : Rests b.card = subst Rests (sym own.1) (ends.shows a.card rests) in
-      let idle = ends.idle b.card stays in (
-        ready_again session b work.is_card (knows_then session a.card b.card work.stays.carried at.knows)
-            (stands_then session a b work.set at.stands) idle.quiet idle.rests,
-        stays,
-      )
+    -- no
+    wait_ends : ProgramLaw → Polls false a b → EndingTurned session change Exact faults a (Ok (Some Confirm)) b
+    wait_ends programs work =
+        turn_goes_on session change ShownIn Exact (Exact Confirm) (Wait polls) faults a b at work Confirm (λ sound. tt)
+        (λ waits sound. is_over programs waits (work.own.shown refl sound.0 sound.1))
+        (λ waits same. is_over programs waits (work.own.fine same refl))
+
+  module _ (at : IsUnderWay session (ShownIn Confirm) (Exact Confirm) faults a) where
+    -- the status isn't clean
+    confirm_fails : (cause : Cause) → Confirms session.info.kind session.info.rca false a b
+        → EndingTurned session change Exact faults a (Err cause) b
+    confirm_fails cause work =
+        turn_fails session change ShownIn Exact (Exact Confirm) Confirm faults a b at work cause
+        (λ rests quiet.
+        let idle = ends.idle a.card rests in
+        let selected : is_selected a.card.state ≡ true = ap is_selected idle.quiet.state in
+        let is_rca : a.card.rca ≡ session.info.rca =
+        ap (λ (s : Setting). s.rca) (set_in session a some at.stands selected) in
+        let order : IsInOrder session.info.kind a.card = record {
+          no_error = no_error session.info.kind 0 a.card idle.quiet;
+          tran = idle.quiet.state;
+          rests = idle.rests;
+        } in
+        cc (work.fine quiet order idle.quiet.app is_rca))
+
+    -- it is
+    is_ready : Confirms session.info.kind session.info.rca true a b → IsReady session b × Exact Confirm b.card
+    is_ready work =
+        let own = work.own refl in
+        let rests = at.shown (ap is_selected own.0.tran, own.0.no_error.errors) in
+        let stays : Exact Confirm b.card = subst (Exact Confirm) (sym own.1) (ends.shows a.card rests) in
+        let idle = ends.idle b.card stays in (
+          ready_again session b work.is_card (knows_then session a.card b.card work.stays.carried at.knows)
+              (stands_then session a b work.set at.stands) idle.quiet idle.rests,
+          stays,
+        )
+
+    confirm_ends : Confirms session.info.kind session.info.rca true a b
+        → EndingTurned session change Exact faults a (Ok None) b
+    confirm_ends work = record {
+      stays = work.stays;
+      within = no_more change a b work;
+      left = is_ready work;
+    }
+
+  pub ending_turned : ProgramLaw → (ending : Ending) → IsUnderWay session (ShownIn ending) (Exact ending) faults a
+      → (result : Result (Option Ending) Cause) → EndingDid session ending a result b
+      → EndingTurned session change Exact faults a result b
+  ending_turned programs (Wait polls) at (Ok (Some (Wait more))) did = rw did.0 (wait_more polls at did.1)
+  ending_turned programs (Wait polls) at (Ok (Some Confirm)) did = wait_ends polls at programs did
+  ending_turned programs (Wait polls) at (Ok None) did = absurd did
+  ending_turned programs (Wait polls) at (Err cause) did = wait_fails polls at cause did.0 did.1
+  ending_turned programs Confirm at (Ok (Some ending)) did = absurd did
+  ending_turned programs Confirm at (Ok None) did = confirm_ends at did
+  ending_turned programs Confirm at (Err cause) did = confirm_fails at cause did
+
+-- a failure is the same for any cause
+pub for_any_cause : (session : Session) (ending : Ending) (a b : BusView) (cause other : Cause)
+    → EndingDid session ending a (Err cause) b → EndingDid session ending a (Err other) b
+for_any_cause session (Wait polls) a b cause other did = did
+for_any_cause session Confirm a b cause other did = did

@@ -10,5 +10,6 @@ pub mod SameLemmas
 pub mod SdLemmas
 pub mod SelectLemmas
 pub mod SwitchLemmas
+pub mod TurnLemmas
 pub mod UnderWayLemmas
 pub mod WidenLemmas

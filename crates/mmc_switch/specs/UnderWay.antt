@@ -5,7 +5,7 @@ use Rattle.mmc_frame.specs.declared.card_state.State.TheVariants.{Prg, Tran}
 use Rattle.mmc_card.specs.declared.part.Part.{Part}
 use Rattle.mmc_card.specs.declared.part.Part.TheVariants.{User}
 use Rattle.mmc_card.specs.BusView.{BusView}
-use Rattle.mmc_card.specs.Card.{Card, IsCard, NoAddress, holds, is_selected}
+use Rattle.mmc_card.specs.Card.{Card, IsCard, NoAddress, holds}
 use Rattle.mmc_card.specs.Sectors.{Change, Sector, Within, changed, maybe_changed}
 use Rattle.mmc_bus.specs.Heard.{cause_of}
 use Rattle.mmc_bus.specs.Learned.{Stays}
@@ -90,10 +90,6 @@ FailsBy _ view = Unit {0}
 pub record HasFailed (broken : Broken) (faults : ℕ) (view : BusView) : Type 0 where
   pub loose : IsLoose broken view
   pub fell : 0 < faults
-
--- By this a card shows at the end that it is there, whatever fell: it is selected still, and holds no error.
-abbrev pub IsSound : Card → Type 0
-IsSound card = (is_selected card.state ≡ true) × (card.errors ≡ 0)
 
 -- A turn of work that changes some sectors, after so many faults in its turns: each of them is old or new, and no other
 -- has changed. What the turn leaves is the work's own.

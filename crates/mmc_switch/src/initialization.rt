@@ -23,13 +23,15 @@ pub enum InitializationFault {
     Widening(SwitchFault),
 }
 
-/// Initializes the card, whatever became of it before: it is ready then, with the user partition selected. It makes at
-/// most 98 exchanges.
+/// The most exchanges of an initialization.
+pub const EXCHANGES_OF_AN_INITIALIZATION: u64 = 98;
+
+/// Initializes the card, whatever became of it before: it is ready then, with the user partition selected.
 ///
 /// # Errors
 /// What the fault says; of a card in profile only where a fault fell.
 pub fn initialize<B: Bus>(bus: &mut B) -> Result<Session, InitializationFault>
-    ensures bounded { (B.view bus.new).exchanges ≤ (B.view bus.old).exchanges + 98 }
+    ensures bounded { (B.view bus.new).exchanges ≤ (B.view bus.old).exchanges + EXCHANGES_OF_AN_INITIALIZATION }
     ensures user { IfOk result (λ session. session.selected ≡ Some User) }
     ensures moves { Moves
         (λ old new. IfOk result (λ session. IsReady session new))

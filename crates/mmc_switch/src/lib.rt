@@ -2,6 +2,7 @@
 #![tactic(auto)]
 
 mod broken;
+mod ending;
 mod fault;
 mod info;
 mod initialization;
@@ -15,9 +16,11 @@ mod sizes;
 mod widening;
 
 pub use broken::Broken;
+pub use ending::{EXCHANGES_OF_AN_ENDING, Ending, one_more};
 pub use fault::SwitchFault;
 pub use info::Info;
-pub use initialization::{InitializationFault, initialize};
+pub use initialization::{EXCHANGES_OF_AN_INITIALIZATION, InitializationFault, initialize};
+pub use mmc::EXCHANGES_OF_A_SWITCH;
 pub use mmc_bus::Cause;
 pub use progress::Progress;
 pub use selection::select;

@@ -1,5 +1,5 @@
 // What widening does with eMMC devices, and a switch of one byte (JESD84-B51, sections 6.6.1, 6.6.2 and 7.4).
-ghost use Rattle.std.specs.Prelude.{◌≡◌, ◌+◌, ◌==◌, ◌≤◌, IfOk, IsErr, IsOk, Ok, Some, false, if◌then◌else◌, true, ℕ};
+ghost use Rattle.std.specs.Prelude.{◌≡◌, ◌*◌, ◌+◌, ◌==◌, ◌≤◌, IfOk, IsErr, IsOk, Ok, Some, false, if◌then◌else◌, true, ℕ};
 ghost use Rattle.mmc_frame.specs.declared.addressing.Addressing.TheVariants.{Sectors};
 ghost use Rattle.mmc_frame.specs.declared.kind.Kind.TheVariants.{Mmc};
 ghost use Rattle.mmc_ext_csd.specs.ExtCsd.{ext_csd_in, sec_count};
@@ -16,6 +16,7 @@ ghost use Rattle.mmc_switch.specs.Info.{has_high_timing, timing_of};
 ghost use Rattle.mmc_switch.specs.Place.{IsReady};
 ghost use Rattle.mmc_switch.specs.Stages.{IsAtRest, IsSet, MayStandIn, first_setting, user_setting};
 
+use crate::ending::EXCHANGES_OF_AN_ENDING;
 use crate::fault::SwitchFault;
 use crate::registers::mmc_info;
 use crate::session::Session;
@@ -34,6 +35,9 @@ const ERASE_GROUP_DEF: u8 = 175;
 const BUS_WIDTH: u8 = 183;
 
 const HS_TIMING: u8 = 185;
+
+/// The most exchanges of a switch: CMD6, and those that end it.
+pub const EXCHANGES_OF_A_SWITCH: u64 = EXCHANGES_OF_AN_ENDING + 1;
 
 /// The argument of CMD6 that writes a byte of the EXT_CSD.
 pub fn write_byte(index: u8, value: u8) -> u32
@@ -95,7 +99,7 @@ fn request<B: Bus>(bus: &mut B, argument: u32) -> Result<(), Cause>
 /// # Errors
 /// The cause of the last exchange.
 pub fn switch<B: Bus>(bus: &mut B, rca: u16, argument: u32) -> Result<(), Cause>
-    ensures ends { Ends 18 (B.view bus.old) result (B.view bus.new) }
+    ensures ends { Ends EXCHANGES_OF_A_SWITCH (B.view bus.old) result (B.view bus.new) }
     ensures done { (B.view bus.new).is_kept ≡ true → Done (MayStandIn argument) Narrows
         (λ old new. (after : Card) → old.card.made.kind ≡ Mmc → IsAtRest false old.card
         → switched old.card argument ≡ Some after → IsOk result
@@ -110,7 +114,7 @@ pub fn switch<B: Bus>(bus: &mut B, rca: u16, argument: u32) -> Result<(), Cause>
 
 // Erase groups by HC_ERASE_GRP_SIZE.
 fn use_erase_groups<B: Bus>(bus: &mut B, rca: u16) -> Result<(), Cause>
-    ensures bounded { (B.view bus.new).exchanges ≤ (B.view bus.old).exchanges + 18 }
+    ensures bounded { (B.view bus.new).exchanges ≤ (B.view bus.old).exchanges + EXCHANGES_OF_A_SWITCH }
     ensures moves { Moves
         (λ old new. old.card.made.kind ≡ Mmc → IsSet false (user_setting rca Over.One At.Default 0) old → IsOk result
         → IsSet false (user_setting rca Over.One At.Default 1) new)
@@ -122,7 +126,7 @@ fn use_erase_groups<B: Bus>(bus: &mut B, rca: u16) -> Result<(), Cause>
 
 // Eight lines, of the device and then of the host.
 fn use_eight_lines<B: Bus>(bus: &mut B, rca: u16) -> Result<(), Cause>
-    ensures bounded { (B.view bus.new).exchanges ≤ (B.view bus.old).exchanges + 18 }
+    ensures bounded { (B.view bus.new).exchanges ≤ (B.view bus.old).exchanges + EXCHANGES_OF_A_SWITCH }
     ensures lines { (B.view bus.new).is_kept ≡ true → IsErr result → (B.view bus.new).lines ≡ (B.view bus.old).lines }
     ensures moves { Moves
         (λ old new. old.card.made.kind ≡ Mmc → IsSet false (user_setting rca Over.One At.Default 1) old → IsOk result
@@ -137,7 +141,7 @@ fn use_eight_lines<B: Bus>(bus: &mut B, rca: u16) -> Result<(), Cause>
 
 // High speed, of the device and then of the host.
 fn speed_up<B: Bus>(bus: &mut B, rca: u16) -> Result<(), Cause>
-    ensures bounded { (B.view bus.new).exchanges ≤ (B.view bus.old).exchanges + 18 }
+    ensures bounded { (B.view bus.new).exchanges ≤ (B.view bus.old).exchanges + EXCHANGES_OF_A_SWITCH }
     ensures lines { (B.view bus.new).is_kept ≡ true → IsErr result → (B.view bus.new).lines ≡ (B.view bus.old).lines }
     ensures moves { Moves
         (λ old new. old.card.made.kind ≡ Mmc → has_high_timing old.card.made ≡ true
@@ -154,7 +158,7 @@ fn speed_up<B: Bus>(bus: &mut B, rca: u16) -> Result<(), Cause>
 
 // The switches of widening.
 fn set_up<B: Bus>(bus: &mut B, rca: u16, has_high_speed: bool) -> Result<Timing, Cause>
-    ensures bounded { (B.view bus.new).exchanges ≤ (B.view bus.old).exchanges + 54 }
+    ensures bounded { (B.view bus.new).exchanges ≤ (B.view bus.old).exchanges + 3 * EXCHANGES_OF_A_SWITCH }
     ensures moves { Moves
         (λ old new. old.card.made.kind ≡ Mmc → has_high_speed ≡ has_high_timing old.card.made
         → IsSet false (first_setting rca) old
@@ -176,7 +180,7 @@ fn set_up<B: Bus>(bus: &mut B, rca: u16, has_high_speed: bool) -> Result<Timing,
 
 /// Widens an eMMC device that has blocks of 512 bytes.
 pub fn widen<B: Bus>(bus: &mut B, found: &Found) -> Result<Session, SwitchFault>
-    ensures bounded { (B.view bus.new).exchanges ≤ (B.view bus.old).exchanges + 56 }
+    ensures bounded { (B.view bus.new).exchanges ≤ (B.view bus.old).exchanges + (3 * EXCHANGES_OF_A_SWITCH + 2) }
     ensures user { IfOk result (λ session. session.selected ≡ Some User) }
     ensures moves { Moves
         (λ old new. old.card.made.kind ≡ Mmc → IsFound old.card.made found.now

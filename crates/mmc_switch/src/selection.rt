@@ -12,6 +12,7 @@ ghost use Rattle.mmc_bus.specs.Learned.{Stays};
 ghost use Rattle.mmc_bus.specs.Work.{Narrows};
 ghost use Rattle.mmc_switch.specs.Info.{sectors_of};
 ghost use Rattle.mmc_switch.specs.Place.{IsLoose, IsReady};
+ghost use Rattle.mmc_switch.specs.declared.mmc.TheConstants.{EXCHANGES_OF_A_SWITCH};
 
 use crate::broken::Broken;
 use crate::mmc::{switch, write_byte};
@@ -26,15 +27,15 @@ fn access_argument(partition_config: u8, part: Part) -> u32
     write_byte(179, partition_config / 8 * 8 + part.access_number())
 }
 
-/// Selects a partition that exists: it is selected then, and the card is ready. It makes at most 18 exchanges, none where
-/// that partition is selected already.
+/// Selects a partition that exists: it is selected then, and the card is ready. It makes at most the exchanges of a switch,
+/// none where that partition is selected already.
 ///
 /// # Errors
 /// What is left, with the cause of the last exchange; which partition is selected isn't known then. No sector has
 /// changed.
 pub fn select<B: Bus>(bus: &mut B, session: Session, part: Part) -> Result<Session, Broken>
     requires exists { IsSome (sectors_of session.info part) }
-    ensures bounded { (B.view bus.new).exchanges ≤ (B.view bus.old).exchanges + 18 }
+    ensures bounded { (B.view bus.new).exchanges ≤ (B.view bus.old).exchanges + EXCHANGES_OF_A_SWITCH }
     ensures nothing { session.selected ≡ Some part → (bus.new ≡ bus.old) × IsOk result }
     ensures ok { IfOk result (λ ready. ready ≡ record session { selected = Some part }) }
     ensures err { IfErr result (λ broken. (broken.session ≡ record session { selected = None }) × (broken.must_reset ≡ false)) }

@@ -6,7 +6,7 @@
 // 3. eMMC: the EXT_CSD, which is judged at once; erase groups by HC_ERASE_GRP_SIZE, eight lines, and high speed where
 //    DEVICE_TYPE names it: each is one switch, which has to be confirmed before the host's lines follow.
 // 4. Each response has to be sound and without an error. Anything else ends it.
-ghost use Rattle.std.specs.Prelude.{◌≡◌, ◌+◌, ◌<◌, ◌≤◌, IfOk, IsErr, IsOk, Some, false, true, ℕ};
+ghost use Rattle.std.specs.Prelude.{◌≡◌, ◌*◌, ◌+◌, ◌<◌, ◌≤◌, IfOk, IsErr, IsOk, Some, false, true, ℕ};
 ghost use Rattle.mmc_frame.specs.declared.kind.Kind.TheVariants.{Sd};
 ghost use Rattle.mmc_card.specs.Profile.{InProfile};
 ghost use Rattle.mmc_card.specs.declared.part.Part.TheVariants.{User};
@@ -14,6 +14,7 @@ ghost use Rattle.mmc_bus.specs.Work.{Moves};
 ghost use Rattle.mmc_identify.specs.Stages.{IsFound, IsLeft};
 ghost use Rattle.mmc_switch.specs.Place.{IsReady};
 ghost use Rattle.mmc_switch.specs.Stages.{IsSet, first_lines, first_setting};
+ghost use Rattle.mmc_switch.specs.declared.mmc.TheConstants.{EXCHANGES_OF_A_SWITCH};
 
 use crate::fault::SwitchFault;
 use crate::session::Session;
@@ -41,7 +42,7 @@ fn set_block_length<B: Bus>(bus: &mut B, kind: Kind) -> Result<(), Cause>
 
 // From blocks of 512 bytes on.
 fn widen_by_kind<B: Bus>(bus: &mut B, found: &Found) -> Result<Session, SwitchFault>
-    ensures bounded { (B.view bus.new).exchanges ≤ (B.view bus.old).exchanges + 56 }
+    ensures bounded { (B.view bus.new).exchanges ≤ (B.view bus.old).exchanges + (3 * EXCHANGES_OF_A_SWITCH + 2) }
     ensures of_sd { found.now.kind ≡ Sd → (B.view bus.new).exchanges ≤ (B.view bus.old).exchanges + 10 }
     ensures user { IfOk result (λ session. session.selected ≡ Some User) }
     ensures moves { Moves
@@ -57,13 +58,13 @@ fn widen_by_kind<B: Bus>(bus: &mut B, found: &Found) -> Result<Session, SwitchFa
     }
 }
 
-/// Widens a card that was identified: it is ready then, with the user partition selected. It makes at most 57 exchanges,
-/// and at most 11 with an SD card.
+/// Widens a card that was identified: it is ready then, with the user partition selected. It makes at most three
+/// switches and three more exchanges, and at most 11 exchanges with an SD card.
 ///
 /// # Errors
 /// What the fault says; of a card in profile only where a fault fell.
 pub fn widen<B: Bus>(bus: &mut B, found: Found) -> Result<Session, SwitchFault>
-    ensures bounded { (B.view bus.new).exchanges ≤ (B.view bus.old).exchanges + 57 }
+    ensures bounded { (B.view bus.new).exchanges ≤ (B.view bus.old).exchanges + (3 * EXCHANGES_OF_A_SWITCH + 3) }
     ensures of_sd { found.kind ≡ Sd → (B.view bus.new).exchanges ≤ (B.view bus.old).exchanges + 11 }
     ensures user { IfOk result (λ session. session.selected ≡ Some User) }
     ensures moves { Moves

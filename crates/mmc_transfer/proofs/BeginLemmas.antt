@@ -3,7 +3,6 @@ use Rattle.std.proofs.Common.{◌&&◌, ◌||◌, ◌-◌, ◌<◌, ◌∙◌, �
 use Rattle.std.proofs.Common.{length, refl, subst, sym, true, ℕ}
 use Rattle.std.specs.Prelude.{◌==◌, IsErr, None, Ok, Option, Result, Some, if◌then◌else◌, nat_le}
 use Rattle.std.proofs.lemmas.Bool.Decides.{nat_tests}
-use Rattle.mmc_frame.specs.declared.card_state.State.TheVariants.{Rcv}
 use Rattle.mmc_frame.specs.declared.kind.Kind.{Kind}
 use Rattle.mmc_card.specs.BusView.{BusView}
 use Rattle.mmc_card.specs.Card.{NoAddress, is_selected, stored}
@@ -15,7 +14,7 @@ use Rattle.mmc_bus.specs.declared.cause.Cause.{Cause}
 use Rattle.mmc_switch.proofs.UnderWayLemmas.{no_error, part_in, quiet_by, room_is, set_in}
 use Rattle.mmc_switch.proofs.AddressLemmas.{address_aligned, sector_named}
 use Rattle.mmc_switch.specs.UnderWay.{room_of}
-use Rattle.mmc_transfer.proofs.StepLemmas.{from_both, turn_fails, turn_goes_there}
+use Rattle.mmc_transfer.proofs.StepLemmas.{from_both, fails, goes_there}
 use Rattle.mmc_transfer.specs.Address.{is_counted_by}
 use Rattle.mmc_switch.specs.Address.{address_of}
 use Rattle.mmc_transfer.specs.Commands.{CanStart, is_write, starts}
@@ -101,13 +100,13 @@ module _ (job : Job) (blocks : List Sector) (faults : ℕ) (kind : Kind) (addres
   pub begin_fails : (result : Result (Option Phase) Cause) → IsErr result
       → Starts kind job.way (job.count == 1) address false a b → Turned job blocks faults a result b
   begin_fails result err work =
-      turn_fails job blocks (Other Command) faults a b at work result err
+      fails job blocks (Other Command) faults a b at work result err
       (λ exact same. cc (work.fine same (can_start exact)))
 
   -- it has begun
   is_begun : (way : Way) → IsIdle (preset_of job) a.card
       → by_way way (IsSending 0 job blocks (starts way (job.count == 1) a.card address))
-      (IsTaking Rcv 0 job blocks (starts way (job.count == 1) a.card address)
+      (IsTaking 0 job blocks (starts way (job.count == 1) a.card address)
       × ((starts way (job.count == 1) a.card address).is_busy ≡ false))
   is_begun Read idle = record {
     quiet = quiet_by refl refl refl refl refl refl idle.quiet.erase;
@@ -131,6 +130,6 @@ module _ (job : Job) (blocks : List Sector) (faults : ℕ) (kind : Kind) (addres
   pub begin_goes_on : Starts kind job.way (job.count == 1) address true a b
       → Turned job blocks faults a (Ok (Some (Block 0))) b
   begin_goes_on work =
-      turn_goes_there job blocks (Other Command) faults a b at work (Block 0) tt
+      goes_there job blocks (Other Command) faults a b at work (Block 0) tt
       (λ exact. let idle : IsIdle (preset_of job) a.card = from_both job.way exact in
       subst (Exact job blocks (Block 0)) (sym (work.own refl idle.quiet.erase)) (is_begun job.way idle))

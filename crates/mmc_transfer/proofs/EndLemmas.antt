@@ -1,5 +1,5 @@
 -- CMD12 behind the last block of a run.
-use Rattle.std.proofs.Common.{◌+◌, ◌∙◌, ◌≡◌, ◌⊎◌, Bool, List, ap, false, inl, inr, refl, subst, sym, true, ℕ}
+use Rattle.std.proofs.Common.{◌+◌, ◌∙◌, ◌≡◌, ◌⊎◌, Bool, List, ap, false, inl, inr, length, refl, subst, sym, true, ℕ}
 use Rattle.std.specs.Prelude.{◌==◌, IsErr, Ok, Option, Result, Some, if◌then◌else◌}
 use Rattle.std.proofs.lemmas.Bool.{eq-eqb}
 use Rattle.mmc_switch.proofs.UnderWayLemmas.{quiet_by}
@@ -14,14 +14,17 @@ use Rattle.mmc_card.specs.Sectors.{Sector}
 use Rattle.mmc_bus.specs.Work.{Narrows, Worked}
 use Rattle.mmc_bus.specs.declared.cause.Cause.{Cause}
 use Rattle.mmc_switch.specs.UnderWay.{room_of}
-use Rattle.mmc_transfer.proofs.StepLemmas.{each_way, either_way, turn_fails, turn_goes_there}
+use Rattle.mmc_transfer.proofs.StepLemmas.{all_written, each_way, either_way, fails, goes_there}
 use Rattle.mmc_transfer.specs.Commands.{CanStop, IsMoving}
-use Rattle.mmc_transfer.specs.Running.{AreStored, Exact, IsIn, IsSending, IsTaking, Turned}
-use Rattle.mmc_switch.specs.UnderWay.{IsBusyAfter, IsIdle}
+use Rattle.mmc_transfer.specs.Running.{AreStored, Exact, IsIn, IsSending, IsTaking, Turned, change_of}
+use Rattle.mmc_switch.specs.Ending.{IsEnding}
+use Rattle.mmc_switch.specs.UnderWay.{IsIdle}
+use Rattle.mmc_switch.specs.declared.ending.Ending.TheVariants.{Wait}
+use Rattle.mmc_transfer.specs.declared.way.Way.TheVariants.{Write}
 use Rattle.mmc_transfer.specs.declared.job.Job.{Job}
 use Rattle.mmc_transfer.specs.declared.phase.Phase.{Phase}
 use Rattle.mmc_transfer.specs.declared.phase.Phase.TheVariants.{Other}
-use Rattle.mmc_transfer.specs.declared.phase.Step.TheVariants.{Finish, Stop}
+use Rattle.mmc_transfer.specs.declared.phase.Step.TheVariants.{End, Stop}
 
 -- what the command that ends a transfer does
 abbrev pub Stops : Kind → Bool → Bool → BusView → BusView → Type 0
@@ -55,16 +58,14 @@ stopped_reading job blocks card sending =
       sending.read,
     )
 
-stopped_writing : (job : Job) (blocks : List Sector) (card : Card) → IsTaking Rcv job.count job blocks card
-    → IsTaking Prg job.count job blocks (stopped card) × IsBusyAfter 0 (stopped card)
-stopped_writing job blocks card taking =
-    subst (λ next. IsTaking Prg job.count job blocks next × IsBusyAfter 0 next)
-    (sym (stopped_in Rcv card taking.quiet.state)) (
+stopped_writing : (job : Job) (blocks : List Sector) (card : Card) → length blocks ≡ job.count → job.way ≡ Write
+    → IsTaking job.count job blocks card → IsEnding (change_of job blocks) (Wait 0) (stopped card)
+stopped_writing job blocks card all writes taking =
+    subst (IsEnding (change_of job blocks) (Wait 0)) (sym (stopped_in Rcv card taking.quiet.state)) (
       record {
         quiet = quiet_by refl refl refl refl refl refl taking.quiet.erase;
         start = taking.start;
-        values = taking.values;
-        left = taking.left;
+        values = taking.values ∙ all_written job blocks all writes;
       },
       record { busy = refl; polled = λ few. refl },
     )
@@ -76,7 +77,8 @@ errors_by : (counted at_end : Bool) (errors room all end : ℕ) → at_end ≡ (
 errors_by counted at_end errors room all end ends (inl none) = inl none
 errors_by counted at_end errors room all end ends (inr last) = inr (ends ∙ eq-eqb all room last.1, last.2)
 
-module _ (job : Job) (blocks : List Sector) (faults : ℕ) (kind : Kind) (at_end : Bool) (a b : BusView)
+module _ (job : Job) (blocks : List Sector) (all : length blocks ≡ job.count) (faults : ℕ) (kind : Kind) (at_end : Bool)
+    (a b : BusView)
     (ends : at_end ≡ (job.start + job.count == room_of job.session))
     (at : IsIn job blocks (Other Stop) faults a) where
   -- the exact card can stop
@@ -105,13 +107,13 @@ module _ (job : Job) (blocks : List Sector) (faults : ℕ) (kind : Kind) (at_end
   pub end_fails : (result : Result (Option Phase) Cause) → IsErr result → Stops kind at_end false a b
       → Turned job blocks faults a result b
   end_fails result err work =
-      turn_fails job blocks (Other Stop) faults a b at work result err
+      fails job blocks (Other Stop) faults a b at work result err
       (λ exact same. cc (work.fine same (can_stop exact)))
 
-  pub end_goes_on : Stops kind at_end true a b → Turned job blocks faults a (Ok (Some (Other (Finish 0)))) b
+  pub end_goes_on : Stops kind at_end true a b → Turned job blocks faults a (Ok (Some (Other (End (Wait 0))))) b
   end_goes_on work =
       let own = work.own refl in
-      turn_goes_there job blocks (Other Stop) faults a b at work (Other (Finish 0)) (moving_is_selected a.card own.0)
-      (λ exact. subst (Exact job blocks (Other (Finish 0))) (sym own.1)
+      goes_there job blocks (Other Stop) faults a b at work (Other (End (Wait 0))) (moving_is_selected a.card own.0)
+      (λ exact. subst (Exact job blocks (Other (End (Wait 0)))) (sym own.1)
       (each_way job.way (λ reads sending. stopped_reading job blocks a.card sending)
-      (λ writes taking. stopped_writing job blocks a.card taking.0) exact))
+      (λ writes taking. stopped_writing job blocks a.card all writes taking.0) exact))

@@ -5,7 +5,6 @@ use Rattle.std.proofs.lemmas.Bool.Decides.{nat_tests}
 use Rattle.std.proofs.lemmas.List.{length-take-le, take_more}
 use Rattle.std.specs.Prelude.{◌==◌, Err, IsErr, IsOk, None, Ok, Option, Result, Some, if◌then◌else◌, nat_lt}
 use Rattle.std.specs.Prelude.{slice_index_or}
-use Rattle.mmc_frame.specs.declared.card_state.State.{State}
 use Rattle.mmc_frame.specs.declared.card_state.State.TheVariants.{Prg, Rcv}
 use Rattle.mmc_card.proofs.Narrow.{accepts_in_rcv}
 use Rattle.mmc_card.proofs.SectorLemmas.{cond_in_new, old_maybe, touched_by}
@@ -17,17 +16,18 @@ use Rattle.mmc_card.specs.Sectors.{Sector, Within, maybe_changed, part_number, t
 use Rattle.mmc_bus.specs.declared.cause.Cause.{Cause}
 use Rattle.mmc_bus.specs.Work.{NarrowsBut, Worked}
 use Rattle.mmc_switch.proofs.UnderWayLemmas.{goes_there, has_failed, lines_in, part_in, quiet_by, room_is}
-use Rattle.mmc_switch.specs.UnderWay.{part_of, room_of}
+use Rattle.mmc_switch.specs.UnderWay.{IsQuiet, part_of, room_of}
+use Rattle.mmc_switch.specs.declared.ending.Ending.TheVariants.{Wait}
+use Rattle.mmc_transfer.proofs.StepLemmas.{all_written}
 use Rattle.mmc_transfer.specs.declared.job.Job.{Job}
 use Rattle.mmc_transfer.specs.declared.phase.Phase.{Phase}
 use Rattle.mmc_transfer.specs.declared.phase.Phase.TheVariants.{Block, Other}
 use Rattle.mmc_transfer.specs.declared.phase.Step.{Step}
-use Rattle.mmc_transfer.specs.declared.phase.Step.TheVariants.{Finish, Pause}
+use Rattle.mmc_transfer.specs.declared.phase.Step.TheVariants.{End, Pause}
 use Rattle.mmc_transfer.specs.declared.way.Way.{Way}
 use Rattle.mmc_transfer.specs.declared.way.Way.TheVariants.{Read, Write}
 use Rattle.mmc_transfer.specs.Moves.{after_written}
 use Rattle.mmc_transfer.specs.Running.{Exact, IsIn, IsTaking, ReadExact, Shown, Turned, WriteExact, by_way}
-use Rattle.mmc_switch.specs.UnderWay.{IsBusyAfter}
 use Rattle.mmc_transfer.specs.Running.{change_of, is_counted, left_of, written}
 
 -- what offering the block does
@@ -74,36 +74,45 @@ below n m less = grind (arith, nat_tests)
 module _ (job : Job) (blocks : List Sector) (done faults : ℕ) (block : Sector) (way : job.way ≡ Write)
     (more : done < job.count) (full : length blocks ≡ job.count) (is : block ≡ slice_index_or blocks done []) where
   -- The card that has accepted so many blocks.
-  taken_length : (place : State) (card : Card) → IsTaking place done job blocks card → length card.values ≡ done
-  taken_length place card x = ap length x.values ∙ length-take-le done blocks (omega (arith, more, full))
+  taken_length : (card : Card) → IsTaking done job blocks card → length card.values ≡ done
+  taken_length card x = ap length x.values ∙ length-take-le done blocks (omega (arith, more, full))
 
-  taken_next : (place : State) (next : ℕ) (card : Card) → next ≡ done + 1
-      → (if is_last card.left then Prg else Rcv) ≡ place → IsTaking Rcv done job blocks card
-      → IsTaking place next job blocks (accepted block card) × IsBusyAfter 0 (accepted block card)
-  taken_next place next card n state x = (
+  next_state : (b : Bool) (card : Card) → ((done + 1 == job.count) && is_counted job) ≡ b → IsTaking done job blocks card
+      → IsQuiet (if b then Prg else Rcv) 0 (accepted block card)
+  next_state b card last x =
+      quiet_by (ap (λ b. if b then Prg else Rcv) (last_is job done card.left more x.left ∙ last)) x.quiet.app x.quiet.command_errors x.quiet.errors x.quiet.switch_error x.quiet.count x.quiet.erase
+
+  next_values : (card : Card) → IsTaking done job blocks card → card.values ++ block ∷ [] ≡ take (done + 1) blocks
+  next_values card x =
+      ap (λ xs. xs ++ block ∷ []) x.values ∙ ap (λ v. take done blocks ++ v ∷ []) is
+      ∙ sym (take_more blocks done [] (omega (arith, more, full)))
+
+  -- behind the block it is in the phase that comes next
+  given_by : (b : Bool) (card : Card) → ((done + 1 == job.count) && is_counted job) ≡ b
+      → IsTaking done job blocks card
+      → WriteExact job blocks (Other (if b then End (Wait 0) else Pause (done + 1) 0)) (accepted block card)
+  given_by true card last x = (
     record {
-      quiet = quiet_by state x.quiet.app x.quiet.command_errors x.quiet.errors x.quiet.switch_error x.quiet.count x.quiet.erase;
+      quiet = next_state true card last x;
       start = x.start;
-      values = ap (λ xs. xs ++ block ∷ []) x.values ∙ ap (λ v. take done blocks ++ v ∷ []) is
-          ∙ sym (take_more blocks done [] (omega (arith, more, full))) ∙ ap (λ i. take i blocks) (sym n);
-      left = left_then job done card.left x.left ∙ ap (left_of job) (sym n);
+      values = next_values card x
+          ∙ ap (λ n. take n blocks) (sym (all_then (is_counted job) job.count done last))
+          ∙ all_written job blocks full way;
+    },
+    record { busy = refl; polled = λ few. refl },
+  )
+  given_by false card last x = (
+    record {
+      quiet = next_state false card last x;
+      start = x.start;
+      values = next_values card x;
+      left = left_then job done card.left x.left;
     },
     record { busy = refl; polled = λ few. refl },
   )
 
-  -- behind the block it is in the phase that comes next
-  given_by : (b : Bool) (card : Card) → ((done + 1 == job.count) && is_counted job) ≡ b
-      → IsTaking Rcv done job blocks card
-      → WriteExact job blocks (Other (if b then Finish 0 else Pause (done + 1) 0)) (accepted block card)
-  given_by true card last x =
-      taken_next Prg job.count card (all_then (is_counted job) job.count done last)
-      (ap (λ b. if b then Prg else Rcv) (last_is job done card.left more x.left ∙ last)) x
-  given_by false card last x =
-      taken_next Rcv (done + 1) card refl
-      (ap (λ b. if b then Prg else Rcv) (last_is job done card.left more x.left ∙ last)) x
-
   module _ (a b : BusView) (at : IsIn job blocks (Block done) faults a) where
-    exactly : Exact job blocks (Block done) a.card → IsTaking Rcv done job blocks a.card × (a.card.is_busy ≡ false)
+    exactly : Exact job blocks (Block done) a.card → IsTaking done job blocks a.card × (a.card.is_busy ≡ false)
     exactly exact = of_write job.way (ReadExact job blocks (Block done) a.card)
         (WriteExact job blocks (Block done) a.card) way exact
 
@@ -120,7 +129,7 @@ module _ (job : Job) (blocks : List Sector) (done faults : ℕ) (block : Sector)
         let size : length (stored a.card a.card.part) ≡ room_of job.session =
         ap (λ p. length (stored a.card p)) part
         ∙ room_is job.session a.card at.is_card.sizes at.knows (omega (arith, inside, more)) in
-        let long = taken_length Rcv a.card x.0 in
+        let long = taken_length a.card x.0 in
         let start = x.0.start in
         let room : nat_lt (a.card.start + length a.card.values) (length (stored a.card a.card.part)) ≡ true =
         below _ _ (omega (arith, long, start, size, inside, more)) in
@@ -138,7 +147,7 @@ module _ (job : Job) (blocks : List Sector) (done faults : ℕ) (block : Sector)
               let here = part_in job.session a job.selected at.stands selected in
               let same : written job.way blocks ≡ blocks = ap (λ w. written w blocks) way in
               let size : length (written job.way blocks) ≡ job.count = ap length same ∙ full in
-              let long = taken_length Rcv a.card x in
+              let long = taken_length a.card x in
               let start = x.start in
               let next : s ≡ a.card.start + length a.card.values = t.next in
               let place : s ≡ job.start + done = omega (arith, next, start, long) in

@@ -5,7 +5,6 @@ pub mod FinishLemmas
 pub mod GiveLemmas
 pub mod LendingLemmas
 pub mod PauseLemmas
-pub mod PollLemmas
 pub mod PresetLemmas
 pub mod StepLemmas
 pub mod TakeLemmas

@@ -3,27 +3,42 @@ use Rattle.std.proofs.Common.{◌+◌, ◌≡◌, List, false, refl, subst, sym,
 use Rattle.std.specs.Prelude.{IsErr, Ok, Option, Result, Some}
 use Rattle.mmc_switch.proofs.UnderWayLemmas.{quiet_by}
 use Rattle.mmc_frame.specs.declared.card_state.State.TheVariants.{Rcv}
-use Rattle.mmc_card.specs.Blocks.{rested}
+use Rattle.mmc_card.specs.Blocks.{rested, waited}
 use Rattle.mmc_card.specs.BusView.{BusView}
 use Rattle.mmc_card.specs.Card.{Card, is_selected}
 use Rattle.mmc_card.specs.Sectors.{Sector}
 use Rattle.mmc_bus.specs.Learned.{PollFacts}
 use Rattle.mmc_bus.specs.declared.cause.Cause.{Cause}
-use Rattle.mmc_switch.proofs.EndingLemmas.{Polls, not_so_often, rested_in}
+use Rattle.mmc_bus.specs.declared.wait.TheConstants.{MAX_POLLS}
+use Rattle.mmc_switch.proofs.EndingLemmas.{busy_still, not_so_often, rested_in}
+use Rattle.mmc_switch.specs.Ending.{Polls}
 use Rattle.mmc_switch.specs.UnderWay.{IsBusyAfter}
-use Rattle.mmc_transfer.proofs.PollLemmas.{taking_still}
-use Rattle.mmc_transfer.proofs.StepLemmas.{each_way, either_way, turn_fails, turn_goes_on, turn_goes_there}
+use Rattle.mmc_transfer.proofs.StepLemmas.{each_way, either_way, fails, goes_on, goes_there}
 use Rattle.mmc_transfer.specs.Running.{IsIn, IsTaking, Turned}
 use Rattle.mmc_transfer.specs.declared.job.Job.{Job}
 use Rattle.mmc_transfer.specs.declared.phase.Phase.{Phase}
 use Rattle.mmc_transfer.specs.declared.phase.Phase.TheVariants.{Block, Other}
 use Rattle.mmc_transfer.specs.declared.phase.Step.TheVariants.{Pause, Stop}
 
+-- a card that says yes stays as it is
+taking_still : (done polls : ℕ) (job : Job) (blocks : List Sector) (card : Card)
+    → IsTaking done job blocks card × IsBusyAfter polls card
+    → IsTaking done job blocks (waited card) × IsBusyAfter (polls + 1) (waited card)
+taking_still done polls job blocks card exact = (
+  record {
+    quiet = quiet_by exact.0.quiet.state exact.0.quiet.app exact.0.quiet.command_errors exact.0.quiet.errors exact.0.quiet.switch_error exact.0.quiet.count exact.0.quiet.erase;
+    start = exact.0.start;
+    values = exact.0.values;
+    left = exact.0.left;
+  },
+  busy_still polls card exact.1,
+)
+
 -- a card that accepts blocks isn't busy after a no
-rested_in_rcv : (done : ℕ) (job : Job) (blocks : List Sector) (card : Card) → IsTaking Rcv done job blocks card
-    → IsTaking Rcv done job blocks (rested card) × ((rested card).is_busy ≡ false)
+rested_in_rcv : (done : ℕ) (job : Job) (blocks : List Sector) (card : Card) → IsTaking done job blocks card
+    → IsTaking done job blocks (rested card) × ((rested card).is_busy ≡ false)
 rested_in_rcv done job blocks card taking =
-    subst (λ next. IsTaking Rcv done job blocks next × (next.is_busy ≡ false))
+    subst (λ next. IsTaking done job blocks next × (next.is_busy ≡ false))
     (sym (rested_in Rcv card taking.quiet.state)) (
       record {
         quiet = quiet_by taking.quiet.state taking.quiet.app taking.quiet.command_errors taking.quiet.errors taking.quiet.switch_error taking.quiet.count taking.quiet.erase;
@@ -37,50 +52,50 @@ rested_in_rcv done job blocks card taking =
 module _ (job : Job) (blocks : List Sector) (faults done polls : ℕ) (a b : BusView)
     (at : IsIn job blocks (Other (Pause done polls)) faults a) where
   -- yes
-  pub pause_fails : (result : Result (Option Phase) Cause) → IsErr result → polls + 1 ≡ 16 → Polls true a b
+  pub pause_fails : (result : Result (Option Phase) Cause) → IsErr result → polls + 1 ≡ MAX_POLLS → Polls true a b
       → Turned job blocks faults a result b
   pause_fails result err last work =
-      turn_fails job blocks (Other (Pause done polls)) faults a b at work result err
+      fails job blocks (Other (Pause done polls)) faults a b at work result err
       (λ exact same. either_way job.way (λ reads none. absurd none)
       (λ writes taking. not_so_often polls a b last work.own taking.1 same) exact)
 
   pub pauses_still : (more : ℕ) → more ≡ polls + 1 → Polls true a b
       → Turned job blocks faults a (Ok (Some (Other (Pause done more)))) b
   pauses_still more is work =
-      rw is (turn_goes_there job blocks (Other (Pause done polls)) faults a b at work
+      rw is (goes_there job blocks (Other (Pause done polls)) faults a b at work
       (Other (Pause done (polls + 1))) tt
       (λ exact. each_way job.way (λ reads none. none)
-      (λ writes taking. subst (λ card. IsTaking Rcv done job blocks card × IsBusyAfter (polls + 1) card)
-      (sym (work.own.yes refl).1) (taking_still Rcv done polls job blocks a.card taking)) exact))
+      (λ writes taking. subst (λ card. IsTaking done job blocks card × IsBusyAfter (polls + 1) card)
+      (sym (work.own.yes refl).1) (taking_still done polls job blocks a.card taking)) exact))
 
   -- no
-  accepts_by : b.card ≡ rested a.card → IsTaking Rcv done job blocks a.card
-      → IsTaking Rcv done job blocks b.card × (b.card.is_busy ≡ false)
+  accepts_by : b.card ≡ rested a.card → IsTaking done job blocks a.card
+      → IsTaking done job blocks b.card × (b.card.is_busy ≡ false)
   accepts_by is taking =
-      subst (λ card. IsTaking Rcv done job blocks card × (card.is_busy ≡ false)) (sym is)
+      subst (λ card. IsTaking done job blocks card × (card.is_busy ≡ false)) (sym is)
       (rested_in_rcv done job blocks a.card taking)
 
-  calm_in_rcv : PollFacts a false b → IsTaking Rcv done job blocks a.card → is_selected b.card.state ≡ true
+  calm_in_rcv : PollFacts a false b → IsTaking done job blocks a.card → is_selected b.card.state ≡ true
       → b.card ≡ rested a.card
   calm_in_rcv facts taking selected = facts.calm refl selected (rw taking.quiet.state refl)
 
   pub pause_ends : Polls false a b → Turned job blocks faults a (Ok (Some (Block done))) b
   pause_ends work =
-      turn_goes_on job blocks (Other (Pause done polls)) faults a b at work (Block done) (λ selected. tt)
+      goes_on job blocks (Other (Pause done polls)) faults a b at work (Block done) (λ selected. tt)
       (λ exact selected. each_way job.way (λ reads none. absurd none)
       (λ writes taking. accepts_by (calm_in_rcv work.own taking.0 selected) taking.0) exact)
       (λ exact same. each_way job.way (λ reads none. absurd none)
       (λ writes taking. accepts_by (work.own.fine same refl) taking.0) exact)
 
   -- behind the last block
-  all_accepted : done ≡ job.count → IsTaking Rcv done job blocks b.card × (b.card.is_busy ≡ false)
-      → IsTaking Rcv job.count job blocks b.card × (b.card.is_busy ≡ false)
+  all_accepted : done ≡ job.count → IsTaking done job blocks b.card × (b.card.is_busy ≡ false)
+      → IsTaking job.count job blocks b.card × (b.card.is_busy ≡ false)
   all_accepted last taking =
-      subst (λ n. IsTaking Rcv n job blocks b.card × (b.card.is_busy ≡ false)) last taking
+      subst (λ n. IsTaking n job blocks b.card × (b.card.is_busy ≡ false)) last taking
 
   pub pause_stops : done ≡ job.count → Polls false a b → Turned job blocks faults a (Ok (Some (Other Stop))) b
   pause_stops last work =
-      turn_goes_on job blocks (Other (Pause done polls)) faults a b at work (Other Stop) (λ selected. tt)
+      goes_on job blocks (Other (Pause done polls)) faults a b at work (Other Stop) (λ selected. tt)
       (λ exact selected. each_way job.way (λ reads none. absurd none)
       (λ writes taking. all_accepted last (accepts_by (calm_in_rcv work.own taking.0 selected) taking.0)) exact)
       (λ exact same. each_way job.way (λ reads none. absurd none)

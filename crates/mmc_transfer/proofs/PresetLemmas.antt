@@ -12,7 +12,7 @@ use Rattle.mmc_card.specs.Sectors.{Sector}
 use Rattle.mmc_bus.specs.Work.{Narrows, Worked}
 use Rattle.mmc_bus.specs.declared.cause.Cause.{Cause}
 use Rattle.mmc_switch.proofs.UnderWayLemmas.{no_error, quiet_by}
-use Rattle.mmc_transfer.proofs.StepLemmas.{for_both, from_both, turn_fails, turn_goes_there}
+use Rattle.mmc_transfer.proofs.StepLemmas.{for_both, from_both, fails, goes_there}
 use Rattle.mmc_transfer.specs.Commands.{CanPreset}
 use Rattle.mmc_transfer.specs.Running.{Exact, IsIn, Turned, preset_of}
 use Rattle.mmc_switch.specs.UnderWay.{IsIdle}
@@ -58,7 +58,7 @@ module _ (job : Job) (blocks : List Sector) (faults : ℕ) (kind : Kind) (a b : 
   pub preset_fails : (result : Result (Option Phase) Cause) → IsErr result → Presets kind job.count false a b
       → Turned job blocks faults a result b
   preset_fails result err work =
-      turn_fails job blocks (Other Preset) faults a b at work result err
+      fails job blocks (Other Preset) faults a b at work result err
       (λ exact same. cc (work.fine same (can_preset exact)))
 
   -- it has done so
@@ -72,6 +72,6 @@ module _ (job : Job) (blocks : List Sector) (faults : ℕ) (kind : Kind) (a b : 
 
   pub preset_goes_on : Presets kind job.count true a b → Turned job blocks faults a (Ok (Some (Other Command))) b
   preset_goes_on work =
-      turn_goes_there job blocks (Other Preset) faults a b at work (Other Command) tt
+      goes_there job blocks (Other Preset) faults a b at work (Other Command) tt
       (λ exact. let idle : IsIdle 0 a.card = from_both job.way exact in
       for_both job.way (subst (IsIdle (preset_of job)) (sym (work.own refl idle.quiet.erase)) (is_preset idle)))

@@ -1,16 +1,15 @@
 -- A turn that moves no block: what it leaves, from what its exchange did.
-use Rattle.std.proofs.Common.{◌≡◌, List, false, refl, subst, ℕ}
+use Rattle.std.proofs.Common.{◌∙◌, ◌≡◌, List, ap, arith, length, refl, subst, sym, take, ℕ}
+use Rattle.std.proofs.lemmas.List.{take_all}
 use Rattle.std.specs.Prelude.{Err, IsErr, IsTrue, Ok, Option, Result, Some}
-use Rattle.mmc_card.proofs.SectorLemmas.{old_maybe}
 use Rattle.mmc_card.specs.BusView.{BusView}
-use Rattle.mmc_card.specs.Card.{holds}
 use Rattle.mmc_card.specs.Faults.{NoFault}
-use Rattle.mmc_card.specs.Sectors.{Sector, Within, maybe_changed}
+use Rattle.mmc_card.specs.Sectors.{Sector}
 use Rattle.mmc_bus.specs.Work.{Narrows, Worked}
 use Rattle.mmc_bus.specs.declared.cause.Cause.{Cause}
-use Rattle.mmc_switch.proofs.UnderWayLemmas.{goes_on, has_failed}
+use Rattle.mmc_switch.proofs.TurnLemmas.{turn_fails, turn_goes_on}
 use Rattle.mmc_transfer.specs.Fits.{step_fits}
-use Rattle.mmc_transfer.specs.Running.{Exact, IsIn, Shown, Turned, by_way, change_of}
+use Rattle.mmc_transfer.specs.Running.{Exact, HasEffect, IsIn, Shown, Turned, by_way, change_of, written}
 use Rattle.mmc_transfer.specs.declared.job.Job.{Job}
 use Rattle.mmc_transfer.specs.declared.phase.Phase.{Phase}
 use Rattle.mmc_transfer.specs.declared.phase.Phase.TheVariants.{Other}
@@ -38,41 +37,37 @@ pub either_way : {R W X : Type 0} (way : Way) → (way ≡ Read → R → X) →
 either_way Read read write x = read refl x
 either_way Write read write x = write refl x
 
+-- a write changes its sectors to all its blocks
+pub all_written : (job : Job) (blocks : List Sector) → length blocks ≡ job.count → job.way ≡ Write
+    → take job.count blocks ≡ (change_of job blocks).values
+all_written job blocks all writes =
+    take_all job.count blocks (omega (arith, all)) ∙ sym (ap (λ way. written way blocks) writes)
+
 -- A turn, from what its exchange did.
 module _ {Own Fine : BusView → BusView → Type 0} (job : Job) (blocks : List Sector) (phase : Phase) (faults : ℕ)
     (a b : BusView) (at : IsIn job blocks phase faults a) (work : Worked Narrows Own Fine a b) where
-  pub no_more : Within (holds b.card) (maybe_changed (change_of job blocks) (holds a.card))
-  no_more part sector value h =
-      old_maybe (change_of job blocks) (holds a.card) part sector value (work.sectors part sector value h)
-
   -- it fails, which it can't without a fault
-  pub turn_fails : (result : Result (Option Phase) Cause) → IsErr result
-      → (Exact job blocks phase a.card → NoFault a b → ⊥) → Turned job blocks faults a result b
-  turn_fails (Ok next) not calm = cc
-  turn_fails (Err cause) not calm = record {
-    stays = work.stays;
-    within = no_more;
-    left = has_failed job.session (Shown phase) (Exact job blocks phase) faults a b at work
-        (record { session = job.session; cause = cause; must_reset = false }) refl calm;
-  }
+  pub fails : (result : Result (Option Phase) Cause) → IsErr result → (Exact job blocks phase a.card → NoFault a b → ⊥)
+      → Turned job blocks faults a result b
+  fails (Ok next) not calm = cc
+  fails (Err cause) not calm =
+      turn_fails job.session (change_of job blocks) Shown (Exact job blocks) (HasEffect job blocks) phase faults a b at
+      work cause calm
 
   -- the run goes on, and by what is shown in the next phase the card was exactly in this one
-  pub turn_goes_on : (next : Phase) → (Shown next b.card → Shown phase a.card)
+  pub goes_on : (next : Phase) → (Shown next b.card → Shown phase a.card)
       → (Exact job blocks phase a.card → Shown next b.card → Exact job blocks next b.card)
       → (Exact job blocks phase a.card → NoFault a b → Exact job blocks next b.card)
       → Turned job blocks faults a (Ok (Some next)) b
-  turn_goes_on next shows comes calm = record {
-    stays = work.stays;
-    within = no_more;
-    left = goes_on job.session (Shown phase) (Exact job blocks phase) faults a b at work (Shown next)
-        (Exact job blocks next) shows comes calm;
-  }
+  goes_on next shows comes calm =
+      turn_goes_on job.session (change_of job blocks) Shown (Exact job blocks) (HasEffect job blocks) phase faults a b at
+      work next shows comes calm
 
   -- the exchange itself has shown it
-  pub turn_goes_there : (next : Phase) → Shown phase a.card
+  pub goes_there : (next : Phase) → Shown phase a.card
       → (Exact job blocks phase a.card → Exact job blocks next b.card)
       → Turned job blocks faults a (Ok (Some next)) b
-  turn_goes_there next shown comes = turn_goes_on next (λ s. shown) (λ exact s. comes exact) (λ exact same. comes exact)
+  goes_there next shown comes = goes_on next (λ s. shown) (λ exact s. comes exact) (λ exact same. comes exact)
 
 -- the step by its name
 pub in_step : (job : Job) (blocks : List Sector) (faults : ℕ) (view : BusView) {step other : Step} → step ≡ other

@@ -22,6 +22,7 @@ use Rattle.mmc_bus.specs.Work.{Narrows, Worked}
 use Rattle.mmc_switch.proofs.UnderWayLemmas.{goes_there, has_failed, knows_then, lines_in, part_in, quiet_by, ready_again}
 use Rattle.mmc_switch.proofs.UnderWayLemmas.{room_is, stands_then}
 use Rattle.mmc_switch.specs.Place.{IsReady}
+use Rattle.mmc_switch.specs.Turns.{LeftIn}
 use Rattle.mmc_switch.specs.UnderWay.{IsQuiet, faults_then, part_of, room_of}
 use Rattle.mmc_transfer.proofs.GiveLemmas.{below, last_is, left_then}
 use Rattle.mmc_transfer.specs.declared.job.Job.{Job}
@@ -31,7 +32,7 @@ use Rattle.mmc_transfer.specs.declared.phase.Step.TheVariants.{Stop}
 use Rattle.mmc_transfer.specs.declared.way.Way.{Way}
 use Rattle.mmc_transfer.specs.declared.way.Way.TheVariants.{Read, Write}
 use Rattle.mmc_transfer.specs.Moves.{after_read}
-use Rattle.mmc_transfer.specs.Running.{AreStored, Exact, HasEffect, IsIn, IsLeft, IsSending, ReadExact}
+use Rattle.mmc_transfer.specs.Running.{AreStored, Exact, HasEffect, IsIn, IsSending, ReadExact}
 use Rattle.mmc_switch.specs.UnderWay.{IsCarriedOut}
 use Rattle.mmc_transfer.specs.Running.{Shown, Turned, WriteExact, by_way, change_of, is_counted}
 
@@ -297,7 +298,7 @@ module _ (job : Job) (blocks news : List Sector) (done faults : ℕ) (bytes : Se
           )
 
       left_by : (next counted : Bool) → nat_lt (done + 1) job.count ≡ next → is_counted job ≡ counted
-          → IsLeft job news
+          → LeftIn job.session (IsIn job news) (HasEffect job news)
           (Ok (if next then Some (Block (done + 1)) else if counted then None else Some (Other Stop)))
           (faults_then faults a b) b
       left_by true counted test is =
@@ -312,6 +313,6 @@ module _ (job : Job) (blocks news : List Sector) (done faults : ℕ) (bytes : Se
       take_ends next to = record {
         stays = work.stays;
         within = within work.sectors;
-        left = subst (λ n. IsLeft job news (Ok n) (faults_then faults a b) b) (sym to)
+        left = subst (λ n. LeftIn job.session (IsIn job news) (HasEffect job news) (Ok n) (faults_then faults a b) b) (sym to)
             (left_by (nat_lt (done + 1) job.count) (is_counted job) refl refl);
       }

@@ -1,19 +1,19 @@
 -- A turn of a run, from its exchange.
 use Rattle.std.proofs.Common.{◌&&◌, ◌≡◌, ◌≤◌, Bool, List, arith, eq-eqb, false, refl, subst, sym, true, ℕ}
-use Rattle.std.specs.Prelude.{◌==◌, Err, None, Ok, Option, Result, Some, if◌then◌else◌, nat_lt}
+use Rattle.std.specs.Prelude.{◌==◌, Option, Result, if◌then◌else◌, nat_lt}
 use Rattle.std.proofs.lemmas.Bool.Decides.{nat_tests}
 use Rattle.mmc_card.specs.BusView.{BusView}
 use Rattle.mmc_card.specs.Sectors.{Sector}
 use Rattle.mmc_bus.specs.declared.cause.Cause.{Cause}
 use Rattle.mmc_switch.specs.Place.{IsReady}
 use Rattle.mmc_switch.specs.declared.progress.Progress.{Progress}
-use Rattle.mmc_switch.specs.declared.progress.Progress.TheVariants.{Done, Failed, More}
 use Rattle.mmc_switch.specs.declared.session.Session.{Session}
+use Rattle.mmc_switch.proofs.TurnLemmas.{turn_leaves}
 use Rattle.mmc_switch.proofs.UnderWayLemmas.{begins, quiet_by}
 use Rattle.mmc_transfer.proofs.StepLemmas.{for_both}
 use Rattle.mmc_transfer.specs.Fits.{first_of}
-use Rattle.mmc_transfer.specs.Run.{HasProgressed, HasTurned}
-use Rattle.mmc_transfer.specs.Running.{Exact, IsIn, Shown, Turned, preset_of}
+use Rattle.mmc_transfer.specs.Run.{HasProgressed, HasTurned, IsRunning}
+use Rattle.mmc_transfer.specs.Running.{Exact, HasEffect, IsIn, Shown, Turned, change_of, preset_of}
 use Rattle.mmc_switch.specs.UnderWay.{IsIdle}
 use Rattle.mmc_transfer.specs.declared.job.Job.{Job}
 use Rattle.mmc_transfer.specs.declared.phase.Phase.{Phase}
@@ -26,18 +26,9 @@ use Rattle.mmc_transfer.specs.declared.run.Run.{Run}
 pub has_turned : (run : Run) (blocks : List Sector) (faults : ℕ) (old : BusView) (outcome : Result (Option Phase) Cause)
     (result : Progress Run) (new : BusView) → HasProgressed run.job outcome result
     → Turned run.job blocks faults old outcome new → HasTurned run blocks faults old result new
-has_turned run blocks faults old (Ok (Some phase)) (More next) new is t =
-    record { stays = t.stays; within = t.within; left = rw (is.0, is.1) t.left }
-has_turned run blocks faults old (Ok (Some phase)) (Done session) new is t = absurd is
-has_turned run blocks faults old (Ok (Some phase)) (Failed broken) new is t = absurd is
-has_turned run blocks faults old (Ok None) (More next) new is t = absurd is
-has_turned run blocks faults old (Ok None) (Done session) new is t =
-    record { stays = t.stays; within = t.within; left = rw is t.left }
-has_turned run blocks faults old (Ok None) (Failed broken) new is t = absurd is
-has_turned run blocks faults old (Err cause) (More next) new is t = absurd is
-has_turned run blocks faults old (Err cause) (Done session) new is t = absurd is
-has_turned run blocks faults old (Err cause) (Failed broken) new is t =
-    record { stays = t.stays; within = t.within; left = rw is t.left }
+has_turned run blocks faults old outcome result new makes t =
+    turn_leaves run.job.session (change_of run.job blocks) (IsIn run.job blocks) (λ next. IsRunning next blocks)
+    (HasEffect run.job blocks) _ (λ phase next faults view is at. rw (is.0, is.1) at) outcome result makes faults old new t
 
 -- A run begins with a card that is ready.
 

@@ -1,12 +1,11 @@
 -- What contracts see of a run.
-use Rattle.std.specs.Prelude.{◌<◌, ◌≡◌, Err, List, None, Ok, Option, Result, Some, ℕ}
+use Rattle.std.specs.Prelude.{◌≡◌, List, Option, Result, ℕ}
 use Rattle.mmc_card.specs.BusView.{BusView}
 use Rattle.mmc_card.specs.Sectors.{Sector}
 use Rattle.mmc_bus.specs.declared.cause.Cause.{Cause}
-use Rattle.mmc_switch.specs.Place.{IsReady}
-use Rattle.mmc_switch.specs.UnderWay.{HasFailed, Turn, broken_off}
+use Rattle.mmc_switch.specs.Turns.{Leaves, LowersBy, Makes, StaysFor}
+use Rattle.mmc_switch.specs.UnderWay.{Turn}
 use Rattle.mmc_switch.specs.declared.progress.Progress.{Progress}
-use Rattle.mmc_switch.specs.declared.progress.Progress.TheVariants.{Done, Failed, More}
 use Rattle.mmc_transfer.specs.Fits.{phase_left}
 use Rattle.mmc_transfer.specs.Running.{HasEffect, IsIn, change_of}
 use Rattle.mmc_transfer.specs.declared.job.Job.{Job}
@@ -23,21 +22,17 @@ IsRunning run blocks faults view = IsIn run.job blocks run.phase faults view
 
 -- The run stays for the same sectors of the same session.
 abbrev pub IsSameRun : Run → Progress Run → Type 0
-IsSameRun run (More next) = next.job ≡ run.job
-IsSameRun run (Done session) = session ≡ run.job.session
-IsSameRun run (Failed broken) = broken ≡ broken_off run.job.session broken.cause
+IsSameRun run result = StaysFor (λ next. next.job ≡ run.job) run.job.session result
 
 -- each turn brings it nearer to its end, which was still to come
 abbrev pub Lowers : Run → Progress Run → Type 0
-Lowers run (More next) = exchanges_left next < exchanges_left run
-Lowers run _ = 0 < exchanges_left run
+Lowers run result = LowersBy exchanges_left run result
 
 -- What a turn leaves: the run goes on; it is done, with its whole effect, and the card is ready; or it has failed, and a
 -- fault fell in it.
 abbrev pub HasLeft : Run → List Sector → Progress Run → ℕ → BusView → Type 0
-HasLeft run blocks (More next) faults view = IsRunning next blocks faults view
-HasLeft run blocks (Done session) faults view = IsReady session view × HasEffect run.job blocks view.card
-HasLeft run blocks (Failed broken) faults view = HasFailed broken faults view
+HasLeft run blocks result faults view =
+    Leaves (λ next. IsRunning next blocks) (HasEffect run.job blocks) result faults view
 
 -- A turn of a run. Each sector that a write names is old or new, and no other sector has changed.
 abbrev pub HasTurned : Run → List Sector → ℕ → BusView → Progress Run → BusView → Type 0
@@ -45,7 +40,5 @@ HasTurned run blocks faults old result new = Turn (change_of run.job blocks) (Ha
 
 -- what an exchange makes of a run
 abbrev pub HasProgressed : Job → Result (Option Phase) Cause → Progress Run → Type 0
-HasProgressed job (Ok (Some phase)) (More run) = (run.job ≡ job) × (run.phase ≡ phase)
-HasProgressed job (Ok None) (Done session) = session ≡ job.session
-HasProgressed job (Err cause) (Failed broken) = broken ≡ broken_off job.session cause
-HasProgressed job _ _ = ⊥
+HasProgressed job outcome result =
+    Makes job.session (λ phase run. (run.job ≡ job) × (run.phase ≡ phase)) outcome result

@@ -1,22 +1,21 @@
 -- Where the card is in each phase of a run, over a bus that is kept.
-use Rattle.std.specs.Prelude.{◌+◌, ◌-◌, ◌<◌, ◌==◌, ◌≡◌, ◌⊎◌, Bool, Err, List, None, Ok, Option, Result, Some, [], false}
+use Rattle.std.specs.Prelude.{◌+◌, ◌-◌, ◌<◌, ◌==◌, ◌≡◌, ◌⊎◌, Bool, List, None, Option, Result, Some, [], false}
 use Rattle.std.specs.Prelude.{if◌then◌else◌, slice_index_or, take, true, ℕ}
-use Rattle.mmc_frame.specs.declared.card_state.State.{State}
-use Rattle.mmc_frame.specs.declared.card_state.State.TheVariants.{Data, Prg, Rcv}
+use Rattle.mmc_frame.specs.declared.card_state.State.TheVariants.{Data, Rcv}
 use Rattle.mmc_card.specs.BusView.{BusView}
 use Rattle.mmc_card.specs.Card.{Card, FromSectors, holds, is_selected, stored}
 use Rattle.mmc_card.specs.ErrorBits.{out_of_range}
 use Rattle.mmc_card.specs.Sectors.{AreRead, Change, Sector}
 use Rattle.mmc_bus.specs.declared.cause.Cause.{Cause}
-use Rattle.mmc_switch.specs.Place.{IsReady}
-use Rattle.mmc_switch.specs.UnderWay.{HasFailed, IsBusyAfter, IsCarriedOut, IsIdle, IsQuiet, IsUnderWay}
-use Rattle.mmc_switch.specs.UnderWay.{Turn, broken_off, part_of, room_of}
+use Rattle.mmc_switch.specs.Ending.{IsEnding, ShownIn}
+use Rattle.mmc_switch.specs.Turns.{LeftIn}
+use Rattle.mmc_switch.specs.UnderWay.{IsBusyAfter, IsCarriedOut, IsIdle, IsQuiet, IsUnderWay, Turn, part_of, room_of}
 use Rattle.mmc_switch.specs.declared.session.Session.{Session}
 use Rattle.mmc_transfer.specs.Address.{is_counted_by}
 use Rattle.mmc_transfer.specs.declared.job.Job.{Job}
 use Rattle.mmc_transfer.specs.declared.phase.Phase.{Phase}
 use Rattle.mmc_transfer.specs.declared.phase.Phase.TheVariants.{Block, Other}
-use Rattle.mmc_transfer.specs.declared.phase.Step.TheVariants.{Command, Confirm, Finish, Pause, Preset, Stop}
+use Rattle.mmc_transfer.specs.declared.phase.Step.TheVariants.{Command, End, Pause, Preset, Stop}
 use Rattle.mmc_transfer.specs.declared.way.Way.{Way}
 use Rattle.mmc_transfer.specs.declared.way.Way.TheVariants.{Read, Write}
 
@@ -66,8 +65,8 @@ pub record IsSending (done : ℕ) (job : Job) (blocks : List Sector) (card : Car
   pub read : AreStored done job blocks card
 
 -- The card has accepted so many blocks of a write.
-pub record IsTaking (place : State) (done : ℕ) (job : Job) (blocks : List Sector) (card : Card) : Type 0 where
-  pub quiet : IsQuiet place 0 card
+pub record IsTaking (done : ℕ) (job : Job) (blocks : List Sector) (card : Card) : Type 0 where
+  pub quiet : IsQuiet Rcv 0 card
   pub start : card.start ≡ job.start
   pub values : card.values ≡ take done blocks
   pub left : card.left ≡ left_of job done
@@ -79,28 +78,25 @@ ReadExact job blocks (Other Preset) card = IsIdle 0 card
 ReadExact job blocks (Other Command) card = IsIdle (preset_of job) card
 ReadExact job blocks (Other (Pause done polls)) card = ⊥
 ReadExact job blocks (Other Stop) card = IsSending job.count job blocks card
-ReadExact job blocks (Other (Finish polls)) card = IsIdle 0 card × AreStored job.count job blocks card
-ReadExact job blocks (Other Confirm) card = IsIdle 0 card × AreStored job.count job blocks card
+ReadExact job blocks (Other (End ending)) card = IsIdle 0 card × AreStored job.count job blocks card
 
 abbrev pub WriteExact : Job → List Sector → Phase → Card → Type 0
-WriteExact job blocks (Block done) card = IsTaking Rcv done job blocks card × (card.is_busy ≡ false)
+WriteExact job blocks (Block done) card = IsTaking done job blocks card × (card.is_busy ≡ false)
 WriteExact job blocks (Other Preset) card = IsIdle 0 card
 WriteExact job blocks (Other Command) card = IsIdle (preset_of job) card
 WriteExact job blocks (Other (Pause done polls)) card =
-    IsTaking Rcv done job blocks card × IsBusyAfter polls card
-WriteExact job blocks (Other Stop) card = IsTaking Rcv job.count job blocks card × (card.is_busy ≡ false)
-WriteExact job blocks (Other (Finish polls)) card =
-    IsTaking Prg job.count job blocks card × IsBusyAfter polls card
-WriteExact job blocks (Other Confirm) card = IsIdle 0 card × IsCarriedOut (change_of job blocks) card
+    IsTaking done job blocks card × IsBusyAfter polls card
+WriteExact job blocks (Other Stop) card = IsTaking job.count job blocks card × (card.is_busy ≡ false)
+WriteExact job blocks (Other (End ending)) card = IsEnding (change_of job blocks) ending card
 
 abbrev pub Exact : Job → List Sector → Phase → Card → Type 0
 Exact job blocks phase card = by_way job.way (ReadExact job blocks phase card) (WriteExact job blocks phase card)
 
--- By this a card shows that it is there, whatever fell: that it is selected still, and at the end that it holds no error.
+-- By this a card shows that it is there, whatever fell: that it is selected still.
 abbrev pub Shown : Phase → Card → Type 0
 Shown (Block done) card = is_selected card.state ≡ true
 Shown (Other Stop) card = is_selected card.state ≡ true
-Shown (Other Confirm) card = (is_selected card.state ≡ true) × (card.errors ≡ 0)
+Shown (Other (End ending)) card = ShownIn ending card
 Shown _ card = Unit {0}
 
 -- the run is in this phase after so many faults in its turns
@@ -112,13 +108,8 @@ abbrev pub HasEffect : Job → List Sector → Card → Type 0
 HasEffect job blocks card =
     by_way job.way (AreRead (holds card) (part_of job.session) job.start blocks) (IsCarriedOut (change_of job blocks) card)
 
--- What a turn leaves: the run goes on, or it is done, or it has failed.
-abbrev pub IsLeft : Job → List Sector → Result (Option Phase) Cause → ℕ → BusView → Type 0
-IsLeft job blocks (Ok (Some phase)) faults view = IsIn job blocks phase faults view
-IsLeft job blocks (Ok None) faults view = IsReady job.session view × HasEffect job blocks view.card
-IsLeft job blocks (Err cause) faults view = HasFailed (broken_off job.session cause) faults view
-
 -- A turn of a run from this phase: each sector that it names holds no more than before or its block, and no other more
 -- than before.
 abbrev pub Turned : Job → List Sector → ℕ → BusView → Result (Option Phase) Cause → BusView → Type 0
-Turned job blocks faults old result new = Turn (change_of job blocks) (IsLeft job blocks result) faults old new
+Turned job blocks faults old result new =
+    Turn (change_of job blocks) (LeftIn job.session (IsIn job blocks) (HasEffect job blocks) result) faults old new

@@ -13,5 +13,6 @@ mod whole;
 
 pub use job::MAX_BLOCKS;
 pub use run::Run;
+pub use turns::{EXCHANGES_BESIDE_BLOCKS, EXCHANGES_OF_A_BLOCK};
 pub use way::Way;
 pub use whole::{read_run, write_run};

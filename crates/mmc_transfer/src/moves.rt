@@ -1,9 +1,10 @@
 // The phases of a run that move a block: one exchange each, and what comes behind it. The block is moved in place.
-ghost use Rattle.std.specs.Prelude.{◌≡◌, ◌+◌, ◌<◌, ◌≤◌, IfOk, IsTrue, List, length, true, ℕ};
+ghost use Rattle.std.specs.Prelude.{◌≡◌, ◌+◌, ◌<◌, ◌≤◌, IfOk, IfSome, IsTrue, List, length, true, ℕ};
 ghost use Rattle.mmc_bus.specs.Lending.{IsRewritten};
 ghost use Rattle.mmc_bus.specs.Work.{Ends};
 ghost use Rattle.mmc_card.specs.Sectors.{Sector};
-ghost use Rattle.mmc_transfer.specs.Fits.{phase_left, some_fits, some_left};
+ghost use Rattle.mmc_switch.specs.Turns.{left_after};
+ghost use Rattle.mmc_transfer.specs.Fits.{phase_fits, phase_left};
 ghost use Rattle.mmc_transfer.specs.Moves.{after_read, after_written};
 ghost use Rattle.mmc_transfer.specs.Running.{IsIn, Turned};
 ghost use Rattle.mmc_transfer.specs.declared.phase.Phase.TheVariants.{Block};
@@ -12,13 +13,14 @@ ghost use Rattle.mmc_transfer.specs.declared.way.Way.TheVariants.{Read, Write};
 use crate::job::Job;
 use crate::phase::{Phase, Step};
 use mmc_bus::{Blocks, BlocksMut, Bus, Cause, offer, receive};
+use mmc_switch::Ending;
 
-// What comes once so many blocks are written: polls, or the last polls where the card knows that it was the last block.
+// What comes once so many blocks are written: polls, or what ends the run where the card knows that it was the last block.
 fn after_written(job: &Job, done: u32) -> Step
     ensures { result ≡ after_written job.now done }
 {
     if done == job.count && job.is_counted() {
-        Step::Finish { polls: 0 }
+        Step::End(Ending::Wait { polls: 0 })
     } else {
         Step::Pause { done, polls: 0 }
     }
@@ -52,8 +54,8 @@ pub fn give<B: Bus, D: Blocks>(
     requires count { length (D.blocks blocks.now) ≡ job.now.count }
     ensures ends { Ends 1 (B.view bus.old) result (B.view bus.new) }
     ensures kept { (B.view bus.new).is_kept ≡ true → (B.view bus.old).is_kept ≡ true }
-    ensures fits { IfOk result (λ next. IsTrue (some_fits job.now.count job.now.session.info.cmd23 next)) }
-    ensures lowers { IfOk result (λ next. some_left job.now.count job.now.session.info.cmd23 next < phase_left job.now.count job.now.session.info.cmd23 (Block done)) }
+    ensures fits { IfOk result (λ next. IfSome next (λ phase. IsTrue (phase_fits job.now.count job.now.session.info.cmd23 phase))) }
+    ensures lowers { let left = phase_left job.now.count job.now.session.info.cmd23 in IfOk result (λ next. left_after left next < left (Block done)) }
     ensures turned { (B.view bus.new).is_kept ≡ true → (faults : ℕ) → IsIn job.now (D.blocks blocks.now) (Block done) faults (B.view bus.old)
         → Turned job.now (D.blocks blocks.now) faults (B.view bus.old) result (B.view bus.new) }
 {
@@ -78,8 +80,8 @@ pub fn take<B: Bus, D: BlocksMut>(
     ensures kept { (B.view bus.new).is_kept ≡ true → (B.view bus.old).is_kept ≡ true }
     ensures count { length (D.blocks blocks.new) ≡ length (D.blocks blocks.old) }
     ensures lent { IsRewritten D.blocks D.with blocks.old blocks.new }
-    ensures fits { IfOk result (λ next. IsTrue (some_fits job.now.count job.now.session.info.cmd23 next)) }
-    ensures lowers { IfOk result (λ next. some_left job.now.count job.now.session.info.cmd23 next < phase_left job.now.count job.now.session.info.cmd23 (Block done)) }
+    ensures fits { IfOk result (λ next. IfSome next (λ phase. IsTrue (phase_fits job.now.count job.now.session.info.cmd23 phase))) }
+    ensures lowers { let left = phase_left job.now.count job.now.session.info.cmd23 in IfOk result (λ next. left_after left next < left (Block done)) }
     ensures turned { (B.view bus.new).is_kept ≡ true → (faults : ℕ) → IsIn job.now (D.blocks blocks.old) (Block done) faults (B.view bus.old)
         → Turned job.now (D.blocks blocks.new) faults (B.view bus.old) result (B.view bus.new) }
 {

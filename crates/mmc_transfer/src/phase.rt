@@ -1,4 +1,5 @@
 // Where a run is: the exchange that comes next.
+use mmc_switch::Ending;
 
 /// The next exchange of a run.
 #[derive(Clone, Copy, Debug, PartialEq, Eq)]
@@ -20,8 +21,6 @@ pub enum Step {
     Pause { done: u32, polls: u64 },
     /// CMD12.
     Stop,
-    /// A poll behind what ended the transfer, after so many.
-    Finish { polls: u64 },
-    /// CMD13.
-    Confirm,
+    /// What ends the run.
+    End(Ending),
 }

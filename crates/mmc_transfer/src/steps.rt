@@ -2,36 +2,23 @@
 //
 // 1. A run of several blocks begins with CMD23, where the card knows it, and the command follows.
 // 2. After each block that is written the card is polled until it isn't busy, at most sixteen times.
-// 3. Where the card doesn't know the number of blocks, CMD12 ends the transfer, and the card is polled.
-// 4. At the end comes a CMD13 whose status has to be clean, but for a read whose number of blocks the card knows.
-// 5. Anything else ends the run at once.
-ghost use Rattle.std.specs.Prelude.{◌≡◌, ◌+◌, ◌<◌, IfErr, IfOk, IsTrue, List, length, true, ℕ};
+// 3. Where the card doesn't know the number of blocks, CMD12 ends the transfer.
+// 4. The run ends with polls and a clean status, but for a read whose number of blocks the card knows.
+// 5. Anything else ends it at once.
+ghost use Rattle.std.specs.Prelude.{◌≡◌, ◌<◌, IfOk, IfSome, IsTrue, List, length, true, ℕ};
 ghost use Rattle.mmc_bus.specs.Work.{Ends};
-ghost use Rattle.mmc_bus.specs.declared.cause.Cause.TheVariants.{Busy};
-ghost use Rattle.mmc_bus.specs.declared.wait.TheConstants.{MAX_POLLS};
 ghost use Rattle.mmc_card.specs.Sectors.{Sector};
-ghost use Rattle.mmc_transfer.specs.Fits.{phase_fits, some_fits, some_left, step_fits, step_left};
+ghost use Rattle.mmc_switch.specs.Turns.{left_after};
+ghost use Rattle.mmc_transfer.specs.Fits.{phase_fits, phase_left, step_fits};
 ghost use Rattle.mmc_transfer.specs.Running.{IsIn, Turned};
 ghost use Rattle.mmc_transfer.specs.declared.phase.Phase.TheVariants.{Other};
-ghost use Rattle.mmc_transfer.specs.declared.phase.Step.TheVariants.{Command, Confirm, Finish, Pause, Preset, Stop};
+ghost use Rattle.mmc_transfer.specs.declared.phase.Step.TheVariants.{Command, End, Pause, Preset, Stop};
 
 use crate::commands::{preset, start, stop};
 use crate::job::Job;
 use crate::phase::{Phase, Step};
-use mmc_bus::{Bus, Cause, MAX_POLLS, card_laws, confirm, poll};
-
-// One poll more, unless the card has been polled so often.
-fn one_more(polls: u64) -> Result<u64, Cause>
-    requires { polls < MAX_POLLS }
-    ensures ok { IfOk result (λ more. (more ≡ polls + 1) × (more < MAX_POLLS)) }
-    ensures err { IfErr result (λ cause. (cause ≡ Busy) × (polls + 1 ≡ MAX_POLLS)) }
-{
-    if polls + 1 == MAX_POLLS {
-        Err(Cause::Busy)
-    } else {
-        Ok(polls + 1)
-    }
-}
+use mmc_bus::{Bus, Cause, card_laws, poll};
+use mmc_switch::{Ending, one_more};
 
 /// The exchange of this phase, and the phase behind it, or `None` where the run is done.
 ///
@@ -41,8 +28,8 @@ pub fn step<B: Bus>(bus: &mut B, job: &Job, phase: Step) -> Result<Option<Phase>
     requires fits { IsTrue (step_fits job.now.count job.now.session.info.cmd23 phase) }
     ensures ends { Ends 1 (B.view bus.old) result (B.view bus.new) }
     ensures kept { (B.view bus.new).is_kept ≡ true → (B.view bus.old).is_kept ≡ true }
-    ensures fits { IfOk result (λ next. IsTrue (some_fits job.now.count job.now.session.info.cmd23 next)) }
-    ensures lowers { IfOk result (λ next. some_left job.now.count job.now.session.info.cmd23 next < step_left job.now.count job.now.session.info.cmd23 phase) }
+    ensures fits { IfOk result (λ next. IfSome next (λ phase. IsTrue (phase_fits job.now.count job.now.session.info.cmd23 phase))) }
+    ensures lowers { let left = phase_left job.now.count job.now.session.info.cmd23 in IfOk result (λ next. left_after left next < left (Other phase)) }
     ensures turned { (B.view bus.new).is_kept ≡ true → (blocks : List Sector) (faults : ℕ) → length blocks ≡ job.now.count → IsIn job.now blocks (Other phase) faults (B.view bus.old)
         → Turned job.now blocks faults (B.view bus.old) result (B.view bus.new) }
 {
@@ -69,19 +56,11 @@ pub fn step<B: Bus>(bus: &mut B, job: &Job, phase: Step) -> Result<Option<Phase>
         }
         Step::Stop => {
             stop(bus, kind, job.ends_partition())?;
-            Ok(Some(Phase::Other(Step::Finish { polls: 0 })))
+            Ok(Some(Phase::Other(Step::End(Ending::Wait { polls: 0 }))))
         }
-        Step::Finish { polls } => {
-            if poll(bus) {
-                let polls = one_more(polls)?;
-                Ok(Some(Phase::Other(Step::Finish { polls })))
-            } else {
-                Ok(Some(Phase::Other(Step::Confirm)))
-            }
-        }
-        Step::Confirm => {
-            confirm(bus, kind, job.session.rca())?;
-            Ok(None)
+        Step::End(ending) => {
+            let next = ending.step(bus, &job.session)?;
+            Ok(next.map(Step::End).map(Phase::Other))
         }
     }
 }

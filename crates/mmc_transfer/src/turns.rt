@@ -1,5 +1,5 @@
 // Runs of blocks, a turn at a time: each turn is one exchange.
-ghost use Rattle.std.specs.Prelude.{◌≡◌, ◌*◌, ◌+◌, ◌<◌, ◌≤◌, IfOk, IsSome, IsTrue, List, false, length, true, ℕ};
+ghost use Rattle.std.specs.Prelude.{◌≡◌, ◌*◌, ◌+◌, ◌<◌, ◌≤◌, IfOk, IfSome, IsSome, IsTrue, List, false, length, true, ℕ};
 ghost use Rattle.mmc_card.specs.BusView.{BusView};
 ghost use Rattle.mmc_card.specs.Sectors.{Sector};
 ghost use Rattle.mmc_bus.specs.Lending.{IsRewritten};
@@ -8,7 +8,7 @@ ghost use Rattle.mmc_switch.specs.UnderWay.{FailsBy, room_of};
 ghost use Rattle.mmc_transfer.specs.declared.job.TheConstants.{MAX_BLOCKS};
 ghost use Rattle.mmc_transfer.specs.declared.way.Way.TheVariants.{Read, Write};
 ghost use Rattle.mmc_transfer.specs.Run.{HasProgressed, HasTurned, IsRunning, IsSameRun, Lowers, exchanges_left};
-ghost use Rattle.mmc_transfer.specs.Fits.{phase_fits, phase_left, some_fits};
+ghost use Rattle.mmc_transfer.specs.Fits.{phase_fits, phase_left};
 
 use crate::job::{Job, MAX_BLOCKS};
 use crate::moves::{give, take};
@@ -17,7 +17,13 @@ use crate::run::Run;
 use crate::steps::step;
 use crate::way::Way;
 use mmc_bus::{Blocks, BlocksMut, Bus, Cause, MAX_POLLS};
-use mmc_switch::{Progress, Session};
+use mmc_switch::{EXCHANGES_OF_AN_ENDING, Progress, Session};
+
+/// The most exchanges of a block: the block itself, and the polls behind it.
+pub const EXCHANGES_OF_A_BLOCK: u64 = MAX_POLLS + 1;
+
+/// The most exchanges of a run beside those of its blocks: two commands, and those that end it.
+pub const EXCHANGES_BESIDE_BLOCKS: u64 = EXCHANGES_OF_AN_ENDING + 2;
 
 impl Run {
     /// Begins a run of so many blocks, 1 to `MAX_BLOCKS`, from this sector of the selected partition on, inside which they
@@ -32,7 +38,7 @@ impl Run {
         ensures start { result.job.start ≡ start }
         ensures count { result.job.count ≡ count }
         ensures way { result.job.way ≡ way }
-        ensures bounded { exchanges_left result ≤ 17 * count + 19 }
+        ensures bounded { exchanges_left result ≤ EXCHANGES_OF_A_BLOCK * count + EXCHANGES_BESIDE_BLOCKS }
         ensures running { (view : BusView) (blocks : List Sector) → IsReady session view → IsRunning result blocks 0 view }
     {
         let job = Job {
@@ -52,7 +58,7 @@ impl Run {
     pub fn exchanges_left(&self) -> u64
         ensures left { result ≡ exchanges_left self.now }
         ensures some { 0 < result }
-        ensures bounded { result ≤ 17 * self.now.job.count + 19 }
+        ensures bounded { result ≤ EXCHANGES_OF_A_BLOCK * self.now.job.count + EXCHANGES_BESIDE_BLOCKS }
         ensures few { self.now.job.count ≤ MAX_BLOCKS }
     {
         phase_left(&self.job, self.phase)
@@ -111,32 +117,34 @@ impl Run {
     }
 }
 
-// The exchanges that are left at most, from this phase on: 17 for each block, with the polls behind it, and what ends the
-// run.
+// The exchanges that are left at most, from this phase on: those of the blocks to come, and what ends the run.
 fn phase_left(job: &Job, phase: Phase) -> u64
     requires fits { IsTrue (phase_fits job.now.count job.now.session.info.cmd23 phase) }
     ensures { result ≡ phase_left job.now.count job.now.session.info.cmd23 phase }
 {
     let count = u64::from(job.count);
-    let end = if job.is_counted() { 17 } else { 18 };
+    let end = if job.is_counted() {
+        EXCHANGES_OF_AN_ENDING
+    } else {
+        EXCHANGES_OF_AN_ENDING + 1
+    };
     match phase {
-        Phase::Block { done } => 17 * (count - u64::from(done)) + end,
+        Phase::Block { done } => EXCHANGES_OF_A_BLOCK * (count - u64::from(done)) + end,
         Phase::Other(step) => match step {
-            Step::Preset => 17 * count + end + 2,
-            Step::Command => 17 * count + end + 1,
-            Step::Pause { done, polls } => 17 * (count - u64::from(done))
+            Step::Preset => EXCHANGES_OF_A_BLOCK * count + end + 2,
+            Step::Command => EXCHANGES_OF_A_BLOCK * count + end + 1,
+            Step::Pause { done, polls } => EXCHANGES_OF_A_BLOCK * (count - u64::from(done))
                 + end
                 + (MAX_POLLS - polls),
-            Step::Stop => 18,
-            Step::Finish { polls } => MAX_POLLS + 1 - polls,
-            Step::Confirm => 1,
+            Step::Stop => EXCHANGES_OF_AN_ENDING + 1,
+            Step::End(ending) => ending.left(),
         },
     }
 }
 
 // What an exchange makes of a run.
 fn progress(job: Job, outcome: Result<Option<Phase>, Cause>) -> Progress<Run>
-    requires fits { IfOk outcome (λ next. IsTrue (some_fits job.count job.session.info.cmd23 next)) }
+    requires fits { IfOk outcome (λ next. IfSome next (λ phase. IsTrue (phase_fits job.count job.session.info.cmd23 phase))) }
     ensures { HasProgressed job outcome result }
 {
     match outcome {

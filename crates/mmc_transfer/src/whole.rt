@@ -5,6 +5,7 @@ ghost use Rattle.mmc_bus.specs.Lending.{IsRewritten};
 ghost use Rattle.mmc_switch.specs.Place.{IsReady};
 ghost use Rattle.mmc_switch.specs.UnderWay.{IsSameSession, room_of};
 ghost use Rattle.mmc_transfer.specs.declared.job.TheConstants.{MAX_BLOCKS};
+ghost use Rattle.mmc_transfer.specs.declared.turns.TheConstants.{EXCHANGES_BESIDE_BLOCKS, EXCHANGES_OF_A_BLOCK};
 ghost use Rattle.mmc_transfer.specs.declared.way.Way.TheVariants.{Read, Write};
 ghost use Rattle.mmc_transfer.specs.Whole.{HasRun};
 
@@ -14,7 +15,7 @@ use mmc_bus::{Blocks, BlocksMut, Bus, card_laws};
 use mmc_switch::{Broken, Progress, Session};
 
 /// Writes these blocks, 1 to `MAX_BLOCKS`, from this sector of the selected partition on, inside which they are, to a card
-/// that isn't write protected. It makes at most 17 exchanges a block and 19 more.
+/// that isn't write protected. It makes at most `EXCHANGES_OF_A_BLOCK` exchanges a block and `EXCHANGES_BESIDE_BLOCKS` more.
 ///
 /// # Errors
 /// What is left, with the cause of the last exchange. Each sector that is named is old or new then, and no other has
@@ -30,7 +31,7 @@ pub fn write_run<B: Bus, D: Blocks>(
     requires few { length (D.blocks blocks.now) ≤ MAX_BLOCKS }
     requires inside { start + length (D.blocks blocks.now) ≤ room_of session }
     requires writable { session.info.read_only ≡ false }
-    ensures bounded { (B.view bus.new).exchanges ≤ (B.view bus.old).exchanges + (17 * length (D.blocks blocks.now) + 19) }
+    ensures bounded { (B.view bus.new).exchanges ≤ (B.view bus.old).exchanges + (EXCHANGES_OF_A_BLOCK * length (D.blocks blocks.now) + EXCHANGES_BESIDE_BLOCKS) }
     ensures kept { (B.view bus.new).is_kept ≡ true → (B.view bus.old).is_kept ≡ true }
     ensures same { IsSameSession session result }
     ensures cause { IfErr result (λ broken. cause_of (B.view bus.new).last ≡ Some broken.cause) }
@@ -49,7 +50,7 @@ pub fn write_run<B: Bus, D: Blocks>(
 }
 
 /// Reads these blocks, 1 to `MAX_BLOCKS`, from this sector of the selected partition on, inside which they are. It makes at
-/// most 17 exchanges a block and 19 more.
+/// most as many exchanges as a write.
 ///
 /// # Errors
 /// What is left, with the cause of the last exchange. What the blocks hold is open then, and no sector has changed.
@@ -63,7 +64,7 @@ pub fn read_run<B: Bus, D: BlocksMut>(
     requires some { 1 ≤ length (D.blocks blocks.old) }
     requires few { length (D.blocks blocks.old) ≤ MAX_BLOCKS }
     requires inside { start + length (D.blocks blocks.old) ≤ room_of session }
-    ensures bounded { (B.view bus.new).exchanges ≤ (B.view bus.old).exchanges + (17 * length (D.blocks blocks.old) + 19) }
+    ensures bounded { (B.view bus.new).exchanges ≤ (B.view bus.old).exchanges + (EXCHANGES_OF_A_BLOCK * length (D.blocks blocks.old) + EXCHANGES_BESIDE_BLOCKS) }
     ensures count { length (D.blocks blocks.new) ≡ length (D.blocks blocks.old) }
     ensures lent { IsRewritten D.blocks D.with blocks.old blocks.new }
     ensures kept { (B.view bus.new).is_kept ≡ true → (B.view bus.old).is_kept ≡ true }

@@ -1,7 +1,7 @@
 use Rattle.mmc_switch.proofs.EndingLemmas.{polls_by}
 use Rattle.mmc_transfer.proofs.BeginLemmas.{begin_fails, begin_goes_on}
 use Rattle.mmc_transfer.proofs.EndLemmas.{end_fails, end_goes_on}
-use Rattle.mmc_transfer.proofs.FinishLemmas.{close_ends, close_fails, finish_ends, finish_fails, polls_still}
+use Rattle.mmc_transfer.proofs.FinishLemmas.{finish_fails, finish_goes_on}
 use Rattle.mmc_transfer.proofs.PauseLemmas.{pause_ends, pause_fails, pause_stops, pauses_still}
 use Rattle.mmc_transfer.proofs.PresetLemmas.{preset_fails, preset_goes_on}
 use Rattle.mmc_transfer.proofs.StepLemmas.{fits_as, in_step}
@@ -54,40 +54,23 @@ returns-else-done-job-clause-turned g c kept blocks faults all at =
 
 pub returns-in_err-stop-in-Stop-clause-turned : goal.returns-in_err-stop-in-Stop-clause-turned
 returns-in_err-stop-in-Stop-clause-turned g c kept blocks faults all at =
-    end_fails c.args.job.now blocks faults _ _ _ _ c.ends_partition.ensures
+    end_fails c.args.job.now blocks all faults _ _ _ _ c.ends_partition.ensures
     (in_step c.args.job.now blocks faults _ c.in-Stop.is at) _ c.from_residual-in_err-stop-in-Stop.ensures.0
     (c.in_err-stop-in-Stop.ensures.works kept)
 
 pub returns-in_ok-stop-in-Stop-clause-turned : goal.returns-in_ok-stop-in-Stop-clause-turned
 returns-in_ok-stop-in-Stop-clause-turned g c kept blocks faults all at =
-    end_goes_on c.args.job.now blocks faults _ _ _ _ c.ends_partition.ensures
+    end_goes_on c.args.job.now blocks all faults _ _ _ _ c.ends_partition.ensures
     (in_step c.args.job.now blocks faults _ c.in-Stop.is at) (c.in_ok-stop-in-Stop.ensures.works kept)
 
-pub returns-in_err-polls-in-Finish-clause-turned : goal.returns-in_err-polls-in-Finish-clause-turned
-returns-in_err-polls-in-Finish-clause-turned g c kept blocks faults all at =
-    finish_fails c.args.job.now blocks all faults _ _ _ (in_step c.args.job.now blocks faults _ c.in-Finish.is at) _
-    c.from_residual-in_err-polls-in-Finish.ensures.0 c.in_err-polls-in-Finish.ensures.err.1
-    (polls_by _ _ c.if-poll-2.ensures.polled kept)
+pub returns-in_err-next-in-End-clause-turned : goal.returns-in_err-next-in-End-clause-turned
+returns-in_err-next-in-End-clause-turned g c kept blocks faults all at =
+    finish_fails c.args.job.now blocks all faults _ _ _ c.programming_carries_a_change_out.ensures.changes
+    (in_step c.args.job.now blocks faults _ c.in-End.is at) _ _ c.from_residual-in_err-next-in-End.ensures.0
+    (c.in_err-next-in-End.ensures.did kept)
 
-pub returns-in_ok-polls-in-Finish-clause-turned : goal.returns-in_ok-polls-in-Finish-clause-turned
-returns-in_ok-polls-in-Finish-clause-turned g c kept blocks faults all at =
-    polls_still c.args.job.now blocks all faults _ _ _ (in_step c.args.job.now blocks faults _ c.in-Finish.is at) _
-    c.in_ok-polls-in-Finish.ensures.ok.0 (polls_by _ _ c.if-poll-2.ensures.polled kept)
-
-pub returns-else-poll-2-clause-turned : goal.returns-else-poll-2-clause-turned
-returns-else-poll-2-clause-turned g c kept blocks faults all at =
-    finish_ends c.args.job.now blocks all faults _ _ _ (in_step c.args.job.now blocks faults _ c.in-Finish.is at)
-    c.programming_carries_a_change_out.ensures.changes (polls_by _ _ c.if-poll-2.ensures.polled kept)
-
-pub returns-in_err-confirm-in-Confirm-clause-turned :
-    goal.returns-in_err-confirm-in-Confirm-clause-turned
-returns-in_err-confirm-in-Confirm-clause-turned g c kept blocks faults all at =
-    close_fails c.args.job.now blocks all faults _ _ _ _ c.rca.ensures
-    (in_step c.args.job.now blocks faults _ c.in-Confirm.is at) _ c.from_residual-in_err-confirm-in-Confirm.ensures.0
-    (c.in_err-confirm-in-Confirm.ensures.works kept)
-
-pub returns-in_ok-confirm-in-Confirm-clause-turned :
-    goal.returns-in_ok-confirm-in-Confirm-clause-turned
-returns-in_ok-confirm-in-Confirm-clause-turned g c kept blocks faults all at =
-    close_ends c.args.job.now blocks all faults _ _ _ _ c.rca.ensures
-    (in_step c.args.job.now blocks faults _ c.in-Confirm.is at) (c.in_ok-confirm-in-Confirm.ensures.works kept)
+pub returns-in_ok-next-in-End-clause-turned : goal.returns-in_ok-next-in-End-clause-turned
+returns-in_ok-next-in-End-clause-turned g c kept blocks faults all at =
+    finish_goes_on c.args.job.now blocks all faults _ _ _ c.programming_carries_a_change_out.ensures.changes
+    (in_step c.args.job.now blocks faults _ c.in-End.is at) _ _ _ c.map.ensures.cases c.map-in-End.ensures.cases
+    (c.in_ok-next-in-End.ensures.did kept)
