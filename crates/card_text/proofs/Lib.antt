@@ -1,7 +1,7 @@
 pub mod CardFileLemmas
 pub mod CardLineLemmas
 pub mod DataLemmas
-pub mod Lookups
+pub mod GivenLemmas
 pub mod NumberLemmas
 pub mod OutputLemmas
 pub mod PartLemmas
