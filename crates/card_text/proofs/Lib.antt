@@ -8,3 +8,4 @@ pub mod PartLemmas
 pub mod PlanLemmas
 pub mod PrintedLemmas
 pub mod ScriptLemmas
+pub mod TextLineLemmas
