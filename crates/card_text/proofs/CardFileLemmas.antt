@@ -1,17 +1,20 @@
 -- The lines of a card file that were read so far, and those that are left.
 use Rattle.std.proofs.Common.{◌≡◌, ℕ, ◌+◌, ◌-◌, ◌≤◌, List, [], ◌∷◌, ◌++◌, length, take, suc, Option, None, Some}
-use Rattle.std.proofs.Common.{Bool, true, false, not, sym, refl, ap, ◌∙◌, subst, arith, append_assoc, append-nil, length-append}
+use Rattle.std.proofs.Common.{Bool, true, false, not, sym, refl, ap, ◌∙◌, subst, arith, append_assoc, length-append}
 use Rattle.std.specs.List.{All, AllByRecursion, IsDistinct, filter_map, list_any}
 use Rattle.std.proofs.lemmas.Bool.{and_from, and_parts, false≢true, ltb-true, lt-ltb, or_from, or_parts}
 use Rattle.std.proofs.lemmas.List.Elements.{All-head, All-nil, All-push, All-tail, filter_map-append}
 use Rattle.mmc_frame.specs.declared.kind.Kind.{Kind as CardKind}
 use Rattle.card_text.specs.declared.card_line.CardLine.{CardLine}
 use Rattle.card_text.specs.declared.card_line.CardLine.TheVariants.{Fault}
+use Rattle.card_text.specs.declared.text_line.Line.TheVariants.{Bad, Says, Skipped}
 use Rattle.card_text.specs.CardFile.{AreCardLines, AreGood, IsFirstBadCardLine, StandTogether, card_lines_in, has_room}
 use Rattle.card_text.specs.CardFile.{may_have, may_stand, plan_of, planned_of_line}
 use Rattle.card_text.specs.CardLines.{card_line_of, repeats}
-use Rattle.card_text.specs.Script.{joined, lines}
-use Rattle.card_text.proofs.ScriptLemmas.{joined_assoc, joined_none, lines_few}
+use Rattle.card_text.specs.Script.{lines}
+use Rattle.card_text.specs.TextLines.{said_in}
+use Rattle.card_text.proofs.ScriptLemmas.{lines_few}
+use Rattle.card_text.proofs.TextLineLemmas.{said_bad, said_more, said_skipped}
 
 -- ---- one more line
 
@@ -91,14 +94,6 @@ stand_front kind ls l together =
 
 -- ---- the lines that were read
 
-card_lines_in-append : (done : List (List ℕ)) (line : List ℕ)
-    → card_lines_in (done ++ line ∷ []) ≡ joined (card_lines_in done) (card_line_of line)
-unfolding card_lines_in
-card_lines_in-append [] line = joined_none (card_line_of line)
-card_lines_in-append (d ∷ ds) line =
-    ap (joined (card_line_of d)) (card_lines_in-append ds line)
-    ∙ joined_assoc (card_line_of d) (card_lines_in ds) (card_line_of line)
-
 -- what was read of all the lines, where `left` are those to come
 pub record CardRead (all left : List (List ℕ)) (kind : Option CardKind) (number : ℕ) (ls : List CardLine) : Type 0 where
   pub done : List (List ℕ)
@@ -107,7 +102,7 @@ pub record CardRead (all left : List (List ℕ)) (kind : Option CardKind) (numbe
   pub good : AreCardLines kind done ls
 
 pub card_none : (all : List (List ℕ)) (kind : Option CardKind) → CardRead all all kind 0 []
-unfolding card_lines_in IsDistinct plan_of
+unfolding card_lines_in said_in IsDistinct plan_of
 card_none all kind = record {
   done = [];
   split = refl;
@@ -118,37 +113,39 @@ card_none all kind = record {
   };
 }
 
-more : (all left others : List (List ℕ)) (kind : Option CardKind) (line : List ℕ) (number : ℕ)
-    (ls piece : List CardLine) → CardRead all left kind number ls → left ≡ line ∷ others
-    → card_line_of line ≡ Some piece → StandTogether kind (ls ++ piece)
-    → CardRead all others kind (number + 1) (ls ++ piece)
-more all left others kind line number ls piece read first says together = record {
+-- one more line, which changes what was said
+more : (all left others : List (List ℕ)) (kind : Option CardKind) (line : List ℕ) (number : ℕ) (ls grown : List CardLine)
+    (read : CardRead all left kind number ls) → left ≡ line ∷ others → AreCardLines kind (read.done ++ line ∷ []) grown
+    → CardRead all others kind (number + 1) grown
+more all left others kind line number ls grown read first good = record {
   done = read.done ++ line ∷ [];
   split = read.split ∙ ap (λ rest. read.done ++ rest) first ∙ sym (append_assoc read.done (line ∷ []) others);
   counted = omega (arith, read.counted, length-append read.done (line ∷ []));
-  good = record {
-    said = card_lines_in-append read.done line ∙ ap (λ o. joined o (card_line_of line)) read.good.said
-        ∙ ap (joined (Some ls)) says;
-    together = together;
-  };
+  good = good;
 }
 
 -- a line that is skipped
 pub card_skipped : (all left others : List (List ℕ)) (kind : Option CardKind) (line : List ℕ) (number : ℕ)
-    (ls : List CardLine) → CardRead all left kind number ls → left ≡ line ∷ others → card_line_of line ≡ Some []
+    (ls : List CardLine) → CardRead all left kind number ls → left ≡ line ∷ others → card_line_of line ≡ Skipped
     → CardRead all others kind (number + 1) ls
-card_skipped all left others kind line number ls read first says =
-    subst (CardRead all others kind (number + 1)) (append-nil ls)
-    (more all left others kind line number ls [] read first says
-    (subst (StandTogether kind) (sym (append-nil ls)) read.good.together))
+unfolding card_lines_in
+card_skipped all left others kind line number ls read first is =
+    more all left others kind line number ls ls read first (record {
+      said = said_skipped card_line_of read.done line ls read.good.said is;
+      together = read.good.together;
+    })
 
 -- a line that may stand
 pub card_more : (all left others : List (List ℕ)) (kind : Option CardKind) (line : List ℕ) (number : ℕ)
     (ls : List CardLine) (l : CardLine) → CardRead all left kind number ls → left ≡ line ∷ others
-    → card_line_of line ≡ Some (l ∷ []) → may_stand kind ls l ≡ true
+    → card_line_of line ≡ Says l → may_stand kind ls l ≡ true
     → CardRead all others kind (number + 1) (ls ++ l ∷ [])
-card_more all left others kind line number ls l read first says may =
-    more all left others kind line number ls (l ∷ []) read first says (stand_push kind ls l read.good.together may)
+unfolding card_lines_in
+card_more all left others kind line number ls l read first is may =
+    more all left others kind line number ls (ls ++ l ∷ []) read first (record {
+      said = said_more card_line_of read.done line ls l read.good.said is;
+      together = stand_push kind ls l read.good.together may;
+    })
 
 -- ---- the first bad line
 
@@ -181,29 +178,26 @@ bad all left others kind line number ls read first none =
       bad = λ good. none (subst (AreGood kind) upto good);
     }
 
--- what the lines before and a line say together, where it is known what they say
-joined_is : (a b c : List CardLine) → joined (Some a) (Some b) ≡ Some c → a ++ b ≡ c
-joined_is a b c h = cc
-
 -- a line that isn't of the grammar
 pub card_bad : (all left others : List (List ℕ)) (kind : Option CardKind) (line : List ℕ) (number : ℕ)
-    (ls : List CardLine) → CardRead all left kind number ls → left ≡ line ∷ others → card_line_of line ≡ None
+    (ls : List CardLine) → CardRead all left kind number ls → left ≡ line ∷ others → card_line_of line ≡ Bad
     → IsFirstBadCardLine kind all (number + 1)
-card_bad all left others kind line number ls read first says =
+unfolding card_lines_in
+card_bad all left others kind line number ls read first is =
     bad all left others kind line number ls read first
     (λ good. let none : None ≡ Some good.0 =
-    ap (joined (Some ls)) (sym says) ∙ ap (λ o. joined o (card_line_of line)) (sym read.good.said)
-    ∙ sym (card_lines_in-append read.done line) ∙ good.1.said in cc)
+    sym (said_bad card_line_of read.done line ls read.good.said is) ∙ good.1.said in cc)
 
 -- a line that may not stand
 pub card_refused : (all left others : List (List ℕ)) (kind : Option CardKind) (line : List ℕ) (number : ℕ)
     (ls : List CardLine) (l : CardLine) → CardRead all left kind number ls → left ≡ line ∷ others
-    → card_line_of line ≡ Some (l ∷ []) → may_stand kind ls l ≡ false → IsFirstBadCardLine kind all (number + 1)
-card_refused all left others kind line number ls l read first says may_not =
+    → card_line_of line ≡ Says l → may_stand kind ls l ≡ false → IsFirstBadCardLine kind all (number + 1)
+unfolding card_lines_in
+card_refused all left others kind line number ls l read first is may_not =
     bad all left others kind line number ls read first
-    (λ good. let same : ls ++ l ∷ [] ≡ good.0 = joined_is ls (l ∷ []) good.0
-    (ap (joined (Some ls)) (sym says) ∙ ap (λ o. joined o (card_line_of line)) (sym read.good.said)
-    ∙ sym (card_lines_in-append read.done line) ∙ good.1.said) in
+    (λ good. let both : Some (ls ++ l ∷ []) ≡ Some good.0 =
+    sym (said_more card_line_of read.done line ls l read.good.said is) ∙ good.1.said in
+    let same : ls ++ l ∷ [] ≡ good.0 = cc in
     let may : may_stand kind ls l ≡ true = stand_front kind ls l (subst (StandTogether kind) (sym same) good.1.together) in
     absurd (false≢true (sym may_not ∙ may)))
 

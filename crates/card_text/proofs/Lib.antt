@@ -1,10 +1,11 @@
 pub mod CardFileLemmas
 pub mod CardLineLemmas
 pub mod DataLemmas
-pub mod Lookups
+pub mod GivenLemmas
 pub mod NumberLemmas
 pub mod OutputLemmas
 pub mod PartLemmas
 pub mod PlanLemmas
 pub mod PrintedLemmas
 pub mod ScriptLemmas
+pub mod TextLineLemmas

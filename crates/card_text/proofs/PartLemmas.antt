@@ -1,13 +1,12 @@
 -- A text is cut at its first byte `at`.
 use Rattle.std.proofs.Common.{◌≡◌, ℕ, ◌+◌, ◌≤◌, List, [], ◌∷◌, length, take, drop, None, Some, Bool, true, false, cond}
-use Rattle.std.proofs.Common.{refl, subst, arith}
+use Rattle.std.proofs.Common.{refl, ap, subst, arith, eqb, length-append, ◌++◌, ◌<◌}
 use Rattle.std.specs.List.{slice_split, position, position_or_len}
 use Rattle.std.proofs.lemmas.List.Splits.{slice_split_first, slice_split_none}
 use Rattle.std.proofs.lemmas.List.Sums.{fails_before_first}
 use Rattle.std.proofs.lemmas.List.Elements.{All-from_get_or}
 use Rattle.std.proofs.lemmas.Option.{cond_some}
 use Rattle.card_text.specs.Parts.{parts}
-use Rattle.card_text.specs.Lines.{event_of}
 use Rattle.card_text.specs.Data.{repeat_of_fields}
 use Rattle.std.specs.List.{onto_first}
 use Rattle.std.proofs.lemmas.Bool.{ltb-true, ltb-false}
@@ -42,15 +41,15 @@ pub split_some : (p : ℕ → Bool) (text : List ℕ) → slice_split p text ≡
 split_some p [] h = cc
 split_some p (b ∷ bs) h = split_cons (p b) b (slice_split p bs) h
 
-seven : (a b c d e f : List ℕ) (ps : List (List ℕ)) → (ps ≡ [] → ⊥) → event_of (a ∷ b ∷ c ∷ d ∷ e ∷ f ∷ ps) ≡ None
-unfolding event_of
-seven a b c d e f [] h = absurd (h refl)
-seven a b c d e f (p ∷ ps) h = refl
+some_length : (ps : List (List ℕ)) → (ps ≡ [] → ⊥) → 0 < length ps
+some_length [] some = absurd (some refl)
+some_length (p ∷ ps) some = omega arith
 
--- more fields than a line may have
-pub too_many : (a b c d e f : List ℕ) (text : List ℕ) → event_of (a ∷ b ∷ c ∷ d ∷ e ∷ f ∷ parts 32 text) ≡ None
+-- a text that is left has one more part at least
+pub one_more : (done all : List (List ℕ)) (text : List ℕ) → done ++ parts 32 text ≡ all → length done < length all
 unfolding parts
-too_many a b c d e f text = seven a b c d e f _ (split_some _ text)
+one_more done all text whole =
+    omega (arith, ap length whole, length-append done (parts 32 text), some_length (slice_split (λ b. eqb b 32) text) (split_some (λ b. eqb b 32) text))
 
 three : (a b : List ℕ) (ps : List (List ℕ)) → (ps ≡ [] → ⊥) → None ≡ repeat_of_fields (a ∷ b ∷ ps)
 three a b [] h = absurd (h refl)

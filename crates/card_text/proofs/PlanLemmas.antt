@@ -1,5 +1,5 @@
 -- The faults that good lines plan can all be planned.
-use Rattle.std.proofs.Common.{◌≡◌, ℕ, ◌-◌, ◌<◌, ◌^◌, List, [], ◌∷◌, ◌++◌, Option, None, Some, Bool, true, false, cond, eqb, map}
+use Rattle.std.proofs.Common.{◌≡◌, ℕ, ◌-◌, ◌<◌, ◌^◌, List, [], ◌∷◌, Option, None, Some, Bool, true, false, cond, eqb, map}
 use Rattle.std.proofs.Common.{refl, subst, arith, rules}
 use Rattle.std.specs.Prelude.{IfSome, nat_lt, option_map}
 use Rattle.std.specs.List.{AllByRecursion, IsDistinct}
@@ -10,6 +10,8 @@ use Rattle.mmc_card_sim.specs.declared.fault.Fault.{Fault as CardFault}
 use Rattle.mmc_frame.specs.declared.kind.Kind.{Kind as CardKind}
 use Rattle.card_text.specs.declared.card_line.CardLine.{CardLine}
 use Rattle.card_text.specs.declared.card_line.CardLine.TheVariants.{Fault}
+use Rattle.card_text.specs.declared.text_line.Line.{Line}
+use Rattle.card_text.specs.declared.text_line.Line.TheVariants.{Bad, Says, Skipped}
 use Rattle.card_text.specs.CardFile.{AreCardLines, card_lines_in, plan_of}
 use Rattle.card_text.specs.CardLines.{byte_by, card_line_of, card_line_of_fields, ext_line_of, planned_by, fault_line_of}
 use Rattle.card_text.specs.CardLines.{line_of_key, repeats, sd_line_of, value_line_of}
@@ -17,7 +19,7 @@ use Rattle.card_text.specs.FaultTexts.{fault_of}
 use Rattle.card_text.specs.Numbers.{byte_of, number_of}
 use Rattle.card_text.specs.Parts.{parts}
 use Rattle.card_text.specs.Planning.{CanBePlanned, PlannedFault}
-use Rattle.card_text.specs.Script.{is_skipped, joined}
+use Rattle.card_text.specs.TextLines.{is_skipped, line_by, said_in}
 
 -- ---- for different exchanges
 
@@ -102,33 +104,39 @@ early_fields [] = nothing
 early_fields (key ∷ []) = nothing
 early_fields (key ∷ value ∷ others) = by_if _ _ _ (early_fault (number_of value) (fault_of others)) (early_value key value others)
 
-one_line : (said : Option CardLine) → EarlyLine said → EarlyLines (option_map (λ l. l ∷ []) said)
+abbrev EarlySaid : Line CardLine → Type 0
+EarlySaid (Says l) = IsEarly l
+EarlySaid line = Unit {0}
+
+one_line : (said : Option CardLine) → EarlyLine said → EarlySaid (line_by said)
 one_line None h = tt
-one_line (Some l) h = (h.early, tt)
+one_line (Some l) h = h.early
 
-skipped_or : (b : Bool) (said : Option (List CardLine)) → EarlyLines said → EarlyLines (cond b (Some []) said)
-skipped_or true said h = tt
-skipped_or false said h = h
+skipped_or : (b : Bool) (line : Line CardLine) → EarlySaid line → EarlySaid (cond b Skipped line)
+skipped_or true line h = tt
+skipped_or false line h = h
 
-early_line : (line : List ℕ) → EarlyLines (card_line_of line)
+early_line : (line : List ℕ) → EarlySaid (card_line_of line)
 unfolding card_line_of
 early_line line = skipped_or (is_skipped line) _ (one_line _ (early_fields (parts 32 line)))
 
-each_append : (ls others : List CardLine) → AllByRecursion IsEarly ls → AllByRecursion IsEarly others
-    → AllByRecursion IsEarly (ls ++ others)
-each_append [] others h k = k
-each_append (l ∷ ls) others h k = (h.0, each_append ls others h.1 k)
+early_front : (l : CardLine) (others : Option (List CardLine)) → IsEarly l → EarlyLines others
+    → EarlyLines (option_map (λ all. l ∷ all) others)
+early_front l None h k = tt
+early_front l (Some others) h k = (h, k)
 
-both : (a b : Option (List CardLine)) → EarlyLines a → EarlyLines b → EarlyLines (joined a b)
-both None None h k = tt
-both None (Some others) h k = tt
-both (Some ls) None h k = tt
-both (Some ls) (Some others) h k = each_append ls others h k
+one_more : (line : Line CardLine) (others : List (Line CardLine)) → EarlySaid line → EarlyLines (said_in others)
+    → EarlyLines (said_in (line ∷ others))
+unfolding said_in
+one_more Bad others h k = tt
+one_more Skipped others h k = k
+one_more (Says l) others h k = early_front l (said_in others) h k
 
 early_lines : (all : List (List ℕ)) → EarlyLines (card_lines_in all)
-unfolding card_lines_in
+unfolding card_lines_in said_in
 early_lines [] = tt
-early_lines (line ∷ others) = both (card_line_of line) (card_lines_in others) (early_line line) (early_lines others)
+early_lines (line ∷ others) =
+    one_more (card_line_of line) (map card_line_of others) (early_line line) (early_lines others)
 
 early_plan : (ls : List CardLine) → AllByRecursion IsEarly ls
     → AllByRecursion (λ (p : PlannedFault). p.0 < 2 ^ 64 - 1) (plan_of ls)

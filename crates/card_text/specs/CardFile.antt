@@ -1,5 +1,5 @@
 -- A card file: what its lines say together.
-use Rattle.std.specs.Prelude.{◌&&◌, ◌-◌, ◌<◌, ◌≡◌, ◌≤◌, ℕ, Bool, List, [], ◌∷◌, Option, None, Some, filter_map, length, nat_lt}
+use Rattle.std.specs.Prelude.{◌&&◌, ◌-◌, ◌<◌, ◌≡◌, ◌≤◌, ℕ, Bool, List, [], ◌∷◌, Option, None, Some, filter_map, length, map, nat_lt}
 use Rattle.std.specs.Prelude.{not, take, true, ⊤}
 use Rattle.std.specs.List.{AllPass, IsDistinct, list_any}
 use Rattle.std.specs.Option.{option_or}
@@ -10,19 +10,20 @@ use Rattle.card_text.specs.declared.card_line.CardLine.{CardLine}
 use Rattle.card_text.specs.declared.card_line.CardLine.TheVariants.{Fault, Kind}
 use Rattle.card_text.specs.declared.fault.CardFault.{CardFault}
 use Rattle.card_text.specs.declared.fault.CardFault.TheVariants.{BadLine, Incomplete, NoMemory}
+use Rattle.card_text.specs.declared.text_line.Line.{Line}
+use Rattle.card_text.specs.declared.text_line.Line.TheVariants.{Says}
 use Rattle.card_text.specs.CardLines.{card_line_of, is_of, repeats}
 use Rattle.card_text.specs.CardSpecs.{spec_of}
 use Rattle.card_text.specs.Planning.{PlannedFault}
-use Rattle.card_text.specs.Script.{joined}
+use Rattle.card_text.specs.TextLines.{said_in}
 
 -- what the lines say, in order, where each of them is of the grammar
 unfoldable pub card_lines_in : List (List ℕ) → Option (List CardLine)
-card_lines_in [] = Some []
-card_lines_in (line ∷ others) = joined (card_line_of line) (card_lines_in others)
+card_lines_in all = said_in (map card_line_of all)
 
 -- the kind that a line gives
-abbrev pub kind_said : Option (List CardLine) → Option CardKind
-kind_said (Some (Kind kind ∷ [])) = Some kind
+abbrev pub kind_said : Line CardLine → Option CardKind
+kind_said (Says (Kind kind)) = Some kind
 kind_said said = None
 
 -- the kind that the first well-formed line `kind` gives, wherever it stands

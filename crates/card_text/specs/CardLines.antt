@@ -9,11 +9,13 @@ use Rattle.mmc_frame.specs.declared.kind.Kind.TheVariants.{Mmc, Sd}
 use Rattle.card_text.specs.declared.card_line.CardLine.{CardLine}
 use Rattle.card_text.specs.declared.card_line.CardLine.TheVariants.{Busy, Cid, Cmd8, Csd, Ext, Fault, HighSpeed, Kind}
 use Rattle.card_text.specs.declared.card_line.CardLine.TheVariants.{Locked, Ocr, Rca, Ready, Scr, Sectors}
+use Rattle.card_text.specs.declared.text_line.Line.{Line}
+use Rattle.card_text.specs.declared.text_line.Line.TheVariants.{Skipped}
 use Rattle.card_text.specs.FaultTexts.{fault_of}
 use Rattle.card_text.specs.Hexadecimal.{bytes_of}
 use Rattle.card_text.specs.Numbers.{byte_of, number_of}
 use Rattle.card_text.specs.Parts.{parts}
-use Rattle.card_text.specs.Script.{is_skipped}
+use Rattle.card_text.specs.TextLines.{is_skipped, line_by}
 
 -- `sd` or `mmc`
 unfoldable pub kind_of : List ℕ → Option CardKind
@@ -80,10 +82,9 @@ card_line_of_fields (key ∷ value ∷ others) =
     if bytes_eq key (codes "fault") then fault_line_of value others else value_line_of key value others
 card_line_of_fields fields = None
 
--- what a line says: nothing where it is skipped, one thing, or None where it isn't of the grammar
-unfoldable pub card_line_of : List ℕ → Option (List CardLine)
-card_line_of line =
-    if is_skipped line then Some [] else option_map (λ said. said ∷ []) (card_line_of_fields (parts 32 line))
+-- what a line says: one thing, or nothing where it is skipped
+unfoldable pub card_line_of : List ℕ → Line CardLine
+card_line_of line = if is_skipped line then Skipped else line_by (card_line_of_fields (parts 32 line))
 
 -- an SD card may have it
 abbrev pub is_of_sd : CardLine → Bool

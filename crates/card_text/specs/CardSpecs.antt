@@ -9,6 +9,7 @@ use Rattle.mmc_frame.specs.declared.kind.Kind.TheVariants.{Mmc, Sd}
 use Rattle.card_text.specs.declared.card_line.CardLine.{CardLine}
 use Rattle.card_text.specs.declared.card_line.CardLine.TheVariants.{Busy, Cid, Cmd8, Csd, Ext, HighSpeed, Kind, Locked}
 use Rattle.card_text.specs.declared.card_line.CardLine.TheVariants.{Ocr, Rca, Ready, Scr, Sectors}
+use Rattle.card_text.specs.declared.card_spec.Given.{Given}
 
 -- the value of the first element that has one
 unfoldable pub first_of : {A B : Type 0} → (A → Option B) → List A → Option B
@@ -79,37 +80,59 @@ abbrev pub ◌>>=◌ : {A B : Type 0} → Option A → (A → Option B) → Opti
 None >>= f = None
 Some x >>= f = f x
 
+-- what the lines give: for each key what its first line gives
+unfoldable pub given_by : List CardLine → Given
+given_by ls = record {
+  kind = first_of kind_of_line ls;
+  ocr = first_of ocr_of_line ls;
+  cid = first_of cid_of_line ls;
+  csd = first_of csd_of_line ls;
+  sectors = first_of sectors_of_line ls;
+  ready = first_of ready_of_line ls;
+  busy = first_of busy_of_line ls;
+  locked = first_of locked_of_line ls;
+  scr = first_of scr_of_line ls;
+  rca = first_of rca_of_line ls;
+  cmd8 = first_of cmd8_of_line ls;
+  high_speed = first_of high_speed_of_line ls;
+  ext_csd = ext_csd_of ls;
+}
+
 -- what a card has by its kind: an SD card must have an SCR
-abbrev pub own_registers_of : CardKind → List CardLine → Option KindRegisters
-own_registers_of Sd ls = do
-  scr ← first_of scr_of_line ls
+abbrev pub own_registers_of : CardKind → Given → Option KindRegisters
+own_registers_of Sd given = do
+  scr ← given.scr
   Some (Has.Sd (record {
     scr = scr;
-    rca = unwrap_or (first_of rca_of_line ls) 1;
-    answers_cmd8 = unwrap_or (first_of cmd8_of_line ls) false;
-    has_high_speed = unwrap_or (first_of high_speed_of_line ls) false;
+    rca = unwrap_or given.rca 1;
+    answers_cmd8 = unwrap_or given.cmd8 false;
+    has_high_speed = unwrap_or given.high_speed false;
   }))
-own_registers_of Mmc ls = Some (Has.Mmc (record { ext_csd = ext_csd_of ls }))
+own_registers_of Mmc given = Some (Has.Mmc (record { ext_csd = given.ext_csd }))
 
--- what the card is built by, or None where a key is missing that must stand
-unfoldable pub spec_of : List CardLine → Option CardSpec
-spec_of ls = do
-  kind ← first_of kind_of_line ls
-  own ← own_registers_of kind ls
-  ocr ← first_of ocr_of_line ls
-  cid ← first_of cid_of_line ls
-  csd ← first_of csd_of_line ls
-  sectors ← first_of sectors_of_line ls
+-- what a card is built by of which this is given, or None where a key is missing that must stand
+abbrev pub spec_by : Given → Option CardSpec
+spec_by given = do
+  kind ← given.kind
+  own ← own_registers_of kind given
+  ocr ← given.ocr
+  cid ← given.cid
+  csd ← given.csd
+  sectors ← given.sectors
   Some (record {
     registers = record {
       kind = own;
       ocr = ocr;
       cid = cid;
       csd = csd;
-      is_locked = unwrap_or (first_of locked_of_line ls) false;
+      is_locked = unwrap_or given.locked false;
     };
     sectors = sectors;
-    ready = unwrap_or (first_of ready_of_line ls) 0;
-    busy = unwrap_or (first_of busy_of_line ls) 0;
+    ready = unwrap_or given.ready 0;
+    busy = unwrap_or given.busy 0;
     image = None;
   })
+
+-- what the card of these lines is built by
+unfoldable pub spec_of : List CardLine → Option CardSpec
+spec_of ls = spec_by (given_by ls)

@@ -10,4 +10,4 @@ pub mod Output
 pub mod Parts
 pub mod Planning
 pub mod Script
-pub mod Words
+pub mod TextLines

@@ -10,6 +10,7 @@ use crate::card_line::{CardLine, card_line};
 use crate::card_spec::card_spec;
 use crate::cut::cut;
 use crate::fault::CardFault;
+use crate::text_line::Line;
 use mmc_card_sim::{CardSpec, Fault, MAX_PLANNED};
 use mmc_frame::Kind;
 use std::alloc::{AllocError, Global};
@@ -29,7 +30,7 @@ fn kind_said(line: &[u8]) -> Option<Kind>
     ensures { result ≡ kind_said (card_line_of line.now) }
 {
     match card_line(line) {
-        Some(Some(CardLine::Kind(kind))) => Some(kind),
+        Line::Says(CardLine::Kind(kind)) => Some(kind),
         _ => None,
     }
 }
@@ -113,9 +114,9 @@ fn read_lines(alloc: Global, kind: Option<Kind>, text: &[u8]) -> Result<Vec<Card
         let (first, others) = cut(text, b'\n');
         number += 1;
         match card_line(first) {
-            None => return Err(CardFault::BadLine { line: number }),
-            Some(None) => {}
-            Some(Some(line)) => {
+            Line::Bad => return Err(CardFault::BadLine { line: number }),
+            Line::Skipped => {}
+            Line::Says(line) => {
                 if !may_stand(kind, said.as_slice(), &line) {
                     return Err(CardFault::BadLine { line: number });
                 }

@@ -1,5 +1,5 @@
 // Reads one line of a card file.
-ghost use Rattle.std.specs.Prelude.{◌≡◌, option_map, option_to_list};
+ghost use Rattle.std.specs.Prelude.{◌≡◌};
 ghost use Rattle.card_text.specs.CardLines.{card_line_of, card_line_of_fields, choice_of, delay_of, ext_line_of};
 ghost use Rattle.card_text.specs.CardLines.{fault_line_of, kind_of, line_of_key, sd_line_of, value_line_of};
 ghost use Rattle.card_text.specs.Parts.{left_parts, parts};
@@ -8,6 +8,7 @@ use crate::cut::cut;
 use crate::fault_text::fault;
 use crate::hexadecimal::bytes;
 use crate::number::{byte, number};
+use crate::text_line::Line;
 use mmc_card_sim::Fault;
 use mmc_frame::Kind;
 
@@ -246,13 +247,13 @@ fn line_of_fields(line: &[u8]) -> Option<CardLine>
     }
 }
 
-/// What a line says: `Some(None)` where it is empty or a comment, and nothing where it isn't of the grammar.
+/// What a line says.
 #[tactic(auto, unfolding(crate::specs::CardLines::card_line_of))]
-pub fn card_line(line: &[u8]) -> Option<Option<CardLine>>
-    ensures { option_map (λ said. option_to_list said) result ≡ card_line_of line.now }
+pub fn card_line(line: &[u8]) -> Line<CardLine>
+    ensures { result ≡ card_line_of line.now }
 {
     match line {
-        [] | [b'#', ..] => Some(None),
-        _ => Some(Some(line_of_fields(line)?)),
+        [] | [b'#', ..] => Line::Skipped,
+        _ => Line::by(line_of_fields(line)),
     }
 }

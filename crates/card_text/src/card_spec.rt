@@ -1,171 +1,112 @@
 // Makes what a card is built by from the lines of its file.
-ghost use Rattle.std.specs.Prelude.{◌≡◌};
-ghost use Rattle.card_text.specs.CardSpecs.{busy_of_line, cid_of_line, cmd8_of_line, csd_of_line, ext_csd_of, first_of};
-ghost use Rattle.card_text.specs.CardSpecs.{high_speed_of_line, kind_of_line, locked_of_line, ocr_of_line};
-ghost use Rattle.card_text.specs.CardSpecs.{own_registers_of, rca_of_line, ready_of_line, scr_of_line};
-ghost use Rattle.card_text.specs.CardSpecs.{sectors_of_line, spec_of, with_byte};
+ghost use Rattle.std.specs.Prelude.{◌≡◌, [], ◌∷◌, ◌++◌, List, slice_set};
+ghost use Rattle.card_text.specs.declared.card_line.CardLine.{CardLine};
+ghost use Rattle.card_text.specs.CardSpecs.{given_by, own_registers_of, spec_of};
 
 use crate::card_line::CardLine;
 use mmc_card_sim::{CardSpec, KindRegisters, MmcRegisters, Registers, SdRegisters};
 use mmc_frame::Kind;
 
-// The kind that the lines give.
-fn kind(lines: &[CardLine]) -> Option<Kind>
-    ensures { result ≡ first_of kind_of_line lines.now }
-{
-    lines.iter().find_map(|line| match *line {
-        CardLine::Kind(kind) => Some(kind),
-        _ => None,
-    })
+/// What the lines of a card file give: for each key what its first line gives.
+#[derive(Drop)]
+pub struct Given {
+    kind: Option<Kind>,
+    ocr: Option<u32>,
+    cid: Option<[u8; 16]>,
+    csd: Option<[u8; 16]>,
+    sectors: Option<u64>,
+    ready: Option<u8>,
+    busy: Option<u8>,
+    locked: Option<bool>,
+    scr: Option<[u8; 8]>,
+    rca: Option<u16>,
+    cmd8: Option<bool>,
+    high_speed: Option<bool>,
+    // A byte that no line gives is 00, and of two lines for a place the last one counts.
+    ext_csd: [u8; 512],
 }
 
-// The OCR that they give.
-fn ocr(lines: &[CardLine]) -> Option<u32>
-    ensures { result ≡ first_of ocr_of_line lines.now }
-{
-    lines.iter().find_map(|line| match *line {
-        CardLine::Ocr(ocr) => Some(ocr),
-        _ => None,
-    })
-}
+impl Given {
+    // What no lines give.
+    #[tactic(auto, unfolding(crate::specs::CardSpecs::given_by, crate::specs::CardSpecs::first_of, crate::specs::CardSpecs::ext_csd_of))]
+    fn nothing() -> Given
+        ensures { result ≡ given_by [] }
+    {
+        Given {
+            kind: None,
+            ocr: None,
+            cid: None,
+            csd: None,
+            sectors: None,
+            ready: None,
+            busy: None,
+            locked: None,
+            scr: None,
+            rca: None,
+            cmd8: None,
+            high_speed: None,
+            ext_csd: [0; 512],
+        }
+    }
 
-// The CID that they give.
-fn cid(lines: &[CardLine]) -> Option<[u8; 16]>
-    ensures { result ≡ first_of cid_of_line lines.now }
-{
-    lines.iter().find_map(|line| match *line {
-        CardLine::Cid(bytes) => Some(bytes),
-        _ => None,
-    })
-}
+    // Takes one more line, below those that were taken.
+    #[tactic(auto, using(crate::proofs::GivenLemmas::taken))]
+    fn take(&mut self, line: &CardLine)
+        ensures { (above : List CardLine) → self.old ≡ given_by above → self.new ≡ given_by (above ++ line.now ∷ []) }
+    {
+        match *line {
+            CardLine::Kind(kind) => self.kind = self.kind.or(Some(kind)),
+            CardLine::Ocr(ocr) => self.ocr = self.ocr.or(Some(ocr)),
+            CardLine::Cid(bytes) => self.cid = self.cid.or(Some(bytes)),
+            CardLine::Csd(bytes) => self.csd = self.csd.or(Some(bytes)),
+            CardLine::Sectors(count) => self.sectors = self.sectors.or(Some(count)),
+            CardLine::Ready(count) => self.ready = self.ready.or(Some(count)),
+            CardLine::Busy(count) => self.busy = self.busy.or(Some(count)),
+            CardLine::Locked(choice) => self.locked = self.locked.or(Some(choice)),
+            CardLine::Scr(bytes) => self.scr = self.scr.or(Some(bytes)),
+            CardLine::Rca(address) => self.rca = self.rca.or(Some(address)),
+            CardLine::Cmd8(choice) => self.cmd8 = self.cmd8.or(Some(choice)),
+            CardLine::HighSpeed(choice) => self.high_speed = self.high_speed.or(Some(choice)),
+            CardLine::Ext { place, value } => put_byte(&mut self.ext_csd, place, value),
+            CardLine::Fault { .. } => {}
+        }
+    }
 
-// The CSD that they give.
-fn csd(lines: &[CardLine]) -> Option<[u8; 16]>
-    ensures { result ≡ first_of csd_of_line lines.now }
-{
-    lines.iter().find_map(|line| match *line {
-        CardLine::Csd(bytes) => Some(bytes),
-        _ => None,
-    })
-}
+    // What the lines give together.
+    fn by(lines: &[CardLine]) -> Given
+        ensures { result ≡ given_by lines.now }
+    {
+        let mut given = Given::nothing();
+        for line in lines {
+            given.take(line);
+        }
+        given
+    }
 
-// The number of sectors that they give.
-fn sectors(lines: &[CardLine]) -> Option<u64>
-    ensures { result ≡ first_of sectors_of_line lines.now }
-{
-    lines.iter().find_map(|line| match *line {
-        CardLine::Sectors(count) => Some(count),
-        _ => None,
-    })
-}
-
-// How many inquiries they have answered with not ready.
-fn ready(lines: &[CardLine]) -> Option<u8>
-    ensures { result ≡ first_of ready_of_line lines.now }
-{
-    lines.iter().find_map(|line| match *line {
-        CardLine::Ready(count) => Some(count),
-        _ => None,
-    })
-}
-
-// How many polls they have answered yes.
-fn busy(lines: &[CardLine]) -> Option<u8>
-    ensures { result ≡ first_of busy_of_line lines.now }
-{
-    lines.iter().find_map(|line| match *line {
-        CardLine::Busy(count) => Some(count),
-        _ => None,
-    })
-}
-
-// Whether they say that the card is locked.
-fn locked(lines: &[CardLine]) -> Option<bool>
-    ensures { result ≡ first_of locked_of_line lines.now }
-{
-    lines.iter().find_map(|line| match *line {
-        CardLine::Locked(choice) => Some(choice),
-        _ => None,
-    })
-}
-
-// The SCR that they give.
-fn scr(lines: &[CardLine]) -> Option<[u8; 8]>
-    ensures { result ≡ first_of scr_of_line lines.now }
-{
-    lines.iter().find_map(|line| match *line {
-        CardLine::Scr(bytes) => Some(bytes),
-        _ => None,
-    })
-}
-
-// The RCA that they give.
-fn rca(lines: &[CardLine]) -> Option<u16>
-    ensures { result ≡ first_of rca_of_line lines.now }
-{
-    lines.iter().find_map(|line| match *line {
-        CardLine::Rca(address) => Some(address),
-        _ => None,
-    })
-}
-
-// Whether they say that CMD8 is known.
-fn cmd8(lines: &[CardLine]) -> Option<bool>
-    ensures { result ≡ first_of cmd8_of_line lines.now }
-{
-    lines.iter().find_map(|line| match *line {
-        CardLine::Cmd8(choice) => Some(choice),
-        _ => None,
-    })
-}
-
-// Whether they say that there is high speed.
-fn high_speed(lines: &[CardLine]) -> Option<bool>
-    ensures { result ≡ first_of high_speed_of_line lines.now }
-{
-    lines.iter().find_map(|line| match *line {
-        CardLine::HighSpeed(choice) => Some(choice),
-        _ => None,
-    })
-}
-
-// Puts the byte of a line in its place.
-fn put_byte(block: &mut [u8; 512], line: &CardLine)
-    ensures { block.new ≡ with_byte block.old line.now }
-{
-    if let CardLine::Ext { place, value } = *line {
-        if (place as usize) < block.len() {
-            block[place as usize] = value;
+    // What a card of this kind has.
+    fn own_registers(&self, kind: Kind) -> Option<KindRegisters>
+        ensures { result ≡ own_registers_of kind self.now }
+    {
+        match kind {
+            Kind::Sd => Some(KindRegisters::Sd(SdRegisters {
+                scr: self.scr?,
+                rca: self.rca.unwrap_or(1),
+                answers_cmd8: self.cmd8.unwrap_or(false),
+                has_high_speed: self.high_speed.unwrap_or(false),
+            })),
+            Kind::Mmc => Some(KindRegisters::Mmc(MmcRegisters {
+                ext_csd: self.ext_csd,
+            })),
         }
     }
 }
 
-// The EXT_CSD that the lines give: a byte that none gives is 00, and of two for a place the last one counts.
-#[tactic(auto, unfolding(crate::specs::CardSpecs::ext_csd_of))]
-fn ext_csd(lines: &[CardLine]) -> [u8; 512]
-    ensures { result ≡ ext_csd_of lines.now }
+// Puts a byte in its place.
+fn put_byte(block: &mut [u8; 512], place: u16, value: u8)
+    ensures { block.new ≡ slice_set block.old place value }
 {
-    let mut block = [0u8; 512];
-    for line in lines {
-        put_byte(&mut block, line);
-    }
-    block
-}
-
-// What a card of this kind has, as the lines say.
-fn own_registers(kind: Kind, lines: &[CardLine]) -> Option<KindRegisters>
-    ensures { result ≡ own_registers_of kind lines.now }
-{
-    match kind {
-        Kind::Sd => Some(KindRegisters::Sd(SdRegisters {
-            scr: scr(lines)?,
-            rca: rca(lines).unwrap_or(1),
-            answers_cmd8: cmd8(lines).unwrap_or(false),
-            has_high_speed: high_speed(lines).unwrap_or(false),
-        })),
-        Kind::Mmc => Some(KindRegisters::Mmc(MmcRegisters {
-            ext_csd: ext_csd(lines),
-        })),
+    if (place as usize) < block.len() {
+        block[place as usize] = value;
     }
 }
 
@@ -175,19 +116,19 @@ fn own_registers(kind: Kind, lines: &[CardLine]) -> Option<KindRegisters>
 pub fn card_spec(lines: &[CardLine]) -> Option<CardSpec>
     ensures { result ≡ spec_of lines.now }
 {
-    let own = own_registers(kind(lines)?, lines)?;
+    let given = Given::by(lines);
     let registers = Registers {
-        kind: own,
-        ocr: ocr(lines)?,
-        cid: cid(lines)?,
-        csd: csd(lines)?,
-        is_locked: locked(lines).unwrap_or(false),
+        kind: given.own_registers(given.kind?)?,
+        ocr: given.ocr?,
+        cid: given.cid?,
+        csd: given.csd?,
+        is_locked: given.locked.unwrap_or(false),
     };
     Some(CardSpec {
         registers,
-        sectors: sectors(lines)?,
-        ready: ready(lines).unwrap_or(0),
-        busy: busy(lines).unwrap_or(0),
+        sectors: given.sectors?,
+        ready: given.ready.unwrap_or(0),
+        busy: given.busy.unwrap_or(0),
         image: None,
     })
 }

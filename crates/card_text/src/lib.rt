@@ -19,3 +19,4 @@ pub mod output;
 pub mod script;
 #[cfg(test)]
 mod script_tests;
+mod text_line;

@@ -1,61 +1,33 @@
 // Reads one line of a script.
-ghost use Rattle.std.specs.Prelude.{◌≡◌, [], ◌∷◌, IfOk};
+ghost use Rattle.std.specs.Prelude.{◌≡◌, ◌<◌, [], ◌∷◌, IfNone, IfOk, IfSome, length, map};
 ghost use Rattle.card_text.specs.Parts.{parts};
 ghost use Rattle.card_text.specs.Lines.{part_of, client_of, event_of};
-ghost use Rattle.card_text.specs.Words.{AreWords};
 
 use crate::cut::cut;
 use crate::data::data;
 use crate::event::ScriptEvent;
 use crate::number::number;
+use arrayvec::ArrayVec;
 use mmc_block::Request;
 use mmc_bus::Part;
 use std::alloc::{AllocError, Global};
 
-/// The fields of a line, for each number of fields that a line may have.
-#[derive(Clone, Copy)]
-pub enum Words<'a> {
-    /// One field.
-    One(&'a [u8]),
-    /// Two fields.
-    Two(&'a [u8], &'a [u8]),
-    /// Five fields.
-    Five(&'a [u8], &'a [u8], &'a [u8], &'a [u8], &'a [u8]),
-    /// Six fields.
-    Six(&'a [u8], &'a [u8], &'a [u8], &'a [u8], &'a [u8], &'a [u8]),
-    /// Any other number of fields, which no line has.
-    Other,
-}
-
-/// The parts of a line between its spaces.
-#[tactic(auto, unfolding(crate::specs::Lines::event_of))]
-pub fn split_fields(line: &[u8]) -> Words<'_>
-    ensures { AreWords result (parts 32 line.now) }
+// The fields of a line, where there are at most six.
+fn fields(line: &[u8]) -> Option<ArrayVec<&[u8], 6>>
+    ensures some { IfSome result (λ fields. map (λ f. f.now) fields.items ≡ parts 32 line.now) }
+    ensures none { IfNone result (6 < length (parts 32 line.now)) }
 {
-    let (first, rest) = match cut(line, b' ') {
-        (first, None) => return Words::One(first),
-        (first, Some(rest)) => (first, rest),
-    };
-    let (second, rest) = match cut(rest, b' ') {
-        (second, None) => return Words::Two(first, second),
-        (second, Some(rest)) => (second, rest),
-    };
-    let (third, rest) = match cut(rest, b' ') {
-        (_, None) => return Words::Other,
-        (third, Some(rest)) => (third, rest),
-    };
-    let (fourth, rest) = match cut(rest, b' ') {
-        (_, None) => return Words::Other,
-        (fourth, Some(rest)) => (fourth, rest),
-    };
-    let (fifth, rest) = match cut(rest, b' ') {
-        (fifth, None) => return Words::Five(first, second, third, fourth, fifth),
-        (fifth, Some(rest)) => (fifth, rest),
-    };
-    match cut(rest, b' ') {
-        (sixth, None) => Words::Six(first, second, third, fourth, fifth, sixth),
-        (_, Some(_)) => Words::Other,
+    let mut fields = ArrayVec::new();
+    let mut rest = Some(line);
+    while let Some(text) = rest {
+        if fields.is_full() {
+            return None;
+        }
+        let (first, others) = cut(text, b' ');
+        fields.push(first);
+        rest = others;
     }
+    Some(fields)
 }
 
 // The partition of this name.
@@ -181,19 +153,21 @@ fn write(
     }))
 }
 
-/// What a line says, and nothing where it is not of the grammar.
+/// What the fields of a line say, and nothing where they are not of the grammar.
+#[tactic(auto, unfolding(crate::specs::Lines::event_of))]
 pub fn event(alloc: Global, line: &[u8]) -> Result<Option<ScriptEvent>, AllocError>
     ensures { IfOk result (λ e. e ≡ event_of (parts 32 line.now)) }
 {
-    match split_fields(line) {
-        Words::One(word) => Ok(simple(word)),
-        Words::Two(word, ticket) => Ok(cancellation(word, ticket)),
-        Words::Five(client, verb, part, start, count) => Ok(submission(
-            client, verb, part, start, count,
-        )),
-        Words::Six(client, verb, part, start, count, bytes) => write(
+    let Some(fields) = fields(line) else {
+        return Ok(None);
+    };
+    match fields.as_slice() {
+        [word] => Ok(simple(word)),
+        [word, ticket] => Ok(cancellation(word, ticket)),
+        [client, verb, part, start, count] => Ok(submission(client, verb, part, start, count)),
+        [client, verb, part, start, count, bytes] => write(
             alloc, client, verb, part, start, count, bytes,
         ),
-        Words::Other => Ok(None),
+        _ => Ok(None),
     }
 }

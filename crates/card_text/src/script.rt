@@ -1,5 +1,5 @@
 // Reads a script.
-ghost use Rattle.std.specs.Prelude.{◌≡◌, ◌++◌, [], IfErr, IfNone, IfOk, List, Some, option_map, option_to_list};
+ghost use Rattle.std.specs.Prelude.{◌≡◌, ◌++◌, [], IfErr, IfNone, IfOk, List, Some, option_to_list};
 ghost use Rattle.card_text.specs.declared.event.ScriptEvent.{ScriptEvent};
 ghost use Rattle.card_text.specs.Script.{IsBadLine, events_in, line_of, lines};
 
@@ -7,6 +7,7 @@ use crate::cut::cut;
 use crate::event::ScriptEvent;
 use crate::fault::ScriptFault;
 use crate::line::event;
+use crate::text_line::Line;
 use std::alloc::{AllocError, AllocFailed, Global};
 use std::collections::VecDeque;
 use std::marker::Model;
@@ -33,17 +34,14 @@ impl Script {
     }
 }
 
-// What a line gives: nothing where it is not of the grammar, and no event where it is empty or a comment.
+// What a line says.
 #[tactic(auto, unfolding(crate::specs::Script::line_of))]
-fn line(alloc: Global, text: &[u8]) -> Result<Option<Option<ScriptEvent>>, AllocError>
-    ensures { IfOk result (λ found. option_map (λ e. option_to_list e) found ≡ line_of text.now) }
+fn script_line(alloc: Global, line: &[u8]) -> Result<Line<ScriptEvent>, AllocError>
+    ensures { IfOk result (λ said. said ≡ line_of line.now) }
 {
-    match text {
-        [] | [b'#', ..] => Ok(Some(None)),
-        _ => match event(alloc, text)? {
-            None => Ok(None),
-            Some(event) => Ok(Some(Some(event))),
-        },
+    match line {
+        [] | [b'#', ..] => Ok(Line::Skipped),
+        _ => Ok(Line::by(event(alloc, line)?)),
     }
 }
 
@@ -58,10 +56,10 @@ pub fn read_script(alloc: Global, text: &[u8]) -> Result<Script, ScriptFault>
     while let Some(text) = rest {
         let (first, others) = cut(text, b'\n');
         number += 1;
-        match line(alloc, first)? {
-            None => return Err(ScriptFault::BadLine { line: number }),
-            Some(None) => {}
-            Some(Some(event)) => events.push_back(event)?,
+        match script_line(alloc, first)? {
+            Line::Bad => return Err(ScriptFault::BadLine { line: number }),
+            Line::Skipped => {}
+            Line::Says(event) => events.push_back(event)?,
         }
         rest = others;
     }

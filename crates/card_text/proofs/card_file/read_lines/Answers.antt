@@ -1,5 +1,4 @@
-use Rattle.std.proofs.Common.{◌+◌, List, Option, Some, arith, sym, ap, ◌∙◌, subst, option_map}
-use Rattle.std.specs.Prelude.{option_to_list}
+use Rattle.std.proofs.Common.{◌+◌, List, arith, sym, ap, ◌∙◌, subst}
 use Rattle.card_text.specs.declared.card_line.CardLine.{CardLine}
 use Rattle.card_text.specs.CardFile.{may_stand}
 use Rattle.card_text.specs.Parts.{left_parts}
@@ -16,38 +15,29 @@ overflow_add-number c =
 pub loop-rest-init : goal.loop-rest-init
 loop-rest-init c = rw c.new-said.ensures.items (card_none (lines c.args.text.now) c.args.kind)
 
-pub returns-in-None-clause-err : goal.returns-in-None-clause-err
-returns-in-None-clause-err c =
+pub returns-in-Bad-clause-err : goal.returns-in-Bad-clause-err
+returns-in-Bad-clause-err c =
     card_bad _ _ _ _ _ _ _ c.loop-rest.invariant (ap (left_parts 10) c.in-Some.is ∙ c.cut.ensures)
-    (sym {A = Option (List CardLine)} c.card_line.ensures
-    ∙ ap (λ o. option_map (λ e. option_to_list e) o) c.in-None.is)
+    (sym c.card_line.ensures ∙ c.in-Bad.is)
 
 pub returns-then-not-may_stand-clause-err : goal.returns-then-not-may_stand-clause-err
 returns-then-not-may_stand-clause-err c =
-    card_refused _ _ _ _ _ _ _ c.in-Some-Some.line c.loop-rest.invariant
-    (ap (left_parts 10) c.in-Some.is ∙ c.cut.ensures)
-    (sym {A = Option (List CardLine)} c.card_line.ensures
-    ∙ ap (λ o. option_map (λ e. option_to_list e) o) c.in-Some-Some.is
-    ∙ ap (λ o. Some (option_to_list o)) c.in-Some-Some.field-0-is)
-    (ap (λ ls. may_stand c.args.kind ls c.in-Some-Some.line) (sym c.as_slice.ensures.value)
+    card_refused _ _ _ _ _ _ _ c.in-Says.line c.loop-rest.invariant
+    (ap (left_parts 10) c.in-Some.is ∙ c.cut.ensures) (sym c.card_line.ensures ∙ c.in-Says.is)
+    (ap (λ ls. may_stand c.args.kind ls c.in-Says.line) (sym c.as_slice.ensures.value)
     ∙ sym c.may_stand.ensures ∙ c.if-not-may_stand.true)
 
-pub loop-rest-preserved-in-Some-None : goal.loop-rest-preserved-in-Some-None
-loop-rest-preserved-in-Some-None c =
+pub loop-rest-preserved-in-Skipped : goal.loop-rest-preserved-in-Skipped
+loop-rest-preserved-in-Skipped c =
     card_skipped _ _ _ _ _ _ _ c.loop-rest.invariant (ap (left_parts 10) c.in-Some.is ∙ c.cut.ensures)
-    (sym {A = Option (List CardLine)} c.card_line.ensures
-    ∙ ap (λ o. option_map (λ e. option_to_list e) o) c.in-Some-None.is
-    ∙ ap (λ o. Some (option_to_list o)) c.in-Some-None.field-0-is)
+    (sym c.card_line.ensures ∙ c.in-Skipped.is)
 
 pub loop-rest-preserved : goal.loop-rest-preserved
 loop-rest-preserved c =
-    let pushed = c.in_ok-push-in-Some-Some.ensures.items in
+    let pushed = c.in_ok-push-in-Says.ensures.items in
     subst (CardRead (lines c.args.text.now) (left_parts 10 c.cut.result.1) c.args.kind (c.loop-rest.number + 1))
     (sym {A = List CardLine} pushed)
-    (card_more _ _ _ _ _ _ _ c.in-Some-Some.line c.loop-rest.invariant
-    (ap (left_parts 10) c.in-Some.is ∙ c.cut.ensures)
-    (sym {A = Option (List CardLine)} c.card_line.ensures
-    ∙ ap (λ o. option_map (λ e. option_to_list e) o) c.in-Some-Some.is
-    ∙ ap (λ o. Some (option_to_list o)) c.in-Some-Some.field-0-is)
-    (ap (λ ls. may_stand c.args.kind ls c.in-Some-Some.line) (sym c.as_slice.ensures.value)
+    (card_more _ _ _ _ _ _ _ c.in-Says.line c.loop-rest.invariant
+    (ap (left_parts 10) c.in-Some.is ∙ c.cut.ensures) (sym c.card_line.ensures ∙ c.in-Says.is)
+    (ap (λ ls. may_stand c.args.kind ls c.in-Says.line) (sym c.as_slice.ensures.value)
     ∙ sym c.may_stand.ensures ∙ c.if-not-may_stand.false))
