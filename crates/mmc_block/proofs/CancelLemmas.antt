@@ -18,8 +18,8 @@ use Rattle.mmc_block.specs.Execution.{Counted, CountedSteps}
 use Rattle.mmc_block.specs.Execution.Event.{Cancel}
 use Rattle.mmc_block.specs.Execution.Reply.{GivenBack, InService, Unknown}
 use Rattle.mmc_block.specs.Service.{AreServed, ServiceOk, in_service_of}
-use Rattle.mmc_block.specs.declared.service.Service.{Service}
-use Rattle.mmc_block.specs.declared.service.Service.TheVariants.{Idle, Serving, Taken}
+use Rattle.mmc_block.specs.Service.{Service}
+use Rattle.mmc_block.specs.Service.Service.{Idle, Serving, Taken}
 use Rattle.mmc_block.proofs.ServeLemmas.{in_order-lower}
 
 -- Who has a ticket.

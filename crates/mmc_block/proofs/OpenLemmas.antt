@@ -14,7 +14,7 @@ use Rattle.mmc_block.specs.Device.{AgreesCounted, IsOpened, opened}
 use Rattle.mmc_block.specs.Machine.{Machine}
 use Rattle.mmc_block.specs.Execution.{Counted}
 use Rattle.mmc_block.specs.declared.service.Link.TheVariants.{Up}
-use Rattle.mmc_block.specs.declared.service.Service.TheVariants.{Idle}
+use Rattle.mmc_block.specs.Service.Service.{Idle}
 use Rattle.mmc_block.specs.declared.open_fault.OpenFault.{OpenFault}
 
 -- what some rounds do

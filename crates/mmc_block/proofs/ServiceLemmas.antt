@@ -24,8 +24,8 @@ use Rattle.mmc_block.specs.declared.service.Link.TheVariants.{Down, Up}
 use Rattle.mmc_switch.specs.declared.progress.Progress.{Progress}
 use Rattle.mmc_block.specs.declared.service.Stage.{Stage}
 use Rattle.mmc_switch.specs.declared.progress.Progress.TheVariants.{Done, Failed, More}
-use Rattle.mmc_block.specs.declared.service.Service.{Service}
-use Rattle.mmc_block.specs.declared.service.Service.TheVariants.{Idle, Serving, Taken}
+use Rattle.mmc_block.specs.Service.{Service}
+use Rattle.mmc_block.specs.Service.Service.{Idle, Serving, Taken}
 use Rattle.mmc_block.proofs.EntryLemmas.{length-waits_of, lent_are_all, lent_length, lent_tries, lent_waits}
 use Rattle.mmc_block.proofs.EntryLemmas.{merged_servable}
 use Rattle.mmc_block.proofs.EntryLemmas.{merged_waits, one_kind_by, servable_all, servable_parts, waits_pass}

@@ -25,8 +25,8 @@ use Rattle.mmc_block.specs.Execution.{Counted, CountedSteps}
 use Rattle.mmc_block.specs.Execution.Event.{Submit}
 use Rattle.mmc_block.specs.Execution.Reply.{Accepted}
 use Rattle.mmc_block.specs.Service.{AreServed, ServiceOk, in_service_of}
-use Rattle.mmc_block.specs.declared.service.Service.{Service}
-use Rattle.mmc_block.specs.declared.service.Service.TheVariants.{Idle, Serving, Taken}
+use Rattle.mmc_block.specs.Service.{Service}
+use Rattle.mmc_block.specs.Service.Service.{Idle, Serving, Taken}
 use Rattle.mmc_block.proofs.DeviceLemmas.{AreServable-push}
 
 -- What the queue wants.

@@ -14,8 +14,8 @@ use Rattle.mmc_block.specs.declared.completion.Answer.{Answer}
 use Rattle.mmc_block.specs.declared.completion.Answer.TheVariants.{Data, Done, Failed}
 use Rattle.mmc_block.specs.declared.completion.Completion.{Completion}
 use Rattle.mmc_block.specs.declared.refused.Refused.{Refused}
-use Rattle.mmc_block.specs.declared.service.Service.{Service}
-use Rattle.mmc_block.specs.declared.service.Service.TheVariants.{Idle, Serving, Taken}
+use Rattle.mmc_block.specs.Service.{Service}
+use Rattle.mmc_block.specs.Service.Service.{Idle, Serving, Taken}
 use Rattle.mmc_block.specs.declared.service.Stage.TheVariants.{At}
 
 -- Who is answered.

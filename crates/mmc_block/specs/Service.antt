@@ -36,10 +36,29 @@ use Rattle.mmc_switch.specs.declared.progress.Progress.{Progress}
 use Rattle.mmc_switch.specs.declared.progress.Progress.TheVariants.{Done, Failed, More}
 use Rattle.mmc_block.specs.declared.service.Work.{Work}
 use Rattle.mmc_block.specs.declared.service.Work.TheVariants.{Blocks, Erase}
-use Rattle.mmc_block.specs.declared.service.Service.{Service}
-use Rattle.mmc_block.specs.declared.service.Service.TheVariants.{Idle, Serving, Taken}
+use Rattle.mmc_block.specs.declared.service.Phase.{Phase}
+use Rattle.mmc_block.specs.declared.service.Phase.TheVariants as phase
 use Rattle.mmc_block.specs.declared.service.Stage.{Stage}
 use Rattle.mmc_block.specs.declared.service.Stage.TheVariants.{At, Running}
+
+-- What a device is at, as contracts see it: nothing is in service, or an attempt is, which has come so far. The device itself
+-- keeps the phase and the attempt apart, so that a turn moves the phase alone.
+pub data Service : Type 0 where
+  Idle : Link → Service
+  Serving : Stage → Attempt → Service
+  Taken : Service
+
+-- the two together
+abbrev pub service_of : Phase → Attempt → Service
+service_of (phase.Idle link) attempt = Idle link
+service_of (phase.Serving stage) attempt = Serving stage attempt
+service_of phase.Taken attempt = Taken
+
+-- where nothing is in service the attempt has no requests
+abbrev pub EmptyIfIdle : Phase → Attempt → Type 0
+EmptyIfIdle (phase.Idle link) attempt = (attempt.group.members.items ≡ []) × (attempt.others.items ≡ [])
+EmptyIfIdle (phase.Serving stage) attempt = Unit {0}
+EmptyIfIdle phase.Taken attempt = Unit {0}
 
 -- What is known of the card.
 

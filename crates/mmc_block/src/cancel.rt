@@ -1,10 +1,10 @@
 ghost use Rattle.std.specs.Prelude.{◌≡◌, ◌↔◌, Err, IfOk, OnErr, MatchOption, false, true, ℕ};
 ghost use Rattle.mmc_block.specs.Entries.{waits_of};
 ghost use Rattle.mmc_block.specs.Machine.{IsTicketOf};
-ghost use Rattle.mmc_block.specs.Service.{in_service_of};
+ghost use Rattle.mmc_block.specs.Service.{in_service_of, service_of};
 
 use crate::device::BlockDev;
-use crate::service::Service;
+use crate::service::{Attempt, Phase};
 use mmc_bus::Bus;
 use mmc_queue::{Entry, Members, Request};
 use thiserror::Error;
@@ -34,15 +34,13 @@ fn has(members: &Members, ticket: u64) -> bool
 }
 
 // Whether a request in service has the ticket.
-fn is_in_service(service: &Service, ticket: u64) -> bool
-    ensures yes { result ≡ true → IsTicketOf ticket (in_service_of service.now) }
-    ensures no { result ≡ false → IsTicketOf ticket (in_service_of service.now) → ⊥ }
+fn is_in_service(phase: &Phase, attempt: &Attempt, ticket: u64) -> bool
+    ensures yes { result ≡ true → IsTicketOf ticket (in_service_of (service_of phase.now attempt.now)) }
+    ensures no { result ≡ false → IsTicketOf ticket (in_service_of (service_of phase.now attempt.now)) → ⊥ }
 {
-    match service {
-        Service::Idle(_) | Service::Taken => false,
-        Service::Serving(_, attempt) => {
-            has(&attempt.group.members, ticket) || has(&attempt.others, ticket)
-        }
+    match phase {
+        Phase::Idle(_) | Phase::Taken => false,
+        Phase::Serving(_) => has(&attempt.group.members, ticket) || has(&attempt.others, ticket),
     }
 }
 
@@ -66,7 +64,7 @@ impl<B: Bus> BlockDev<B> {
         ensures unknown { (result ≡ Err Unknown)
             ↔ ((IsTicketOf ticket self.old.waits → ⊥) × (IsTicketOf ticket (in_service_of self.old.service) → ⊥)) }
     {
-        if is_in_service(&self.service, ticket) {
+        if is_in_service(&self.phase, &self.attempt, ticket) {
             return Err(CancelFault::InService);
         }
         let Ok(entry) = self.queue.take(ticket) else {

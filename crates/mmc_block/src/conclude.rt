@@ -1,17 +1,18 @@
-// What the device decides after a settle, a select or an exchange. Nothing is sent here.
+// What the device decides after a settle, a select or an exchange. Nothing is sent here. What comes once for a group stands in
+// functions of their own, so that a turn of a run doesn't pay for their locals.
 ghost use Rattle.std.specs.Prelude.{◌≡◌, ◌+◌, ◌<◌, ◌∷◌, [], length, map};
 ghost use Rattle.mmc_queue.specs.Waiting.{AreSound};
 ghost use Rattle.mmc_block.specs.Entries.{completion_of, done_answer};
-ghost use Rattle.mmc_block.specs.Service.{AfterAttempt, AfterFailure, AreAll, Concludes, IsNext, tries};
+ghost use Rattle.mmc_block.specs.Service.{AfterAttempt, AfterFailure, AreAll, Concludes, EmptyIfIdle, IsNext, service_of, tries};
 ghost use Rattle.mmc_block.specs.declared.completion.Answer.TheVariants.{Failed};
 
 use crate::completion::{Answer, Completion};
-use crate::service::{Attempt, Link, Service, Stage};
+use crate::service::{Attempt, Link, Phase, Stage};
 use arrayvec::ArrayVec;
-use mmc_bus::{Bytes, Cause};
-use mmc_queue::{Entry, Group, MAX_GROUP, Members, Request};
+use mmc_bus::Bytes;
+use mmc_queue::{Entry, MAX_GROUP, Members, Request};
 use mmc_switch::{Broken, Progress};
-use std::alloc::Global;
+use std::mem;
 
 /// Answers by ticket.
 pub type Completions = ArrayVec<Completion, MAX_GROUP>;
@@ -34,14 +35,15 @@ fn answer(request: Request, buffer: Bytes) -> Answer
     }
 }
 
-// The answers to requests whose run is done.
-fn answer_all(members: Members) -> Completions
-    ensures { result.items ≡ map completion_of members.items }
+// The answers to requests whose run is done, who leave.
+#[inline(never)]
+fn answer_all(members: &mut Members, answers: &mut Completions)
+    requires { answers.old.items ≡ [] }
+    ensures answers { answers.new.items ≡ map completion_of members.old.items }
+    ensures members { members.new.items ≡ [] }
 {
-    let mut members = members;
     // The read tells the proof that the members are within their capacity.
     let _members = members.as_slice();
-    let mut answers = ArrayVec::new();
     while !members.is_empty() {
         let Entry {
             ticket,
@@ -55,108 +57,94 @@ fn answer_all(members: Members) -> Completions
             answer: answer(request, buffer),
         });
     }
-    answers
 }
 
-// The only answer: the request has failed.
-fn failure(entry: Entry, cause: Cause) -> Completions
-    ensures { result.items ≡ record { ticket = entry.ticket; client = entry.client; answer = Failed cause } ∷ [] }
+// Goes on with the first of the others alone, if there is one.
+#[inline(never)]
+fn next(link: Link, attempt: &mut Attempt) -> Phase
+    requires none { attempt.old.group.members.items ≡ [] }
+    requires sound { AreSound attempt.old.others.items }
+    ensures next { IsNext link attempt.old.others.items (service_of result attempt.new) }
+    ensures empty { EmptyIfIdle result attempt.new }
 {
+    if attempt.others.is_empty() {
+        return Phase::Idle(link);
+    }
+    let first = attempt.others.remove(0);
+    attempt.group.take_alone(first);
+    attempt.failed = 0;
+    Phase::Serving(Stage::At(link))
+}
+
+// The last attempt at these has failed: one alone is answered, and several go on alone.
+#[inline(never)]
+fn give_up(broken: Broken, attempt: &mut Attempt, answers: &mut Completions) -> Phase
+    requires some { 0 < length attempt.old.group.members.items }
+    requires sound { AreSound attempt.old.group.members.items }
+    requires others { AreSound attempt.old.others.items }
+    requires all { AreAll attempt.old.group.members.items attempt.old.others.items }
+    requires no_answer { answers.old.items ≡ [] }
+    ensures after { AfterFailure broken attempt.old.group.members.items attempt.old.others.items (service_of result attempt.new) answers.new.items }
+    ensures empty { EmptyIfIdle result attempt.new }
+{
+    if attempt.group.members.len() > 1 {
+        mem::swap(&mut attempt.group.members, &mut attempt.others);
+        return next(Link::Down(broken), attempt);
+    }
     let Entry {
         ticket,
         client,
         request: _,
         buffer: _,
-    } = entry;
-    let mut answers = ArrayVec::new();
+    } = attempt.group.members.remove(0);
     answers.push(Completion {
         ticket,
         client,
-        answer: Answer::Failed(cause),
+        answer: Answer::Failed(broken.cause()),
     });
-    answers
-}
-
-// Goes on with the first of these alone, if there is one.
-fn next(alloc: Global, link: Link, waiting: Members) -> Service
-    requires { AreSound waiting.items }
-    ensures { IsNext link waiting.items result }
-{
-    let mut others = waiting;
-    if others.is_empty() {
-        return Service::Idle(link);
-    }
-    let first = others.remove(0);
-    Service::Serving(
-        Stage::At(link),
-        Attempt {
-            group: Group::alone(alloc, first),
-            others,
-            failed: 0,
-        },
-    )
-}
-
-// The last attempt at these has failed.
-fn give_up(
-    alloc: Global,
-    broken: Broken,
-    members: Members,
-    others: Members,
-) -> (Service, Completions)
-    requires some { 0 < length members.items }
-    requires sound { AreSound members.items }
-    requires others { AreSound others.items }
-    ensures { AfterFailure broken members.items others.items result.0 result.1.items }
-{
-    let mut members = members;
-    if members.len() > 1 {
-        return (next(alloc, Link::Down(broken), members), ArrayVec::new());
-    }
-    let answers = failure(members.remove(0), broken.cause());
-    (next(alloc, Link::Down(broken), others), answers)
+    next(Link::Down(broken), attempt)
 }
 
 // After a failure.
-fn retry(alloc: Global, broken: Broken, attempt: Attempt) -> (Service, Completions)
-    requires some { 0 < length attempt.group.members.items }
-    requires sound { AreSound attempt.group.members.items }
-    requires others { AreSound attempt.others.items }
-    requires fits { attempt.failed < tries attempt.group.members.items }
-    ensures { AfterAttempt broken attempt result.0 result.1.items }
+#[inline(never)]
+fn retry(broken: Broken, attempt: &mut Attempt, answers: &mut Completions) -> Phase
+    requires some { 0 < length attempt.old.group.members.items }
+    requires sound { AreSound attempt.old.group.members.items }
+    requires others { AreSound attempt.old.others.items }
+    requires all { AreAll attempt.old.group.members.items attempt.old.others.items }
+    requires fits { attempt.old.failed < tries attempt.old.group.members.items }
+    requires no_answer { answers.old.items ≡ [] }
+    ensures after { AfterAttempt broken attempt.old (service_of result attempt.new) answers.new.items }
+    ensures empty { EmptyIfIdle result attempt.new }
 {
-    let Attempt {
-        group,
-        others,
-        failed,
-    } = attempt;
-    let failed = failed + 1;
-    if failed == tries(&group.members) {
-        return give_up(alloc, broken, group.members, others);
+    if attempt.failed + 1 == tries(&attempt.group.members) {
+        return give_up(broken, attempt, answers);
     }
-    let again = Attempt {
-        group,
-        others,
-        failed,
-    };
-    let stage = Stage::At(Link::Down(broken));
-    (Service::Serving(stage, again), ArrayVec::new())
+    attempt.failed = attempt.failed + 1;
+    Phase::Serving(Stage::At(Link::Down(broken)))
 }
 
 /// What follows, and the answers. It takes no memory.
-pub fn conclude(alloc: Global, outcome: Progress<Stage>, attempt: Attempt) -> (Service, Completions)
-    requires some { 0 < length attempt.group.members.items }
-    requires sound { AreSound attempt.group.members.items }
-    requires others { AreSound attempt.others.items }
-    requires fits { attempt.failed < tries attempt.group.members.items }
-    ensures { Concludes outcome attempt result.0 result.1.items }
+pub fn conclude(
+    outcome: Progress<Stage>,
+    attempt: &mut Attempt,
+    answers: &mut Completions,
+) -> Phase
+    requires some { 0 < length attempt.old.group.members.items }
+    requires sound { AreSound attempt.old.group.members.items }
+    requires others { AreSound attempt.old.others.items }
+    requires all { AreAll attempt.old.group.members.items attempt.old.others.items }
+    requires fits { attempt.old.failed < tries attempt.old.group.members.items }
+    requires no_answer { answers.old.items ≡ [] }
+    ensures concludes { Concludes outcome attempt.old (service_of result attempt.new) answers.new.items }
+    ensures empty { EmptyIfIdle result attempt.new }
 {
     match outcome {
-        Progress::More(stage) => (Service::Serving(stage, attempt), ArrayVec::new()),
+        Progress::More(stage) => Phase::Serving(stage),
         Progress::Done(session) => {
-            let answers = answer_all(attempt.group.members);
-            (next(alloc, Link::Up(session), attempt.others), answers)
+            answer_all(&mut attempt.group.members, answers);
+            next(Link::Up(session), attempt)
         }
-        Progress::Failed(broken) => retry(alloc, broken, attempt),
+        Progress::Failed(broken) => retry(broken, attempt, answers),
     }
 }

@@ -1,14 +1,19 @@
-// The service of a device: which requests are served, and how far that has come. It is moved from turn to turn, never copied.
+// The service of a device: which requests are served, and how far that has come. A turn moves the phase, which is small; the
+// requests stay where they are, since each move of a list copies all its places.
 //
 // 1. The requests of a group are served by one run. An attempt at it settles the card where something had failed, selects
 //    the partition where another one is selected, and makes the run; each of these takes a turn of its own, and so does each
 //    exchange of the run.
 // 2. A group of several has two attempts. Then each of its requests is served alone, by ticket, before anything else.
 // 3. A request that is served alone has four attempts. Then it fails, with the cause of the last one, and nobody else.
+ghost use Rattle.std.specs.Prelude.{◌≡◌, []};
+
+use arrayvec::ArrayVec;
 use mmc_erase::EraseRun;
 use mmc_queue::{Group, Members};
 use mmc_switch::{Broken, Session};
 use mmc_transfer::Run;
+use std::alloc::Global;
 
 /// How the device stands to its card between runs.
 #[derive(Debug, Drop)]
@@ -48,13 +53,27 @@ pub struct Attempt {
     pub failed: u8,
 }
 
+impl Attempt {
+    /// No requests.
+    pub fn none(alloc: Global) -> Attempt
+        ensures members { result.group.members.items ≡ [] }
+        ensures others { result.others.items ≡ [] }
+    {
+        Attempt {
+            group: Group::none(alloc),
+            others: ArrayVec::new_in(alloc),
+            failed: 0,
+        }
+    }
+}
+
 /// What the device is at.
-#[derive(Drop)]
-pub enum Service {
-    /// Nothing is in service.
+#[derive(Debug, Drop)]
+pub enum Phase {
+    /// Nothing is in service, and the attempt has no requests.
     Idle(Link),
-    /// A group is.
-    Serving(Stage, Attempt),
+    /// The attempt is in service.
+    Serving(Stage),
     /// It is in the hands of a call.
     Taken,
 }

@@ -6,12 +6,12 @@
 // 3. A request that waits has at most one part in two attempts of a group and four of its own: 131,072 turns are enough.
 ghost use Rattle.std.specs.Prelude.{◌*◌, ◌+◌, ◌-◌, ◌<◌, ◌≡◌, ◌≤◌, ◌↔◌, [], length};
 ghost use Rattle.mmc_queue.specs.declared.extent.TheConstants.{MAX_GROUP};
-ghost use Rattle.mmc_block.specs.Service.{in_service_of, tries};
+ghost use Rattle.mmc_block.specs.Service.{in_service_of, service_of, tries};
 ghost use Rattle.mmc_block.specs.Work.{IsCountable, attempts_left, is_on, run_left, service_left, split, stage_left};
 
 use crate::conclude::tries;
 use crate::device::BlockDev;
-use crate::service::{Attempt, Link, Service, Stage, Work};
+use crate::service::{Attempt, Link, Phase, Stage, Work};
 use mmc_bus::{Bus, Part};
 use mmc_queue::Members;
 
@@ -82,17 +82,16 @@ fn attempts_left(attempt: &Attempt) -> u64
 }
 
 // The turns for those in service.
-fn service_left(service: &Service) -> u64
-    requires { IsCountable service.now }
-    ensures left { result ≡ service_left service.now }
-    ensures none { (result ≡ 0) ↔ (in_service_of service.now ≡ []) }
-    ensures bounded { result ≤ TURNS_OF_A_REQUEST * length (in_service_of service.now) }
+fn service_left(phase: &Phase, attempt: &Attempt) -> u64
+    requires { IsCountable (service_of phase.now attempt.now) }
+    ensures left { result ≡ service_left (service_of phase.now attempt.now) }
+    ensures none { (result ≡ 0) ↔ (in_service_of (service_of phase.now attempt.now) ≡ []) }
+    ensures bounded { result ≤ TURNS_OF_A_REQUEST * length (in_service_of (service_of phase.now attempt.now)) }
 {
-    match service {
-        Service::Idle(_) | Service::Taken => 0,
-        Service::Serving(stage, attempt) => {
-            stage_left(stage, attempt.group.extent.part)
-                + TURNS_OF_AN_ATTEMPT * attempts_left(attempt)
+    match phase {
+        Phase::Idle(_) | Phase::Taken => 0,
+        Phase::Serving(stage) => {
+            stage_left(stage, attempt.group.extent.part) + TURNS_OF_AN_ATTEMPT * attempts_left(attempt)
         }
     }
 }
@@ -107,6 +106,6 @@ impl<B: Bus> BlockDev<B> {
         ensures none { (result ≡ 0) ↔ (unanswered_of self.now ≡ 0) }
         ensures bounded { result ≤ 131072 * unanswered_of self.now }
     {
-        TURNS_OF_A_REQUEST * self.queue.len() as u64 + service_left(&self.service)
+        TURNS_OF_A_REQUEST * self.queue.len() as u64 + service_left(&self.phase, &self.attempt)
     }
 }

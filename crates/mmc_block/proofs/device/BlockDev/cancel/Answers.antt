@@ -1,5 +1,6 @@
 -- The request leaves the queue, and the machine gives it back.
 use Rattle.std.proofs.Common.{refl}
+use Rattle.mmc_block.specs.Service.{service_of}
 use Rattle.mmc_block.proofs.CancelLemmas.{gives_back, had_waited, is_unknown, none_waits, taken_ok, withdrawn}
 use Rattle.mmc_block.proofs.device.BlockDev.cancel.Goals as goal
 
@@ -18,9 +19,12 @@ returns-in_default-clause-unknown g c =
     rw (← c.self.view_is) (λ is. (waits, in_service), λ both. refl)
 
 pub invariant_of-self-2 : goal.invariant_of-self-2
-invariant_of-self-2 g c =
-    taken_ok c.self.inside.info c.self.inside.queue c.take.new.self c.self.inside.service c.in-Ok.entry
-    c.self.inside.next c.in-Ok.ensures.taken.2 c.self.invariant
+invariant_of-self-2 g c = record {
+  ok = taken_ok c.self.inside.info c.self.inside.queue c.take.new.self
+      (service_of c.self.inside.phase c.self.inside.attempt) c.in-Ok.entry c.self.inside.next c.in-Ok.ensures.taken.2
+      c.self.invariant.ok;
+  empty = c.self.invariant.empty;
+}
 
 pub returns-clause-machine : goal.returns-clause-machine
 returns-clause-machine g c =

@@ -6,5 +6,7 @@ use Rattle.mmc_queue.proofs.queue.Queue.grow.Given as goal
 
 abbrev pub invariant-loop-joined : goal.invariant-loop-joined
 invariant-loop-joined l =
-    (l.extent.members ≡ array_vec_len l.members) × (l._joined + 1 ≤ l.extent.members) × (l.extent.members ≤ 16)
-    × ((waits : List Entry) → Grows waits l.initial.members.items l.initial.extent l.initial.self → Grows waits l.members.items l.extent l.self)
+    (l.group.extent.members ≡ array_vec_len l.group.members) × (l._joined + 1 ≤ l.group.extent.members)
+    × (l.group.extent.members ≤ 16)
+    × ((waits : List Entry) → Grows waits l.initial.group.members.items l.initial.group.extent l.initial.self
+    → Grows waits l.group.members.items l.group.extent l.self)
