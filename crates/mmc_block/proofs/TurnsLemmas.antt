@@ -6,6 +6,7 @@ use Rattle.std.proofs.lemmas.List.Sums.{sum_by-append}
 use Rattle.std.specs.Prelude.{◌&&◌, ◌==◌, count_by, replicate}
 use Rattle.mmc_card.specs.BusView.{BusView}
 use Rattle.mmc_bus.proofs.WorkLemmas.{stays_same, stays_then}
+use Rattle.mmc_recovery.specs.declared.settling.TheConstants.{EXCHANGES_OF_A_SETTLE}
 use Rattle.mmc_switch.specs.declared.info.Info.{Info}
 use Rattle.mmc_block.specs.declared.completion.Completion.{Completion}
 use Rattle.mmc_block.specs.Any.{Answers, AreFor}
@@ -129,7 +130,8 @@ pub record TurnsSoFar {B : Type 0} (view : B → BusView) (start now : DeviceVie
   pub counted : length completions + unanswered_of now ≡ unanswered_of start
   pub info : now.info ≡ start.info
   pub next : now.next ≡ start.next
-  pub bounded : (view now.bus).exchanges + 119 * work_of now ≤ (view start.bus).exchanges + 119 * work_of start
+  pub bounded : (view now.bus).exchanges + EXCHANGES_OF_A_SETTLE * work_of now
+      ≤ (view start.bus).exchanges + EXCHANGES_OF_A_SETTLE * work_of start
 
 pub turns_none : {B : Type 0} (view : B → BusView) (start : DeviceView B) → TurnsSoFar view start start []
 turns_none view start = record {
@@ -152,7 +154,7 @@ pub record IsTurn {B : Type 0} (view : B → BusView) (old : DeviceView B) (cs :
   pub leaves : unanswered_of new + length cs ≡ unanswered_of old
   pub lowers : work_of new < work_of old
   pub same : (new.info ≡ old.info) × (new.next ≡ old.next)
-  pub bounded : (view new.bus).exchanges ≤ (view old.bus).exchanges + 119
+  pub bounded : (view new.bus).exchanges ≤ (view old.bus).exchanges + EXCHANGES_OF_A_SETTLE
 
 pub turns_then : {B : Type 0} (view : B → BusView) (start mid now : DeviceView B) (given cs : List Completion)
     → TurnsSoFar view start mid given → IsTurn view mid cs now → TurnsSoFar view start now (given ++ cs)

@@ -11,6 +11,8 @@ use Rattle.mmc_erase.specs.Run.{exchanges_left as erases_left}
 use Rattle.mmc_transfer.specs.Run.{exchanges_left as moves_left}
 use Rattle.mmc_queue.specs.declared.entry.Entry.{Entry}
 use Rattle.mmc_queue.specs.declared.extent.TheConstants.{MAX_GROUP}
+use Rattle.mmc_recovery.specs.declared.settling.TheConstants.{EXCHANGES_OF_A_SETTLE}
+use Rattle.mmc_switch.specs.declared.mmc.TheConstants.{EXCHANGES_OF_A_SWITCH}
 use Rattle.mmc_block.specs.Service.{tries}
 use Rattle.mmc_block.specs.declared.service.Attempt.{Attempt}
 use Rattle.mmc_block.specs.declared.service.Link.TheVariants.{Down, Up}
@@ -77,8 +79,8 @@ service_left Taken = 0
 
 -- how many exchanges a turn may make at most: those of a settle, of a select, or one of a run
 abbrev pub most_at : Stage → ℕ
-most_at (At (Down broken)) = 119
-most_at (At (Up session)) = 18
+most_at (At (Down broken)) = EXCHANGES_OF_A_SETTLE
+most_at (At (Up session)) = EXCHANGES_OF_A_SWITCH
 most_at (Running work) = 1
 
 abbrev pub most_exchanges : Service → ℕ

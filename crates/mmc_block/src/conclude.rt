@@ -125,11 +125,7 @@ fn retry(broken: Broken, attempt: &mut Attempt, answers: &mut Completions) -> Ph
 }
 
 /// What follows, and the answers. It takes no memory.
-pub fn conclude(
-    outcome: Progress<Stage>,
-    attempt: &mut Attempt,
-    answers: &mut Completions,
-) -> Phase
+pub fn conclude(outcome: Progress<Stage>, attempt: &mut Attempt, answers: &mut Completions) -> Phase
     requires some { 0 < length attempt.old.group.members.items }
     requires sound { AreSound attempt.old.group.members.items }
     requires others { AreSound attempt.old.others.items }

@@ -1,5 +1,6 @@
 // Serving all that waits, for a user who has nothing else to do meanwhile.
 ghost use Rattle.std.specs.Prelude.{◌≡◌, ◌*◌, ◌+◌, ◌++◌, ◌≤◌, IfOk, OnErr, OnOk, length, true, vec_capacity, vec_len};
+ghost use Rattle.mmc_recovery.specs.declared.settling.TheConstants.{EXCHANGES_OF_A_SETTLE};
 ghost use Rattle.mmc_block.specs.Service.{in_service_of};
 
 use crate::completion::Completion;
@@ -43,7 +44,7 @@ impl<B: Bus> BlockDev<B> {
         ensures each { IfOk result (λ answers. AreEachAnswered (self.old.waits ++ in_service_of self.old.service) answers.items) }
         ensures all { OnOk result (unanswered_of self.new ≡ 0) }
         ensures same { (self.new.info ≡ self.old.info) × (self.new.next ≡ self.old.next) }
-        ensures bounded { (B.view self.new.bus).exchanges ≤ (B.view self.old.bus).exchanges + 119 * work_of self.old }
+        ensures bounded { (B.view self.new.bus).exchanges ≤ (B.view self.old.bus).exchanges + EXCHANGES_OF_A_SETTLE * work_of self.old }
         ensures no_memory { OnErr result (self.new ≡ self.old) }
     {
         let mut answers = Vec::with_capacity(alloc, self.waiting())?;

@@ -6,6 +6,7 @@ ghost use Rattle.mmc_queue.specs.Lent.{AreLent};
 ghost use Rattle.mmc_queue.specs.declared.kind.Kind.TheVariants as kind;
 ghost use Rattle.mmc_switch.specs.Place.{IsReady};
 ghost use Rattle.mmc_switch.specs.UnderWay.{FailsBy, faults_then};
+ghost use Rattle.mmc_switch.specs.declared.mmc.TheConstants.{EXCHANGES_OF_A_SWITCH};
 ghost use Rattle.mmc_transfer.specs.Run.{HasTurned, IsRunning, IsSameRun, Lowers as LowersBlocks};
 ghost use Rattle.mmc_block.specs.Entries.{AreServable};
 ghost use Rattle.mmc_block.specs.Service.{Did, IsAt, IsStageOf, IsUnderWay, IsWorkOf, change_of_group, info_of_stage, lent_for, session_of};
@@ -106,7 +107,7 @@ fn exchange<B: Bus>(bus: &mut B, work: Work, group: &mut Group) -> Progress<Stag
 fn set_out<B: Bus>(bus: &mut B, session: Session, group: &mut Group) -> Progress<Stage>
     requires joined { IsJoined group.old.members.items group.old.extent }
     requires servable { AreServable session.info group.old.members.items }
-    ensures advances { Advances session.info false 18 (stage_left (At (Up session)) group.old.extent.part) group.old (B.view bus.old) result group.new (B.view bus.new) }
+    ensures advances { Advances session.info false EXCHANGES_OF_A_SWITCH (stage_left (At (Up session)) group.old.extent.part) group.old (B.view bus.old) result group.new (B.view bus.new) }
     ensures did { (B.view bus.new).is_kept ≡ true → IsReady session (B.view bus.old)
         → Did (change_of_group session.info group.old) group.new (faults_then 0 (B.view bus.old) (B.view bus.new))
         (B.view bus.old) result (B.view bus.new) }

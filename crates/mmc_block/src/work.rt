@@ -1,6 +1,6 @@
 // How much work is left, as a bound on the turns.
 //
-// 1. A run takes at most 17 turns for each of 1,024 blocks, and 19 besides; an attempt also a settle and a select.
+// 1. A run takes a turn for each of its exchanges, and has 1,024 blocks at most; an attempt also a settle and a select.
 // 2. After this attempt come those at the group that are left, and then, for a group of several, four at each request; and
 //    four at each of the others.
 // 3. A request that waits has at most one part in two attempts of a group and four of its own: 131,072 turns are enough.
@@ -14,9 +14,10 @@ use crate::device::BlockDev;
 use crate::service::{Attempt, Link, Phase, Stage, Work};
 use mmc_bus::{Bus, Part};
 use mmc_queue::Members;
+use mmc_transfer::{EXCHANGES_BESIDE_BLOCKS, EXCHANGES_OF_A_BLOCK, MAX_BLOCKS};
 
 /// The most turns of a run.
-pub const TURNS_OF_A_RUN: u64 = 17 * 1024 + 19;
+pub const TURNS_OF_A_RUN: u64 = EXCHANGES_OF_A_BLOCK * MAX_BLOCKS as u64 + EXCHANGES_BESIDE_BLOCKS;
 
 /// The most turns of an attempt.
 pub const TURNS_OF_AN_ATTEMPT: u64 = TURNS_OF_A_RUN + 2;
@@ -91,7 +92,8 @@ fn service_left(phase: &Phase, attempt: &Attempt) -> u64
     match phase {
         Phase::Idle(_) | Phase::Taken => 0,
         Phase::Serving(stage) => {
-            stage_left(stage, attempt.group.extent.part) + TURNS_OF_AN_ATTEMPT * attempts_left(attempt)
+            stage_left(stage, attempt.group.extent.part)
+                + TURNS_OF_AN_ATTEMPT * attempts_left(attempt)
         }
     }
 }
