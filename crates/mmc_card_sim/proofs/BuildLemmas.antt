@@ -19,7 +19,8 @@ module _ (sizes : List ℕ) (image : Option (List ℕ)) (erased : ℕ) where
   pub new_blocks : IfSome image AreBytes → IfSome image (λ bytes. length bytes ≡ 512 * total sizes) → erased < 256
       → (p : ℕ) → AreBlocks (slice_index_or parts p [])
   new_blocks bytes whole byte p =
-      split_blocks sizes (first_sectors image (total sizes) erased) (first_blocks image (total sizes) erased bytes whole byte) p
+      split_blocks sizes (first_sectors image (total sizes) erased)
+      (first_blocks image (total sizes) erased bytes whole byte) p
 
   new_size : (p : ℕ) → p < length sizes → length (slice_index_or parts p []) ≡ slice_index_or sizes p 0
   new_size p less =

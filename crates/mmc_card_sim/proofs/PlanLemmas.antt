@@ -1,7 +1,9 @@
 -- Looking a fault up in a plan, and planning one.
-use Rattle.std.proofs.Common.{◌++◌, ◌<◌, ◌∷◌, ◌∙◌, ◌≡◌, ◌≤◌, ◌+◌, Bool, List, None, Some, [], ap, arith, cond, false, length}
+use Rattle.std.proofs.Common.{◌++◌, ◌<◌, ◌∷◌, ◌∙◌, ◌≡◌, ◌≤◌, ◌+◌, Bool, List, None, Some, [], ap, arith, cond, false}
+use Rattle.std.proofs.Common.{length}
 use Rattle.std.proofs.Common.{refl, suc, sym, take, true, zero, ℕ}
-use Rattle.std.specs.Prelude.{◌-◌, ◌==◌, ◌^◌, ◌||◌, Err, IsOk, Ok, OnErr, Option, Result, if◌then◌else◌, min, nat_le, nat_lt, slice_index_or, slice_set}
+use Rattle.std.specs.Prelude.{◌-◌, ◌==◌, ◌^◌, ◌||◌, Err, IsOk, Ok, OnErr, Option, Result, if◌then◌else◌, min, nat_le}
+use Rattle.std.specs.Prelude.{nat_lt, slice_index_or, slice_set}
 use Rattle.std.proofs.lemmas.Bool.{eq-eqb, eqb-true}
 use Rattle.std.proofs.lemmas.Bool.Decides.{nat_tests}
 use Rattle.mmc_card_sim.specs.declared.fault.Fault.{Fault}
@@ -82,7 +84,8 @@ replaced (x ∷ xs) (suc i) d p e less none same =
 
 -- Nothing is planned for the number at which the count of exchanges stays, whatever is planned besides.
 
-not_full : (full past late : Bool) → (if full then Some PlanFull else if past || late then Some InThePast else None) ≡ None
+not_full : (full past late : Bool)
+    → (if full then Some PlanFull else if past || late then Some InThePast else None) ≡ None
     → late ≡ false
 not_full true past late h = absurd cc
 not_full false true late h = absurd cc
@@ -122,7 +125,11 @@ by_first : (b : Bool) (p : Planned) (plan : List Planned) (made : ℕ) (fault : 
     → (fault_at plan made ≡ Some fault → to_come plan (made + 1) + 1 ≤ to_come plan made)
     → to_come (p ∷ plan) (made + 1) + 1 ≤ to_come (p ∷ plan) made
 by_first true p plan made fault here found behind =
-    omega (arith, is_now p.exchange made (eqb-true p.exchange made here), fewer_later plan made (made + 1) (omega arith))
+    omega (
+      arith,
+      is_now p.exchange made (eqb-true p.exchange made here),
+      fewer_later plan made (made + 1) (omega arith),
+    )
 by_first false p plan made fault other found behind =
     omega (arith, is_later p.exchange made (made + 1) (omega arith), behind found)
 

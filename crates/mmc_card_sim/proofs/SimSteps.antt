@@ -71,7 +71,8 @@ soon_ready : (delays : Delays) (card : Card) → delays.ready ≤ 8
     → IsPatient (inquiry_choice delays.ready card) card.inquiries
 soon_ready delays card few slow = few_times delays.ready card.inquiries few slow
 
-module _ (plan : List Planned) (old new : Card) (delays : Delays) (soon : delays.ready ≤ 8) (faults later : ℕ) (before after : Wire) where
+module _ (plan : List Planned) (old new : Card) (delays : Delays) (soon : delays.ready ≤ 8) (faults later : ℕ)
+    (before after : Wire) where
   command_fault : (fault : Option Fault) (frame : List ℕ) (reply : Reply) → later ≡ faults + 1
       → fits_command fault delays old frame ≡ true
       → new ≡ after_command fault delays old frame → IsHeard fault (heeded delays old frame).1 reply
@@ -111,7 +112,8 @@ module _ (plan : List Planned) (old new : Card) (delays : Delays) (soon : delays
       → Commanded (kept_with plan old faults before) frame want reply (kept_with plan new later after) × IsCard new
   commanded fault frame want reply fell counts does k notes in_bounds =
       let step = command_step fault frame reply fell counts does in
-      let is = command_leaves_card (kept_with plan old faults before) frame reply (kept_with plan new later after) step k in
+      let is = command_leaves_card (kept_with plan old faults before) frame reply (kept_with plan new later after)
+      step k in
       (exchanged plan old new faults later before after (Command frame want reply) notes in_bounds k is step, is)
 
 -- Blocks.
@@ -123,8 +125,10 @@ module _ (plan : List Planned) (old new : Card) (faults later : ℕ) (before aft
       → fits_read fault old before.lines size ≡ true
       → new ≡ after_read fault old → got ≡ read_in fault → ReadStep (kept_with plan old faults before) size got block
       (kept_with plan new later after)
-  read_fault (Some Is.BadBlock) size got block one fits card answer = bad_block (choice_of false) true fits one card answer
-  read_fault (Some Is.NoBlock) size got block one fits card answer = bad_block (choice_of false) false fits one card answer
+  read_fault (Some Is.BadBlock) size got block one fits card answer =
+      bad_block (choice_of false) true fits one card answer
+  read_fault (Some Is.NoBlock) size got block one fits card answer =
+      bad_block (choice_of false) false fits one card answer
   read_fault (Some (Is.Brownout outcome)) size got block one fits card answer =
       read_brownout (choice_of false) (lands_by outcome) false one card answer
   read_fault None size got block one fits card answer = cc
@@ -139,7 +143,8 @@ module _ (plan : List Planned) (old new : Card) (faults later : ℕ) (before aft
 
   read_step : (fault : Option Fault) (size : ℕ) (got : DataIn) (block : List ℕ) (fell : Bool)
       → later ≡ (if fell then faults + 1 else faults)
-      → Reads fault old before.lines size got block fell new → ReadStep (kept_with plan old faults before) size got block
+      → Reads fault old before.lines size got block fell new
+      → ReadStep (kept_with plan old faults before) size got block
       (kept_with plan new later after)
   read_step fault size got block false counts does =
       let s = does.sends refl in does_read (choice_of false) counts s.card s.got_is s.block_is
@@ -153,7 +158,8 @@ module _ (plan : List Planned) (old new : Card) (faults later : ℕ) (before aft
       → DataRead (kept_with plan old faults before) size got block (kept_with plan new later after) × IsCard new
   data_read fault size got block fell counts does k notes in_bounds =
       let step = read_step fault size got block fell counts does in
-      let is = read_leaves_card (kept_with plan old faults before) size got block (kept_with plan new later after) step k in
+      let is = read_leaves_card (kept_with plan old faults before) size got block (kept_with plan new later after)
+      step k in
       (exchanged plan old new faults later before after (In size got) notes in_bounds k is step, is)
 
   -- Blocks that the host writes.
@@ -192,7 +198,8 @@ module _ (plan : List Planned) (old new : Card) (faults later : ℕ) (before aft
       → DataWritten (kept_with plan old faults before) block got (kept_with plan new later after) × IsCard new
   data_written fault block got fell counts does size k notes in_bounds =
       let step = write_step fault block got fell counts does in
-      let is = write_leaves_card (kept_with plan old faults before) block got (kept_with plan new later after) size step k in
+      let is = write_leaves_card (kept_with plan old faults before) block got (kept_with plan new later after)
+      size step k in
       (exchanged plan old new faults later before after (Out got) notes in_bounds k is step, is)
 
 -- Polls.
@@ -216,7 +223,8 @@ is_false false h = refl
 at_least : (limit times : ℕ) → nat_le limit times ≡ true → limit ≤ times
 at_least limit times h = grind (arith, nat_tests, h)
 
-module _ (plan : List Planned) (old new : Card) (delays : Delays) (soon : delays.busy ≤ 8) (faults later : ℕ) (before after : Wire) where
+module _ (plan : List Planned) (old new : Card) (delays : Delays) (soon : delays.busy ≤ 8) (faults later : ℕ)
+    (before after : Wire) where
   poll_fault : (fault : Option Fault) (said : Bool) → later ≡ faults + 1 → fits_poll fault old ≡ true
       → new ≡ after_poll fault old → said ≡ is_busy_fault fault
       → PollStep (kept_with plan old faults before) said (kept_with plan new later after)
@@ -264,7 +272,8 @@ pub in_all : (sim : SimView) (fault : Option Fault) (fell : Bool) (later : ℕ) 
     → later ≡ (if fell then sim.faults + 1 else sim.faults) → Notes sim.wire exchange after
     → later + to_come sim.plan after.exchanges ≤ sim.faults + to_come sim.plan sim.wire.exchanges
 in_all sim fault fell later exchange after ok is unplanned counts notes =
-    spent sim.plan fault fell sim.faults later sim.wire.exchanges after.exchanges is unplanned ok.never ok.bounded counts
+    spent sim.plan fault fell sim.faults later sim.wire.exchanges after.exchanges is unplanned
+    ok.never ok.bounded counts
     notes.exchanges
 
 fell_some : (fell : Bool) (fault : Option _) (plan : List Planned) (exchanges : ℕ) → fault ≡ fault_at plan exchanges

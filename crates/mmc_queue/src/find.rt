@@ -6,9 +6,9 @@ ghost use Rattle.mmc_queue.specs.Waiting.{Ascend};
 
 use crate::conflict::conflicts;
 use crate::entry::Entry;
+use crate::extent::Extent;
 use crate::place::{Edge, Place};
 use crate::queue::Queue;
-use crate::extent::Extent;
 
 // Whether the first entry came before the second, and they conflict.
 fn comes_first(v: &Entry, e: &Entry) -> bool

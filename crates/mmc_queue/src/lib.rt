@@ -3,6 +3,7 @@
 
 mod conflict;
 mod entry;
+mod extent;
 mod find;
 mod group;
 mod held;
@@ -14,17 +15,16 @@ mod places;
 mod push_fault;
 mod queue;
 mod request;
-mod extent;
 
 pub use conflict::conflicts;
 pub use entry::Entry;
+pub use extent::{Extent, MAX_GROUP};
 pub use group::{Group, Members};
 pub use kind::Kind;
 pub use lent::Writes;
 pub use push_fault::PushFault;
 pub use queue::{MAX_WAITING, Queue, Unknown};
 pub use request::{MAX_COUNT, Request};
-pub use extent::{MAX_GROUP, Extent};
 
 #[cfg(test)]
 mod rule_tests;

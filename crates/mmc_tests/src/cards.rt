@@ -2,10 +2,10 @@
 ghost use Rattle.std.specs.Prelude.{◌<◌};
 
 use mmc_bus::{Bus, BusAnswer, Bytes, DataIn, Reply, ScriptedBus};
-use mmc_card_sim::{CardSpec, Fault, Flips, Outcome, SimCard};
 pub use mmc_card_sim::example_cards::{
     emmc, emmc_with, ext_csd_of_emmc, sdhc, sdsc, sdsc_cmd23, sdsc_with_scr,
 };
+use mmc_card_sim::{CardSpec, Fault, Flips, Outcome, SimCard};
 use mmc_frame::{encode_r2, encode_r3, encode_response};
 use mmc_switch::{Session, initialize};
 use std::alloc::Global;

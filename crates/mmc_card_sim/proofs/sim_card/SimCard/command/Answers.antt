@@ -6,19 +6,27 @@ use Rattle.mmc_card_sim.proofs.sim_card.SimCard.command.Goals as goal
 
 pub invariant_of-self : goal.invariant_of-self
 invariant_of-self c =
-    let did = commanded c.self.inside.plan _ _ _ c.self.invariant.soon_ready _ _ _ _ c.fault-fault.result c.args.frame c.args.want c.faulty_command-reply.result.0
+    let did = commanded c.self.inside.plan _ _ _ c.self.invariant.soon_ready _ _ _ _ c.fault-fault.result c.args.frame
+    c.args.want c.faulty_command-reply.result.0
     c.faulty_command-reply.result.1 c.counted-self-inside.ensures c.faulty_command-reply.ensures
     c.self.invariant.is_card c.note.ensures
     (in_all _ c.fault-fault.result c.faulty_command-reply.result.1 _ _ _ c.self.invariant c.fault-fault.ensures
-    (λ none. c.faulty_command-reply.ensures.fell_is ∙ ap (λ f. fits_command f c.self.inside.delays (card_of c.self.inside.chip) c.args.frame) none) c.counted-self-inside.ensures c.note.ensures) in
+    (λ none. c.faulty_command-reply.ensures.fell_is
+    ∙ ap (λ f. fits_command f c.self.inside.delays (card_of c.self.inside.chip) c.args.frame) none)
+    c.counted-self-inside.ensures c.note.ensures) in
     still_ok _ _ c.fault-fault.result c.faulty_command-reply.result.1 _ c.self.invariant refl refl c.fault-fault.ensures
-    (λ none. c.faulty_command-reply.ensures.fell_is ∙ ap (λ f. fits_command f c.self.inside.delays (card_of c.self.inside.chip) c.args.frame) none) c.counted-self-inside.ensures c.note.ensures did.1
+    (λ none. c.faulty_command-reply.ensures.fell_is
+    ∙ ap (λ f. fits_command f c.self.inside.delays (card_of c.self.inside.chip) c.args.frame) none)
+    c.counted-self-inside.ensures c.note.ensures did.1
 
 pub returns-clause-exchanged : goal.returns-clause-exchanged
 returns-clause-exchanged c =
-    let did = commanded c.self.inside.plan _ _ _ c.self.invariant.soon_ready _ _ _ _ c.fault-fault.result c.args.frame c.args.want c.faulty_command-reply.result.0
+    let did = commanded c.self.inside.plan _ _ _ c.self.invariant.soon_ready _ _ _ _ c.fault-fault.result c.args.frame
+    c.args.want c.faulty_command-reply.result.0
     c.faulty_command-reply.result.1 c.counted-self-inside.ensures c.faulty_command-reply.ensures
     c.self.invariant.is_card c.note.ensures
     (in_all _ c.fault-fault.result c.faulty_command-reply.result.1 _ _ _ c.self.invariant c.fault-fault.ensures
-    (λ none. c.faulty_command-reply.ensures.fell_is ∙ ap (λ f. fits_command f c.self.inside.delays (card_of c.self.inside.chip) c.args.frame) none) c.counted-self-inside.ensures c.note.ensures) in
+    (λ none. c.faulty_command-reply.ensures.fell_is
+    ∙ ap (λ f. fits_command f c.self.inside.delays (card_of c.self.inside.chip) c.args.frame) none)
+    c.counted-self-inside.ensures c.note.ensures) in
     rw (← c.self.view_is) did.0
