@@ -4,12 +4,13 @@ ghost use Rattle.mmc_block.specs.Device.{work_of};
 ghost use Rattle.card_text.specs.declared.event.ScriptEvent.TheVariants.{Cancel, Run, Submit};
 ghost use Rattle.cardtool.specs.Serving.{IsLaterDevice, Plays, TurnsAndPrints, answer_if_printed};
 
+use arrayvec::ArrayVec;
 use card_text::event::ScriptEvent;
 use card_text::output::{
     has_failure, put_cancelled, put_completions, put_queued, put_refused, put_uncancelled,
 };
 use card_text::script::Script;
-use mmc_block::{BlockDev, Request, Ticket};
+use mmc_block::{BlockDev, Completions, Request, Ticket};
 use mmc_bus::Bus;
 use std::alloc::Global;
 use std::io::{self, Write};
@@ -24,17 +25,25 @@ fn answer(printed: io::Result<()>, bad: bool) -> io::Result<bool>
     }
 }
 
-// One turn, and a line for each completion. The answer of this and the next functions says whether some request failed,
-// or a submission or a cancellation was refused.
-fn turn<B: Bus, W: Write>(device: &mut BlockDev<B>, out: &mut W) -> io::Result<bool>
+// One turn, and a line for each completion; the list that they are given in is empty before and behind it. The answer of this and
+// the next functions says whether some request failed, or a submission or a cancellation was refused.
+fn turn<B: Bus, W: Write>(
+    device: &mut BlockDev<B>,
+    given: &mut Completions,
+    out: &mut W,
+) -> io::Result<bool>
+    requires { given.old.items ≡ [] }
     ensures turns { (B.view device.new.bus).is_kept ≡ true
         → TurnsAndPrints B.view device.old device.new (W.contents out.old) (W.contents out.new) result }
     ensures later_device { IsLaterDevice B.view device.old device.new }
     ensures falls { 0 < work_of device.old → work_of device.new < work_of device.old }
+    ensures none { given.new.items ≡ [] }
 {
-    let completions = device.turn();
-    let printed = put_completions(out, completions.as_slice());
-    answer(printed, has_failure(completions.as_slice()))
+    device.turn_into(given);
+    let printed = put_completions(out, given.as_slice());
+    let bad = has_failure(given.as_slice());
+    given.clear();
+    answer(printed, bad)
 }
 
 // Turns until no request is without an answer.
@@ -42,8 +51,9 @@ fn run<B: Bus, W: Write>(device: &mut BlockDev<B>, out: &mut W) -> io::Result<bo
     ensures { Plays B.view device.old device.new (Run ∷ []) (W.contents out.old) (W.contents out.new) result }
 {
     let mut bad = false;
+    let mut given = ArrayVec::new();
     while device.work_left() > 0 {
-        bad = turn(device, out)? | bad;
+        bad = turn(device, &mut given, out)? | bad;
     }
     Ok(bad)
 }
@@ -102,7 +112,7 @@ fn play_event<B: Bus, W: Write>(
     match event {
         ScriptEvent::Submit { client, request } => submit(alloc, device, client, request, out),
         ScriptEvent::Cancel { ticket } => cancel(device, ticket, out),
-        ScriptEvent::Turn => turn(device, out),
+        ScriptEvent::Turn => turn(device, &mut ArrayVec::new(), out),
         ScriptEvent::Run => run(device, out),
     }
 }

@@ -12,7 +12,6 @@ use Rattle.mmc_bus.proofs.WorkLemmas.{stays_same}
 use Rattle.mmc_queue.specs.Group.{IsFair}
 use Rattle.mmc_queue.specs.Requests.{room_of}
 use Rattle.mmc_queue.specs.declared.entry.Entry.{Entry}
-use Rattle.mmc_queue.specs.declared.group.Group.{Group}
 use Rattle.mmc_queue.specs.declared.request.Request.{Request}
 use Rattle.mmc_queue.specs.declared.request.Request.TheVariants.{Erase, Read, Trim, Write}
 use Rattle.mmc_switch.specs.Place.{IsReady}

@@ -1,5 +1,5 @@
 -- Rounds of opening a card.
-use Rattle.std.proofs.Common.{◌+◌, ◌<◌, ◌≡◌, ◌≤◌, [], ap, arith, refl, subst, sym}
+use Rattle.std.proofs.Common.{◌+◌, ◌<◌, ◌≡◌, ◌≤◌, [], ap, arith, subst, sym}
 use Rattle.std.specs.Prelude.{Err, IfOk, IsErr, IsOk, Ok, Result}
 use Rattle.mmc_card.specs.BusView.{BusView}
 use Rattle.mmc_card.specs.Profile.{InProfile}

@@ -1,9 +1,9 @@
 -- Turns one behind the other.
-use Rattle.std.proofs.Common.{◌*◌, ◌+◌, ◌++◌, ◌<◌, ◌∙◌, ◌∷◌, ◌≡◌, ◌≤◌, Bool, List, [], ap, arith, append_assoc, append-nil, cond, false, length, length-append}
+use Rattle.std.proofs.Common.{◌*◌, ◌+◌, ◌++◌, ◌<◌, ◌∙◌, ◌∷◌, ◌≡◌, ◌≤◌, List, [], ap, arith, append_assoc, append-nil, cond, length, length-append}
 use Rattle.std.proofs.Common.{inl, inr, refl, subst, sym, true, zero-add, ℕ}
 use Rattle.std.proofs.lemmas.List.{replicate-append-replicate}
 use Rattle.std.proofs.lemmas.List.Sums.{sum_by-append}
-use Rattle.std.specs.Prelude.{◌&&◌, ◌==◌, count_by, replicate}
+use Rattle.std.specs.Prelude.{◌&&◌, ◌==◌, replicate}
 use Rattle.mmc_card.specs.BusView.{BusView}
 use Rattle.mmc_bus.proofs.WorkLemmas.{stays_same, stays_then}
 use Rattle.mmc_recovery.specs.declared.settling.TheConstants.{EXCHANGES_OF_A_SETTLE}
@@ -18,6 +18,7 @@ use Rattle.mmc_block.specs.InOrder.{answers, answers_in}
 use Rattle.mmc_block.specs.Machine.{IsMerged, Waiting}
 use Rattle.mmc_block.specs.Run.{AreEachAnswered, TakesTurns, answered_to, asked_by}
 use Rattle.mmc_block.specs.Service.{in_service_of}
+use Rattle.mmc_block.specs.Turn.{IsTurn}
 use Rattle.mmc_block.proofs.ExecutionLemmas.{follow_then}
 
 -- Who is answered.
@@ -145,20 +146,9 @@ turns_none view start = record {
   bounded = omega arith;
 }
 
--- what a turn does
-pub record IsTurn {B : Type 0} (view : B → BusView) (old : DeviceView B) (cs : List Completion) (new : DeviceView B) : Type 0 where
-  pub machine : (view new.bus).is_kept ≡ true
-      → Comes view old (λ (c n : Counted). CountedSteps old.info c Turn (Gives cs) n) new
-  pub kept : (view new.bus).is_kept ≡ true → (view old.bus).is_kept ≡ true
-  pub answers : Answers old.waits (in_service_of old.service) cs new.waits (in_service_of new.service)
-  pub leaves : unanswered_of new + length cs ≡ unanswered_of old
-  pub lowers : work_of new < work_of old
-  pub same : (new.info ≡ old.info) × (new.next ≡ old.next)
-  pub bounded : (view new.bus).exchanges ≤ (view old.bus).exchanges + EXCHANGES_OF_A_SETTLE
-
 pub turns_then : {B : Type 0} (view : B → BusView) (start mid now : DeviceView B) (given cs : List Completion)
-    → TurnsSoFar view start mid given → IsTurn view mid cs now → TurnsSoFar view start now (given ++ cs)
-turns_then view start mid now given cs so_far turn = record {
+    → TurnsSoFar view start mid given → 0 < work_of mid → IsTurn view mid cs now → TurnsSoFar view start now (given ++ cs)
+turns_then view start mid now given cs so_far some turn = record {
   comes = λ kept c agrees.
       let first = so_far.comes (turn.kept kept) c agrees in
       let (between, taken, agrees_between) = first.1 in
@@ -182,7 +172,7 @@ turns_then view start mid now given cs so_far turn = record {
   counted = let n = so_far.counted in let m = turn.leaves in let k = length-append given cs in omega (arith, n, m, k);
   info = turn.same.0 ∙ so_far.info;
   next = turn.same.1 ∙ so_far.next;
-  bounded = let n = so_far.bounded in let m = turn.bounded in let k = turn.lowers in omega (arith, n, m, k);
+  bounded = let n = so_far.bounded in let m = turn.bounded in let k = turn.lowers some in omega (arith, n, m, k);
 }
 
 asked_none : (client ticket : ℕ) (ws : List Waiting) → length ws ≡ 0 → asked_by client ticket ws ≡ 0

@@ -1,22 +1,23 @@
 // Serving all that waits, for a user who has nothing else to do meanwhile.
-ghost use Rattle.std.specs.Prelude.{◌≡◌, ◌*◌, ◌+◌, ◌++◌, ◌≤◌, IfOk, OnErr, OnOk, length, true, vec_capacity, vec_len};
+ghost use Rattle.std.specs.Prelude.{◌≡◌, ◌*◌, ◌+◌, ◌++◌, ◌≤◌, [], IfOk, OnErr, OnOk, length, true, vec_capacity, vec_len};
 ghost use Rattle.mmc_recovery.specs.declared.settling.TheConstants.{EXCHANGES_OF_A_SETTLE};
 ghost use Rattle.mmc_block.specs.Service.{in_service_of};
 
 use crate::completion::Completion;
 use crate::conclude::Completions;
 use crate::device::BlockDev;
+use arrayvec::ArrayVec;
 use mmc_bus::Bus;
 use std::alloc::{AllocError, Global};
 
-// Appends answers, for which there is room.
-fn append(all: &mut Vec<Completion>, answers: Completions)
-    requires room { vec_len all.old + length answers.items ≤ vec_capacity all.old }
-    ensures items { all.new.items ≡ all.old.items ++ answers.items }
-    ensures len { vec_len all.new ≡ vec_len all.old + length answers.items }
+// Moves answers behind others, for which there is room.
+fn append(all: &mut Vec<Completion>, answers: &mut Completions)
+    requires room { vec_len all.old + length answers.old.items ≤ vec_capacity all.old }
+    ensures items { all.new.items ≡ all.old.items ++ answers.old.items }
+    ensures len { vec_len all.new ≡ vec_len all.old + length answers.old.items }
     ensures capacity { vec_capacity all.old ≤ vec_capacity all.new }
+    ensures none { answers.new.items ≡ [] }
 {
-    let mut answers = answers;
     while !answers.is_empty() {
         let Ok(()) = all.push(answers.remove(0)) else {
             unreachable!()
@@ -48,8 +49,10 @@ impl<B: Bus> BlockDev<B> {
         ensures no_memory { OnErr result (self.new ≡ self.old) }
     {
         let mut answers = Vec::with_capacity(alloc, self.waiting())?;
+        let mut given = ArrayVec::new();
         while self.work_left() > 0 {
-            append(&mut answers, self.turn());
+            self.turn_into(&mut given);
+            append(&mut answers, &mut given);
         }
         Ok(answers)
     }

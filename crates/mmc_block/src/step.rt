@@ -3,8 +3,10 @@ ghost use Rattle.std.specs.Prelude.{◌≡◌, ◌+◌, ◌≤◌, Some, false, 
 ghost use Rattle.mmc_card.specs.BusView.{BusView};
 ghost use Rattle.mmc_queue.specs.Group.{IsJoined};
 ghost use Rattle.mmc_queue.specs.Lent.{AreLent};
+ghost use Rattle.mmc_queue.specs.declared.group.Group.{Group};
 ghost use Rattle.mmc_queue.specs.declared.kind.Kind.TheVariants as kind;
-ghost use Rattle.mmc_switch.specs.Place.{IsReady};
+ghost use Rattle.mmc_recovery.specs.declared.settling.TheConstants.{EXCHANGES_OF_A_SETTLE};
+ghost use Rattle.mmc_switch.specs.Place.{IsLoose, IsReady};
 ghost use Rattle.mmc_switch.specs.UnderWay.{FailsBy, faults_then};
 ghost use Rattle.mmc_switch.specs.declared.mmc.TheConstants.{EXCHANGES_OF_A_SWITCH};
 ghost use Rattle.mmc_transfer.specs.Run.{HasTurned, IsRunning, IsSameRun, Lowers as LowersBlocks};
@@ -12,7 +14,7 @@ ghost use Rattle.mmc_block.specs.Entries.{AreServable};
 ghost use Rattle.mmc_block.specs.Service.{Did, IsAt, IsStageOf, IsUnderWay, IsWorkOf, change_of_group, info_of_stage, lent_for, session_of};
 ghost use Rattle.mmc_block.specs.Step.{Advances};
 ghost use Rattle.mmc_block.specs.Work.{is_down, most_at, run_left, stage_left};
-ghost use Rattle.mmc_block.specs.declared.service.Link.TheVariants.{Up};
+ghost use Rattle.mmc_block.specs.declared.service.Link.TheVariants.{Down, Up};
 ghost use Rattle.mmc_block.specs.declared.service.Work.TheVariants.{Blocks};
 ghost use Rattle.mmc_block.specs.declared.service.Stage.TheVariants.{At};
 ghost use Rattle.mmc_block.specs.declared.work.TheConstants.{TURNS_OF_A_RUN};
@@ -27,7 +29,7 @@ use mmc_queue::laws::{
 };
 use mmc_queue::{Group, Kind};
 use mmc_recovery::settle;
-use mmc_switch::{Progress, Session, select};
+use mmc_switch::{Broken, Progress, Session, select};
 use mmc_transfer::{Run, Way};
 
 // Begins the run of a group, whose partition is selected.
@@ -102,7 +104,9 @@ fn exchange<B: Bus>(bus: &mut B, work: Work, group: &mut Group) -> Progress<Stag
     }
 }
 
-// From a card that is ready: the select, where another partition is selected, or the first exchange of the run.
+// From a card that is ready: the select, where another partition is selected, or the first exchange of the run. It stands alone, as
+// the settle does, so that a turn in the middle of a run doesn't pay for its locals.
+#[inline(never)]
 #[tactic(auto, using(crate::proofs::StepLemmas::same_lent))]
 fn set_out<B: Bus>(bus: &mut B, session: Session, group: &mut Group) -> Progress<Stage>
     requires joined { IsJoined group.old.members.items group.old.extent }
@@ -123,6 +127,21 @@ fn set_out<B: Bus>(bus: &mut B, session: Session, group: &mut Group) -> Progress
     }
 }
 
+// From a card that something failed with: the settle, for whatever group.
+#[inline(never)]
+fn restore<B: Bus>(bus: &mut B, broken: Broken) -> Progress<Stage>
+    ensures advances { (group : Group) → IsJoined group.members.items group.extent
+        → Advances broken.session.info true EXCHANGES_OF_A_SETTLE (stage_left (At (Down broken)) group.extent.part) group (B.view bus.old) result group (B.view bus.new) }
+    ensures did { (B.view bus.new).is_kept ≡ true → IsLoose broken (B.view bus.old) → (group : Group) (faults : ℕ)
+        → Did (change_of_group broken.session.info group) group (faults_then faults (B.view bus.old) (B.view bus.new))
+        (B.view bus.old) result (B.view bus.new) }
+{
+    match settle(bus, broken) {
+        Ok(session) => Progress::More(Stage::At(Link::Up(session))),
+        Err(broken) => Progress::Failed(broken),
+    }
+}
+
 /// One settle, one select, or one exchange.
 #[tactic(auto, using(crate::proofs::StepLemmas::same_lent))]
 pub fn step<B: Bus>(bus: &mut B, stage: Stage, group: &mut Group) -> Progress<Stage>
@@ -138,9 +157,6 @@ pub fn step<B: Bus>(bus: &mut B, stage: Stage, group: &mut Group) -> Progress<St
     match stage {
         Stage::Running(work) => exchange(bus, work, group),
         Stage::At(Link::Up(session)) => set_out(bus, session, group),
-        Stage::At(Link::Down(broken)) => match settle(bus, broken) {
-            Ok(session) => Progress::More(Stage::At(Link::Up(session))),
-            Err(broken) => Progress::Failed(broken),
-        },
+        Stage::At(Link::Down(broken)) => restore(bus, broken),
     }
 }

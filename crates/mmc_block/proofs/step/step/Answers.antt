@@ -1,8 +1,8 @@
-use Rattle.std.proofs.Common.{◌∙◌, ap, arith, refl}
+use Rattle.std.proofs.Common.{◌∙◌, ap}
 use Rattle.mmc_block.specs.Service.{info_of_stage}
 use Rattle.mmc_block.specs.declared.service.Stage.TheVariants.{At}
 use Rattle.mmc_block.proofs.EntryLemmas.{lent_servable}
-use Rattle.mmc_block.proofs.StepLemmas.{down_at, down_did, up_did, up_turned}
+use Rattle.mmc_block.proofs.StepLemmas.{down_turned, up_turned}
 use Rattle.mmc_block.proofs.step.step.Goals as goal
 
 pub returns-in-Running-clause-servable : goal.returns-in-Running-clause-servable
@@ -21,15 +21,8 @@ returns-in-At-Up-clause-did g c kept faults at =
     (g.B.Bus.view c.set_out.new.bus) c.set_out.result (c.in-At-Up.is ∙ ap At c.in-At-Up.field-0-is)
     (λ ready. c.set_out.ensures.did kept ready) at
 
-pub returns-in-Ok-clause-did : goal.returns-in-Ok-clause-did
-returns-in-Ok-clause-did g c kept faults at =
-    up_did _ c.args.group.now _ c.in-Ok.session _ _ (c.in-Ok.ensures.stays kept)
-    (c.in-Ok.ensures.settled kept
-    (down_at c.args.stage c.in-At-Down.broken c.args.group.now faults _ (c.in-At-Down.is ∙ ap At c.in-At-Down.field-0-is) at))
-
-pub returns-in-Err-clause-did : goal.returns-in-Err-clause-did
-returns-in-Err-clause-did g c kept faults at =
-    let loose = down_at c.args.stage c.in-At-Down.broken c.args.group.now faults (g.B.Bus.view c.args.bus.now)
-    (c.in-At-Down.is ∙ ap At c.in-At-Down.field-0-is) at in
-    down_did _ c.args.group.now _ c.in-Err.broken _ _ (c.in-Err.ensures.stays kept) (c.in-Err.ensures.settled kept loose)
-    (λ made. let fell = c.in-Err.ensures.refused kept loose made refl in omega (arith, fell))
+pub returns-in-At-Down-clause-did : goal.returns-in-At-Down-clause-did
+returns-in-At-Down-clause-did g c kept faults at =
+    down_turned c.args.stage c.in-At-Down.broken c.args.group.now c.args.group.now faults (g.B.Bus.view c.args.bus.now)
+    (g.B.Bus.view c.restore.new.bus) c.restore.result (c.in-At-Down.is ∙ ap At c.in-At-Down.field-0-is)
+    (λ loose. c.restore.ensures.did kept loose c.args.group.now faults) at
