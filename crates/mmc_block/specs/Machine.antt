@@ -9,6 +9,7 @@ use Rattle.mmc_block.specs.declared.completion.Answer.{Answer}
 use Rattle.mmc_block.specs.declared.completion.Answer.TheVariants.{Data, Done, Failed}
 use Rattle.mmc_block.specs.declared.completion.Completion.{Completion}
 use Rattle.mmc_switch.specs.declared.info.Info.{Info}
+use Rattle.mmc_queue.specs.declared.extent.TheConstants.{MAX_GROUP}
 use Rattle.mmc_queue.specs.declared.request.Request.{Request}
 use Rattle.mmc_block.specs.Changes.{change_of}
 use Rattle.mmc_queue.specs.Requests.{Names, conflicts, count_of, is_read, kind_of, part_of, start_of}
@@ -132,7 +133,7 @@ pub record Starts (old new : Machine) : Type 0 where
   pub idle : old.in_service ≡ []
   pub group : new.in_service ≡ oldest ∷ others
   pub alike : AreAlike oldest.request others
-  pub few : length others < 16
+  pub few : length others < MAX_GROUP
   pub first : old.waits ≡ oldest ∷ later
   pub left : IsMerged later others new.waits
   pub sets : new.sets ≡ old.sets

@@ -12,6 +12,7 @@ use Rattle.mmc_queue.specs.Group.{IsFair, IsJoined}
 use Rattle.mmc_queue.specs.Lent.{blocks_of, write_blocks_of}
 use Rattle.mmc_queue.specs.Waiting.{AreSound}
 use Rattle.mmc_queue.specs.declared.entry.Entry.{Entry}
+use Rattle.mmc_queue.specs.declared.extent.TheConstants.{MAX_GROUP}
 use Rattle.mmc_queue.specs.declared.group.Group.{Group}
 use Rattle.mmc_queue.specs.declared.kind.Kind.{Kind}
 use Rattle.mmc_queue.specs.declared.kind.Kind.TheVariants as kind
@@ -192,7 +193,7 @@ pub record AttemptOk (info : Info) (attempt : Attempt) : Type 0 where
   pub sound : AreSound attempt.others.items
   pub fits : attempt.failed < tries attempt.group.members.items
   pub all : AreAll attempt.group.members.items attempt.others.items
-  pub few : length attempt.group.members.items + length attempt.others.items ≤ 16
+  pub few : length attempt.group.members.items + length attempt.others.items ≤ MAX_GROUP
 
 -- Those in service are of one partition and kind, by ticket, and pass no earlier one of these that conflicts.
 pub record AreServed (in_service waits : List Waiting) (next : ℕ) : Type 0 where

@@ -1,6 +1,6 @@
 // What the device decides after a settle, a select or an exchange. Nothing is sent here. What comes once for a group stands in
 // functions of their own, so that a turn of a run doesn't pay for their locals.
-ghost use Rattle.std.specs.Prelude.{◌≡◌, ◌+◌, ◌<◌, ◌∷◌, [], length, map};
+ghost use Rattle.std.specs.Prelude.{◌≡◌, ◌+◌, ◌<◌, ◌∷◌, [], length, map, MatchOption};
 ghost use Rattle.mmc_queue.specs.Waiting.{AreSound};
 ghost use Rattle.mmc_block.specs.Entries.{completion_of, done_answer};
 ghost use Rattle.mmc_block.specs.Service.{AfterAttempt, AfterFailure, AreAll, Concludes, EmptyIfIdle, IsNext, service_of, tries};
@@ -35,6 +35,16 @@ fn answer(request: Request, buffer: Bytes) -> Answer
     }
 }
 
+// Takes the first out. `remove` would do so too, with a second list on the stack.
+fn take_first(members: &mut Members) -> Option<Entry>
+    ensures { MatchOption result ((members.old.items ≡ []) × (members.new.items ≡ [])) (λ e. members.old.items ≡ e ∷ members.new.items) }
+{
+    members.reverse();
+    let first = members.pop();
+    members.reverse();
+    first
+}
+
 // The answers to requests whose run is done, who leave.
 #[inline(never)]
 fn answer_all(members: &mut Members, answers: &mut Completions)
@@ -42,15 +52,16 @@ fn answer_all(members: &mut Members, answers: &mut Completions)
     ensures answers { answers.new.items ≡ map completion_of members.old.items }
     ensures members { members.new.items ≡ [] }
 {
-    // The read tells the proof that the members are within their capacity.
-    let _members = members.as_slice();
-    while !members.is_empty() {
-        let Entry {
+    members.reverse();
+    while let Some(
+        Entry {
             ticket,
             client,
             request,
             buffer,
-        } = members.remove(0);
+        },
+    ) = members.pop()
+    {
         answers.push(Completion {
             ticket,
             client,
@@ -67,10 +78,9 @@ fn next(link: Link, attempt: &mut Attempt) -> Phase
     ensures next { IsNext link attempt.old.others.items (service_of result attempt.new) }
     ensures empty { EmptyIfIdle result attempt.new }
 {
-    if attempt.others.is_empty() {
+    let Some(first) = take_first(&mut attempt.others) else {
         return Phase::Idle(link);
-    }
-    let first = attempt.others.remove(0);
+    };
     attempt.group.take_alone(first);
     attempt.failed = 0;
     Phase::Serving(Stage::At(link))
@@ -91,12 +101,17 @@ fn give_up(broken: Broken, attempt: &mut Attempt, answers: &mut Completions) -> 
         mem::swap(&mut attempt.group.members, &mut attempt.others);
         return next(Link::Down(broken), attempt);
     }
-    let Entry {
-        ticket,
-        client,
-        request: _,
-        buffer: _,
-    } = attempt.group.members.remove(0);
+    let Some(
+        Entry {
+            ticket,
+            client,
+            request: _,
+            buffer: _,
+        },
+    ) = take_first(&mut attempt.group.members)
+    else {
+        unreachable!()
+    };
     answers.push(Completion {
         ticket,
         client,
@@ -124,18 +139,23 @@ fn retry(broken: Broken, attempt: &mut Attempt, answers: &mut Completions) -> Ph
     Phase::Serving(Stage::At(Link::Down(broken)))
 }
 
-/// What follows, and the answers. It takes no memory.
-pub fn conclude(outcome: Progress<Stage>, attempt: &mut Attempt, answers: &mut Completions) -> Phase
+/// What follows, which is the phase then, and the answers. It takes no memory.
+pub fn conclude(
+    outcome: Progress<Stage>,
+    phase: &mut Phase,
+    attempt: &mut Attempt,
+    answers: &mut Completions,
+)
     requires some { 0 < length attempt.old.group.members.items }
     requires sound { AreSound attempt.old.group.members.items }
     requires others { AreSound attempt.old.others.items }
     requires all { AreAll attempt.old.group.members.items attempt.old.others.items }
     requires fits { attempt.old.failed < tries attempt.old.group.members.items }
     requires no_answer { answers.old.items ≡ [] }
-    ensures concludes { Concludes outcome attempt.old (service_of result attempt.new) answers.new.items }
-    ensures empty { EmptyIfIdle result attempt.new }
+    ensures concludes { Concludes outcome attempt.old (service_of phase.new attempt.new) answers.new.items }
+    ensures empty { EmptyIfIdle phase.new attempt.new }
 {
-    match outcome {
+    *phase = match outcome {
         Progress::More(stage) => Phase::Serving(stage),
         Progress::Done(session) => {
             answer_all(&mut attempt.group.members, answers);

@@ -18,8 +18,9 @@ fn append(all: &mut Vec<Completion>, answers: &mut Completions)
     ensures capacity { vec_capacity all.old ≤ vec_capacity all.new }
     ensures none { answers.new.items ≡ [] }
 {
-    while !answers.is_empty() {
-        let Ok(()) = all.push(answers.remove(0)) else {
+    answers.reverse();
+    while let Some(completion) = answers.pop() {
+        let Ok(()) = all.push(completion) else {
             unreachable!()
         };
     }

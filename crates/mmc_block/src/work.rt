@@ -106,7 +106,7 @@ impl<B: Bus> BlockDev<B> {
     pub fn work_left(&self) -> u64
         ensures work { result ≡ work_of self.now }
         ensures none { (result ≡ 0) ↔ (unanswered_of self.now ≡ 0) }
-        ensures bounded { result ≤ 131072 * unanswered_of self.now }
+        ensures bounded { result ≤ TURNS_OF_A_REQUEST * unanswered_of self.now }
     {
         TURNS_OF_A_REQUEST * self.queue.len() as u64 + service_left(&self.phase, &self.attempt)
     }

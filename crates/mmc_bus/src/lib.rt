@@ -33,8 +33,3 @@ pub use status::{check_r1, confirm, rca_argument, wait_and_confirm};
 pub use trace::{MAX_KEPT, TraceBus};
 pub use wait::{MAX_POLLS, wait_while_busy};
 pub use wire::Wire;
-
-#[cfg(test)]
-mod host_tests;
-#[cfg(test)]
-mod tests;

@@ -132,6 +132,7 @@ fn take<B: Bus>(bus: &mut B, kind: Kind, rca: u16) -> Result<(), IdentFault>
 /// # Errors
 /// What the fault says; of a card in profile only where a fault fell. `Register` and `Mismatch` are judged last, but an
 /// RCA 0 at once.
+#[inline(never)]
 pub fn identify<B: Bus>(bus: &mut B) -> Result<Found, IdentFault>
     ensures bounded { (B.view bus.new).exchanges ≤ (B.view bus.old).exchanges + 55 }
     ensures of_mmc { IfOk result (λ found. found.kind ≡ Is.Mmc → (B.view bus.new).exchanges ≤ (B.view bus.old).exchanges + 41) }

@@ -86,10 +86,13 @@ impl Queue {
         best
     }
 
-    // The lowest ticket of those that may join.
+    // The lowest ticket of those that may join. Where nothing waits, nothing is looked for.
     pub(crate) fn find(&self, extent: &Extent) -> Option<u64>
         ensures { MatchOption result (NoneMay extent.now self.now self.now) (λ t. IsLowest extent.now self.now t) }
     {
+        if self.by_ticket.is_empty() {
+            return None;
+        }
         let best = self.lower_at(extent, Edge::Start, extent.end, None);
         self.lower_at(extent, Edge::End, extent.start, best)
     }

@@ -25,8 +25,3 @@ pub use lent::Writes;
 pub use push_fault::PushFault;
 pub use queue::{MAX_WAITING, Queue, Unknown};
 pub use request::{MAX_COUNT, Request};
-
-#[cfg(test)]
-mod rule_tests;
-#[cfg(test)]
-mod tests;

@@ -2,6 +2,8 @@
 use crate::cards::{answers_of_emmc, built, ext_csd_of_emmc, sdsc};
 use mmc_block::*;
 use mmc_bus::{Bus, Bytes, Part, ScriptedBus, TraceBus};
+use std::alloc::Global;
+use std::collections::VecDeque;
 use std::test::Fail;
 
 /// The answers of the first turn that has some.
@@ -13,6 +15,41 @@ pub fn answered<B: Bus>(device: &mut BlockDev<B>) -> Completions {
         }
     }
     Completions::new()
+}
+
+// Where nothing answers, a round is five exchanges: CMD0; CMD8, without which the card is one that doesn't know it; CMD55,
+// without which it is no SD card; CMD0 again, for an eMMC device; and CMD1, at which the first silence ends the round.
+const EXCHANGES_OF_A_ROUND: usize = 5;
+
+#[test]
+fn finds_no_card(rt: HostRuntime) -> Result<(), Fail> {
+    let silent = ScriptedBus::new(VecDeque::new(rt.alloc()));
+    let bus = TraceBus::new(rt.alloc(), silent, 400)
+        .ok()
+        .ok_or("no trace")?;
+    let (bus, fault) = BlockDev::open(rt.alloc(), bus).err().ok_or("a card")?;
+    assert_eq!(rt; fault, OpenFault::NoCard);
+    assert_eq!(rt; bus.len(), 3 * EXCHANGES_OF_A_ROUND);
+    Ok(())
+}
+
+// A write of 5Ah to sector 3.
+fn write_of_sector_3(alloc: Global) -> Result<Request, Fail> {
+    Ok(Request::Write {
+        part: Part::User,
+        start: 3,
+        count: 1,
+        bytes: Bytes::new(vec![in alloc; 0x5a; 512]?),
+    })
+}
+
+// A read of it.
+fn read_of_sector_3() -> Request {
+    Request::Read {
+        part: Part::User,
+        start: 3,
+        count: 1,
+    }
 }
 
 #[test]
@@ -27,20 +64,12 @@ fn serves_requests_in_order(rt: HostRuntime) -> Result<(), Fail> {
     assert!(rt; device.turn().is_empty(), "nothing waits");
     assert_eq!(rt; device.work_left(), 0);
 
-    let bytes = Bytes::new(vec![in rt.alloc(); 0x5a; 512]?);
-    let write = Request::Write {
-        part: Part::User,
-        start: 3,
-        count: 1,
-        bytes,
-    };
+    let write = write_of_sector_3(rt.alloc())?;
     assert_eq!(rt; device.submit(rt.alloc(), 7, write).ok(), Some(0));
-    let read = Request::Read {
-        part: Part::User,
-        start: 3,
-        count: 1,
-    };
-    assert_eq!(rt; device.submit(rt.alloc(), 8, read).ok(), Some(1));
+    assert_eq!(rt;
+        device.submit(rt.alloc(), 8, read_of_sector_3()).ok(),
+        Some(1)
+    );
     assert_eq!(rt; device.waiting(), 2);
 
     let mut answers = answered(&mut device);
@@ -70,6 +99,46 @@ fn serves_requests_in_order(rt: HostRuntime) -> Result<(), Fail> {
     }
     // 17 exchanges open the card; CMD24, the block, a poll and CMD13; CMD17 and the block
     assert_eq!(rt; device.close().len(), 17 + 4 + 2);
+    Ok(())
+}
+
+#[test]
+fn runs_until_all_are_answered(rt: HostRuntime) -> Result<(), Fail> {
+    let card = built(rt.alloc(), sdsc())?;
+    let bus = TraceBus::new(rt.alloc(), card, 64).ok().ok_or("no trace")?;
+    let mut device = BlockDev::open(rt.alloc(), bus).ok().ok_or("no device")?;
+    let write = write_of_sector_3(rt.alloc())?;
+    assert_eq!(rt; device.submit(rt.alloc(), 7, write).ok(), Some(0));
+    assert_eq!(rt;
+        device.submit(rt.alloc(), 8, read_of_sector_3()).ok(),
+        Some(1)
+    );
+
+    let answers = device.run(rt.alloc())?;
+    assert_eq!(rt; answers.len(), 2);
+    assert!(rt;
+        matches!(
+            answers[0],
+            Completion {
+                ticket: 0,
+                client: 7,
+                answer: Answer::Done
+            }
+        )
+    );
+    assert!(rt;
+        matches!(
+            answers[1],
+            Completion {
+                ticket: 1,
+                client: 8,
+                answer: Answer::Data(_)
+            }
+        )
+    );
+    assert_eq!(rt; device.work_left(), 0);
+    // The same exchanges as turn by turn.
+    assert_eq!(rt; device.bus().len(), 17 + 4 + 2);
     Ok(())
 }
 

@@ -1,5 +1,6 @@
-//! Tests of the driver's layers over cards in memory and over buses that lie: identification, width and speed,
-//! partitions, runs of blocks, erases and trims, settling, and the device. Nothing else stands here.
+//! Tests of the driver's layers over cards in memory and over buses that lie: what a host hears, the trace, identification,
+//! width and speed, partitions, runs of blocks, erases and trims, settling, the queue, and the device. Nothing else stands
+//! here: a crate that has tests is proved twice, and so are these alone.
 #![tactic(auto)]
 
 #[cfg(test)]
@@ -9,7 +10,13 @@ mod device;
 #[cfg(test)]
 mod erase;
 #[cfg(test)]
+mod host;
+#[cfg(test)]
 mod identify;
+#[cfg(test)]
+mod queue;
+#[cfg(test)]
+mod queue_rule;
 #[cfg(test)]
 mod select;
 #[cfg(test)]
@@ -18,6 +25,8 @@ mod service;
 mod settle;
 #[cfg(test)]
 mod sweep;
+#[cfg(test)]
+mod trace;
 #[cfg(test)]
 mod transfer;
 #[cfg(test)]

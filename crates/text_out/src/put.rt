@@ -2,6 +2,7 @@
 ghost use Rattle.std.specs.Fmt.{decimal};
 ghost use Rattle.text_out.specs.Writing.{Writes};
 
+use itoa::Buffer;
 use std::io::{self, ErrorKind, Write};
 
 /// Writes all of the bytes.
@@ -25,8 +26,5 @@ pub fn put<W: Write>(out: &mut W, bytes: &[u8]) -> io::Result<()>
 pub fn put_number<W: Write>(out: &mut W, number: u64) -> io::Result<()>
     ensures { Writes (W.contents out.old) (W.contents out.new) result (decimal number) }
 {
-    if number >= 10 {
-        put_number(out, number / 10)?;
-    }
-    put(out, &[b'0' + (number % 10) as u8])
+    put(out, Buffer::new().format(number).as_bytes())
 }

@@ -1,5 +1,5 @@
 // Writes bytes as their longest repeats.
-ghost use Rattle.std.specs.Prelude.{◌≡◌, ◌==◌, ◌<◌, ◌≤◌, length, IfOk, OnErr};
+ghost use Rattle.std.specs.Prelude.{◌+◌, ◌≡◌, ◌==◌, ◌<◌, ◌≤◌, ℕ, length, slice_index, true, IfOk, OnErr};
 ghost use Rattle.std.specs.List.{prefix_len};
 ghost use Rattle.text_out.specs.Repeats.{PutsFirst, repeat_text, repeats_text};
 ghost use Rattle.text_out.specs.Writing.{AppendsFront, Writes};
@@ -7,13 +7,38 @@ ghost use Rattle.text_out.specs.Writing.{AppendsFront, Writes};
 use crate::hex::digit_of;
 use crate::put::{put, put_number};
 use std::io::{self, Write};
+use std::simd::prelude::*;
+
+// How many bytes are looked at together.
+const LANES: usize = 32;
+
+// Whether so many bytes from this index on are all `byte`.
+fn are_all(bytes: &[u8], from: usize, byte: u8) -> bool
+    requires { from + LANES ≤ length bytes.now }
+    ensures { result ≡ true → (k : ℕ) → from ≤ k → k < from + LANES → slice_index bytes.now k ≡ byte }
+{
+    let others = u8x32::from_slice(&bytes[from..]).simd_ne(u8x32::splat(byte));
+    others.to_bitmask() == 0
+}
+
+// Some number of bytes at the front, looked at together, that are all `byte`.
+fn sure_len(bytes: &[u8], byte: u8) -> usize
+    ensures within { result ≤ length bytes.now }
+    ensures same { (k : ℕ) → k < result → slice_index bytes.now k ≡ byte }
+{
+    let mut count = 0;
+    while bytes.len() - count >= LANES && are_all(bytes, count, byte) {
+        count += LANES;
+    }
+    count
+}
 
 // How many bytes at the front are `byte`.
 fn repeat_len(bytes: &[u8], byte: u8) -> usize
     ensures count { result ≡ prefix_len (λ b. b == byte) bytes.now }
     ensures within { result ≤ length bytes.now }
 {
-    let mut count = 0;
+    let mut count = sure_len(bytes, byte);
     while count < bytes.len() && bytes[count] == byte {
         count += 1;
     }

@@ -1,4 +1,4 @@
-use crate::*;
+use mmc_bus::*;
 use mmc_frame::commands::SEND_STATUS;
 use mmc_frame::encode;
 use std::collections::VecDeque;

@@ -2,8 +2,8 @@ ghost use Rattle.std.specs.Prelude.{◌≡◌, ◌*◌, ◌+◌, ◌<◌, ◌≤
 ghost use Rattle.mmc_queue.specs.Waiting.{IsSound};
 ghost use Rattle.mmc_queue.specs.declared.request.TheConstants.{MAX_COUNT};
 
-use crate::*;
 use mmc_bus::{Blocks, BlocksMut, Bytes, Part};
+use mmc_queue::*;
 use std::alloc::Global;
 use std::process::Abort;
 use std::test::Fail;

@@ -1,6 +1,6 @@
 // Groups of requests at random, against the rule written out over a list.
-use crate::tests::{Asked, queue_of, tickets};
-use crate::*;
+use crate::queue::{Asked, queue_of, tickets};
+use mmc_queue::*;
 use std::alloc::Global;
 use std::process::Abort;
 use std::test::Fail;

@@ -1,7 +1,7 @@
 // Frames that were worked by hand from the standard, and what a host hears of each.
 ghost use Rattle.std.specs.Prelude.{◌<◌};
 
-use crate::*;
+use mmc_bus::*;
 use mmc_frame::{Kind, encode, encode_r2, encode_r3, encode_response};
 use std::alloc::Global;
 use std::collections::VecDeque;
