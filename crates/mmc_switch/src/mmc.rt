@@ -178,8 +178,7 @@ fn set_up<B: Bus>(bus: &mut B, rca: u16, has_high_speed: bool) -> Result<Timing,
     }
 }
 
-/// Widens an eMMC device that has blocks of 512 bytes. It stands alone, as `sd::widen` does.
-#[inline(never)]
+/// Widens an eMMC device that has blocks of 512 bytes.
 pub fn widen<B: Bus>(bus: &mut B, found: &Found) -> Result<Session, SwitchFault>
     ensures bounded { (B.view bus.new).exchanges ≤ (B.view bus.old).exchanges + (3 * EXCHANGES_OF_A_SWITCH + 2) }
     ensures user { IfOk result (λ session. session.selected ≡ Some User) }

@@ -231,8 +231,7 @@ fn set_up<B: Bus>(bus: &mut B, rca: u16) -> Result<Told, Cause>
     Ok(Told { scr, width, timing })
 }
 
-/// Widens an SD card that has blocks of 512 bytes. It stands alone, so that an eMMC device doesn't pay for its locals on the stack.
-#[inline(never)]
+/// Widens an SD card that has blocks of 512 bytes.
 pub fn widen<B: Bus>(bus: &mut B, found: &Found) -> Result<Session, SwitchFault>
     ensures bounded { (B.view bus.new).exchanges ≤ (B.view bus.old).exchanges + 10 }
     ensures user { IfOk result (λ session. session.selected ≡ Some User) }

@@ -1,8 +1,7 @@
 -- The last of those that are left is answered next.
-use Rattle.std.proofs.Common.{◌++◌, ◌∙◌, ◌∷◌, ◌≡◌, List, [], ap, append-nil, arith, length, map, reverse, rules, sym}
+use Rattle.std.proofs.Common.{◌++◌, ◌∙◌, ◌∷◌, [], ap, append-nil, arith, length, map, reverse, sym}
 use Rattle.std.proofs.lemmas.List.{length-append, length-reverse, reverse-reverse}
 use Rattle.mmc_block.specs.Entries.{completion_of}
-use Rattle.mmc_block.specs.declared.completion.Completion.{Completion}
 use Rattle.mmc_block.proofs.BackLemmas.{given_more, none_left, turned}
 use Rattle.mmc_block.proofs.conclude.answer_all.Goals as goal
 

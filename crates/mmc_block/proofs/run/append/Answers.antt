@@ -1,5 +1,5 @@
 -- The last of those that are left is appended next.
-use Rattle.std.proofs.Common.{◌++◌, ◌∙◌, ◌∷◌, ◌≡◌, [], ap, append-nil, append_assoc, arith, length, reverse, rules, sym}
+use Rattle.std.proofs.Common.{◌++◌, ◌∙◌, ◌∷◌, [], ap, append-nil, append_assoc, arith, length, reverse, sym}
 use Rattle.std.proofs.lemmas.List.{length-append, length-reverse, reverse-reverse}
 use Rattle.mmc_block.proofs.BackLemmas.{last_first, none_left, turned}
 use Rattle.mmc_block.proofs.run.append.Goals as goal
