@@ -15,7 +15,7 @@ use Rattle.mmc_bus.specs.Work.{Narrows, Worked}
 use Rattle.mmc_bus.specs.declared.cause.Cause.{Cause}
 use Rattle.mmc_switch.specs.UnderWay.{room_of}
 use Rattle.mmc_transfer.proofs.StepLemmas.{all_written, each_way, either_way, fails, goes_there}
-use Rattle.mmc_transfer.specs.Commands.{CanStop, IsMoving}
+use Rattle.mmc_transfer.specs.Commands.{CanStop, IsMoving, may_run_out}
 use Rattle.mmc_transfer.specs.Running.{AreStored, Exact, IsIn, IsSending, IsTaking, Turned, change_of}
 use Rattle.mmc_switch.specs.Ending.{IsEnding}
 use Rattle.mmc_switch.specs.UnderWay.{IsIdle}
@@ -79,7 +79,7 @@ errors_by counted at_end errors room all end ends (inr last) = inr (ends ∙ eq-
 
 module _ (job : Job) (blocks : List Sector) (all : length blocks ≡ job.count) (faults : ℕ) (kind : Kind) (at_end : Bool)
     (a b : BusView)
-    (ends : at_end ≡ (job.start + job.count == room_of job.session))
+    (ends : at_end ≡ may_run_out job.way (job.start + job.count == room_of job.session))
     (at : IsIn job blocks (Other Stop) faults a) where
   -- the exact card can stop
   can_stop : Exact job blocks (Other Stop) a.card → CanStop kind at_end a.card
@@ -92,7 +92,8 @@ module _ (job : Job) (blocks : List Sector) (all : length blocks ≡ job.count) 
           errors = refl;
           switch_error = λ mmc. sending.quiet.switch_error;
         };
-        errors = errors_by _ at_end a.card.errors (room_of job.session) (job.start + job.count) _ ends sending.errors;
+        errors = errors_by _ at_end a.card.errors (room_of job.session) (job.start + job.count) _
+            (ends ∙ ap (λ way. may_run_out way (job.start + job.count == room_of job.session)) reads) sending.errors;
       })
       (λ writes taking. record {
         moving = inr taking.0.quiet.state;

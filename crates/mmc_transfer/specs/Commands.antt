@@ -51,6 +51,12 @@ pub record CanStart (kind : Kind) (way : Way) (card : Card) (address : ℕ) : Ty
 abbrev pub IsMoving : Card → Type 0
 IsMoving card = (card.state ≡ Data) ⊎ (card.state ≡ Rcv)
 
+-- OUT_OF_RANGE alone is no error of CMD12 behind a read that ends with the partition's last sector, and is one behind a write
+-- (SD Physical Layer 6.00, section 4.3.3; JESD84-B51, section 6.6.7)
+abbrev pub may_run_out : Way → Bool → Bool
+may_run_out Read at_end = at_end
+may_run_out Write at_end = false
+
 -- it ends without an error, or at the end of a partition with OUT_OF_RANGE alone
 pub record CanStop (kind : Kind) (at_end : Bool) (card : Card) : Type 0 where
   pub moving : IsMoving card

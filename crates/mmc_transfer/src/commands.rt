@@ -71,36 +71,35 @@ pub fn start<B: Bus>(
     check_r1(kind, ask(bus, command_of(way, is_single), address))
 }
 
-// Judges the R1 of CMD12, in which OUT_OF_RANGE alone is no error where the last block was the partition's last sector
-// (SD Physical Layer 6.00, section 4.3.3; JESD84-B51, section 6.6.7).
-fn check_stop(kind: Kind, at_end: bool, heard: Result<u32, Unheard>) -> Result<(), Cause>
+// Judges the R1 of CMD12, in which OUT_OF_RANGE alone may be no error.
+fn check_stop(kind: Kind, may_run_out: bool, heard: Result<u32, Unheard>) -> Result<(), Cause>
     ensures ok { IsOk result → (status : ℕ) × (heard ≡ Ok status)
-        × ((error_bits kind status ≡ 0) ⊎ ((at_end ≡ true) × (error_bits kind status ≡ 2 ^ 31))) }
+        × ((error_bits kind status ≡ 0) ⊎ ((may_run_out ≡ true) × (error_bits kind status ≡ 2 ^ 31))) }
     ensures all { (status : ℕ) → heard ≡ Ok status
-        → (error_bits kind status ≡ 0) ⊎ ((at_end ≡ true) × (error_bits kind status ≡ 2 ^ 31)) → IsOk result }
+        → (error_bits kind status ≡ 0) ⊎ ((may_run_out ≡ true) × (error_bits kind status ≡ 2 ^ 31)) → IsOk result }
     ensures cause { IfErr result (λ cause. cause ≡ cause_of_response heard) }
 {
     let status = heard.map_err(|_| Cause::Answer)?;
     let errors = errors(kind, status);
-    if errors.is_empty() || at_end && errors == Status::OUT_OF_RANGE {
+    if errors.is_empty() || may_run_out && errors == Status::OUT_OF_RANGE {
         Ok(())
     } else {
         Err(Cause::Status)
     }
 }
 
-/// Ends a transfer (CMD12). At the end of the partition OUT_OF_RANGE alone is no error.
+/// Ends a transfer (CMD12). Where a read may run out of the partition, OUT_OF_RANGE alone is no error.
 ///
 /// # Errors
 /// `Answer` where no sound response was heard, `Status` where it shows an error.
-pub fn stop<B: Bus>(bus: &mut B, kind: Kind, at_end: bool) -> Result<(), Cause>
+pub fn stop<B: Bus>(bus: &mut B, kind: Kind, may_run_out: bool) -> Result<(), Cause>
     ensures ends { Ends 1 (B.view bus.old) result (B.view bus.new) }
     ensures works { Works Narrows
         (λ old new. IsOk result → IsMoving old.card × (new.card ≡ stopped old.card))
-        (λ old new. CanStop kind at_end old.card → IsOk result)
+        (λ old new. CanStop kind may_run_out old.card → IsOk result)
         (B.view bus.old) (B.view bus.new) }
 {
     transfer_laws::cmd12_ends_a_transfer();
     card_laws::a_status_tells_of_its_card();
-    check_stop(kind, at_end, ask(bus, STOP_TRANSMISSION, 0))
+    check_stop(kind, may_run_out, ask(bus, STOP_TRANSMISSION, 0))
 }

@@ -55,7 +55,7 @@ pub fn step<B: Bus>(bus: &mut B, job: &Job, phase: Step) -> Result<Option<Phase>
             }
         }
         Step::Stop => {
-            stop(bus, kind, job.ends_partition())?;
+            stop(bus, kind, job.may_run_out())?;
             Ok(Some(Phase::Other(Step::End(Ending::Wait { polls: 0 }))))
         }
         Step::End(ending) => {

@@ -13,5 +13,5 @@ returns-clause-works g c kept =
     let told = law.sound judged.0 judged.1 in
     (told.0, told.2))
     (λ same can. c.check_stop.ensures.all _ (law.fine same can.moving).0
-    (shows_it_stops c.args.kind c.args.at_end card c.a_status_tells_of_its_card.ensures.errors
+    (shows_it_stops c.args.kind c.args.may_run_out card c.a_status_tells_of_its_card.ensures.errors
     c.a_status_tells_of_its_card.ensures.at_end k.was_card can))

@@ -54,13 +54,13 @@ returns-else-done-job-clause-turned g c kept blocks faults all at =
 
 pub returns-in_err-stop-in-Stop-clause-turned : goal.returns-in_err-stop-in-Stop-clause-turned
 returns-in_err-stop-in-Stop-clause-turned g c kept blocks faults all at =
-    end_fails c.args.job.now blocks all faults _ _ _ _ c.ends_partition.ensures
+    end_fails c.args.job.now blocks all faults _ _ _ _ c.may_run_out.ensures
     (in_step c.args.job.now blocks faults _ c.in-Stop.is at) _ c.from_residual-in_err-stop-in-Stop.ensures.0
     (c.in_err-stop-in-Stop.ensures.works kept)
 
 pub returns-in_ok-stop-in-Stop-clause-turned : goal.returns-in_ok-stop-in-Stop-clause-turned
 returns-in_ok-stop-in-Stop-clause-turned g c kept blocks faults all at =
-    end_goes_on c.args.job.now blocks all faults _ _ _ _ c.ends_partition.ensures
+    end_goes_on c.args.job.now blocks all faults _ _ _ _ c.may_run_out.ensures
     (in_step c.args.job.now blocks faults _ c.in-Stop.is at) (c.in_ok-stop-in-Stop.ensures.works kept)
 
 pub returns-in_err-next-in-End-clause-turned : goal.returns-in_err-next-in-End-clause-turned
