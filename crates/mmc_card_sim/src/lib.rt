@@ -29,20 +29,3 @@ pub use registers::{KindRegisters, MmcRegisters, Registers, SdRegisters};
 pub use sim_card::SimCard;
 pub use spec::{BuildFault, CardSpec};
 pub use store::MAX_SECTORS;
-
-#[cfg(test)]
-mod build_tests;
-#[cfg(test)]
-mod card_tests;
-#[cfg(test)]
-mod fault_tests;
-#[cfg(test)]
-mod flip_tests;
-#[cfg(test)]
-mod opening_tests;
-#[cfg(test)]
-mod plan_tests;
-#[cfg(test)]
-mod spec_tests;
-#[cfg(test)]
-mod test_cards;

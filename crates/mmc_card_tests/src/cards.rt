@@ -1,8 +1,8 @@
 // What tests say of the cards of `example_cards`.
 ghost use Rattle.std.specs.Prelude.{◌<◌};
 
-use crate::{CardSpec, Fault, SimCard};
 use mmc_bus::{Bytes, DataIn, DataOut, Part, Reply, Want};
+use mmc_card_sim::{CardSpec, Fault, SimCard};
 use mmc_frame::commands::SEND_STATUS;
 use mmc_frame::{encode, encode_response};
 use std::alloc::Global;

@@ -1,8 +1,8 @@
 // What a card does between two faults: addresses, partitions, waits, transfers, erase and trim.
-use crate::example_cards::*;
-use crate::test_cards::*;
-use crate::{CardSpec, Registers, SimCard};
+use crate::cards::*;
 use mmc_bus::{Bus, DataIn, DataOut, Part, Timing, Width};
+use mmc_card_sim::example_cards::*;
+use mmc_card_sim::{CardSpec, Registers, SimCard};
 use mmc_frame::encode;
 use std::alloc::Global;
 use std::process::Abort;

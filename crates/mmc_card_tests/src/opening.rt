@@ -1,9 +1,9 @@
 // The exchanges with which a host identifies each card and learns what it can do, from power on (SD Physical Layer
 // 6.00, sections 4.2 and 4.3.10; JESD84-B51, sections 6.4 and 6.6).
-use crate::example_cards::*;
-use crate::test_cards::*;
-use crate::{CardSpec, SimCard};
+use crate::cards::*;
 use mmc_bus::{Bus, DataIn, Reply, Timing, Want, Width};
+use mmc_card_sim::example_cards::*;
+use mmc_card_sim::{CardSpec, SimCard};
 use mmc_frame::{encode, encode_response};
 use std::alloc::Global;
 use std::process::Abort;

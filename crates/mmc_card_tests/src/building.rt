@@ -1,8 +1,8 @@
 // Building a card in memory by its spec.
-use crate::example_cards::{sdsc, sdsc_with_scr};
-use crate::test_cards::*;
-use crate::{BuildFault, CardSpec, SimCard};
+use crate::cards::*;
 use mmc_bus::{Bytes, Part};
+use mmc_card_sim::example_cards::{sdsc, sdsc_with_scr};
+use mmc_card_sim::{BuildFault, CardSpec, SimCard};
 use std::test::Fail;
 
 // Each refusal, the first that holds: a register before the size of the image.

@@ -1,8 +1,9 @@
 // Changes of cards `sdsc` and `emmc` that have one fault each.
-use crate::example_cards::{emmc, emmc_with, ext_csd_of_emmc, sdsc};
-use crate::judging::{Judged, judge};
-use crate::{BuildFault, CardSpec, KindRegisters, Registers, SdRegisters};
-use mmc_bus::Bytes;
+use crate::cards::built;
+use mmc_bus::{Bytes, Part};
+use mmc_card_sim::example_cards::{emmc, emmc_with, ext_csd_of_emmc, sdsc};
+use mmc_card_sim::{BuildFault, CardSpec, KindRegisters, Registers, SdRegisters, SimCard};
+use std::alloc::Global;
 use std::test::Fail;
 
 // A CSD that says nothing, with a sound check.
@@ -33,35 +34,33 @@ fn spec(registers: Registers, sectors: u64) -> CardSpec {
     }
 }
 
+// Why no card is built by this, if none is.
+fn refusal(alloc: Global, spec: CardSpec) -> Option<BuildFault> {
+    SimCard::build(alloc, spec).err()
+}
+
 #[test]
 fn good_specs(rt: HostRuntime) -> Result<(), Fail> {
-    let mut card = spec(sd(), 4);
-    let of_sd = Judged {
-        sizes: [4, 0, 0, 0, 0, 0, 0],
-        erase_unit: 1,
-        is_read_only: false,
-        block_length: 512,
-    };
-    assert_eq!(rt; judge(&card), Ok(of_sd));
-    card.image = Some(Bytes::new(vec![in rt.alloc(); 7; 2048]?));
-    assert_eq!(rt; judge(&card), Ok(of_sd));
-    let of_mmc = Judged {
-        sizes: [2048, 256, 256, 0, 0, 0, 0],
-        erase_unit: 1024,
-        is_read_only: false,
-        block_length: 512,
-    };
-    assert_eq!(rt; judge(&spec(emmc().registers, 2048)), Ok(of_mmc));
+    for image in [None, Some(Bytes::new(vec![in rt.alloc(); 7; 2048]?))] {
+        let card = built(
+            rt.alloc(),
+            CardSpec {
+                image,
+                ..spec(sd(), 4)
+            },
+        )?;
+        assert_eq!(rt; card.contents(Part::User).len(), 4 * 512);
+        assert_eq!(rt; card.contents(Part::Boot1).len(), 0);
+    }
+    let card = built(rt.alloc(), spec(emmc().registers, 2048))?;
+    assert_eq!(rt; card.contents(Part::User).len(), 2048 * 512);
+    assert_eq!(rt; card.contents(Part::Boot1).len(), 256 * 512);
+    assert_eq!(rt; card.contents(Part::Boot2).len(), 256 * 512);
+    assert_eq!(rt; card.contents(Part::Gp1).len(), 0);
     let mut full = ext_csd_of_emmc();
     full[213] = 0xfe;
-    let of_full = Judged {
-        sizes: [65_024, 256, 256, 0, 0, 0, 0],
-        ..of_mmc
-    };
-    assert_eq!(rt;
-        judge(&spec(emmc_with(full, 65_024).registers, 65_024)),
-        Ok(of_full)
-    );
+    let card = built(rt.alloc(), spec(emmc_with(full, 65_024).registers, 65_024))?;
+    assert_eq!(rt; card.contents(Part::User).len(), 65_024 * 512);
     Ok(())
 }
 
@@ -121,8 +120,8 @@ fn refused_registers(rt: HostRuntime) {
         ),
     ] {
         assert_eq!(rt;
-            judge(&spec(registers, 4)),
-            Err(BuildFault::Register),
+            refusal(rt.alloc(), spec(registers, 4)),
+            Some(BuildFault::Register),
             "{fault}"
         );
     }
@@ -144,8 +143,8 @@ fn refused_registers(rt: HostRuntime) {
         (emmc_with(no_erase_unit, 2048).registers, "no erase unit"),
     ] {
         assert_eq!(rt;
-            judge(&spec(registers, 2048)),
-            Err(BuildFault::Register),
+            refusal(rt.alloc(), spec(registers, 2048)),
+            Some(BuildFault::Register),
             "{fault}"
         );
     }
@@ -153,37 +152,46 @@ fn refused_registers(rt: HostRuntime) {
 
 #[test]
 fn refused_numbers(rt: HostRuntime) {
-    let refused = Err(BuildFault::Register);
+    let refused = Some(BuildFault::Register);
     assert_eq!(rt;
-        judge(&CardSpec {
-            ready: 9,
-            ..spec(sd(), 4)
-        }),
+        refusal(
+            rt.alloc(),
+            CardSpec {
+                ready: 9,
+                ..spec(sd(), 4)
+            }
+        ),
         refused
     );
     assert_eq!(rt;
-        judge(&CardSpec {
-            busy: 9,
-            ..spec(sd(), 4)
-        }),
+        refusal(
+            rt.alloc(),
+            CardSpec {
+                busy: 9,
+                ..spec(sd(), 4)
+            }
+        ),
         refused
     );
-    assert_eq!(rt; judge(&spec(sd(), 5)), refused);
+    assert_eq!(rt; refusal(rt.alloc(), spec(sd(), 5)), refused);
     let mut empty = ext_csd_of_emmc();
     empty[213] = 0x00;
-    assert_eq!(rt; judge(&spec(emmc_with(empty, 0).registers, 0)), refused);
+    assert_eq!(rt;
+        refusal(rt.alloc(), spec(emmc_with(empty, 0).registers, 0)),
+        refused
+    );
 }
 
 #[test]
 fn refused_sizes(rt: HostRuntime) -> Result<(), Fail> {
-    let refused = Err(BuildFault::ImageSize);
+    let refused = Some(BuildFault::ImageSize);
     let mut card = spec(sd(), 4);
     card.image = Some(Bytes::new(vec![in rt.alloc(); 7; 2047]?));
-    assert_eq!(rt; judge(&card), refused);
+    assert_eq!(rt; refusal(rt.alloc(), card), refused);
     let mut large = ext_csd_of_emmc();
     large[213] = 0xff;
     assert_eq!(rt;
-        judge(&spec(emmc_with(large, 65_280).registers, 65_280)),
+        refusal(rt.alloc(), spec(emmc_with(large, 65_280).registers, 65_280)),
         refused
     );
     // A general purpose partition that is too large to exist.
@@ -191,7 +199,10 @@ fn refused_sizes(rt: HostRuntime) -> Result<(), Fail> {
     no_partition[155] = 0x01;
     no_partition[145] = 0xff;
     assert_eq!(rt;
-        judge(&spec(emmc_with(no_partition, 2048).registers, 2048)),
+        refusal(
+            rt.alloc(),
+            spec(emmc_with(no_partition, 2048).registers, 2048)
+        ),
         refused
     );
     Ok(())

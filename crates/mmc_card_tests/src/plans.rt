@@ -1,5 +1,5 @@
 // Planning faults.
-use crate::{Fault, MAX_PLANNED, Outcome, Plan, PlanFault};
+use mmc_card_sim::{Fault, MAX_PLANNED, Outcome, Plan, PlanFault};
 use std::test::Fail;
 
 #[test]

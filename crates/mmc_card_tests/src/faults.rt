@@ -1,8 +1,8 @@
 // One short sequence for each fault, which shows what it does and whether it is counted.
-use crate::example_cards::*;
-use crate::test_cards::*;
-use crate::{Fault, Flips, Outcome, PlanFault, SimCard};
+use crate::cards::*;
 use mmc_bus::{DataIn, DataOut, Part, Reply, Want};
+use mmc_card_sim::example_cards::*;
+use mmc_card_sim::{Fault, Flips, Outcome, PlanFault, SimCard};
 use mmc_frame::encode;
 use std::alloc::Global;
 use std::test::Fail;
@@ -94,6 +94,31 @@ fn keeps_an_ocr(rt: HostRuntime) -> Result<(), Fail> {
         plan_after(&mut card, 1, Fault::FlipReply(flips))?;
         expect_r1(&rt, &mut card, 55, 0, 0x120);
         expect_frame(&rt, &mut card, encode(41, 0x0030_0000), heard);
+        assert_eq!(rt; card.faults(), faults);
+    }
+    Ok(())
+}
+
+// Bits of an R2 are flipped as far as it goes: 136 of them. Without the fault it is 3fh, and a CID with a check of 0 and its end bit.
+#[test]
+fn flips_bits_of_a_cid(rt: HostRuntime) -> Result<(), Fail> {
+    let cid = [0x3f, 0, 0, 0, 0, 0, 0, 0, 0, 0, 0, 0, 0, 0, 0, 0, 0x01];
+    let flipped = [0x3f, 0, 0, 0, 0, 0, 0, 0, 0, 0, 0, 0, 0, 0, 0, 0, 0x00];
+    for (flips, heard, faults) in [
+        (one(135), flipped, 1),
+        (one(136), cid, 0),
+        (two(3, 3), cid, 0),
+    ] {
+        let mut card = built(rt.alloc(), sdsc())?;
+        plan_after(&mut card, 2, Fault::FlipReply(flips))?;
+        expect_r1(&rt, &mut card, 55, 0, 0x120);
+        expect_frame(
+            &rt,
+            &mut card,
+            encode(41, 0x0030_0000),
+            [0x3f, 0x80, 0xff, 0x80, 0, 0xff],
+        );
+        expect_reply(&rt, &mut card, encode(2, 0), Reply::Long(heard));
         assert_eq!(rt; card.faults(), faults);
     }
     Ok(())

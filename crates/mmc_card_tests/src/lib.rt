@@ -1,0 +1,18 @@
+//! Tests of the card in memory by its public calls: building, commands, opening, plans and faults. Nothing else stands here: a crate
+//! that has tests is proved twice, and so are these alone.
+#![tactic(auto)]
+
+#[cfg(test)]
+mod building;
+#[cfg(test)]
+mod cards;
+#[cfg(test)]
+mod commands;
+#[cfg(test)]
+mod faults;
+#[cfg(test)]
+mod opening;
+#[cfg(test)]
+mod plans;
+#[cfg(test)]
+mod specs;
