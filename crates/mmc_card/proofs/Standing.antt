@@ -76,8 +76,9 @@ reset_like c d state made same busy count erase app inquiries polled values a = 
   values = values ∙ a.values;
 }
 
-pub stands_reset : (s : Setting) (lands : ℕ → Bool) (c : Card) → Stands s (reset lands c)
-stands_reset s lands c = record {
+pub stands_reset : (s : Setting) (lands : ℕ → Bool) (keeps_length : Bool) (c : Card)
+    → Stands s (reset lands keeps_length c)
+stands_reset s lands keeps_length c = record {
   selected = λ u. cc;
   sends = λ u. cc;
   reset = λ n. record {
@@ -276,13 +277,13 @@ command_stands old frame reply new o step s h =
     after_command (Stands s) old frame reply new h
     (λ choice. stands_answered s choice old.card (command_in frame) o h)
     (λ keeps. stands_garbled s keeps old.card h)
-    (λ lands card _. stands_reset s lands card) step
+    (λ lands keeps card _. stands_reset s lands keeps card) step
 
 pub poll_stands : (old : BusView) (said : Bool) (new : BusView) → PollStep old said new → StillStands old.card new.card
 poll_stands old said new step s h =
     after_poll (Stands s) old said new h (stands_rested s old.card h) (λ busy. stands_slow s old.card busy h)
     (λ lands prg _. stands_quiet s old.card _ refl refl (up_in old.card Prg prg refl) refl h)
-    (λ lands card _. stands_reset s lands card) step
+    (λ lands keeps card _. stands_reset s lands keeps card) step
 
 pub write_stands : (old : BusView) (block : Sector) (got : DataOut) (new : BusView) → WriteStep old block got new
     → StillStands old.card new.card
@@ -291,7 +292,7 @@ write_stands old block got new step s h =
     after_write (Stands s) old block got new h
     (λ accepts. stands_accepted s block old.card (rcv accepts) h)
     (λ accepts. stands_rejected s old.card (rcv accepts) h)
-    (λ lands card _. stands_reset s lands card) step
+    (λ lands keeps card _. stands_reset s lands keeps card) step
 
 pub read_stands : (old : BusView) (size : ℕ) (got : DataIn) (block : Sector) (new : BusView)
     → ReadStep old size got block new → StillStands old.card new.card
@@ -300,4 +301,4 @@ read_stands old size got block new step s h =
     (λ choice sends.
     let d = sends_data old.lines size old.card sends in
     stands_sent_from s old.card.source choice old.card d (h.sends d) h)
-    (λ lands card _. stands_reset s lands card) step
+    (λ lands keeps card _. stands_reset s lands keeps card) step

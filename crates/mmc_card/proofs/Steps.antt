@@ -20,7 +20,7 @@ use Rattle.mmc_card.specs.BusView.{BusView}
 
 -- it survives a failure of the power
 abbrev pub Survives : (Card → Type 0) → Type 0
-Survives P = (lands : ℕ → Bool) (card : Card) → P card → P (reset lands card)
+Survives P = (lands : ℕ → Bool) (keeps_length : Bool) (card : Card) → P card → P (reset lands keeps_length card)
 
 pub after_command : (P : Card → Type 0) (old : BusView) (frame : List ℕ) (reply : Reply) (new : BusView) → P old.card
     → ((choice : Choice) → P (answered choice old.card (command_in frame)).0)
@@ -33,8 +33,8 @@ after_command P old frame reply new stays answers garbles survives step =
       | lose_reply choice patient count card heard silent ↦ along P card (answers choice)
       | flip_reply choice patient count card flipped ↦ along P card (answers choice)
       | slow_inquiry choice slow late inquiry count card spells ↦ along P card (answers choice)
-      | brownout choice lands after patient count card silent ↦ along P card
-          (survives lands _ (by_cond P after (λ _. answers choice) (λ _. stays)))
+      | brownout choice lands keeps_length after patient count card silent ↦ along P card
+          (survives lands keeps_length _ (by_cond P after (λ _. answers choice) (λ _. stays)))
     ]
 
 pub after_poll : (P : Card → Type 0) (old : BusView) (said : Bool) (new : BusView) → P old.card → P (rested old.card)
@@ -50,8 +50,8 @@ after_poll P old said new stays rests slows fails survives step =
       | faithful choice patient count card answer ↦ along P card (polls choice)
       | busy is_busy late count card answer ↦ along P card (slows is_busy)
       | fail lands prg switching count card answer ↦ along P card (fails lands prg switching)
-      | brownout choice lands after patient count card answer ↦ along P card
-          (survives lands _ (by_cond P after (λ _. polls choice) (λ _. stays)))
+      | brownout choice lands keeps_length after patient count card answer ↦ along P card
+          (survives lands keeps_length _ (by_cond P after (λ _. polls choice) (λ _. stays)))
     ]
 
 pub after_write : (P : Card → Type 0) (old : BusView) (block : Sector) (got : DataOut) (new : BusView) → P old.card
@@ -66,8 +66,8 @@ after_write P old block got new stays accepts rejects survives step =
       | reject can count card answer ↦ along P card (rejects can)
       | lose_status is_accepted can count card answer ↦ along P card
           (by_cond P is_accepted (λ _. accepts can) (λ _. rejects can))
-      | brownout lands after count card answer ↦ along P card
-          (survives lands _ (by_cond P after (λ _. offers) (λ _. stays)))
+      | brownout lands keeps_length after count card answer ↦ along P card
+          (survives lands keeps_length _ (by_cond P after (λ _. offers) (λ _. stays)))
     ]
 
 pub after_read : (P : Card → Type 0) (old : BusView) (size : ℕ) (got : DataIn) (block : Sector) (new : BusView)
@@ -79,6 +79,6 @@ after_read P old size got block new stays sends survives step =
     elim step [
       | faithful choice count card answer good ↦ along P card (asks choice)
       | bad_block choice comes can count card answer ↦ along P card (sends choice can)
-      | brownout choice lands after count card answer ↦ along P card
-          (survives lands _ (by_cond P after (λ _. asks choice) (λ _. stays)))
+      | brownout choice lands keeps_length after count card answer ↦ along P card
+          (survives lands keeps_length _ (by_cond P after (λ _. asks choice) (λ _. stays)))
     ]
