@@ -16,6 +16,7 @@ use Rattle.mmc_queue.specs.declared.extent.TheConstants.{MAX_GROUP}
 use Rattle.mmc_queue.specs.declared.group.Group.{Group}
 use Rattle.mmc_queue.specs.declared.kind.Kind.{Kind}
 use Rattle.mmc_queue.specs.declared.kind.Kind.TheVariants as kind
+use Rattle.mmc_switch.specs.Info.{lasting}
 use Rattle.mmc_switch.specs.Place.{IsLoose, IsReady}
 use Rattle.mmc_switch.specs.UnderWay.{part_of}
 use Rattle.mmc_switch.specs.declared.broken.Broken.{Broken}
@@ -63,9 +64,13 @@ EmptyIfIdle phase.Taken attempt = Unit {0}
 
 -- What is known of the card.
 
+-- for good: an SD card may publish another RCA after each reset
+abbrev pub info_of : Session → Info
+info_of session = lasting session.info
+
 abbrev pub info_of_link : Link → Info
-info_of_link (Up session) = session.info
-info_of_link (Down broken) = broken.session.info
+info_of_link (Up session) = info_of session
+info_of_link (Down broken) = info_of broken.session
 
 abbrev pub session_of : Work → Session
 session_of (Blocks run) = run.job.session
@@ -73,12 +78,26 @@ session_of (Erase run) = run.job.session
 
 abbrev pub info_of_stage : Stage → Info
 info_of_stage (At link) = info_of_link link
-info_of_stage (Running work) = (session_of work).info
+info_of_stage (Running work) = info_of (session_of work)
 
 abbrev pub info_of_outcome : Progress Stage → Info
 info_of_outcome (More stage) = info_of_stage stage
-info_of_outcome (Done session) = session.info
-info_of_outcome (Failed broken) = broken.session.info
+info_of_outcome (Done session) = info_of session
+info_of_outcome (Failed broken) = info_of broken.session
+
+-- with the RCA that it has now
+abbrev pub info_now_by : Link → Info
+info_now_by (Up session) = session.info
+info_now_by (Down broken) = broken.session.info
+
+abbrev pub info_now_at : Stage → Info
+info_now_at (At link) = info_now_by link
+info_now_at (Running work) = (session_of work).info
+
+abbrev pub IsInfoNow : Service → Info → Type 0
+IsInfoNow (Idle link) info = info ≡ info_now_by link
+IsInfoNow (Serving stage attempt) info = info ≡ info_now_at stage
+IsInfoNow Taken info = Unit {0}
 
 -- A run for a group.
 

@@ -7,11 +7,12 @@
 // 2. A group of several has two attempts. Then each of its requests is served alone, by ticket, before anything else.
 // 3. A request that is served alone has four attempts. Then it fails, with the cause of the last one, and nobody else.
 ghost use Rattle.std.specs.Prelude.{◌≡◌, []};
+ghost use Rattle.mmc_block.specs.Service.{info_now_at, info_now_by};
 
 use arrayvec::ArrayVec;
 use mmc_erase::EraseRun;
 use mmc_queue::{Group, Members};
-use mmc_switch::{Broken, Session};
+use mmc_switch::{Broken, Info, Session};
 use mmc_transfer::Run;
 use std::alloc::Global;
 
@@ -22,6 +23,18 @@ pub enum Link {
     Up(Session),
     /// Something failed, and the card is to be settled.
     Down(Broken),
+}
+
+impl Link {
+    /// What is known of the card.
+    pub fn info(&self) -> &Info
+        ensures { result.now ≡ info_now_by self.now }
+    {
+        match self {
+            Link::Up(session) => session.info(),
+            Link::Down(broken) => broken.info(),
+        }
+    }
 }
 
 /// What serves a group.
@@ -40,6 +53,19 @@ pub enum Stage {
     At(Link),
     /// The run is under way.
     Running(Work),
+}
+
+impl Stage {
+    /// What is known of the card.
+    pub fn info(&self) -> &Info
+        ensures { result.now ≡ info_now_at self.now }
+    {
+        match self {
+            Stage::At(link) => link.info(),
+            Stage::Running(Work::Blocks(run)) => run.info(),
+            Stage::Running(Work::Erase(run)) => run.info(),
+        }
+    }
 }
 
 /// An attempt at requests in service.

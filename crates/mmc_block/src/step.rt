@@ -11,7 +11,7 @@ ghost use Rattle.mmc_switch.specs.UnderWay.{FailsBy, faults_then};
 ghost use Rattle.mmc_switch.specs.declared.mmc.TheConstants.{EXCHANGES_OF_A_SWITCH};
 ghost use Rattle.mmc_transfer.specs.Run.{HasTurned, IsRunning, IsSameRun, Lowers as LowersBlocks};
 ghost use Rattle.mmc_block.specs.Entries.{AreServable};
-ghost use Rattle.mmc_block.specs.Service.{Did, IsAt, IsStageOf, IsUnderWay, IsWorkOf, change_of_group, info_of_stage, lent_for, session_of};
+ghost use Rattle.mmc_block.specs.Service.{Did, IsAt, IsStageOf, IsUnderWay, IsWorkOf, change_of_group, info_of, info_of_stage, lent_for, session_of};
 ghost use Rattle.mmc_block.specs.Step.{Advances};
 ghost use Rattle.mmc_block.specs.Work.{is_down, most_at, run_left, stage_left};
 ghost use Rattle.mmc_block.specs.declared.service.Link.TheVariants.{Down, Up};
@@ -35,7 +35,7 @@ use mmc_transfer::{Run, Way};
 // Begins the run of a group, whose partition is selected.
 fn begin(session: Session, group: &Group) -> Work
     requires joined { IsJoined group.now.members.items group.now.extent }
-    requires servable { AreServable session.info group.now.members.items }
+    requires servable { AreServable (info_of session) group.now.members.items }
     requires selected { session.selected ≡ Some group.now.extent.part }
     ensures of { IsWorkOf group.now result }
     ensures session { session_of result ≡ session }
@@ -82,9 +82,9 @@ fn move_on<B: Bus>(bus: &mut B, run: Run, group: &mut Group) -> Progress<Run>
 fn exchange<B: Bus>(bus: &mut B, work: Work, group: &mut Group) -> Progress<Stage>
     requires joined { IsJoined group.old.members.items group.old.extent }
     requires of { IsWorkOf group.old work }
-    ensures advances { Advances (session_of work).info false 1 (run_left work) group.old (B.view bus.old) result group.new (B.view bus.new) }
+    ensures advances { Advances (info_of (session_of work)) false 1 (run_left work) group.old (B.view bus.old) result group.new (B.view bus.new) }
     ensures did { (B.view bus.new).is_kept ≡ true → (faults : ℕ) → IsUnderWay work group.old faults (B.view bus.old)
-        → Did (change_of_group (session_of work).info group.old) group.new (faults_then faults (B.view bus.old) (B.view bus.new))
+        → Did (change_of_group (info_of (session_of work)) group.old) group.new (faults_then faults (B.view bus.old) (B.view bus.new))
         (B.view bus.old) result (B.view bus.new) }
 {
     a_group_is_one_extent();
@@ -110,10 +110,10 @@ fn exchange<B: Bus>(bus: &mut B, work: Work, group: &mut Group) -> Progress<Stag
 #[tactic(auto, using(crate::proofs::StepLemmas::same_lent))]
 fn set_out<B: Bus>(bus: &mut B, session: Session, group: &mut Group) -> Progress<Stage>
     requires joined { IsJoined group.old.members.items group.old.extent }
-    requires servable { AreServable session.info group.old.members.items }
-    ensures advances { Advances session.info false EXCHANGES_OF_A_SWITCH (stage_left (At (Up session)) group.old.extent.part) group.old (B.view bus.old) result group.new (B.view bus.new) }
+    requires servable { AreServable (info_of session) group.old.members.items }
+    ensures advances { Advances (info_of session) false EXCHANGES_OF_A_SWITCH (stage_left (At (Up session)) group.old.extent.part) group.old (B.view bus.old) result group.new (B.view bus.new) }
     ensures did { (B.view bus.new).is_kept ≡ true → IsReady session (B.view bus.old)
-        → Did (change_of_group session.info group.old) group.new (faults_then 0 (B.view bus.old) (B.view bus.new))
+        → Did (change_of_group (info_of session) group.old) group.new (faults_then 0 (B.view bus.old) (B.view bus.new))
         (B.view bus.old) result (B.view bus.new) }
 {
     a_group_is_one_extent();
@@ -131,9 +131,9 @@ fn set_out<B: Bus>(bus: &mut B, session: Session, group: &mut Group) -> Progress
 #[inline(never)]
 fn restore<B: Bus>(bus: &mut B, broken: Broken) -> Progress<Stage>
     ensures advances { (group : Group) → IsJoined group.members.items group.extent
-        → Advances broken.session.info true EXCHANGES_OF_A_SETTLE (stage_left (At (Down broken)) group.extent.part) group (B.view bus.old) result group (B.view bus.new) }
+        → Advances (info_of broken.session) true EXCHANGES_OF_A_SETTLE (stage_left (At (Down broken)) group.extent.part) group (B.view bus.old) result group (B.view bus.new) }
     ensures did { (B.view bus.new).is_kept ≡ true → IsLoose broken (B.view bus.old) → (group : Group) (faults : ℕ)
-        → Did (change_of_group broken.session.info group) group (faults_then faults (B.view bus.old) (B.view bus.new))
+        → Did (change_of_group (info_of broken.session) group) group (faults_then faults (B.view bus.old) (B.view bus.new))
         (B.view bus.old) result (B.view bus.new) }
 {
     match settle(bus, broken) {

@@ -54,6 +54,15 @@ impl Info {
         some_size(self.sizes.of(part))
     }
 
+    /// What is known of the card for good: all but the RCA, in whose place 1 stands.
+    pub fn lasting(&self) -> Info
+        ensures { result ≡ lasting self.now }
+    {
+        let mut lasting = *self;
+        lasting.rca = 1;
+        lasting
+    }
+
     /// Whether this and what else is known of a card are the same, but for the RCA. What is known of one card always is.
     pub fn is_same(&self, other: &Info) -> bool
         ensures same { result ≡ true → lasting self.now ≡ lasting other.now }

@@ -1,7 +1,7 @@
 use Rattle.std.proofs.Common.{arith, subst}
 use Rattle.mmc_switch.specs.UnderWay.{faults_then}
 use Rattle.mmc_switch.specs.declared.session.Session.{Session}
-use Rattle.mmc_block.specs.Service.{Did, change_of_group}
+use Rattle.mmc_block.specs.Service.{Did, change_of_group, info_of}
 use Rattle.mmc_block.proofs.BeginLemmas.{run_exists}
 use Rattle.mmc_block.proofs.StepLemmas.{down_did, up_did}
 use Rattle.mmc_block.proofs.step.set_out.Goals as goal
@@ -10,12 +10,12 @@ pub returns-then-eq-clause-did : goal.returns-then-eq-clause-did
 returns-then-eq-clause-did g c kept ready =
     let old = g.B.Bus.view c.args.bus.now in
     let new = g.B.Bus.view c.exchange.new.bus in
-    subst (λ (s : Session). Did (change_of_group s.info c.args.group.now) c.exchange.new.group (faults_then 0 old new) old c.exchange.result new)
+    subst (λ (s : Session). Did (change_of_group (info_of s) c.args.group.now) c.exchange.new.group (faults_then 0 old new) old c.exchange.result new)
     c.begin-work.ensures.session (c.exchange.ensures.did kept 0 (c.begin-work.ensures.under_way old ready))
 
 pub select-requires : goal.select-requires
 select-requires g c = record {
-  exists = run_exists c.args.session.info c.args.group.now c.requires.servable
+  exists = run_exists (info_of c.args.session) c.args.group.now c.requires.servable
       (c.a_group_is_one_extent.ensures _ _ c.requires.joined);
 }
 
