@@ -1,7 +1,7 @@
 use Rattle.std.proofs.Common.{arith, subst}
 use Rattle.mmc_switch.specs.UnderWay.{faults_then}
 use Rattle.mmc_switch.specs.declared.session.Session.{Session}
-use Rattle.mmc_block.specs.Service.{Did, change_of_group}
+use Rattle.mmc_block.specs.Service.{Did, change_of_group, work_then}
 use Rattle.mmc_block.proofs.BeginLemmas.{run_exists}
 use Rattle.mmc_block.proofs.StepLemmas.{down_did, up_did}
 use Rattle.mmc_block.proofs.step.set_out.Goals as goal
@@ -9,9 +9,11 @@ use Rattle.mmc_block.proofs.step.set_out.Goals as goal
 pub returns-then-eq-clause-did : goal.returns-then-eq-clause-did
 returns-then-eq-clause-did g c kept ready =
     let old = g.B.Bus.view c.args.bus.now in
-    let new = g.B.Bus.view c.exchange.new.bus in
-    subst (λ (s : Session). Did (change_of_group s.info c.args.group.now) c.exchange.new.group (faults_then 0 old new) old c.exchange.result new)
-    c.begin-work.ensures.session (c.exchange.ensures.did kept 0 (c.begin-work.ensures.under_way old ready))
+    let new = g.B.Bus.view c.exchange-standing.new.bus in
+    rw c.outcome.ensures
+    (subst (λ (s : Session). Did (change_of_group s.info c.args.group.now) c.exchange-standing.new.group (faults_then 0 old new) old
+    (work_then c.exchange-standing.new.work c.exchange-standing.result) new)
+    c.begin-work.ensures.session (c.exchange-standing.ensures.did kept 0 (c.begin-work.ensures.under_way old ready)))
 
 pub select-requires : goal.select-requires
 select-requires g c = record {
