@@ -1,5 +1,5 @@
 // What the device does in a turn: one settle, one select, or one exchange of a run.
-ghost use Rattle.std.specs.Prelude.{◌≡◌, ◌+◌, ◌≤◌, Some, Unit, false, true, ℕ};
+ghost use Rattle.std.specs.Prelude.{◌≡◌, ◌+◌, ◌≤◌, Some, false, true, ℕ};
 ghost use Rattle.mmc_card.specs.BusView.{BusView};
 ghost use Rattle.mmc_queue.specs.Group.{IsJoined};
 ghost use Rattle.mmc_queue.specs.Lent.{AreLent};
