@@ -18,6 +18,7 @@ use Rattle.mmc_queue.specs.declared.kind.Kind.{Kind}
 use Rattle.mmc_queue.specs.declared.kind.Kind.TheVariants as kind
 use Rattle.mmc_switch.specs.Info.{lasting}
 use Rattle.mmc_switch.specs.Place.{IsLoose, IsReady}
+use Rattle.mmc_switch.specs.Turns.{progress_of}
 use Rattle.mmc_switch.specs.UnderWay.{part_of}
 use Rattle.mmc_switch.specs.declared.broken.Broken.{Broken}
 use Rattle.mmc_switch.specs.declared.info.Info.{Info}
@@ -36,6 +37,7 @@ use Rattle.mmc_block.specs.declared.service.Link.{Link}
 use Rattle.mmc_block.specs.declared.service.Link.TheVariants.{Down, Up}
 use Rattle.mmc_switch.specs.declared.progress.Progress.{Progress}
 use Rattle.mmc_switch.specs.declared.progress.Progress.TheVariants.{Done, Failed, More}
+use Rattle.mmc_switch.specs.declared.progress.Standing.{Standing}
 use Rattle.mmc_block.specs.declared.service.Work.{Work}
 use Rattle.mmc_block.specs.declared.service.Work.TheVariants.{Blocks, Erase}
 use Rattle.mmc_block.specs.declared.service.Phase.{Phase}
@@ -98,6 +100,45 @@ abbrev pub IsInfoNow : Service → Info → Type 0
 IsInfoNow (Idle link) info = info ≡ info_now_by link
 IsInfoNow (Serving stage attempt) info = info ≡ info_now_at stage
 IsInfoNow Taken info = Unit {0}
+
+-- how a run stands after a turn, which is this then
+abbrev pub work_then : Work → Standing → Progress Stage
+work_then work standing = progress_of (session_of work) (Running work) standing
+
+-- The phase before a step and behind it.
+
+-- it is not in the hands of a call
+abbrev pub IsHere : Phase → Type 0
+IsHere (phase.Idle link) = Unit {0}
+IsHere (phase.Serving stage) = Unit {0}
+IsHere phase.Taken = ⊥
+
+-- an attempt is in service, and this holds of how far it has come
+abbrev pub IfServing : Phase → (Stage → Type 0) → Type 0
+IfServing (phase.Serving stage) Holds = Holds stage
+IfServing (phase.Idle link) Holds = ⊥
+IfServing phase.Taken Holds = ⊥
+
+-- the same where its run is still to begin, and where that is under way
+abbrev pub IfAt : Phase → (Link → Type 0) → Type 0
+IfAt (phase.Serving (At link)) Holds = Holds link
+IfAt (phase.Serving (Running work)) Holds = ⊥
+IfAt (phase.Idle link) Holds = ⊥
+IfAt phase.Taken Holds = ⊥
+
+abbrev pub IfRunning : Phase → (Work → Type 0) → Type 0
+IfRunning (phase.Serving (Running work)) Holds = Holds work
+IfRunning (phase.Serving (At link)) Holds = ⊥
+IfRunning (phase.Idle link) Holds = ⊥
+IfRunning phase.Taken Holds = ⊥
+
+-- what a step has left of an attempt: it goes on, or it is over, and the phase has the card; one in the hands of a call has
+-- left it where it was
+abbrev pub outcome_of : Stage → Phase → Progress Stage
+outcome_of was (phase.Serving stage) = More stage
+outcome_of was (phase.Idle (Up session)) = Done session
+outcome_of was (phase.Idle (Down broken)) = Failed broken
+outcome_of was phase.Taken = More was
 
 -- A run for a group.
 

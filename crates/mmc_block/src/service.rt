@@ -8,6 +8,7 @@
 // 3. A request that is served alone has four attempts. Then it fails, with the cause of the last one, and nobody else.
 ghost use Rattle.std.specs.Prelude.{◌≡◌, []};
 ghost use Rattle.mmc_block.specs.Service.{info_now_at, info_now_by};
+ghost use Rattle.mmc_block.specs.Service.{session_of};
 
 use arrayvec::ArrayVec;
 use mmc_erase::EraseRun;
@@ -44,6 +45,18 @@ pub enum Work {
     Blocks(Run),
     /// A run that erases or trims.
     Erase(EraseRun),
+}
+
+impl Work {
+    /// The session that it was begun with, once it is over.
+    pub fn into_session(self) -> Session
+        ensures { result ≡ session_of self }
+    {
+        match self {
+            Work::Blocks(run) => run.into_session(),
+            Work::Erase(run) => run.into_session(),
+        }
+    }
 }
 
 /// How far an attempt has come.
@@ -96,7 +109,7 @@ impl Attempt {
 /// What the device is at.
 #[derive(Debug, Drop)]
 pub enum Phase {
-    /// Nothing is in service, and the attempt has no requests.
+    /// Nothing is in service, and the attempt has no requests; behind a step, whose attempt is over, those that it was made for.
     Idle(Link),
     /// The attempt is in service.
     Serving(Stage),
