@@ -26,15 +26,15 @@ Opens r =
     (λ old new. InProfile old.card.made → IsOk r)
 
 -- What a round gives is given under the device's own faults.
-pub opens_as : {E : Type 0} {Q : E → Type 0} (told : Result Session E) (r : Result Session OpenFault) (a b : BusView)
+pub opens_as : {E : Type 0} (Q : E → Type 0) (told : Result Session E) (r : Result Session OpenFault) (a b : BusView)
     → MatchResult told (λ session. r ≡ Ok session) Q → is_ok r ≡ is_ok told
     → Moved (λ old new. IfOk told (λ session. IsReady session new)) (λ old new. InProfile old.card.made → IsOk told) a b
     → Opens r a b
-opens_as (Ok session) r a b is same p =
+opens_as Q (Ok session) r a b is same p =
     moved_as a b p (subst (λ (x : Result Session OpenFault). IfOk x (λ session. IsReady session b)) (sym is) p.own)
     (λ quiet profile. same ∙ p.fine quiet profile)
-opens_as (Err fault) (Ok session) a b is same p = cc same
-opens_as (Err fault) (Err other) a b is same p = moved_as a b p tt (λ quiet profile. same ∙ p.fine quiet profile)
+opens_as Q (Err fault) (Ok session) a b is same p = cc same
+opens_as Q (Err fault) (Err other) a b is same p = moved_as a b p tt (λ quiet profile. same ∙ p.fine quiet profile)
 
 -- What is known for good is what the registers say.
 lasting_info : (made : Made) (info : Info) → IsInfo made info → IsInfo made (lasting info)

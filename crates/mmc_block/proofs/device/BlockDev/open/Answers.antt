@@ -1,3 +1,4 @@
+use Rattle.std.specs.Prelude.{Err}
 use Rattle.mmc_block.proofs.OpenLemmas.{opens_agreed, opens_known, opens_stays}
 use Rattle.mmc_block.proofs.device.BlockDev.open.Goals as goal
 
@@ -12,4 +13,5 @@ returns-in-Ok-clause-machine g c kept counted is =
     (c.in-Ok.ensures.moves kept).own is)
 
 pub returns-in-Err-clause-stays : goal.returns-in-Err-clause-stays
-returns-in-Err-clause-stays g c kept = opens_stays _ _ _ (c.in-Err.ensures.moves kept)
+returns-in-Err-clause-stays g c kept =
+    opens_stays (Err c.in-Err.fault) (g.B.Bus.view c.args.bus) (g.B.Bus.view c.opened.new.bus) (c.in-Err.ensures.moves kept)
