@@ -29,7 +29,7 @@ use Rattle.mmc_bus.specs.Exchanges.{Exchanged}
 use Rattle.mmc_card.specs.Faults.{CommandStep, FallNoMore, WriteStep, IsFlipped, IsPatient, NoFault, OneFault}
 use Rattle.mmc_card.specs.Faults.{PollStep, Spells}
 use Rattle.mmc_card.specs.Faults.{ReadStep, bad_block, brownout, fail, faithful, flip_command, flip_reply, lose_command}
-use Rattle.mmc_card.specs.Faults.{busy, lose_reply, lose_status, reject, slow_inquiry}
+use Rattle.mmc_card.specs.Faults.{busy, lose_reply, lose_status, read_error, reject, slow_inquiry}
 use Rattle.mmc_bus.specs.Heard.{cause_of, cause_of_command}
 use Rattle.mmc_card.specs.Laws.{CountsAtMostOne, erased_by, is_frame_of_run, maybe_erased}
 use Rattle.mmc_bus.specs.Learned.{Asked, CommandFacts, Faithful, WriteFacts, Obeyed, PollFacts, ReadFacts, carried_out}
@@ -397,6 +397,8 @@ read_ways old size got block new (faithful choice count card answer is) =
     }
 read_ways old size got block new (bad_block choice comes sends count card answer) =
     not_good old size got block new count (bad_or_nothing comes got answer)
+read_ways old size got block new (read_error sends count card answer) =
+    not_good old size got block new count (bad_or_nothing false got answer)
 read_ways old size got block new (brownout choice lands after count card answer) = not_good old size got block new count
     (bad_or_nothing false got answer)
 

@@ -24,7 +24,7 @@ use Rattle.mmc_card.specs.CardAnswer.{raised}
 use Rattle.mmc_card.specs.Blocks.{programmed}
 use Rattle.mmc_card.specs.Card.{AreAmong, AreBlocks, Card, HasItsSizes, IsBlock, IsCard, powered_on, stored}
 use Rattle.mmc_card.specs.Laws.{Carried}
-use Rattle.mmc_card.specs.ErrorBits.{error_bits, general_error}
+use Rattle.mmc_card.specs.ErrorBits.{card_ecc_failed, error_bits, general_error}
 use Rattle.mmc_card.specs.Made.{HasRegisters, Made, sectors_in}
 use Rattle.mmc_card.specs.declared.part.Part.{Part}
 use Rattle.mmc_card.specs.Faults.{CommandStep, WriteStep, PollStep, ReadStep}
@@ -180,12 +180,15 @@ read_leaves_card old size got block new step k =
     (after_read IsOrdered old size got block new o
     (λ choice sends. ordered_sent_from old.card.source choice old.card
     (sends_data old.lines size old.card sends) o)
+    (λ _. ordered_raised card_ecc_failed old.card o)
     (λ lands card _. ordered_reset lands card) step)
     (after_read IsSettled old size got block new s
     (λ choice sends. settled_sent_from old.card.source choice old.card refl s)
+    (λ _. settled_raised card_ecc_failed old.card s)
     (λ lands card _. settled_reset lands card) step)
     (after_read IsSending old size got block new g
-    (λ choice _. sending_sent_from old.card.source choice old.card g) sending_reset step)
+    (λ choice _. sending_sent_from old.card.source choice old.card g)
+    (λ _. sending_raised card_ecc_failed old.card g) sending_reset step)
 
 -- After power on.
 

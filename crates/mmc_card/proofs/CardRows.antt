@@ -20,7 +20,7 @@ use Rattle.mmc_card.specs.CardAnswer.{Choice, busied, raised, shown}
 use Rattle.mmc_card.specs.Blocks.{accepted, end_errors, is_last, programmed, rejected, sent_from}
 use Rattle.mmc_card.specs.Card.{AreAmong, AreBlocks, Both, Card, First, FromBytes, FromSectors, Held, IsBlock}
 use Rattle.mmc_card.specs.Card.{NoAddress, Source, is_in, is_selected, is_writing}
-use Rattle.mmc_card.specs.ErrorBits.{erase_reset, error_bits, general_error, out_of_range}
+use Rattle.mmc_card.specs.ErrorBits.{card_ecc_failed, erase_reset, error_bits, general_error, out_of_range}
 use Rattle.mmc_card.specs.Faults.{CommandStep, WriteStep, PollStep, ReadStep}
 use Rattle.mmc_card.specs.Made.{erased_sector, has_cmd23, has_switch_function, is_mmc}
 use Rattle.mmc_card.specs.declared.command.Command.{Command}
@@ -280,4 +280,4 @@ read_leaves_card old size got block new step k =
     after_read IsBasic old size got block new k
     (λ choice sends. card_sent_from old.card.source choice old.card
     (in_state old.card.state Data (sends_data old.lines size old.card sends)) k)
-    card_reset step
+    (λ _. card_raised card_ecc_failed old.card refl k) card_reset step

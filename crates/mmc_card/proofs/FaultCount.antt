@@ -4,7 +4,8 @@ use Rattle.mmc_card.specs.declared.exchange.DataIn.{DataIn}
 use Rattle.mmc_card.specs.declared.exchange.DataOut.{DataOut}
 use Rattle.mmc_card.specs.declared.exchange.Reply.{Reply}
 use Rattle.mmc_card.specs.Faults.{CommandStep, WriteStep, PollStep, ReadStep, bad_block, brownout, busy, fail, faithful}
-use Rattle.mmc_card.specs.Faults.{flip_command, flip_reply, lose_command, lose_reply, lose_status, reject, slow_inquiry}
+use Rattle.mmc_card.specs.Faults.{flip_command, flip_reply, lose_command, lose_reply, lose_status, read_error, reject}
+use Rattle.mmc_card.specs.Faults.{slow_inquiry}
 use Rattle.mmc_card.specs.Laws.{CountsAtMostOne}
 use Rattle.mmc_card.specs.Sectors.{Sector}
 use Rattle.mmc_card.specs.BusView.{BusView}
@@ -36,4 +37,5 @@ pub read_counts : (old : BusView) (size : ℕ) (got : DataIn) (block : Sector) (
     → ReadStep old size got block new → CountsAtMostOne old new
 read_counts old size got block new (faithful choice count card answer good) = inl count
 read_counts old size got block new (bad_block choice comes sends count card answer) = inr count
+read_counts old size got block new (read_error sends count card answer) = inr count
 read_counts old size got block new (brownout choice lands after count card answer) = inr count

@@ -153,6 +153,9 @@ keeps_programmed lands c = over c (programmed lands c) lands refl refl refl
 pub keeps_failed : (lands : ℕ → Bool) (c : Card) → Keeps c (raised general_error (programmed lands c))
 keeps_failed lands c = over c (raised general_error (programmed lands c)) lands refl refl refl
 
+pub keeps_raised : (bits : ℕ) (c : Card) → Keeps c (raised bits c)
+keeps_raised bits c = plain c (raised bits c) refl refl refl
+
 pub keeps_rested : (c : Card) → Keeps c (rested c)
 keeps_rested c =
     by_cond (Keeps c) (is_in c.state Prg) (λ _. keeps_programmed (λ i. true) c) (λ _. plain c _ refl refl refl)

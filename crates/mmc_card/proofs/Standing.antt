@@ -300,4 +300,7 @@ read_stands old size got block new step s h =
     (λ choice sends.
     let d = sends_data old.lines size old.card sends in
     stands_sent_from s old.card.source choice old.card d (h.sends d) h)
+    (λ sends.
+    let up = up_in old.card Data (sends_data old.lines size old.card sends) refl in
+    stands_up s old.card _ up up refl (λ d. h.sends d) h)
     (λ lands card _. stands_reset s lands card) step

@@ -8,12 +8,13 @@ use Rattle.mmc_card.specs.declared.exchange.Reply.{Reply}
 use Rattle.mmc_card.proofs.Conditions.{along, by_cond, first_by_cond}
 use Rattle.mmc_card.proofs.Narrow.{both}
 use Rattle.mmc_card.specs.CardAnswer.{Choice, garbled, raised, reset}
-use Rattle.mmc_card.specs.ErrorBits.{general_error}
+use Rattle.mmc_card.specs.ErrorBits.{card_ecc_failed, general_error}
 use Rattle.mmc_card.specs.Blocks.{accepted, asked_for, can_send, can_accept, offered, polled_once, programmed, rejected}
 use Rattle.mmc_card.specs.Blocks.{rested, sent, waited}
 use Rattle.mmc_card.specs.Card.{Card, is_in}
 use Rattle.mmc_card.specs.Faults.{CommandStep, WriteStep, PollStep, ReadStep, bad_block, brownout, busy, fail, faithful}
-use Rattle.mmc_card.specs.Faults.{flip_command, flip_reply, lose_command, lose_reply, lose_status, reject, slow_inquiry}
+use Rattle.mmc_card.specs.Faults.{flip_command, flip_reply, lose_command, lose_reply, lose_status, read_error, reject}
+use Rattle.mmc_card.specs.Faults.{slow_inquiry}
 use Rattle.mmc_card.specs.Rows.{answered}
 use Rattle.mmc_card.specs.Sectors.{Sector}
 use Rattle.mmc_card.specs.BusView.{BusView}
@@ -71,14 +72,16 @@ after_write P old block got new stays accepts rejects survives step =
     ]
 
 pub after_read : (P : Card → Type 0) (old : BusView) (size : ℕ) (got : DataIn) (block : Sector) (new : BusView)
-    → P old.card → ((choice : Choice) → can_send old.lines size old.card ≡ true → P (sent choice old.card)) → Survives P
+    → P old.card → ((choice : Choice) → can_send old.lines size old.card ≡ true → P (sent choice old.card))
+    → (can_send old.lines size old.card ≡ true → P (raised card_ecc_failed old.card)) → Survives P
     → ReadStep old size got block new → P new.card
-after_read P old size got block new stays sends survives step =
+after_read P old size got block new stays sends fails survives step =
     let asks : (choice : Choice) → P (asked_for choice old.lines size old.card) =
     λ choice. by_cond P (can_send old.lines size old.card) (sends choice) (λ _. stays) in
     elim step [
       | faithful choice count card answer good ↦ along P card (asks choice)
       | bad_block choice comes can count card answer ↦ along P card (sends choice can)
+      | read_error can count card answer ↦ along P card (fails can)
       | brownout choice lands after count card answer ↦ along P card
           (survives lands _ (by_cond P after (λ _. asks choice) (λ _. stays)))
     ]

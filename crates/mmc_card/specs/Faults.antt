@@ -13,7 +13,7 @@ use Rattle.mmc_card.specs.declared.exchange.DataIn.{DataIn}
 use Rattle.mmc_card.specs.declared.exchange.DataOut.{DataOut}
 use Rattle.mmc_card.specs.declared.exchange.Reply.{Reply}
 use Rattle.mmc_card.specs.CardAnswer.{CardAnswer, Checked, Choice, Silent, R3, R2, garbled, raised, reset}
-use Rattle.mmc_card.specs.ErrorBits.{general_error}
+use Rattle.mmc_card.specs.ErrorBits.{card_ecc_failed, general_error}
 use Rattle.mmc_card.specs.Blocks.{accepted, asked_for, can_send, can_accept, next_block, offered, polled_once}
 use Rattle.mmc_card.specs.Blocks.{programmed, rejected, sent, waited}
 use Rattle.mmc_card.specs.Card.{Card, is_in}
@@ -154,6 +154,10 @@ pub data ReadStep (old : BusView) (size : ℕ) (got : DataIn) (block : List ℕ)
   -- the card sends it, and a bad block comes, or none
   bad_block : (choice : Choice) (comes : Bool) → can_send old.lines size old.card ≡ true → OneFault old new
       → new.card ≡ sent choice old.card → got ≡ (if comes then Received.Bad else Received.Nothing)
+      → ReadStep old size got block new
+  -- the card can't correct the block: it sends none, has CARD_ECC_FAILED to show, and stays in data until CMD12
+  read_error : can_send old.lines size old.card ≡ true → OneFault old new
+      → new.card ≡ raised card_ecc_failed old.card → got ≡ Received.Nothing
       → ReadStep old size got block new
   brownout : (choice : Choice) (lands : ℕ → Bool) (after : Bool) → OneFault old new
       → new.card ≡ reset lands (if after then asked_for choice old.lines size old.card else old.card)
