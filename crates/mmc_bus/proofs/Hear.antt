@@ -331,9 +331,9 @@ write_ways : (old : BusView) (block : Sector) (got : DataOut) (new : BusView) �
 write_ways old block got new (faithful count card answer) =
     let ways = by_offer (can_accept old.lines old.card) (accepted block old.card) old.card new.card got card answer in
     record { accepts = ways.0; fine = λ same t. ways.1 t; refuses = λ same f. ways.2 f }
-write_ways old block got new (reject can count card answer) = unaccepted old block got new count
+write_ways old block got new (reject ignores can count card answer) = unaccepted old block got new count
     (not_rejected got answer)
-write_ways old block got new (lose_status is_accepted can count card answer) = unaccepted old block got new count
+write_ways old block got new (lose_status is_accepted ignores can count card answer) = unaccepted old block got new count
     (not_nothing got answer)
 write_ways old block got new (brownout lands after count card answer) = unaccepted old block got new count
     (not_nothing got answer)

@@ -160,14 +160,14 @@ write_leaves_card old block got new h step k =
     (rows.write_leaves_card old block got new h step (basic old.card k))
     (after_write IsOrdered old block got new o
     (λ accepts. ordered_accepted block old.card (accepts_in_rcv old.lines old.card accepts) o)
-    (λ accepts. ordered_rejected old.card (accepts_in_rcv old.lines old.card accepts) o)
+    (λ ignores accepts. ordered_rejected ignores old.card (accepts_in_rcv old.lines old.card accepts) o)
     (λ lands card _. ordered_reset lands card) step)
     (after_write IsSettled old block got new s
     (λ accepts. settled_accepted block old.lines old.card accepts s)
-    (λ accepts. settled_rejected old.card (accepts_in_rcv old.lines old.card accepts) s)
+    (λ ignores accepts. settled_rejected ignores old.card (accepts_in_rcv old.lines old.card accepts) s)
     (λ lands card _. settled_reset lands card) step)
     (after_write IsSending old block got new g (λ _. sending_accepted block old.card g)
-    (λ _. sending_rejected old.card g) sending_reset step)
+    (λ ignores _. sending_rejected ignores old.card g) sending_reset step)
 
 pub read_leaves_card : (old : BusView) (size : ℕ) (got : DataIn) (block : Sector) (new : BusView)
     → ReadStep old size got block new → IsCard old.card → IsCard new.card

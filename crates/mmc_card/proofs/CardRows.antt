@@ -228,10 +228,13 @@ card_accepted block c h k =
     chosen_card c _ k (like_same c _ k refl refl refl refl) (up_if (is_last c.left) Prg Rcv refl refl) refl
     (λ w. cc (writing, w)) (blocks_snoc c.values block k.new_values h)
 
-card_rejected : (c : Card) → IsBasic c → IsBasic (rejected c)
-card_rejected c k =
+card_rejected : (ignores : Bool) (c : Card) → IsBasic c → IsBasic (rejected ignores c)
+card_rejected ignores c k =
     by_cond IsBasic c.is_single
-    (λ _. chosen_card c _ k (like_same c _ k refl refl refl refl) refl refl (λ _. refl) tt) (λ _. k)
+    (λ _. chosen_card c _ k (like_same c _ k refl refl refl refl) refl refl (λ _. refl) tt)
+    (λ _. by_cond IsBasic ignores
+    (λ _. stays_card c _ k (like_same c _ k refl refl refl refl) refl refl refl refl refl refl refl (λ h. h) (λ h. h) (λ h. h))
+    (λ _. k))
 
 end_among : (b : Bool) → AreAmong (if b then out_of_range else 0) error_bits
 end_among true = refl
@@ -271,8 +274,8 @@ poll_leaves_card old said new step k =
 pub write_leaves_card : (old : BusView) (block : Sector) (got : DataOut) (new : BusView) → IsBlock block
     → WriteStep old block got new → IsBasic old.card → IsBasic new.card
 write_leaves_card old block got new h step k =
-    after_write IsBasic old block got new k (λ _. card_accepted block old.card h k) (λ _. card_rejected old.card k)
-    card_reset step
+    after_write IsBasic old block got new k (λ _. card_accepted block old.card h k)
+    (λ ignores _. card_rejected ignores old.card k) card_reset step
 
 pub read_leaves_card : (old : BusView) (size : ℕ) (got : DataIn) (block : Sector) (new : BusView)
     → ReadStep old size got block new → IsBasic old.card → IsBasic new.card

@@ -29,8 +29,8 @@ poll_counts old said new (brownout choice lands after patient count card answer)
 pub write_counts : (old : BusView) (block : Sector) (got : DataOut) (new : BusView) → WriteStep old block got new
     → CountsAtMostOne old new
 write_counts old block got new (faithful count card answer) = inl count
-write_counts old block got new (reject accepts count card answer) = inr count
-write_counts old block got new (lose_status is_accepted accepts count card answer) = inr count
+write_counts old block got new (reject ignores accepts count card answer) = inr count
+write_counts old block got new (lose_status is_accepted ignores accepts count card answer) = inr count
 write_counts old block got new (brownout lands after count card answer) = inr count
 
 pub read_counts : (old : BusView) (size : ℕ) (got : DataIn) (block : Sector) (new : BusView)

@@ -66,7 +66,7 @@ pub write_adds : (old : BusView) (block : Sector) (got : DataOut) (new : BusView
 write_adds old block got new step =
     after_write (Adds block old.card) old block got new (adds_none block old.card _ (keeps_same old.card))
     (λ accepts. adds_accepted block old.lines old.card accepts)
-    (λ _. adds_none block old.card _ (keeps_rejected old.card))
+    (λ ignores _. adds_none block old.card _ (keeps_rejected ignores old.card))
     (λ lands card a. adds_then block old.card card _ a (keeps_reset lands card)) step
 
 pub read_keeps : (old : BusView) (size : ℕ) (got : DataIn) (block : Sector) (new : BusView)

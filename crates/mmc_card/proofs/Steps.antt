@@ -57,16 +57,16 @@ after_poll P old said new stays rests slows fails survives step =
 
 pub after_write : (P : Card → Type 0) (old : BusView) (block : Sector) (got : DataOut) (new : BusView) → P old.card
     → (can_accept old.lines old.card ≡ true → P (accepted block old.card))
-    → (can_accept old.lines old.card ≡ true → P (rejected old.card)) → Survives P → WriteStep old block got new
-    → P new.card
+    → ((ignores : Bool) → can_accept old.lines old.card ≡ true → P (rejected ignores old.card)) → Survives P
+    → WriteStep old block got new → P new.card
 after_write P old block got new stays accepts rejects survives step =
     let offers : P (offered old.lines block old.card) =
     by_cond P (can_accept old.lines old.card) accepts (λ _. stays) in
     elim step [
       | faithful count card answer ↦ along P card offers
-      | reject can count card answer ↦ along P card (rejects can)
-      | lose_status is_accepted can count card answer ↦ along P card
-          (by_cond P is_accepted (λ _. accepts can) (λ _. rejects can))
+      | reject ignores can count card answer ↦ along P card (rejects ignores can)
+      | lose_status is_accepted ignores can count card answer ↦ along P card
+          (by_cond P is_accepted (λ _. accepts can) (λ _. rejects ignores can))
       | brownout lands after count card answer ↦ along P card
           (survives lands _ (by_cond P after (λ _. offers) (λ _. stays)))
     ]

@@ -134,12 +134,13 @@ pub data WriteStep (old : BusView) (block : List ℕ) (got : DataOut) (new : Bus
   faithful : NoFault old new → new.card ≡ offered old.lines block old.card
       → got ≡ (if can_accept old.lines old.card then Sent.Accepted else Sent.Nothing)
       → WriteStep old block got new
-  -- the card rejects it
-  reject : can_accept old.lines old.card ≡ true → OneFault old new → new.card ≡ rejected old.card → got ≡ Sent.Rejected
+  -- the card rejects it, and may ignore all that come behind it
+  reject : (ignores : Bool) → can_accept old.lines old.card ≡ true → OneFault old new
+      → new.card ≡ rejected ignores old.card → got ≡ Sent.Rejected
       → WriteStep old block got new
   -- the card's status is lost, whether it accepted the block or rejected it
-  lose_status : (is_accepted : Bool) → can_accept old.lines old.card ≡ true → OneFault old new
-      → new.card ≡ (if is_accepted then accepted block old.card else rejected old.card) → got ≡ Sent.Nothing
+  lose_status : (is_accepted ignores : Bool) → can_accept old.lines old.card ≡ true → OneFault old new
+      → new.card ≡ (if is_accepted then accepted block old.card else rejected ignores old.card) → got ≡ Sent.Nothing
       → WriteStep old block got new
   brownout : (lands : ℕ → Bool) (after : Bool) → OneFault old new
       → new.card ≡ reset lands (if after then offered old.lines block old.card else old.card) → got ≡ Sent.Nothing
