@@ -3,7 +3,8 @@ use Rattle.std.specs.Prelude.{ℕ, List, [], ◌∷◌, Option, None, Some, code
 use Rattle.std.specs.Str.{bytes_eq}
 use Rattle.mmc_card_sim.specs.declared.fault.Fault.{Fault}
 use Rattle.mmc_card_sim.specs.declared.fault.Fault.TheVariants.{BadBlock, Brownout, Busy, Fail, FlipCommand, FlipReply}
-use Rattle.mmc_card_sim.specs.declared.fault.Fault.TheVariants.{LoseCommand, LoseReply, LoseStatus, NoBlock, Reject}
+use Rattle.mmc_card_sim.specs.declared.fault.Fault.TheVariants.{LoseCommand, LoseReply, LoseStatus, NoBlock, ReadError}
+use Rattle.mmc_card_sim.specs.declared.fault.Fault.TheVariants.{Reject, RejectAll}
 use Rattle.mmc_card_sim.specs.declared.fault.Flips.{Flips}
 use Rattle.mmc_card_sim.specs.declared.fault.Outcome.{Outcome}
 use Rattle.mmc_card_sim.specs.declared.fault.Outcome.TheVariants.{New, Old}
@@ -36,8 +37,10 @@ lone_fault_of word =
     else (if bytes_eq word (codes "lose-reply") then Some LoseReply
     else (if bytes_eq word (codes "bad-block") then Some BadBlock
     else (if bytes_eq word (codes "no-block") then Some NoBlock
+    else (if bytes_eq word (codes "read-error") then Some ReadError
     else (if bytes_eq word (codes "reject") then Some Reject
-    else (if bytes_eq word (codes "busy") then Some Busy else None)))))
+    else (if bytes_eq word (codes "reject-all") then Some RejectAll
+    else (if bytes_eq word (codes "busy") then Some Busy else None)))))))
 
 -- a fault whose name has further words
 unfoldable pub fault_with_words_of : List ℕ → List (List ℕ) → Option Fault

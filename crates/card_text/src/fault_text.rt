@@ -69,8 +69,12 @@ fn lone_fault(word: &[u8]) -> Option<Fault>
         Some(Fault::BadBlock)
     } else if word == b"no-block".as_slice() {
         Some(Fault::NoBlock)
+    } else if word == b"read-error".as_slice() {
+        Some(Fault::ReadError)
     } else if word == b"reject".as_slice() {
         Some(Fault::Reject)
+    } else if word == b"reject-all".as_slice() {
+        Some(Fault::RejectAll)
     } else if word == b"busy".as_slice() {
         Some(Fault::Busy)
     } else {

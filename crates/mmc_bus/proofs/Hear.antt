@@ -29,7 +29,7 @@ use Rattle.mmc_bus.specs.Exchanges.{Exchanged}
 use Rattle.mmc_card.specs.Faults.{CommandStep, FallNoMore, WriteStep, IsFlipped, IsPatient, NoFault, OneFault}
 use Rattle.mmc_card.specs.Faults.{PollStep, Spells}
 use Rattle.mmc_card.specs.Faults.{ReadStep, bad_block, brownout, fail, faithful, flip_command, flip_reply, lose_command}
-use Rattle.mmc_card.specs.Faults.{busy, lose_reply, lose_status, reject, slow_inquiry}
+use Rattle.mmc_card.specs.Faults.{busy, lose_reply, lose_status, read_error, reject, slow_inquiry}
 use Rattle.mmc_bus.specs.Heard.{cause_of, cause_of_command}
 use Rattle.mmc_card.specs.Laws.{CountsAtMostOne, erased_by, is_frame_of_run, maybe_erased}
 use Rattle.mmc_bus.specs.Learned.{Asked, CommandFacts, Faithful, WriteFacts, Obeyed, PollFacts, ReadFacts, carried_out}
@@ -331,9 +331,9 @@ write_ways : (old : BusView) (block : Sector) (got : DataOut) (new : BusView) �
 write_ways old block got new (faithful count card answer) =
     let ways = by_offer (can_accept old.lines old.card) (accepted block old.card) old.card new.card got card answer in
     record { accepts = ways.0; fine = λ same t. ways.1 t; refuses = λ same f. ways.2 f }
-write_ways old block got new (reject can count card answer) = unaccepted old block got new count
+write_ways old block got new (reject ignores can count card answer) = unaccepted old block got new count
     (not_rejected got answer)
-write_ways old block got new (lose_status is_accepted can count card answer) = unaccepted old block got new count
+write_ways old block got new (lose_status is_accepted ignores can count card answer) = unaccepted old block got new count
     (not_nothing got answer)
 write_ways old block got new (brownout lands keeps_length after count card answer) =
     unaccepted old block got new count
@@ -398,8 +398,9 @@ read_ways old size got block new (faithful choice count card answer is) =
     }
 read_ways old size got block new (bad_block choice comes sends count card answer) =
     not_good old size got block new count (bad_or_nothing comes got answer)
-read_ways old size got block new (brownout choice lands keeps_length after count card answer) =
-    not_good old size got block new count
+read_ways old size got block new (read_error sends count card answer) =
+    not_good old size got block new count (bad_or_nothing false got answer)
+read_ways old size got block new (brownout choice lands keeps_length after count card answer) = not_good old size got block new count
     (bad_or_nothing false got answer)
 
 pub read_facts : (old : BusView) (size : ℕ) (got : DataIn) (block : List ℕ) (new : BusView)

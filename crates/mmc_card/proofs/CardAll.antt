@@ -25,7 +25,7 @@ use Rattle.mmc_card.specs.CardAnswer.{raised}
 use Rattle.mmc_card.specs.Blocks.{programmed}
 use Rattle.mmc_card.specs.Card.{AreAmong, AreBlocks, Card, HasItsSizes, IsBlock, IsCard, powered_on, stored}
 use Rattle.mmc_card.specs.Laws.{Carried}
-use Rattle.mmc_card.specs.ErrorBits.{error_bits, general_error}
+use Rattle.mmc_card.specs.ErrorBits.{card_ecc_failed, error_bits, general_error}
 use Rattle.mmc_card.specs.Made.{HasRegisters, Made, first_block_length, is_sd, named_block_length, sectors_in}
 use Rattle.mmc_card.specs.declared.part.Part.{Part}
 use Rattle.mmc_card.specs.Faults.{CommandStep, WriteStep, PollStep, ReadStep}
@@ -161,14 +161,14 @@ write_leaves_card old block got new h step k =
     (rows.write_leaves_card old block got new h step (basic old.card k))
     (after_write IsOrdered old block got new o
     (λ accepts. ordered_accepted block old.card (accepts_in_rcv old.lines old.card accepts) o)
-    (λ accepts. ordered_rejected old.card (accepts_in_rcv old.lines old.card accepts) o)
+    (λ ignores accepts. ordered_rejected ignores old.card (accepts_in_rcv old.lines old.card accepts) o)
     (λ lands keeps card _. ordered_reset lands keeps card) step)
     (after_write IsSettled old block got new s
     (λ accepts. settled_accepted block old.lines old.card accepts s)
-    (λ accepts. settled_rejected old.card (accepts_in_rcv old.lines old.card accepts) s)
+    (λ ignores accepts. settled_rejected ignores old.card (accepts_in_rcv old.lines old.card accepts) s)
     (λ lands keeps card _. settled_reset lands keeps card) step)
     (after_write IsSending old block got new g (λ _. sending_accepted block old.card g)
-    (λ _. sending_rejected old.card g) sending_reset step)
+    (λ ignores _. sending_rejected ignores old.card g) sending_reset step)
 
 pub read_leaves_card : (old : BusView) (size : ℕ) (got : DataIn) (block : Sector) (new : BusView)
     → ReadStep old size got block new → IsCard old.card → IsCard new.card
@@ -181,12 +181,15 @@ read_leaves_card old size got block new step k =
     (after_read IsOrdered old size got block new o
     (λ choice sends. ordered_sent_from old.card.source choice old.card
     (sends_data old.lines size old.card sends) o)
+    (λ _. ordered_raised card_ecc_failed old.card o)
     (λ lands keeps card _. ordered_reset lands keeps card) step)
     (after_read IsSettled old size got block new s
     (λ choice sends. settled_sent_from old.card.source choice old.card refl s)
+    (λ _. settled_raised card_ecc_failed old.card s)
     (λ lands keeps card _. settled_reset lands keeps card) step)
     (after_read IsSending old size got block new g
-    (λ choice _. sending_sent_from old.card.source choice old.card g) sending_reset step)
+    (λ choice _. sending_sent_from old.card.source choice old.card g)
+    (λ _. sending_raised card_ecc_failed old.card g) sending_reset step)
 
 -- After power on.
 

@@ -20,7 +20,7 @@ use Rattle.mmc_card.specs.CardAnswer.{Choice, busied, raised, shown}
 use Rattle.mmc_card.specs.Blocks.{accepted, end_errors, is_last, programmed, rejected, sent_from}
 use Rattle.mmc_card.specs.Card.{AreAmong, AreBlocks, Both, Card, First, FromBytes, FromSectors, Held, IsBlock}
 use Rattle.mmc_card.specs.Card.{NoAddress, Source, is_in, is_selected, is_writing}
-use Rattle.mmc_card.specs.ErrorBits.{erase_reset, error_bits, general_error, out_of_range}
+use Rattle.mmc_card.specs.ErrorBits.{card_ecc_failed, erase_reset, error_bits, general_error, out_of_range}
 use Rattle.mmc_card.specs.Faults.{CommandStep, WriteStep, PollStep, ReadStep}
 use Rattle.mmc_card.specs.Made.{erased_sector, has_cmd23, has_switch_function, is_mmc}
 use Rattle.mmc_card.specs.declared.command.Command.{Command}
@@ -230,10 +230,13 @@ card_accepted block c h k =
     chosen_card c _ k (like_same c _ k refl refl refl refl) (up_if (is_last c.left) Prg Rcv refl refl) refl
     (λ w. cc (writing, w)) (blocks_snoc c.values block k.new_values h)
 
-card_rejected : (c : Card) → IsBasic c → IsBasic (rejected c)
-card_rejected c k =
+card_rejected : (ignores : Bool) (c : Card) → IsBasic c → IsBasic (rejected ignores c)
+card_rejected ignores c k =
     by_cond IsBasic c.is_single
-    (λ _. chosen_card c _ k (like_same c _ k refl refl refl refl) refl refl (λ _. refl) tt) (λ _. k)
+    (λ _. chosen_card c _ k (like_same c _ k refl refl refl refl) refl refl (λ _. refl) tt)
+    (λ _. by_cond IsBasic ignores
+    (λ _. stays_card c _ k (like_same c _ k refl refl refl refl) refl refl refl refl refl refl refl (λ h. h) (λ h. h) (λ h. h))
+    (λ _. k))
 
 end_among : (b : Bool) → AreAmong (if b then out_of_range else 0) error_bits
 end_among true = refl
@@ -273,8 +276,8 @@ poll_leaves_card old said new step k =
 pub write_leaves_card : (old : BusView) (block : Sector) (got : DataOut) (new : BusView) → IsBlock block
     → WriteStep old block got new → IsBasic old.card → IsBasic new.card
 write_leaves_card old block got new h step k =
-    after_write IsBasic old block got new k (λ _. card_accepted block old.card h k) (λ _. card_rejected old.card k)
-    card_reset step
+    after_write IsBasic old block got new k (λ _. card_accepted block old.card h k)
+    (λ ignores _. card_rejected ignores old.card k) card_reset step
 
 pub read_leaves_card : (old : BusView) (size : ℕ) (got : DataIn) (block : Sector) (new : BusView)
     → ReadStep old size got block new → IsBasic old.card → IsBasic new.card
@@ -282,4 +285,4 @@ read_leaves_card old size got block new step k =
     after_read IsBasic old size got block new k
     (λ choice sends. card_sent_from old.card.source choice old.card
     (in_state old.card.state Data (sends_data old.lines size old.card sends)) k)
-    card_reset step
+    (λ _. card_raised card_ecc_failed old.card refl k) card_reset step

@@ -4,7 +4,8 @@ use Rattle.mmc_card.specs.declared.exchange.DataIn.{DataIn}
 use Rattle.mmc_card.specs.declared.exchange.DataOut.{DataOut}
 use Rattle.mmc_card.specs.declared.exchange.Reply.{Reply}
 use Rattle.mmc_card.specs.Faults.{CommandStep, WriteStep, PollStep, ReadStep, bad_block, brownout, busy, fail, faithful}
-use Rattle.mmc_card.specs.Faults.{flip_command, flip_reply, lose_command, lose_reply, lose_status, reject, slow_inquiry}
+use Rattle.mmc_card.specs.Faults.{flip_command, flip_reply, lose_command, lose_reply, lose_status, read_error, reject}
+use Rattle.mmc_card.specs.Faults.{slow_inquiry}
 use Rattle.mmc_card.specs.Laws.{CountsAtMostOne}
 use Rattle.mmc_card.specs.Sectors.{Sector}
 use Rattle.mmc_card.specs.BusView.{BusView}
@@ -28,12 +29,13 @@ poll_counts old said new (brownout choice lands keeps_length after patient count
 pub write_counts : (old : BusView) (block : Sector) (got : DataOut) (new : BusView) → WriteStep old block got new
     → CountsAtMostOne old new
 write_counts old block got new (faithful count card answer) = inl count
-write_counts old block got new (reject accepts count card answer) = inr count
-write_counts old block got new (lose_status is_accepted accepts count card answer) = inr count
+write_counts old block got new (reject ignores accepts count card answer) = inr count
+write_counts old block got new (lose_status is_accepted ignores accepts count card answer) = inr count
 write_counts old block got new (brownout lands keeps_length after count card answer) = inr count
 
 pub read_counts : (old : BusView) (size : ℕ) (got : DataIn) (block : Sector) (new : BusView)
     → ReadStep old size got block new → CountsAtMostOne old new
 read_counts old size got block new (faithful choice count card answer good) = inl count
 read_counts old size got block new (bad_block choice comes sends count card answer) = inr count
+read_counts old size got block new (read_error sends count card answer) = inr count
 read_counts old size got block new (brownout choice lands keeps_length after count card answer) = inr count

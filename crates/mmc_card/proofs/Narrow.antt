@@ -153,6 +153,9 @@ keeps_programmed lands c = over c (programmed lands c) lands refl refl refl
 pub keeps_failed : (lands : ℕ → Bool) (c : Card) → Keeps c (raised general_error (programmed lands c))
 keeps_failed lands c = over c (raised general_error (programmed lands c)) lands refl refl refl
 
+pub keeps_raised : (bits : ℕ) (c : Card) → Keeps c (raised bits c)
+keeps_raised bits c = plain c (raised bits c) refl refl refl
+
 pub keeps_rested : (c : Card) → Keeps c (rested c)
 keeps_rested c =
     by_cond (Keeps c) (is_in c.state Prg) (λ _. keeps_programmed (λ i. true) c) (λ _. plain c _ refl refl refl)
@@ -344,8 +347,10 @@ pub keeps_sent_from : (source : Source) (choice : Choice) (c : Card) → Keeps c
 keeps_sent_from FromSectors choice c = plain c _ refl refl refl
 keeps_sent_from (FromBytes bytes timing) choice c = plain c _ refl refl refl
 
-pub keeps_rejected : (c : Card) → Keeps c (rejected c)
-keeps_rejected c = by_cond (Keeps c) c.is_single (λ _. cleared c _ refl refl refl) (λ _. keeps_same c)
+pub keeps_rejected : (ignores : Bool) (c : Card) → Keeps c (rejected ignores c)
+keeps_rejected ignores c =
+    by_cond (Keeps c) c.is_single (λ _. cleared c _ refl refl refl)
+    (λ _. by_cond (Keeps c) ignores (λ _. plain c _ refl refl refl) (λ _. keeps_same c))
 
 -- a block that the card accepted
 pub accepted_adds : (block : Sector) (c : Card) → is_in c.state Rcv ≡ true → WithinOrAccepted c block (accepted block c)

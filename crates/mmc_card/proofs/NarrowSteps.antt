@@ -7,11 +7,12 @@ use Rattle.mmc_card.specs.declared.exchange.DataOut.{DataOut}
 use Rattle.mmc_card.specs.declared.exchange.Lines.{Lines}
 use Rattle.mmc_card.specs.declared.exchange.Reply.{Reply}
 use Rattle.mmc_card.proofs.Narrow.{Keeps, Widens, accepted_adds, carried_accepted, carried_then, keeps_failed}
-use Rattle.mmc_card.proofs.Narrow.{keeps_garbled, keeps_rejected, keeps_reset, keeps_rested, keeps_same}
+use Rattle.mmc_card.proofs.Narrow.{keeps_garbled, keeps_raised, keeps_rejected, keeps_reset, keeps_rested, keeps_same}
 use Rattle.mmc_card.proofs.Narrow.{keeps_sent_from, keeps_slow, keeps_then, accepts_in_rcv, wide, widens_answered}
 use Rattle.mmc_card.proofs.Steps.{after_command, after_write, after_poll, after_read}
 use Rattle.mmc_card.specs.Blocks.{accepted, can_accept}
 use Rattle.mmc_card.specs.Card.{Card}
+use Rattle.mmc_card.specs.ErrorBits.{card_ecc_failed}
 use Rattle.mmc_card.specs.Faults.{CommandStep, WriteStep, PollStep, ReadStep}
 use Rattle.mmc_card.specs.Laws.{Carried, WithinOrAccepted, erased_by}
 use Rattle.mmc_card.specs.Sectors.{Change, Sector}
@@ -65,12 +66,12 @@ pub write_adds : (old : BusView) (block : Sector) (got : DataOut) (new : BusView
 write_adds old block got new step =
     after_write (Adds block old.card) old block got new (adds_none block old.card _ (keeps_same old.card))
     (λ accepts. adds_accepted block old.lines old.card accepts)
-    (λ _. adds_none block old.card _ (keeps_rejected old.card))
+    (λ ignores _. adds_none block old.card _ (keeps_rejected ignores old.card))
     (λ lands keeps card a. adds_then block old.card card _ a (keeps_reset lands keeps card)) step
 
 pub read_keeps : (old : BusView) (size : ℕ) (got : DataIn) (block : Sector) (new : BusView)
     → ReadStep old size got block new → Keeps old.card new.card
 read_keeps old size got block new step =
     after_read (Keeps old.card) old size got block new (keeps_same old.card)
-    (λ choice _. keeps_sent_from old.card.source choice old.card)
+    (λ choice _. keeps_sent_from old.card.source choice old.card) (λ _. keeps_raised card_ecc_failed old.card)
     (λ lands keeps card k. keeps_then k (keeps_reset lands keeps card)) step

@@ -348,13 +348,15 @@ ordered_accepted block c rcv k =
     ordered_up c _ k (identified_in c.state Rcv e refl) (identified_if (is_last c.left) Prg Rcv refl refl) refl refl
     (λ _. k.held (not_in c.state Rcv Tran e refl)) (λ _. refl) k.app k.inquiries (omega arith)
 
-pub ordered_rejected : (c : Card) → is_in c.state Rcv ≡ true → IsOrdered c → IsOrdered (rejected c)
-ordered_rejected c rcv k =
+pub ordered_rejected : (ignores : Bool) (c : Card) → is_in c.state Rcv ≡ true → IsOrdered c
+    → IsOrdered (rejected ignores c)
+ordered_rejected ignores c rcv k =
     let e = in_state c.state Rcv rcv in
     by_cond IsOrdered c.is_single
     (λ _. ordered_up c _ k (identified_in c.state Rcv e refl) refl refl refl (λ h. cc) (λ h. cc)
     k.app k.inquiries k.polled)
-    (λ _. k)
+    (λ _. by_cond IsOrdered ignores
+    (λ _. ordered_like c _ k refl refl refl (λ h. h) (λ h. h) k.app k.inquiries k.polled) (λ _. k))
 
 quiet_if : (b : Bool) → is_in (if b then Tran else Data) Prg ≡ false
 quiet_if true = refl

@@ -167,8 +167,10 @@ sending_answered choice c None k = sending_garbled choice.keeps_count c k
 pub sending_accepted : (block : List ℕ) (c : Card) → IsSending c → IsSending (accepted block c)
 sending_accepted block c k = sending_like c _ k refl refl refl
 
-pub sending_rejected : (c : Card) → IsSending c → IsSending (rejected c)
-sending_rejected c k = by_cond IsSending c.is_single (λ _. sending_like c _ k refl refl refl) (λ _. k)
+pub sending_rejected : (ignores : Bool) (c : Card) → IsSending c → IsSending (rejected ignores c)
+sending_rejected ignores c k =
+    by_cond IsSending c.is_single (λ _. sending_like c _ k refl refl refl)
+    (λ _. by_cond IsSending ignores (λ _. sending_like c _ k refl refl refl) (λ _. k))
 
 pub sending_sent_from : (source : Source) (choice : Choice) (c : Card) → IsSending c
     → IsSending (sent_from source choice c)

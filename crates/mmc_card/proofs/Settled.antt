@@ -13,7 +13,7 @@ use Rattle.mmc_card.proofs.Conditions.{by_cond, first_by_cond}
 use Rattle.mmc_card.proofs.Landing.{snoc_length}
 use Rattle.mmc_card.proofs.Narrow.{AreSwitched, both, is_switched}
 use Rattle.mmc_card.specs.CardAnswer.{Choice, done, garbled, raised, refused, reset, shown}
-use Rattle.mmc_card.specs.Blocks.{accepted, can_accept, is_last, next_written, lines_fit, programmed, rejected, rested}
+use Rattle.mmc_card.specs.Blocks.{accepted, awaits, can_accept, is_last, next_written, lines_fit, programmed, rejected, rested}
 use Rattle.mmc_card.specs.Blocks.{sent_from, waited}
 use Rattle.mmc_card.specs.Card.{Both, Card, First, FitsPart, FromBytes, FromSectors, Held, NoAddress, Source, is_in}
 use Rattle.mmc_card.specs.Card.{stored}
@@ -291,7 +291,7 @@ below_of a b h = grind (arith, nat_tests, h)
 room : (lines : Lines) (c : Card) → can_accept lines c ≡ true → next_written c < length (stored c c.part)
 room lines c h =
     below_of (next_written c) (length (stored c c.part))
-    (both (lines_fit lines c) _ (both (not c.is_busy) _ (both (is_in c.state Rcv) _ h).1).1).1
+    (both (awaits c.left) _ (both (lines_fit lines c) _ (both (not c.is_busy) _ (both (is_in c.state Rcv) _ h).1).1).1).1
 
 pub settled_accepted : (block : List ℕ) (lines : Lines) (c : Card) → can_accept lines c ≡ true → IsSettled c
     → IsSettled (accepted block c)
@@ -305,12 +305,13 @@ settled_accepted block lines c accepts k =
       source = λ h. source_at c Rcv k (in_state c.state Rcv rcv) refl;
     }
 
-pub settled_rejected : (c : Card) → is_in c.state Rcv ≡ true → IsSettled c → IsSettled (rejected c)
-settled_rejected c rcv k =
+pub settled_rejected : (ignores : Bool) (c : Card) → is_in c.state Rcv ≡ true → IsSettled c
+    → IsSettled (rejected ignores c)
+settled_rejected ignores c rcv k =
     by_cond IsSettled c.is_single
     (λ _. settled_rest _ Tran refl refl refl (λ some. absurd (omega (arith, some)))
     (λ _. source_at c Rcv k (in_state c.state Rcv rcv) refl))
-    (λ _. k)
+    (λ _. by_cond IsSettled ignores (λ _. settled_like c _ k refl k.fits refl refl refl) (λ _. k))
 
 settled_sent : (b : Bool) (d : Card) → d.state ≡ (if b then Tran else Data) → FitsPart d → d.source ≡ FromSectors
     → IsSettled d

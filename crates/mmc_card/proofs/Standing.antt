@@ -254,9 +254,12 @@ stands_accepted s block c rcv h =
     stands_quiet s c _ (up_if (is_last c.left) Prg Rcv refl refl)
     (by_cond (λ t. is_in t Data ≡ false) (is_last c.left) (λ _. refl) (λ _. refl)) (up_in c Rcv rcv refl) refl h
 
-stands_rejected : (s : Setting) (c : Card) → is_in c.state Rcv ≡ true → Stands s c → Stands s (rejected c)
-stands_rejected s c rcv h =
-    by_cond (Stands s) c.is_single (λ _. stands_quiet s c _ refl refl (up_in c Rcv rcv refl) refl h) (λ _. h)
+stands_rejected : (s : Setting) (ignores : Bool) (c : Card) → is_in c.state Rcv ≡ true → Stands s c
+    → Stands s (rejected ignores c)
+stands_rejected s ignores c rcv h =
+    by_cond (Stands s) c.is_single (λ _. stands_quiet s c _ refl refl (up_in c Rcv rcv refl) refl h)
+    (λ _. by_cond (Stands s) ignores
+    (λ _. stands_like s c _ refl refl refl (λ a. cc (ap (λ x. is_in x Rcv) a.state, rcv)) h) (λ _. h))
 
 stands_sent_from : (s : Setting) (source : Source) (choice : Choice) (c : Card) → is_in c.state Data ≡ true
     → timing_once_sent source c.timing ≡ s.timing → Stands s c → Stands s (sent_from source choice c)
@@ -291,7 +294,7 @@ write_stands old block got new step s h =
     let rcv = accepts_in_rcv old.lines old.card in
     after_write (Stands s) old block got new h
     (λ accepts. stands_accepted s block old.card (rcv accepts) h)
-    (λ accepts. stands_rejected s old.card (rcv accepts) h)
+    (λ ignores accepts. stands_rejected s ignores old.card (rcv accepts) h)
     (λ lands keeps card _. stands_reset s lands keeps card) step
 
 pub read_stands : (old : BusView) (size : ℕ) (got : DataIn) (block : Sector) (new : BusView)
@@ -301,4 +304,7 @@ read_stands old size got block new step s h =
     (λ choice sends.
     let d = sends_data old.lines size old.card sends in
     stands_sent_from s old.card.source choice old.card d (h.sends d) h)
+    (λ sends.
+    let up = up_in old.card Data (sends_data old.lines size old.card sends) refl in
+    stands_up s old.card _ up up refl (λ d. h.sends d) h)
     (λ lands keeps card _. stands_reset s lands keeps card) step

@@ -8,12 +8,13 @@ use Rattle.mmc_card.specs.declared.exchange.Reply.{Reply}
 use Rattle.mmc_card.proofs.Conditions.{along, by_cond, first_by_cond}
 use Rattle.mmc_card.proofs.Narrow.{both}
 use Rattle.mmc_card.specs.CardAnswer.{Choice, garbled, raised, reset}
-use Rattle.mmc_card.specs.ErrorBits.{general_error}
+use Rattle.mmc_card.specs.ErrorBits.{card_ecc_failed, general_error}
 use Rattle.mmc_card.specs.Blocks.{accepted, asked_for, can_send, can_accept, offered, polled_once, programmed, rejected}
 use Rattle.mmc_card.specs.Blocks.{rested, sent, waited}
 use Rattle.mmc_card.specs.Card.{Card, is_in}
 use Rattle.mmc_card.specs.Faults.{CommandStep, WriteStep, PollStep, ReadStep, bad_block, brownout, busy, fail, faithful}
-use Rattle.mmc_card.specs.Faults.{flip_command, flip_reply, lose_command, lose_reply, lose_status, reject, slow_inquiry}
+use Rattle.mmc_card.specs.Faults.{flip_command, flip_reply, lose_command, lose_reply, lose_status, read_error, reject}
+use Rattle.mmc_card.specs.Faults.{slow_inquiry}
 use Rattle.mmc_card.specs.Rows.{answered}
 use Rattle.mmc_card.specs.Sectors.{Sector}
 use Rattle.mmc_card.specs.BusView.{BusView}
@@ -56,29 +57,31 @@ after_poll P old said new stays rests slows fails survives step =
 
 pub after_write : (P : Card → Type 0) (old : BusView) (block : Sector) (got : DataOut) (new : BusView) → P old.card
     → (can_accept old.lines old.card ≡ true → P (accepted block old.card))
-    → (can_accept old.lines old.card ≡ true → P (rejected old.card)) → Survives P → WriteStep old block got new
-    → P new.card
+    → ((ignores : Bool) → can_accept old.lines old.card ≡ true → P (rejected ignores old.card)) → Survives P
+    → WriteStep old block got new → P new.card
 after_write P old block got new stays accepts rejects survives step =
     let offers : P (offered old.lines block old.card) =
     by_cond P (can_accept old.lines old.card) accepts (λ _. stays) in
     elim step [
       | faithful count card answer ↦ along P card offers
-      | reject can count card answer ↦ along P card (rejects can)
-      | lose_status is_accepted can count card answer ↦ along P card
-          (by_cond P is_accepted (λ _. accepts can) (λ _. rejects can))
+      | reject ignores can count card answer ↦ along P card (rejects ignores can)
+      | lose_status is_accepted ignores can count card answer ↦ along P card
+          (by_cond P is_accepted (λ _. accepts can) (λ _. rejects ignores can))
       | brownout lands keeps_length after count card answer ↦ along P card
           (survives lands keeps_length _ (by_cond P after (λ _. offers) (λ _. stays)))
     ]
 
 pub after_read : (P : Card → Type 0) (old : BusView) (size : ℕ) (got : DataIn) (block : Sector) (new : BusView)
-    → P old.card → ((choice : Choice) → can_send old.lines size old.card ≡ true → P (sent choice old.card)) → Survives P
+    → P old.card → ((choice : Choice) → can_send old.lines size old.card ≡ true → P (sent choice old.card))
+    → (can_send old.lines size old.card ≡ true → P (raised card_ecc_failed old.card)) → Survives P
     → ReadStep old size got block new → P new.card
-after_read P old size got block new stays sends survives step =
+after_read P old size got block new stays sends fails survives step =
     let asks : (choice : Choice) → P (asked_for choice old.lines size old.card) =
     λ choice. by_cond P (can_send old.lines size old.card) (sends choice) (λ _. stays) in
     elim step [
       | faithful choice count card answer good ↦ along P card (asks choice)
       | bad_block choice comes can count card answer ↦ along P card (sends choice can)
+      | read_error can count card answer ↦ along P card (fails can)
       | brownout choice lands keeps_length after count card answer ↦ along P card
           (survives lands keeps_length _ (by_cond P after (λ _. asks choice) (λ _. stays)))
     ]

@@ -45,15 +45,22 @@ one_less None = None
 
 -- Writing.
 
+-- More blocks are to come: no count is reached, and the card ignores none behind a rejected one.
+abbrev pub awaits : Option ℕ → Bool
+awaits (Some left) = nat_lt 0 left
+awaits None = true
+
 -- the next sector of a write
 abbrev pub next_written : Card → ℕ
 next_written card = card.start + length card.values
 
--- the card accepts no block that is offered while it is busy, with other lines, or past the end
+-- the card accepts no block that is offered while it is busy, with other lines, past the end, or where it awaits none
 abbrev pub can_accept : Lines → Card → Bool
 can_accept lines card =
     is_in card.state Rcv
-    && (not card.is_busy && (lines_fit lines card && nat_lt (next_written card) (length (stored card card.part))))
+    && (not card.is_busy
+    && (lines_fit lines card
+    && (awaits card.left && nat_lt (next_written card) (length (stored card card.part)))))
 
 -- the card accepts the block, and is busy then; the last one of a counted write leads to prg
 abbrev pub accepted : List ℕ → Card → Card
@@ -64,9 +71,12 @@ accepted block card =
       state = if is_last card.left then Prg else Rcv;
     }
 
--- the card rejects the block; a write of one block is over then (the project's own)
-abbrev pub rejected : Card → Card
-rejected card = if card.is_single then record card { state = Tran; values = [] } else card
+-- The card rejects the block. A write of one block is over then (the project's own); one of several goes on, or the card
+-- ignores all further blocks until CMD12 (SD Physical Layer 6.00, section 4.3.4).
+abbrev pub rejected : Bool → Card → Card
+rejected ignores card =
+    if card.is_single then record card { state = Tran; values = [] }
+    else if ignores then record card { left = Some 0 } else card
 
 -- a block that is offered
 abbrev pub offered : Lines → List ℕ → Card → Card

@@ -13,7 +13,7 @@ use Rattle.mmc_card.specs.declared.exchange.DataIn.{DataIn}
 use Rattle.mmc_card.specs.declared.exchange.DataOut.{DataOut}
 use Rattle.mmc_card.specs.declared.exchange.Reply.{Reply}
 use Rattle.mmc_card.specs.CardAnswer.{CardAnswer, Checked, Choice, Silent, R3, R2, garbled, raised, reset}
-use Rattle.mmc_card.specs.ErrorBits.{general_error}
+use Rattle.mmc_card.specs.ErrorBits.{card_ecc_failed, general_error}
 use Rattle.mmc_card.specs.Blocks.{accepted, asked_for, can_send, can_accept, next_block, offered, polled_once}
 use Rattle.mmc_card.specs.Blocks.{programmed, rejected, sent, waited}
 use Rattle.mmc_card.specs.Card.{Card, is_in}
@@ -134,12 +134,13 @@ pub data WriteStep (old : BusView) (block : List ℕ) (got : DataOut) (new : Bus
   faithful : NoFault old new → new.card ≡ offered old.lines block old.card
       → got ≡ (if can_accept old.lines old.card then Sent.Accepted else Sent.Nothing)
       → WriteStep old block got new
-  -- the card rejects it
-  reject : can_accept old.lines old.card ≡ true → OneFault old new → new.card ≡ rejected old.card → got ≡ Sent.Rejected
+  -- the card rejects it, and may ignore all that come behind it
+  reject : (ignores : Bool) → can_accept old.lines old.card ≡ true → OneFault old new
+      → new.card ≡ rejected ignores old.card → got ≡ Sent.Rejected
       → WriteStep old block got new
   -- the card's status is lost, whether it accepted the block or rejected it
-  lose_status : (is_accepted : Bool) → can_accept old.lines old.card ≡ true → OneFault old new
-      → new.card ≡ (if is_accepted then accepted block old.card else rejected old.card) → got ≡ Sent.Nothing
+  lose_status : (is_accepted ignores : Bool) → can_accept old.lines old.card ≡ true → OneFault old new
+      → new.card ≡ (if is_accepted then accepted block old.card else rejected ignores old.card) → got ≡ Sent.Nothing
       → WriteStep old block got new
   brownout : (lands : ℕ → Bool) (keeps_length after : Bool) → OneFault old new
       → new.card ≡ reset lands keeps_length (if after then offered old.lines block old.card else old.card) → got ≡ Sent.Nothing
@@ -154,6 +155,10 @@ pub data ReadStep (old : BusView) (size : ℕ) (got : DataIn) (block : List ℕ)
   -- the card sends it, and a bad block comes, or none
   bad_block : (choice : Choice) (comes : Bool) → can_send old.lines size old.card ≡ true → OneFault old new
       → new.card ≡ sent choice old.card → got ≡ (if comes then Received.Bad else Received.Nothing)
+      → ReadStep old size got block new
+  -- the card can't correct the block: it sends none, has CARD_ECC_FAILED to show, and stays in data until CMD12
+  read_error : can_send old.lines size old.card ≡ true → OneFault old new
+      → new.card ≡ raised card_ecc_failed old.card → got ≡ Received.Nothing
       → ReadStep old size got block new
   brownout : (choice : Choice) (lands : ℕ → Bool) (keeps_length after : Bool) → OneFault old new
       → new.card ≡ reset lands keeps_length (if after then asked_for choice old.lines size old.card else old.card)

@@ -16,7 +16,7 @@ use Rattle.mmc_card.specs.Faults.{CommandStep, IsPatient, PollStep, ReadStep, Wr
 use Rattle.mmc_card.specs.Faults.CommandStep.{brownout as command_brownout, faithful as does_command, flip_command}
 use Rattle.mmc_card.specs.Faults.CommandStep.{flip_reply, lose_command, lose_reply}
 use Rattle.mmc_card.specs.Faults.PollStep.{brownout as poll_brownout, busy, fail, faithful as does_poll}
-use Rattle.mmc_card.specs.Faults.ReadStep.{bad_block, brownout as read_brownout, faithful as does_read}
+use Rattle.mmc_card.specs.Faults.ReadStep.{bad_block, brownout as read_brownout, faithful as does_read, read_error}
 use Rattle.mmc_card.specs.Faults.WriteStep.{brownout as write_brownout, faithful as does_write, lose_status, reject}
 use Rattle.mmc_card.specs.Sectors.{Sector}
 use Rattle.mmc_frame.specs.declared.card_state.State.TheVariants.{Prg}
@@ -90,7 +90,9 @@ module _ (plan : List Planned) (old new : Card) (delays : Delays) (soon : delays
       command_brownout (choice_of false) (lands_by outcome) false (λ slow. absurd cc) one card heard
   command_fault (Some Is.BadBlock) frame reply one fits card heard = cc
   command_fault (Some Is.NoBlock) frame reply one fits card heard = cc
+  command_fault (Some Is.ReadError) frame reply one fits card heard = cc
   command_fault (Some Is.Reject) frame reply one fits card heard = cc
+  command_fault (Some Is.RejectAll) frame reply one fits card heard = cc
   command_fault (Some (Is.LoseStatus outcome)) frame reply one fits card heard = cc
   command_fault (Some (Is.Fail outcome)) frame reply one fits card heard = cc
   command_fault (Some Is.Busy) frame reply one fits card heard = cc
@@ -129,6 +131,7 @@ module _ (plan : List Planned) (old new : Card) (faults later : ℕ) (before aft
       bad_block (choice_of false) true fits one card answer
   read_fault (Some Is.NoBlock) size got block one fits card answer =
       bad_block (choice_of false) false fits one card answer
+  read_fault (Some Is.ReadError) size got block one fits card answer = read_error fits one card answer
   read_fault (Some (Is.Brownout outcome)) size got block one fits card answer =
       read_brownout (choice_of false) (lands_by outcome) false one card answer
   read_fault None size got block one fits card answer = cc
@@ -138,6 +141,7 @@ module _ (plan : List Planned) (old new : Card) (faults later : ℕ) (before aft
   read_fault (Some (Is.FlipReply flips)) size got block one fits card answer = cc
   read_fault (Some Is.Busy) size got block one fits card answer = cc
   read_fault (Some Is.Reject) size got block one fits card answer = cc
+  read_fault (Some Is.RejectAll) size got block one fits card answer = cc
   read_fault (Some (Is.LoseStatus outcome)) size got block one fits card answer = cc
   read_fault (Some (Is.Fail outcome)) size got block one fits card answer = cc
 
@@ -168,9 +172,10 @@ module _ (plan : List Planned) (old new : Card) (faults later : ℕ) (before aft
       → fits_write fault old before.lines ≡ true
       → new ≡ after_write fault old block → got ≡ written_out fault
       → WriteStep (kept_with plan old faults before) block got (kept_with plan new later after)
-  write_fault (Some Is.Reject) block got one fits card answer = reject fits one card answer
-  write_fault (Some (Is.LoseStatus Old)) block got one fits card answer = lose_status false fits one card answer
-  write_fault (Some (Is.LoseStatus New)) block got one fits card answer = lose_status true fits one card answer
+  write_fault (Some Is.Reject) block got one fits card answer = reject false fits one card answer
+  write_fault (Some Is.RejectAll) block got one fits card answer = reject true fits one card answer
+  write_fault (Some (Is.LoseStatus Old)) block got one fits card answer = lose_status false false fits one card answer
+  write_fault (Some (Is.LoseStatus New)) block got one fits card answer = lose_status true false fits one card answer
   write_fault (Some (Is.Brownout outcome)) block got one fits card answer =
       write_brownout (lands_by outcome) false one card answer
   write_fault None block got one fits card answer = cc
@@ -181,6 +186,7 @@ module _ (plan : List Planned) (old new : Card) (faults later : ℕ) (before aft
   write_fault (Some Is.Busy) block got one fits card answer = cc
   write_fault (Some Is.BadBlock) block got one fits card answer = cc
   write_fault (Some Is.NoBlock) block got one fits card answer = cc
+  write_fault (Some Is.ReadError) block got one fits card answer = cc
   write_fault (Some (Is.Fail outcome)) block got one fits card answer = cc
 
   write_step : (fault : Option Fault) (block : Sector) (got : DataOut) (fell : Bool)
@@ -243,7 +249,9 @@ module _ (plan : List Planned) (old new : Card) (delays : Delays) (soon : delays
   poll_fault (Some (Is.FlipReply flips)) said one fits card is = cc
   poll_fault (Some Is.BadBlock) said one fits card is = cc
   poll_fault (Some Is.NoBlock) said one fits card is = cc
+  poll_fault (Some Is.ReadError) said one fits card is = cc
   poll_fault (Some Is.Reject) said one fits card is = cc
+  poll_fault (Some Is.RejectAll) said one fits card is = cc
   poll_fault (Some (Is.LoseStatus outcome)) said one fits card is = cc
 
   poll_step : (fault : Option Fault) (said fell : Bool) → later ≡ (if fell then faults + 1 else faults)

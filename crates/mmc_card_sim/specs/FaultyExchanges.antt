@@ -15,7 +15,7 @@ use Rattle.mmc_card.specs.Blocks.{accepted, can_accept, can_send, offered, polle
 use Rattle.mmc_card.specs.Blocks.{waited}
 use Rattle.mmc_card.specs.Card.{Card, is_in}
 use Rattle.mmc_card.specs.CardAnswer.{CardAnswer, Choice, Silent, garbled, raised, reset}
-use Rattle.mmc_card.specs.ErrorBits.{general_error}
+use Rattle.mmc_card.specs.ErrorBits.{card_ecc_failed, general_error}
 use Rattle.mmc_card.specs.Faults.{Spells}
 use Rattle.mmc_card.specs.Rows.{answered}
 use Rattle.mmc_card_sim.specs.Answer.{IsHeardFlipped, can_flip, is_flip}
@@ -24,7 +24,8 @@ use Rattle.mmc_card_sim.specs.Store.{lands_by}
 use Rattle.mmc_card_sim.specs.declared.delays.Delays.{Delays}
 use Rattle.mmc_card_sim.specs.declared.fault.Fault.{Fault}
 use Rattle.mmc_card_sim.specs.declared.fault.Fault.TheVariants.{BadBlock, Brownout, Busy, Fail, FlipCommand, FlipReply}
-use Rattle.mmc_card_sim.specs.declared.fault.Fault.TheVariants.{LoseCommand, LoseReply, LoseStatus, NoBlock, Reject}
+use Rattle.mmc_card_sim.specs.declared.fault.Fault.TheVariants.{LoseCommand, LoseReply, LoseStatus, NoBlock, ReadError}
+use Rattle.mmc_card_sim.specs.declared.fault.Fault.TheVariants.{Reject, RejectAll}
 use Rattle.mmc_card_sim.specs.declared.fault.Outcome.TheVariants.{New}
 
 -- Commands.
@@ -72,10 +73,12 @@ pub record Commands (fault : Option Fault) (delays : Delays) (old : Card) (frame
 abbrev pub fits_read : Option Fault → Card → Lines → ℕ → Bool
 fits_read (Some BadBlock) card lines size = can_send lines size card
 fits_read (Some NoBlock) card lines size = can_send lines size card
+fits_read (Some ReadError) card lines size = can_send lines size card
 fits_read (Some (Brownout outcome)) card lines size = true
 fits_read _ card lines size = false
 
 abbrev pub after_read : Option Fault → Card → Card
+after_read (Some ReadError) card = raised card_ecc_failed card
 after_read (Some (Brownout outcome)) card = reset (lands_by outcome) card
 after_read _ card = sent (choice_of false) card
 
@@ -103,6 +106,7 @@ pub record Reads (fault : Option Fault) (old : Card) (lines : Lines) (size : ℕ
 
 abbrev pub fits_write : Option Fault → Card → Lines → Bool
 fits_write (Some Reject) card lines = can_accept lines card
+fits_write (Some RejectAll) card lines = can_accept lines card
 fits_write (Some (LoseStatus outcome)) card lines = can_accept lines card
 fits_write (Some (Brownout outcome)) card lines = true
 fits_write _ card lines = false
@@ -110,10 +114,12 @@ fits_write _ card lines = false
 abbrev pub after_write : Option Fault → Card → List ℕ → Card
 after_write (Some (LoseStatus New)) card block = accepted block card
 after_write (Some (Brownout outcome)) card block = reset (lands_by outcome) card
-after_write _ card block = rejected card
+after_write (Some RejectAll) card block = rejected true card
+after_write _ card block = rejected false card
 
 abbrev pub written_out : Option Fault → DataOut
 written_out (Some Reject) = Sent.Rejected
+written_out (Some RejectAll) = Sent.Rejected
 written_out _ = Sent.Nothing
 
 pub record Writes (fault : Option Fault) (old : Card) (lines : Lines) (block : List ℕ) (got : DataOut) (fell : Bool)

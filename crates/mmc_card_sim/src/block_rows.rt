@@ -34,8 +34,8 @@ fn state_after(left: Option<u32>, goes_on: State, ends: State) -> State
 }
 
 impl Chip {
-    ghost use Rattle.mmc_card.specs.Blocks.{can_accept, end_errors, lines_fit, offered, polled_once, rested, sent_from};
-    ghost use Rattle.mmc_card.specs.Blocks.{waited};
+    ghost use Rattle.mmc_card.specs.Blocks.{awaits, can_accept, can_send, end_errors, lines_fit, offered, polled_once};
+    ghost use Rattle.mmc_card.specs.Blocks.{rested, sent_from, waited};
     ghost use Rattle.mmc_card.specs.Card.{FromSectors, stored};
     ghost use Rattle.mmc_card_sim.specs.Chip.{IsBlockSource, Sends, card_of, choice_of};
 
@@ -112,6 +112,22 @@ impl Chip {
         DataIn::Good
     }
 
+    /// Whether the card would send a block of this length.
+    pub fn can_send(&self, lines: Lines, size: usize) -> bool
+        ensures { result ≡ can_send lines size (card_of self.now) }
+    {
+        if !self.is_in(State::Data) || !self.fits(lines) {
+            return false;
+        }
+        match &self.source {
+            Source::Sectors => match self.store.sector(self.part, self.next) {
+                Some(block) => block.len() == size,
+                None => false,
+            },
+            Source::Block(block, _) => block.len() == size,
+        }
+    }
+
     /// Sends the block that was asked for, if one was, the lines of the host are the card's, and the buffer has its
     /// length.
     pub fn send(&mut self, lines: Lines, buffer: &mut [u8]) -> DataIn
@@ -126,6 +142,13 @@ impl Chip {
         }
     }
 
+    // Whether more blocks are to come.
+    fn awaits(&self) -> bool
+        ensures { result ≡ awaits self.now.left }
+    {
+        self.left != Some(0)
+    }
+
     /// Whether the card would accept a block: one is to come, it isn't busy, the lines of the host are its own, and
     /// there is such a sector.
     pub fn can_accept(&self, lines: Lines) -> bool
@@ -134,6 +157,7 @@ impl Chip {
         self.is_in(State::Rcv)
             && !self.is_busy
             && self.fits(lines)
+            && self.awaits()
             && self.store.has_next(self.part)
     }
 

@@ -33,8 +33,12 @@ pub enum Fault {
     BadBlock,
     /// A block that is read doesn't come.
     NoBlock,
+    /// The card can't correct a block that is read: none comes, and CARD_ECC_FAILED shows.
+    ReadError,
     /// A block that is written is rejected.
     Reject,
+    /// So it is, and all further blocks of a write of several are ignored until CMD12.
+    RejectAll,
     /// The status of a block that is written doesn't come: the card has rejected it, or accepted it.
     LoseStatus(Outcome),
     /// Programming of a write, erase or trim fails at a poll.

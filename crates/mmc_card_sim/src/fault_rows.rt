@@ -11,7 +11,7 @@ use mmc_frame::{State, Status};
 impl Chip {
     ghost use Rattle.mmc_card.specs.Blocks.{programmed, rejected};
     ghost use Rattle.mmc_card.specs.CardAnswer.{garbled, raised, reset};
-    ghost use Rattle.mmc_card.specs.ErrorBits.{general_error};
+    ghost use Rattle.mmc_card.specs.ErrorBits.{card_ecc_failed, general_error};
     ghost use Rattle.mmc_card_sim.specs.Chip.{card_of};
 
     /// A command with a bad check: the card notes that, and drops a preset count.
@@ -23,13 +23,23 @@ impl Chip {
         self.count = 0;
     }
 
-    /// A block is rejected: a write of one block is over then.
-    pub fn reject(&mut self)
-        ensures { card_of self.new ≡ rejected (card_of self.old) }
+    /// The card can't correct the block that it was asked for.
+    pub fn fail_to_read(&mut self)
+        ensures { card_of self.new ≡ raised card_ecc_failed (card_of self.old) }
+    {
+        self.raise(Status::CARD_ECC_FAILED);
+    }
+
+    /// A block is rejected: a write of one block is over then, and one of several goes on, or all further blocks are
+    /// ignored.
+    pub fn reject(&mut self, ignores: bool)
+        ensures { card_of self.new ≡ rejected ignores (card_of self.old) }
     {
         if self.is_single {
             self.state = State::Tran;
             self.store.drop_values();
+        } else if ignores {
+            self.left = Some(0);
         }
     }
 

@@ -87,6 +87,10 @@ impl Chip {
         match fault {
             Some(Fault::BadBlock) => self.send_spoiled(DataIn::Bad, lines, buffer),
             Some(Fault::NoBlock) => self.send_spoiled(DataIn::Nothing, lines, buffer),
+            Some(Fault::ReadError) if self.can_send(lines, buffer.len()) => {
+                self.fail_to_read();
+                (DataIn::Nothing, true)
+            }
             Some(Fault::Brownout(outcome)) => {
                 self.lose_power(outcome);
                 (DataIn::Nothing, true)
@@ -106,11 +110,15 @@ impl Chip {
     {
         match fault {
             Some(Fault::Reject) if self.can_accept(lines) => {
-                self.reject();
+                self.reject(false);
+                (DataOut::Rejected, true)
+            }
+            Some(Fault::RejectAll) if self.can_accept(lines) => {
+                self.reject(true);
                 (DataOut::Rejected, true)
             }
             Some(Fault::LoseStatus(Outcome::Old)) if self.can_accept(lines) => {
-                self.reject();
+                self.reject(false);
                 (DataOut::Nothing, true)
             }
             Some(Fault::LoseStatus(Outcome::New)) if self.can_accept(lines) => {

@@ -140,6 +140,19 @@ fn spoils_blocks(rt: HostRuntime) -> Result<(), Fail> {
     Ok(())
 }
 
+// A block that the card can't correct doesn't come. CARD_ECC_FAILED shows once, and the card is in data until CMD12.
+#[test]
+fn fails_to_read(rt: HostRuntime) -> Result<(), Fail> {
+    let mut card = faulty(rt.alloc(), 1, Fault::ReadError)?;
+    expect_r1(&rt, &mut card, 18, 512, 0x900);
+    expect_data(&rt, &mut card, DataIn::Nothing);
+    expect_status(&rt, &mut card, 0x0020_0b00);
+    expect_r1(&rt, &mut card, 12, 0, 0xb00);
+    expect_status(&rt, &mut card, 0x900);
+    assert_eq!(rt; card.faults(), 1);
+    Ok(())
+}
+
 // A block that is rejected, or whose status is lost: after CMD24 the card is in tran with the old bytes, or in prg
 // where it has taken the block.
 #[test]
@@ -183,6 +196,22 @@ fn offers_a_rejected_block_again(rt: HostRuntime) -> Result<(), Fail> {
     expect_r1(&rt, &mut card, 12, 0, 0xd00);
     expect_polls(&rt, &mut card, 0);
     expect_filled(&rt, &card, Part::User, 0, &[0, 0x5b, 0, 0]);
+    Ok(())
+}
+
+// Or all that are offered behind it are ignored, until CMD12.
+#[test]
+fn ignores_blocks_behind_a_rejected_one(rt: HostRuntime) -> Result<(), Fail> {
+    let mut card = faulty(rt.alloc(), 1, Fault::RejectAll)?;
+    expect_r1(&rt, &mut card, 25, 512, 0x900);
+    expect_taken(&rt, &mut card, 0x5a, DataOut::Rejected);
+    expect_taken(&rt, &mut card, 0x5b, DataOut::Nothing);
+    expect_status(&rt, &mut card, 0xd00);
+    expect_r1(&rt, &mut card, 12, 0, 0xd00);
+    expect_polls(&rt, &mut card, 0);
+    expect_r1(&rt, &mut card, 24, 512, 0x900);
+    expect_taken(&rt, &mut card, 0x5c, DataOut::Accepted);
+    assert_eq!(rt; card.faults(), 1);
     Ok(())
 }
 
@@ -297,7 +326,9 @@ fn has_only_faults_that_fit(rt: HostRuntime) -> Result<(), Fail> {
         Fault::FlipReply(two(0, 48)),
         Fault::BadBlock,
         Fault::NoBlock,
+        Fault::ReadError,
         Fault::Reject,
+        Fault::RejectAll,
         Fault::LoseStatus(Outcome::New),
         Fault::Fail(Outcome::New),
         Fault::Busy,

@@ -42,7 +42,7 @@ pub fn opened<B: Bus>(bus: &mut B) -> Option<Session> {
 }
 
 /// Each fault that can be planned, with two flipped bits where bits are flipped.
-pub fn every_fault() -> [Fault; 14] {
+pub fn every_fault() -> [Fault; 16] {
     let flips = Flips {
         first: 7,
         second: Some(40),
@@ -54,7 +54,9 @@ pub fn every_fault() -> [Fault; 14] {
         Fault::FlipReply(flips),
         Fault::BadBlock,
         Fault::NoBlock,
+        Fault::ReadError,
         Fault::Reject,
+        Fault::RejectAll,
         Fault::LoseStatus(Outcome::Old),
         Fault::LoseStatus(Outcome::New),
         Fault::Fail(Outcome::Old),

@@ -9,7 +9,7 @@ use Rattle.mmc_frame.specs.declared.card_state.State.TheVariants.{Prg, Rcv}
 use Rattle.mmc_card.proofs.Narrow.{accepts_in_rcv}
 use Rattle.mmc_card.proofs.SectorLemmas.{cond_in_new, old_maybe, touched_by}
 use Rattle.mmc_card.proofs.Standing.{up_in}
-use Rattle.mmc_card.specs.Blocks.{accepted, can_accept, is_last, one_less}
+use Rattle.mmc_card.specs.Blocks.{accepted, awaits, can_accept, is_last, one_less}
 use Rattle.mmc_card.specs.BusView.{BusView}
 use Rattle.mmc_card.specs.Card.{Card, holds, is_selected, stored}
 use Rattle.mmc_card.specs.Sectors.{Sector, Within, maybe_changed, part_number, touches, value_of}
@@ -65,11 +65,16 @@ pub last_is : (job : Job) (done : ℕ) (left : Option ℕ) → done < job.count 
     → is_last left ≡ ((done + 1 == job.count) && is_counted job)
 last_is job done left more is = ap is_last is ∙ is_last_by (is_counted job) job.count done more
 
-all_then : (b : Bool) (count done : ℕ) → ((done + 1 == count) && b) ≡ true → count ≡ done + 1
-all_then b count done h = grind (arith, nat_tests)
-
 pub below : (n m : ℕ) → n < m → nat_lt n m ≡ true
 below n m less = grind (arith, nat_tests)
+
+-- more are to come
+awaits_by : (b : Bool) (count done : ℕ) → done < count → awaits (if b then Some (count - done) else None) ≡ true
+awaits_by true count done more = let some : 0 < count - done = omega (arith, more) in below 0 (count - done) some
+awaits_by false count done more = refl
+
+all_then : (b : Bool) (count done : ℕ) → ((done + 1 == count) && b) ≡ true → count ≡ done + 1
+all_then b count done h = grind (arith, nat_tests)
 
 module _ (job : Job) (blocks : List Sector) (done faults : ℕ) (block : Sector) (way : job.way ≡ Write)
     (more : done < job.count) (full : length blocks ≡ job.count) (is : block ≡ slice_index_or blocks done []) where
@@ -133,7 +138,8 @@ module _ (job : Job) (blocks : List Sector) (done faults : ℕ) (block : Sector)
         let start = x.0.start in
         let room : nat_lt (a.card.start + length a.card.values) (length (stored a.card a.card.part)) ≡ true =
         below _ _ (omega (arith, long, start, size, inside, more)) in
-        rw (state, rests, fit, room) refl
+        let awaited = ap awaits x.0.left ∙ awaits_by (is_counted job) job.count done more in
+        rw (state, rests, fit, awaited, room) refl
 
     -- no sector may hold more, but the block's own may hold it
     within : NarrowsBut block a b → Within (holds b.card) (maybe_changed (change_of job blocks) (holds a.card))
