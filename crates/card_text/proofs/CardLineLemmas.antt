@@ -1,7 +1,7 @@
 -- Lines and texts of faults with further words.
 use Rattle.std.proofs.Common.{◌≡◌, ℕ, List, [], ◌∷◌, None, refl}
 use Rattle.card_text.specs.CardLines.{value_line_of}
-use Rattle.card_text.specs.FaultTexts.{fault_of, fault_with_words_of, flips_of, outcome_of}
+use Rattle.card_text.specs.FaultTexts.{failure_of, fault_of, fault_with_words_of, flips_of, outcome_of}
 use Rattle.card_text.specs.Parts.{parts}
 use Rattle.card_text.proofs.PartLemmas.{split_some}
 
@@ -14,6 +14,16 @@ two_outcomes a (b ∷ words) some = refl
 pub many_outcomes : (a text : List ℕ) → None ≡ outcome_of (a ∷ parts 32 text)
 unfolding parts
 many_outcomes a text = two_outcomes a _ (split_some _ text)
+
+three_words : (a b : List ℕ) (words : List (List ℕ)) → (words ≡ [] → ⊥) → None ≡ failure_of (a ∷ b ∷ words)
+unfolding failure_of
+three_words a b [] some = absurd (some refl)
+three_words a b (c ∷ words) some = refl
+
+-- more words than an outcome with error bits
+pub many_words : (a b text : List ℕ) → None ≡ failure_of (a ∷ b ∷ parts 32 text)
+unfolding parts
+many_words a b text = three_words a b _ (split_some _ text)
 
 three_flips : (a b : List ℕ) (words : List (List ℕ)) → (words ≡ [] → ⊥) → None ≡ flips_of (a ∷ b ∷ words)
 unfolding flips_of

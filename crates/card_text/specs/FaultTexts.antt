@@ -1,13 +1,16 @@
 -- The text of a planned fault.
 use Rattle.std.specs.Prelude.{ℕ, List, [], ◌∷◌, Option, None, Some, codes, if◌then◌else◌, min, option_and_then, option_map}
+use Rattle.std.specs.Int.{from_be_bytes, w32}
 use Rattle.std.specs.Str.{bytes_eq}
 use Rattle.mmc_card_sim.specs.declared.fault.Fault.{Fault}
-use Rattle.mmc_card_sim.specs.declared.fault.Fault.TheVariants.{BadBlock, Brownout, Busy, Fail, FlipCommand, FlipReply}
+use Rattle.mmc_card_sim.specs.declared.fault.Fault.TheVariants.{BadBlock, Brownout, Busy, Fail, FailWith, FlipCommand}
+use Rattle.mmc_card_sim.specs.declared.fault.Fault.TheVariants.{FlipReply}
 use Rattle.mmc_card_sim.specs.declared.fault.Fault.TheVariants.{LoseCommand, LoseReply, LoseStatus, NoBlock, ReadError}
 use Rattle.mmc_card_sim.specs.declared.fault.Fault.TheVariants.{Reject, RejectAll}
 use Rattle.mmc_card_sim.specs.declared.fault.Flips.{Flips}
 use Rattle.mmc_card_sim.specs.declared.fault.Outcome.{Outcome}
 use Rattle.mmc_card_sim.specs.declared.fault.Outcome.TheVariants.{New, Old}
+use Rattle.card_text.specs.Hexadecimal.{bytes_of}
 use Rattle.card_text.specs.Numbers.{number_of}
 
 -- no frame has 255 bits, so that a larger position is past the frame as 255 is
@@ -24,11 +27,23 @@ flips_of (a ∷ b ∷ []) =
 flips_of words = None
 
 -- `old` or `new`
-unfoldable pub outcome_of : List (List ℕ) → Option Outcome
-outcome_of (word ∷ []) =
+unfoldable pub outcome_in : List ℕ → Option Outcome
+outcome_in word =
     if bytes_eq word (codes "old") then Some Old
     else (if bytes_eq word (codes "new") then Some New else None)
+
+-- that one word
+unfoldable pub outcome_of : List (List ℕ) → Option Outcome
+outcome_of (word ∷ []) = outcome_in word
 outcome_of words = None
+
+-- an outcome alone, or with error bits as a status has them, in 8 digits
+unfoldable pub failure_of : List (List ℕ) → Option Fault
+failure_of (word ∷ []) = option_map (λ outcome. Fail outcome) (outcome_in word)
+failure_of (word ∷ digits ∷ []) =
+    option_and_then
+    (λ outcome. option_map (λ bytes. FailWith outcome (from_be_bytes w32 bytes)) (bytes_of 4 digits)) (outcome_in word)
+failure_of words = None
 
 -- a fault that one word says
 unfoldable pub lone_fault_of : List ℕ → Option Fault
@@ -48,7 +63,7 @@ fault_with_words_of name words =
     if bytes_eq name (codes "flip-command") then option_map (λ flips. FlipCommand flips) (flips_of words)
     else (if bytes_eq name (codes "flip-reply") then option_map (λ flips. FlipReply flips) (flips_of words)
     else (if bytes_eq name (codes "lose-status") then option_map (λ outcome. LoseStatus outcome) (outcome_of words)
-    else (if bytes_eq name (codes "fail") then option_map (λ outcome. Fail outcome) (outcome_of words)
+    else (if bytes_eq name (codes "fail") then failure_of words
     else (if bytes_eq name (codes "brownout") then option_map (λ outcome. Brownout outcome) (outcome_of words)
     else None))))
 

@@ -1,9 +1,11 @@
 // Reads the text of a planned fault.
 ghost use Rattle.std.specs.Prelude.{◌≡◌};
-ghost use Rattle.card_text.specs.FaultTexts.{fault_of, fault_with_words_of, flips_of, lone_fault_of, outcome_of, position_of};
+ghost use Rattle.card_text.specs.FaultTexts.{failure_of, fault_of, fault_with_words_of, flips_of, lone_fault_of, outcome_in};
+ghost use Rattle.card_text.specs.FaultTexts.{outcome_of, position_of};
 ghost use Rattle.card_text.specs.Parts.{left_parts, parts};
 
 use crate::cut::cut;
+use crate::hexadecimal::bytes;
 use crate::number::number;
 use mmc_card_sim::{Fault, Flips, Outcome};
 
@@ -39,20 +41,44 @@ fn flips(words: &[u8]) -> Option<Flips>
 }
 
 // `old` or `new`.
-#[tactic(auto, unfolding(crate::specs::FaultTexts::outcome_of))]
-fn outcome(words: &[u8]) -> Option<Outcome>
-    ensures { result ≡ outcome_of (parts 32 words.now) }
+#[tactic(auto, unfolding(crate::specs::FaultTexts::outcome_in))]
+fn outcome_in(word: &[u8]) -> Option<Outcome>
+    ensures { result ≡ outcome_in word.now }
 {
-    let word = match cut(words, b' ') {
-        (_, Some(_)) => return None,
-        (word, None) => word,
-    };
     if word == b"old".as_slice() {
         Some(Outcome::Old)
     } else if word == b"new".as_slice() {
         Some(Outcome::New)
     } else {
         None
+    }
+}
+
+// That one word.
+#[tactic(auto, unfolding(crate::specs::FaultTexts::outcome_of))]
+fn outcome(words: &[u8]) -> Option<Outcome>
+    ensures { result ≡ outcome_of (parts 32 words.now) }
+{
+    match cut(words, b' ') {
+        (_, Some(_)) => None,
+        (word, None) => outcome_in(word),
+    }
+}
+
+// How programming fails: an outcome, and error bits where they are said.
+#[tactic(auto, unfolding(crate::specs::FaultTexts::failure_of))]
+fn failure(words: &[u8]) -> Option<Fault>
+    ensures { result ≡ failure_of (parts 32 words.now) }
+{
+    match cut(words, b' ') {
+        (word, None) => Some(Fault::Fail(outcome_in(word)?)),
+        (word, Some(rest)) => match cut(rest, b' ') {
+            (_, Some(_)) => None,
+            (digits, None) => Some(Fault::FailWith(
+                outcome_in(word)?,
+                u32::from_be_bytes(bytes(digits)?),
+            )),
+        },
     }
 }
 
@@ -94,7 +120,7 @@ fn fault_with_words(name: &[u8], words: &[u8]) -> Option<Fault>
     } else if name == b"lose-status".as_slice() {
         Some(Fault::LoseStatus(outcome(words)?))
     } else if name == b"fail".as_slice() {
-        Some(Fault::Fail(outcome(words)?))
+        failure(words)
     } else if name == b"brownout".as_slice() {
         Some(Fault::Brownout(outcome(words)?))
     } else {

@@ -5,7 +5,7 @@ use Rattle.std.specs.Prelude.{Ok, Result, Some}
 use Rattle.std.proofs.lemmas.Nat.{le_or_r}
 use Rattle.mmc_frame.specs.Frame.{command_in}
 use Rattle.mmc_frame.specs.declared.card_state.State.{State}
-use Rattle.mmc_frame.specs.declared.card_state.State.TheVariants.{Idle, Prg}
+use Rattle.mmc_frame.specs.declared.card_state.State.TheVariants.{Idle, Prg, Rcv}
 use Rattle.mmc_card.specs.declared.exchange.DataIn.{DataIn}
 use Rattle.mmc_card.specs.declared.exchange.DataOut.{DataOut}
 use Rattle.mmc_card.specs.declared.exchange.Exchange.{Exchange}
@@ -15,6 +15,9 @@ use Rattle.mmc_card.specs.declared.exchange.Want.{Want}
 use Rattle.mmc_card.specs.Wanted.{response_to}
 use Rattle.mmc_frame.specs.declared.kind.Kind.{Kind}
 use Rattle.mmc_bus.specs.declared.host.Unheard.{Unheard}
+use Rattle.mmc_card.proofs.Cards.{in_state}
+use Rattle.mmc_card.proofs.Conditions.{by_cond}
+use Rattle.mmc_card.proofs.Steps.{after_poll}
 use Rattle.mmc_card.proofs.FaultCount.{command_counts, write_counts, poll_counts, read_counts}
 use Rattle.mmc_card.proofs.Narrow.{both}
 use Rattle.mmc_card.proofs.NarrowSteps.{command_widens, write_adds, poll_keeps, read_keeps}
@@ -22,13 +25,13 @@ use Rattle.mmc_bus.proofs.Readers.{Reads}
 use Rattle.mmc_card.proofs.Switching.{command_switches}
 use Rattle.mmc_card.proofs.Standing.{command_stands, write_stands, poll_stands, read_stands}
 use Rattle.mmc_card.specs.CardAnswer.{CardAnswer, Choice, Silent, refused}
-use Rattle.mmc_card.specs.ErrorBits.{general_error}
-use Rattle.mmc_card.specs.Blocks.{accepted, can_send, can_accept, next_block, rested, sent, waited}
+use Rattle.mmc_card.specs.Blocks.{accepted, can_send, can_accept, next_block, next_written, rested, sent, waited}
 use Rattle.mmc_card.specs.Card.{Card, IsCard, holds, is_in, is_selected}
 use Rattle.mmc_bus.specs.Exchanges.{Exchanged}
 use Rattle.mmc_card.specs.Faults.{CommandStep, FallNoMore, WriteStep, IsFlipped, IsPatient, NoFault, OneFault}
 use Rattle.mmc_card.specs.Faults.{PollStep, Spells}
-use Rattle.mmc_card.specs.Faults.{ReadStep, bad_block, brownout, fail, faithful, flip_command, flip_reply, lose_command}
+use Rattle.mmc_card.specs.Faults.{ReadStep, bad_block, brownout, fail, faithful, fall_short, flip_command, flip_reply}
+use Rattle.mmc_card.specs.Faults.{lose_command}
 use Rattle.mmc_card.specs.Faults.{busy, lose_reply, lose_status, read_error, reject, slow_inquiry}
 use Rattle.mmc_bus.specs.Heard.{cause_of, cause_of_command}
 use Rattle.mmc_card.specs.Laws.{CountsAtMostOne, erased_by, is_frame_of_run, maybe_erased}
@@ -222,15 +225,29 @@ polled_ways choice old true said new e card answer =
 polled_ways choice old false said new e card answer = (λ h. cc, λ h. card)
 
 -- failed programming leaves its sign
-signed : (errors : ℕ) → bit_or errors general_error ≡ 0 → ⊥
-signed errors h = omega (arith, le_or_r errors general_error, h)
+signed : (errors bits : ℕ) → (bits ≡ 0 → ⊥) → bit_or errors bits ≡ 0 → ⊥
+signed errors bits some h = let below = le_or_r errors bits in some (omega (arith, below, h))
 
 -- in idle it isn't selected
 down : {X : Type 0} (state : State) → state ≡ Idle → is_selected state ≡ true → X
 down state idle up = cc (ap is_selected idle, up)
 
 fails : (card : Card) → is_in card.state Prg ≡ true → card.is_switching ≡ false → may_fail card ≡ true
-fails card prg switching = rw (prg, switching) refl
+fails card prg switching = let state = in_state card.state Prg prg in rw (state, switching) refl
+
+falls_short : (card : Card) → is_in card.state Rcv ≡ true → may_fail card ≡ true
+falls_short card rcv = rw rcv refl
+
+-- in rcv a write goes on where it was
+abbrev GoesOn : Card → Card → Type 0
+GoesOn old new =
+    is_in new.state Rcv ≡ true → (is_in old.state Rcv ≡ true) × (next_written new ≡ next_written old)
+
+goes_on : (old : BusView) (said : Bool) (new : BusView) → PollStep old said new → GoesOn old.card new.card
+goes_on old said new step =
+    after_poll (GoesOn old.card) old said new (λ h. (h, refl))
+    (by_cond (GoesOn old.card) (is_in old.card.state Prg) (λ _ h. cc) (λ _ h. (h, refl))) (λ _ h. (h, refl))
+    (λ lands prg h. cc) (λ lands rcv h. (h, omega arith)) (λ bits card _ k. k) (λ lands card _ h. cc) step
 
 -- what the answer of a poll tells
 record PollWays (old : BusView) (said : Bool) (new : BusView) : Type 0 where
@@ -239,6 +256,19 @@ record PollWays (old : BusView) (said : Bool) (new : BusView) : Type 0 where
   shown : said ≡ false → is_selected new.card.state ≡ true → new.card.errors ≡ 0 → new.card ≡ rested old.card
   patient : NoFault old new → said ≡ true → old.card.polled < 8
   fine : NoFault old new → said ≡ false → new.card ≡ rested old.card
+
+-- where programming fails, error bits tell it
+unprogrammed : (old : BusView) (said : Bool) (new : BusView) (bits : ℕ) → (bits ≡ 0 → ⊥) → said ≡ false
+    → may_fail old.card ≡ true → OneFault old new → new.card.errors ≡ bit_or old.card.errors bits
+    → PollWays old said new
+unprogrammed old said new bits some answer may count errors =
+    record {
+      yes = λ h. cc (answer, h);
+      calm = λ h up quiet. cc (may, quiet);
+      shown = λ h up none. absurd (signed old.card.errors bits some (sym errors ∙ none));
+      patient = λ same h. fell old new count same;
+      fine = λ same h. fell old new count same;
+    }
 
 poll_ways : (old : BusView) (said : Bool) (new : BusView) → PollStep old said new → PollWays old said new
 poll_ways old said new (faithful choice patient count card answer) =
@@ -258,14 +288,11 @@ poll_ways old said new (busy is_busy late count card answer) =
       patient = λ same h. fell old new count same;
       fine = λ same h. fell old new count same;
     }
-poll_ways old said new (fail lands prg switching count card answer) =
-    record {
-      yes = λ h. cc;
-      calm = λ h up quiet. cc (fails old.card prg switching, quiet);
-      shown = λ h up none. absurd (signed old.card.errors (sym (ap (λ (c : Card). c.errors) card) ∙ none));
-      patient = λ same h. fell old new count same;
-      fine = λ same h. fell old new count same;
-    }
+poll_ways old said new (fail lands bits of prg switching count card answer) =
+    unprogrammed old said new bits of.1 answer (fails old.card prg switching) count
+    (ap (λ (c : Card). c.errors) card)
+poll_ways old said new (fall_short lands bits of rcv is_busy count card answer) =
+    unprogrammed old said new bits of.1 answer (falls_short old.card rcv) count (ap (λ (c : Card). c.errors) card)
 poll_ways old said new (brownout choice lands keeps_length after patient count card answer) =
     let idle : new.card.state ≡ Idle = ap (λ (c : Card). c.state) card in
     record {
@@ -292,6 +319,7 @@ poll_facts old said new bounded step =
       yes = ways.yes;
       calm = ways.calm;
       shown = ways.shown;
+      goes_on = goes_on old said new step;
       patient = ways.patient;
       fine = ways.fine;
     }

@@ -1,8 +1,8 @@
 -- What a host learns of an exchange over a bus that is kept: what holds whatever fell, what a sound answer tells, fault
 -- or not, and what holds where no fault fell.
-use Rattle.std.specs.Prelude.{◌&&◌, ◌<◌, ◌≡◌, ◌≤◌, Bool, List, Ok, Result, Some, false, not, true, ℕ}
+use Rattle.std.specs.Prelude.{◌&&◌, ◌<◌, ◌||◌, ◌≡◌, ◌≤◌, Bool, List, Ok, Result, Some, false, not, true, ℕ}
 use Rattle.mmc_frame.specs.Frame.{command_in}
-use Rattle.mmc_frame.specs.declared.card_state.State.TheVariants.{Prg}
+use Rattle.mmc_frame.specs.declared.card_state.State.TheVariants.{Prg, Rcv}
 use Rattle.mmc_frame.specs.declared.kind.Kind.{Kind}
 use Rattle.mmc_bus.specs.declared.host.Unheard.{Unheard}
 use Rattle.mmc_card.specs.declared.part.Part.{Part}
@@ -11,7 +11,7 @@ use Rattle.mmc_card.specs.declared.exchange.DataOut.{DataOut}
 use Rattle.mmc_card.specs.declared.exchange.Reply.{Reply}
 use Rattle.mmc_card.specs.declared.exchange.Want.{Want}
 use Rattle.mmc_card.specs.CardAnswer.{CardAnswer, Choice, Silent, refused}
-use Rattle.mmc_card.specs.Blocks.{accepted, can_send, can_accept, next_block, rested, sent, waited}
+use Rattle.mmc_card.specs.Blocks.{accepted, can_send, can_accept, next_block, next_written, rested, sent, waited}
 use Rattle.mmc_card.specs.Card.{Card, holds, is_in, is_selected}
 use Rattle.mmc_bus.specs.Exchanges.{Exchanged}
 use Rattle.mmc_card.specs.Faults.{FallNoMore, IsPatient, NoFault}
@@ -95,9 +95,9 @@ pub record Asked {X : Type 0} (hears : Reply → Result X Unheard) (answers : Ca
 
 -- Polls.
 
--- programming may fail: that of a write, erase or trim
+-- programming may fail: that of a write, erase or trim, and in rcv that of an earlier block
 abbrev pub may_fail : Card → Bool
-may_fail card = is_in card.state Prg && not card.is_switching
+may_fail card = is_in card.state Rcv || (is_in card.state Prg && not card.is_switching)
 
 pub record PollFacts (old : BusView) (said : Bool) (new : BusView) : Type 0 where
   pub stays : Stays old new
@@ -108,6 +108,9 @@ pub record PollFacts (old : BusView) (said : Bool) (new : BusView) : Type 0 wher
   -- a no is the card's, fault or not, where it is selected still and either can't have failed or holds no error
   pub calm : said ≡ false → is_selected new.card.state ≡ true → may_fail old.card ≡ false → new.card ≡ rested old.card
   pub shown : said ≡ false → is_selected new.card.state ≡ true → new.card.errors ≡ 0 → new.card ≡ rested old.card
+  -- in rcv a write goes on where it was, fault or not
+  pub goes_on : is_in new.card.state Rcv ≡ true
+      → (is_in old.card.state Rcv ≡ true) × (next_written new.card ≡ next_written old.card)
   pub patient : NoFault old new → said ≡ true → old.card.polled < 8
   pub fine : NoFault old new → said ≡ false → new.card ≡ rested old.card
 

@@ -11,21 +11,23 @@ use Rattle.mmc_card.proofs.Cards as cards
 use Rattle.mmc_card.proofs.Cards.{IsBasic}
 use Rattle.mmc_card.proofs.Narrow.{sends_data, accepts_in_rcv}
 use Rattle.mmc_card.proofs.NarrowSteps.{command_widens, poll_keeps, read_keeps, write_adds}
+use Rattle.mmc_card.proofs.Ordered.{ordered_fallen_short}
 use Rattle.mmc_card.proofs.Ordered.{IsOrdered, ordered_accepted, ordered_answered, ordered_garbled, ordered_programmed}
 use Rattle.mmc_card.proofs.Ordered.{ordered_raised, ordered_reached, ordered_rejected, ordered_reset, ordered_rested}
 use Rattle.mmc_card.proofs.Ordered.{ordered_sent_from, ordered_waited}
+use Rattle.mmc_card.proofs.Sending.{sending_fallen_short}
 use Rattle.mmc_card.proofs.Sending.{IsSending, sending_accepted, sending_answered, sending_garbled, sending_programmed}
 use Rattle.mmc_card.proofs.Sending.{sending_raised, sending_reached, sending_rejected, sending_reset, sending_rested}
 use Rattle.mmc_card.proofs.Sending.{sending_sent_from, sending_waited}
+use Rattle.mmc_card.proofs.Settled.{settled_fallen_short}
 use Rattle.mmc_card.proofs.Settled.{IsSettled, settled_accepted, settled_answered, settled_garbled, settled_programmed}
 use Rattle.mmc_card.proofs.Settled.{settled_raised, settled_reached, settled_rejected, settled_reset, settled_rested}
 use Rattle.mmc_card.proofs.Settled.{settled_sent_from, settled_waited}
 use Rattle.mmc_card.proofs.Steps.{after_command, after_write, after_poll, after_read}
 use Rattle.mmc_card.specs.CardAnswer.{raised}
-use Rattle.mmc_card.specs.Blocks.{programmed}
 use Rattle.mmc_card.specs.Card.{AreAmong, AreBlocks, Card, HasItsSizes, IsBlock, IsCard, powered_on, stored}
 use Rattle.mmc_card.specs.Laws.{Carried}
-use Rattle.mmc_card.specs.ErrorBits.{card_ecc_failed, error_bits, general_error}
+use Rattle.mmc_card.specs.ErrorBits.{error_bits}
 use Rattle.mmc_card.specs.Made.{HasRegisters, Made, first_block_length, is_sd, named_block_length, sectors_in}
 use Rattle.mmc_card.specs.declared.part.Part.{Part}
 use Rattle.mmc_card.specs.Faults.{CommandStep, WriteStep, PollStep, ReadStep}
@@ -139,16 +141,16 @@ poll_leaves_card old said new step k =
     whole new.card (sizes_then old.card new.card (poll_keeps old said new step).carried k)
     (rows.poll_leaves_card old said new step (basic old.card k))
     (after_poll IsOrdered old said new o (ordered_rested old.card o) (λ _. ordered_waited old.card o)
-    (λ lands prg _. ordered_raised general_error (programmed lands old.card)
-    (ordered_programmed lands old.card prg o))
+    (λ lands prg. ordered_programmed lands old.card prg o) (λ lands rcv. ordered_fallen_short lands old.card rcv o)
+    (λ bits card _ k. ordered_raised bits card k)
     (λ lands keeps card _. ordered_reset lands keeps card) step)
     (after_poll IsSettled old said new s (settled_rested old.card s) (λ _. settled_waited old.card s)
-    (λ lands prg _. settled_raised general_error (programmed lands old.card)
-    (settled_programmed lands old.card prg s))
+    (λ lands prg. settled_programmed lands old.card prg s) (λ lands _. settled_fallen_short lands old.card s)
+    (λ bits card _ k. settled_raised bits card k)
     (λ lands keeps card _. settled_reset lands keeps card) step)
     (after_poll IsSending old said new g (sending_rested old.card g) (λ _. sending_waited old.card g)
-    (λ lands _ _. sending_raised general_error (programmed lands old.card)
-    (sending_programmed lands old.card g))
+    (λ lands _. sending_programmed lands old.card g) (λ lands _. sending_fallen_short lands old.card g)
+    (λ bits card _ k. sending_raised bits card k)
     sending_reset step)
 
 pub write_leaves_card : (old : BusView) (block : Sector) (got : DataOut) (new : BusView) → IsBlock block
@@ -181,15 +183,15 @@ read_leaves_card old size got block new step k =
     (after_read IsOrdered old size got block new o
     (λ choice sends. ordered_sent_from old.card.source choice old.card
     (sends_data old.lines size old.card sends) o)
-    (λ _. ordered_raised card_ecc_failed old.card o)
+    (λ bits card _ k. ordered_raised bits card k)
     (λ lands keeps card _. ordered_reset lands keeps card) step)
     (after_read IsSettled old size got block new s
     (λ choice sends. settled_sent_from old.card.source choice old.card refl s)
-    (λ _. settled_raised card_ecc_failed old.card s)
+    (λ bits card _ k. settled_raised bits card k)
     (λ lands keeps card _. settled_reset lands keeps card) step)
     (after_read IsSending old size got block new g
     (λ choice _. sending_sent_from old.card.source choice old.card g)
-    (λ _. sending_raised card_ecc_failed old.card g) sending_reset step)
+    (λ bits card _ k. sending_raised bits card k) sending_reset step)
 
 -- After power on.
 

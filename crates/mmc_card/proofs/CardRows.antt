@@ -10,7 +10,7 @@ use Rattle.mmc_card.specs.declared.exchange.Reply.{Reply}
 use Rattle.mmc_card.specs.declared.exchange.Timing.{Timing}
 use Rattle.mmc_card.proofs.ByteLemmas.{erased_block}
 use Rattle.mmc_card.proofs.Cards.{IsBasic, IsLike, among_more, apart_card, blocks_replicate, blocks_snoc, card_app}
-use Rattle.mmc_card.proofs.Cards.{card_done, card_forgotten, card_garbled, card_programmed, card_raised, card_reached}
+use Rattle.mmc_card.proofs.Cards.{card_done, card_fallen_short, card_forgotten, card_garbled, card_programmed, card_raised, card_reached}
 use Rattle.mmc_card.proofs.Cards.{card_refused, card_reset, card_rested, card_shown, card_slow, chosen_card, in_state}
 use Rattle.mmc_card.proofs.Cards.{like_done, like_same, like_shown, stays_card}
 use Rattle.mmc_card.proofs.Conditions.{along, by_cond, first_by_cond}
@@ -20,7 +20,7 @@ use Rattle.mmc_card.specs.CardAnswer.{Choice, busied, raised, shown}
 use Rattle.mmc_card.specs.Blocks.{accepted, end_errors, is_last, programmed, rejected, sent_from}
 use Rattle.mmc_card.specs.Card.{AreAmong, AreBlocks, Both, Card, First, FromBytes, FromSectors, Held, IsBlock}
 use Rattle.mmc_card.specs.Card.{NoAddress, Source, is_in, is_selected, is_writing}
-use Rattle.mmc_card.specs.ErrorBits.{card_ecc_failed, erase_reset, error_bits, general_error, out_of_range}
+use Rattle.mmc_card.specs.ErrorBits.{erase_reset, error_bits, out_of_range}
 use Rattle.mmc_card.specs.Faults.{CommandStep, WriteStep, PollStep, ReadStep}
 use Rattle.mmc_card.specs.Made.{erased_sector, has_cmd23, has_switch_function, is_mmc}
 use Rattle.mmc_card.specs.declared.command.Command.{Command}
@@ -270,8 +270,8 @@ pub poll_leaves_card : (old : BusView) (said : Bool) (new : BusView) → PollSte
     → IsBasic new.card
 poll_leaves_card old said new step k =
     after_poll IsBasic old said new k (card_rested old.card k) (λ _. card_slow old.card k)
-    (λ lands _ _. card_raised general_error (programmed lands old.card) refl (card_programmed lands old.card k))
-    card_reset step
+    (λ lands _. card_programmed lands old.card k) (λ lands rcv. card_fallen_short lands old.card rcv k)
+    (λ bits card among k. card_raised bits card among k) card_reset step
 
 pub write_leaves_card : (old : BusView) (block : Sector) (got : DataOut) (new : BusView) → IsBlock block
     → WriteStep old block got new → IsBasic old.card → IsBasic new.card
@@ -285,4 +285,4 @@ read_leaves_card old size got block new step k =
     after_read IsBasic old size got block new k
     (λ choice sends. card_sent_from old.card.source choice old.card
     (in_state old.card.state Data (sends_data old.lines size old.card sends)) k)
-    (λ _. card_raised card_ecc_failed old.card refl k) card_reset step
+    (λ bits card among k. card_raised bits card among k) card_reset step

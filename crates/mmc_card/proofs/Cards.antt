@@ -9,7 +9,7 @@ use Rattle.mmc_card.specs.declared.part.Part.{Part}
 use Rattle.mmc_card.proofs.Conditions.{along, by_cond}
 use Rattle.mmc_card.proofs.Landing.{one_set}
 use Rattle.mmc_card.specs.CardAnswer.{done, garbled, raised, refused, reset, shown}
-use Rattle.mmc_card.specs.Blocks.{programmed, rested, waited}
+use Rattle.mmc_card.specs.Blocks.{fallen_short, programmed, rested, waited}
 use Rattle.mmc_card.specs.Card.{AreAmong, AreBlocks, Card, IsApart, IsBlock, NoAddress, is_in, is_selected, is_writing}
 use Rattle.mmc_card.specs.Card.{landed, landed_in, stored}
 use Rattle.mmc_card.specs.ErrorBits.{com_crc_error, command_error_bits, erase_reset, error_bits, illegal_command}
@@ -29,6 +29,11 @@ or_assoc a b c = same_from_bits _ _ (λ i. simp bit_at_or (omega arith))
 -- one more bit of those
 pub among_more : (bits more all : ℕ) → AreAmong bits all → AreAmong more all → AreAmong (bit_or bits more) all
 among_more bits more all h k = or_assoc bits more all ∙ ap (λ n. bit_or bits n) k ∙ h
+
+-- bits that are among some of them
+pub among_wider : (bits some all : ℕ) → AreAmong bits some → AreAmong some all → AreAmong bits all
+among_wider bits some all h k =
+    ap (λ n. bit_or bits n) (sym k) ∙ sym (or_assoc bits some all) ∙ ap (λ n. bit_or n all) h ∙ k
 
 -- States.
 
@@ -327,6 +332,12 @@ pub card_programmed : (lands : ℕ → Bool) (c : Card) → IsBasic c → IsBasi
 card_programmed lands c k =
     made_card c (programmed lands c) k (like_same c _ k refl refl refl refl) (λ h. cc) (λ h. refl)
     (blocks_landed lands c k) tt
+
+pub card_fallen_short : (lands : ℕ → Bool) (c : Card) → is_in c.state Rcv ≡ true → IsBasic c
+    → IsBasic (fallen_short lands c)
+card_fallen_short lands c rcv k =
+    made_card c (fallen_short lands c) k (like_same c _ k refl refl refl refl)
+    (λ h. cc (ap is_selected (in_state c.state Rcv rcv), h)) (λ h. refl) (blocks_landed lands c k) tt
 
 pub card_rested : (c : Card) → IsBasic c → IsBasic (rested c)
 card_rested c k =

@@ -4,6 +4,7 @@ use Rattle.mmc_card.specs.declared.exchange.DataIn.{DataIn}
 use Rattle.mmc_card.specs.declared.exchange.DataOut.{DataOut}
 use Rattle.mmc_card.specs.declared.exchange.Reply.{Reply}
 use Rattle.mmc_card.specs.Faults.{CommandStep, WriteStep, PollStep, ReadStep, bad_block, brownout, busy, fail, faithful}
+use Rattle.mmc_card.specs.Faults.{fall_short}
 use Rattle.mmc_card.specs.Faults.{flip_command, flip_reply, lose_command, lose_reply, lose_status, read_error, reject}
 use Rattle.mmc_card.specs.Faults.{slow_inquiry}
 use Rattle.mmc_card.specs.Laws.{CountsAtMostOne}
@@ -23,7 +24,8 @@ command_counts old frame reply new (brownout choice lands keeps_length after pat
 pub poll_counts : (old : BusView) (said : Bool) (new : BusView) → PollStep old said new → CountsAtMostOne old new
 poll_counts old said new (faithful choice patient count card answer) = inl count
 poll_counts old said new (busy is_busy late count card answer) = inr count
-poll_counts old said new (fail lands prg switching count card answer) = inr count
+poll_counts old said new (fail lands bits of prg switching count card answer) = inr count
+poll_counts old said new (fall_short lands bits of rcv is_busy count card answer) = inr count
 poll_counts old said new (brownout choice lands keeps_length after patient count card answer) = inr count
 
 pub write_counts : (old : BusView) (block : Sector) (got : DataOut) (new : BusView) → WriteStep old block got new

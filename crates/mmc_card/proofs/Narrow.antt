@@ -14,8 +14,8 @@ use Rattle.mmc_card.proofs.Landing.{at_snoc, landed_size, landed_within, snoc_le
 use Rattle.mmc_card.proofs.SectorLemmas.{by_touch, cond_in_new, cond_in_old, in_cond, maybe_within, old_maybe}
 use Rattle.mmc_card.proofs.SectorLemmas.{same_part, touched_by, untouched, within_same}
 use Rattle.mmc_card.specs.CardAnswer.{Choice, busied, garbled, raised, refused, reset, shown}
-use Rattle.mmc_card.specs.ErrorBits.{general_error}
-use Rattle.mmc_card.specs.Blocks.{accepted, can_send, can_accept, programmed, rejected, rested, sent_from, waited}
+use Rattle.mmc_card.specs.Blocks.{accepted, can_send, can_accept, fallen_short, programmed, rejected, rested, sent_from}
+use Rattle.mmc_card.specs.Blocks.{waited}
 use Rattle.mmc_card.specs.Card.{Both, Card, First, FromBytes, FromSectors, Held, NoAddress, Source, at_sector, holds}
 use Rattle.mmc_card.specs.Card.{is_in, known, landed, stored, unfinished}
 use Rattle.mmc_card.specs.Laws.{Carried, WithinOrAccepted, erased_by, erased_by_command, erased_by_held, maybe_erased}
@@ -150,8 +150,8 @@ keeps_garbled keeps c = plain c (garbled keeps c) refl refl refl
 pub keeps_programmed : (lands : ℕ → Bool) (c : Card) → Keeps c (programmed lands c)
 keeps_programmed lands c = over c (programmed lands c) lands refl refl refl
 
-pub keeps_failed : (lands : ℕ → Bool) (c : Card) → Keeps c (raised general_error (programmed lands c))
-keeps_failed lands c = over c (raised general_error (programmed lands c)) lands refl refl refl
+pub keeps_fallen_short : (lands : ℕ → Bool) (c : Card) → Keeps c (fallen_short lands c)
+keeps_fallen_short lands c = over c (fallen_short lands c) lands refl refl refl
 
 pub keeps_raised : (bits : ℕ) (c : Card) → Keeps c (raised bits c)
 keeps_raised bits c = plain c (raised bits c) refl refl refl

@@ -6,13 +6,12 @@ use Rattle.mmc_card.specs.declared.exchange.DataIn.{DataIn}
 use Rattle.mmc_card.specs.declared.exchange.DataOut.{DataOut}
 use Rattle.mmc_card.specs.declared.exchange.Lines.{Lines}
 use Rattle.mmc_card.specs.declared.exchange.Reply.{Reply}
-use Rattle.mmc_card.proofs.Narrow.{Keeps, Widens, accepted_adds, carried_accepted, carried_then, keeps_failed}
-use Rattle.mmc_card.proofs.Narrow.{keeps_garbled, keeps_raised, keeps_rejected, keeps_reset, keeps_rested, keeps_same}
+use Rattle.mmc_card.proofs.Narrow.{Keeps, Widens, accepted_adds, carried_accepted, carried_then, keeps_fallen_short}
+use Rattle.mmc_card.proofs.Narrow.{keeps_garbled, keeps_programmed, keeps_raised, keeps_rejected, keeps_reset, keeps_rested, keeps_same}
 use Rattle.mmc_card.proofs.Narrow.{keeps_sent_from, keeps_slow, keeps_then, accepts_in_rcv, wide, widens_answered}
 use Rattle.mmc_card.proofs.Steps.{after_command, after_write, after_poll, after_read}
 use Rattle.mmc_card.specs.Blocks.{accepted, can_accept}
 use Rattle.mmc_card.specs.Card.{Card}
-use Rattle.mmc_card.specs.ErrorBits.{card_ecc_failed}
 use Rattle.mmc_card.specs.Faults.{CommandStep, WriteStep, PollStep, ReadStep}
 use Rattle.mmc_card.specs.Laws.{Carried, WithinOrAccepted, erased_by}
 use Rattle.mmc_card.specs.Sectors.{Change, Sector}
@@ -59,7 +58,8 @@ command_widens old frame reply new step =
 pub poll_keeps : (old : BusView) (said : Bool) (new : BusView) → PollStep old said new → Keeps old.card new.card
 poll_keeps old said new step =
     after_poll (Keeps old.card) old said new (keeps_same old.card) (keeps_rested old.card) (λ _. keeps_slow old.card)
-    (λ lands _ _. keeps_failed lands old.card) (λ lands keeps card k. keeps_then k (keeps_reset lands keeps card)) step
+    (λ lands _. keeps_programmed lands old.card) (λ lands _. keeps_fallen_short lands old.card)
+    (λ bits card _ k. keeps_then k (keeps_raised bits card)) (λ lands keeps card k. keeps_then k (keeps_reset lands keeps card)) step
 
 pub write_adds : (old : BusView) (block : Sector) (got : DataOut) (new : BusView) → WriteStep old block got new
     → Adds block old.card new.card
@@ -73,5 +73,5 @@ pub read_keeps : (old : BusView) (size : ℕ) (got : DataIn) (block : Sector) (n
     → ReadStep old size got block new → Keeps old.card new.card
 read_keeps old size got block new step =
     after_read (Keeps old.card) old size got block new (keeps_same old.card)
-    (λ choice _. keeps_sent_from old.card.source choice old.card) (λ _. keeps_raised card_ecc_failed old.card)
+    (λ choice _. keeps_sent_from old.card.source choice old.card) (λ bits card _ k. keeps_then k (keeps_raised bits card))
     (λ lands keeps card k. keeps_then k (keeps_reset lands keeps card)) step

@@ -10,7 +10,7 @@ use Rattle.mmc_card.proofs.Cards.{in_state}
 use Rattle.mmc_card.proofs.Conditions.{along, by_cond, first_by_cond}
 use Rattle.mmc_card.proofs.Narrow.{AreSwitched, both, is_switched}
 use Rattle.mmc_card.specs.CardAnswer.{Choice, counted, done, garbled, raised, refused, reset, shown}
-use Rattle.mmc_card.specs.Blocks.{accepted, is_last, programmed, rejected, rested, sent_from, waited}
+use Rattle.mmc_card.specs.Blocks.{accepted, fallen_short, is_last, programmed, rejected, rested, sent_from, waited}
 use Rattle.mmc_card.specs.Card.{Both, Card, First, FromBytes, FromSectors, HasItsRca, Held, NoAddress, Source}
 use Rattle.mmc_card.specs.Card.{is_identified, is_in}
 use Rattle.mmc_card.specs.Made.{Made, first_rca, has_switch_function, is_mmc, is_sd}
@@ -134,6 +134,17 @@ ordered_programmed lands c prg k =
     let e = in_state c.state Prg prg in
     ordered_up c _ k (identified_in c.state Prg e refl) refl refl refl (λ h. cc) (λ h. cc) k.app k.inquiries
     (omega arith)
+
+pub ordered_fallen_short : (lands : ℕ → Bool) (c : Card) → is_in c.state Rcv ≡ true → IsOrdered c
+    → IsOrdered (fallen_short lands c)
+ordered_fallen_short lands c rcv k = record {
+  held = k.held;
+  busy = λ h. cc (not_in c.state Rcv Prg (in_state c.state Rcv rcv) refl, h);
+  rca = record { first = k.rca.first; published = k.rca.published };
+  app = k.app;
+  inquiries = k.inquiries;
+  polled = omega arith;
+}
 
 pub ordered_rested : (c : Card) → IsOrdered c → IsOrdered (rested c)
 ordered_rested c k =

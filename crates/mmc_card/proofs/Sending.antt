@@ -7,7 +7,7 @@ use Rattle.mmc_card.proofs.ByteLemmas.{ext_csd_bytes}
 use Rattle.mmc_card.proofs.Conditions.{along, by_cond, first_by_cond}
 use Rattle.mmc_card.proofs.Narrow.{AreSwitched, is_switched}
 use Rattle.mmc_card.specs.CardAnswer.{Choice, garbled, raised, refused, reset, shown}
-use Rattle.mmc_card.specs.Blocks.{accepted, programmed, rejected, rested, sent_from, waited}
+use Rattle.mmc_card.specs.Blocks.{accepted, fallen_short, programmed, rejected, rested, sent_from, waited}
 use Rattle.mmc_card.specs.Card.{Both, Card, First, FromBytes, FromSectors, Held, NoAddress, SendsBytes, Source, is_in}
 use Rattle.mmc_card.specs.Made.{HasRegisters}
 use Rattle.mmc_card.specs.declared.command.Command.{Command}
@@ -67,6 +67,9 @@ sending_reset lands keeps_length c k = record { registers = k.registers; erase_g
 
 pub sending_programmed : (lands : ℕ → Bool) (c : Card) → IsSending c → IsSending (programmed lands c)
 sending_programmed lands c k = sending_like c _ k refl refl refl
+
+pub sending_fallen_short : (lands : ℕ → Bool) (c : Card) → IsSending c → IsSending (fallen_short lands c)
+sending_fallen_short lands c k = sending_like c _ k refl refl refl
 
 pub sending_rested : (c : Card) → IsSending c → IsSending (rested c)
 sending_rested c k =

@@ -13,7 +13,8 @@ use Rattle.mmc_card.proofs.Conditions.{by_cond, first_by_cond}
 use Rattle.mmc_card.proofs.Landing.{snoc_length}
 use Rattle.mmc_card.proofs.Narrow.{AreSwitched, both, is_switched}
 use Rattle.mmc_card.specs.CardAnswer.{Choice, done, garbled, raised, refused, reset, shown}
-use Rattle.mmc_card.specs.Blocks.{accepted, awaits, can_accept, is_last, next_written, lines_fit, programmed, rejected, rested}
+use Rattle.mmc_card.specs.Blocks.{accepted, awaits, can_accept, fallen_short, is_last, next_written, lines_fit}
+use Rattle.mmc_card.specs.Blocks.{programmed, rejected, rested}
 use Rattle.mmc_card.specs.Blocks.{sent_from, waited}
 use Rattle.mmc_card.specs.Card.{Both, Card, First, FitsPart, FromBytes, FromSectors, Held, NoAddress, Source, is_in}
 use Rattle.mmc_card.specs.Card.{stored}
@@ -97,6 +98,14 @@ pub settled_programmed : (lands : ℕ → Bool) (c : Card) → is_in c.state Prg
 settled_programmed lands c prg k =
     settled_rest _ Tran refl refl refl (fits_none (programmed lands c) refl)
     (λ _. source_at c Prg k (in_state c.state Prg prg) refl)
+
+pub settled_fallen_short : (lands : ℕ → Bool) (c : Card) → IsSettled c → IsSettled (fallen_short lands c)
+settled_fallen_short lands c k = record {
+  fits = fits_none (fallen_short lands c) refl;
+  receives = k.receives;
+  switches = λ h w. refl;
+  source = k.source;
+}
 
 pub settled_rested : (c : Card) → IsSettled c → IsSettled (rested c)
 settled_rested c k =

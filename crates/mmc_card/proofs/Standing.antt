@@ -15,7 +15,7 @@ use Rattle.mmc_card.proofs.Narrow.{both, sends_data, accepts_in_rcv}
 use Rattle.mmc_card.proofs.Steps.{after_command, after_write, after_poll, after_read}
 use Rattle.mmc_card.specs.CardAnswer.{Choice, garbled, raised, refused, reset, shown}
 use Rattle.mmc_card.specs.ErrorBits.{erase_reset}
-use Rattle.mmc_card.specs.Blocks.{accepted, is_last, programmed, rejected, rested, sent_from, waited}
+use Rattle.mmc_card.specs.Blocks.{accepted, fallen_short, is_last, programmed, rejected, rested, sent_from, waited}
 use Rattle.mmc_card.specs.Card.{Both, Card, First, FromBytes, FromSectors, Held, NoAddress, Source, is_in, is_selected}
 use Rattle.mmc_card.specs.Faults.{CommandStep, WriteStep, PollStep, ReadStep}
 use Rattle.mmc_card.specs.Laws.{IsAfterReset, Setting, Stands, StillStands, is_frame_of_run, is_of_run, setting_of}
@@ -123,6 +123,11 @@ stands_garbled s keeps c h =
     (reset_like c (garbled keeps c) refl refl refl (λ b. b)
     (λ b. by_cond (λ n. n ≡ 0) keeps (λ _. b) (λ _. refl)) (λ b. b) (λ b. b) refl (λ b. b) refl)
     h
+
+stands_raised : (s : Setting) (bits : ℕ) (c : Card) → Stands s c → Stands s (raised bits c)
+stands_raised s bits c h =
+    stands_like s c (raised bits c) refl refl refl
+    (reset_like c (raised bits c) refl refl refl (λ b. b) (λ b. b) (λ b. b) (λ b. b) refl (λ b. b) refl) h
 
 pub stands_reached : (s : Setting) (command : Command) (c : Card) → Stands s c → Stands s (reached command c)
 stands_reached s command c h =
@@ -238,6 +243,12 @@ stands_programmed : (s : Setting) (lands : ℕ → Bool) (c : Card) → is_in c.
     → Stands s (programmed lands c)
 stands_programmed s lands c prg h = stands_quiet s c _ refl refl (up_in c Prg prg refl) refl h
 
+stands_fallen_short : (s : Setting) (lands : ℕ → Bool) (c : Card) → is_in c.state Rcv ≡ true → Stands s c
+    → Stands s (fallen_short lands c)
+stands_fallen_short s lands c rcv h =
+    let up = up_in c Rcv rcv refl in
+    stands_quiet s c _ up (ap (λ x. is_in x Data) (in_state c.state Rcv rcv)) up refl h
+
 stands_rested : (s : Setting) (c : Card) → Stands s c → Stands s (rested c)
 stands_rested s c h =
     by_cond (Stands s) (is_in c.state Prg)
@@ -285,7 +296,8 @@ command_stands old frame reply new o step s h =
 pub poll_stands : (old : BusView) (said : Bool) (new : BusView) → PollStep old said new → StillStands old.card new.card
 poll_stands old said new step s h =
     after_poll (Stands s) old said new h (stands_rested s old.card h) (λ busy. stands_slow s old.card busy h)
-    (λ lands prg _. stands_quiet s old.card _ refl refl (up_in old.card Prg prg refl) refl h)
+    (λ lands prg. stands_programmed s lands old.card prg h)
+    (λ lands rcv. stands_fallen_short s lands old.card rcv h) (λ bits card _ k. stands_raised s bits card k)
     (λ lands keeps card _. stands_reset s lands keeps card) step
 
 pub write_stands : (old : BusView) (block : Sector) (got : DataOut) (new : BusView) → WriteStep old block got new
@@ -304,7 +316,5 @@ read_stands old size got block new step s h =
     (λ choice sends.
     let d = sends_data old.lines size old.card sends in
     stands_sent_from s old.card.source choice old.card d (h.sends d) h)
-    (λ sends.
-    let up = up_in old.card Data (sends_data old.lines size old.card sends) refl in
-    stands_up s old.card _ up up refl (λ d. h.sends d) h)
+    (λ bits card _ k. stands_raised s bits card k)
     (λ lands keeps card _. stands_reset s lands keeps card) step

@@ -1,18 +1,20 @@
 -- What holds of a card holds after a step, if all that a step may do to the card keeps it.
-use Rattle.std.proofs.Common.{◌&&◌, ◌≡◌, Bool, List, false, true, ℕ}
+use Rattle.std.proofs.Common.{◌&&◌, ◌≡◌, Bool, List, false, refl, true, ℕ}
 use Rattle.mmc_frame.specs.Frame.{command_in}
-use Rattle.mmc_frame.specs.declared.card_state.State.TheVariants.{Prg}
+use Rattle.mmc_frame.specs.declared.card_state.State.TheVariants.{Prg, Rcv}
 use Rattle.mmc_card.specs.declared.exchange.DataIn.{DataIn}
 use Rattle.mmc_card.specs.declared.exchange.DataOut.{DataOut}
 use Rattle.mmc_card.specs.declared.exchange.Reply.{Reply}
+use Rattle.mmc_card.proofs.Cards.{among_wider}
 use Rattle.mmc_card.proofs.Conditions.{along, by_cond, first_by_cond}
 use Rattle.mmc_card.proofs.Narrow.{both}
 use Rattle.mmc_card.specs.CardAnswer.{Choice, garbled, raised, reset}
-use Rattle.mmc_card.specs.ErrorBits.{card_ecc_failed, general_error}
-use Rattle.mmc_card.specs.Blocks.{accepted, asked_for, can_send, can_accept, offered, polled_once, programmed, rejected}
-use Rattle.mmc_card.specs.Blocks.{rested, sent, waited}
-use Rattle.mmc_card.specs.Card.{Card, is_in}
+use Rattle.mmc_card.specs.ErrorBits.{card_ecc_failed, error_bits, execution_error_bits}
+use Rattle.mmc_card.specs.Blocks.{accepted, asked_for, can_send, can_accept, fallen_short, offered, polled_once}
+use Rattle.mmc_card.specs.Blocks.{programmed, rejected, rested, sent, waited}
+use Rattle.mmc_card.specs.Card.{AreAmong, Card, is_in}
 use Rattle.mmc_card.specs.Faults.{CommandStep, WriteStep, PollStep, ReadStep, bad_block, brownout, busy, fail, faithful}
+use Rattle.mmc_card.specs.Faults.{fall_short}
 use Rattle.mmc_card.specs.Faults.{flip_command, flip_reply, lose_command, lose_reply, lose_status, read_error, reject}
 use Rattle.mmc_card.specs.Faults.{slow_inquiry}
 use Rattle.mmc_card.specs.Rows.{answered}
@@ -22,6 +24,14 @@ use Rattle.mmc_card.specs.BusView.{BusView}
 -- it survives a failure of the power
 abbrev pub Survives : (Card → Type 0) → Type 0
 Survives P = (lands : ℕ → Bool) (keeps_length : Bool) (card : Card) → P card → P (reset lands keeps_length card)
+
+-- it bears error bits that are raised
+abbrev pub Bears : (Card → Type 0) → Type 0
+Bears P = (bits : ℕ) (card : Card) → AreAmong bits error_bits → P card → P (raised bits card)
+
+-- error bits of execution are error bits
+among_all : (bits : ℕ) → AreAmong bits execution_error_bits → AreAmong bits error_bits
+among_all bits among = among_wider bits execution_error_bits error_bits among refl
 
 pub after_command : (P : Card → Type 0) (old : BusView) (frame : List ℕ) (reply : Reply) (new : BusView) → P old.card
     → ((choice : Choice) → P (answered choice old.card (command_in frame)).0)
@@ -40,17 +50,20 @@ after_command P old frame reply new stays answers garbles survives step =
 
 pub after_poll : (P : Card → Type 0) (old : BusView) (said : Bool) (new : BusView) → P old.card → P (rested old.card)
     → (old.card.is_busy ≡ true → P (waited old.card))
-    → ((lands : ℕ → Bool) → is_in old.card.state Prg ≡ true → old.card.is_switching ≡ false
-    → P (raised general_error (programmed lands old.card)))
+    → ((lands : ℕ → Bool) → is_in old.card.state Prg ≡ true → P (programmed lands old.card))
+    → ((lands : ℕ → Bool) → is_in old.card.state Rcv ≡ true → P (fallen_short lands old.card)) → Bears P
     → Survives P → PollStep old said new → P new.card
-after_poll P old said new stays rests slows fails survives step =
+after_poll P old said new stays rests slows fails falls bears survives step =
     let polls : (choice : Choice) → P (polled_once choice old.card).0 =
     λ choice. first_by_cond P (old.card.is_busy && choice.is_slow) _ _
     (λ b. slows (both old.card.is_busy choice.is_slow b).0) (λ _. rests) in
     elim step [
       | faithful choice patient count card answer ↦ along P card (polls choice)
       | busy is_busy late count card answer ↦ along P card (slows is_busy)
-      | fail lands prg switching count card answer ↦ along P card (fails lands prg switching)
+      | fail lands bits of prg switching count card answer ↦ along P card
+          (bears bits _ (among_all bits of.0) (fails lands prg))
+      | fall_short lands bits of rcv is_busy count card answer ↦ along P card
+          (bears bits _ (among_all bits of.0) (falls lands rcv))
       | brownout choice lands keeps_length after patient count card answer ↦ along P card
           (survives lands keeps_length _ (by_cond P after (λ _. polls choice) (λ _. stays)))
     ]
@@ -73,15 +86,15 @@ after_write P old block got new stays accepts rejects survives step =
 
 pub after_read : (P : Card → Type 0) (old : BusView) (size : ℕ) (got : DataIn) (block : Sector) (new : BusView)
     → P old.card → ((choice : Choice) → can_send old.lines size old.card ≡ true → P (sent choice old.card))
-    → (can_send old.lines size old.card ≡ true → P (raised card_ecc_failed old.card)) → Survives P
+    → Bears P → Survives P
     → ReadStep old size got block new → P new.card
-after_read P old size got block new stays sends fails survives step =
+after_read P old size got block new stays sends bears survives step =
     let asks : (choice : Choice) → P (asked_for choice old.lines size old.card) =
     λ choice. by_cond P (can_send old.lines size old.card) (sends choice) (λ _. stays) in
     elim step [
       | faithful choice count card answer good ↦ along P card (asks choice)
       | bad_block choice comes can count card answer ↦ along P card (sends choice can)
-      | read_error can count card answer ↦ along P card (fails can)
+      | read_error can count card answer ↦ along P card (bears card_ecc_failed old.card refl stays)
       | brownout choice lands keeps_length after count card answer ↦ along P card
           (survives lands keeps_length _ (by_cond P after (λ _. asks choice) (λ _. stays)))
     ]

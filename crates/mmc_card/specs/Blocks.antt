@@ -78,6 +78,12 @@ rejected ignores card =
     if card.is_single then record card { state = Tran; values = [] }
     else if ignores then record card { left = Some 0 } else card
 
+-- An earlier block of the write turns out not to be programmed, once the card isn't busy any more: of what has come so far
+-- these values have landed, and the transfer goes on behind it (SD Physical Layer 6.00, section 4.3.4).
+abbrev pub fallen_short : (ℕ → Bool) → Card → Card
+fallen_short lands card =
+    record card { is_busy = false; polled = 0; sectors = landed lands card; start = next_written card; values = [] }
+
 -- a block that is offered
 abbrev pub offered : Lines → List ℕ → Card → Card
 offered lines block card = if can_accept lines card then accepted block card else card

@@ -57,6 +57,13 @@ erase_reset = 2 ^ (13 - 13)
 abbrev pub command_error_bits : ℕ
 command_error_bits = com_crc_error + illegal_command
 
+-- those that carrying a command out may raise, behind its response (SD Physical Layer 6.00, section 4.10.1, type X), but for
+-- LOCK_UNLOCK_FAILED, which is no result of a write or an erase
+abbrev pub execution_error_bits : ℕ
+execution_error_bits =
+    out_of_range + address_error + block_len_error + erase_param + wp_violation + card_ecc_failed + cc_error
+    + general_error + csd_overwrite + wp_erase_skip
+
 -- all others from bit 13 on
 abbrev pub error_bits : ℕ
 error_bits =

@@ -8,15 +8,15 @@ use Rattle.mmc_frame.specs.Check.{bits_of}
 use Rattle.mmc_frame.specs.Flips.{AreBytes, Flips}
 use Rattle.mmc_frame.specs.Frame.{argument_in, command_in, response_in}
 use Rattle.mmc_frame.specs.RegisterFrame.{ocr_frame, register_frame}
-use Rattle.mmc_frame.specs.declared.card_state.State.TheVariants.{Idle, Prg}
+use Rattle.mmc_frame.specs.declared.card_state.State.TheVariants.{Idle, Prg, Rcv}
 use Rattle.mmc_card.specs.declared.exchange.DataIn.{DataIn}
 use Rattle.mmc_card.specs.declared.exchange.DataOut.{DataOut}
 use Rattle.mmc_card.specs.declared.exchange.Reply.{Reply}
 use Rattle.mmc_card.specs.CardAnswer.{CardAnswer, Checked, Choice, Silent, R3, R2, garbled, raised, reset}
-use Rattle.mmc_card.specs.ErrorBits.{card_ecc_failed, general_error}
-use Rattle.mmc_card.specs.Blocks.{accepted, asked_for, can_send, can_accept, next_block, offered, polled_once}
+use Rattle.mmc_card.specs.ErrorBits.{card_ecc_failed, execution_error_bits}
+use Rattle.mmc_card.specs.Blocks.{accepted, asked_for, can_send, can_accept, fallen_short, next_block, offered, polled_once}
 use Rattle.mmc_card.specs.Blocks.{programmed, rejected, sent, waited}
-use Rattle.mmc_card.specs.Card.{Card, is_in}
+use Rattle.mmc_card.specs.Card.{AreAmong, Card, is_in}
 use Rattle.mmc_card.specs.declared.command.Command.{Command}
 use Rattle.mmc_card.specs.declared.command.Command.TheVariants.{SdSendOpCond, SendOpCond}
 use Rattle.mmc_card.specs.Rows.{answered, command_of}
@@ -112,6 +112,10 @@ pub data CommandStep (old : BusView) (frame : List ℕ) (reply : Reply) (new : B
       → new.card ≡ reset lands keeps_length (if after then (answered choice old.card (command_in frame)).0 else old.card)
       → reply ≡ Came.Silent → CommandStep old frame reply new
 
+-- some error bits of execution, one at least
+abbrev pub AreOfExecution : ℕ → Type 0
+AreOfExecution bits = AreAmong bits execution_error_bits × (bits ≡ 0 → ⊥)
+
 -- A poll.
 pub data PollStep (old : BusView) (said : Bool) (new : BusView) : Type 0 where
   faithful : (choice : Choice) → IsPatient choice old.card.polled → NoFault old new
@@ -121,9 +125,15 @@ pub data PollStep (old : BusView) (said : Bool) (new : BusView) : Type 0 where
   busy : old.card.is_busy ≡ true → 8 ≤ old.card.polled → OneFault old new
       → new.card ≡ waited old.card → said ≡ true
       → PollStep old said new
-  -- programming of a write, erase or trim fails: ERROR, and some of it has landed
-  fail : (lands : ℕ → Bool) → is_in old.card.state Prg ≡ true → old.card.is_switching ≡ false → OneFault old new
-      → new.card ≡ raised general_error (programmed lands old.card) → said ≡ false
+  -- programming of a write, erase or trim fails: some of it has landed, and error bits are raised
+  fail : (lands : ℕ → Bool) (bits : ℕ) → AreOfExecution bits → is_in old.card.state Prg ≡ true
+      → old.card.is_switching ≡ false → OneFault old new
+      → new.card ≡ raised bits (programmed lands old.card) → said ≡ false
+      → PollStep old said new
+  -- in rcv an earlier block turns out not to be programmed: error bits are raised, and the transfer goes on
+  fall_short : (lands : ℕ → Bool) (bits : ℕ) → AreOfExecution bits → is_in old.card.state Rcv ≡ true
+      → old.card.is_busy ≡ true → OneFault old new
+      → new.card ≡ raised bits (fallen_short lands old.card) → said ≡ false
       → PollStep old said new
   brownout : (choice : Choice) (lands : ℕ → Bool) (keeps_length after : Bool) → IsPatient choice old.card.polled → OneFault old new
       → new.card ≡ reset lands keeps_length (if after then (polled_once choice old.card).0 else old.card) → said ≡ false

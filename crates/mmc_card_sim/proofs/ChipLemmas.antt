@@ -1,20 +1,25 @@
 -- What a chip keeps true of its fields, and why a transfer doesn't begin.
 use Rattle.std.proofs.Common.{◌%◌, ◌*◌, ◌+◌, ◌/◌, ◌==◌, ◌^◌, ◌∙◌, ◌≡◌, ◌≤◌, Bool, List, ap, arith, bit_or, false, refl}
-use Rattle.std.proofs.Common.{true, ℕ}
-use Rattle.std.specs.Prelude.{if◌then◌else◌}
+use Rattle.std.proofs.Common.{sym, true, ℕ}
+use Rattle.std.proofs.lemmas.Bool.Decides.{nat_tests}
+use Rattle.std.specs.Prelude.{if◌then◌else◌, nat_le}
+use Rattle.mmc_frame.proofs.Bytes.{and_true}
+use Rattle.mmc_card.proofs.Cards.{among_wider}
+use Rattle.mmc_card.specs.Faults.{AreOfExecution}
 use Rattle.std.specs.Int.{bit_at}
 use Rattle.std.specs.Int.Bits.{or_add_and}
 use Rattle.std.specs.Int.RustNames.{bit_and}
-use Rattle.std.proofs.lemmas.Bool.{ne_eqb}
+use Rattle.std.proofs.lemmas.Bool.{eqb-true, ne_eqb}
 use Rattle.std.proofs.lemmas.Nat.{and_block, and_le_r, le_or_l, shr-shr, shr_split}
 use Rattle.std.proofs.lemmas.Nat.Bits.{bit_at_or, same_from_bits}
 use Rattle.mmc_card.specs.Card.{AreAmong, Card}
 use Rattle.mmc_card.specs.CardAnswer.{CardAnswer, Checked, bit, raised, shown, status}
-use Rattle.mmc_card.specs.ErrorBits.{address_error, block_len_error, command_error_bits, error_bits, out_of_range}
-use Rattle.mmc_card.specs.ErrorBits.{wp_violation}
+use Rattle.mmc_card.specs.ErrorBits.{address_error, block_len_error, command_error_bits, error_bits}
+use Rattle.mmc_card.specs.ErrorBits.{execution_error_bits, out_of_range, wp_violation}
 use Rattle.mmc_card.specs.RowsTransfer.{transferred}
 use Rattle.mmc_card.specs.Sectors.{Change, Sector}
 use Rattle.mmc_card_sim.specs.Chip.{Answers, card_of}
+use Rattle.mmc_card_sim.specs.FaultyExchanges.{are_of_execution}
 use Rattle.mmc_card_sim.specs.declared.answer.Answer.{Answer}
 use Rattle.mmc_card_sim.specs.declared.chip.Chip.{Chip}
 
@@ -33,6 +38,22 @@ or_held a b =
       bit_at_or a b (13 + i),
       bit_at_or (a / 2 ^ 13) (b / 2 ^ 13) i,
     ))
+
+-- error bits of execution, in a status and in a card
+pub execution_is_error : (bits : ℕ) → are_of_execution bits ≡ true → AreAmong bits (2 ^ 13 * error_bits)
+execution_is_error bits h =
+    among_wider bits (2 ^ 13 * execution_error_bits) (2 ^ 13 * error_bits)
+    (eqb-true _ _ (and_true (bit_or bits (2 ^ 13 * execution_error_bits) == 2 ^ 13 * execution_error_bits) _ h).0) refl
+
+pub execution_held : (bits : ℕ) → are_of_execution bits ≡ true → AreOfExecution (bits / 2 ^ 13)
+execution_held bits h =
+    let parts = and_true (bit_or bits (2 ^ 13 * execution_error_bits) == 2 ^ 13 * execution_error_bits)
+    (nat_le (2 ^ 13) bits) h in
+    let among : AreAmong bits (2 ^ 13 * execution_error_bits) = eqb-true _ _ parts.0 in
+    let some : 2 ^ 13 ≤ bits = grind (arith, nat_tests, parts.1) in (
+      sym (or_held bits (2 ^ 13 * execution_error_bits)) ∙ ap (λ n. n / 2 ^ 13) among,
+      λ none. omega (arith, some, none),
+    )
 
 -- among bits from bit 13 on there is none below
 whole : (bits all : ℕ) → AreAmong bits (all * 2 ^ 13 + 0) → bits ≡ 2 ^ 13 * (bits / 2 ^ 13)

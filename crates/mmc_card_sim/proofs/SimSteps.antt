@@ -1,5 +1,5 @@
 -- The exchanges of a card in memory, with a fault or without one, are steps of a card, and leave one.
-use Rattle.std.proofs.Common.{◌&&◌, ◌+◌, ◌-◌, ◌<◌, ◌^◌, ◌||◌, ◌≡◌, ◌≤◌, ◌∙◌, Bool, List, None, Some, ap, arith}
+use Rattle.std.proofs.Common.{◌&&◌, ◌+◌, ◌-◌, ◌/◌, ◌<◌, ◌^◌, ◌||◌, ◌≡◌, ◌≤◌, ◌∙◌, Bool, List, None, Some, ap, arith}
 use Rattle.std.proofs.Common.{false, not, refl, sym, true, ℕ}
 use Rattle.std.specs.Prelude.{Option, if◌then◌else◌, min, nat_le, nat_lt}
 use Rattle.std.proofs.lemmas.Bool.Decides.{nat_tests}
@@ -12,19 +12,24 @@ use Rattle.mmc_card.specs.declared.exchange.Reply.{Reply}
 use Rattle.mmc_card.specs.declared.exchange.Want.{Want}
 use Rattle.mmc_card.specs.BusView.{BusView}
 use Rattle.mmc_card.specs.Card.{Card, IsBlock, IsCard, is_in}
-use Rattle.mmc_card.specs.Faults.{CommandStep, IsPatient, PollStep, ReadStep, WriteStep}
+use Rattle.mmc_card.specs.CardAnswer.{raised}
+use Rattle.mmc_card.specs.ErrorBits.{general_error}
+use Rattle.mmc_card.specs.Faults.{AreOfExecution, CommandStep, IsPatient, PollStep, ReadStep, WriteStep}
 use Rattle.mmc_card.specs.Faults.CommandStep.{brownout as command_brownout, faithful as does_command, flip_command}
 use Rattle.mmc_card.specs.Faults.CommandStep.{flip_reply, lose_command, lose_reply}
-use Rattle.mmc_card.specs.Faults.PollStep.{brownout as poll_brownout, busy, fail, faithful as does_poll}
+use Rattle.mmc_card.specs.Faults.PollStep.{brownout as poll_brownout, busy, fail, faithful as does_poll, fall_short}
 use Rattle.mmc_card.specs.Faults.ReadStep.{bad_block, brownout as read_brownout, faithful as does_read, read_error}
 use Rattle.mmc_card.specs.Faults.WriteStep.{brownout as write_brownout, faithful as does_write, lose_status, reject}
 use Rattle.mmc_card.specs.Sectors.{Sector}
-use Rattle.mmc_frame.specs.declared.card_state.State.TheVariants.{Prg}
+use Rattle.mmc_frame.specs.declared.card_state.State.TheVariants.{Prg, Rcv}
 use Rattle.mmc_card.proofs.CardAll.{command_leaves_card, poll_leaves_card, read_leaves_card, write_leaves_card}
 use Rattle.mmc_bus.specs.declared.wire.Wire.{Wire}
 use Rattle.mmc_bus.specs.Exchanges.{Commanded, DataRead, DataWritten, Exchanged, Polled}
 use Rattle.mmc_bus.specs.Wires.{Notes, bus_view_with}
 use Rattle.mmc_card_sim.specs.Chip.{choice_of, command_choice}
+use Rattle.mmc_card.proofs.Cards.{in_state}
+use Rattle.mmc_card_sim.proofs.ChipLemmas.{execution_held}
+use Rattle.mmc_card_sim.specs.FaultyExchanges.{are_of_execution, failed, may_fail, may_fall_short}
 use Rattle.mmc_card_sim.specs.FaultyExchanges.{Commands, IsHeard, Polls, Reads, Writes, after_command, after_poll}
 use Rattle.mmc_card_sim.specs.FaultyExchanges.{after_read, after_write, fits_command, fits_poll, fits_read, fits_write}
 use Rattle.mmc_card_sim.specs.FaultyExchanges.{heeded, is_answer, is_busy_fault, poll_choice, read_in, written_out}
@@ -95,6 +100,7 @@ module _ (plan : List Planned) (old new : Card) (delays : Delays) (soon : delays
   command_fault (Some Is.RejectAll) frame reply one fits card heard = cc
   command_fault (Some (Is.LoseStatus outcome)) frame reply one fits card heard = cc
   command_fault (Some (Is.Fail outcome)) frame reply one fits card heard = cc
+  command_fault (Some (Is.FailWith outcome bits)) frame reply one fits card heard = cc
   command_fault (Some Is.Busy) frame reply one fits card heard = cc
 
   command_step : (fault : Option Fault) (frame : List ℕ) (reply : Reply) (fell : Bool)
@@ -144,6 +150,7 @@ module _ (plan : List Planned) (old new : Card) (delays : Delays) (faults later 
   read_fault (Some Is.RejectAll) size got block one fits card answer = cc
   read_fault (Some (Is.LoseStatus outcome)) size got block one fits card answer = cc
   read_fault (Some (Is.Fail outcome)) size got block one fits card answer = cc
+  read_fault (Some (Is.FailWith outcome bits)) size got block one fits card answer = cc
 
   read_step : (fault : Option Fault) (size : ℕ) (got : DataIn) (block : List ℕ) (fell : Bool)
       → later ≡ (if fell then faults + 1 else faults)
@@ -188,6 +195,7 @@ module _ (plan : List Planned) (old new : Card) (delays : Delays) (faults later 
   write_fault (Some Is.NoBlock) block got one fits card answer = cc
   write_fault (Some Is.ReadError) block got one fits card answer = cc
   write_fault (Some (Is.Fail outcome)) block got one fits card answer = cc
+  write_fault (Some (Is.FailWith outcome bits)) block got one fits card answer = cc
 
   write_step : (fault : Option Fault) (block : Sector) (got : DataOut) (fell : Bool)
       → later ≡ (if fell then faults + 1 else faults)
@@ -231,12 +239,29 @@ at_least limit times h = grind (arith, nat_tests, h)
 
 module _ (plan : List Planned) (old new : Card) (delays : Delays) (soon : delays.busy ≤ 8) (faults later : ℕ)
     (before after : Wire) where
+  -- with these error bits, in prg or in rcv
+  failed_by : (bits : ℕ) (lands : ℕ → Bool) (said : Bool) → AreOfExecution (bits / 2 ^ 13) → (programs : Bool)
+      → programs ≡ may_fail old → (programs || may_fall_short old) ≡ true → later ≡ faults + 1
+      → new ≡ raised (bits / 2 ^ 13) (failed lands old) → said ≡ false
+      → PollStep (kept_with plan old faults before) said (kept_with plan new later after)
+  failed_by bits lands said of true programs fits one card is =
+      let parts = and_true (is_in old.state Prg) (not old.is_switching) (sym programs) in
+      fail lands (bits / 2 ^ 13) of parts.0 (is_false old.is_switching parts.1) one
+      (card ∙ ap (raised (bits / 2 ^ 13)) (rw parts.0 refl)) is
+  failed_by bits lands said of false programs fits one card is =
+      let parts = and_true (is_in old.state Rcv) _ fits in
+      fall_short lands (bits / 2 ^ 13) of parts.0 (and_true old.is_busy _ parts.1).0 one
+      (card ∙ ap (raised (bits / 2 ^ 13)) (rw (in_state old.state Rcv parts.0) refl)) is
+
   poll_fault : (fault : Option Fault) (said : Bool) → later ≡ faults + 1 → fits_poll fault old ≡ true
       → new ≡ after_poll fault delays old → said ≡ is_busy_fault fault
       → PollStep (kept_with plan old faults before) said (kept_with plan new later after)
   poll_fault (Some (Is.Fail outcome)) said one fits card is =
       let parts = and_true (is_in old.state Prg) (not old.is_switching) fits in
-      fail (lands_by outcome) parts.0 (is_false old.is_switching parts.1) one card is
+      fail (lands_by outcome) general_error (refl, λ none. cc) parts.0 (is_false old.is_switching parts.1) one card is
+  poll_fault (Some (Is.FailWith outcome bits)) said one fits card is =
+      let parts = and_true (are_of_execution bits) (may_fail old || may_fall_short old) fits in
+      failed_by bits (lands_by outcome) said (execution_held bits parts.0) (may_fail old) refl parts.1 one card is
   poll_fault (Some Is.Busy) said one fits card is =
       let parts = and_true old.is_busy (nat_le 8 old.polled) fits in
       busy parts.0 (at_least 8 old.polled parts.1) one card is

@@ -1,9 +1,10 @@
 -- What the card in memory does in an exchange for which a fault may be planned: the fault falls where it fits, and
 -- otherwise the exchange is a faithful step.
-use Rattle.std.specs.Prelude.{◌&&◌, ◌||◌, ◌≡◌, Bool, List, Option, Some, false, if◌then◌else◌, nat_le, nat_lt}
+use Rattle.std.specs.Prelude.{◌&&◌, ◌*◌, ◌/◌, ◌==◌, ◌^◌, ◌||◌, ◌≡◌, Bool, List, Option, Some, bit_or, false}
+use Rattle.std.specs.Prelude.{if◌then◌else◌, length, nat_le, nat_lt}
 use Rattle.std.specs.Prelude.{not, true, ℕ}
 use Rattle.mmc_frame.specs.Frame.{command_in}
-use Rattle.mmc_frame.specs.declared.card_state.State.TheVariants.{Prg}
+use Rattle.mmc_frame.specs.declared.card_state.State.TheVariants.{Prg, Rcv}
 use Rattle.mmc_card.specs.declared.exchange.DataIn.{DataIn}
 use Rattle.mmc_card.specs.declared.exchange.DataIn.TheVariants as Received
 use Rattle.mmc_card.specs.declared.exchange.DataOut.{DataOut}
@@ -12,10 +13,10 @@ use Rattle.mmc_card.specs.declared.exchange.Lines.{Lines}
 use Rattle.mmc_card.specs.declared.exchange.Reply.{Reply}
 use Rattle.mmc_card.specs.declared.exchange.Reply.TheVariants as Came
 use Rattle.mmc_card.specs.Blocks.{accepted, can_accept, can_send, offered, polled_once, programmed, rejected, sent}
-use Rattle.mmc_card.specs.Blocks.{waited}
-use Rattle.mmc_card.specs.Card.{Card, is_in}
+use Rattle.mmc_card.specs.Blocks.{fallen_short, next_written, waited}
+use Rattle.mmc_card.specs.Card.{Card, is_in, stored}
 use Rattle.mmc_card.specs.CardAnswer.{CardAnswer, Choice, Silent, garbled, raised, reset}
-use Rattle.mmc_card.specs.ErrorBits.{card_ecc_failed, general_error}
+use Rattle.mmc_card.specs.ErrorBits.{card_ecc_failed, execution_error_bits, general_error}
 use Rattle.mmc_card.specs.Faults.{Spells}
 use Rattle.mmc_card.specs.Rows.{answered}
 use Rattle.mmc_card_sim.specs.Answer.{IsHeardFlipped, can_flip, is_flip}
@@ -23,7 +24,8 @@ use Rattle.mmc_card_sim.specs.Chip.{Sends, choice_of, command_choice}
 use Rattle.mmc_card_sim.specs.Store.{lands_by}
 use Rattle.mmc_card_sim.specs.declared.delays.Delays.{Delays}
 use Rattle.mmc_card_sim.specs.declared.fault.Fault.{Fault}
-use Rattle.mmc_card_sim.specs.declared.fault.Fault.TheVariants.{BadBlock, Brownout, Busy, Fail, FlipCommand, FlipReply}
+use Rattle.mmc_card_sim.specs.declared.fault.Fault.TheVariants.{BadBlock, Brownout, Busy, Fail, FailWith, FlipCommand}
+use Rattle.mmc_card_sim.specs.declared.fault.Fault.TheVariants.{FlipReply}
 use Rattle.mmc_card_sim.specs.declared.fault.Fault.TheVariants.{LoseCommand, LoseReply, LoseStatus, NoBlock, ReadError}
 use Rattle.mmc_card_sim.specs.declared.fault.Fault.TheVariants.{Reject, RejectAll}
 use Rattle.mmc_card_sim.specs.declared.fault.Outcome.TheVariants.{New}
@@ -132,6 +134,26 @@ pub record Writes (fault : Option Fault) (delays : Delays) (old : Card) (lines :
 
 -- Polls.
 
+-- some error bits of execution, one at least, as a status has them
+abbrev pub are_of_execution : ℕ → Bool
+are_of_execution bits =
+    (bit_or bits (2 ^ 13 * execution_error_bits) == 2 ^ 13 * execution_error_bits) && nat_le (2 ^ 13) bits
+
+-- the programming of a write, erase or trim may fail, or in rcv that of an earlier block, at the poll that ends its busy time
+abbrev pub may_fail : Card → Bool
+may_fail card = is_in card.state Prg && not card.is_switching
+
+abbrev pub may_fall_short : Card → Bool
+may_fall_short card =
+    is_in card.state Rcv
+    && (card.is_busy && nat_le (next_written card) (length (stored card card.part)))
+
+abbrev pub can_fail_with : ℕ → Card → Bool
+can_fail_with bits card = are_of_execution bits && (may_fail card || may_fall_short card)
+
+abbrev pub failed : (ℕ → Bool) → Card → Card
+failed lands card = if is_in card.state Prg then programmed lands card else fallen_short lands card
+
 abbrev pub is_busy_fault : Option Fault → Bool
 is_busy_fault (Some Busy) = true
 is_busy_fault _ = false
@@ -144,13 +166,15 @@ abbrev pub poll_choice : Option Fault → Delays → Card → Choice
 poll_choice fault delays card = choice_of (is_slow_at fault delays card)
 
 abbrev pub fits_poll : Option Fault → Card → Bool
-fits_poll (Some (Fail outcome)) card = is_in card.state Prg && not card.is_switching
+fits_poll (Some (Fail outcome)) card = may_fail card
+fits_poll (Some (FailWith outcome bits)) card = can_fail_with bits card
 fits_poll (Some Busy) card = card.is_busy && nat_le 8 card.polled
 fits_poll (Some (Brownout outcome)) card = true
 fits_poll _ card = false
 
 abbrev pub after_poll : Option Fault → Delays → Card → Card
 after_poll (Some (Fail outcome)) delays card = raised general_error (programmed (lands_by outcome) card)
+after_poll (Some (FailWith outcome bits)) delays card = raised (bits / 2 ^ 13) (failed (lands_by outcome) card)
 after_poll (Some Busy) delays card = waited card
 after_poll (Some (Brownout outcome)) delays card = reset (lands_by outcome) delays.keeps_length card
 after_poll _ delays card = card

@@ -209,12 +209,20 @@ impl Chip {
     }
 
     /// Raises error bits, which stay until they are shown.
-    #[tactic(auto, using(mmc_card::proofs::Cards::among_more, crate::proofs::ChipLemmas::or_held))]
     pub fn raise(&mut self, errors: Status)
         requires { AreAmong (bits_in errors) (2 ^ 13 * error_bits) }
         ensures { card_of self.new ≡ raised (bits_in errors / 2 ^ 13) (card_of self.old) }
     {
-        self.errors |= errors.bits();
+        self.raise_bits(errors.bits());
+    }
+
+    /// Raises error bits by their places in a status.
+    #[tactic(auto, using(mmc_card::proofs::Cards::among_more, crate::proofs::ChipLemmas::or_held))]
+    pub fn raise_bits(&mut self, bits: u32)
+        requires { AreAmong bits (2 ^ 13 * error_bits) }
+        ensures { card_of self.new ≡ raised (bits / 2 ^ 13) (card_of self.old) }
+    {
+        self.errors |= bits;
     }
 
     /// All error bits are shown in a response, and cleared.

@@ -43,6 +43,9 @@ pub enum Fault {
     LoseStatus(Outcome),
     /// Programming of a write, erase or trim fails at a poll.
     Fail(Outcome),
+    /// So it does, or that of an earlier block of a write, with these error bits, as a status has them. Bits that no
+    /// programming raises fit no exchange.
+    FailWith(Outcome, u32),
     /// A poll of a busy card is answered yes. It counts as a fault from the ninth yes of one busy time on.
     Busy,
     /// The power fails: no answer, and then the card is as after CMD0.

@@ -1,6 +1,7 @@
 // What the card in memory does in a fault: a function for each row of the card relation that leaves the card otherwise
 // than a faithful step.
-ghost use Rattle.std.specs.Prelude.{◌≡◌, false};
+ghost use Rattle.std.specs.Prelude.{◌/◌, ◌^◌, ◌≡◌, ◌≤◌, false, length, true};
+ghost use Rattle.mmc_card_sim.specs.FaultyExchanges.{are_of_execution};
 ghost use Rattle.mmc_card_sim.specs.Store.{lands_by};
 
 use crate::chip::Chip;
@@ -9,7 +10,8 @@ use bitflags::Flags;
 use mmc_frame::{State, Status};
 
 impl Chip {
-    ghost use Rattle.mmc_card.specs.Blocks.{programmed, rejected};
+    ghost use Rattle.mmc_card.specs.Blocks.{fallen_short, next_written, programmed, rejected};
+    ghost use Rattle.mmc_card.specs.Card.{stored};
     ghost use Rattle.mmc_card.specs.CardAnswer.{garbled, raised, reset};
     ghost use Rattle.mmc_card.specs.ErrorBits.{card_ecc_failed, general_error};
     ghost use Rattle.mmc_card_sim.specs.Chip.{card_of};
@@ -52,6 +54,32 @@ impl Chip {
         self.is_busy = false;
         self.polled = 0;
         self.raise(Status::ERROR);
+    }
+
+    /// So it does with these error bits.
+    #[tactic(auto, using(crate::proofs::ChipLemmas::execution_is_error))]
+    pub fn fail_with(&mut self, outcome: Outcome, bits: u32)
+        requires { are_of_execution bits ≡ true }
+        ensures { card_of self.new ≡ raised (bits / 2 ^ 13) (programmed (lands_by outcome) (card_of self.old)) }
+    {
+        self.store.settle(self.part, outcome);
+        self.state = State::Tran;
+        self.is_busy = false;
+        self.polled = 0;
+        self.raise_bits(bits);
+    }
+
+    /// Programming of an earlier block fails, with these error bits, and the write goes on behind what has come so far.
+    #[tactic(auto, using(crate::proofs::ChipLemmas::execution_is_error))]
+    pub fn fall_short(&mut self, outcome: Outcome, bits: u32)
+        requires bits { are_of_execution bits ≡ true }
+        requires inside { next_written (card_of self.old) ≤ length (stored (card_of self.old) self.old.part) }
+        ensures { card_of self.new ≡ raised (bits / 2 ^ 13) (fallen_short (lands_by outcome) (card_of self.old)) }
+    {
+        self.store.settle_so_far(self.part, outcome);
+        self.is_busy = false;
+        self.polled = 0;
+        self.raise_bits(bits);
     }
 
     /// The power fails: the card is as after CMD0.

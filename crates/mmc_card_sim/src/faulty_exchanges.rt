@@ -1,6 +1,7 @@
 // The exchanges of the card in memory, each with the fault that is planned for it, if any. A fault falls where it fits
 // its exchange; otherwise the exchange is a faithful step. Each answers beside its result whether the fault fell.
-ghost use Rattle.std.specs.Prelude.{◌≡◌, Some, length};
+ghost use Rattle.std.specs.Prelude.{◌/◌, ◌^◌, ◌≡◌, Some, length, true};
+ghost use Rattle.mmc_card_sim.specs.FaultyExchanges.{are_of_execution};
 ghost use Rattle.mmc_card_sim.specs.declared.fault.Fault.TheVariants.{FlipReply, LoseReply};
 
 use crate::answer::Answer;
@@ -11,8 +12,21 @@ use crate::flip::{can_flip, heard_flipped, is_flip};
 use mmc_card::{DataIn, DataOut, Lines, Reply};
 use mmc_frame::State;
 
+// The error bits that carrying a command out may raise.
+const EXECUTION_ERRORS: u32 = 0xec39_8000;
+
+// Whether these are some of them, one at least.
+fn is_of_execution(bits: u32) -> bool
+    ensures { result ≡ are_of_execution bits }
+{
+    bits | EXECUTION_ERRORS == EXECUTION_ERRORS && bits >= 0x2000
+}
+
 impl Chip {
-    ghost use Rattle.mmc_card_sim.specs.FaultyExchanges.{Commands, Polls, Reads, Spoils, Writes, is_slow_at};
+    ghost use Rattle.mmc_card.specs.CardAnswer.{raised};
+    ghost use Rattle.mmc_card_sim.specs.FaultyExchanges.{Commands, Polls, Reads, Spoils, Writes, can_fail_with, failed};
+    ghost use Rattle.mmc_card_sim.specs.FaultyExchanges.{is_slow_at};
+    ghost use Rattle.mmc_card_sim.specs.Store.{lands_by};
     ghost use Rattle.mmc_card_sim.specs.Chip.{card_of};
 
     // The response to a command, which is lost on the way.
@@ -136,6 +150,27 @@ impl Chip {
         }
     }
 
+    // Whether programming can fail with these error bits.
+    fn can_fail_with(&self, bits: u32) -> bool
+        ensures { result ≡ can_fail_with bits (card_of self.now) }
+    {
+        is_of_execution(bits)
+            && (self.is_in(State::Prg) && !self.is_switching
+                || self.is_in(State::Rcv) && self.is_busy && self.store.is_inside(self.part))
+    }
+
+    // It does, in prg or in rcv.
+    fn fail_at_once(&mut self, outcome: Outcome, bits: u32)
+        requires { can_fail_with bits (card_of self.old) ≡ true }
+        ensures { card_of self.new ≡ raised (bits / 2 ^ 13) (failed (lands_by outcome) (card_of self.old)) }
+    {
+        if self.is_in(State::Prg) {
+            self.fail_with(outcome, bits);
+        } else {
+            self.fall_short(outcome, bits);
+        }
+    }
+
     // Whether the card is slow at this poll.
     fn is_slow_at(&self, fault: Option<Fault>, delays: Delays) -> bool
         ensures { result ≡ is_slow_at fault delays (card_of self.now) }
@@ -151,6 +186,10 @@ impl Chip {
         match fault {
             Some(Fault::Fail(outcome)) if self.is_in(State::Prg) && !self.is_switching => {
                 self.fail(outcome);
+                (false, true)
+            }
+            Some(Fault::FailWith(outcome, bits)) if self.can_fail_with(bits) => {
+                self.fail_at_once(outcome, bits);
                 (false, true)
             }
             Some(Fault::Busy) if self.is_busy && self.polled >= 8 => {

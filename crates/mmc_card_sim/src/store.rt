@@ -1,6 +1,6 @@
 // The sectors of a card in memory, and the write or erase of them that is unfinished.
 ghost use Rattle.std.specs.Prelude.{◌*◌, ◌+◌, ◌++◌, ◌/◌, ◌<◌, ◌^◌, ◌∷◌, ◌≡◌, ◌≤◌, IfOk, IfSome, None, Some, []};
-ghost use Rattle.std.specs.Prelude.{if◌then◌else◌, length, nat_lt, replicate, slice_index_or, slice_set, take, true};
+ghost use Rattle.std.specs.Prelude.{if◌then◌else◌, length, nat_le, nat_lt, replicate, slice_index_or, slice_set, take, true};
 ghost use Rattle.mmc_card.specs.Sectors.{part_number, pieces};
 ghost use Rattle.mmc_card_sim.specs.Sizes.{total};
 ghost use Rattle.mmc_card_sim.specs.declared.store.TheConstants.{MAX_SECTORS};
@@ -235,6 +235,26 @@ impl Store {
             Outcome::Old => self.drop_values(),
             Outcome::New => self.land(part),
         }
+    }
+
+    /// Whether what is unfinished lies inside this partition.
+    pub fn is_inside(&self, part: Part) -> bool
+        ensures { result ≡ nat_le (self.now.start + length (values_of self.now)) (length (part_of self.now part)) }
+    {
+        let size = self.size(part);
+        self.start <= size && self.count <= size - self.start
+    }
+
+    /// What has come so far of a write to this partition has landed or nothing, and the write goes on behind it.
+    pub fn settle_so_far(&mut self, part: Part, outcome: Outcome)
+        requires { self.old.start + length (values_of self.old) ≤ length (part_of self.old part) }
+        ensures sectors { parts_of self.new ≡ landed_by outcome part self.old }
+        ensures start { self.new.start ≡ self.old.start + length (values_of self.old) }
+        ensures values { values_of self.new ≡ [] }
+    {
+        let next = self.start + self.count;
+        self.settle(part, outcome);
+        self.start = next;
     }
 
     /// What is unfinished in this partition is carried out.

@@ -262,6 +262,40 @@ fn fails_what_is_programmed(rt: HostRuntime) -> Result<(), Fail> {
     Ok(())
 }
 
+// Programming of an earlier block fails once the card isn't busy: its bytes are old or new, the write goes on behind it,
+// and CMD12 shows the errors.
+#[test]
+fn fails_within_a_write(rt: HostRuntime) -> Result<(), Fail> {
+    for (outcome, byte) in [(Outcome::Old, 0x00), (Outcome::New, 0x5a)] {
+        let mut card = faulty(rt.alloc(), 2, Fault::FailWith(outcome, 0x0420_0000))?;
+        expect_r1(&rt, &mut card, 25, 512, 0x900);
+        expect_taken(&rt, &mut card, 0x5a, DataOut::Accepted);
+        expect_polls(&rt, &mut card, 0);
+        expect_taken(&rt, &mut card, 0x5b, DataOut::Accepted);
+        expect_polls(&rt, &mut card, 0);
+        expect_r1(&rt, &mut card, 12, 0, 0x0420_0d00);
+        expect_polls(&rt, &mut card, 0);
+        expect_status(&rt, &mut card, 0x900);
+        expect_filled(&rt, &card, Part::User, 0, &[0, byte, 0x5b, 0]);
+        assert_eq!(rt; card.faults(), 1);
+    }
+    Ok(())
+}
+
+// Bits that no programming raises don't fit, and neither does none.
+#[test]
+fn fails_with_errors_of_programming_alone(rt: HostRuntime) -> Result<(), Fail> {
+    for bits in [0, 0x0080_0000, 0x0008_0100, 0x0100_0000] {
+        let mut card = faulty(rt.alloc(), 2, Fault::FailWith(Outcome::Old, bits))?;
+        expect_r1(&rt, &mut card, 24, 512, 0x900);
+        expect_taken(&rt, &mut card, 0x5a, DataOut::Accepted);
+        expect_polls(&rt, &mut card, 0);
+        expect_status(&rt, &mut card, 0x900);
+        assert_eq!(rt; card.faults(), 0);
+    }
+    Ok(())
+}
+
 // A planned yes is one of the yes answers of a busy time. The eighth is no fault, and the ninth is one.
 #[test]
 fn is_busy_longer(rt: HostRuntime) -> Result<(), Fail> {
@@ -331,6 +365,7 @@ fn has_only_faults_that_fit(rt: HostRuntime) -> Result<(), Fail> {
         Fault::RejectAll,
         Fault::LoseStatus(Outcome::New),
         Fault::Fail(Outcome::New),
+        Fault::FailWith(Outcome::New, 0x0020_0000),
         Fault::Busy,
     ] {
         let mut card = faulty(rt.alloc(), 0, fault)?;

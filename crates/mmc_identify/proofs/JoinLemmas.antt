@@ -35,6 +35,18 @@ at_rest Rcv tran = refl
 at_rest Prg tran = cc (tran refl)
 at_rest Dis tran = refl
 
+-- nor does it accept blocks
+accepts_none : (state : State) → (is_selected state ≡ true → state ≡ Tran) → is_in state Rcv ≡ false
+accepts_none Idle tran = refl
+accepts_none Ready tran = refl
+accepts_none Ident tran = refl
+accepts_none Stby tran = refl
+accepts_none Tran tran = refl
+accepts_none Data tran = refl
+accepts_none Rcv tran = cc (tran refl)
+accepts_none Prg tran = refl
+accepts_none Dis tran = refl
+
 rested_is : (old : Card) → is_in old.state Prg ≡ false → rested old ≡ record old { is_busy = false; polled = 0 }
 rested_is old quiet = rw quiet refl
 
@@ -62,7 +74,8 @@ looks_on : (rca : ℕ) (old new : Card)
     → (is_selected new.state ≡ true → may_fail old ≡ false → new ≡ rested old) → Looks rca old → Looks rca new
 looks_on rca old new calm looks up =
     let quiet = at_rest old.state (λ was. (looks was).state) in
-    let e : new ≡ record old { is_busy = false; polled = 0 } = calm up (rw quiet refl) ∙ rested_is old quiet in
+    let none = accepts_none old.state (λ was. (looks was).state) in
+    let e : new ≡ record old { is_busy = false; polled = 0 } = calm up (rw (none, quiet) refl) ∙ rested_is old quiet in
     selected_still rca old new e (looks (ap (λ (c : Card). is_selected c.state) (sym e) ∙ up))
 
 polled_out : (rca : ℕ) (old new : Card) → new ≡ rested old → IsPolled 0 true rca old → IsPolled 0 false rca new

@@ -4,6 +4,7 @@ use Rattle.std.proofs.Common.{◌+◌, ◌<◌, ◌∙◌, ◌∷◌, ◌≡◌,
 use Rattle.std.specs.Prelude.{Err, IsSome, None, Ok, Option, Result, Some, if◌then◌else◌, min}
 use Rattle.mmc_frame.specs.declared.card_state.State.{State}
 use Rattle.mmc_frame.specs.declared.card_state.State.TheVariants.{Prg}
+use Rattle.mmc_card.proofs.Conditions.{by_cond}
 use Rattle.mmc_card.specs.Blocks.{programmed, rested, waited}
 use Rattle.mmc_card.specs.BusView.{BusView}
 use Rattle.mmc_card.specs.Card.{Card, FitsPart, holds, is_in, is_selected, known, unfinished}
@@ -18,7 +19,7 @@ use Rattle.mmc_bus.specs.Learned.{PollFacts}
 use Rattle.mmc_bus.specs.declared.cause.Cause.{Cause}
 use Rattle.mmc_bus.specs.declared.wait.TheConstants.{MAX_POLLS}
 use Rattle.mmc_bus.proofs.WorkLemmas.{done_by}
-use Rattle.mmc_switch.proofs.TurnLemmas.{no_more, turn_fails, turn_goes_on, turn_goes_there}
+use Rattle.mmc_switch.proofs.TurnLemmas.{no_more, turn_fails, turn_goes_on}
 use Rattle.mmc_switch.proofs.UnderWayLemmas.{knows_then, no_error, part_in, quiet_by, ready_again, set_in}
 use Rattle.mmc_switch.proofs.UnderWayLemmas.{stands_then}
 use Rattle.mmc_switch.specs.Ending.{Confirms, EndingDid, IsEnding, Polls, ShownIn}
@@ -66,6 +67,13 @@ pub rested_in : (state : State) (card : Card) → card.state ≡ state
     ≡ (if is_in state Prg then programmed (λ i. true) card else record card { is_busy = false; polled = 0 })
 rested_in state card is =
     ap (λ now. if is_in now Prg then programmed (λ i. true) card else record card { is_busy = false; polled = 0 }) is
+
+-- it held no error before, if it holds none now
+pub none_before : (old new : Card) → new ≡ rested old → new.errors ≡ 0 → old.errors ≡ 0
+none_before old new is none =
+    let same : (rested old).errors ≡ old.errors =
+    by_cond (λ (c : Card). c.errors ≡ old.errors) (is_in old.state Prg) (λ _. refl) (λ _. refl) in
+    sym same ∙ sym (ap (λ (c : Card). c.errors) is) ∙ none
 
 -- it has programmed
 pub idle_programmed : (start : ℕ) (values : List Sector) (card : Card) → IsProgramming start values card
@@ -152,9 +160,11 @@ module _ (session : Session) (change : Change) (Exact : Ending → Card → Type
     -- yes
     wait_more : Polls true a b → EndingTurned session change Exact faults a (Ok (Some (Wait (polls + 1)))) b
     wait_more work =
-        turn_goes_there session change ShownIn Exact (Exact Confirm) (Wait polls) faults a b at work (Wait (polls + 1)) tt
-        (λ waits. let yes = work.own.yes refl in
-        subst (Exact (Wait (polls + 1))) (sym yes.1) (ends.yes polls a.card waits yes.0))
+        let yes = work.own.yes refl in
+        let comes : Exact (Wait polls) a.card → Exact (Wait (polls + 1)) b.card =
+        λ waits. subst (Exact (Wait (polls + 1))) (sym yes.1) (ends.yes polls a.card waits yes.0) in
+        turn_goes_on session change ShownIn Exact (Exact Confirm) (Wait polls) faults a b at work (Wait (polls + 1))
+        (λ none. sym (ap (λ (c : Card). c.errors) yes.1) ∙ none) (λ waits none. comes waits) (λ waits quiet. comes waits)
 
     is_over : ProgramLaw → Exact (Wait polls) a.card → b.card ≡ rested a.card → Exact Confirm b.card
     is_over programs waits is =
@@ -164,7 +174,8 @@ module _ (session : Session) (change : Change) (Exact : Ending → Card → Type
     -- no
     wait_ends : ProgramLaw → Polls false a b → EndingTurned session change Exact faults a (Ok (Some Confirm)) b
     wait_ends programs work =
-        turn_goes_on session change ShownIn Exact (Exact Confirm) (Wait polls) faults a b at work Confirm (λ sound. tt)
+        turn_goes_on session change ShownIn Exact (Exact Confirm) (Wait polls) faults a b at work Confirm
+        (λ sound. none_before a.card b.card (work.own.shown refl sound.0 sound.1) sound.1)
         (λ waits sound. is_over programs waits (work.own.shown refl sound.0 sound.1))
         (λ waits same. is_over programs waits (work.own.fine same refl))
 

@@ -50,8 +50,9 @@ EndingDid session _ old _ new = ⊥
 abbrev pub IsSound : Card → Type 0
 IsSound card = (is_selected card.state ≡ true) × (card.errors ≡ 0)
 
+-- That it holds no error is asked of it from the first poll on, since the blocks that it accepted may have failed before.
 abbrev pub ShownIn : Ending → Card → Type 0
-ShownIn (Wait polls) card = Unit {0}
+ShownIn (Wait polls) card = card.errors ≡ 0
 ShownIn Confirm card = IsSound card
 
 -- A card that ends a change: it programs it, and then rests with it carried out.

@@ -42,7 +42,7 @@ pub fn opened<B: Bus>(bus: &mut B) -> Option<Session> {
 }
 
 /// Each fault that can be planned, with two flipped bits where bits are flipped.
-pub fn every_fault() -> [Fault; 16] {
+pub fn every_fault() -> [Fault; 18] {
     let flips = Flips {
         first: 7,
         second: Some(40),
@@ -61,6 +61,8 @@ pub fn every_fault() -> [Fault; 16] {
         Fault::LoseStatus(Outcome::New),
         Fault::Fail(Outcome::Old),
         Fault::Fail(Outcome::New),
+        Fault::FailWith(Outcome::Old, 0x8000_0000),
+        Fault::FailWith(Outcome::New, 0x0020_0000),
         Fault::Busy,
         Fault::Brownout(Outcome::Old),
         Fault::Brownout(Outcome::New),

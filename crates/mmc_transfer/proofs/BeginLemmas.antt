@@ -1,9 +1,10 @@
 -- The command that begins a run.
-use Rattle.std.proofs.Common.{◌&&◌, ◌||◌, ◌-◌, ◌<◌, ◌∙◌, ◌≡◌, ◌≤◌, Bool, List, ap, arith, false, inl}
+use Rattle.std.proofs.Common.{◌&&◌, ◌+◌, ◌||◌, ◌-◌, ◌<◌, ◌∙◌, ◌≡◌, ◌≤◌, Bool, List, ap, arith, false, inl}
 use Rattle.std.proofs.Common.{length, refl, subst, sym, true, ℕ}
 use Rattle.std.specs.Prelude.{◌==◌, IsErr, None, Ok, Option, Result, Some, if◌then◌else◌, nat_le}
 use Rattle.std.proofs.lemmas.Bool.Decides.{nat_tests}
 use Rattle.mmc_frame.specs.declared.kind.Kind.{Kind}
+use Rattle.mmc_card.specs.Blocks.{next_written}
 use Rattle.mmc_card.specs.BusView.{BusView}
 use Rattle.mmc_card.specs.Card.{NoAddress, is_selected, stored}
 use Rattle.mmc_card.specs.Laws.{Setting}
@@ -18,7 +19,7 @@ use Rattle.mmc_transfer.proofs.StepLemmas.{from_both, fails, goes_there}
 use Rattle.mmc_transfer.specs.Address.{is_counted_by}
 use Rattle.mmc_switch.specs.Address.{address_of}
 use Rattle.mmc_transfer.specs.Commands.{CanStart, is_write, starts}
-use Rattle.mmc_transfer.specs.Running.{Exact, IsIn, IsSending, IsTaking, Turned, by_way, preset_of}
+use Rattle.mmc_transfer.specs.Running.{Exact, GoesOnAt, IsIn, IsSending, IsTaking, Turned, by_way, preset_of}
 use Rattle.mmc_switch.specs.UnderWay.{IsIdle}
 use Rattle.mmc_transfer.specs.declared.job.Job.{Job}
 use Rattle.mmc_transfer.specs.declared.phase.Phase.{Phase}
@@ -66,7 +67,7 @@ module _ (job : Job) (blocks : List Sector) (faults : ℕ) (kind : Kind) (addres
     (addressed : address ≡ address_of job.session.info.addressing job.start)
     (at : IsIn job blocks (Other Command) faults a) where
   sector_is : sector_at a.card.made address ≡ job.start
-  sector_is = rw addressed (sector_named job.session a.card.made at.knows job.start)
+  sector_is = rw addressed (sector_named job.session a.card.made at.under_way.knows job.start)
 
   -- the exact card can start
   can_start : Exact job blocks (Other Command) a.card → CanStart kind job.way a.card address
@@ -75,19 +76,19 @@ module _ (job : Job) (blocks : List Sector) (faults : ℕ) (kind : Kind) (addres
       let selected : is_selected a.card.state ≡ true = ap is_selected idle.quiet.state in
       let some = job.some in
       let fits = job.inside in
-      let part = part_in job.session a job.selected at.stands selected in
-      let room = room_is job.session a.card at.is_card.sizes at.knows (omega (arith, some, fits)) in
+      let part = part_in job.session a job.selected at.under_way.stands selected in
+      let room = room_is job.session a.card at.under_way.is_card.sizes at.under_way.knows (omega (arith, some, fits)) in
       let size : length (stored a.card a.card.part) ≡ room_of job.session =
       ap (λ p. length (stored a.card p)) part ∙ room in
       let at_start = sector_is in
       let inside : nat_le (length (stored a.card a.card.part)) (sector_at a.card.made address) ≡ false =
       below_end _ _ (omega (arith, some, fits, size, at_start)) in
       let whole : is_misaligned a.card.made address ≡ false =
-      rw addressed (address_aligned job.session a.card.made at.knows job.start) in
+      rw addressed (address_aligned job.session a.card.made at.under_way.knows job.start) in
       let block : a.card.block_length ≡ 512 =
-      ap (λ (s : Setting). s.block_length) (set_in job.session a job.selected at.stands selected) in
+      ap (λ (s : Setting). s.block_length) (set_in job.session a job.selected at.under_way.stands selected) in
       let unprotected : (is_write job.way && is_read_only a.card.made) ≡ false =
-      unprotected_by job.way (is_read_only a.card.made) (λ writes. sym at.knows.info.read_only ∙ job.writable writes) in
+      unprotected_by job.way (is_read_only a.card.made) (λ writes. sym at.under_way.knows.info.read_only ∙ job.writable writes) in
       record {
         obeys = record {
           tran = idle.quiet.state;
@@ -127,9 +128,17 @@ module _ (job : Job) (blocks : List Sector) (faults : ℕ) (kind : Kind) (addres
     idle.rests,
   )
 
+  -- and its next block is the first one
+  begun_there : (way : Way) → b.card ≡ starts way (job.count == 1) a.card address
+      → by_way way (Unit {0}) (GoesOnAt (job.start + 0) b.card)
+  begun_there Read is = tt
+  begun_there Write is = λ rcv. let at_start = sector_is in ap next_written is ∙ omega (arith, at_start)
+
   pub begin_goes_on : Starts kind job.way (job.count == 1) address true a b
       → Turned job blocks faults a (Ok (Some (Block 0))) b
   begin_goes_on work =
       goes_there job blocks (Other Command) faults a b at work (Block 0) tt
       (λ exact. let idle : IsIdle (preset_of job) a.card = from_both job.way exact in
       subst (Exact job blocks (Block 0)) (sym (work.own refl idle.quiet.erase)) (is_begun job.way idle))
+      (let idle : IsIdle (preset_of job) a.card = from_both job.way (at.under_way.shown tt) in
+      begun_there job.way (work.own refl idle.quiet.erase))

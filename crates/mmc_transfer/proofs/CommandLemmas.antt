@@ -96,6 +96,16 @@ EndLaw =
     (kind : Kind) (app : Bool) (card : Card) → IsCard card → HasNoError kind (record card { errors = 0 })
     → card.errors ≡ out_of_range → error_bits kind (status app card) ≡ 2 ^ 31
 
+-- where OUT_OF_RANGE is an error too, no error is held behind a status that is judged good
+pub shows_nothing : (kind : Kind) (at_end : Bool) (card : Card) (told : ℕ) → ErrorsLaw → IsCard card
+    → told ≡ status false card → at_end ≡ false
+    → (error_bits kind told ≡ 0) ⊎ ((at_end ≡ true) × (error_bits kind told ≡ 2 ^ 31)) → card.errors ≡ 0
+shows_nothing kind at_end card told errors k is never judged =
+    elim judged [
+      | inl none ↦ ((errors kind false card k).0 (sym (ap (error_bits kind) is) ∙ none)).errors
+      | inr last ↦ cc (never, last.0)
+    ]
+
 -- a card that can be stopped shows no error, or at the end of a partition OUT_OF_RANGE alone
 pub shows_it_stops : (kind : Kind) (at_end : Bool) (card : Card) → ErrorsLaw → EndLaw → IsCard card
     → CanStop kind at_end card

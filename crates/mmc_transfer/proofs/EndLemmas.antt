@@ -14,9 +14,9 @@ use Rattle.mmc_card.specs.Sectors.{Sector}
 use Rattle.mmc_bus.specs.Work.{Narrows, Worked}
 use Rattle.mmc_bus.specs.declared.cause.Cause.{Cause}
 use Rattle.mmc_switch.specs.UnderWay.{room_of}
-use Rattle.mmc_transfer.proofs.StepLemmas.{all_written, each_way, either_way, fails, goes_there}
+use Rattle.mmc_transfer.proofs.StepLemmas.{all_written, each_way, either_way, fails, for_both, goes_there}
 use Rattle.mmc_transfer.specs.Commands.{CanStop, IsMoving, may_run_out}
-use Rattle.mmc_transfer.specs.Running.{AreStored, Exact, IsIn, IsSending, IsTaking, Turned, change_of}
+use Rattle.mmc_transfer.specs.Running.{AreStored, Exact, IsIn, IsSending, IsTaking, IsThere, Turned, change_of}
 use Rattle.mmc_switch.specs.Ending.{IsEnding}
 use Rattle.mmc_switch.specs.UnderWay.{IsIdle}
 use Rattle.mmc_switch.specs.declared.ending.Ending.TheVariants.{Wait}
@@ -29,7 +29,8 @@ use Rattle.mmc_transfer.specs.declared.phase.Step.TheVariants.{End, Stop}
 -- what the command that ends a transfer does
 abbrev pub Stops : Kind → Bool → Bool → BusView → BusView → Type 0
 Stops kind at_end ok =
-    Worked Narrows (λ old new. ok ≡ true → IsMoving old.card × (new.card ≡ stopped old.card))
+    Worked Narrows
+    (λ old new. ok ≡ true → IsMoving old.card × (new.card ≡ stopped old.card) × (at_end ≡ false → old.card.errors ≡ 0))
     (λ old new. CanStop kind at_end old.card → ok ≡ true)
 
 moving_is_selected : (card : Card) → IsMoving card → is_selected card.state ≡ true
@@ -111,10 +112,19 @@ module _ (job : Job) (blocks : List Sector) (all : length blocks ≡ job.count) 
       fails job blocks (Other Stop) faults a b at work result err
       (λ exact same. cc (work.fine same (can_stop exact)))
 
+  -- a card that ended a transfer was selected, and behind a write it held no error
+  is_there : IsMoving a.card → (at_end ≡ false → a.card.errors ≡ 0) → IsThere job.way a.card
+  is_there moving none =
+      each_way job.way (λ reads unit. moving_is_selected a.card moving)
+      (λ writes unit. (
+        moving_is_selected a.card moving,
+        none (ends ∙ ap (λ way. may_run_out way (job.start + job.count == room_of job.session)) writes),
+      )) (for_both {X = Unit {0}} job.way tt)
+
   pub end_goes_on : Stops kind at_end true a b → Turned job blocks faults a (Ok (Some (Other (End (Wait 0))))) b
   end_goes_on work =
       let own = work.own refl in
-      goes_there job blocks (Other Stop) faults a b at work (Other (End (Wait 0))) (moving_is_selected a.card own.0)
+      goes_there job blocks (Other Stop) faults a b at work (Other (End (Wait 0))) (is_there own.0 own.2)
       (λ exact. subst (Exact job blocks (Other (End (Wait 0)))) (sym own.1)
       (each_way job.way (λ reads sending. stopped_reading job blocks a.card sending)
-      (λ writes taking. stopped_writing job blocks a.card all writes taking.0) exact))
+      (λ writes taking. stopped_writing job blocks a.card all writes taking.0) exact)) tt

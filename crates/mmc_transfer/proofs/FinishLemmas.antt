@@ -65,7 +65,7 @@ module _ (job : Job) (blocks : List Sector) (all : length blocks ≡ job.count) 
       result b
   ended result did =
       ending_turned job.session (change_of job blocks) (λ next card. Exact job blocks (Other (End next)) card)
-      (can_end job blocks) job.selected faults a b programs ending at result did
+      (can_end job blocks) job.selected faults a b programs ending at.under_way result did
 
   -- what was read is what the sectors hold
   are_read : IsReady job.session b → AreStored job.count job blocks b.card
@@ -87,13 +87,17 @@ module _ (job : Job) (blocks : List Sector) (all : length blocks ≡ job.count) 
   pub finish_fails : (cause : Cause) (result : Result (Option Phase) Cause) → IsErr result
       → EndingDid job.session ending a (Err cause) b → Turned job blocks faults a result b
   finish_fails cause (Ok next) not did = cc
-  finish_fails cause (Err other) not did = ended (Err other) (for_any_cause job.session ending a b cause other did)
+  finish_fails cause (Err other) not did =
+      let t = ended (Err other) (for_any_cause job.session ending a b cause other did) in
+      record { stays = t.stays; within = t.within; left = t.left }
 
   pub finish_goes_on : (next : Option Ending) (step : Option Step) (phase : Option Phase)
       → MatchOption next (step ≡ None) (λ ending. IsSomeAnd step (λ known. known ≡ End ending))
       → MatchOption step (phase ≡ None) (λ step. IsSomeAnd phase (λ known. known ≡ Other step))
       → EndingDid job.session ending a (Ok next) b → Turned job blocks faults a (Ok phase) b
-  finish_goes_on (Some next) (Some known) (Some phase) is then did = rw (then, is) (ended (Ok (Some next)) did)
+  finish_goes_on (Some next) (Some known) (Some phase) is then did =
+      let t = ended (Ok (Some next)) did in
+      rw (then, is) record { stays = t.stays; within = t.within; left = record { under_way = t.left; placed = tt } }
   finish_goes_on (Some next) (Some known) None is then did = absurd then
   finish_goes_on (Some next) None phase is then did = absurd is
   finish_goes_on None (Some known) phase is then did = cc

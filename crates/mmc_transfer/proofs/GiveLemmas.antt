@@ -9,16 +9,18 @@ use Rattle.mmc_frame.specs.declared.card_state.State.TheVariants.{Prg, Rcv}
 use Rattle.mmc_card.proofs.Narrow.{accepts_in_rcv}
 use Rattle.mmc_card.proofs.SectorLemmas.{cond_in_new, old_maybe, touched_by}
 use Rattle.mmc_card.proofs.Standing.{up_in}
-use Rattle.mmc_card.specs.Blocks.{accepted, awaits, can_accept, is_last, one_less}
+use Rattle.mmc_card.proofs.Landing.{snoc_length}
+use Rattle.mmc_card.specs.Blocks.{accepted, awaits, can_accept, is_last, next_written, one_less}
 use Rattle.mmc_card.specs.BusView.{BusView}
-use Rattle.mmc_card.specs.Card.{Card, holds, is_selected, stored}
+use Rattle.mmc_card.specs.Card.{Card, holds, is_in, is_selected, stored}
 use Rattle.mmc_card.specs.Sectors.{Sector, Within, maybe_changed, part_number, touches, value_of}
 use Rattle.mmc_bus.specs.declared.cause.Cause.{Cause}
 use Rattle.mmc_bus.specs.Work.{NarrowsBut, Worked}
-use Rattle.mmc_switch.proofs.UnderWayLemmas.{goes_there, has_failed, lines_in, part_in, quiet_by, room_is}
+use Rattle.mmc_switch.proofs.UnderWayLemmas.{goes_on, has_failed, lines_in, part_in, quiet_by, room_is}
 use Rattle.mmc_switch.specs.UnderWay.{IsQuiet, part_of, room_of}
 use Rattle.mmc_switch.specs.declared.ending.Ending.TheVariants.{Wait}
-use Rattle.mmc_transfer.proofs.StepLemmas.{all_written}
+use Rattle.mmc_switch.specs.Ending.{IsSound}
+use Rattle.mmc_transfer.proofs.StepLemmas.{all_written, of_write}
 use Rattle.mmc_transfer.specs.declared.job.Job.{Job}
 use Rattle.mmc_transfer.specs.declared.phase.Phase.{Phase}
 use Rattle.mmc_transfer.specs.declared.phase.Phase.TheVariants.{Block, Other}
@@ -27,7 +29,8 @@ use Rattle.mmc_transfer.specs.declared.phase.Step.TheVariants.{End, Pause}
 use Rattle.mmc_transfer.specs.declared.way.Way.{Way}
 use Rattle.mmc_transfer.specs.declared.way.Way.TheVariants.{Read, Write}
 use Rattle.mmc_transfer.specs.Moves.{after_written}
-use Rattle.mmc_transfer.specs.Running.{Exact, IsIn, IsTaking, ReadExact, Shown, Turned, WriteExact, by_way}
+use Rattle.mmc_transfer.specs.Running.{Exact, GoesOnAt, IsIn, IsPlaced, IsTaking, ReadExact, Shown, Turned, WriteExact}
+use Rattle.mmc_transfer.specs.Running.{by_way}
 use Rattle.mmc_transfer.specs.Running.{change_of, is_counted, left_of, written}
 
 -- what offering the block does
@@ -36,11 +39,6 @@ Offered block r =
     Worked (NarrowsBut block)
     (λ old new. IsOk r → (can_accept old.lines old.card ≡ true) × (new.card ≡ accepted block old.card))
     (λ old new. can_accept old.lines old.card ≡ true → IsOk r)
-
--- What holds of a write.
-of_write : (way : Way) (P Q : Type 0) → way ≡ Write → by_way way P Q → Q
-of_write Read P Q is h = cc
-of_write Write P Q is h = h
 
 to_write : (way : Way) (P Q : Type 0) → way ≡ Write → Q → by_way way P Q
 to_write Read P Q is h = cc
@@ -75,6 +73,13 @@ awaits_by false count done more = refl
 
 all_then : (b : Bool) (count done : ℕ) → ((done + 1 == count) && b) ≡ true → count ≡ done + 1
 all_then b count done h = grind (arith, nat_tests)
+
+-- behind a block that was written a card shows itself by holding no error
+none_shown : (way : Way) (last : Bool) (done : ℕ) (card : Card) → way ≡ Write
+    → Shown way (Other (if last then End (Wait 0) else Pause done 0)) card → card.errors ≡ 0
+none_shown Read last done card is h = cc
+none_shown Write true done card is h = h
+none_shown Write false done card is h = h
 
 module _ (job : Job) (blocks : List Sector) (done faults : ℕ) (block : Sector) (way : job.way ≡ Write)
     (more : done < job.count) (full : length blocks ≡ job.count) (is : block ≡ slice_index_or blocks done []) where
@@ -129,17 +134,21 @@ module _ (job : Job) (blocks : List Sector) (done faults : ℕ) (block : Sector)
         let rests = x.1 in
         let inside = job.inside in
         let selected : is_selected a.card.state ≡ true = ap is_selected state in
-        let fit = lines_in job.session a job.selected at.stands selected in
-        let part = part_in job.session a job.selected at.stands selected in
+        let fit = lines_in job.session a job.selected at.under_way.stands selected in
+        let part = part_in job.session a job.selected at.under_way.stands selected in
         let size : length (stored a.card a.card.part) ≡ room_of job.session =
         ap (λ p. length (stored a.card p)) part
-        ∙ room_is job.session a.card at.is_card.sizes at.knows (omega (arith, inside, more)) in
+        ∙ room_is job.session a.card at.under_way.is_card.sizes at.under_way.knows (omega (arith, inside, more)) in
         let long = taken_length a.card x.0 in
         let start = x.0.start in
         let room : nat_lt (a.card.start + length a.card.values) (length (stored a.card a.card.part)) ≡ true =
         below _ _ (omega (arith, long, start, size, inside, more)) in
         let awaited = ap awaits x.0.left ∙ awaits_by (is_counted job) job.count done more in
         rw (state, rests, fit, awaited, room) refl
+
+    -- the next block is for the next sector of the run
+    next_place : GoesOnAt (job.start + done) a.card
+    next_place = of_write job.way (Unit {0}) (GoesOnAt (job.start + done) a.card) way at.placed
 
     -- no sector may hold more, but the block's own may hold it
     within : NarrowsBut block a b → Within (holds b.card) (maybe_changed (change_of job blocks) (holds a.card))
@@ -149,14 +158,10 @@ module _ (job : Job) (blocks : List Sector) (done faults : ℕ) (block : Sector)
           | inl old ↦ old_maybe change (holds a.card) part s value old
           | inr t ↦
               (let selected = up_in a.card Rcv t.receives refl in
-              let x = (exactly (at.shown selected)).0 in
-              let here = part_in job.session a job.selected at.stands selected in
+              let here = part_in job.session a job.selected at.under_way.stands selected in
               let same : written job.way blocks ≡ blocks = ap (λ w. written w blocks) way in
               let size : length (written job.way blocks) ≡ job.count = ap length same ∙ full in
-              let long = taken_length a.card x in
-              let start = x.start in
-              let next : s ≡ a.card.start + length a.card.values = t.next in
-              let place : s ≡ job.start + done = omega (arith, next, start, long) in
+              let place : s ≡ job.start + done = t.next ∙ next_place t.receives in
               let number : s - job.start ≡ done = omega (arith, place) in
               cond_in_new (touches change part s) (value_of change s) (holds a.card part s) value
               (touched_by (part_number (part_of job.session)) (part_number part) job.start s
@@ -173,26 +178,50 @@ module _ (job : Job) (blocks : List Sector) (done faults : ℕ) (block : Sector)
     give_fails cause (Err why) err offer = record {
       stays = offer.stays;
       within = within offer.sectors;
-      left = has_failed job.session (Shown (Block done)) (Exact job blocks (Block done)) faults a b at offer
+      left = has_failed job.session (Shown job.way (Block done)) (Exact job blocks (Block done)) faults a b at.under_way
+          offer
           (record { session = job.session; cause = why; must_reset = false }) refl
           (λ exact same. cc (offer.fine same (accepts exact)));
     }
 
-    -- It accepts it, so it is selected: the card is where the blocks have come to.
+    -- where the block behind it goes
+    place_then : (last : Bool) → b.card ≡ accepted block a.card → is_in a.card.state Rcv ≡ true
+        → IsPlaced job (Other (if last then End (Wait 0) else Pause (done + 1) 0)) b.card
+    place_then true is rcv = tt
+    place_then false is rcv =
+        to_write job.way (Unit {0}) (GoesOnAt (job.start + (done + 1)) b.card) way
+        (λ later.
+        let place = next_place rcv in
+        let long = snoc_length a.card.values block in
+        ap next_written is ∙ omega (arith, place, long))
+
+    -- It accepts it, so it is selected, and without an error it is where the blocks have come to.
     pub give_ends : (step : Step) → step ≡ after_written job (done + 1) → Offered block (Ok tt) a b
         → Turned job blocks faults a (Ok (Some (Other step))) b
     give_ends step to offer =
         let own = offer.own refl in
-        let selected = up_in a.card Rcv (accepts_in_rcv a.lines a.card own.0) refl in
+        let rcv = accepts_in_rcv a.lines a.card own.0 in
+        let comes : Exact job blocks (Block done) a.card → Exact job blocks (Other step) b.card =
+        λ exact.
+        to_write job.way (ReadExact job blocks (Other step) b.card) (WriteExact job blocks (Other step) b.card)
+        way
+        (subst (λ c. WriteExact job blocks (Other step) c) (sym own.1)
+        (subst (λ s. WriteExact job blocks (Other s) (accepted block a.card)) (sym to)
+        (given_by ((done + 1 == job.count) && is_counted job) a.card refl (exactly exact).0))) in
         record {
           stays = offer.stays;
           within = within offer.sectors;
-          left = goes_there job.session (Shown (Block done)) (Exact job blocks (Block done)) faults a b at offer
-              (Shown (Other step)) (Exact job blocks (Other step)) selected
-              (λ exact.
-              to_write job.way (ReadExact job blocks (Other step) b.card) (WriteExact job blocks (Other step) b.card)
-              way
-              (subst (λ c. WriteExact job blocks (Other step) c) (sym own.1)
-              (subst (λ s. WriteExact job blocks (Other s) (accepted block a.card)) (sym to)
-              (given_by ((done + 1 == job.count) && is_counted job) a.card refl (exactly exact).0))));
+          left = record {
+            under_way = goes_on job.session (Shown job.way (Block done)) (Exact job blocks (Block done)) faults a b
+                at.under_way offer (Shown job.way (Other step)) (Exact job blocks (Other step))
+                (λ shown. to_write job.way (is_selected a.card.state ≡ true) (IsSound a.card) way (
+                  up_in a.card Rcv rcv refl,
+                  sym (ap (λ (c : Card). c.errors) own.1)
+                      ∙ none_shown job.way ((done + 1 == job.count) && is_counted job) (done + 1) b.card way
+                      (subst (λ s. Shown job.way (Other s) b.card) to shown),
+                ))
+                (λ exact shown. comes exact) (λ exact same. comes exact);
+            placed = subst (λ s. IsPlaced job (Other s) b.card) (sym to)
+                (place_then ((done + 1 == job.count) && is_counted job) own.1 rcv);
+          };
         }

@@ -1,5 +1,5 @@
 -- Polls between the blocks of a write.
-use Rattle.std.proofs.Common.{◌+◌, ◌≡◌, List, false, refl, subst, sym, true, ℕ}
+use Rattle.std.proofs.Common.{◌+◌, ◌∙◌, ◌≡◌, Bool, List, ap, false, refl, subst, sym, true, ℕ}
 use Rattle.std.specs.Prelude.{IsErr, Ok, Option, Result, Some}
 use Rattle.mmc_switch.proofs.UnderWayLemmas.{quiet_by}
 use Rattle.mmc_frame.specs.declared.card_state.State.TheVariants.{Rcv}
@@ -10,15 +10,16 @@ use Rattle.mmc_card.specs.Sectors.{Sector}
 use Rattle.mmc_bus.specs.Learned.{PollFacts}
 use Rattle.mmc_bus.specs.declared.cause.Cause.{Cause}
 use Rattle.mmc_bus.specs.declared.wait.TheConstants.{MAX_POLLS}
-use Rattle.mmc_switch.proofs.EndingLemmas.{busy_still, not_so_often, rested_in}
-use Rattle.mmc_switch.specs.Ending.{Polls}
+use Rattle.mmc_switch.proofs.EndingLemmas.{busy_still, none_before, not_so_often, rested_in}
+use Rattle.mmc_switch.specs.Ending.{IsSound, Polls}
 use Rattle.mmc_switch.specs.UnderWay.{IsBusyAfter}
-use Rattle.mmc_transfer.proofs.StepLemmas.{each_way, either_way, fails, goes_on, goes_there}
-use Rattle.mmc_transfer.specs.Running.{IsIn, IsTaking, Turned}
+use Rattle.mmc_transfer.proofs.StepLemmas.{each_way, either_way, fails, goes_on, of_write}
+use Rattle.mmc_transfer.specs.Running.{Exact, GoesOnAt, IsIn, IsTaking, IsThere, Turned, by_way}
 use Rattle.mmc_transfer.specs.declared.job.Job.{Job}
 use Rattle.mmc_transfer.specs.declared.phase.Phase.{Phase}
 use Rattle.mmc_transfer.specs.declared.phase.Phase.TheVariants.{Block, Other}
 use Rattle.mmc_transfer.specs.declared.phase.Step.TheVariants.{Pause, Stop}
+use Rattle.mmc_transfer.specs.declared.way.Way.TheVariants.{Write}
 
 -- a card that says yes stays as it is
 taking_still : (done polls : ℕ) (job : Job) (blocks : List Sector) (card : Card)
@@ -59,14 +60,24 @@ module _ (job : Job) (blocks : List Sector) (faults done polls : ℕ) (a b : Bus
       (λ exact same. either_way job.way (λ reads none. absurd none)
       (λ writes taking. not_so_often polls a b last work.own taking.1 same) exact)
 
+  -- the next block is for the same sector, whatever was said
+  goes_on_there : {said : Bool} → PollFacts a said b → by_way job.way (Unit {0}) (GoesOnAt (job.start + done) b.card)
+  goes_on_there facts =
+      each_way job.way (λ reads unit. tt)
+      (λ writes place rcv. let same = facts.goes_on rcv in same.1 ∙ place same.0) at.placed
+
   pub pauses_still : (more : ℕ) → more ≡ polls + 1 → Polls true a b
       → Turned job blocks faults a (Ok (Some (Other (Pause done more)))) b
   pauses_still more is work =
-      rw is (goes_there job blocks (Other (Pause done polls)) faults a b at work
-      (Other (Pause done (polls + 1))) tt
-      (λ exact. each_way job.way (λ reads none. none)
+      let yes = work.own.yes refl in
+      let comes : Exact job blocks (Other (Pause done polls)) a.card
+      → Exact job blocks (Other (Pause done (polls + 1))) b.card =
+      λ exact. each_way job.way (λ reads none. none)
       (λ writes taking. subst (λ card. IsTaking done job blocks card × IsBusyAfter (polls + 1) card)
-      (sym (work.own.yes refl).1) (taking_still done polls job blocks a.card taking)) exact))
+      (sym yes.1) (taking_still done polls job blocks a.card taking)) exact in
+      rw is (goes_on job blocks (Other (Pause done polls)) faults a b at work (Other (Pause done (polls + 1)))
+      (each_way job.way (λ reads unit. tt) (λ writes none. sym (ap (λ (c : Card). c.errors) yes.1) ∙ none))
+      (λ exact none. comes exact) (λ exact same. comes exact) (goes_on_there work.own))
 
   -- no
   accepts_by : b.card ≡ rested a.card → IsTaking done job blocks a.card
@@ -75,17 +86,26 @@ module _ (job : Job) (blocks : List Sector) (faults done polls : ℕ) (a b : Bus
       subst (λ card. IsTaking done job blocks card × (card.is_busy ≡ false)) (sym is)
       (rested_in_rcv done job blocks a.card taking)
 
-  calm_in_rcv : PollFacts a false b → IsTaking done job blocks a.card → is_selected b.card.state ≡ true
-      → b.card ≡ rested a.card
-  calm_in_rcv facts taking selected = facts.calm refl selected (rw taking.quiet.state refl)
+  -- a card that shows itself sound had no error to show before
+  sound_before : PollFacts a false b → IsThere job.way b.card → by_way job.way (Unit {0}) (a.card.errors ≡ 0)
+  sound_before facts there =
+      each_way job.way (λ reads selected. tt)
+      (λ writes sound. none_before a.card b.card (facts.shown refl sound.0 sound.1) sound.1) there
+
+  still_accepts : PollFacts a false b → job.way ≡ Write → IsThere job.way b.card → IsTaking done job blocks a.card
+      → IsTaking done job blocks b.card × (b.card.is_busy ≡ false)
+  still_accepts facts writes there taking =
+      let sound : IsSound b.card = of_write job.way (is_selected b.card.state ≡ true) (IsSound b.card) writes there in
+      accepts_by (facts.shown refl sound.0 sound.1) taking
 
   pub pause_ends : Polls false a b → Turned job blocks faults a (Ok (Some (Block done))) b
   pause_ends work =
-      goes_on job blocks (Other (Pause done polls)) faults a b at work (Block done) (λ selected. tt)
-      (λ exact selected. each_way job.way (λ reads none. absurd none)
-      (λ writes taking. accepts_by (calm_in_rcv work.own taking.0 selected) taking.0) exact)
+      goes_on job blocks (Other (Pause done polls)) faults a b at work (Block done) (sound_before work.own)
+      (λ exact there. each_way job.way (λ reads none. absurd none)
+      (λ writes taking. still_accepts work.own writes there taking.0) exact)
       (λ exact same. each_way job.way (λ reads none. absurd none)
       (λ writes taking. accepts_by (work.own.fine same refl) taking.0) exact)
+      (goes_on_there work.own)
 
   -- behind the last block
   all_accepted : done ≡ job.count → IsTaking done job blocks b.card × (b.card.is_busy ≡ false)
@@ -95,8 +115,8 @@ module _ (job : Job) (blocks : List Sector) (faults done polls : ℕ) (a b : Bus
 
   pub pause_stops : done ≡ job.count → Polls false a b → Turned job blocks faults a (Ok (Some (Other Stop))) b
   pause_stops last work =
-      goes_on job blocks (Other (Pause done polls)) faults a b at work (Other Stop) (λ selected. tt)
-      (λ exact selected. each_way job.way (λ reads none. absurd none)
-      (λ writes taking. all_accepted last (accepts_by (calm_in_rcv work.own taking.0 selected) taking.0)) exact)
+      goes_on job blocks (Other (Pause done polls)) faults a b at work (Other Stop) (sound_before work.own)
+      (λ exact there. each_way job.way (λ reads none. absurd none)
+      (λ writes taking. all_accepted last (still_accepts work.own writes there taking.0)) exact)
       (λ exact same. each_way job.way (λ reads none. absurd none)
-      (λ writes taking. all_accepted last (accepts_by (work.own.fine same refl) taking.0)) exact)
+      (λ writes taking. all_accepted last (accepts_by (work.own.fine same refl) taking.0)) exact) tt

@@ -52,7 +52,7 @@ module _ (job : Job) (blocks : List Sector) (faults : ℕ) (kind : Kind) (a b : 
           erase = idle.quiet.erase;
           no_error = no_error kind 0 a.card idle.quiet;
         };
-        knows = sym at.knows.info.cmd23 ∙ (knows_by job.session.info.cmd23 job.count fits).0;
+        knows = sym at.under_way.knows.info.cmd23 ∙ (knows_by job.session.info.cmd23 job.count fits).0;
       }
 
   pub preset_fails : (result : Result (Option Phase) Cause) → IsErr result → Presets kind job.count false a b
@@ -74,4 +74,4 @@ module _ (job : Job) (blocks : List Sector) (faults : ℕ) (kind : Kind) (a b : 
   preset_goes_on work =
       goes_there job blocks (Other Preset) faults a b at work (Other Command) tt
       (λ exact. let idle : IsIdle 0 a.card = from_both job.way exact in
-      for_both job.way (subst (IsIdle (preset_of job)) (sym (work.own refl idle.quiet.erase)) (is_preset idle)))
+      for_both job.way (subst (IsIdle (preset_of job)) (sym (work.own refl idle.quiet.erase)) (is_preset idle))) tt

@@ -9,7 +9,7 @@ use Rattle.mmc_bus.specs.Work.{Narrows, Worked}
 use Rattle.mmc_bus.specs.declared.cause.Cause.{Cause}
 use Rattle.mmc_switch.proofs.TurnLemmas.{turn_fails, turn_goes_on}
 use Rattle.mmc_transfer.specs.Fits.{step_fits}
-use Rattle.mmc_transfer.specs.Running.{Exact, HasEffect, IsIn, Shown, Turned, by_way, change_of, written}
+use Rattle.mmc_transfer.specs.Running.{Exact, HasEffect, IsIn, IsPlaced, Shown, Turned, by_way, change_of, written}
 use Rattle.mmc_transfer.specs.declared.job.Job.{Job}
 use Rattle.mmc_transfer.specs.declared.phase.Phase.{Phase}
 use Rattle.mmc_transfer.specs.declared.phase.Phase.TheVariants.{Other}
@@ -37,6 +37,11 @@ pub either_way : {R W X : Type 0} (way : Way) → (way ≡ Read → R → X) →
 either_way Read read write x = read refl x
 either_way Write read write x = write refl x
 
+-- what holds of a write
+pub of_write : (way : Way) (P Q : Type 0) → way ≡ Write → by_way way P Q → Q
+of_write Read P Q is h = cc
+of_write Write P Q is h = h
+
 -- a write changes its sectors to all its blocks
 pub all_written : (job : Job) (blocks : List Sector) → length blocks ≡ job.count → job.way ≡ Write
     → take job.count blocks ≡ (change_of job blocks).values
@@ -51,23 +56,25 @@ module _ {Own Fine : BusView → BusView → Type 0} (job : Job) (blocks : List 
       → Turned job blocks faults a result b
   fails (Ok next) not calm = cc
   fails (Err cause) not calm =
-      turn_fails job.session (change_of job blocks) Shown (Exact job blocks) (HasEffect job blocks) phase faults a b at
-      work cause calm
+      turn_fails job.session (change_of job blocks) (Shown job.way) (Exact job blocks) (HasEffect job blocks) phase faults
+      a b at.under_way work cause calm
 
   -- the run goes on, and by what is shown in the next phase the card was exactly in this one
-  pub goes_on : (next : Phase) → (Shown next b.card → Shown phase a.card)
-      → (Exact job blocks phase a.card → Shown next b.card → Exact job blocks next b.card)
-      → (Exact job blocks phase a.card → NoFault a b → Exact job blocks next b.card)
+  pub goes_on : (next : Phase) → (Shown job.way next b.card → Shown job.way phase a.card)
+      → (Exact job blocks phase a.card → Shown job.way next b.card → Exact job blocks next b.card)
+      → (Exact job blocks phase a.card → NoFault a b → Exact job blocks next b.card) → IsPlaced job next b.card
       → Turned job blocks faults a (Ok (Some next)) b
-  goes_on next shows comes calm =
-      turn_goes_on job.session (change_of job blocks) Shown (Exact job blocks) (HasEffect job blocks) phase faults a b at
-      work next shows comes calm
+  goes_on next shows comes calm placed =
+      let t = turn_goes_on job.session (change_of job blocks) (Shown job.way) (Exact job blocks) (HasEffect job blocks)
+      phase faults a b at.under_way work next shows comes calm in
+      record { stays = t.stays; within = t.within; left = record { under_way = t.left; placed = placed } }
 
   -- the exchange itself has shown it
-  pub goes_there : (next : Phase) → Shown phase a.card
-      → (Exact job blocks phase a.card → Exact job blocks next b.card)
+  pub goes_there : (next : Phase) → Shown job.way phase a.card
+      → (Exact job blocks phase a.card → Exact job blocks next b.card) → IsPlaced job next b.card
       → Turned job blocks faults a (Ok (Some next)) b
-  goes_there next shown comes = goes_on next (λ s. shown) (λ exact s. comes exact) (λ exact same. comes exact)
+  goes_there next shown comes placed =
+      goes_on next (λ s. shown) (λ exact s. comes exact) (λ exact same. comes exact) placed
 
 -- the step by its name
 pub in_step : (job : Job) (blocks : List Sector) (faults : ℕ) (view : BusView) {step other : Step} → step ≡ other

@@ -28,11 +28,13 @@ use Rattle.mmc_transfer.proofs.GiveLemmas.{below, last_is, left_then}
 use Rattle.mmc_transfer.specs.declared.job.Job.{Job}
 use Rattle.mmc_transfer.specs.declared.phase.Phase.{Phase}
 use Rattle.mmc_transfer.specs.declared.phase.Phase.TheVariants.{Block, Other}
-use Rattle.mmc_transfer.specs.declared.phase.Step.TheVariants.{Stop}
+use Rattle.mmc_transfer.specs.declared.phase.Step.TheVariants.{Command, End, Pause, Preset, Stop}
 use Rattle.mmc_transfer.specs.declared.way.Way.{Way}
 use Rattle.mmc_transfer.specs.declared.way.Way.TheVariants.{Read, Write}
 use Rattle.mmc_transfer.specs.Moves.{after_read}
-use Rattle.mmc_transfer.specs.Running.{AreStored, Exact, HasEffect, IsIn, IsSending, ReadExact}
+use Rattle.mmc_switch.specs.Ending.{IsSound}
+use Rattle.mmc_transfer.specs.Running.{AreStored, Exact, GoesOnAt, HasEffect, IsIn, IsPlaced, IsSending, IsThere}
+use Rattle.mmc_transfer.specs.Running.{ReadExact}
 use Rattle.mmc_switch.specs.UnderWay.{IsCarriedOut}
 use Rattle.mmc_transfer.specs.Running.{Shown, Turned, WriteExact, by_way, change_of, is_counted}
 
@@ -202,11 +204,11 @@ module _ (job : Job) (blocks news : List Sector) (done faults : ℕ) (bytes : Se
 
     size_in : length (stored a.card (part_of job.session)) ≡ room_of job.session
     size_in =
-        let inside = job.inside in room_is job.session a.card at.is_card.sizes at.knows (omega (arith, inside, more))
+        let inside = job.inside in room_is job.session a.card at.under_way.is_card.sizes at.under_way.knows (omega (arith, inside, more))
 
     module _ (selected : is_selected a.card.state ≡ true) (x : IsSending done job blocks a.card) where
       here : a.card.part ≡ part_of job.session
-      here = part_in job.session a job.selected at.stands selected
+      here = part_in job.session a job.selected at.under_way.stands selected
 
       inside_part : job.start + done < length (stored a.card (part_of job.session))
       inside_part = let inside = job.inside in let size = size_in in omega (arith, inside, size, more)
@@ -225,12 +227,21 @@ module _ (job : Job) (blocks news : List Sector) (done faults : ℕ) (bytes : Se
       sends : can_send a.lines 512 a.card ≡ true
       sends =
           let state = x.quiet.state in
-          let fit = lines_in job.session a job.selected at.stands selected in
+          let fit = lines_in job.session a job.selected at.under_way.stands selected in
           let block = comes_next in
           let whole = eq-eqb (length (slice_index_or (stored a.card (part_of job.session)) (job.start + done) [])) 512
           (block_size (stored a.card (part_of job.session)) (job.start + done)
-          (at.is_card.blocks (part_of job.session)) inside_part) in
+          (at.under_way.is_card.blocks (part_of job.session)) inside_part) in
           can_by a.card.state _ _ state fit (ap (is_of_length 512) block ∙ whole)
+
+    -- a read has no next sector to write
+    read_anywhere : (phase : Phase) (card : Card) → IsPlaced job phase card
+    read_anywhere (Block n) card = to_read job.way (Unit {0}) (GoesOnAt (job.start + n) card) way tt
+    read_anywhere (Other Preset) card = tt
+    read_anywhere (Other Command) card = tt
+    read_anywhere (Other (Pause n polls)) card = to_read job.way (Unit {0}) (GoesOnAt (job.start + n) card) way tt
+    read_anywhere (Other Stop) card = tt
+    read_anywhere (Other (End ending)) card = tt
 
     -- no sector may hold more
     within : Narrows a b → Within (holds b.card) (maybe_changed (change_of job news) (holds a.card))
@@ -243,7 +254,8 @@ module _ (job : Job) (blocks news : List Sector) (done faults : ℕ) (bytes : Se
     take_fails size cause (Err why) short err work = record {
       stays = work.stays;
       within = within work.sectors;
-      left = has_failed job.session (Shown (Block done)) (Exact job blocks (Block done)) faults a b at work
+      left = has_failed job.session (Shown job.way (Block done)) (Exact job blocks (Block done)) faults a b at.under_way
+          work
           (record { session = job.session; cause = why; must_reset = false }) refl
           (λ exact same.
           let x = exactly exact in
@@ -256,8 +268,11 @@ module _ (job : Job) (blocks news : List Sector) (done faults : ℕ) (bytes : Se
       selected : is_selected a.card.state ≡ true
       selected = up_in a.card Data (sends_data a.lines size a.card (work.own refl).0) refl
 
+      there : IsThere job.way a.card
+      there = to_read job.way (is_selected a.card.state ≡ true) (IsSound a.card) way selected
+
       sending : IsSending done job blocks a.card
-      sending = exactly (at.shown selected)
+      sending = exactly (at.under_way.shown there)
 
       came : bytes ≡ slice_index_or (stored a.card (part_of job.session)) (job.start + done) []
       came = same_some bytes _ (sym (work.own refl).1 ∙ comes_next selected sending)
@@ -275,10 +290,12 @@ module _ (job : Job) (blocks news : List Sector) (done faults : ℕ) (bytes : Se
 
       -- the run goes on in a phase in which the card is so
       on : (phase : Phase) → ReadExact job news phase b.card → IsIn job news phase (faults_then faults a b) b
-      on phase exact =
-          goes_there job.session (Shown (Block done)) (Exact job blocks (Block done)) faults a b at work (Shown phase)
-          (Exact job news phase) selected
-          (λ was. to_read job.way (ReadExact job news phase b.card) (WriteExact job news phase b.card) way exact)
+      on phase exact = record {
+        under_way = goes_there job.session (Shown job.way (Block done)) (Exact job blocks (Block done)) faults a b
+            at.under_way work (Shown job.way phase) (Exact job news phase) there
+            (λ was. to_read job.way (ReadExact job news phase b.card) (WriteExact job news phase b.card) way exact);
+        placed = read_anywhere phase b.card;
+      }
 
       -- or it is done
       all_read : done + 1 ≡ job.count → is_counted job ≡ true → IsReady job.session b × HasEffect job news b.card
@@ -286,9 +303,9 @@ module _ (job : Job) (blocks news : List Sector) (done faults : ℕ) (bytes : Se
           let sent_all = has_sent a.card (work.own refl).2.0 sending size_here came
           (last_as true (at_last (done + 1) job.count (is_counted job) all counted)) counted in
           let is = (work.own refl).2.1 in
-          let knows = knows_then job.session a.card b.card work.stays.carried at.knows in
+          let knows = knows_then job.session a.card b.card work.stays.carried at.under_way.knows in
           let inside = job.inside in (
-            ready_again job.session b work.is_card knows (stands_then job.session a b work.set at.stands)
+            ready_again job.session b work.is_card knows (stands_then job.session a b work.set at.under_way.stands)
                 (subst (IsQuiet Tran 0) (sym is) sent_all.0) (ap (λ (c : Card). c.is_busy) is ∙ sent_all.1),
             to_read job.way (AreRead (holds b.card) (part_of job.session) job.start news) (IsCarriedOut (change_of job news) b.card)
                 way

@@ -52,12 +52,18 @@ begins_with : (job : Job) (blocks : List Sector) (view : BusView) (both : Bool)
     → (nat_lt 1 job.count && job.session.info.cmd23) ≡ both → IsReady job.session view
     → IsIn job blocks (Other (if both then Preset else Command)) 0 view
 begins_with job blocks view true is r =
-    begins job.session (Shown (Other Preset)) (Exact job blocks (Other Preset)) view r
-    (for_both job.way (idle job.session view r))
+    record {
+      under_way = begins job.session (Shown job.way (Other Preset)) (Exact job blocks (Other Preset)) view r
+          (for_both job.way (idle job.session view r));
+      placed = tt;
+    }
 begins_with job blocks view false is r =
     let none : preset_of job ≡ 0 = nothing_preset job.count job.session.info.cmd23 job.some is in
-    begins job.session (Shown (Other Command)) (Exact job blocks (Other Command)) view r
-    (for_both job.way (subst (λ n. IsIdle n view.card) (sym none) (idle job.session view r)))
+    record {
+      under_way = begins job.session (Shown job.way (Other Command)) (Exact job blocks (Other Command)) view r
+          (for_both job.way (subst (λ n. IsIdle n view.card) (sym none) (idle job.session view r)));
+      placed = tt;
+    }
 
 pub begins_run : (job : Job) (blocks : List Sector) (view : BusView) (first : Step)
     → first ≡ first_of job.count job.session.info.cmd23 → IsReady job.session view → IsIn job blocks (Other first) 0 view

@@ -3,11 +3,12 @@ use Rattle.std.specs.Prelude.{◌+◌, ◌-◌, ◌<◌, ◌==◌, ◌≡◌, �
 use Rattle.std.specs.Prelude.{if◌then◌else◌, slice_index_or, take, true, ℕ}
 use Rattle.mmc_frame.specs.declared.card_state.State.TheVariants.{Data, Rcv}
 use Rattle.mmc_card.specs.BusView.{BusView}
-use Rattle.mmc_card.specs.Card.{Card, FromSectors, holds, is_selected, stored}
+use Rattle.mmc_card.specs.Blocks.{next_written}
+use Rattle.mmc_card.specs.Card.{Card, FromSectors, holds, is_in, is_selected, stored}
 use Rattle.mmc_card.specs.ErrorBits.{out_of_range}
 use Rattle.mmc_card.specs.Sectors.{AreRead, Change, Sector}
 use Rattle.mmc_bus.specs.declared.cause.Cause.{Cause}
-use Rattle.mmc_switch.specs.Ending.{IsEnding, ShownIn}
+use Rattle.mmc_switch.specs.Ending.{IsEnding, IsSound, ShownIn}
 use Rattle.mmc_switch.specs.Turns.{LeftIn}
 use Rattle.mmc_switch.specs.UnderWay.{IsBusyAfter, IsCarriedOut, IsIdle, IsQuiet, IsUnderWay, Turn, part_of, room_of}
 use Rattle.mmc_switch.specs.declared.session.Session.{Session}
@@ -92,16 +93,31 @@ WriteExact job blocks (Other (End ending)) card = IsEnding (change_of job blocks
 abbrev pub Exact : Job → List Sector → Phase → Card → Type 0
 Exact job blocks phase card = by_way job.way (ReadExact job blocks phase card) (WriteExact job blocks phase card)
 
--- By this a card shows that it is there, whatever fell: that it is selected still.
-abbrev pub Shown : Phase → Card → Type 0
-Shown (Block done) card = is_selected card.state ≡ true
-Shown (Other Stop) card = is_selected card.state ≡ true
-Shown (Other (End ending)) card = ShownIn ending card
-Shown _ card = Unit {0}
+-- By this a card shows that it is there, whatever fell: it is selected still, and in a write it holds no error, since blocks
+-- that it accepted may turn out not to be programmed.
+abbrev pub IsThere : Way → Card → Type 0
+IsThere way card = by_way way (is_selected card.state ≡ true) (IsSound card)
+
+abbrev pub Shown : Way → Phase → Card → Type 0
+Shown way (Block done) card = IsThere way card
+Shown way (Other (Pause done polls)) card = by_way way (Unit {0}) (card.errors ≡ 0)
+Shown way (Other Stop) card = IsThere way card
+Shown way (Other (End ending)) card = ShownIn ending card
+Shown way _ card = Unit {0}
+
+-- The next block that the card accepts is for this sector, whatever fell.
+abbrev pub GoesOnAt : ℕ → Card → Type 0
+GoesOnAt sector card = is_in card.state Rcv ≡ true → next_written card ≡ sector
+
+abbrev pub IsPlaced : Job → Phase → Card → Type 0
+IsPlaced job (Block done) card = by_way job.way (Unit {0}) (GoesOnAt (job.start + done) card)
+IsPlaced job (Other (Pause done polls)) card = by_way job.way (Unit {0}) (GoesOnAt (job.start + done) card)
+IsPlaced job _ card = Unit {0}
 
 -- the run is in this phase after so many faults in its turns
-abbrev pub IsIn : Job → List Sector → Phase → ℕ → BusView → Type 0
-IsIn job blocks phase faults view = IsUnderWay job.session (Shown phase) (Exact job blocks phase) faults view
+pub record IsIn (job : Job) (blocks : List Sector) (phase : Phase) (faults : ℕ) (view : BusView) : Type 0 where
+  pub under_way : IsUnderWay job.session (Shown job.way phase) (Exact job blocks phase) faults view
+  pub placed : IsPlaced job phase view.card
 
 -- The effect of a run: a write is carried out, and what was read is what the sectors hold.
 abbrev pub HasEffect : Job → List Sector → Card → Type 0

@@ -95,7 +95,8 @@ fn check_stop(kind: Kind, may_run_out: bool, heard: Result<u32, Unheard>) -> Res
 pub fn stop<B: Bus>(bus: &mut B, kind: Kind, may_run_out: bool) -> Result<(), Cause>
     ensures ends { Ends 1 (B.view bus.old) result (B.view bus.new) }
     ensures works { Works Narrows
-        (λ old new. IsOk result → IsMoving old.card × (new.card ≡ stopped old.card))
+        (λ old new. IsOk result → IsMoving old.card × (new.card ≡ stopped old.card)
+        × (may_run_out ≡ false → old.card.errors ≡ 0))
         (λ old new. CanStop kind may_run_out old.card → IsOk result)
         (B.view bus.old) (B.view bus.new) }
 {

@@ -1,6 +1,6 @@
 use Rattle.std.proofs.Common.{refl}
 use Rattle.mmc_bus.proofs.WorkLemmas.{command_worked}
-use Rattle.mmc_transfer.proofs.CommandLemmas.{shows_it_stops}
+use Rattle.mmc_transfer.proofs.CommandLemmas.{shows_it_stops, shows_nothing}
 use Rattle.mmc_transfer.proofs.commands.stop.Goals as goal
 
 pub returns-clause-works : goal.returns-clause-works
@@ -11,7 +11,8 @@ returns-clause-works g c kept =
     command_worked c.ask.ensures.asked refl refl kept
     (λ ok. let judged = c.check_stop.ensures.ok ok in
     let told = law.sound judged.0 judged.1 in
-    (told.0, told.2))
+    (told.0, told.2, λ never. shows_nothing c.args.kind c.args.may_run_out card judged.0
+    c.a_status_tells_of_its_card.ensures.errors k.was_card told.1 never judged.2))
     (λ same can. c.check_stop.ensures.all _ (law.fine same can.moving).0
     (shows_it_stops c.args.kind c.args.may_run_out card c.a_status_tells_of_its_card.ensures.errors
     c.a_status_tells_of_its_card.ensures.at_end k.was_card can))
