@@ -247,7 +247,7 @@ goes_on : (old : BusView) (said : Bool) (new : BusView) → PollStep old said ne
 goes_on old said new step =
     after_poll (GoesOn old.card) old said new (λ h. (h, refl))
     (by_cond (GoesOn old.card) (is_in old.card.state Prg) (λ _ h. cc) (λ _ h. (h, refl))) (λ _ h. (h, refl))
-    (λ lands prg h. cc) (λ lands rcv h. (h, omega arith)) (λ bits card _ k. k) (λ lands card _ h. cc) step
+    (λ lands prg h. cc) (λ lands rcv h. (h, omega arith)) (λ bits card _ k. k) (λ lands keeps card _ h. cc) step
 
 -- what the answer of a poll tells
 record PollWays (old : BusView) (said : Bool) (new : BusView) : Type 0 where

@@ -140,7 +140,7 @@ pub ordered_fallen_short : (lands : ℕ → Bool) (c : Card) → is_in c.state R
 ordered_fallen_short lands c rcv k = record {
   held = k.held;
   busy = λ h. cc (not_in c.state Rcv Prg (in_state c.state Rcv rcv) refl, h);
-  rca = record { first = k.rca.first; published = k.rca.published };
+  rca = k.rca;
   app = k.app;
   inquiries = k.inquiries;
   polled = omega arith;
