@@ -18,7 +18,7 @@ use Rattle.mmc_switch.specs.UnderWay.{known_part, part_of as selected_part, room
 use Rattle.mmc_switch.specs.declared.info.Info.{Info}
 use Rattle.mmc_switch.specs.declared.session.Session.{Session}
 use Rattle.mmc_block.specs.Entries.{AreServable, IsErasable, IsServable}
-use Rattle.mmc_block.specs.Service.{kind_of_how}
+use Rattle.mmc_block.specs.Service.{info_of, kind_of_how}
 
 pub is_servable : (info : Info) (es : List Entry) (e : Entry) → IsOneOf es e → AreServable info es
     → IsServable info e.request e.buffer
@@ -64,7 +64,7 @@ run_exists info g servable run =
 
 -- The session, whose partition is that of the group.
 module _ (session : Session) (g : Group) (selected : session.selected ≡ Some g.extent.part)
-    (servable : AreServable session.info g.members.items) (run : FormExtent g.members.items g.extent) where
+    (servable : AreServable (info_of session) g.members.items) (run : FormExtent g.members.items g.extent) where
   abbrev last : Entry
   last = run.last.0
 
@@ -77,8 +77,8 @@ module _ (session : Session) (g : Group) (selected : session.selected ≡ Some g
   its_room : room_of session ≡ size_of session.info.sizes (part_of last.request)
   its_room = ap (size_of session.info.sizes) its_part
 
-  may : IsServable session.info last.request last.buffer
-  may = is_servable session.info g.members.items last run.last.1 servable
+  may : IsServable (info_of session) last.request last.buffer
+  may = is_servable (info_of session) g.members.items last run.last.1 servable
 
   pub run_inside : g.extent.start + (g.extent.end - g.extent.start) ≤ room_of session
   run_inside =
@@ -93,8 +93,8 @@ module _ (session : Session) (g : Group) (selected : session.selected ≡ Some g
 
   -- one that is alone
   module _ (how : How) (is : g.extent.kind ≡ kind_of_how how) (one : length g.members.items ≡ 1) where
-    suits_alone : IsSuited how session.info last.request
-    suits_alone = suited how session.info last.request (alike.1 ∙ is) may.erasable
+    suits_alone : IsSuited how (info_of session) last.request
+    suits_alone = suited how (info_of session) last.request (alike.1 ∙ is) may.erasable
 
     starts_there : start_of last.request ≡ g.extent.start
     starts_there =
@@ -111,11 +111,11 @@ module _ (session : Session) (g : Group) (selected : session.selected ≡ Some g
     pub run_erasable : is_boot (selected_part session) ≡ false
     run_erasable = ap is_boot its_part ∙ suits_alone.0
 
-    pub run_suits : suits how session.info (room_of session) g.extent.start (g.extent.end - g.extent.start) ≡ true
+    pub run_suits : suits how (info_of session) (room_of session) g.extent.start (g.extent.end - g.extent.start) ≡ true
     run_suits =
-        ap (λ n. suits how session.info n g.extent.start (g.extent.end - g.extent.start)) its_room
-        ∙ ap (λ n. suits how session.info (size_of session.info.sizes (part_of last.request)) n (g.extent.end - g.extent.start))
+        ap (λ n. suits how (info_of session) n g.extent.start (g.extent.end - g.extent.start)) its_room
+        ∙ ap (λ n. suits how (info_of session) (size_of session.info.sizes (part_of last.request)) n (g.extent.end - g.extent.start))
         (sym starts_there)
-        ∙ ap (λ n. suits how session.info (size_of session.info.sizes (part_of last.request)) (start_of last.request) n)
+        ∙ ap (λ n. suits how (info_of session) (size_of session.info.sizes (part_of last.request)) (start_of last.request) n)
         (sym counts_all)
         ∙ suits_alone.1

@@ -1,11 +1,13 @@
 -- Rounds of opening a card.
-use Rattle.std.proofs.Common.{◌+◌, ◌<◌, ◌≡◌, ◌≤◌, [], ap, arith, subst, sym}
-use Rattle.std.specs.Prelude.{Err, IfOk, IsErr, IsOk, Ok, Result}
+use Rattle.std.proofs.Common.{◌+◌, ◌<◌, ◌∙◌, ◌≡◌, ◌≤◌, [], ap, arith, refl, subst, sym}
+use Rattle.std.specs.Prelude.{Err, IfOk, IsErr, IsOk, MatchResult, Ok, Result, is_ok}
 use Rattle.mmc_card.specs.BusView.{BusView}
 use Rattle.mmc_card.specs.Profile.{InProfile}
-use Rattle.mmc_bus.proofs.WorkLemmas.{fell, moved_then, quiet_parts, stays_same}
+use Rattle.mmc_bus.proofs.WorkLemmas.{fell, moved_as, moved_then, quiet_parts, stays_same}
 use Rattle.mmc_bus.specs.Learned.{Stays}
 use Rattle.mmc_bus.specs.Work.{Moved, Narrows}
+use Rattle.mmc_card.specs.Made.{Made}
+use Rattle.mmc_switch.specs.Info.{IsInfo, lasting}
 use Rattle.mmc_switch.specs.Place.{IsReady}
 use Rattle.mmc_switch.specs.declared.session.Session.{Session}
 use Rattle.mmc_switch.specs.declared.info.Info.{Info}
@@ -22,6 +24,42 @@ abbrev pub Opens : Result Session OpenFault → BusView → BusView → Type 0
 Opens r =
     Moved (λ old new. IfOk r (λ session. IsReady session new))
     (λ old new. InProfile old.card.made → IsOk r)
+
+-- What a round gives is given under the device's own faults.
+pub opens_as : {E : Type 0} (Q : E → Type 0) (told : Result Session E) (r : Result Session OpenFault) (a b : BusView)
+    → MatchResult told (λ session. r ≡ Ok session) Q → is_ok r ≡ is_ok told
+    → Moved (λ old new. IfOk told (λ session. IsReady session new)) (λ old new. InProfile old.card.made → IsOk told) a b
+    → Opens r a b
+opens_as Q (Ok session) r a b is same p =
+    moved_as a b p (subst (λ (x : Result Session OpenFault). IfOk x (λ session. IsReady session b)) (sym is) p.own)
+    (λ quiet profile. same ∙ p.fine quiet profile)
+opens_as Q (Err fault) (Ok session) a b is same p = cc same
+opens_as Q (Err fault) (Err other) a b is same p = moved_as a b p tt (λ quiet profile. same ∙ p.fine quiet profile)
+
+-- What is known for good is what the registers say.
+lasting_info : (made : Made) (info : Info) → IsInfo made info → IsInfo made (lasting info)
+lasting_info made info k = record {
+  kind = k.kind;
+  addressing = k.addressing;
+  rca = λ mmc. refl;
+  cid = k.cid;
+  csd = k.csd;
+  sizes = k.sizes;
+  read_only = k.read_only;
+  erase_unit = k.erase_unit;
+  erased_byte = k.erased_byte;
+  trims = k.trims;
+  cmd23 = k.cmd23;
+  width = k.width;
+  timing = k.timing;
+}
+
+pub opens_known : (session : Session) (info now : Info) (a b : BusView) → info ≡ lasting now → now ≡ session.info
+    → Opens (Ok session) a b → IsInfo a.card.made info
+opens_known session info now a b is from p =
+    subst (IsInfo a.card.made) (sym (is ∙ ap lasting from))
+    (lasting_info a.card.made session.info
+    (subst (λ m. IsInfo m session.info) p.stays.carried.made p.own.knows.info))
 
 -- Rounds.
 

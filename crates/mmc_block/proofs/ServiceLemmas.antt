@@ -15,7 +15,7 @@ use Rattle.mmc_block.specs.Groups.{AreInOrder, AreOneKind, PassNone}
 use Rattle.mmc_block.specs.Machine.{IsMerged, Waiting}
 use Rattle.mmc_block.specs.Service.{AfterFailure, AreAll, AreServed, AttemptOk, Concludes, HasStarted, IsFirstTry}
 use Rattle.mmc_block.specs.Service.{IsNext}
-use Rattle.mmc_block.specs.Service.{IsOutcomeOf, ServiceOk, info_of_link, info_of_outcome}
+use Rattle.mmc_block.specs.Service.{IsOutcomeOf, ServiceOk, info_of, info_of_link, info_of_outcome}
 use Rattle.mmc_block.specs.Service.{tries}
 use Rattle.mmc_block.specs.declared.completion.Completion.{Completion}
 use Rattle.mmc_block.specs.declared.service.Attempt.{Attempt}
@@ -159,7 +159,7 @@ next_ok info link (e ∷ es) service waits next is servable sound served few n =
 
 split_ok : (info : Info) (broken : Broken) (members others : List Entry) (service : Service) (cs : List Completion)
     (waits : List Waiting) (next : ℕ)
-    → broken.session.info ≡ info → AreServable info (members ++ others) → AreSound members → AreSound others
+    → info_of broken.session ≡ info → AreServable info (members ++ others) → AreSound members → AreSound others
     → AreAll members others → length members + length others ≤ 16
     → AreServed (waits_of members ++ waits_of others) waits next
     → AfterFailure broken members others service cs → ServiceOk info service waits next

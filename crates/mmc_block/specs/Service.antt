@@ -16,7 +16,9 @@ use Rattle.mmc_queue.specs.declared.extent.TheConstants.{MAX_GROUP}
 use Rattle.mmc_queue.specs.declared.group.Group.{Group}
 use Rattle.mmc_queue.specs.declared.kind.Kind.{Kind}
 use Rattle.mmc_queue.specs.declared.kind.Kind.TheVariants as kind
+use Rattle.mmc_switch.specs.Info.{lasting}
 use Rattle.mmc_switch.specs.Place.{IsLoose, IsReady}
+use Rattle.mmc_switch.specs.Turns.{progress_of}
 use Rattle.mmc_switch.specs.UnderWay.{part_of}
 use Rattle.mmc_switch.specs.declared.broken.Broken.{Broken}
 use Rattle.mmc_switch.specs.declared.info.Info.{Info}
@@ -35,6 +37,7 @@ use Rattle.mmc_block.specs.declared.service.Link.{Link}
 use Rattle.mmc_block.specs.declared.service.Link.TheVariants.{Down, Up}
 use Rattle.mmc_switch.specs.declared.progress.Progress.{Progress}
 use Rattle.mmc_switch.specs.declared.progress.Progress.TheVariants.{Done, Failed, More}
+use Rattle.mmc_switch.specs.declared.progress.Standing.{Standing}
 use Rattle.mmc_block.specs.declared.service.Work.{Work}
 use Rattle.mmc_block.specs.declared.service.Work.TheVariants.{Blocks, Erase}
 use Rattle.mmc_block.specs.declared.service.Phase.{Phase}
@@ -63,9 +66,13 @@ EmptyIfIdle phase.Taken attempt = Unit {0}
 
 -- What is known of the card.
 
+-- for good: an SD card may publish another RCA after each reset
+abbrev pub info_of : Session → Info
+info_of session = lasting session.info
+
 abbrev pub info_of_link : Link → Info
-info_of_link (Up session) = session.info
-info_of_link (Down broken) = broken.session.info
+info_of_link (Up session) = info_of session
+info_of_link (Down broken) = info_of broken.session
 
 abbrev pub session_of : Work → Session
 session_of (Blocks run) = run.job.session
@@ -73,12 +80,65 @@ session_of (Erase run) = run.job.session
 
 abbrev pub info_of_stage : Stage → Info
 info_of_stage (At link) = info_of_link link
-info_of_stage (Running work) = (session_of work).info
+info_of_stage (Running work) = info_of (session_of work)
 
 abbrev pub info_of_outcome : Progress Stage → Info
 info_of_outcome (More stage) = info_of_stage stage
-info_of_outcome (Done session) = session.info
-info_of_outcome (Failed broken) = broken.session.info
+info_of_outcome (Done session) = info_of session
+info_of_outcome (Failed broken) = info_of broken.session
+
+-- with the RCA that it has now
+abbrev pub info_now_by : Link → Info
+info_now_by (Up session) = session.info
+info_now_by (Down broken) = broken.session.info
+
+abbrev pub info_now_at : Stage → Info
+info_now_at (At link) = info_now_by link
+info_now_at (Running work) = (session_of work).info
+
+abbrev pub IsInfoNow : Service → Info → Type 0
+IsInfoNow (Idle link) info = info ≡ info_now_by link
+IsInfoNow (Serving stage attempt) info = info ≡ info_now_at stage
+IsInfoNow Taken info = Unit {0}
+
+-- how a run stands after a turn, which is this then
+abbrev pub work_then : Work → Standing → Progress Stage
+work_then work standing = progress_of (session_of work) (Running work) standing
+
+-- The phase before a step and behind it.
+
+-- it is not in the hands of a call
+abbrev pub IsHere : Phase → Type 0
+IsHere (phase.Idle link) = Unit {0}
+IsHere (phase.Serving stage) = Unit {0}
+IsHere phase.Taken = ⊥
+
+-- an attempt is in service, and this holds of how far it has come
+abbrev pub IfServing : Phase → (Stage → Type 0) → Type 0
+IfServing (phase.Serving stage) Holds = Holds stage
+IfServing (phase.Idle link) Holds = ⊥
+IfServing phase.Taken Holds = ⊥
+
+-- the same where its run is still to begin, and where that is under way
+abbrev pub IfAt : Phase → (Link → Type 0) → Type 0
+IfAt (phase.Serving (At link)) Holds = Holds link
+IfAt (phase.Serving (Running work)) Holds = ⊥
+IfAt (phase.Idle link) Holds = ⊥
+IfAt phase.Taken Holds = ⊥
+
+abbrev pub IfRunning : Phase → (Work → Type 0) → Type 0
+IfRunning (phase.Serving (Running work)) Holds = Holds work
+IfRunning (phase.Serving (At link)) Holds = ⊥
+IfRunning (phase.Idle link) Holds = ⊥
+IfRunning phase.Taken Holds = ⊥
+
+-- what a step has left of an attempt: it goes on, or it is over, and the phase has the card; one in the hands of a call has
+-- left it where it was
+abbrev pub outcome_of : Stage → Phase → Progress Stage
+outcome_of was (phase.Serving stage) = More stage
+outcome_of was (phase.Idle (Up session)) = Done session
+outcome_of was (phase.Idle (Down broken)) = Failed broken
+outcome_of was phase.Taken = More was
 
 -- A run for a group.
 

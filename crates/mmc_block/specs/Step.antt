@@ -6,8 +6,10 @@ use Rattle.mmc_queue.specs.Lent.{AreLent}
 use Rattle.mmc_queue.specs.declared.group.Group.{Group}
 use Rattle.mmc_switch.specs.declared.info.Info.{Info}
 use Rattle.mmc_switch.specs.declared.progress.Progress.{Progress}
-use Rattle.mmc_block.specs.Service.{IsOutcomeOf, info_of_outcome}
-use Rattle.mmc_block.specs.Work.{IsCausedBy, Lowers}
+use Rattle.mmc_switch.specs.UnderWay.{faults_then}
+use Rattle.mmc_block.specs.Entries.{AreServable}
+use Rattle.mmc_block.specs.Service.{Did, IsAt, IsOutcomeOf, change_of_group, info_of_outcome, info_of_stage}
+use Rattle.mmc_block.specs.Work.{IsCausedBy, Lowers, is_down, most_at, stage_left}
 use Rattle.mmc_block.specs.declared.service.Stage.{Stage}
 
 -- A settle, a select or an exchange, for a group of which so many turns were left, on a card of which this is known and
@@ -26,3 +28,11 @@ pub record Advances (info : Info) (down : Bool) (most left : ℕ) (old : Group) 
   pub bounded : now.exchanges ≤ was.exchanges + most
   pub kept : now.is_kept ≡ true → was.is_kept ≡ true
   pub cause : IsCausedBy down outcome now
+
+-- What a step leaves of an attempt that had come so far: the above, by requests that the device can serve; and over a bus that
+-- is kept, what it does to the sectors, after so many faults in the turns of its run.
+pub record Stepped (stage : Stage) (old : Group) (was : BusView) (outcome : Progress Stage) (new : Group) (now : BusView) : Type 0 where
+  pub advances : Advances (info_of_stage stage) (is_down stage) (most_at stage) (stage_left stage old.extent.part) old was outcome new now
+  pub servable : AreServable (info_of_stage stage) new.members.items
+  pub did : now.is_kept ≡ true → (faults : ℕ) → IsAt stage old faults was
+      → Did (change_of_group (info_of_stage stage) old) new (faults_then faults was now) was outcome now

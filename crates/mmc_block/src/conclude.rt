@@ -3,15 +3,16 @@
 ghost use Rattle.std.specs.Prelude.{◌≡◌, ◌+◌, ◌<◌, ◌∷◌, [], length, map, MatchOption};
 ghost use Rattle.mmc_queue.specs.Waiting.{AreSound};
 ghost use Rattle.mmc_block.specs.Entries.{completion_of, done_answer};
-ghost use Rattle.mmc_block.specs.Service.{AfterAttempt, AfterFailure, AreAll, Concludes, EmptyIfIdle, IsNext, service_of, tries};
+ghost use Rattle.mmc_block.specs.Service.{AfterAttempt, AfterFailure, AreAll, Concludes, EmptyIfIdle, IsHere, IsNext, outcome_of, service_of, tries};
 ghost use Rattle.mmc_block.specs.declared.completion.Answer.TheVariants.{Failed};
+ghost use Rattle.mmc_block.specs.declared.service.Stage.{Stage};
 
 use crate::completion::{Answer, Completion};
 use crate::service::{Attempt, Link, Phase, Stage};
 use arrayvec::ArrayVec;
 use mmc_bus::Bytes;
 use mmc_queue::{Entry, MAX_GROUP, Members, Request};
-use mmc_switch::{Broken, Progress};
+use mmc_switch::Broken;
 use std::mem;
 
 /// Answers by ticket.
@@ -139,28 +140,45 @@ fn retry(broken: Broken, attempt: &mut Attempt, answers: &mut Completions) -> Ph
     Phase::Serving(Stage::At(Link::Down(broken)))
 }
 
-/// What follows, which is the phase then, and the answers. It takes no memory.
-pub fn conclude(
-    outcome: Progress<Stage>,
-    phase: &mut Phase,
-    attempt: &mut Attempt,
-    answers: &mut Completions,
-)
+// What follows an attempt that is over.
+#[inline(never)]
+fn over(phase: &mut Phase, attempt: &mut Attempt, answers: &mut Completions)
+    requires here { IsHere phase.old }
     requires some { 0 < length attempt.old.group.members.items }
     requires sound { AreSound attempt.old.group.members.items }
     requires others { AreSound attempt.old.others.items }
     requires all { AreAll attempt.old.group.members.items attempt.old.others.items }
     requires fits { attempt.old.failed < tries attempt.old.group.members.items }
     requires no_answer { answers.old.items ≡ [] }
-    ensures concludes { Concludes outcome attempt.old (service_of phase.new attempt.new) answers.new.items }
+    ensures concludes { (was : Stage) → Concludes (outcome_of was phase.old) attempt.old (service_of phase.new attempt.new) answers.new.items }
     ensures empty { EmptyIfIdle phase.new attempt.new }
 {
-    *phase = match outcome {
-        Progress::More(stage) => Phase::Serving(stage),
-        Progress::Done(session) => {
+    *phase = match mem::replace(phase, Phase::Taken) {
+        Phase::Serving(stage) => Phase::Serving(stage),
+        Phase::Idle(Link::Up(session)) => {
             answer_all(&mut attempt.group.members, answers);
             next(Link::Up(session), attempt)
         }
-        Progress::Failed(broken) => retry(broken, attempt, answers),
+        Phase::Idle(Link::Down(broken)) => retry(broken, attempt, answers),
+        Phase::Taken => unreachable!(),
+    };
+}
+
+/// What follows a step, which is the phase then, and the answers. Where the attempt goes on the phase isn't moved. It takes no
+/// memory.
+pub fn conclude(phase: &mut Phase, attempt: &mut Attempt, answers: &mut Completions)
+    requires here { IsHere phase.old }
+    requires some { 0 < length attempt.old.group.members.items }
+    requires sound { AreSound attempt.old.group.members.items }
+    requires others { AreSound attempt.old.others.items }
+    requires all { AreAll attempt.old.group.members.items attempt.old.others.items }
+    requires fits { attempt.old.failed < tries attempt.old.group.members.items }
+    requires no_answer { answers.old.items ≡ [] }
+    ensures concludes { (was : Stage) → Concludes (outcome_of was phase.old) attempt.old (service_of phase.new attempt.new) answers.new.items }
+    ensures empty { EmptyIfIdle phase.new attempt.new }
+{
+    match phase {
+        Phase::Serving(_) => {}
+        Phase::Idle(_) | Phase::Taken => over(phase, attempt, answers),
     }
 }

@@ -7,11 +7,13 @@
 // 2. A group of several has two attempts. Then each of its requests is served alone, by ticket, before anything else.
 // 3. A request that is served alone has four attempts. Then it fails, with the cause of the last one, and nobody else.
 ghost use Rattle.std.specs.Prelude.{◌≡◌, []};
+ghost use Rattle.mmc_block.specs.Service.{info_now_at, info_now_by};
+ghost use Rattle.mmc_block.specs.Service.{session_of};
 
 use arrayvec::ArrayVec;
 use mmc_erase::EraseRun;
 use mmc_queue::{Group, Members};
-use mmc_switch::{Broken, Session};
+use mmc_switch::{Broken, Info, Session};
 use mmc_transfer::Run;
 use std::alloc::Global;
 
@@ -24,6 +26,18 @@ pub enum Link {
     Down(Broken),
 }
 
+impl Link {
+    /// What is known of the card.
+    pub fn info(&self) -> &Info
+        ensures { result.now ≡ info_now_by self.now }
+    {
+        match self {
+            Link::Up(session) => session.info(),
+            Link::Down(broken) => broken.info(),
+        }
+    }
+}
+
 /// What serves a group.
 #[derive(Debug, Drop)]
 pub enum Work {
@@ -33,6 +47,18 @@ pub enum Work {
     Erase(EraseRun),
 }
 
+impl Work {
+    /// The session that it was begun with, once it is over.
+    pub fn into_session(self) -> Session
+        ensures { result ≡ session_of self }
+    {
+        match self {
+            Work::Blocks(run) => run.into_session(),
+            Work::Erase(run) => run.into_session(),
+        }
+    }
+}
+
 /// How far an attempt has come.
 #[derive(Debug, Drop)]
 pub enum Stage {
@@ -40,6 +66,19 @@ pub enum Stage {
     At(Link),
     /// The run is under way.
     Running(Work),
+}
+
+impl Stage {
+    /// What is known of the card.
+    pub fn info(&self) -> &Info
+        ensures { result.now ≡ info_now_at self.now }
+    {
+        match self {
+            Stage::At(link) => link.info(),
+            Stage::Running(Work::Blocks(run)) => run.info(),
+            Stage::Running(Work::Erase(run)) => run.info(),
+        }
+    }
 }
 
 /// An attempt at requests in service.
@@ -70,7 +109,7 @@ impl Attempt {
 /// What the device is at.
 #[derive(Debug, Drop)]
 pub enum Phase {
-    /// Nothing is in service, and the attempt has no requests.
+    /// Nothing is in service, and the attempt has no requests; behind a step, whose attempt is over, those that it was made for.
     Idle(Link),
     /// The attempt is in service.
     Serving(Stage),

@@ -9,17 +9,18 @@ ghost use Rattle.mmc_recovery.specs.declared.settling.TheConstants.{EXCHANGES_OF
 ghost use Rattle.mmc_switch.specs.Place.{IsLoose, IsReady};
 ghost use Rattle.mmc_switch.specs.UnderWay.{FailsBy, faults_then};
 ghost use Rattle.mmc_switch.specs.declared.mmc.TheConstants.{EXCHANGES_OF_A_SWITCH};
-ghost use Rattle.mmc_transfer.specs.Run.{HasTurned, IsRunning, IsSameRun, Lowers as LowersBlocks};
+ghost use Rattle.mmc_transfer.specs.Run.{HasTurned, IsRunning, IsSameRun, Lowers as LowersBlocks, run_then};
 ghost use Rattle.mmc_block.specs.Entries.{AreServable};
-ghost use Rattle.mmc_block.specs.Service.{Did, IsAt, IsStageOf, IsUnderWay, IsWorkOf, change_of_group, info_of_stage, lent_for, session_of};
-ghost use Rattle.mmc_block.specs.Step.{Advances};
-ghost use Rattle.mmc_block.specs.Work.{is_down, most_at, run_left, stage_left};
+ghost use Rattle.mmc_block.specs.Service.{Did, IfAt, IfRunning, IfServing, IsHere, IsStageOf, IsUnderWay, IsWorkOf, change_of_group, info_of, info_of_link, info_of_stage, lent_for, outcome_of, session_of, work_then};
+ghost use Rattle.mmc_block.specs.Step.{Advances, Stepped};
+ghost use Rattle.mmc_block.specs.Work.{run_left, stage_left};
 ghost use Rattle.mmc_block.specs.declared.service.Link.TheVariants.{Down, Up};
 ghost use Rattle.mmc_block.specs.declared.service.Work.TheVariants.{Blocks};
+ghost use Rattle.mmc_block.specs.declared.service.Stage.{Stage};
 ghost use Rattle.mmc_block.specs.declared.service.Stage.TheVariants.{At};
 ghost use Rattle.mmc_block.specs.declared.work.TheConstants.{TURNS_OF_A_RUN};
 
-use crate::service::{Link, Stage, Work};
+use crate::service::{Link, Phase, Stage, Work};
 use crate::work::TURNS_OF_A_RUN;
 use mmc_bus::Bus;
 use mmc_erase::{EraseRun, How};
@@ -29,13 +30,14 @@ use mmc_queue::laws::{
 };
 use mmc_queue::{Group, Kind};
 use mmc_recovery::settle;
-use mmc_switch::{Broken, Progress, Session, select};
+use mmc_switch::{Broken, Progress, Session, Standing, select};
 use mmc_transfer::{Run, Way};
+use std::mem;
 
 // Begins the run of a group, whose partition is selected.
 fn begin(session: Session, group: &Group) -> Work
     requires joined { IsJoined group.now.members.items group.now.extent }
-    requires servable { AreServable session.info group.now.members.items }
+    requires servable { AreServable (info_of session) group.now.members.items }
     requires selected { session.selected ≡ Some group.now.extent.part }
     ensures of { IsWorkOf group.now result }
     ensures session { session_of result ≡ session }
@@ -54,20 +56,20 @@ fn begin(session: Session, group: &Group) -> Work
 }
 
 // The next exchange of a run that moves blocks.
-fn move_on<B: Bus>(bus: &mut B, run: Run, group: &mut Group) -> Progress<Run>
+fn move_on<B: Bus>(bus: &mut B, run: &mut Run, group: &mut Group) -> Standing
     requires joined { IsJoined group.old.members.items group.old.extent }
-    requires of { IsWorkOf group.old (Blocks run) }
+    requires of { IsWorkOf group.old (Blocks run.old) }
     ensures lent { AreLent group.old.members.items group.new.members.items }
     ensures extent { group.new.extent ≡ group.old.extent }
     ensures joined { IsJoined group.new.members.items group.new.extent }
     ensures writes { group.old.extent.kind ≡ kind.Write → group.new ≡ group.old }
     ensures bounded { (B.view bus.new).exchanges ≤ (B.view bus.old).exchanges + 1 }
     ensures kept { (B.view bus.new).is_kept ≡ true → (B.view bus.old).is_kept ≡ true }
-    ensures same { IsSameRun run result }
-    ensures lowers { LowersBlocks run result }
-    ensures cause { FailsBy result (B.view bus.new) }
-    ensures turned { (B.view bus.new).is_kept ≡ true → (faults : ℕ) → IsRunning run (lent_for run.job.way group.old) faults (B.view bus.old)
-        → HasTurned run (lent_for run.job.way group.new) faults (B.view bus.old) result (B.view bus.new) }
+    ensures same { IsSameRun run.old (run_then run.new result) }
+    ensures lowers { LowersBlocks run.old (run_then run.new result) }
+    ensures cause { FailsBy (run_then run.new result) (B.view bus.new) }
+    ensures turned { (B.view bus.new).is_kept ≡ true → (faults : ℕ) → IsRunning run.old (lent_for run.old.job.way group.old) faults (B.view bus.old)
+        → HasTurned run.old (lent_for run.old.job.way group.new) faults (B.view bus.old) (run_then run.new result) (B.view bus.new) }
 {
     a_group_lends_each_sector_of_its_extent();
     a_lent_group_keeps_its_requests();
@@ -77,30 +79,33 @@ fn move_on<B: Bus>(bus: &mut B, run: Run, group: &mut Group) -> Progress<Run>
     }
 }
 
-// The next exchange of a run.
+// The next exchange of a run, which is advanced where it stands: a turn in the middle of a run moves no session.
 #[tactic(auto, using(crate::proofs::StepLemmas::same_lent))]
-fn exchange<B: Bus>(bus: &mut B, work: Work, group: &mut Group) -> Progress<Stage>
+fn exchange<B: Bus>(bus: &mut B, work: &mut Work, group: &mut Group) -> Standing
     requires joined { IsJoined group.old.members.items group.old.extent }
-    requires of { IsWorkOf group.old work }
-    ensures advances { Advances (session_of work).info false 1 (run_left work) group.old (B.view bus.old) result group.new (B.view bus.new) }
-    ensures did { (B.view bus.new).is_kept ≡ true → (faults : ℕ) → IsUnderWay work group.old faults (B.view bus.old)
-        → Did (change_of_group (session_of work).info group.old) group.new (faults_then faults (B.view bus.old) (B.view bus.new))
-        (B.view bus.old) result (B.view bus.new) }
+    requires of { IsWorkOf group.old work.old }
+    ensures advances { Advances (info_of (session_of work.old)) false 1 (run_left work.old) group.old (B.view bus.old) (work_then work.new result) group.new (B.view bus.new) }
+    ensures did { (B.view bus.new).is_kept ≡ true → (faults : ℕ) → IsUnderWay work.old group.old faults (B.view bus.old)
+        → Did (change_of_group (info_of (session_of work.old)) group.old) group.new (faults_then faults (B.view bus.old) (B.view bus.new))
+        (B.view bus.old) (work_then work.new result) (B.view bus.new) }
 {
     a_group_is_one_extent();
     a_group_lends_each_sector_of_its_extent();
     a_group_lends_the_blocks_of_its_members();
     match work {
-        Work::Blocks(run) => match move_on(bus, run, group) {
-            Progress::More(run) => Progress::More(Stage::Running(Work::Blocks(run))),
-            Progress::Done(session) => Progress::Done(session),
-            Progress::Failed(broken) => Progress::Failed(broken),
-        },
-        Work::Erase(run) => match run.turn(bus) {
-            Progress::More(run) => Progress::More(Stage::Running(Work::Erase(run))),
-            Progress::Done(session) => Progress::Done(session),
-            Progress::Failed(broken) => Progress::Failed(broken),
-        },
+        Work::Blocks(run) => move_on(bus, run, group),
+        Work::Erase(run) => run.turn(bus),
+    }
+}
+
+// What is left of a run.
+fn outcome(work: Work, standing: Standing) -> Progress<Stage>
+    ensures { result ≡ work_then work standing }
+{
+    match standing {
+        Standing::GoesOn => Progress::More(Stage::Running(work)),
+        Standing::Done => Progress::Done(work.into_session()),
+        Standing::Failed(cause) => Progress::Failed(work.into_session().break_off(cause)),
     }
 }
 
@@ -110,16 +115,17 @@ fn exchange<B: Bus>(bus: &mut B, work: Work, group: &mut Group) -> Progress<Stag
 #[tactic(auto, using(crate::proofs::StepLemmas::same_lent))]
 fn set_out<B: Bus>(bus: &mut B, session: Session, group: &mut Group) -> Progress<Stage>
     requires joined { IsJoined group.old.members.items group.old.extent }
-    requires servable { AreServable session.info group.old.members.items }
-    ensures advances { Advances session.info false EXCHANGES_OF_A_SWITCH (stage_left (At (Up session)) group.old.extent.part) group.old (B.view bus.old) result group.new (B.view bus.new) }
+    requires servable { AreServable (info_of session) group.old.members.items }
+    ensures advances { Advances (info_of session) false EXCHANGES_OF_A_SWITCH (stage_left (At (Up session)) group.old.extent.part) group.old (B.view bus.old) result group.new (B.view bus.new) }
     ensures did { (B.view bus.new).is_kept ≡ true → IsReady session (B.view bus.old)
-        → Did (change_of_group session.info group.old) group.new (faults_then 0 (B.view bus.old) (B.view bus.new))
+        → Did (change_of_group (info_of session) group.old) group.new (faults_then 0 (B.view bus.old) (B.view bus.new))
         (B.view bus.old) result (B.view bus.new) }
 {
     a_group_is_one_extent();
     if session.selected() == Some(group.extent.part) {
-        let work = begin(session, group);
-        return exchange(bus, work, group);
+        let mut work = begin(session, group);
+        let standing = exchange(bus, &mut work, group);
+        return outcome(work, standing);
     }
     match select(bus, session, group.extent.part) {
         Ok(session) => Progress::More(Stage::At(Link::Up(session))),
@@ -131,9 +137,9 @@ fn set_out<B: Bus>(bus: &mut B, session: Session, group: &mut Group) -> Progress
 #[inline(never)]
 fn restore<B: Bus>(bus: &mut B, broken: Broken) -> Progress<Stage>
     ensures advances { (group : Group) → IsJoined group.members.items group.extent
-        → Advances broken.session.info true EXCHANGES_OF_A_SETTLE (stage_left (At (Down broken)) group.extent.part) group (B.view bus.old) result group (B.view bus.new) }
+        → Advances (info_of broken.session) true EXCHANGES_OF_A_SETTLE (stage_left (At (Down broken)) group.extent.part) group (B.view bus.old) result group (B.view bus.new) }
     ensures did { (B.view bus.new).is_kept ≡ true → IsLoose broken (B.view bus.old) → (group : Group) (faults : ℕ)
-        → Did (change_of_group broken.session.info group) group (faults_then faults (B.view bus.old) (B.view bus.new))
+        → Did (change_of_group (info_of broken.session) group) group (faults_then faults (B.view bus.old) (B.view bus.new))
         (B.view bus.old) result (B.view bus.new) }
 {
     match settle(bus, broken) {
@@ -142,21 +148,71 @@ fn restore<B: Bus>(bus: &mut B, broken: Broken) -> Progress<Stage>
     }
 }
 
-/// One settle, one select, or one exchange.
-#[tactic(auto, using(crate::proofs::StepLemmas::same_lent))]
-pub fn step<B: Bus>(bus: &mut B, stage: Stage, group: &mut Group) -> Progress<Stage>
-    requires joined { IsJoined group.old.members.items group.old.extent }
-    requires servable { AreServable (info_of_stage stage) group.old.members.items }
-    requires of { IsStageOf group.old stage }
-    ensures advances { Advances (info_of_stage stage) (is_down stage) (most_at stage) (stage_left stage group.old.extent.part) group.old (B.view bus.old) result group.new (B.view bus.new) }
-    ensures servable { AreServable (info_of_stage stage) group.new.members.items }
-    ensures did { (B.view bus.new).is_kept ≡ true → (faults : ℕ) → IsAt stage group.old faults (B.view bus.old)
-        → Did (change_of_group (info_of_stage stage) group.old) group.new (faults_then faults (B.view bus.old) (B.view bus.new))
-        (B.view bus.old) result (B.view bus.new) }
+// Leaves an outcome in the phase.
+fn left(outcome: Progress<Stage>) -> Phase
+    ensures held { IsHere result }
+    ensures left { (was : Stage) → outcome_of was result ≡ outcome }
 {
-    match stage {
-        Stage::Running(work) => exchange(bus, work, group),
-        Stage::At(Link::Up(session)) => set_out(bus, session, group),
-        Stage::At(Link::Down(broken)) => restore(bus, broken),
+    match outcome {
+        Progress::More(stage) => Phase::Serving(stage),
+        Progress::Done(session) => Phase::Idle(Link::Up(session)),
+        Progress::Failed(broken) => Phase::Idle(Link::Down(broken)),
+    }
+}
+
+// What leaves a run that is over: its session.
+#[inline(never)]
+fn end(phase: &mut Phase, standing: Standing)
+    requires running { IfRunning phase.old (λ work. Unit {0}) }
+    ensures held { IsHere phase.new }
+    ensures left { IfRunning phase.old (λ work. (was : Stage) → outcome_of was phase.new ≡ work_then work standing) }
+{
+    *phase = match mem::replace(phase, Phase::Taken) {
+        Phase::Serving(Stage::Running(work)) => left(outcome(work, standing)),
+        Phase::Idle(_) | Phase::Serving(Stage::At(_)) | Phase::Taken => unreachable!(),
+    };
+}
+
+// From a card between runs.
+fn depart<B: Bus>(bus: &mut B, link: Link, group: &mut Group) -> Progress<Stage>
+    requires joined { IsJoined group.old.members.items group.old.extent }
+    requires servable { AreServable (info_of_link link) group.old.members.items }
+    ensures stepped { Stepped (At link) group.old (B.view bus.old) result group.new (B.view bus.new) }
+{
+    match link {
+        Link::Up(session) => set_out(bus, session, group),
+        Link::Down(broken) => restore(bus, broken),
+    }
+}
+
+// A step where no run is under way.
+#[inline(never)]
+fn step_between<B: Bus>(bus: &mut B, phase: &mut Phase, group: &mut Group)
+    requires joined { IsJoined group.old.members.items group.old.extent }
+    requires at { IfAt phase.old (λ link. AreServable (info_of_link link) group.old.members.items) }
+    ensures held { IsHere phase.new }
+    ensures stepped { IfServing phase.old (λ stage. Stepped stage group.old (B.view bus.old) (outcome_of stage phase.new) group.new (B.view bus.new)) }
+{
+    *phase = match mem::replace(phase, Phase::Taken) {
+        Phase::Serving(Stage::At(link)) => left(depart(bus, link, group)),
+        Phase::Idle(_) | Phase::Serving(Stage::Running(_)) | Phase::Taken => unreachable!(),
+    };
+}
+
+/// One settle, one select, or one exchange, and the phase says what is left: the attempt, or the card where the attempt is over.
+pub fn step<B: Bus>(bus: &mut B, phase: &mut Phase, group: &mut Group)
+    requires joined { IsJoined group.old.members.items group.old.extent }
+    requires serving { IfServing phase.old (λ stage. AreServable (info_of_stage stage) group.old.members.items × IsStageOf group.old stage) }
+    ensures held { IsHere phase.new }
+    ensures stepped { IfServing phase.old (λ stage. Stepped stage group.old (B.view bus.old) (outcome_of stage phase.new) group.new (B.view bus.new)) }
+{
+    match phase {
+        Phase::Serving(Stage::Running(work)) => match exchange(bus, work, group) {
+            Standing::GoesOn => {}
+            standing => end(phase, standing),
+        },
+        Phase::Idle(_) | Phase::Serving(Stage::At(_)) | Phase::Taken => {
+            step_between(bus, phase, group)
+        }
     }
 }

@@ -163,7 +163,7 @@ command_sound Fits hears answers old frame index argument reply new reads fits c
     (card_at choice old.card new.card frame index argument command card)
     (heard_at Fits hears answers choice old.card frame index argument reply reads (fits choice) command spells) x h
 command_sound Fits hears answers old frame index argument reply new reads fits command
-    (brownout choice lands after patient count card silent) x h =
+    (brownout choice lands keeps_length after patient count card silent) x h =
     absurd (reads.silent x (ap hears (sym silent) ∙ h))
 
 command_fine : {X : Type 0} (Fits : CardAnswer → Type 0) (hears : Reply → Result X Unheard)
@@ -188,7 +188,7 @@ command_fine Fits hears answers old frame index argument reply new reads fits co
 command_fine Fits hears answers old frame index argument reply new reads fits command
     (slow_inquiry choice slow late inquiry count card spells) same = fell old new count same
 command_fine Fits hears answers old frame index argument reply new reads fits command
-    (brownout choice lands after patient count card silent) same = fell old new count same
+    (brownout choice lands keeps_length after patient count card silent) same = fell old new count same
 
 pub command_facts : {X : Type 0} (Fits : CardAnswer → Type 0) (hears : Reply → Result X Unheard)
     (answers : CardAnswer → Result X Unheard)
@@ -247,7 +247,7 @@ goes_on : (old : BusView) (said : Bool) (new : BusView) → PollStep old said ne
 goes_on old said new step =
     after_poll (GoesOn old.card) old said new (λ h. (h, refl))
     (by_cond (GoesOn old.card) (is_in old.card.state Prg) (λ _ h. cc) (λ _ h. (h, refl))) (λ _ h. (h, refl))
-    (λ lands prg h. cc) (λ lands rcv h. (h, omega arith)) (λ bits card _ k. k) (λ lands card _ h. cc) step
+    (λ lands prg h. cc) (λ lands rcv h. (h, omega arith)) (λ bits card _ k. k) (λ lands keeps card _ h. cc) step
 
 -- what the answer of a poll tells
 record PollWays (old : BusView) (said : Bool) (new : BusView) : Type 0 where
@@ -293,7 +293,7 @@ poll_ways old said new (fail lands bits of prg switching count card answer) =
     (ap (λ (c : Card). c.errors) card)
 poll_ways old said new (fall_short lands bits of rcv is_busy count card answer) =
     unprogrammed old said new bits of.1 answer (falls_short old.card rcv) count (ap (λ (c : Card). c.errors) card)
-poll_ways old said new (brownout choice lands after patient count card answer) =
+poll_ways old said new (brownout choice lands keeps_length after patient count card answer) =
     let idle : new.card.state ≡ Idle = ap (λ (c : Card). c.state) card in
     record {
       yes = λ h. cc;
@@ -363,7 +363,8 @@ write_ways old block got new (reject ignores can count card answer) = unaccepted
     (not_rejected got answer)
 write_ways old block got new (lose_status is_accepted ignores can count card answer) = unaccepted old block got new count
     (not_nothing got answer)
-write_ways old block got new (brownout lands after count card answer) = unaccepted old block got new count
+write_ways old block got new (brownout lands keeps_length after count card answer) =
+    unaccepted old block got new count
     (not_nothing got answer)
 
 pub write_facts : (old : BusView) (block : Sector) (got : DataOut) (new : BusView) → FallNoMore old new
@@ -427,7 +428,7 @@ read_ways old size got block new (bad_block choice comes sends count card answer
     not_good old size got block new count (bad_or_nothing comes got answer)
 read_ways old size got block new (read_error sends count card answer) =
     not_good old size got block new count (bad_or_nothing false got answer)
-read_ways old size got block new (brownout choice lands after count card answer) = not_good old size got block new count
+read_ways old size got block new (brownout choice lands keeps_length after count card answer) = not_good old size got block new count
     (bad_or_nothing false got answer)
 
 pub read_facts : (old : BusView) (size : ℕ) (got : DataIn) (block : List ℕ) (new : BusView)

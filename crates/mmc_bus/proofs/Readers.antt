@@ -61,10 +61,10 @@ answer_cond : (command : Command) (b : Bool) (x y : Card × CardAnswer) → IsAn
 answer_cond command b x y p q = by_cond (λ (r : Card × CardAnswer). IsAnswerTo command r.1) b {x = x} {y = y} (λ _. p)
     (λ _. q)
 
-inquired_answer : (command : Command) (is_ready : Bool) (c : Card) → asks_for_ocr command ≡ true
-    → IsAnswerTo command (inquired is_ready c).1
-inquired_answer command true c asks = asks
-inquired_answer command false c asks = asks
+inquired_answer : (command : Command) (is_ready : Bool) (early : ℕ) (c : Card) → asks_for_ocr command ≡ true
+    → IsAnswerTo command (inquired is_ready early c).1
+inquired_answer command true early c asks = asks
+inquired_answer command false early c asks = asks
 
 transferred_answer : (command : Command) (index errors : ℕ) (c after : Card) → asks_for_ocr command ≡ false
     → IsAnswerTo command (transferred index errors c after).1
@@ -99,9 +99,9 @@ switch_answer c None = refl
 row_answer : (choice : Choice) (command : Command) (c : Card) (index argument : ℕ) → HasRegisters c.made
     → IsAnswerTo command (row choice command c index argument).1
 row_answer choice GoIdleState c index argument r = tt
-row_answer choice SendOpCond c index argument r = inquired_answer SendOpCond (not choice.is_slow) c refl
+row_answer choice SendOpCond c index argument r = inquired_answer SendOpCond (not choice.is_slow) choice.early c refl
 row_answer choice SdSendOpCond c index argument r = inquired_answer SdSendOpCond
-    (is_served c argument && not choice.is_slow) c refl
+    (is_served c argument && not choice.is_slow) choice.early c refl
 row_answer choice AllSendCid c index argument r = record { size = r.cid; check = r.cid_check; end_bit = r.cid_end }
 row_answer choice SendCsd c index argument r = record { size = r.csd; check = r.csd_check; end_bit = r.csd_end }
 row_answer choice SendIfCond c index argument r = by_cond (IsAnswerTo SendIfCond)
@@ -163,21 +163,22 @@ ocr_where_legal : (b : Bool) (c : Card) (x : Card × CardAnswer) → IsOcrOrNone
 ocr_where_legal true c x h = h
 ocr_where_legal false c x h = tt
 
-ocr_inquired : (is_ready : Bool) (c : Card) → IsOcrOrNone (inquired is_ready c).1
-ocr_inquired true c = tt
-ocr_inquired false c = tt
+ocr_inquired : (is_ready : Bool) (early : ℕ) (c : Card) → IsOcrOrNone (inquired is_ready early c).1
+ocr_inquired true early c = tt
+ocr_inquired false early c = tt
 
 pub inquiry_answer : (kind own : Kind) (app : Bool) (choice : Choice) (c : Card) (argument : ℕ)
     → IsOcrOrNone (responded choice (command_of own app (index_of_inquiry kind)) c (index_of_inquiry kind) argument).1
 inquiry_answer Sd Sd true choice c argument =
     ocr_where_legal (is_legal SdSendOpCond c) _ (row choice SdSendOpCond (reached SdSendOpCond c) 41 argument)
-    (ocr_inquired (is_served (reached SdSendOpCond c) argument && not choice.is_slow) (reached SdSendOpCond c))
+    (ocr_inquired (is_served (reached SdSendOpCond c) argument && not choice.is_slow) choice.early
+    (reached SdSendOpCond c))
 inquiry_answer Sd Sd false choice c argument = tt
 inquiry_answer Sd Mmc app choice c argument = tt
 inquiry_answer Mmc Sd app choice c argument = tt
 inquiry_answer Mmc Mmc app choice c argument =
     ocr_where_legal (is_legal SendOpCond c) _ (row choice SendOpCond (reached SendOpCond c) 1 argument)
-    (ocr_inquired (not choice.is_slow) (reached SendOpCond c))
+    (ocr_inquired (not choice.is_slow) choice.early (reached SendOpCond c))
 
 -- Readers.
 

@@ -38,7 +38,7 @@ nothing_made =
       scr = [];
       switch_status = [];
       ext_csd = [];
-      published = 0;
+      is_nameless = false;
       is_locked = false;
       answers_cmd8 = false;
     }

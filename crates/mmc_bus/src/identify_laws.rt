@@ -25,7 +25,8 @@ use mmc_frame::laws;
 pub fn cmd0_resets_the_card()
     ensures { (old new : BusView) (argument : ℕ) (heard : Result ℕ Unheard)
         → CommandFacts nothing_of old Index.GO_IDLE_STATE argument heard new
-        → NoFault old new → (lands : ℕ → Bool) × (new.card ≡ reset lands old.card) }
+        → NoFault old new
+        → (lands : ℕ → Bool) × (keeps_length : Bool) × (new.card ≡ reset lands keeps_length old.card) }
 {}
 
 /// CMD1 of eMMC, SEND_OP_COND: a device in idle tells its OCR, and says at most eight times that it isn't ready. Only
@@ -45,15 +46,20 @@ pub fn cmd2_tells_the_cid()
     laws::register_comes_back();
 }
 
-/// CMD3 of SD, SEND_RELATIVE_ADDR: a card in ident or stby publishes its RCA, and goes by it in stby.
+/// CMD3 of SD, SEND_RELATIVE_ADDR: a card in ident or stby publishes an RCA, which isn't 0 but of a nameless card, and goes
+/// by it in stby.
 pub fn cmd3_publishes_the_rca()
-    ensures { (old new : BusView) (argument : ℕ) (heard : Result ℕ Unheard)
+    ensures does { (old new : BusView) (argument : ℕ) (heard : Result ℕ Unheard)
         → Responded Index.SEND_RELATIVE_ADDR old argument heard new → IsCard old.card
         → old.card.made.kind ≡ Sd
         → Does ((old.card.state ≡ Ident) ⊎ (old.card.state ≡ Stby))
-        (r6_argument old.card)
-        (record (shown old.card) { state = Stby; rca = old.card.made.published })
+        (r6_argument new.card.rca old.card)
+        (record (shown old.card) { state = Stby; rca = new.card.rca })
         old heard new }
+    ensures named { (old new : BusView) (argument : ℕ) (heard : Result ℕ Unheard)
+        → Responded Index.SEND_RELATIVE_ADDR old argument heard new → IsCard old.card
+        → old.card.made.kind ≡ Sd → old.card.made.is_nameless ≡ false → NoFault old new
+        → (old.card.state ≡ Ident) ⊎ (old.card.state ≡ Stby) → new.card.rca ≡ 0 → ⊥ }
 {}
 
 /// CMD3 of eMMC, SET_RELATIVE_ADDR: a device in ident is assigned the RCA of the argument, and goes by it in stby.

@@ -1,5 +1,6 @@
 -- Each step of a card leaves a card: all parts of what holds of it.
-use Rattle.std.proofs.Common.{◌∙◌, Bool, List, ap, arith, inr, refl, sym, ℕ}
+use Rattle.std.proofs.Common.{◌∙◌, ◌≡◌, ◌⊎◌, Bool, List, ap, arith, false, inl, inr, refl, sym, true, ℕ}
+use Rattle.std.specs.Prelude.{if◌then◌else◌}
 use Rattle.mmc_frame.specs.Frame.{command_in}
 use Rattle.mmc_card.specs.declared.exchange.DataIn.{DataIn}
 use Rattle.mmc_card.specs.declared.exchange.DataOut.{DataOut}
@@ -27,7 +28,7 @@ use Rattle.mmc_card.specs.CardAnswer.{raised}
 use Rattle.mmc_card.specs.Card.{AreAmong, AreBlocks, Card, HasItsSizes, IsBlock, IsCard, powered_on, stored}
 use Rattle.mmc_card.specs.Laws.{Carried}
 use Rattle.mmc_card.specs.ErrorBits.{error_bits}
-use Rattle.mmc_card.specs.Made.{HasRegisters, Made, sectors_in}
+use Rattle.mmc_card.specs.Made.{HasRegisters, Made, first_block_length, is_sd, named_block_length, sectors_in}
 use Rattle.mmc_card.specs.declared.part.Part.{Part}
 use Rattle.mmc_card.specs.Faults.{CommandStep, WriteStep, PollStep, ReadStep}
 use Rattle.mmc_card.specs.declared.command.Command.{Command}
@@ -122,11 +123,11 @@ command_leaves_card old frame reply new step k =
     (after_command IsOrdered old frame reply new o
     (λ choice. ordered_answered choice old.card (command_in frame) o)
     (λ keeps. ordered_garbled keeps old.card o)
-    (λ lands card _. ordered_reset lands card) step)
+    (λ lands keeps card _. ordered_reset lands keeps card) step)
     (after_command IsSettled old frame reply new s
     (λ choice. settled_answered choice old.card (command_in frame) s)
     (λ keeps. settled_garbled keeps old.card s)
-    (λ lands card _. settled_reset lands card) step)
+    (λ lands keeps card _. settled_reset lands keeps card) step)
     (after_command IsSending old frame reply new g
     (λ choice. sending_answered choice old.card (command_in frame) g)
     (λ keeps. sending_garbled keeps old.card g) sending_reset step)
@@ -142,11 +143,11 @@ poll_leaves_card old said new step k =
     (after_poll IsOrdered old said new o (ordered_rested old.card o) (λ _. ordered_waited old.card o)
     (λ lands prg. ordered_programmed lands old.card prg o) (λ lands rcv. ordered_fallen_short lands old.card rcv o)
     (λ bits card _ k. ordered_raised bits card k)
-    (λ lands card _. ordered_reset lands card) step)
+    (λ lands keeps card _. ordered_reset lands keeps card) step)
     (after_poll IsSettled old said new s (settled_rested old.card s) (λ _. settled_waited old.card s)
     (λ lands prg. settled_programmed lands old.card prg s) (λ lands _. settled_fallen_short lands old.card s)
     (λ bits card _ k. settled_raised bits card k)
-    (λ lands card _. settled_reset lands card) step)
+    (λ lands keeps card _. settled_reset lands keeps card) step)
     (after_poll IsSending old said new g (sending_rested old.card g) (λ _. sending_waited old.card g)
     (λ lands _. sending_programmed lands old.card g) (λ lands _. sending_fallen_short lands old.card g)
     (λ bits card _ k. sending_raised bits card k)
@@ -163,11 +164,11 @@ write_leaves_card old block got new h step k =
     (after_write IsOrdered old block got new o
     (λ accepts. ordered_accepted block old.card (accepts_in_rcv old.lines old.card accepts) o)
     (λ ignores accepts. ordered_rejected ignores old.card (accepts_in_rcv old.lines old.card accepts) o)
-    (λ lands card _. ordered_reset lands card) step)
+    (λ lands keeps card _. ordered_reset lands keeps card) step)
     (after_write IsSettled old block got new s
     (λ accepts. settled_accepted block old.lines old.card accepts s)
     (λ ignores accepts. settled_rejected ignores old.card (accepts_in_rcv old.lines old.card accepts) s)
-    (λ lands card _. settled_reset lands card) step)
+    (λ lands keeps card _. settled_reset lands keeps card) step)
     (after_write IsSending old block got new g (λ _. sending_accepted block old.card g)
     (λ ignores _. sending_rejected ignores old.card g) sending_reset step)
 
@@ -183,16 +184,24 @@ read_leaves_card old size got block new step k =
     (λ choice sends. ordered_sent_from old.card.source choice old.card
     (sends_data old.lines size old.card sends) o)
     (λ bits card _ k. ordered_raised bits card k)
-    (λ lands card _. ordered_reset lands card) step)
+    (λ lands keeps card _. ordered_reset lands keeps card) step)
     (after_read IsSettled old size got block new s
     (λ choice sends. settled_sent_from old.card.source choice old.card refl s)
     (λ bits card _ k. settled_raised bits card k)
-    (λ lands card _. settled_reset lands card) step)
+    (λ lands keeps card _. settled_reset lands keeps card) step)
     (after_read IsSending old size got block new g
     (λ choice _. sending_sent_from old.card.source choice old.card g)
     (λ bits card _ k. sending_raised bits card k) sending_reset step)
 
 -- After power on.
+
+first_by : (is_sd : Bool) (made : Made) → ((if is_sd then 512 else named_block_length made) ≡ 512)
+    ⊎ ((if is_sd then 512 else named_block_length made) ≡ named_block_length made)
+first_by true made = inl refl
+first_by false made = inr refl
+
+named_first : (made : Made) → (first_block_length made ≡ 512) ⊎ (first_block_length made ≡ named_block_length made)
+named_first made = first_by (is_sd made.kind) made
 
 pub new_card : (made : Made) (sectors : List (List Sector)) → HasRegisters made
     → HasItsSizes (powered_on made sectors) → ((part : Part) → AreBlocks (stored (powered_on made sectors) part))
@@ -211,7 +220,7 @@ new_card made sectors registers sizes blocks = record {
   };
   held = λ h. refl;
   busy = λ h. cc;
-  rca = record { first = λ h. refl; published = λ h sd. cc };
+  rca = λ h. refl;
   app = λ h. refl;
   inquiries = omega arith;
   polled = omega arith;
@@ -222,7 +231,7 @@ new_card made sectors registers sizes blocks = record {
   sends = tt;
   erase_group_def = omega arith;
   finished = λ h. refl;
-  block_length = inr refl;
+  block_length = named_first made;
   command_errors = refl;
   errors = refl;
   blocks = blocks;

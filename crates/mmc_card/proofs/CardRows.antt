@@ -62,11 +62,12 @@ either_state Dis h = refl
 pub either_down : (c : Card) → (is_in c.state Ident || is_in c.state Stby) ≡ true → is_selected c.state ≡ false
 either_down c h = either_state c.state h
 
-card_inquired : (is_ready : Bool) (c : Card) → IsBasic c → c.state ≡ Idle → IsBasic (inquired is_ready c).0
-card_inquired true c k e =
+card_inquired : (is_ready : Bool) (early : ℕ) (c : Card) → IsBasic c → c.state ≡ Idle
+    → IsBasic (inquired is_ready early c).0
+card_inquired true early c k e =
     apart_card c _ k (like_done c _ k refl refl refl refl) (down_in c Idle e refl) refl refl refl refl refl refl refl
     refl refl refl
-card_inquired false c k e =
+card_inquired false early c k e =
     stays_card c _ k (like_done c _ k refl refl refl refl) refl refl refl refl refl refl refl (λ h. h) (λ h. refl)
     (λ h. h)
 
@@ -135,10 +136,11 @@ card_switch c (Some d) h k =
 
 card_row : (choice : Choice) (command : Command) (c : Card) (index argument : ℕ) → is_legal command c ≡ true → IsBasic c
     → IsBasic (row choice command c index argument).0
-card_row choice GoIdleState c index argument l k = card_reset choice.lands c k
-card_row choice SendOpCond c index argument l k = card_inquired (not choice.is_slow) c k (in_state c.state Idle l)
+card_row choice GoIdleState c index argument l k = card_reset choice.lands choice.keeps_length c k
+card_row choice SendOpCond c index argument l k =
+    card_inquired (not choice.is_slow) choice.early c k (in_state c.state Idle l)
 card_row choice SdSendOpCond c index argument l k =
-    card_inquired (is_served c argument && not choice.is_slow) c k (in_state c.state Idle l)
+    card_inquired (is_served c argument && not choice.is_slow) choice.early c k (in_state c.state Idle l)
 card_row choice AllSendCid c index argument l k =
     apart_card c _ k (like_done c _ k refl refl refl refl) (down_in c Ready (in_state c.state Ready l) refl) refl refl
     refl refl refl refl refl refl refl refl
@@ -160,7 +162,7 @@ card_row choice SendStatus c index argument l k = card_shown c k
 card_row choice SetBlocklen c index argument l k =
     first_by_cond IsBasic (argument == 512) _ _
     (λ _. stays_card c _ k
-    (record { made = refl; block_length = inr refl; command_errors = refl; errors = refl }) refl refl refl refl
+    (record { made = refl; block_length = inr (inl refl); command_errors = refl; errors = refl }) refl refl refl refl
     refl refl refl (λ h. h) (λ h. refl) (λ h. h))
     (λ _. card_shown c k)
 card_row choice ReadSingleBlock c index argument l k =

@@ -1,7 +1,7 @@
 -- Each step of a card leaves a card.
 use Rattle.std.proofs.Common.{◌++◌, ◌∙◌, ◌∷◌, ◌≡◌, ◌⊎◌, Bool, List, [], ap, arith, false, inl, inr, length, refl, suc}
 use Rattle.std.proofs.Common.{sym, true, zero, ℕ}
-use Rattle.std.specs.Prelude.{bit_or, replicate, slice_index_or}
+use Rattle.std.specs.Prelude.{bit_or, if◌then◌else◌, replicate, slice_index_or}
 use Rattle.mmc_frame.specs.Status.{state_number}
 use Rattle.mmc_frame.specs.declared.card_state.State.{State}
 use Rattle.mmc_frame.specs.declared.card_state.State.TheVariants.{Data, Dis, Ident, Idle, Prg, Rcv, Ready, Stby, Tran}
@@ -13,7 +13,7 @@ use Rattle.mmc_card.specs.Blocks.{fallen_short, programmed, rested, waited}
 use Rattle.mmc_card.specs.Card.{AreAmong, AreBlocks, Card, IsApart, IsBlock, NoAddress, is_in, is_selected, is_writing}
 use Rattle.mmc_card.specs.Card.{landed, landed_in, stored}
 use Rattle.mmc_card.specs.ErrorBits.{com_crc_error, command_error_bits, erase_reset, error_bits, illegal_command}
-use Rattle.mmc_card.specs.Made.{HasRegisters, first_block_length}
+use Rattle.mmc_card.specs.Made.{HasRegisters, named_block_length}
 use Rattle.mmc_card.specs.declared.command.Command.{Command}
 use Rattle.mmc_card.specs.Rows.{leaves_erase, reached}
 use Rattle.mmc_card.specs.RowsErase.{forgotten, holds_address}
@@ -79,7 +79,7 @@ pub record IsBasic (card : Card) : Type 0 where
   pub registers : HasRegisters card.made
   pub apart : is_selected card.state ≡ false → IsApart card
   pub finished : is_writing card.state ≡ false → card.values ≡ []
-  pub block_length : (card.block_length ≡ 512) ⊎ (card.block_length ≡ first_block_length card.made)
+  pub block_length : (card.block_length ≡ 512) ⊎ (card.block_length ≡ named_block_length card.made)
   pub command_errors : AreAmong card.command_errors command_error_bits
   pub errors : AreAmong card.errors error_bits
   pub blocks : (part : Part) → AreBlocks (stored card part)
@@ -123,18 +123,22 @@ same_blocks c d st k p =
 pub record IsLike (c d : Card) : Type 0 where
   pub made : d.made ≡ c.made
   pub block_length : (d.block_length ≡ c.block_length) ⊎ (d.block_length ≡ 512)
+      ⊎ (d.block_length ≡ named_block_length c.made)
   pub command_errors : AreAmong d.command_errors command_error_bits
   pub errors : AreAmong d.errors error_bits
 
 block_length_like : (c d : Card) → IsBasic c → IsLike c d
-    → (d.block_length ≡ 512) ⊎ (d.block_length ≡ first_block_length d.made)
+    → (d.block_length ≡ 512) ⊎ (d.block_length ≡ named_block_length d.made)
 block_length_like c d k l =
     elim l.block_length [
       | inl same ↦ elim k.block_length [
         | inl h ↦ inl (same ∙ h)
-        | inr h ↦ inr (same ∙ h ∙ ap first_block_length (sym l.made))
+        | inr h ↦ inr (same ∙ h ∙ ap named_block_length (sym l.made))
       ]
-      | inr h ↦ inl h
+      | inr h ↦ elim h [
+        | inl h ↦ inl h
+        | inr h ↦ inr (h ∙ ap named_block_length (sym l.made))
+      ]
     ]
 
 pub made_card : (c d : Card) → IsBasic c → IsLike c d → (is_selected d.state ≡ false → IsApart d)
@@ -298,9 +302,21 @@ card_reached command c k =
     by_cond IsBasic (leaves_erase command) (λ _. k)
     (λ _. by_cond IsBasic (holds_address c.erase) (λ _. card_dropped c k) (λ _. k))
 
-pub card_reset : (lands : ℕ → Bool) (c : Card) → IsBasic c → IsBasic (reset lands c)
-card_reset lands c k =
-    made_card c (reset lands c) k (like_shown c _ refl refl refl refl)
+-- it stays, or is the one that the registers name
+length_by : (keeps_length : Bool) (was named : ℕ) → ((if keeps_length then was else named) ≡ was)
+    ⊎ ((if keeps_length then was else named) ≡ 512) ⊎ ((if keeps_length then was else named) ≡ named)
+length_by true was named = inl refl
+length_by false was named = inr (inr refl)
+
+pub card_reset : (lands : ℕ → Bool) (keeps_length : Bool) (c : Card) → IsBasic c → IsBasic (reset lands keeps_length c)
+card_reset lands keeps_length c k =
+    made_card c (reset lands keeps_length c) k
+    (record {
+      made = refl;
+      block_length = length_by keeps_length c.block_length (named_block_length c.made);
+      command_errors = refl;
+      errors = refl;
+    })
     (λ h. record {
       width = refl;
       timing = refl;

@@ -19,25 +19,25 @@ command_counts old frame reply new (flip_command keeps_count count card silent) 
 command_counts old frame reply new (lose_reply choice patient count card answers silent) = inr count
 command_counts old frame reply new (flip_reply choice patient count card flipped) = inr count
 command_counts old frame reply new (slow_inquiry choice slow late inquiry count card spells) = inr count
-command_counts old frame reply new (brownout choice lands after patient count card silent) = inr count
+command_counts old frame reply new (brownout choice lands keeps_length after patient count card silent) = inr count
 
 pub poll_counts : (old : BusView) (said : Bool) (new : BusView) → PollStep old said new → CountsAtMostOne old new
 poll_counts old said new (faithful choice patient count card answer) = inl count
 poll_counts old said new (busy is_busy late count card answer) = inr count
 poll_counts old said new (fail lands bits of prg switching count card answer) = inr count
 poll_counts old said new (fall_short lands bits of rcv is_busy count card answer) = inr count
-poll_counts old said new (brownout choice lands after patient count card answer) = inr count
+poll_counts old said new (brownout choice lands keeps_length after patient count card answer) = inr count
 
 pub write_counts : (old : BusView) (block : Sector) (got : DataOut) (new : BusView) → WriteStep old block got new
     → CountsAtMostOne old new
 write_counts old block got new (faithful count card answer) = inl count
 write_counts old block got new (reject ignores accepts count card answer) = inr count
 write_counts old block got new (lose_status is_accepted ignores accepts count card answer) = inr count
-write_counts old block got new (brownout lands after count card answer) = inr count
+write_counts old block got new (brownout lands keeps_length after count card answer) = inr count
 
 pub read_counts : (old : BusView) (size : ℕ) (got : DataIn) (block : Sector) (new : BusView)
     → ReadStep old size got block new → CountsAtMostOne old new
 read_counts old size got block new (faithful choice count card answer good) = inl count
 read_counts old size got block new (bad_block choice comes sends count card answer) = inr count
 read_counts old size got block new (read_error sends count card answer) = inr count
-read_counts old size got block new (brownout choice lands after count card answer) = inr count
+read_counts old size got block new (brownout choice lands keeps_length after count card answer) = inr count

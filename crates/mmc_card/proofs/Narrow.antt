@@ -138,8 +138,8 @@ begins change c d m st u = record {
       ];
 }
 
-pub keeps_reset : (lands : ℕ → Bool) (c : Card) → Keeps c (reset lands c)
-keeps_reset lands c = over c (reset lands c) lands refl refl refl
+pub keeps_reset : (lands : ℕ → Bool) (keeps_length : Bool) (c : Card) → Keeps c (reset lands keeps_length c)
+keeps_reset lands keeps_length c = over c (reset lands keeps_length c) lands refl refl refl
 
 pub keeps_refused : (c : Card) → Keeps c (refused c)
 keeps_refused c = plain c (refused c) refl refl refl
@@ -165,9 +165,9 @@ keeps_slow c = plain c _ refl refl refl
 
 -- Rows.
 
-keeps_inquired : (is_ready : Bool) (c : Card) → Keeps c (inquired is_ready c).0
-keeps_inquired true c = plain c _ refl refl refl
-keeps_inquired false c = plain c _ refl refl refl
+keeps_inquired : (is_ready : Bool) (early : ℕ) (c : Card) → Keeps c (inquired is_ready early c).0
+keeps_inquired true early c = plain c _ refl refl refl
+keeps_inquired false early c = plain c _ refl refl refl
 
 keeps_transferred : (index errors : ℕ) (c after : Card) → Keeps c after → Keeps c (transferred index errors c after).0
 keeps_transferred index errors c after k =
@@ -269,10 +269,10 @@ keeps_switch c (Some d) h = cleared c _ h.made h.sectors refl
 
 widens_row : (choice : Choice) (command : Command) (c : Card) (index argument : ℕ)
     → Widens (erased_by_command command c argument) c (row choice command c index argument).0
-widens_row choice GoIdleState c index argument = wide _ c _ (keeps_reset choice.lands c)
-widens_row choice SendOpCond c index argument = wide _ c _ (keeps_inquired (not choice.is_slow) c)
+widens_row choice GoIdleState c index argument = wide _ c _ (keeps_reset choice.lands choice.keeps_length c)
+widens_row choice SendOpCond c index argument = wide _ c _ (keeps_inquired (not choice.is_slow) choice.early c)
 widens_row choice SdSendOpCond c index argument =
-    wide _ c _ (keeps_inquired (is_served c argument && not choice.is_slow) c)
+    wide _ c _ (keeps_inquired (is_served c argument && not choice.is_slow) choice.early c)
 widens_row choice AllSendCid c index argument = wide _ c _ (plain c _ refl refl refl)
 widens_row choice SendRelativeAddr c index argument = wide _ c _ (plain c _ refl refl refl)
 widens_row choice SetRelativeAddr c index argument = wide _ c _ (plain c _ refl refl refl)

@@ -53,13 +53,13 @@ command_widens old frame reply new step =
     after_command (Widens change old.card) old frame reply new (wide change old.card _ (keeps_same old.card))
     (λ choice. widens_answered choice old.card (command_in frame))
     (λ keeps. wide change old.card _ (keeps_garbled keeps old.card))
-    (λ lands card w. wide_after change old.card card _ w (keeps_reset lands card)) step
+    (λ lands keeps card w. wide_after change old.card card _ w (keeps_reset lands keeps card)) step
 
 pub poll_keeps : (old : BusView) (said : Bool) (new : BusView) → PollStep old said new → Keeps old.card new.card
 poll_keeps old said new step =
     after_poll (Keeps old.card) old said new (keeps_same old.card) (keeps_rested old.card) (λ _. keeps_slow old.card)
     (λ lands _. keeps_programmed lands old.card) (λ lands _. keeps_fallen_short lands old.card)
-    (λ bits card _ k. keeps_then k (keeps_raised bits card)) (λ lands card k. keeps_then k (keeps_reset lands card)) step
+    (λ bits card _ k. keeps_then k (keeps_raised bits card)) (λ lands keeps card k. keeps_then k (keeps_reset lands keeps card)) step
 
 pub write_adds : (old : BusView) (block : Sector) (got : DataOut) (new : BusView) → WriteStep old block got new
     → Adds block old.card new.card
@@ -67,11 +67,11 @@ write_adds old block got new step =
     after_write (Adds block old.card) old block got new (adds_none block old.card _ (keeps_same old.card))
     (λ accepts. adds_accepted block old.lines old.card accepts)
     (λ ignores _. adds_none block old.card _ (keeps_rejected ignores old.card))
-    (λ lands card a. adds_then block old.card card _ a (keeps_reset lands card)) step
+    (λ lands keeps card a. adds_then block old.card card _ a (keeps_reset lands keeps card)) step
 
 pub read_keeps : (old : BusView) (size : ℕ) (got : DataIn) (block : Sector) (new : BusView)
     → ReadStep old size got block new → Keeps old.card new.card
 read_keeps old size got block new step =
     after_read (Keeps old.card) old size got block new (keeps_same old.card)
     (λ choice _. keeps_sent_from old.card.source choice old.card) (λ bits card _ k. keeps_then k (keeps_raised bits card))
-    (λ lands card k. keeps_then k (keeps_reset lands card)) step
+    (λ lands keeps card k. keeps_then k (keeps_reset lands keeps card)) step

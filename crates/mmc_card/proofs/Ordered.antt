@@ -61,12 +61,7 @@ pub ordered_like : (c d : Card) → IsOrdered c → d.state ≡ c.state → d.ma
 ordered_like c d k state made rca erase busy app inquiries polled = record {
   held = λ h. erase (k.held (ap (λ x. is_in x Tran) (sym state) ∙ h));
   busy = λ h. busy (k.busy (ap (λ x. is_in x Prg) (sym state) ∙ h));
-  rca = record {
-    first = λ h. rca ∙ k.rca.first (ap is_identified (sym state) ∙ h) ∙ ap (λ (m : Made). first_rca m.kind) (sym made);
-    published = λ h sd. rca
-        ∙ k.rca.published (ap is_identified (sym state) ∙ h) (ap (λ (m : Made). m.kind) (sym made) ∙ sd)
-        ∙ ap (λ (m : Made). m.published) (sym made);
-  };
+  rca = λ h. rca ∙ k.rca (ap is_identified (sym state) ∙ h) ∙ ap (λ (m : Made). first_rca m.kind) (sym made);
   app = λ h. app (ap (λ (m : Made). m.kind) (sym made) ∙ h);
   inquiries = inquiries;
   polled = polled;
@@ -80,11 +75,7 @@ pub ordered_up : (c d : Card) → IsOrdered c → is_identified c.state ≡ true
 ordered_up c d k was up made rca held busy app inquiries polled = record {
   held = held;
   busy = busy;
-  rca = record {
-    first = λ h. cc (up, h);
-    published = λ h sd. rca ∙ k.rca.published was (ap (λ (m : Made). m.kind) (sym made) ∙ sd)
-        ∙ ap (λ (m : Made). m.published) (sym made);
-  };
+  rca = λ h. cc (up, h);
   app = λ h. app (ap (λ (m : Made). m.kind) (sym made) ∙ h);
   inquiries = inquiries;
   polled = polled;
@@ -97,10 +88,7 @@ pub ordered_low : (c d : Card) → IsOrdered c → is_identified c.state ≡ fal
 ordered_low c d k was low quiet made rca held app inquiries polled = record {
   held = λ h. held;
   busy = λ h. cc (quiet, h);
-  rca = record {
-    first = λ h. rca ∙ k.rca.first was ∙ ap (λ (m : Made). first_rca m.kind) (sym made);
-    published = λ h sd. cc (low, h);
-  };
+  rca = λ h. rca ∙ k.rca was ∙ ap (λ (m : Made). first_rca m.kind) (sym made);
   app = λ h. app (ap (λ (m : Made). m.kind) (sym made) ∙ h);
   inquiries = inquiries;
   polled = polled;
@@ -130,11 +118,11 @@ ordered_reached command c k =
     (λ _. by_cond IsOrdered (holds_address c.erase)
     (λ _. ordered_like c _ k refl refl refl (λ h. refl) (λ h. h) k.app k.inquiries k.polled) (λ _. k))
 
-pub ordered_reset : (lands : ℕ → Bool) (c : Card) → IsOrdered (reset lands c)
-ordered_reset lands c = record {
+pub ordered_reset : (lands : ℕ → Bool) (keeps_length : Bool) (c : Card) → IsOrdered (reset lands keeps_length c)
+ordered_reset lands keeps_length c = record {
   held = λ h. refl;
   busy = λ h. cc;
-  rca = record { first = λ h. refl; published = λ h sd. cc };
+  rca = λ h. refl;
   app = λ h. refl;
   inquiries = omega arith;
   polled = omega arith;
@@ -152,7 +140,7 @@ pub ordered_fallen_short : (lands : ℕ → Bool) (c : Card) → is_in c.state R
 ordered_fallen_short lands c rcv k = record {
   held = k.held;
   busy = λ h. cc (not_in c.state Rcv Prg (in_state c.state Rcv rcv) refl, h);
-  rca = record { first = k.rca.first; published = k.rca.published };
+  rca = k.rca;
   app = k.app;
   inquiries = k.inquiries;
   polled = omega arith;
@@ -164,7 +152,7 @@ ordered_rested c k =
     (λ quiet. record {
       held = k.held;
       busy = λ h. cc (quiet, h);
-      rca = record { first = k.rca.first; published = k.rca.published };
+      rca = k.rca;
       app = k.app;
       inquiries = k.inquiries;
       polled = omega arith;
@@ -175,11 +163,12 @@ ordered_waited c k = ordered_like c _ k refl refl refl (λ h. h) (λ h. h) k.app
 
 -- Rows.
 
-ordered_inquired : (is_ready : Bool) (c : Card) → c.state ≡ Idle → IsOrdered c → IsOrdered (inquired is_ready c).0
-ordered_inquired true c e k =
+ordered_inquired : (is_ready : Bool) (early : ℕ) (c : Card) → c.state ≡ Idle → IsOrdered c
+    → IsOrdered (inquired is_ready early c).0
+ordered_inquired true early c e k =
     ordered_low c _ k (hidden_in c.state Idle e refl) refl refl refl refl (k.held (not_in c.state Idle Tran e refl))
     (λ _. refl) (counted_below c.inquiries) k.polled
-ordered_inquired false c e k =
+ordered_inquired false early c e k =
     ordered_like c _ k refl refl refl (λ h. h) (λ h. h) (λ _. refl) (counted_below c.inquiries) k.polled
 
 ordered_transferred : (index errors : ℕ) (c after : Card) → IsOrdered c → IsOrdered after
@@ -235,16 +224,12 @@ sd_alone : {X : Type 0} (kind : Kind) → is_sd kind ≡ true → kind ≡ Mmc �
 sd_alone Sd h e = cc
 sd_alone Mmc h e = cc
 
-mmc_alone : {X : Type 0} (kind : Kind) → is_mmc kind ≡ true → kind ≡ Sd → X
-mmc_alone Sd h e = cc
-mmc_alone Mmc h e = cc
-
 ordered_named : (c d : Card) → IsOrdered c → d.state ≡ Stby → d.erase ≡ NoAddress
-    → (d.made.kind ≡ Sd → d.rca ≡ d.made.published) → d.app ≡ false → d.inquiries ≤ 8 → d.polled ≤ 8 → IsOrdered d
-ordered_named c d k stby held published app inquiries polled = record {
+    → d.app ≡ false → d.inquiries ≤ 8 → d.polled ≤ 8 → IsOrdered d
+ordered_named c d k stby held app inquiries polled = record {
   held = λ h. held;
   busy = λ h. cc (ap (λ x. is_in x Prg) stby, h);
-  rca = record { first = λ h. cc (ap is_identified stby, h); published = λ h sd. published sd };
+  rca = λ h. cc (ap is_identified stby, h);
   app = λ h. app;
   inquiries = inquiries;
   polled = polled;
@@ -275,19 +260,18 @@ either_up Dis h = cc
 ordered_row : (choice : Choice) (command : Command) (c : Card) (index argument : ℕ) → is_legal command c ≡ true
     → (leaves_erase command ≡ false → c.erase ≡ NoAddress) → IsOrdered c
     → IsOrdered (row choice command c index argument).0
-ordered_row choice GoIdleState c index argument l none k = ordered_reset choice.lands c
+ordered_row choice GoIdleState c index argument l none k = ordered_reset choice.lands choice.keeps_length c
 ordered_row choice SendOpCond c index argument l none k =
-    ordered_inquired (not choice.is_slow) c (in_state c.state Idle l) k
+    ordered_inquired (not choice.is_slow) choice.early c (in_state c.state Idle l) k
 ordered_row choice SdSendOpCond c index argument l none k =
-    ordered_inquired (is_served c argument && not choice.is_slow) c (in_state c.state Idle l) k
+    ordered_inquired (is_served c argument && not choice.is_slow) choice.early c (in_state c.state Idle l) k
 ordered_row choice AllSendCid c index argument l none k =
     ordered_low c _ k (hidden_in c.state Ready (in_state c.state Ready l) refl) refl refl refl refl (none refl)
     (λ _. refl) k.inquiries k.polled
 ordered_row choice SendRelativeAddr c index argument l none k =
-    ordered_named c _ k refl (none refl) (λ _. refl) refl k.inquiries k.polled
+    ordered_named c _ k refl (none refl) refl k.inquiries k.polled
 ordered_row choice SetRelativeAddr c index argument l none k =
-    ordered_named c _ k refl (none refl)
-    (λ sd. mmc_alone c.made.kind (both (is_mmc c.made.kind) (is_in c.state Ident) l).0 sd) refl k.inquiries k.polled
+    ordered_named c _ k refl (none refl) refl k.inquiries k.polled
 ordered_row choice SelectCard c index argument l none k =
     ordered_up c _ k (identified_in c.state Stby (in_state c.state Stby l) refl) refl refl refl (λ h. none refl)
     (λ h. cc) (λ _. refl) k.inquiries (omega arith)

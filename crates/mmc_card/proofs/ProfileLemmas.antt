@@ -19,7 +19,7 @@ standard_made =
       scr = 0 ∷ 5 ∷ 0 ∷ 0 ∷ 0 ∷ 0 ∷ 0 ∷ 0 ∷ [];
       switch_status = slice_set (slice_set (replicate 64 0) 13 1) 16 15;
       ext_csd = [];
-      published = 1;
+      is_nameless = false;
       is_locked = false;
       answers_cmd8 = false;
     }
@@ -28,7 +28,6 @@ pub standard_registers : HasRegisters standard_made
 unfolding is_sound_register remainder power times_x
 standard_registers = record {
   ocr = omega arith;
-  published = omega arith;
   cid = refl;
   csd = refl;
   cid_check = refl;
@@ -51,7 +50,7 @@ standard_profile = record {
   window = refl;
   unlocked = refl;
   sd = λ h. record {
-    published = λ none. absurd cc;
+    named = refl;
     capacity = inl (record { version = refl; read_length = refl; write_length = refl; ccs = refl });
   };
   mmc = λ h. absurd cc;

@@ -61,8 +61,9 @@ sending_reached command c k =
     by_cond IsSending (leaves_erase command) (λ _. k)
     (λ _. by_cond IsSending (holds_address c.erase) (λ _. sending_like c _ k refl refl refl) (λ _. k))
 
-pub sending_reset : (lands : ℕ → Bool) (c : Card) → IsSending c → IsSending (reset lands c)
-sending_reset lands c k = record { registers = k.registers; erase_group_def = omega arith; sends = tt }
+pub sending_reset : (lands : ℕ → Bool) (keeps_length : Bool) (c : Card) → IsSending c
+    → IsSending (reset lands keeps_length c)
+sending_reset lands keeps_length c k = record { registers = k.registers; erase_group_def = omega arith; sends = tt }
 
 pub sending_programmed : (lands : ℕ → Bool) (c : Card) → IsSending c → IsSending (programmed lands c)
 sending_programmed lands c k = sending_like c _ k refl refl refl
@@ -80,8 +81,8 @@ sending_waited c k = sending_like c _ k refl refl refl
 
 -- Rows.
 
-sending_inquired : (is_ready : Bool) (c : Card) → IsSending c → IsSending (inquired is_ready c).0
-sending_inquired is_ready c k =
+sending_inquired : (is_ready : Bool) (early : ℕ) (c : Card) → IsSending c → IsSending (inquired is_ready early c).0
+sending_inquired is_ready early c k =
     first_by_cond IsSending is_ready _ _ (λ _. sending_like c _ k refl refl refl)
     (λ _. sending_like c _ k refl refl refl)
 
@@ -123,9 +124,10 @@ sending_switch c (Some d) h k = record {
 
 sending_row : (choice : Choice) (command : Command) (c : Card) (index argument : ℕ) → IsSending c
     → IsSending (row choice command c index argument).0
-sending_row choice GoIdleState c index argument k = sending_reset choice.lands c k
-sending_row choice SendOpCond c index argument k = sending_inquired (not choice.is_slow) c k
-sending_row choice SdSendOpCond c index argument k = sending_inquired (is_served c argument && not choice.is_slow) c k
+sending_row choice GoIdleState c index argument k = sending_reset choice.lands choice.keeps_length c k
+sending_row choice SendOpCond c index argument k = sending_inquired (not choice.is_slow) choice.early c k
+sending_row choice SdSendOpCond c index argument k =
+    sending_inquired (is_served c argument && not choice.is_slow) choice.early c k
 sending_row choice StopTransmission c index argument k =
     by_cond IsSending (is_in c.state Rcv) (λ _. sending_like c _ k refl refl refl)
     (λ _. sending_from c _ k refl refl tt)

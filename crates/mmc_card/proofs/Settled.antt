@@ -89,8 +89,9 @@ settled_reached command c k =
     by_cond IsSettled (leaves_erase command) (λ _. k)
     (λ _. by_cond IsSettled (holds_address c.erase) (λ _. settled_like c _ k refl k.fits refl refl refl) (λ _. k))
 
-pub settled_reset : (lands : ℕ → Bool) (c : Card) → IsSettled (reset lands c)
-settled_reset lands c = settled_rest _ Idle refl refl refl (fits_none (reset lands c) refl) (λ _. refl)
+pub settled_reset : (lands : ℕ → Bool) (keeps_length : Bool) (c : Card) → IsSettled (reset lands keeps_length c)
+settled_reset lands keeps_length c =
+    settled_rest _ Idle refl refl refl (fits_none (reset lands keeps_length c) refl) (λ _. refl)
 
 pub settled_programmed : (lands : ℕ → Bool) (c : Card) → is_in c.state Prg ≡ true → IsSettled c
     → IsSettled (programmed lands c)
@@ -117,9 +118,10 @@ settled_waited c k = settled_like c _ k refl k.fits refl refl refl
 
 -- Rows.
 
-settled_inquired : (is_ready : Bool) (c : Card) → c.state ≡ Idle → IsSettled c → IsSettled (inquired is_ready c).0
-settled_inquired true c e k = settled_rest _ Ready refl refl refl k.fits (λ _. source_at c Idle k e refl)
-settled_inquired false c e k = settled_like c _ k refl k.fits refl refl refl
+settled_inquired : (is_ready : Bool) (early : ℕ) (c : Card) → c.state ≡ Idle → IsSettled c
+    → IsSettled (inquired is_ready early c).0
+settled_inquired true early c e k = settled_rest _ Ready refl refl refl k.fits (λ _. source_at c Idle k e refl)
+settled_inquired false early c e k = settled_like c _ k refl k.fits refl refl refl
 
 settled_transferred : (index errors : ℕ) (c after : Card) → IsSettled c → IsSettled after
     → IsSettled (transferred index errors c after).0
@@ -226,10 +228,11 @@ quiet_either Dis h = refl
 
 settled_row : (choice : Choice) (command : Command) (c : Card) (index argument : ℕ) → is_legal command c ≡ true
     → IsSettled c → IsSettled (row choice command c index argument).0
-settled_row choice GoIdleState c index argument l k = settled_reset choice.lands c
-settled_row choice SendOpCond c index argument l k = settled_inquired (not choice.is_slow) c (in_state c.state Idle l) k
+settled_row choice GoIdleState c index argument l k = settled_reset choice.lands choice.keeps_length c
+settled_row choice SendOpCond c index argument l k =
+    settled_inquired (not choice.is_slow) choice.early c (in_state c.state Idle l) k
 settled_row choice SdSendOpCond c index argument l k =
-    settled_inquired (is_served c argument && not choice.is_slow) c (in_state c.state Idle l) k
+    settled_inquired (is_served c argument && not choice.is_slow) choice.early c (in_state c.state Idle l) k
 settled_row choice AllSendCid c index argument l k =
     settled_rest _ Ident refl refl refl k.fits (λ _. source_at c Ready k (in_state c.state Ready l) refl)
 settled_row choice SendRelativeAddr c index argument l k =

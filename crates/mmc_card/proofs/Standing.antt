@@ -76,8 +76,9 @@ reset_like c d state made same busy count erase app inquiries polled values a = 
   values = values ∙ a.values;
 }
 
-pub stands_reset : (s : Setting) (lands : ℕ → Bool) (c : Card) → Stands s (reset lands c)
-stands_reset s lands c = record {
+pub stands_reset : (s : Setting) (lands : ℕ → Bool) (keeps_length : Bool) (c : Card)
+    → Stands s (reset lands keeps_length c)
+stands_reset s lands keeps_length c = record {
   selected = λ u. cc;
   sends = λ u. cc;
   reset = λ n. record {
@@ -290,14 +291,14 @@ command_stands old frame reply new o step s h =
     after_command (Stands s) old frame reply new h
     (λ choice. stands_answered s choice old.card (command_in frame) o h)
     (λ keeps. stands_garbled s keeps old.card h)
-    (λ lands card _. stands_reset s lands card) step
+    (λ lands keeps card _. stands_reset s lands keeps card) step
 
 pub poll_stands : (old : BusView) (said : Bool) (new : BusView) → PollStep old said new → StillStands old.card new.card
 poll_stands old said new step s h =
     after_poll (Stands s) old said new h (stands_rested s old.card h) (λ busy. stands_slow s old.card busy h)
     (λ lands prg. stands_programmed s lands old.card prg h)
     (λ lands rcv. stands_fallen_short s lands old.card rcv h) (λ bits card _ k. stands_raised s bits card k)
-    (λ lands card _. stands_reset s lands card) step
+    (λ lands keeps card _. stands_reset s lands keeps card) step
 
 pub write_stands : (old : BusView) (block : Sector) (got : DataOut) (new : BusView) → WriteStep old block got new
     → StillStands old.card new.card
@@ -306,7 +307,7 @@ write_stands old block got new step s h =
     after_write (Stands s) old block got new h
     (λ accepts. stands_accepted s block old.card (rcv accepts) h)
     (λ ignores accepts. stands_rejected s ignores old.card (rcv accepts) h)
-    (λ lands card _. stands_reset s lands card) step
+    (λ lands keeps card _. stands_reset s lands keeps card) step
 
 pub read_stands : (old : BusView) (size : ℕ) (got : DataIn) (block : Sector) (new : BusView)
     → ReadStep old size got block new → StillStands old.card new.card
@@ -316,4 +317,4 @@ read_stands old size got block new step s h =
     let d = sends_data old.lines size old.card sends in
     stands_sent_from s old.card.source choice old.card d (h.sends d) h)
     (λ bits card _ k. stands_raised s bits card k)
-    (λ lands card _. stands_reset s lands card) step
+    (λ lands keeps card _. stands_reset s lands keeps card) step

@@ -23,7 +23,7 @@ use Rattle.mmc_card.specs.BusView.{BusView}
 
 -- it survives a failure of the power
 abbrev pub Survives : (Card → Type 0) → Type 0
-Survives P = (lands : ℕ → Bool) (card : Card) → P card → P (reset lands card)
+Survives P = (lands : ℕ → Bool) (keeps_length : Bool) (card : Card) → P card → P (reset lands keeps_length card)
 
 -- it bears error bits that are raised
 abbrev pub Bears : (Card → Type 0) → Type 0
@@ -44,8 +44,8 @@ after_command P old frame reply new stays answers garbles survives step =
       | lose_reply choice patient count card heard silent ↦ along P card (answers choice)
       | flip_reply choice patient count card flipped ↦ along P card (answers choice)
       | slow_inquiry choice slow late inquiry count card spells ↦ along P card (answers choice)
-      | brownout choice lands after patient count card silent ↦ along P card
-          (survives lands _ (by_cond P after (λ _. answers choice) (λ _. stays)))
+      | brownout choice lands keeps_length after patient count card silent ↦ along P card
+          (survives lands keeps_length _ (by_cond P after (λ _. answers choice) (λ _. stays)))
     ]
 
 pub after_poll : (P : Card → Type 0) (old : BusView) (said : Bool) (new : BusView) → P old.card → P (rested old.card)
@@ -64,8 +64,8 @@ after_poll P old said new stays rests slows fails falls bears survives step =
           (bears bits _ (among_all bits of.0) (fails lands prg))
       | fall_short lands bits of rcv is_busy count card answer ↦ along P card
           (bears bits _ (among_all bits of.0) (falls lands rcv))
-      | brownout choice lands after patient count card answer ↦ along P card
-          (survives lands _ (by_cond P after (λ _. polls choice) (λ _. stays)))
+      | brownout choice lands keeps_length after patient count card answer ↦ along P card
+          (survives lands keeps_length _ (by_cond P after (λ _. polls choice) (λ _. stays)))
     ]
 
 pub after_write : (P : Card → Type 0) (old : BusView) (block : Sector) (got : DataOut) (new : BusView) → P old.card
@@ -80,8 +80,8 @@ after_write P old block got new stays accepts rejects survives step =
       | reject ignores can count card answer ↦ along P card (rejects ignores can)
       | lose_status is_accepted ignores can count card answer ↦ along P card
           (by_cond P is_accepted (λ _. accepts can) (λ _. rejects ignores can))
-      | brownout lands after count card answer ↦ along P card
-          (survives lands _ (by_cond P after (λ _. offers) (λ _. stays)))
+      | brownout lands keeps_length after count card answer ↦ along P card
+          (survives lands keeps_length _ (by_cond P after (λ _. offers) (λ _. stays)))
     ]
 
 pub after_read : (P : Card → Type 0) (old : BusView) (size : ℕ) (got : DataIn) (block : Sector) (new : BusView)
@@ -95,6 +95,6 @@ after_read P old size got block new stays sends bears survives step =
       | faithful choice count card answer good ↦ along P card (asks choice)
       | bad_block choice comes can count card answer ↦ along P card (sends choice can)
       | read_error can count card answer ↦ along P card (bears card_ecc_failed old.card refl stays)
-      | brownout choice lands after count card answer ↦ along P card
-          (survives lands _ (by_cond P after (λ _. asks choice) (λ _. stays)))
+      | brownout choice lands keeps_length after count card answer ↦ along P card
+          (survives lands keeps_length _ (by_cond P after (λ _. asks choice) (λ _. stays)))
     ]

@@ -137,4 +137,4 @@ command_switches part old frame index argument reply new switch command step s h
     (switch_answers s part choice old.card.made.kind old.card argument switch.mmc switch.access h)) in
     after_command (Switched part s) old frame reply new (inl h) answers
     (λ keeps. inl (stands_garbled s keeps old.card h))
-    (λ lands card _. inl (stands_reset s lands card)) step
+    (λ lands keeps card _. inl (stands_reset s lands keeps card)) step

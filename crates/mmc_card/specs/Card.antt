@@ -6,7 +6,7 @@ use Rattle.mmc_frame.specs.Flips.{AreBytes}
 use Rattle.mmc_frame.specs.Status.{state_number}
 use Rattle.mmc_frame.specs.declared.card_state.State.{State}
 use Rattle.mmc_frame.specs.declared.card_state.State.TheVariants.{Data, Idle, Prg, Rcv, Stby, Tran}
-use Rattle.mmc_frame.specs.declared.kind.Kind.TheVariants.{Mmc, Sd}
+use Rattle.mmc_frame.specs.declared.kind.Kind.TheVariants.{Mmc}
 use Rattle.mmc_card.specs.declared.exchange.Timing.{Timing}
 use Rattle.mmc_card.specs.declared.exchange.Timing.TheVariants.{Default}
 use Rattle.mmc_card.specs.declared.exchange.Width.{Width}
@@ -14,7 +14,7 @@ use Rattle.mmc_card.specs.declared.exchange.Width.TheVariants.{One}
 use Rattle.mmc_card.specs.declared.part.Part.{Part}
 use Rattle.mmc_card.specs.declared.part.Part.TheVariants.{User}
 use Rattle.mmc_card.specs.ErrorBits.{command_error_bits, error_bits}
-use Rattle.mmc_card.specs.Made.{HasRegisters, Made, first_block_length, first_rca, sectors_in}
+use Rattle.mmc_card.specs.Made.{HasRegisters, Made, first_block_length, first_rca, named_block_length, sectors_in}
 use Rattle.mmc_card.specs.Sectors.{Change, Sector, Sets, maybe_changed, part_number}
 
 -- The addresses that an erase is to go by: none, that of CMD32 or CMD35, and that of CMD33 or CMD36 too.
@@ -173,10 +173,9 @@ pub record IsApart (card : Card) : Type 0 where
   pub count : card.count ≡ 0
   pub erase : card.erase ≡ NoAddress
 
--- The RCA is the first one until one is published or assigned; an SD card has the one that it publishes.
-pub record HasItsRca (card : Card) : Type 0 where
-  pub first : is_identified card.state ≡ false → card.rca ≡ first_rca card.made.kind
-  pub published : is_identified card.state ≡ true → card.made.kind ≡ Sd → card.rca ≡ card.made.published
+-- the RCA is the first one until one is published or assigned
+abbrev pub HasItsRca : Card → Type 0
+HasItsRca card = is_identified card.state ≡ false → card.rca ≡ first_rca card.made.kind
 
 -- what is unfinished, if anything is, lies inside its partition
 abbrev pub FitsPart : Card → Type 0
@@ -216,7 +215,7 @@ pub record IsCard (card : Card) : Type 0 where
   pub sends : SendsBytes card.source
   -- byte 175 of the EXT_CSD is 0, or 1 by a switch
   pub erase_group_def : card.erase_group_def ≤ 1
-  pub block_length : (card.block_length ≡ 512) ⊎ (card.block_length ≡ first_block_length card.made)
+  pub block_length : (card.block_length ≡ 512) ⊎ (card.block_length ≡ named_block_length card.made)
   pub command_errors : AreAmong card.command_errors command_error_bits
   pub errors : AreAmong card.errors error_bits
   -- sectors have 512 bytes, and so have the new values of an unfinished write, erase or trim

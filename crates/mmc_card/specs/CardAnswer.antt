@@ -1,11 +1,12 @@
 -- Headline (README.md, "What to read").
 -- What a card shows of itself in a response, and what it does with the error bits that it has shown.
 -- When error bits are raised, shown and cleared is the project's own choice, made here once.
-use Rattle.std.specs.Prelude.{◌*◌, ◌+◌, ◌^◌, Bool, List, bit_or, false, if◌then◌else◌, min, not, true, ℕ}
+use Rattle.std.specs.Prelude.{◌%◌, ◌*◌, ◌+◌, ◌-◌, ◌^◌, Bool, List, bit_or, false, if◌then◌else◌, min, not, true, ℕ}
 use Rattle.mmc_frame.specs.Field.{field}
 use Rattle.mmc_frame.specs.Status.{state_number}
 use Rattle.mmc_card.specs.Card.{Card, landed, powered_on}
 use Rattle.mmc_card.specs.ErrorBits.{card_is_locked, com_crc_error, illegal_command}
+use Rattle.mmc_card.specs.Made.{Made, named_block_length}
 
 -- What a card answers: nothing; a response with a check, to the command with this index, with this argument (R1, R6,
 -- R7); an OCR (R3); a register of sixteen bytes (R2).
@@ -25,6 +26,12 @@ pub record Choice : Type 0 where
   pub says_end : Bool
   -- the preset count outlives a command with a bad check
   pub keeps_count : Bool
+  -- which of the RCAs from 1 on an SD card publishes
+  pub rca : ℕ
+  -- bits 30 and 29 of an OCR before the card is ready
+  pub early : ℕ
+  -- the block length outlives CMD0
+  pub keeps_length : Bool
 
 abbrev pub bit : Bool → ℕ
 bit b = if b then 1 else 0
@@ -36,10 +43,15 @@ status app card =
     2 ^ 13 * (card.command_errors + card.errors + card_is_locked * bit card.made.is_locked)
     + 2 ^ 9 * state_number card.state + 2 ^ 8 * bit (not card.is_busy) + 2 ^ 7 * bit card.switch_error + 2 ^ 5 * bit app
 
+-- The RCA that an SD card publishes: at each CMD3 any of 1 to FFFFh, since 0 names no card (SD Physical Layer 6.00,
+-- sections 4.2.2 and 5.4).
+abbrev pub published : Choice → Made → ℕ
+published choice made = if made.is_nameless then 0 else 1 + choice.rca % (2 ^ 16 - 1)
+
 -- The argument of an R6: the RCA, and status bits 23, 22, 19 and 12 to 0 (SD Physical Layer 6.00, section 4.9.5).
-abbrev pub r6_argument : Card → ℕ
-r6_argument card =
-    2 ^ 16 * card.made.published + 2 ^ 14 * field 23 22 (status false card) + 2 ^ 13 * field 19 19 (status false card)
+abbrev pub r6_argument : ℕ → Card → ℕ
+r6_argument rca card =
+    2 ^ 16 * rca + 2 ^ 14 * field 23 22 (status false card) + 2 ^ 13 * field 19 19 (status false card)
     + field 12 0 (status false card)
 
 -- error bits are raised, and stay until they are shown
@@ -68,9 +80,12 @@ garbled keeps_count card =
     }
 
 -- As after CMD0 (SD Physical Layer 6.00, section 4.3; JESD84-B51, section 6.4.1): each block or sector of an unfinished
--- write, erase or trim is old or new. The block length stays (the project's own).
-abbrev pub reset : (ℕ → Bool) → Card → Card
-reset lands card = record (powered_on card.made (landed lands card)) { block_length = card.block_length }
+-- write, erase or trim is old or new. The block length stays, or is the one that the registers name.
+abbrev pub reset : (ℕ → Bool) → Bool → Card → Card
+reset lands keeps_length card =
+    record (powered_on card.made (landed lands card)) {
+      block_length = if keeps_length then card.block_length else named_block_length card.made;
+    }
 
 -- one time more, counted up to eight
 abbrev pub counted : ℕ → ℕ

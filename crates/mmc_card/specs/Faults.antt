@@ -107,9 +107,9 @@ pub data CommandStep (old : BusView) (frame : List ℕ) (reply : Reply) (new : B
       → Spells (answered choice old.card (command_in frame)).1 reply
       → CommandStep old frame reply new
   -- the power fails before the step or after it
-  brownout : (choice : Choice) (lands : ℕ → Bool) (after : Bool) → IsPatient choice old.card.inquiries
+  brownout : (choice : Choice) (lands : ℕ → Bool) (keeps_length after : Bool) → IsPatient choice old.card.inquiries
       → OneFault old new
-      → new.card ≡ reset lands (if after then (answered choice old.card (command_in frame)).0 else old.card)
+      → new.card ≡ reset lands keeps_length (if after then (answered choice old.card (command_in frame)).0 else old.card)
       → reply ≡ Came.Silent → CommandStep old frame reply new
 
 -- some error bits of execution, one at least
@@ -135,8 +135,8 @@ pub data PollStep (old : BusView) (said : Bool) (new : BusView) : Type 0 where
       → old.card.is_busy ≡ true → OneFault old new
       → new.card ≡ raised bits (fallen_short lands old.card) → said ≡ false
       → PollStep old said new
-  brownout : (choice : Choice) (lands : ℕ → Bool) (after : Bool) → IsPatient choice old.card.polled → OneFault old new
-      → new.card ≡ reset lands (if after then (polled_once choice old.card).0 else old.card) → said ≡ false
+  brownout : (choice : Choice) (lands : ℕ → Bool) (keeps_length after : Bool) → IsPatient choice old.card.polled → OneFault old new
+      → new.card ≡ reset lands keeps_length (if after then (polled_once choice old.card).0 else old.card) → said ≡ false
       → PollStep old said new
 
 -- A block that is offered.
@@ -152,8 +152,8 @@ pub data WriteStep (old : BusView) (block : List ℕ) (got : DataOut) (new : Bus
   lose_status : (is_accepted ignores : Bool) → can_accept old.lines old.card ≡ true → OneFault old new
       → new.card ≡ (if is_accepted then accepted block old.card else rejected ignores old.card) → got ≡ Sent.Nothing
       → WriteStep old block got new
-  brownout : (lands : ℕ → Bool) (after : Bool) → OneFault old new
-      → new.card ≡ reset lands (if after then offered old.lines block old.card else old.card) → got ≡ Sent.Nothing
+  brownout : (lands : ℕ → Bool) (keeps_length after : Bool) → OneFault old new
+      → new.card ≡ reset lands keeps_length (if after then offered old.lines block old.card else old.card) → got ≡ Sent.Nothing
       → WriteStep old block got new
 
 -- A block of this length that is asked for.
@@ -170,7 +170,7 @@ pub data ReadStep (old : BusView) (size : ℕ) (got : DataIn) (block : List ℕ)
   read_error : can_send old.lines size old.card ≡ true → OneFault old new
       → new.card ≡ raised card_ecc_failed old.card → got ≡ Received.Nothing
       → ReadStep old size got block new
-  brownout : (choice : Choice) (lands : ℕ → Bool) (after : Bool) → OneFault old new
-      → new.card ≡ reset lands (if after then asked_for choice old.lines size old.card else old.card)
+  brownout : (choice : Choice) (lands : ℕ → Bool) (keeps_length after : Bool) → OneFault old new
+      → new.card ≡ reset lands keeps_length (if after then asked_for choice old.lines size old.card else old.card)
       → got ≡ Received.Nothing
       → ReadStep old size got block new

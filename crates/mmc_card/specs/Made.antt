@@ -36,8 +36,8 @@ pub record Made : Type 0 where
   pub switch_status : List ℕ
   -- 512 bytes, of an eMMC device; where a field can be switched, the card's own field counts in place of its byte
   pub ext_csd : List ℕ
-  -- the RCA that an SD card publishes
-  pub published : ℕ
+  -- SD: the RCA that it publishes is 0, which names no card
+  pub is_nameless : Bool
   pub is_locked : Bool
   -- SD: knows CMD8
   pub answers_cmd8 : Bool
@@ -51,7 +51,6 @@ has_high_speed made = high_speed_support made.switch_status == 1
 -- none (section 4.3.10.4).
 pub record HasRegisters (made : Made) : Type 0 where
   pub ocr : made.ocr < 2 ^ 31
-  pub published : made.published < 2 ^ 16
   pub cid : length made.cid ≡ 16
   pub csd : length made.csd ≡ 16
   pub cid_check : is_sound_register made.cid ≡ true
@@ -104,11 +103,14 @@ or_none says (Err fault) = 0
 abbrev pub is_read_only : Made → Bool
 is_read_only made = is_protected (csd_number_of made)
 
--- The block length after power on:
--- 2^READ_BL_LEN on a byte-addressed eMMC device (JESD84-B51, section 7.3), otherwise 512.
+-- The block length that the registers name: 2^READ_BL_LEN with byte addresses (SD Physical Layer 6.00, section 5.3.2;
+-- JESD84-B51, section 7.3), otherwise 512.
+abbrev pub named_block_length : Made → ℕ
+named_block_length made = if has_sector_addresses made then 512 else 2 ^ read_bl_len (csd_number_of made)
+
+-- The block length after power on: 512 on an SD card (SD Physical Layer 6.00, table 4-25, CMD16), otherwise the named one.
 abbrev pub first_block_length : Made → ℕ
-first_block_length made =
-    if is_mmc made.kind && not (has_sector_addresses made) then 2 ^ read_bl_len (csd_number_of made) else 512
+first_block_length made = if is_sd made.kind then 512 else named_block_length made
 
 -- The RCA while none was published or assigned:
 -- 0 for SD (SD Physical Layer 6.00, section 5.4), 1 for eMMC (JESD84-B51, section 7.5).

@@ -6,7 +6,7 @@ use Rattle.mmc_frame.specs.declared.kind.Kind.TheVariants.{Mmc, Sd}
 use Rattle.mmc_regs.specs.Csd.{has_block_length}
 use Rattle.mmc_regs.specs.CsdFields.{csd_structure, read_bl_len, write_bl_len}
 use Rattle.mmc_regs.specs.Ocr.{access_mode, card_capacity_status, window_at_3_3_volts}
-use Rattle.mmc_ext_csd.specs.ExtCsd.{ext_csd_rev, hc_erase_grp_size, sec_count}
+use Rattle.mmc_ext_csd.specs.ExtCsd.{data_sector_size, ext_csd_rev, has_protection, hc_erase_grp_size, sec_count}
 use Rattle.mmc_card.specs.Made.{Made, csd_number_of}
 
 -- an SD card of standard capacity: CSD version 1.0 with blocks of 512 to 2048 bytes, and byte addresses
@@ -23,7 +23,7 @@ pub record IsHighCapacity (made : Made) : Type 0 where
   pub told : made.answers_cmd8 ≡ true
 
 pub record SdInProfile (made : Made) : Type 0 where
-  pub published : made.published ≡ 0 → ⊥
+  pub named : made.is_nameless ≡ false
   pub capacity : IsStandardCapacity made ⊎ IsHighCapacity made
 
 -- an eMMC device with byte addresses, whose size is that of the CSD, in blocks of 512 to 2048 bytes
@@ -36,8 +36,11 @@ pub record IsSectorAddressed (made : Made) : Type 0 where
   pub mode : access_mode made.ocr ≡ 2
   pub counted : sec_count made.ext_csd ≡ 0 → ⊥
 
+-- revision 5 or later, sectors of 512 bytes, and no write protection by USER_WP or BOOT_WP
 pub record MmcInProfile (made : Made) : Type 0 where
   pub revision : 5 ≤ ext_csd_rev made.ext_csd
+  pub sector_size : data_sector_size made.ext_csd ≡ 0
+  pub unprotected : has_protection made.ext_csd ≡ false
   pub erase_group : hc_erase_grp_size made.ext_csd ≡ 0 → ⊥
   pub addresses : IsByteAddressed made ⊎ IsSectorAddressed made
 

@@ -1,26 +1,30 @@
 -- Headline (README.md, "What to read").
 -- Identification and status (SD Physical Layer 6.00, sections 4.2 and 4.3; JESD84-B51, sections 6.4 and 6.6.1).
 -- Each row is what a card does with a command in a state where it is legal, and its answer.
-use Rattle.std.specs.Prelude.{◌&&◌, ◌+◌, ◌==◌, ◌^◌, ◌||◌, Bool, false, if◌then◌else◌, not, true, ℕ}
+use Rattle.std.specs.Prelude.{◌%◌, ◌&&◌, ◌*◌, ◌+◌, ◌==◌, ◌^◌, ◌||◌, Bool, false, if◌then◌else◌, not, true, ℕ}
 use Rattle.mmc_frame.specs.Field.{field}
 use Rattle.mmc_frame.specs.declared.card_state.State.TheVariants.{Ident, Ready, Stby, Tran}
 use Rattle.mmc_frame.specs.declared.commands.TheConstants as Index
 use Rattle.mmc_regs.specs.Ocr.{card_capacity_status}
-use Rattle.mmc_card.specs.CardAnswer.{CardAnswer, Checked, Choice, Silent, R3, R2, busied, counted, done, r6_argument}
-use Rattle.mmc_card.specs.CardAnswer.{reset, shown, status}
+use Rattle.mmc_card.specs.CardAnswer.{CardAnswer, Checked, Choice, Silent, R3, R2, busied, counted, done, published}
+use Rattle.mmc_card.specs.CardAnswer.{r6_argument, reset, shown, status}
 use Rattle.mmc_card.specs.Card.{Card}
 
 -- CMD0, GO_IDLE_STATE
 abbrev pub go_idle_state : Choice → Card → Card × CardAnswer
-go_idle_state choice card = (reset choice.lands card, Silent)
+go_idle_state choice card = (reset choice.lands choice.keeps_length card, Silent)
+
+-- the OCR before the card is ready, whose bits 30 and 29 are open then
+abbrev pub early_ocr : ℕ → ℕ → ℕ
+early_ocr early ocr = 2 ^ 29 * (early % 4) + ocr % 2 ^ 29
 
 -- A readiness inquiry: not ready yet, or ready, which bit 31 of the OCR says (SD Physical Layer 6.00, section 5.1;
 -- JESD84-B51, section 7.1).
-abbrev pub inquired : Bool → Card → Card × CardAnswer
-inquired is_ready card =
+abbrev pub inquired : Bool → ℕ → Card → Card × CardAnswer
+inquired is_ready early card =
     if is_ready
     then (record (done card) { state = Ready; inquiries = counted card.inquiries }, R3 (2 ^ 31 + card.made.ocr))
-    else (record (done card) { inquiries = counted card.inquiries }, R3 card.made.ocr)
+    else (record (done card) { inquiries = counted card.inquiries }, R3 (early_ocr early card.made.ocr))
 
 -- A card with CCS 1 is never ready for a host that doesn't say HCS, bit 30 (SD Physical Layer 6.00, section 4.2.3).
 abbrev pub is_served : Card → ℕ → Bool
@@ -28,22 +32,22 @@ is_served card argument = not (card_capacity_status card.made.ocr == 1) || (fiel
 
 -- CMD1 of eMMC, SEND_OP_COND
 abbrev pub send_op_cond : Choice → Card → Card × CardAnswer
-send_op_cond choice card = inquired (not choice.is_slow) card
+send_op_cond choice card = inquired (not choice.is_slow) choice.early card
 
 -- ACMD41, SD_SEND_OP_COND
 abbrev pub sd_send_op_cond : Choice → Card → ℕ → Card × CardAnswer
-sd_send_op_cond choice card argument = inquired (is_served card argument && not choice.is_slow) card
+sd_send_op_cond choice card argument = inquired (is_served card argument && not choice.is_slow) choice.early card
 
 -- CMD2, ALL_SEND_CID
 abbrev pub all_send_cid : Card → Card × CardAnswer
 all_send_cid card = (record (done card) { state = Ident }, R2 card.made.cid)
 
--- CMD3 of SD, SEND_RELATIVE_ADDR; in stby the same RCA again (the project's own)
-abbrev pub send_relative_addr : Card → Card × CardAnswer
-send_relative_addr card = (
-  record (shown card) { state = Stby; rca = card.made.published },
+-- CMD3 of SD, SEND_RELATIVE_ADDR; in stby too the card publishes an RCA anew
+abbrev pub send_relative_addr : Choice → Card → Card × CardAnswer
+send_relative_addr choice card = (
+  record (shown card) { state = Stby; rca = published choice card.made },
   Checked Index.SEND_RELATIVE_ADDR
-      (r6_argument card),
+      (r6_argument (published choice card.made) card),
 )
 
 -- CMD3 of eMMC, SET_RELATIVE_ADDR

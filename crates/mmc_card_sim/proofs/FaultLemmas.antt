@@ -1,13 +1,17 @@
 -- What comes of a block that is sent in an exchange for which a fault is planned.
 use Rattle.std.proofs.Common.{◌∙◌, ◌≡◌, Bool, List, ap, false, refl, sym, true, ℕ}
-use Rattle.std.specs.Prelude.{if◌then◌else◌}
-use Rattle.mmc_card.specs.Blocks.{can_send, sent}
+use Rattle.std.specs.Prelude.{Option, if◌then◌else◌}
+use Rattle.mmc_card.specs.Blocks.{can_accept, can_send, offered, sent}
 use Rattle.mmc_card.specs.Card.{Card}
 use Rattle.mmc_card.specs.declared.exchange.DataIn.{DataIn}
 use Rattle.mmc_card.specs.declared.exchange.DataIn.TheVariants.{Good, Nothing}
+use Rattle.mmc_card.specs.declared.exchange.DataOut.{DataOut}
+use Rattle.mmc_card.specs.declared.exchange.DataOut.TheVariants as Sent
 use Rattle.mmc_card.specs.declared.exchange.Lines.{Lines}
 use Rattle.mmc_card_sim.specs.Chip.{Sends, choice_of}
-use Rattle.mmc_card_sim.specs.FaultyExchanges.{Spoils}
+use Rattle.mmc_card_sim.specs.FaultyExchanges.{Spoils, Writes, fits_write}
+use Rattle.mmc_card_sim.specs.declared.delays.Delays.{Delays}
+use Rattle.mmc_card_sim.specs.declared.fault.Fault.{Fault}
 
 sends_good : (can : Bool) → Good ≡ (if can then Good else Nothing) → can ≡ true
 sends_good true h = refl
@@ -38,3 +42,16 @@ module _ (comes : DataIn) (old new : Card) (lines : Lines) (size : ℕ) (block :
     fault_got = λ fell. cc;
     sends = λ no. sends;
   }
+
+-- a block that is written, where no fault falls
+pub unfit : (fault : Option Fault) (delays : Delays) (old new : Card) (lines : Lines) (block : List ℕ) (got : DataOut)
+    → fits_write fault old lines ≡ false → new ≡ offered lines block old
+    → got ≡ (if can_accept lines old then Sent.Accepted else Sent.Nothing)
+    → Writes fault delays old lines block got false new
+unfit fault delays old new lines block got fits card got_is = record {
+  fell_is = sym fits;
+  fault_card = λ fell. cc;
+  fault_got = λ fell. cc;
+  card = λ none. card;
+  got_is = λ none. got_is;
+}

@@ -26,7 +26,7 @@ use Rattle.mmc_card.proofs.CardAll.{command_leaves_card, poll_leaves_card, read_
 use Rattle.mmc_bus.specs.declared.wire.Wire.{Wire}
 use Rattle.mmc_bus.specs.Exchanges.{Commanded, DataRead, DataWritten, Exchanged, Polled}
 use Rattle.mmc_bus.specs.Wires.{Notes, bus_view_with}
-use Rattle.mmc_card_sim.specs.Chip.{choice_of, inquiry_choice}
+use Rattle.mmc_card_sim.specs.Chip.{choice_of, command_choice}
 use Rattle.mmc_card.proofs.Cards.{in_state}
 use Rattle.mmc_card_sim.proofs.ChipLemmas.{execution_held}
 use Rattle.mmc_card_sim.specs.FaultyExchanges.{are_of_execution, failed, may_fail, may_fall_short}
@@ -73,7 +73,7 @@ few_times : (limit times : ℕ) → limit ≤ 8 → nat_lt times limit ≡ true 
 few_times limit times few less = grind (arith, nat_tests, few, less)
 
 soon_ready : (delays : Delays) (card : Card) → delays.ready ≤ 8
-    → IsPatient (inquiry_choice delays.ready card) card.inquiries
+    → IsPatient (command_choice delays card) card.inquiries
 soon_ready delays card few slow = few_times delays.ready card.inquiries few slow
 
 module _ (plan : List Planned) (old new : Card) (delays : Delays) (soon : delays.ready ≤ 8) (faults later : ℕ)
@@ -86,13 +86,13 @@ module _ (plan : List Planned) (old new : Card) (delays : Delays) (soon : delays
   command_fault (Some Is.LoseCommand) frame reply one fits card heard = lose_command one card heard
   command_fault (Some (Is.FlipCommand flips)) frame reply one fits card heard = flip_command false one card heard
   command_fault (Some Is.LoseReply) frame reply one fits card heard =
-      lose_reply (inquiry_choice delays.ready old) (soon_ready delays old soon) one card
+      lose_reply (command_choice delays old) (soon_ready delays old soon) one card
       (λ none. cc (ap is_answer none, fits)) heard
   command_fault (Some (Is.FlipReply flips)) frame reply one fits card heard =
-      flip_reply (inquiry_choice delays.ready old) (soon_ready delays old soon) one card
+      flip_reply (command_choice delays old) (soon_ready delays old soon) one card
       (is_flipped flips (heeded delays old frame).1 reply fits heard)
   command_fault (Some (Is.Brownout outcome)) frame reply one fits card heard =
-      command_brownout (choice_of false) (lands_by outcome) false (λ slow. absurd cc) one card heard
+      command_brownout (choice_of false) (lands_by outcome) delays.keeps_length false (λ slow. absurd cc) one card heard
   command_fault (Some Is.BadBlock) frame reply one fits card heard = cc
   command_fault (Some Is.NoBlock) frame reply one fits card heard = cc
   command_fault (Some Is.ReadError) frame reply one fits card heard = cc
@@ -108,7 +108,7 @@ module _ (plan : List Planned) (old new : Card) (delays : Delays) (soon : delays
       → Commands fault delays old frame reply fell new
       → CommandStep (kept_with plan old faults before) frame reply (kept_with plan new later after)
   command_step fault frame reply false counts does =
-      does_command (inquiry_choice delays.ready old) (soon_ready delays old soon) counts (does.card refl)
+      does_command (command_choice delays old) (soon_ready delays old soon) counts (does.card refl)
       (does.answer refl)
   command_step fault frame reply true counts does =
       command_fault fault frame reply counts (sym does.fell_is) (does.fault_card refl) (does.fault_reply refl)
@@ -126,12 +126,12 @@ module _ (plan : List Planned) (old new : Card) (delays : Delays) (soon : delays
 
 -- Blocks.
 
-module _ (plan : List Planned) (old new : Card) (faults later : ℕ) (before after : Wire) where
+module _ (plan : List Planned) (old new : Card) (delays : Delays) (faults later : ℕ) (before after : Wire) where
   -- Blocks that the host reads.
 
   read_fault : (fault : Option Fault) (size : ℕ) (got : DataIn) (block : List ℕ) → later ≡ faults + 1
       → fits_read fault old before.lines size ≡ true
-      → new ≡ after_read fault old → got ≡ read_in fault → ReadStep (kept_with plan old faults before) size got block
+      → new ≡ after_read fault delays old → got ≡ read_in fault → ReadStep (kept_with plan old faults before) size got block
       (kept_with plan new later after)
   read_fault (Some Is.BadBlock) size got block one fits card answer =
       bad_block (choice_of false) true fits one card answer
@@ -139,7 +139,7 @@ module _ (plan : List Planned) (old new : Card) (faults later : ℕ) (before aft
       bad_block (choice_of false) false fits one card answer
   read_fault (Some Is.ReadError) size got block one fits card answer = read_error fits one card answer
   read_fault (Some (Is.Brownout outcome)) size got block one fits card answer =
-      read_brownout (choice_of false) (lands_by outcome) false one card answer
+      read_brownout (choice_of false) (lands_by outcome) delays.keeps_length false one card answer
   read_fault None size got block one fits card answer = cc
   read_fault (Some Is.LoseCommand) size got block one fits card answer = cc
   read_fault (Some (Is.FlipCommand flips)) size got block one fits card answer = cc
@@ -154,7 +154,7 @@ module _ (plan : List Planned) (old new : Card) (faults later : ℕ) (before aft
 
   read_step : (fault : Option Fault) (size : ℕ) (got : DataIn) (block : List ℕ) (fell : Bool)
       → later ≡ (if fell then faults + 1 else faults)
-      → Reads fault old before.lines size got block fell new
+      → Reads fault delays old before.lines size got block fell new
       → ReadStep (kept_with plan old faults before) size got block
       (kept_with plan new later after)
   read_step fault size got block false counts does =
@@ -164,7 +164,7 @@ module _ (plan : List Planned) (old new : Card) (faults later : ℕ) (before aft
 
   pub data_read : (fault : Option Fault) (size : ℕ) (got : DataIn) (block : List ℕ) (fell : Bool)
       → later ≡ (if fell then faults + 1 else faults)
-      → Reads fault old before.lines size got block fell new → IsCard old → Notes before (In size got) after
+      → Reads fault delays old before.lines size got block fell new → IsCard old → Notes before (In size got) after
       → later + to_come plan after.exchanges ≤ faults + to_come plan before.exchanges
       → DataRead (kept_with plan old faults before) size got block (kept_with plan new later after) × IsCard new
   data_read fault size got block fell counts does k notes in_bounds =
@@ -177,14 +177,14 @@ module _ (plan : List Planned) (old new : Card) (faults later : ℕ) (before aft
 
   write_fault : (fault : Option Fault) (block : Sector) (got : DataOut) → later ≡ faults + 1
       → fits_write fault old before.lines ≡ true
-      → new ≡ after_write fault old block → got ≡ written_out fault
+      → new ≡ after_write fault delays old block → got ≡ written_out fault
       → WriteStep (kept_with plan old faults before) block got (kept_with plan new later after)
   write_fault (Some Is.Reject) block got one fits card answer = reject false fits one card answer
   write_fault (Some Is.RejectAll) block got one fits card answer = reject true fits one card answer
   write_fault (Some (Is.LoseStatus Old)) block got one fits card answer = lose_status false false fits one card answer
   write_fault (Some (Is.LoseStatus New)) block got one fits card answer = lose_status true false fits one card answer
   write_fault (Some (Is.Brownout outcome)) block got one fits card answer =
-      write_brownout (lands_by outcome) false one card answer
+      write_brownout (lands_by outcome) delays.keeps_length false one card answer
   write_fault None block got one fits card answer = cc
   write_fault (Some Is.LoseCommand) block got one fits card answer = cc
   write_fault (Some (Is.FlipCommand flips)) block got one fits card answer = cc
@@ -199,7 +199,7 @@ module _ (plan : List Planned) (old new : Card) (faults later : ℕ) (before aft
 
   write_step : (fault : Option Fault) (block : Sector) (got : DataOut) (fell : Bool)
       → later ≡ (if fell then faults + 1 else faults)
-      → Writes fault old before.lines block got fell new → WriteStep (kept_with plan old faults before) block got
+      → Writes fault delays old before.lines block got fell new → WriteStep (kept_with plan old faults before) block got
       (kept_with plan new later after)
   write_step fault block got false counts does = does_write counts (does.card refl) (does.got_is refl)
   write_step fault block got true counts does =
@@ -207,7 +207,7 @@ module _ (plan : List Planned) (old new : Card) (faults later : ℕ) (before aft
 
   pub data_written : (fault : Option Fault) (block : Sector) (got : DataOut) (fell : Bool)
       → later ≡ (if fell then faults + 1 else faults)
-      → Writes fault old before.lines block got fell new → IsBlock block → IsCard old → Notes before (Out got) after
+      → Writes fault delays old before.lines block got fell new → IsBlock block → IsCard old → Notes before (Out got) after
       → later + to_come plan after.exchanges ≤ faults + to_come plan before.exchanges
       → DataWritten (kept_with plan old faults before) block got (kept_with plan new later after) × IsCard new
   data_written fault block got fell counts does size k notes in_bounds =
@@ -254,7 +254,7 @@ module _ (plan : List Planned) (old new : Card) (delays : Delays) (soon : delays
       (card ∙ ap (raised (bits / 2 ^ 13)) (rw (in_state old.state Rcv parts.0) refl)) is
 
   poll_fault : (fault : Option Fault) (said : Bool) → later ≡ faults + 1 → fits_poll fault old ≡ true
-      → new ≡ after_poll fault old → said ≡ is_busy_fault fault
+      → new ≡ after_poll fault delays old → said ≡ is_busy_fault fault
       → PollStep (kept_with plan old faults before) said (kept_with plan new later after)
   poll_fault (Some (Is.Fail outcome)) said one fits card is =
       let parts = and_true (is_in old.state Prg) (not old.is_switching) fits in
@@ -266,7 +266,7 @@ module _ (plan : List Planned) (old new : Card) (delays : Delays) (soon : delays
       let parts = and_true old.is_busy (nat_le 8 old.polled) fits in
       busy parts.0 (at_least 8 old.polled parts.1) one card is
   poll_fault (Some (Is.Brownout outcome)) said one fits card is =
-      poll_brownout (choice_of false) (lands_by outcome) false (λ slow. absurd cc) one card is
+      poll_brownout (choice_of false) (lands_by outcome) delays.keeps_length false (λ slow. absurd cc) one card is
   poll_fault None said one fits card is = cc
   poll_fault (Some Is.LoseCommand) said one fits card is = cc
   poll_fault (Some (Is.FlipCommand flips)) said one fits card is = cc
@@ -335,13 +335,13 @@ room sim fault fell ok is unplanned did =
 
 -- the card in memory after an exchange
 pub still_ok : (old new : SimView) (fault : Option Fault) (fell : Bool) (exchange : Exchange)
-    → SimOk old → new.delays ≡ old.delays → new.plan ≡ old.plan → fault ≡ fault_at old.plan old.wire.exchanges
+    → SimOk old → new.delays.ready ≡ old.delays.ready → new.delays.busy ≡ old.delays.busy → new.plan ≡ old.plan → fault ≡ fault_at old.plan old.wire.exchanges
     → (fault ≡ None → fell ≡ false) → new.faults ≡ (if fell then old.faults + 1 else old.faults)
     → Notes old.wire exchange new.wire → IsCard new.card → SimOk new
-still_ok old new fault fell exchange ok delays plan is unplanned counts notes card = record {
+still_ok old new fault fell exchange ok as_soon as_rested plan is unplanned counts notes card = record {
   is_card = card;
-  soon_ready = rw delays ok.soon_ready;
-  soon_rested = rw delays ok.soon_rested;
+  soon_ready = rw as_soon ok.soon_ready;
+  soon_rested = rw as_rested ok.soon_rested;
   few = few_more fell old.faults new.faults old.wire.exchanges new.wire.exchanges ok.few ok.bounded
       (λ did last. fell_some fell fault old.plan old.wire.exchanges is unplanned ok.never did last) counts
       notes.exchanges;

@@ -1,7 +1,7 @@
 -- What follows of a spec whose registers are taken, and of one that isn't refused.
 use Rattle.std.proofs.Common.{Bool, List, [], arith, cond, false, length, refl, suc, true, zero, ◌&&◌, ◌*◌, ◌+◌, ◌-◌}
 use Rattle.std.proofs.Common.{◌<◌, ◌^◌, ◌∷◌, ◌≡◌, ◌≤◌, ℕ}
-use Rattle.std.specs.Prelude.{Err, Ok, Option, Result, ◌==◌, if◌then◌else◌, is_ok, nat_le}
+use Rattle.std.specs.Prelude.{Err, IfSome, None, Ok, Option, Result, Some, ◌==◌, if◌then◌else◌, is_ok, nat_le}
 use Rattle.std.specs.Prelude.{slice_index, slice_index_or}
 use Rattle.std.proofs.Math.Nat.{le_trans}
 use Rattle.std.proofs.Math.Pow.{pow_mono}
@@ -33,7 +33,7 @@ use Rattle.mmc_card.specs.declared.part.Part.TheVariants.{Boot1, Boot2, Gp1, Gp2
 use Rattle.mmc_card_sim.specs.CardSpec.{HasOwnWidths, HasWidths, each_register_is_taken, has_cid, has_csd}
 use Rattle.mmc_card_sim.specs.CardSpec.{has_no_ready_bit, has_ocr, image_fits, kind_is_taken, mmc_sizes}
 use Rattle.mmc_card_sim.specs.CardSpec.{sd_sizes, sizes_of, takes_image, works_at_3_3_volts}
-use Rattle.mmc_card_sim.specs.Registers.{ext_csd_of, kind_of, made_of, published_by, scr_of, switch_status_by}
+use Rattle.mmc_card_sim.specs.Registers.{ext_csd_of, kind_of, made_of, scr_of, switch_status_by}
 use Rattle.mmc_card_sim.specs.Registers.{switch_status_of}
 use Rattle.mmc_card_sim.specs.Sizes.{total}
 use Rattle.mmc_card_sim.specs.declared.registers.KindRegisters.{KindRegisters}
@@ -58,10 +58,6 @@ number_taken kind (Err fault) h = h
 
 below_ready_bit : (ocr : ℕ) → ocr < 2 ^ 32 → has_no_ready_bit ocr ≡ true → ocr < 2 ^ 31
 below_ready_bit ocr fits h = grind (arith, nat_tests, h)
-
-published_below : (kind : KindRegisters) → HasOwnWidths kind → published_by kind < 2 ^ 16
-published_below (Sd sd) widths = widths.2
-published_below (Mmc mmc) widths = omega arith
 
 scr_length : (kind : KindRegisters) → HasOwnWidths kind → kind_of kind ≡ Is.Sd → length (scr_of kind) ≡ 8
 scr_length (Sd sd) widths is_sd = widths.0
@@ -118,7 +114,6 @@ registers_hold registers widths h =
     let csd_checks = checks registers.csd (number_taken (kind_of registers.kind) _ csd.0) in
     record {
       ocr = below_ready_bit registers.ocr widths.ocr ocr.1;
-      published = published_below registers.kind widths.own;
       cid = widths.cid;
       csd = widths.csd;
       cid_check = cid_checks.0;
@@ -173,6 +168,17 @@ pub few_sectors : (sizes : List ℕ) (image : Option (List ℕ)) → takes_image
     → total sizes ≤ MAX_SECTORS
 few_sectors sizes image h =
     at_most _ MAX_SECTORS (and_true (nat_le (total sizes) MAX_SECTORS) (image_fits image (total sizes)) h).0
+
+length_of : (bytes : List ℕ) (size : ℕ) → (length bytes == size) ≡ true → length bytes ≡ size
+length_of bytes size h = grind (arith, nat_tests, h)
+
+-- an image has 512 bytes for each of them
+pub image_length : (sizes : List ℕ) (image : Option (List ℕ)) → takes_image sizes image ≡ true
+    → IfSome image (λ bytes. length bytes ≡ 512 * total sizes)
+image_length sizes None h = tt
+image_length sizes (Some bytes) h =
+    length_of bytes (512 * total sizes)
+    (and_true (nat_le (total sizes) MAX_SECTORS) (image_fits (Some bytes) (total sizes)) h).1
 
 size_within : (sizes : List ℕ) (i : ℕ) → slice_index_or sizes i 0 ≤ total sizes
 size_within [] i = omega arith

@@ -75,6 +75,11 @@ each_register_is_taken registers =
 abbrev pub has_short_waits : CardSpec → Bool
 has_short_waits spec = nat_le spec.ready 8 && nat_le spec.busy 8
 
+-- bits 30 and 29 of an OCR, where they are said
+abbrev pub has_early_bits : Option ℕ → Bool
+has_early_bits None = true
+has_early_bits (Some early) = nat_le early 3
+
 -- the user partition has sectors, and as many as are wanted
 abbrev pub has_user_sectors : ℕ → ℕ → Bool
 has_user_sectors user wanted = not (user == 0) && (user == wanted)
@@ -82,7 +87,8 @@ has_user_sectors user wanted = not (user == 0) && (user == wanted)
 abbrev pub registers_are_taken : CardSpec → Bool
 registers_are_taken spec =
     each_register_is_taken spec.registers
-    && (has_short_waits spec && has_user_sectors (user_sectors (made_of spec.registers)) spec.sectors)
+    && (has_short_waits spec
+    && (has_early_bits spec.early && has_user_sectors (user_sectors (made_of spec.registers)) spec.sectors))
 
 -- where there is an image, it has 512 bytes for each sector
 abbrev pub image_fits : Option (List ℕ) → ℕ → Bool
@@ -112,7 +118,7 @@ IsCsdOf registers csd = csd_of (kind_of registers.kind) (csd_number_of (made_of 
 
 -- What the types of the fields say: the registers are bytes, and have their lengths.
 abbrev pub HasOwnWidths : KindRegisters → Type 0
-HasOwnWidths (Sd sd) = (length sd.scr ≡ 8) × AreBytes sd.scr × (sd.rca < 2 ^ 16)
+HasOwnWidths (Sd sd) = (length sd.scr ≡ 8) × AreBytes sd.scr
 HasOwnWidths (Mmc mmc) = (length mmc.ext_csd ≡ 512) × AreBytes mmc.ext_csd
 
 pub record HasWidths (registers : Registers) : Type 0 where

@@ -1,5 +1,6 @@
 -- What a chip in memory stands for, and the choices that it makes where a card is free.
-use Rattle.std.specs.Prelude.{◌/◌, ◌^◌, ◌≡◌, Bool, List, false, if◌then◌else◌, length, nat_lt, true, ℕ}
+use Rattle.std.specs.Prelude.{◌&&◌, ◌/◌, ◌==◌, ◌^◌, ◌≡◌, Bool, List, false, if◌then◌else◌, length, nat_lt, not, true}
+use Rattle.std.specs.Prelude.{ℕ}
 use Rattle.mmc_card.specs.declared.exchange.DataIn.{DataIn}
 use Rattle.mmc_card.specs.declared.exchange.DataIn.TheVariants as Received
 use Rattle.mmc_card.specs.declared.exchange.Lines.{Lines}
@@ -12,6 +13,7 @@ use Rattle.mmc_card_sim.specs.declared.chip.Addresses.{Addresses}
 use Rattle.mmc_card_sim.specs.declared.chip.Addresses.TheVariants as Is
 use Rattle.mmc_card_sim.specs.declared.chip.Chip.{Chip}
 use Rattle.mmc_card_sim.specs.declared.chip.Source.{Source}
+use Rattle.mmc_card_sim.specs.declared.delays.Delays.{Delays}
 use Rattle.mmc_card_sim.specs.declared.chip.Source.TheVariants as From
 use Rattle.mmc_card_sim.specs.Answer.{HasIndex, answer_of}
 use Rattle.mmc_card_sim.specs.Registers.{made_of}
@@ -63,13 +65,31 @@ card_of chip =
     }
 
 -- All that is unfinished lands at CMD0, OUT_OF_RANGE is set behind the last sector, and a command with a bad check
--- drops the preset count.
+-- drops the preset count. At a command the card may choose otherwise where CMD0, CMD3 and an inquiry leave it free.
 abbrev pub choice_of : Bool → Choice
-choice_of is_slow = record { is_slow = is_slow; lands = λ i. true; says_end = true; keeps_count = false }
+choice_of is_slow = record {
+  is_slow = is_slow;
+  lands = λ i. true;
+  says_end = true;
+  keeps_count = false;
+  rca = 0;
+  early = 0;
+  keeps_length = true;
+}
 
--- the first so many inquiries are answered with not ready
-abbrev pub inquiry_choice : ℕ → Card → Choice
-inquiry_choice ready card = choice_of (nat_lt card.inquiries ready)
+-- at a command; the first so many inquiries are answered with not ready
+abbrev pub command_choice : Delays → Card → Choice
+command_choice delays card =
+    record (choice_of (nat_lt card.inquiries delays.ready)) {
+      rca = delays.last_rca;
+      early = delays.early;
+      keeps_length = delays.keeps_length;
+    }
+
+-- what the card chooses behind a command, by the RCA that it goes by then: where the RCA changes, the next one follows it
+abbrev pub delays_after : Delays → ℕ → Delays
+delays_after delays rca =
+    record delays { last_rca = if delays.rca_changes && not (rca == 0) then rca else delays.last_rca }
 
 -- the chip is the card after a step, and this is its answer
 abbrev pub Answers : Card × CardAnswer → Chip → Answer → Type 0

@@ -1,5 +1,5 @@
 -- What the cards of `examples/` are built by: the registers of their card files, no waits and no image.
-use Rattle.std.specs.Prelude.{Bool, List, None, false, replicate, slice_set, ℕ}
+use Rattle.std.specs.Prelude.{Bool, List, None, false, replicate, slice_set, true, ℕ}
 use Rattle.std.specs.Int.{to_be_bytes, w128, w64}
 use Rattle.mmc_card_sim.specs.declared.registers.KindRegisters.{KindRegisters}
 use Rattle.mmc_card_sim.specs.declared.registers.KindRegisters.TheVariants.{Sd}
@@ -8,7 +8,7 @@ use Rattle.mmc_card_sim.specs.declared.spec.CardSpec.{CardSpec}
 -- the registers of an SD card that publishes RCA 1: it knows CMD8 and names high speed, or neither
 abbrev pub sd_registers : ℕ → Bool → KindRegisters
 sd_registers scr is_new =
-    Sd (record { scr = to_be_bytes w64 scr; rca = 1; answers_cmd8 = is_new; has_high_speed = is_new })
+    Sd (record { scr = to_be_bytes w64 scr; rca = 1; rca_changes = false; answers_cmd8 = is_new; has_high_speed = is_new })
 
 abbrev pub card_with : KindRegisters → ℕ → ℕ → ℕ → CardSpec
 card_with kind ocr csd sectors =
@@ -23,6 +23,8 @@ card_with kind ocr csd sectors =
       sectors = sectors;
       ready = 0;
       busy = 0;
+      early = None;
+      keeps_length = true;
       image = None;
     }
 

@@ -20,7 +20,7 @@ use Rattle.mmc_card.specs.ErrorBits.{card_ecc_failed, execution_error_bits, gene
 use Rattle.mmc_card.specs.Faults.{Spells}
 use Rattle.mmc_card.specs.Rows.{answered}
 use Rattle.mmc_card_sim.specs.Answer.{IsHeardFlipped, can_flip, is_flip}
-use Rattle.mmc_card_sim.specs.Chip.{Sends, choice_of, inquiry_choice}
+use Rattle.mmc_card_sim.specs.Chip.{Sends, choice_of, command_choice}
 use Rattle.mmc_card_sim.specs.Store.{lands_by}
 use Rattle.mmc_card_sim.specs.declared.delays.Delays.{Delays}
 use Rattle.mmc_card_sim.specs.declared.fault.Fault.{Fault}
@@ -34,7 +34,7 @@ use Rattle.mmc_card_sim.specs.declared.fault.Outcome.TheVariants.{New}
 
 -- the faithful step of the card with this frame
 abbrev pub heeded : Delays → Card → List ℕ → Card × CardAnswer
-heeded delays card frame = answered (inquiry_choice delays.ready card) card (command_in frame)
+heeded delays card frame = answered (command_choice delays card) card (command_in frame)
 
 abbrev pub is_answer : CardAnswer → Bool
 is_answer Silent = false
@@ -54,7 +54,7 @@ abbrev pub after_command : Option Fault → Delays → Card → List ℕ → Car
 after_command (Some (FlipCommand flips)) delays card frame = garbled false card
 after_command (Some LoseReply) delays card frame = (heeded delays card frame).0
 after_command (Some (FlipReply flips)) delays card frame = (heeded delays card frame).0
-after_command (Some (Brownout outcome)) delays card frame = reset (lands_by outcome) card
+after_command (Some (Brownout outcome)) delays card frame = reset (lands_by outcome) delays.keeps_length card
 after_command _ delays card frame = card
 
 -- what is heard of the answer: nothing, or all but the bits that are flipped
@@ -79,10 +79,10 @@ fits_read (Some ReadError) card lines size = can_send lines size card
 fits_read (Some (Brownout outcome)) card lines size = true
 fits_read _ card lines size = false
 
-abbrev pub after_read : Option Fault → Card → Card
-after_read (Some ReadError) card = raised card_ecc_failed card
-after_read (Some (Brownout outcome)) card = reset (lands_by outcome) card
-after_read _ card = sent (choice_of false) card
+abbrev pub after_read : Option Fault → Delays → Card → Card
+after_read (Some ReadError) delays card = raised card_ecc_failed card
+after_read (Some (Brownout outcome)) delays card = reset (lands_by outcome) delays.keeps_length card
+after_read _ delays card = sent (choice_of false) card
 
 -- what comes of the block
 abbrev pub read_in : Option Fault → DataIn
@@ -97,10 +97,10 @@ pub record Spoils (comes : DataIn) (old : Card) (lines : Lines) (size : ℕ) (go
   pub fault_got : fell ≡ true → got ≡ comes
   pub sends : fell ≡ false → Sends lines old new size got block
 
-pub record Reads (fault : Option Fault) (old : Card) (lines : Lines) (size : ℕ) (got : DataIn) (block : List ℕ)
+pub record Reads (fault : Option Fault) (delays : Delays) (old : Card) (lines : Lines) (size : ℕ) (got : DataIn) (block : List ℕ)
     (fell : Bool) (new : Card) : Type 0 where
   pub fell_is : fell ≡ fits_read fault old lines size
-  pub fault_card : fell ≡ true → new ≡ after_read fault old
+  pub fault_card : fell ≡ true → new ≡ after_read fault delays old
   pub fault_got : fell ≡ true → got ≡ read_in fault
   pub sends : fell ≡ false → Sends lines old new size got block
 
@@ -113,21 +113,21 @@ fits_write (Some (LoseStatus outcome)) card lines = can_accept lines card
 fits_write (Some (Brownout outcome)) card lines = true
 fits_write _ card lines = false
 
-abbrev pub after_write : Option Fault → Card → List ℕ → Card
-after_write (Some (LoseStatus New)) card block = accepted block card
-after_write (Some (Brownout outcome)) card block = reset (lands_by outcome) card
-after_write (Some RejectAll) card block = rejected true card
-after_write _ card block = rejected false card
+abbrev pub after_write : Option Fault → Delays → Card → List ℕ → Card
+after_write (Some (LoseStatus New)) delays card block = accepted block card
+after_write (Some (Brownout outcome)) delays card block = reset (lands_by outcome) delays.keeps_length card
+after_write (Some RejectAll) delays card block = rejected true card
+after_write _ delays card block = rejected false card
 
 abbrev pub written_out : Option Fault → DataOut
 written_out (Some Reject) = Sent.Rejected
 written_out (Some RejectAll) = Sent.Rejected
 written_out _ = Sent.Nothing
 
-pub record Writes (fault : Option Fault) (old : Card) (lines : Lines) (block : List ℕ) (got : DataOut) (fell : Bool)
-    (new : Card) : Type 0 where
+pub record Writes (fault : Option Fault) (delays : Delays) (old : Card) (lines : Lines) (block : List ℕ) (got : DataOut)
+    (fell : Bool) (new : Card) : Type 0 where
   pub fell_is : fell ≡ fits_write fault old lines
-  pub fault_card : fell ≡ true → new ≡ after_write fault old block
+  pub fault_card : fell ≡ true → new ≡ after_write fault delays old block
   pub fault_got : fell ≡ true → got ≡ written_out fault
   pub card : fell ≡ false → new ≡ offered lines block old
   pub got_is : fell ≡ false → got ≡ (if can_accept lines old then Sent.Accepted else Sent.Nothing)
@@ -172,16 +172,16 @@ fits_poll (Some Busy) card = card.is_busy && nat_le 8 card.polled
 fits_poll (Some (Brownout outcome)) card = true
 fits_poll _ card = false
 
-abbrev pub after_poll : Option Fault → Card → Card
-after_poll (Some (Fail outcome)) card = raised general_error (programmed (lands_by outcome) card)
-after_poll (Some (FailWith outcome bits)) card = raised (bits / 2 ^ 13) (failed (lands_by outcome) card)
-after_poll (Some Busy) card = waited card
-after_poll (Some (Brownout outcome)) card = reset (lands_by outcome) card
-after_poll _ card = card
+abbrev pub after_poll : Option Fault → Delays → Card → Card
+after_poll (Some (Fail outcome)) delays card = raised general_error (programmed (lands_by outcome) card)
+after_poll (Some (FailWith outcome bits)) delays card = raised (bits / 2 ^ 13) (failed (lands_by outcome) card)
+after_poll (Some Busy) delays card = waited card
+after_poll (Some (Brownout outcome)) delays card = reset (lands_by outcome) delays.keeps_length card
+after_poll _ delays card = card
 
 pub record Polls (fault : Option Fault) (delays : Delays) (old : Card) (said fell : Bool) (new : Card) : Type 0 where
   pub fell_is : fell ≡ fits_poll fault old
-  pub fault_card : fell ≡ true → new ≡ after_poll fault old
+  pub fault_card : fell ≡ true → new ≡ after_poll fault delays old
   pub fault_said : fell ≡ true → said ≡ is_busy_fault fault
   pub card : fell ≡ false → new ≡ (polled_once (poll_choice fault delays old) old).0
   pub said_is : fell ≡ false → said ≡ (polled_once (poll_choice fault delays old) old).1

@@ -1,5 +1,5 @@
 -- What a card in memory is made with, by its registers.
-use Rattle.std.specs.Prelude.{Bool, List, [], false, if◌then◌else◌, replicate, slice_set, ℕ}
+use Rattle.std.specs.Prelude.{◌-◌, Bool, List, [], false, if◌then◌else◌, replicate, slice_set, ℕ}
 use Rattle.mmc_frame.specs.declared.kind.Kind.{Kind}
 use Rattle.mmc_frame.specs.declared.kind.Kind.TheVariants as Is
 use Rattle.mmc_card.specs.Made.{Made}
@@ -28,14 +28,20 @@ abbrev pub ext_csd_of : KindRegisters → List ℕ
 ext_csd_of (Sd sd) = []
 ext_csd_of (Mmc mmc) = mmc.ext_csd
 
-abbrev pub published_by : KindRegisters → ℕ
-published_by (Sd sd) = sd.rca
-published_by (Mmc mmc) = 0
+-- the RCA in front of the one that an SD card publishes first
+abbrev pub last_rca_by : KindRegisters → ℕ
+last_rca_by (Sd sd) = sd.rca - 1
+last_rca_by (Mmc mmc) = 0
+
+abbrev pub rca_changes_by : KindRegisters → Bool
+rca_changes_by (Sd sd) = sd.rca_changes
+rca_changes_by (Mmc mmc) = false
 
 abbrev pub knows_cmd8 : KindRegisters → Bool
 knows_cmd8 (Sd sd) = sd.answers_cmd8
 knows_cmd8 (Mmc mmc) = false
 
+-- no card in memory is nameless: one whose registers have RCA 0 isn't built
 abbrev pub made_of : Registers → Made
 made_of registers =
     record {
@@ -46,7 +52,7 @@ made_of registers =
       scr = scr_of registers.kind;
       switch_status = switch_status_of registers.kind;
       ext_csd = ext_csd_of registers.kind;
-      published = published_by registers.kind;
+      is_nameless = false;
       is_locked = registers.is_locked;
       answers_cmd8 = knows_cmd8 registers.kind;
     }

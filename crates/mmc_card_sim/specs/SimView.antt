@@ -1,6 +1,6 @@
 -- The views of a card in memory that follows a plan of faults: what contracts see of it, and what they see of it as a
 -- bus, which is always kept, and on which no more faults may fall than are planned for exchanges to come.
-use Rattle.std.specs.Prelude.{◌-◌, ◌^◌, ◌≡◌, ◌≤◌, List, None, Option, Some, true, ℕ}
+use Rattle.std.specs.Prelude.{◌-◌, ◌/◌, ◌^◌, ◌≡◌, ◌≤◌, List, None, Option, Some, true, unwrap_or, ℕ}
 use Rattle.mmc_bus.specs.declared.wire.Wire.{Wire}
 use Rattle.mmc_bus.specs.Wires.{bus_view_with}
 use Rattle.mmc_card.specs.BusView.{BusView}
@@ -8,7 +8,7 @@ use Rattle.mmc_card.specs.Card.{Card, IsCard}
 use Rattle.mmc_card.specs.Made.{erased_byte_of_card}
 use Rattle.mmc_card_sim.specs.CardSpec.{sizes_of}
 use Rattle.mmc_card_sim.specs.Plan.{fault_at, to_come}
-use Rattle.mmc_card_sim.specs.Registers.{made_of}
+use Rattle.mmc_card_sim.specs.Registers.{last_rca_by, made_of, rca_changes_by}
 use Rattle.mmc_card_sim.specs.Sizes.{total}
 use Rattle.mmc_card_sim.specs.Store.{first_sectors, split}
 use Rattle.mmc_card_sim.specs.declared.delays.Delays.{Delays}
@@ -16,7 +16,7 @@ use Rattle.mmc_card_sim.specs.declared.fault.Fault.{Fault}
 use Rattle.mmc_card_sim.specs.declared.plan.Planned.{Planned}
 use Rattle.mmc_card_sim.specs.declared.spec.CardSpec.{CardSpec}
 
--- the card, how long it takes, what is kept of the exchanges, the plan, and how many faults have fallen
+-- the card, how long it takes and what it chooses next, what is kept of the exchanges, the plan, and how many faults have fallen
 pub record SimView : Type 0 where
   pub card : Card
   pub delays : Delays
@@ -31,6 +31,18 @@ sim_bus_view sim =
 -- the fault that is planned for its next exchange
 abbrev pub planned_fault : SimView → Option Fault
 planned_fault sim = fault_at sim.plan sim.wire.exchanges
+
+-- what a card that is built by this chooses at first: before it is ready its OCR has its own bits 30 and 29 or these
+abbrev pub first_delays : CardSpec → Delays
+first_delays spec =
+    record {
+      ready = spec.ready;
+      busy = spec.busy;
+      last_rca = last_rca_by spec.registers.kind;
+      rca_changes = rca_changes_by spec.registers.kind;
+      early = unwrap_or spec.early (spec.registers.ocr / 2 ^ 29);
+      keeps_length = spec.keeps_length;
+    }
 
 -- It is a card, which is slow at most eight times, no more faults have fallen than exchanges were made, and none is
 -- planned for the number at which their count stays.

@@ -1,13 +1,14 @@
 // The card in memory: where it is, what it remembers, and what it does with a command.
-ghost use Rattle.std.specs.Prelude.{◌*◌, ◌/◌, ◌<◌, ◌≡◌, ◌≤◌, ◌^◌};
+ghost use Rattle.std.specs.Prelude.{◌*◌, ◌/◌, ◌<◌, ◌≡◌, ◌≤◌, ◌^◌, if◌then◌else◌};
 ghost use Rattle.mmc_frame.specs.Status.{bits_in, state_number};
 ghost use Rattle.mmc_card.specs.Card.{AreAmong};
 ghost use Rattle.mmc_card.specs.ErrorBits.{command_error_bits, error_bits};
-ghost use Rattle.mmc_card.specs.Made.{erase_unit_of_card, first_rca, is_read_only};
+ghost use Rattle.mmc_card.specs.Made.{erase_unit_of_card, first_rca, is_read_only, is_sd, named_block_length};
 ghost use Rattle.mmc_card_sim.specs.Registers.{made_of};
 
 use crate::answer::Answer;
 use crate::command::command_of;
+use crate::delays::Delays;
 use crate::registers::Registers;
 use crate::status_bits::bits_if;
 use crate::store::Store;
@@ -47,6 +48,8 @@ pub struct Chip {
     // What the registers say, read once: the erase unit in sectors, and write protection.
     pub erase_unit: usize,
     pub is_protected: bool,
+    // The block length that they name, in bytes.
+    pub named_length: u32,
     pub store: Store,
     pub state: State,
     pub rca: u16,
@@ -80,6 +83,7 @@ pub struct Chip {
     pub ghost some_unit: { 1 ≤ erase_unit },
     pub ghost small_unit: { erase_unit ≤ 2 ^ 20 },
     pub ghost protected: { is_protected ≡ is_read_only (made_of registers) },
+    pub ghost named: { named_length ≡ named_block_length (made_of registers) },
     pub ghost ocr: { registers.ocr < 2 ^ 31 },
     pub ghost known: { AreAmong command_errors (2 ^ 13 * command_error_bits) },
     pub ghost raised: { AreAmong errors (2 ^ 13 * error_bits) },
@@ -114,47 +118,58 @@ pub fn first_rca(kind: Kind) -> u16
     }
 }
 
+// The block length after power on, by the one that the registers name.
+fn first_block_length(kind: Kind, named_length: u32) -> u32
+    ensures { result ≡ (if is_sd kind then 512 else named_length) }
+{
+    match kind {
+        Kind::Sd => 512,
+        Kind::Mmc => named_length,
+    }
+}
+
 impl Chip {
     ghost use Rattle.mmc_frame.specs.Frame.{command_in};
     ghost use Rattle.mmc_card.specs.CardAnswer.{Checked, Choice, Silent, done, raised, refused, shown, status};
     ghost use Rattle.mmc_card.specs.Card.{is_identified, is_in, powered_on};
-    ghost use Rattle.mmc_card.specs.Made.{first_block_length};
-    ghost use Rattle.mmc_card_sim.specs.Chip.{Answers, card_of, inquiry_choice};
+    ghost use Rattle.mmc_card_sim.specs.Chip.{Answers, card_of, command_choice};
     ghost use Rattle.mmc_card_sim.specs.Store.{parts_of, values_of};
     ghost use Rattle.std.specs.Prelude.{[]};
     ghost use Rattle.mmc_card.specs.Rows.{answered, is_legal, reached, respond, row};
 
     /// A card after power on. What its registers say is given beside them: the erase unit in sectors, write protection,
-    /// and the first block length in bytes.
+    /// and the block length that they name, in bytes.
     pub fn powered_on(
         registers: Registers,
         erase_unit: usize,
         is_protected: bool,
-        block_length: u32,
+        named_length: u32,
         store: Store,
     ) -> Chip
         requires unit { erase_unit ≡ erase_unit_of_card (made_of registers) }
         requires some_unit { 1 ≤ erase_unit }
         requires small_unit { erase_unit ≤ 2 ^ 20 }
         requires protected { is_protected ≡ is_read_only (made_of registers) }
-        requires block_length { block_length ≡ first_block_length (made_of registers) }
+        requires named_length { named_length ≡ named_block_length (made_of registers) }
         requires ocr { registers.ocr < 2 ^ 31 }
         requires start { store.start ≡ 0 }
         requires values { values_of store ≡ [] }
         ensures card { card_of result ≡ powered_on (made_of registers) (parts_of store) }
     {
+        let kind = registers.kind();
         Chip {
-            rca: first_rca(registers.kind()),
+            rca: first_rca(kind),
             registers,
             erase_unit,
             is_protected,
+            named_length,
             store,
             state: State::Idle,
             part: Part::User,
             width: Width::One,
             timing: Timing::Default,
             erase_group_def: 0,
-            block_length,
+            block_length: first_block_length(kind, named_length),
             count: 0,
             is_app: false,
             addresses: Addresses::None,
@@ -296,18 +311,18 @@ impl Chip {
         }
     }
 
-    // Carries a command out. The first `ready` inquiries are answered with not ready.
-    fn carry_out(&mut self, ready: u8, command: Command, index: u8, argument: u32) -> Answer
+    // Carries a command out.
+    fn carry_out(&mut self, delays: Delays, command: Command, index: u8, argument: u32) -> Answer
         requires { index < 64 }
-        ensures { Answers (row (inquiry_choice ready (card_of self.old)) command (card_of self.old) index argument)
+        ensures { Answers (row (command_choice delays (card_of self.old)) command (card_of self.old) index argument)
             self.new result }
     {
         match command {
-            Command::GoIdleState => self.go_idle_state(),
-            Command::SendOpCond => self.send_op_cond(ready),
-            Command::SdSendOpCond => self.sd_send_op_cond(ready, argument),
+            Command::GoIdleState => self.go_idle_state(delays),
+            Command::SendOpCond => self.send_op_cond(delays),
+            Command::SdSendOpCond => self.sd_send_op_cond(delays, argument),
             Command::AllSendCid => self.all_send_cid(),
-            Command::SendRelativeAddr => self.send_relative_addr(),
+            Command::SendRelativeAddr => self.send_relative_addr(delays),
             Command::SetRelativeAddr => self.set_relative_addr(argument),
             Command::SelectCard => self.select_card(),
             Command::SendIfCond => self.send_if_cond(argument),
@@ -334,9 +349,9 @@ impl Chip {
     }
 
     // The answer to a sound command. One that names another card changes nothing.
-    fn respond(&mut self, ready: u8, index: u8, argument: u32) -> Answer
+    fn respond(&mut self, delays: Delays, index: u8, argument: u32) -> Answer
         requires { index < 64 }
-        ensures { Answers (respond (inquiry_choice ready (card_of self.old)) (card_of self.old) index argument)
+        ensures { Answers (respond (command_choice delays (card_of self.old)) (card_of self.old) index argument)
             self.new result }
     {
         let command = command_of(self.registers.kind(), self.is_app, index);
@@ -346,20 +361,20 @@ impl Chip {
         let is_legal = self.is_legal(command);
         self.drop_erase_addresses(command);
         if is_legal {
-            self.carry_out(ready, command, index, argument)
+            self.carry_out(delays, command, index, argument)
         } else {
             self.refuse()
         }
     }
 
-    /// The answer to a command. The first `ready` readiness inquiries are answered with not ready. Where the check of
-    /// the command is wrong, the card notes that, drops a preset count, and is silent.
-    pub fn command(&mut self, ready: u8, frame: &[u8; 6]) -> Answer
-        ensures { Answers (answered (inquiry_choice ready (card_of self.old)) (card_of self.old) (command_in frame.now))
+    /// The answer to a command. Where the check of the command is wrong, the card notes that, drops a preset count, and is
+    /// silent.
+    pub fn command(&mut self, delays: Delays, frame: &[u8; 6]) -> Answer
+        ensures { Answers (answered (command_choice delays (card_of self.old)) (card_of self.old) (command_in frame.now))
             self.new result }
     {
         match read_command(frame) {
-            Some((index, argument)) => self.respond(ready, index, argument),
+            Some((index, argument)) => self.respond(delays, index, argument),
             None => {
                 self.garble();
                 Answer::Silent

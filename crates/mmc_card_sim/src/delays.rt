@@ -1,8 +1,39 @@
-/// How long the card takes.
+// What the card does where it is free.
+ghost use Rattle.std.specs.Prelude.{◌%◌, ◌+◌, ◌-◌, ◌^◌, ◌≡◌};
+
+/// How long the card takes, and what it answers next where it is free to choose.
 #[derive(Clone, Copy, Debug, PartialEq, Eq)]
 pub struct Delays {
     /// How many of the first readiness inquiries are answered with not ready, 0 to 8.
     pub ready: u8,
     /// How many of the first polls of a busy time are answered yes, 0 to 8.
     pub busy: u8,
+    /// Of an SD card: behind which RCA the one comes that it publishes next, the first one behind the last.
+    pub last_rca: u16,
+    /// Whether it publishes another one at each CMD3.
+    pub rca_changes: bool,
+    /// Bits 30 and 29 of the OCR while the card isn't ready.
+    pub early: u8,
+    /// Whether the block length outlives CMD0 and a loss of power.
+    pub keeps_length: bool,
+}
+
+impl Delays {
+    ghost use Rattle.mmc_card_sim.specs.Chip.{delays_after};
+
+    /// The RCA that an SD card publishes next.
+    pub fn next_rca(self) -> u16
+        ensures { result ≡ 1 + self.last_rca % (2 ^ 16 - 1) }
+    {
+        1 + self.last_rca % 0xffff
+    }
+
+    /// Notes the RCA that the card goes by behind a command.
+    pub fn note_rca(&mut self, rca: u16)
+        ensures { self.new ≡ delays_after self.old rca }
+    {
+        if self.rca_changes && rca != 0 {
+            self.last_rca = rca;
+        }
+    }
 }

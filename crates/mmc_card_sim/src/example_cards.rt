@@ -23,6 +23,8 @@ fn card_with(kind: KindRegisters, ocr: u32, csd: u128, sectors: u64) -> CardSpec
         sectors,
         ready: 0,
         busy: 0,
+        early: None,
+        keeps_length: true,
         image: None,
     }
 }
@@ -33,6 +35,7 @@ fn sd_registers(scr: u64, is_new: bool) -> KindRegisters
     KindRegisters::Sd(SdRegisters {
         scr: scr.to_be_bytes(),
         rca: 1,
+        rca_changes: false,
         answers_cmd8: is_new,
         has_high_speed: is_new,
     })

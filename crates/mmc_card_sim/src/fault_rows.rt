@@ -83,10 +83,10 @@ impl Chip {
     }
 
     /// The power fails: the card is as after CMD0.
-    pub fn lose_power(&mut self, outcome: Outcome)
-        ensures { card_of self.new ≡ reset (lands_by outcome) (card_of self.old) }
+    pub fn lose_power(&mut self, outcome: Outcome, keeps_length: bool)
+        ensures { card_of self.new ≡ reset (lands_by outcome) keeps_length (card_of self.old) }
     {
         self.store.settle(self.part, outcome);
-        self.start_over();
+        self.start_over(keeps_length);
     }
 }

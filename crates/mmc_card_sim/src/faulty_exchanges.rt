@@ -33,7 +33,7 @@ impl Chip {
     fn command_unheard(&mut self, delays: Delays, frame: &[u8; 6]) -> (Reply, bool)
         ensures { Commands (Some LoseReply) delays (card_of self.old) frame.now result.0 result.1 (card_of self.new) }
     {
-        match self.command(delays.ready, frame) {
+        match self.command(delays, frame) {
             Answer::Silent => (Reply::Silent, false),
             _ => (Reply::Silent, true),
         }
@@ -44,7 +44,7 @@ impl Chip {
         ensures { Commands (Some (FlipReply flips)) delays (card_of self.old) frame.now result.0 result.1
             (card_of self.new) }
     {
-        let answer = self.command(delays.ready, frame);
+        let answer = self.command(delays, frame);
         if can_flip(flips, answer) {
             (heard_flipped(answer, flips), true)
         } else {
@@ -70,10 +70,10 @@ impl Chip {
             Some(Fault::LoseReply) => self.command_unheard(delays, frame),
             Some(Fault::FlipReply(flips)) => self.command_flipped(delays, frame, flips),
             Some(Fault::Brownout(outcome)) => {
-                self.lose_power(outcome);
+                self.lose_power(outcome, delays.keeps_length);
                 (Reply::Silent, true)
             }
-            _ => (self.command(delays.ready, frame).spelled(), false),
+            _ => (self.command(delays, frame).spelled(), false),
         }
     }
 
@@ -92,10 +92,11 @@ impl Chip {
     pub fn faulty_send(
         &mut self,
         fault: Option<Fault>,
+        delays: Delays,
         lines: Lines,
         buffer: &mut [u8],
     ) -> (DataIn, bool)
-        ensures { Reads fault (card_of self.old) lines (length buffer.old) result.0 buffer.new result.1
+        ensures { Reads fault delays (card_of self.old) lines (length buffer.old) result.0 buffer.new result.1
             (card_of self.new) }
     {
         match fault {
@@ -106,7 +107,7 @@ impl Chip {
                 (DataIn::Nothing, true)
             }
             Some(Fault::Brownout(outcome)) => {
-                self.lose_power(outcome);
+                self.lose_power(outcome, delays.keeps_length);
                 (DataIn::Nothing, true)
             }
             _ => (self.send(lines, buffer), false),
@@ -114,13 +115,15 @@ impl Chip {
     }
 
     /// A block that the host writes.
+    #[tactic(auto, using(crate::proofs::FaultLemmas::unfit))]
     pub fn faulty_accept(
         &mut self,
         fault: Option<Fault>,
+        delays: Delays,
         lines: Lines,
         block: &[u8; 512],
     ) -> (DataOut, bool)
-        ensures { Writes fault (card_of self.old) lines block.now result.0 result.1 (card_of self.new) }
+        ensures { Writes fault delays (card_of self.old) lines block.now result.0 result.1 (card_of self.new) }
     {
         match fault {
             Some(Fault::Reject) if self.can_accept(lines) => {
@@ -140,7 +143,7 @@ impl Chip {
                 (DataOut::Nothing, true)
             }
             Some(Fault::Brownout(outcome)) => {
-                self.lose_power(outcome);
+                self.lose_power(outcome, delays.keeps_length);
                 (DataOut::Nothing, true)
             }
             _ => (self.accept(lines, block), false),
@@ -194,7 +197,7 @@ impl Chip {
                 (true, true)
             }
             Some(Fault::Brownout(outcome)) => {
-                self.lose_power(outcome);
+                self.lose_power(outcome, delays.keeps_length);
                 (false, true)
             }
             _ => {

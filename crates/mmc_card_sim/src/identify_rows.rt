@@ -1,9 +1,10 @@
 // What the card in memory does with the commands of identification (SD Physical Layer 6.00, section 4.2; JESD84-B51,
 // section 6.4), each where it is legal.
-ghost use Rattle.std.specs.Prelude.{◌≡◌, false, not};
+ghost use Rattle.std.specs.Prelude.{◌≡◌, false, if◌then◌else◌, not};
 
 use crate::answer::Answer;
 use crate::chip::{Addresses, Chip, Source, first_rca};
+use crate::delays::Delays;
 use mmc_card::{Part, Timing, Width};
 use mmc_frame::State;
 use mmc_frame::commands::{APP_CMD, SELECT_CARD, SEND_IF_COND, SEND_RELATIVE_ADDR};
@@ -11,6 +12,9 @@ use mmc_regs::Ocr;
 
 // Bit 31 of an OCR: the card is ready (SD Physical Layer 6.00, section 5.1; JESD84-B51, section 7.1).
 const IS_READY: u32 = 0x8000_0000;
+
+// Bit 29 of an OCR. It and bit 30 are open until the card is ready.
+const EARLY: u32 = 0x2000_0000;
 
 // Bit 30 of the argument of ACMD41, HCS: the host knows sector addresses (SD Physical Layer 6.00, section 4.2.3.1).
 const HCS: u32 = 0x4000_0000;
@@ -21,13 +25,18 @@ impl Chip {
     ghost use Rattle.mmc_card.specs.RowsIdentify.{all_send_cid, app_cmd, go_idle_state, inquired, is_served};
     ghost use Rattle.mmc_card.specs.RowsIdentify.{sd_send_op_cond, select_card, send_csd, send_if_cond, send_op_cond};
     ghost use Rattle.mmc_card.specs.RowsIdentify.{send_relative_addr, set_relative_addr};
-    ghost use Rattle.mmc_card_sim.specs.Chip.{Answers, card_of, choice_of, inquiry_choice};
+    ghost use Rattle.mmc_card.specs.Made.{named_block_length};
+    ghost use Rattle.mmc_card_sim.specs.Chip.{Answers, card_of, command_choice};
 
     /// All but the sectors and the block length is as after power on; what was unfinished is over.
-    pub fn start_over(&mut self)
+    pub fn start_over(&mut self, keeps_length: bool)
         ensures { let old = card_of self.old in
-            card_of self.new ≡ record (powered_on old.made old.sectors) { block_length = old.block_length } }
+            card_of self.new ≡ record (powered_on old.made old.sectors) {
+                block_length = if keeps_length then old.block_length else named_block_length old.made } }
     {
+        if !keeps_length {
+            self.block_length = self.named_length;
+        }
         self.store.begin(0);
         self.state = State::Idle;
         self.rca = first_rca(self.registers.kind());
@@ -52,40 +61,42 @@ impl Chip {
     }
 
     /// CMD0: what was unfinished has landed.
-    pub fn go_idle_state(&mut self) -> Answer
-        ensures { Answers (go_idle_state (choice_of false) (card_of self.old)) self.new result }
+    pub fn go_idle_state(&mut self, delays: Delays) -> Answer
+        ensures { Answers (go_idle_state (command_choice delays (card_of self.old)) (card_of self.old)) self.new
+            result }
     {
         self.store.land(self.part);
-        self.start_over();
+        self.start_over(delays.keeps_length);
         Answer::Silent
     }
 
-    // A readiness inquiry.
-    fn inquire(&mut self, is_ready: bool) -> Answer
-        ensures { Answers (inquired is_ready (card_of self.old)) self.new result }
+    // A readiness inquiry. Until the card is ready, its OCR has these bits 30 and 29.
+    fn inquire(&mut self, is_ready: bool, early: u8) -> Answer
+        ensures { Answers (inquired is_ready early (card_of self.old)) self.new result }
     {
         self.finish();
         self.inquiries = (self.inquiries + 1).min(8);
         if !is_ready {
-            return Answer::R3(self.registers.ocr);
+            return Answer::R3(EARLY * u32::from(early % 4) + self.registers.ocr % EARLY);
         }
         self.state = State::Ready;
         Answer::R3(IS_READY + self.registers.ocr)
     }
 
     // Whether the card has been asked often enough.
-    fn is_ready(&self, ready: u8) -> bool
-        ensures { not result ≡ (inquiry_choice ready (card_of self.now)).is_slow }
+    fn is_ready(&self, delays: Delays) -> bool
+        ensures { not result ≡ (command_choice delays (card_of self.now)).is_slow }
     {
-        self.inquiries >= ready
+        self.inquiries >= delays.ready
     }
 
     /// CMD1 of eMMC.
-    pub fn send_op_cond(&mut self, ready: u8) -> Answer
-        ensures { Answers (send_op_cond (inquiry_choice ready (card_of self.old)) (card_of self.old)) self.new result }
+    pub fn send_op_cond(&mut self, delays: Delays) -> Answer
+        ensures { Answers (send_op_cond (command_choice delays (card_of self.old)) (card_of self.old)) self.new
+            result }
     {
-        let is_ready = self.is_ready(ready);
-        self.inquire(is_ready)
+        let is_ready = self.is_ready(delays);
+        self.inquire(is_ready, delays.early)
     }
 
     // Whether the card becomes ready for such a host: one with sector addresses wants HCS.
@@ -96,12 +107,12 @@ impl Chip {
     }
 
     /// ACMD41.
-    pub fn sd_send_op_cond(&mut self, ready: u8, argument: u32) -> Answer
-        ensures { Answers (sd_send_op_cond (inquiry_choice ready (card_of self.old)) (card_of self.old) argument)
+    pub fn sd_send_op_cond(&mut self, delays: Delays, argument: u32) -> Answer
+        ensures { Answers (sd_send_op_cond (command_choice delays (card_of self.old)) (card_of self.old) argument)
             self.new result }
     {
-        let is_ready = self.is_served(argument) && self.is_ready(ready);
-        self.inquire(is_ready)
+        let is_ready = self.is_served(argument) && self.is_ready(delays);
+        self.inquire(is_ready, delays.early)
     }
 
     /// CMD2.
@@ -114,24 +125,26 @@ impl Chip {
     }
 
     // The argument of an R6: the RCA, and bits 23, 22, 19 and 12 to 0 of the status.
-    fn r6_argument(&self) -> u32
-        ensures { result ≡ r6_argument (card_of self.now) }
+    fn r6_argument(&self, rca: u16) -> u32
+        ensures { result ≡ r6_argument rca (card_of self.now) }
     {
         let status = self.status(false);
-        0x1_0000 * u32::from(self.registers.published())
+        0x1_0000 * u32::from(rca)
             + 0x4000 * (status / 0x40_0000 % 4)
             + 0x2000 * (status / 0x8_0000 % 2)
             + status % 0x2000
     }
 
-    /// CMD3 of SD: the card publishes its RCA.
-    pub fn send_relative_addr(&mut self) -> Answer
-        ensures { Answers (send_relative_addr (card_of self.old)) self.new result }
+    /// CMD3 of SD: the card publishes an RCA, and goes by it.
+    pub fn send_relative_addr(&mut self, delays: Delays) -> Answer
+        ensures { Answers (send_relative_addr (command_choice delays (card_of self.old)) (card_of self.old)) self.new
+            result }
     {
-        let argument = self.r6_argument();
+        let rca = delays.next_rca();
+        let argument = self.r6_argument(rca);
         self.clear_errors();
         self.state = State::Stby;
-        self.rca = self.registers.published();
+        self.rca = rca;
         Answer::Checked {
             index: SEND_RELATIVE_ADDR,
             argument,

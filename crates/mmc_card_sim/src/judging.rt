@@ -3,11 +3,13 @@ ghost use Rattle.std.specs.Prelude.{false, true, ◌≡◌, ◌≤◌, ◌*◌, 
 ghost use Rattle.std.specs.Prelude.{length, slice_index_or};
 ghost use Rattle.mmc_frame.specs.Flips.{AreBytes};
 ghost use Rattle.mmc_regs.specs.Csd.{IsOfKind};
-ghost use Rattle.mmc_card.specs.Made.{HasRegisters, erase_unit_of_card, first_block_length, is_read_only, sectors_in};
+ghost use Rattle.mmc_regs.specs.CsdFields.{read_bl_len};
+ghost use Rattle.mmc_regs.specs.Register.{register_number};
+ghost use Rattle.mmc_card.specs.Made.{HasRegisters, erase_unit_of_card, is_read_only, named_block_length, sectors_in};
 ghost use Rattle.mmc_card.specs.Sectors.{part_number};
 ghost use Rattle.mmc_card.specs.declared.part.Part.{Part};
 ghost use Rattle.mmc_card_sim.specs.CardSpec.{HasWidths, IsCsdOf, IsRefusal, each_register_is_taken, has_ocr};
-ghost use Rattle.mmc_card_sim.specs.CardSpec.{has_short_waits, has_user_sectors, kind_is_taken, refusal_of, sizes_of};
+ghost use Rattle.mmc_card_sim.specs.CardSpec.{has_early_bits, has_short_waits, has_user_sectors, kind_is_taken, refusal_of, sizes_of};
 ghost use Rattle.mmc_card_sim.specs.CardSpec.{takes_image};
 ghost use Rattle.mmc_card_sim.specs.Registers.{made_of};
 ghost use Rattle.mmc_card_sim.specs.Sizes.{total};
@@ -16,6 +18,7 @@ ghost use Rattle.mmc_card_sim.specs.declared.store.TheConstants.{MAX_SECTORS};
 use crate::registers::{KindRegisters, Registers};
 use crate::spec::{BuildFault, CardSpec};
 use crate::store::MAX_SECTORS;
+use byteorder::{BigEndian, ByteOrder};
 use mmc_bus::Bytes;
 use mmc_ext_csd::ExtCsd;
 use mmc_regs::{Csd, Ocr, read_cid, read_csd};
@@ -29,8 +32,8 @@ pub struct Judged {
     pub erase_unit: usize,
     /// Whether the CSD says that the card is write protected, for good or for now.
     pub is_read_only: bool,
-    /// The block length after power on in bytes, 1 to 2^15.
-    pub block_length: u32,
+    /// The block length that they name in bytes, 1 to 2^15.
+    pub named_length: u32,
 }
 
 /// What the registers of a spec come to, where no rule refuses it.
@@ -52,14 +55,17 @@ pub fn judge(spec: &CardSpec) -> Result<Judged, BuildFault>
     ensures some_unit { IfOk result (λ judged. 1 ≤ judged.erase_unit) }
     ensures small_unit { IfOk result (λ judged. judged.erase_unit ≤ 2 ^ 20) }
     ensures protected { IfOk result (λ judged. judged.is_read_only ≡ is_read_only (made_of spec.now.registers)) }
-    ensures block_length { IfOk result
-        (λ judged. judged.block_length ≡ first_block_length (made_of spec.now.registers)) }
+    ensures named_length { IfOk result
+        (λ judged. judged.named_length ≡ named_block_length (made_of spec.now.registers)) }
     ensures registers { OnOk result (HasRegisters (made_of spec.now.registers)) }
 {
     let registers = &spec.registers;
     let csd = read_registers(registers)?;
     let sizes = sizes_by(registers, &csd);
-    if !has_short_waits(spec) || !has_user_sectors(sizes[0], spec.sectors) {
+    if !has_short_waits(spec)
+        || !has_early_bits(spec.early)
+        || !has_user_sectors(sizes[0], spec.sectors)
+    {
         return Err(BuildFault::Register);
     }
     if !takes_image(&sizes, &spec.image) {
@@ -70,7 +76,7 @@ pub fn judge(spec: &CardSpec) -> Result<Judged, BuildFault>
         sizes,
         erase_unit: erase_unit(registers, &csd),
         is_read_only: csd.read_only(),
-        block_length: block_length(registers, &csd),
+        named_length: named_length(registers),
     })
 }
 
@@ -104,10 +110,7 @@ fn tell_widths(registers: &Registers)
     tell_bytes(&registers.cid);
     tell_bytes(&registers.csd);
     match &registers.kind {
-        KindRegisters::Sd(sd) => {
-            let _published = sd.rca;
-            tell_bytes(&sd.scr);
-        }
+        KindRegisters::Sd(sd) => tell_bytes(&sd.scr),
         KindRegisters::Mmc(mmc) => tell_bytes(&mmc.ext_csd),
     }
 }
@@ -147,6 +150,12 @@ fn has_short_waits(spec: &CardSpec) -> bool
     ensures { result ≡ has_short_waits spec.now }
 {
     spec.ready <= 8 && spec.busy <= 8
+}
+
+fn has_early_bits(early: Option<u8>) -> bool
+    ensures { result ≡ has_early_bits early }
+{
+    early.is_none_or(|early| early <= 3)
 }
 
 fn has_user_sectors(user: usize, wanted: u64) -> bool
@@ -226,19 +235,20 @@ fn erase_unit(registers: &Registers, csd: &Csd) -> usize
     }
 }
 
-// The block length after power on, in bytes.
-fn block_length(registers: &Registers, csd: &Csd) -> u32
-    requires { IsCsdOf registers.now csd.now }
-    ensures { result ≡ first_block_length (made_of registers.now) }
+// READ_BL_LEN, which stands in the same place in every version of the CSD.
+fn read_bl_len(csd: &[u8; 16]) -> u8
+    ensures { result ≡ read_bl_len (register_number csd.now) }
 {
-    match csd {
-        Csd::Mmc(csd) => {
-            if registers.has_sector_addresses() {
-                512
-            } else {
-                1 << csd.read_bl_len()
-            }
-        }
-        _ => 512,
+    ((BigEndian::read_u128(csd) >> 80) % 16) as u8
+}
+
+// The block length that the registers name, in bytes.
+fn named_length(registers: &Registers) -> u32
+    ensures { result ≡ named_block_length (made_of registers.now) }
+{
+    if registers.has_sector_addresses() {
+        512
+    } else {
+        1 << read_bl_len(&registers.csd)
     }
 }

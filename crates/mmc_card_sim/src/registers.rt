@@ -9,8 +9,10 @@ use mmc_regs::{Ocr, Scr};
 pub struct SdRegisters {
     /// The eight bytes of the SCR, the highest first.
     pub scr: [u8; 8],
-    /// The RCA that the card publishes.
+    /// The RCA that the card publishes, or the first one.
     pub rca: u16,
+    /// Whether it publishes the next one at each CMD3, and 1 behind FFFFh.
+    pub rca_changes: bool,
     /// Whether it knows CMD8.
     pub answers_cmd8: bool,
     /// Whether its switch status names high speed.
@@ -55,7 +57,7 @@ impl Registers {
     ghost use Rattle.mmc_ext_csd.specs.ExtCsd.{high_speed_at_52_mhz, partition_config};
     ghost use Rattle.mmc_card.specs.Made.{erased_byte_of_card, has_cmd23, has_high_speed, has_sector_addresses};
     ghost use Rattle.mmc_card.specs.Made.{has_switch_function};
-    ghost use Rattle.mmc_card_sim.specs.Registers.{made_of};
+    ghost use Rattle.mmc_card_sim.specs.Registers.{last_rca_by, made_of, rca_changes_by};
 
     /// SD or eMMC.
     pub fn kind(&self) -> Kind
@@ -78,13 +80,23 @@ impl Registers {
         }
     }
 
-    /// The RCA that an SD card publishes.
-    pub fn published(&self) -> u16
-        ensures { result ≡ (made_of self.now).published }
+    /// The RCA in front of the one that an SD card publishes first.
+    pub fn last_rca(&self) -> u16
+        ensures { result ≡ last_rca_by self.now.kind }
     {
         match self.kind {
-            KindRegisters::Sd(sd) => sd.rca,
+            KindRegisters::Sd(sd) => sd.rca.saturating_sub(1),
             KindRegisters::Mmc(_) => 0,
+        }
+    }
+
+    /// Whether an SD card publishes another RCA at each CMD3.
+    pub fn rca_changes(&self) -> bool
+        ensures { result ≡ rca_changes_by self.now.kind }
+    {
+        match self.kind {
+            KindRegisters::Sd(sd) => sd.rca_changes,
+            KindRegisters::Mmc(_) => false,
         }
     }
 

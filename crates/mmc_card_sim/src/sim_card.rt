@@ -4,7 +4,7 @@ ghost use Rattle.std.specs.Prelude.{if◌then◌else◌, length, true, ℕ};
 ghost use Rattle.mmc_card_sim.specs.Plan.{fault_at, refusal_of};
 ghost use Rattle.mmc_card_sim.specs.FaultyExchanges.{Commands, Polls, Reads, Writes, fits_command, fits_poll};
 ghost use Rattle.mmc_card_sim.specs.FaultyExchanges.{fits_read, fits_write};
-ghost use Rattle.mmc_card_sim.specs.SimView.{planned_fault, sim_bus_view};
+ghost use Rattle.mmc_card_sim.specs.SimView.{first_delays, planned_fault, sim_bus_view};
 
 use crate::chip::Chip;
 use crate::delays::Delays;
@@ -17,6 +17,21 @@ use mmc_bus::{Bus, Wire};
 use mmc_card::{DataIn, DataOut, Exchange, Part, Reply, Timing, Want, Width, laws};
 use std::alloc::Global;
 use std::marker::Model;
+
+// What a card that is built by this chooses at first.
+fn first_delays(spec: &CardSpec) -> Delays
+    ensures { result ≡ first_delays spec.now }
+{
+    let registers = &spec.registers;
+    Delays {
+        ready: spec.ready,
+        busy: spec.busy,
+        last_rca: registers.last_rca(),
+        rca_changes: registers.rca_changes(),
+        early: spec.early.unwrap_or((registers.ocr / 0x2000_0000) as u8),
+        keeps_length: spec.keeps_length,
+    }
+}
 
 // How many faults have fallen, with one more or none.
 fn counted(faults: u64, fell: bool) -> u64
@@ -64,7 +79,7 @@ impl SimCard {
     ghost use Rattle.mmc_bus.specs.Exchanges.{Commanded, DataRead, DataWritten, Polled};
     ghost use Rattle.mmc_bus.specs.Wires.{IsUnused};
     ghost use Rattle.mmc_card.specs.Card.{HasItsSizes, IsCard, powered_on, stored};
-    ghost use Rattle.mmc_card_sim.specs.Chip.{card_of};
+    ghost use Rattle.mmc_card_sim.specs.Chip.{card_of, delays_after};
     ghost use Rattle.mmc_card_sim.specs.CardSpec.{IsRefusal, refusal_of as spec_refusal};
     ghost use Rattle.mmc_card_sim.specs.Registers.{made_of};
     ghost use Rattle.mmc_card_sim.specs.SimView.{first_parts};
@@ -99,18 +114,15 @@ impl SimCard {
         ensures taken { IsOk result → spec_refusal spec ≡ None }
         ensures card { IfOk result (λ sim. sim.card ≡ powered_on (made_of spec.registers) (first_parts spec)) }
         ensures sizes { IfOk result (λ sim. HasItsSizes sim.card) }
-        ensures delays { IfOk result (λ sim. sim.delays ≡ record { ready = spec.ready; busy = spec.busy }) }
+        ensures delays { IfOk result (λ sim. sim.delays ≡ first_delays spec) }
         ensures unused { IfOk result (λ sim. IsUnused (sim_bus_view sim)) }
         ensures plan { IfOk result (λ sim. sim.plan ≡ []) }
     {
         laws::a_card_after_power_on_is_one();
         let judged = judge(&spec)?;
+        let delays = first_delays(&spec);
         let CardSpec {
-            registers,
-            ready,
-            busy,
-            image,
-            ..
+            registers, image, ..
         } = spec;
         let erased = registers.erased_byte();
         let Ok(store) = Store::new(alloc, judged.sizes, &image, erased) else {
@@ -120,10 +132,10 @@ impl SimCard {
             registers,
             judged.erase_unit,
             judged.is_read_only,
-            judged.block_length,
+            judged.named_length,
             store,
         );
-        Ok(SimCard::unused(chip, Delays { ready, busy }))
+        Ok(SimCard::unused(chip, delays))
     }
 
     /// How many exchanges were made; the number stays at 2^64 - 1.
@@ -171,11 +183,12 @@ impl SimCard {
         ensures counts { self.new.faults
             ≡ (if fits_command (planned_fault self.old) self.old.delays self.old.card frame
             then self.old.faults + 1 else self.old.faults) }
-        ensures delays { self.new.delays ≡ self.old.delays }
+        ensures delays { self.new.delays ≡ delays_after self.old.delays self.new.card.rca }
         ensures plan { self.new.plan ≡ self.old.plan }
     {
         let fault = self.plan.fault(self.wire.exchanges);
         let (reply, fell) = self.chip.faulty_command(fault, self.delays, &frame);
+        self.delays.note_rca(self.chip.rca);
         self.faults = counted(self.faults, fell);
         self.wire.note(Exchange::Command { frame, want, reply });
         reply
@@ -185,7 +198,7 @@ impl SimCard {
     pub fn read_data(&mut self, buffer: &mut [u8]) -> DataIn
         ensures exchanged { DataRead (sim_bus_view self.old) (length buffer.old) result buffer.new
             (sim_bus_view self.new) }
-        ensures does { Reads (planned_fault self.old) self.old.card self.old.wire.lines (length buffer.old) result
+        ensures does { Reads (planned_fault self.old) self.old.delays self.old.card self.old.wire.lines (length buffer.old) result
             buffer.new (fits_read (planned_fault self.old) self.old.card self.old.wire.lines (length buffer.old))
             self.new.card }
         ensures counts { self.new.faults
@@ -196,7 +209,7 @@ impl SimCard {
     {
         let fault = self.plan.fault(self.wire.exchanges);
         let len = buffer.len();
-        let (got, fell) = self.chip.faulty_send(fault, self.wire.lines, buffer);
+        let (got, fell) = self.chip.faulty_send(fault, self.delays, self.wire.lines, buffer);
         self.faults = counted(self.faults, fell);
         self.wire.note(Exchange::In { len, got });
         got
@@ -205,7 +218,7 @@ impl SimCard {
     /// Writes a block.
     pub fn write_data(&mut self, block: &[u8; 512]) -> DataOut
         ensures exchanged { DataWritten (sim_bus_view self.old) block.now result (sim_bus_view self.new) }
-        ensures does { Writes (planned_fault self.old) self.old.card self.old.wire.lines block.now result
+        ensures does { Writes (planned_fault self.old) self.old.delays self.old.card self.old.wire.lines block.now result
             (fits_write (planned_fault self.old) self.old.card self.old.wire.lines) self.new.card }
         ensures counts { self.new.faults
             ≡ (if fits_write (planned_fault self.old) self.old.card self.old.wire.lines
@@ -214,7 +227,7 @@ impl SimCard {
         ensures plan { self.new.plan ≡ self.old.plan }
     {
         let fault = self.plan.fault(self.wire.exchanges);
-        let (got, fell) = self.chip.faulty_accept(fault, self.wire.lines, block);
+        let (got, fell) = self.chip.faulty_accept(fault, self.delays, self.wire.lines, block);
         self.faults = counted(self.faults, fell);
         self.wire.note(Exchange::Out { got });
         got

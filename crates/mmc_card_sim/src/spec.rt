@@ -14,6 +14,11 @@ pub struct CardSpec {
     pub ready: u8,
     /// How many of the first polls of a busy time are answered yes, 0 to 8.
     pub busy: u8,
+    /// Bits 30 and 29 of the OCR while the card isn't ready, 0 to 3. Without them they are those of the OCR.
+    pub early: Option<u8>,
+    /// Whether the block length outlives CMD0 and a loss of power. Otherwise it is the one that the registers name then:
+    /// 2^READ_BL_LEN of a card with byte addresses, and 512 of any other.
+    pub keeps_length: bool,
     /// The bytes of all sectors, 512 each, a partition behind the other in the order of `Part`. Without an image all
     /// bytes are the erased byte.
     pub image: Option<Bytes>,
@@ -24,7 +29,7 @@ pub struct CardSpec {
 pub enum BuildFault {
     /// The CID or the CSD is refused by its reader; the OCR has not both bits 20 and 21, which are 3.2 to 3.4 V, or it
     /// has bit 31; an SD card publishes RCA 0; an eMMC device has no erase unit, or the reserved access modes 1 and 3;
-    /// `ready` or `busy` is above 8; the user partition has no sector, or not as many as `sectors` says.
+    /// `ready` or `busy` is above 8, or `early` above 3; the user partition has no sector, or not as many as `sectors` says.
     #[error("a register is refused")]
     Register,
     /// All partitions together have more than `MAX_SECTORS` sectors, or the image hasn't 512 bytes for each of them.

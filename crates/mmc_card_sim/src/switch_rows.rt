@@ -1,6 +1,7 @@
 // What the card in memory does with the commands of width, speed and partition (SD Physical Layer 6.00, section 4.3.10;
 // JESD84-B51, section 6.6.1), each in tran.
 ghost use Rattle.std.specs.Prelude.{◌≡◌, ◌<◌, None, slice_set};
+ghost use Rattle.mmc_frame.specs.Field.{field};
 ghost use Rattle.mmc_card.specs.RowsSwitch.{part_accessed, timing_number, width_by, width_number};
 
 use crate::answer::Answer;
@@ -114,15 +115,22 @@ impl Chip {
         self.send_block(SEND_SCR, true, scr, self.timing)
     }
 
-    /// ACMD6: one line or four; with other bits the lines stay.
+    // The lines by the argument of ACMD6: one or four; with other bits they stay.
+    fn width_after(&self, bits: u32) -> Width
+        ensures { result ≡ width_by (field 1 0 bits) self.now.width }
+    {
+        match bits % 4 {
+            0 => Width::One,
+            2 => Width::Four,
+            _ => self.width,
+        }
+    }
+
+    /// ACMD6.
     pub fn set_bus_width(&mut self, bits: u32) -> Answer
         ensures { Answers (set_bus_width (card_of self.old) bits) self.new result }
     {
-        match bits % 4 {
-            0 => self.width = Width::One,
-            2 => self.width = Width::Four,
-            _ => {}
-        }
+        self.width = self.width_after(bits);
         self.respond_status(SET_BUS_WIDTH, true)
     }
 

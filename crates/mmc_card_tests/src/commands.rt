@@ -22,6 +22,8 @@ fn with_byte_addresses(alloc: Global, csd: u128, sectors: u32) -> Result<CardSpe
         sectors: u64::from(sectors),
         ready: 0,
         busy: 0,
+        early: None,
+        keeps_length: true,
         image: numbered_image(alloc, sectors)?,
     })
 }

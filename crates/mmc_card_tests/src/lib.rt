@@ -7,6 +7,8 @@ mod building;
 #[cfg(test)]
 mod cards;
 #[cfg(test)]
+mod choices;
+#[cfg(test)]
 mod commands;
 #[cfg(test)]
 mod faults;

@@ -18,6 +18,7 @@ fn sd_with_rca(rca: u16) -> KindRegisters {
     KindRegisters::Sd(SdRegisters {
         scr: scr.to_be_bytes(),
         rca,
+        rca_changes: false,
         answers_cmd8: false,
         has_high_speed: false,
     })
@@ -30,6 +31,8 @@ fn spec(registers: Registers, sectors: u64) -> CardSpec {
         sectors,
         ready: 0,
         busy: 8,
+        early: None,
+        keeps_length: true,
         image: None,
     }
 }
@@ -168,6 +171,16 @@ fn refused_numbers(rt: HostRuntime) {
             rt.alloc(),
             CardSpec {
                 busy: 9,
+                ..spec(sd(), 4)
+            }
+        ),
+        refused
+    );
+    assert_eq!(rt;
+        refusal(
+            rt.alloc(),
+            CardSpec {
+                early: Some(4),
                 ..spec(sd(), 4)
             }
         ),

@@ -2,9 +2,10 @@
 use Rattle.std.specs.Prelude.{◌≡◌, Option, Result, ℕ}
 use Rattle.mmc_card.specs.BusView.{BusView}
 use Rattle.mmc_bus.specs.declared.cause.Cause.{Cause}
-use Rattle.mmc_switch.specs.Turns.{Leaves, LowersBy, Makes, StaysFor}
+use Rattle.mmc_switch.specs.Turns.{Leaves, LowersBy, Makes, StaysFor, progress_of}
 use Rattle.mmc_switch.specs.UnderWay.{IsCarriedOut, Turn}
 use Rattle.mmc_switch.specs.declared.progress.Progress.{Progress}
+use Rattle.mmc_switch.specs.declared.progress.Standing.{Standing}
 use Rattle.mmc_erase.specs.Fits.{phase_left}
 use Rattle.mmc_erase.specs.Running.{IsIn, change_of}
 use Rattle.mmc_erase.specs.declared.job.Job.{Job}
@@ -14,6 +15,10 @@ use Rattle.mmc_erase.specs.declared.run.EraseRun.{EraseRun}
 -- how many exchanges it may still take
 abbrev pub exchanges_left : EraseRun → ℕ
 exchanges_left run = phase_left run.phase
+
+-- how it stands after a turn, which is this then
+abbrev pub run_then : EraseRun → Standing → Progress EraseRun
+run_then run standing = progress_of run.job.session run standing
 
 -- It is under way, after so many faults in its turns.
 abbrev pub IsRunning : EraseRun → ℕ → BusView → Type 0

@@ -6,7 +6,7 @@ ghost use Rattle.mmc_switch.specs.Place.{IsReady};
 ghost use Rattle.mmc_switch.specs.UnderWay.{FailsBy, part_of, room_of};
 ghost use Rattle.mmc_erase.specs.Fits.{phase_fits, phase_left};
 ghost use Rattle.mmc_erase.specs.Job.{suits};
-ghost use Rattle.mmc_erase.specs.Run.{HasProgressed, HasTurned, IsRunning, IsSameRun, Lowers, exchanges_left};
+ghost use Rattle.mmc_erase.specs.Run.{HasProgressed, HasTurned, IsRunning, IsSameRun, Lowers, exchanges_left, run_then};
 
 use crate::how::How;
 use crate::job::Job;
@@ -14,7 +14,7 @@ use crate::phase::Phase;
 use crate::run::EraseRun;
 use crate::steps::step;
 use mmc_bus::{Bus, Cause};
-use mmc_switch::{EXCHANGES_OF_AN_ENDING, Progress, Session};
+use mmc_switch::{EXCHANGES_OF_AN_ENDING, Session, Standing};
 
 /// The most exchanges of a run: three commands, and those that end it.
 pub const EXCHANGES_OF_AN_ERASE: u64 = EXCHANGES_OF_AN_ENDING + 3;
@@ -57,19 +57,40 @@ impl EraseRun {
         phase_left(self.phase)
     }
 
-    /// The next exchange.
-    pub fn turn<B: Bus>(self, bus: &mut B) -> Progress<EraseRun>
+    /// The next exchange. Once it is done or has failed there is no other.
+    pub fn turn<B: Bus>(&mut self, bus: &mut B) -> Standing
         ensures bounded { (B.view bus.new).exchanges ≤ (B.view bus.old).exchanges + 1 }
         ensures kept { (B.view bus.new).is_kept ≡ true → (B.view bus.old).is_kept ≡ true }
-        ensures same { IsSameRun self result }
-        ensures lowers { Lowers self result }
-        ensures cause { FailsBy result (B.view bus.new) }
-        ensures turned { (B.view bus.new).is_kept ≡ true → (faults : ℕ) → IsRunning self faults (B.view bus.old)
-            → HasTurned self faults (B.view bus.old) result (B.view bus.new) }
+        ensures same { IsSameRun self.old (run_then self.new result) }
+        ensures lowers { Lowers self.old (run_then self.new result) }
+        ensures cause { FailsBy (run_then self.new result) (B.view bus.new) }
+        ensures turned { (B.view bus.new).is_kept ≡ true → (faults : ℕ) → IsRunning self.old faults (B.view bus.old)
+            → HasTurned self.old faults (B.view bus.old) (run_then self.new result) (B.view bus.new) }
     {
-        let EraseRun { job, phase } = self;
-        let result = step(bus, &job, phase);
-        progress(job, result)
+        let outcome = step(bus, &self.job, self.phase);
+        self.stand(outcome)
+    }
+
+    /// The session that it was begun with, once it is over.
+    pub fn into_session(self) -> Session
+        ensures { result ≡ self.job.session }
+    {
+        self.job.session
+    }
+
+    // What an exchange makes of it.
+    fn stand(&mut self, outcome: Result<Option<Phase>, Cause>) -> Standing
+        requires fits { IfOk outcome (λ next. IfSome next (λ phase. IsTrue (phase_fits phase))) }
+        ensures { HasProgressed self.old.job outcome (run_then self.new result) }
+    {
+        match outcome {
+            Ok(Some(phase)) => {
+                self.phase = phase;
+                Standing::GoesOn
+            }
+            Ok(None) => Standing::Done,
+            Err(cause) => Standing::Failed(cause),
+        }
     }
 }
 
@@ -85,17 +106,5 @@ fn phase_left(phase: Phase) -> u64
         Phase::Last => EXCHANGES_OF_AN_ENDING + 2,
         Phase::Erase => EXCHANGES_OF_AN_ENDING + 1,
         Phase::End(ending) => ending.left(),
-    }
-}
-
-// What an exchange makes of a run.
-fn progress(job: Job, outcome: Result<Option<Phase>, Cause>) -> Progress<EraseRun>
-    requires fits { IfOk outcome (λ next. IfSome next (λ phase. IsTrue (phase_fits phase))) }
-    ensures { HasProgressed job outcome result }
-{
-    match outcome {
-        Ok(Some(phase)) => Progress::More(EraseRun { job, phase }),
-        Ok(None) => Progress::Done(job.session),
-        Err(cause) => Progress::Failed(job.session.break_off(cause)),
     }
 }

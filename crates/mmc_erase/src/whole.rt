@@ -11,7 +11,7 @@ ghost use Rattle.mmc_erase.specs.declared.turns.TheConstants.{EXCHANGES_OF_AN_ER
 use crate::how::How;
 use crate::run::EraseRun;
 use mmc_bus::{Bus, card_laws};
-use mmc_switch::{Broken, Progress, Session};
+use mmc_switch::{Broken, Session, Standing};
 
 /// Erases or trims so many sectors, 1 at least, from this one of the selected partition on, as `EraseRun::begin` has it. It
 /// makes at most `EXCHANGES_OF_AN_ERASE` exchanges.
@@ -43,9 +43,9 @@ pub fn erase_run<B: Bus>(
     let mut run = EraseRun::begin(session, start, count, how);
     loop {
         match run.turn(bus) {
-            Progress::More(next) => run = next,
-            Progress::Done(session) => return Ok(session),
-            Progress::Failed(broken) => return Err(broken),
+            Standing::GoesOn => {}
+            Standing::Done => return Ok(run.into_session()),
+            Standing::Failed(cause) => return Err(run.into_session().break_off(cause)),
         }
     }
 }

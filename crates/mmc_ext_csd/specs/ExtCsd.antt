@@ -1,10 +1,15 @@
 -- The EXT_CSD of an eMMC device, 512 bytes (JESD84-B51, section 7.4). A field of several bytes has its lowest byte
 -- first.
-use Rattle.std.specs.Prelude.{ℕ, ◌+◌, ◌-◌, ◌*◌, ◌==◌, nat_lt, List, if◌then◌else◌, slice_index, Result, Ok, Err}
+use Rattle.std.specs.Prelude.{ℕ, ◌+◌, ◌-◌, ◌*◌, ◌==◌, ◌||◌, nat_lt, Bool, List, if◌then◌else◌, slice_index, Result, Ok}
+use Rattle.std.specs.Prelude.{Err}
 use Rattle.byteorder.specs.Endian.{little_from}
 use Rattle.mmc_frame.specs.Field.{field}
 use Rattle.mmc_ext_csd.specs.declared.fault.ExtFault.{ExtFault}
 use Rattle.mmc_ext_csd.specs.declared.fault.ExtFault.TheVariants.{Revision, ZeroSize}
+
+-- DATA_SECTOR_SIZE: 0 for sectors of 512 bytes, 1 for 4 KiB
+abbrev pub data_sector_size : List ℕ → ℕ
+data_sector_size block = slice_index block 61
 
 -- GP_SIZE_MULT of the general purpose partition i, 1 to 4: three bytes, of which the first one's begin at 143
 abbrev pub gp_size_mult : ℕ → List ℕ → ℕ
@@ -13,6 +18,14 @@ gp_size_mult i block = little_from (143 + 3 * (i - 1)) 3 block
 -- PARTITION_SETTING_COMPLETED, bit 0: 1 where the sizes of the general purpose partitions count
 abbrev pub partition_setting_completed : List ℕ → ℕ
 partition_setting_completed block = field 0 0 (slice_index block 155)
+
+-- Write protection is on, of the user area by USER_WP or of a boot partition by BOOT_WP: bit 2 for good, bit 0 until the
+-- power is off.
+abbrev pub turns_on : ℕ → Bool
+turns_on byte = (field 2 2 byte == 1) || (field 0 0 byte == 1)
+
+abbrev pub has_protection : List ℕ → Bool
+has_protection block = turns_on (slice_index block 171) || turns_on (slice_index block 173)
 
 -- ERASE_GROUP_DEF: 1 where the erase unit is that of byte 224
 abbrev pub erase_group_def : List ℕ → ℕ

@@ -1,25 +1,24 @@
 -- The RCA by which a card goes, by its kind.
-use Rattle.std.proofs.Common.{◌≡◌, refl, subst, sym, ℕ}
-use Rattle.std.specs.Prelude.{IfOk, Ok, Result}
-use Rattle.mmc_frame.specs.declared.card_state.State.TheVariants.{Ident}
+use Rattle.std.proofs.Common.{◌≡◌, subst, sym, ℕ}
+use Rattle.std.specs.Prelude.{Err, IfOk, IsOkAnd, Ok, Result}
 use Rattle.mmc_frame.specs.declared.kind.Kind.{Kind}
-use Rattle.mmc_card.specs.BusView.{BusView}
-use Rattle.mmc_card.specs.Profile.{InProfile}
-use Rattle.mmc_bus.proofs.WorkLemmas.{moved_as}
-use Rattle.mmc_bus.specs.Work.{Moved}
+use Rattle.mmc_frame.specs.declared.kind.Kind.TheVariants.{Mmc, Sd}
+use Rattle.mmc_card.specs.Card.{Card}
+use Rattle.mmc_card.specs.Made.{Made}
 use Rattle.mmc_identify.specs.declared.fault.IdentFault.{IdentFault}
-use Rattle.mmc_identify.specs.Stages.{IsNamed, rca_of}
+use Rattle.mmc_identify.specs.Stages.{IsNamed, IsRcaOf}
 
--- The card goes by this RCA, which its kind gives it.
-pub addressed : (kind : Kind) (rca : ℕ) (r : Result ℕ IdentFault) (a b : BusView)
-    → (a.card.made.kind ≡ kind → rca_of a.card.made ≡ rca)
-    → Moved (λ old new. old.card.made.kind ≡ kind → IfOk r (λ given. given ≡ rca))
-    (λ old new. InProfile old.card.made → old.card.made.kind ≡ kind → old.card.state ≡ Ident
-    → (r ≡ Ok rca) × IsNamed rca new.card) a b
-    → Moved (λ old new. old.card.made.kind ≡ kind → IfOk r (λ given. given ≡ rca_of old.card.made))
-    (λ old new. InProfile old.card.made → old.card.made.kind ≡ kind → old.card.state ≡ Ident
-    → (r ≡ Ok (rca_of old.card.made)) × IsNamed (rca_of old.card.made) new.card) a b
-addressed kind rca r a b by p =
-    moved_as a b p
-    (λ is. subst (λ n. IfOk r (λ given. given ≡ n)) (sym (by is)) (p.own is))
-    (λ same profile is state. subst (λ n. (r ≡ Ok n) × IsNamed n b.card) (sym (by is)) (p.fine same profile is state))
+-- any will do for an SD card
+pub published_rca : (made : Made) (r : Result ℕ IdentFault) → made.kind ≡ Sd → IfOk r (λ rca. IsRcaOf made rca)
+published_rca made (Ok rca) sd = λ mmc. cc (sd, mmc)
+published_rca made (Err fault) sd = tt
+
+pub assigned_rca : (made : Made) (r : Result ℕ IdentFault) → IfOk r (λ rca. rca ≡ 1) → IfOk r (λ rca. IsRcaOf made rca)
+assigned_rca made (Ok rca) one = λ mmc. one
+assigned_rca made (Err fault) one = tt
+
+pub assigned_named : (r : Result ℕ IdentFault) (card : Card) → (r ≡ Ok 1) × IsNamed 1 card
+    → IsOkAnd r (λ rca. IsNamed rca card)
+assigned_named (Ok rca) card h =
+    let one : rca ≡ 1 = (let e = h.0 in cc e) in subst (λ n. IsNamed n card) (sym one) h.1
+assigned_named (Err fault) card h = cc h.0

@@ -20,7 +20,7 @@ use Rattle.mmc_bus.specs.Work.{Moved}
 use Rattle.mmc_bus.proofs.WorkLemmas.{both, fell, moved_as, refuted}
 use Rattle.mmc_identify.proofs.JoinLemmas.{Begins, IsRegistered, Takes}
 use Rattle.mmc_identify.specs.Judged as judged
-use Rattle.mmc_identify.specs.Stages.{HasTold, IsFound, IsLeft, IsNamed, rca_of, ready_ocr}
+use Rattle.mmc_identify.specs.Stages.{HasTold, IsFound, IsLeft, IsNamed, IsRcaOf, ready_ocr}
 use Rattle.mmc_identify.specs.declared.fault.IdentFault.{IdentFault}
 use Rattle.mmc_identify.specs.declared.found.Found.{Found}
 use Rattle.mmc_identify.specs.declared.identification.Registers.{Registers}
@@ -64,46 +64,54 @@ addressing_by Is.Mmc made csd addressing below is h =
 cid_taken : (made : Made) → HasRegisters made → checked_number made.cid ≡ Ok (register_number made.cid)
 cid_taken made registers = rw registers.cid_check (rw registers.cid_end refl)
 
--- what was found by the card's own registers
-abbrev own_found : Made → Result Found IdentFault
-own_found made = judged.found made.kind (ready_ocr made) (rca_of made) made.cid made.csd
+-- what was found by the card's own registers, under this RCA
+abbrev own_found : ℕ → Made → Result Found IdentFault
+own_found rca made = judged.found made.kind (ready_ocr made) rca made.cid made.csd
 
-with_own : (made : Made) (csd : Csd) (by : Result Addressing IdentFault) (found : Found) → HasRegisters made
+abbrev IsFoundAs : ℕ → Made → Found → Type 0
+IsFoundAs rca made found = IsFound made found × (found.rca ≡ rca)
+
+with_own : (rca : ℕ) (made : Made) (csd : Csd) (by : Result Addressing IdentFault) (found : Found) → HasRegisters made
+    → IsRcaOf made rca
     → csd_in made.kind made.csd ≡ Ok csd → judged.addressing made.kind (ready_ocr made) csd ≡ by
-    → judged.found_with made.kind (rca_of made) (register_number made.cid) csd by ≡ Ok found → IsFound made found
-with_own made csd (Ok addressing) found registers sound e h =
+    → judged.found_with made.kind rca (register_number made.cid) csd by ≡ Ok found → IsFoundAs rca made found
+with_own rca made csd (Ok addressing) found registers goes sound e h =
     let is : record {
       kind = made.kind;
       addressing = addressing;
-      rca = rca_of made;
+      rca = rca;
       cid = register_number made.cid;
       csd = csd;
     } ≡ found = cc h in
-    subst (IsFound made) is
-    (record {
-      kind = refl;
-      addressing = addressing_by made.kind made csd addressing registers.ocr refl e;
-      rca = refl;
-      cid = refl;
-      csd = sound;
-    })
-with_own made csd (Err fault) found registers sound e h = cc h
+    subst (IsFoundAs rca made) is
+    (
+      record {
+        kind = refl;
+        addressing = addressing_by made.kind made csd addressing registers.ocr refl e;
+        rca = goes;
+        cid = refl;
+        csd = sound;
+      },
+      refl,
+    )
+with_own rca made csd (Err fault) found registers goes sound e h = cc h
 
-parts_own : (made : Made) (csd : Result Csd RegFault) (found : Found) → HasRegisters made
+parts_own : (rca : ℕ) (made : Made) (csd : Result Csd RegFault) (found : Found) → HasRegisters made → IsRcaOf made rca
     → csd_in made.kind made.csd ≡ csd
-    → judged.found_by made.kind (ready_ocr made) (rca_of made) (Ok (register_number made.cid)) csd ≡ Ok found
-    → IsFound made found
-parts_own made (Ok csd) found registers e h = with_own made csd _ found registers e refl h
-parts_own made (Err fault) found registers e h = cc h
+    → judged.found_by made.kind (ready_ocr made) rca (Ok (register_number made.cid)) csd ≡ Ok found
+    → IsFoundAs rca made found
+parts_own rca made (Ok csd) found registers goes e h = with_own rca made csd _ found registers goes e refl h
+parts_own rca made (Err fault) found registers goes e h = cc h
 
-found_is : (made : Made) (found : Found) → HasRegisters made → own_found made ≡ Ok found → IsFound made found
-found_is made found registers h =
-    parts_own made (csd_in made.kind made.csd) found registers refl (rw (cid_taken made registers) at h)
+found_is : (rca : ℕ) (made : Made) (found : Found) → HasRegisters made → IsRcaOf made rca
+    → own_found rca made ≡ Ok found → IsFoundAs rca made found
+found_is rca made found registers goes h =
+    parts_own rca made (csd_in made.kind made.csd) found registers goes refl (rw (cid_taken made registers) at h)
 
-found_own : (made : Made) (r : Result Found IdentFault) → HasRegisters made → r ≡ own_found made
-    → IfOk r (IsFound made)
-found_own made (Ok found) registers e = found_is made found registers (sym e)
-found_own made (Err fault) registers e = tt
+found_own : (rca : ℕ) (made : Made) (r : Result Found IdentFault) → HasRegisters made → IsRcaOf made rca
+    → r ≡ own_found rca made → IfOk r (IsFoundAs rca made)
+found_own rca made (Ok found) registers goes e = found_is rca made found registers goes (sym e)
+found_own rca made (Err fault) registers goes e = tt
 
 -- The registers of a card in profile are taken, and their addressing is one.
 
@@ -119,39 +127,40 @@ abbrev pub MmcTaken : Type 0
 MmcTaken = (made : Made) → HasRegisters made → csd_in Is.Mmc made.csd ≡ Ok (Mmc (csd_number_of made))
 
 -- with this CSD something is found
-found_with_csd : (kind : Kind) (made : Made) (csd : Csd) (addressing : Addressing) → HasRegisters made
+found_with_csd : (kind : Kind) (rca : ℕ) (made : Made) (csd : Csd) (addressing : Addressing) → HasRegisters made
     → made.kind ≡ kind → csd_in kind made.csd ≡ Ok csd → judged.addressing kind (ready_ocr made) csd ≡ Ok addressing
-    → IsOk (own_found made)
-found_with_csd kind made csd addressing registers is taken e =
+    → IsOk (own_found rca made)
+found_with_csd kind rca made csd addressing registers is taken e =
     rw is (rw (cid_taken made registers) (rw taken (rw e refl)))
 
-found_sd : (made : Made) → HasRegisters made → InProfile made → StandardTaken → HighTaken → made.kind ≡ Is.Sd
-    → IsOk (own_found made)
-found_sd made registers profile standard high is =
+found_sd : (rca : ℕ) (made : Made) → HasRegisters made → InProfile made → StandardTaken → HighTaken → made.kind ≡ Is.Sd
+    → IsOk (own_found rca made)
+found_sd rca made registers profile standard high is =
     let kept = capacity_kept made.ocr registers.ocr in
     elim (profile.sd is).capacity [
-      | inl low ↦ found_with_csd Is.Sd made (V1 (csd_number_of made)) Bytes registers is (standard made registers low)
+      | inl low ↦ found_with_csd Is.Sd rca made (V1 (csd_number_of made)) Bytes registers is (standard made registers low)
           (rw (kept ∙ low.ccs) refl)
-      | inr tall ↦ found_with_csd Is.Sd made (V2 (csd_number_of made)) Sectors registers is (high made registers tall)
+      | inr tall ↦ found_with_csd Is.Sd rca made (V2 (csd_number_of made)) Sectors registers is (high made registers tall)
           (rw (kept ∙ tall.ccs) refl)
     ]
 
-found_mmc : (made : Made) → HasRegisters made → InProfile made → MmcTaken → made.kind ≡ Is.Mmc
-    → IsOk (own_found made)
-found_mmc made registers profile mmc is =
+found_mmc : (rca : ℕ) (made : Made) → HasRegisters made → InProfile made → MmcTaken → made.kind ≡ Is.Mmc
+    → IsOk (own_found rca made)
+found_mmc rca made registers profile mmc is =
     let kept = mode_kept made.ocr registers.ocr in
     let csd = Mmc (csd_number_of made) in
     elim (profile.mmc is).addresses [
-      | inl bytes ↦ found_with_csd Is.Mmc made csd Bytes registers is (mmc made registers)
+      | inl bytes ↦ found_with_csd Is.Mmc rca made csd Bytes registers is (mmc made registers)
           (rw (kept ∙ bytes.mode) (rw bytes.read_length refl))
-      | inr sectors ↦ found_with_csd Is.Mmc made csd Sectors registers is (mmc made registers)
+      | inr sectors ↦ found_with_csd Is.Mmc rca made csd Sectors registers is (mmc made registers)
           (rw (kept ∙ sectors.mode) refl)
     ]
 
-found_by_kind : (kind : Kind) (made : Made) → HasRegisters made → InProfile made → StandardTaken → HighTaken → MmcTaken
-    → made.kind ≡ kind → IsOk (own_found made)
-found_by_kind Is.Sd made registers profile standard high mmc is = found_sd made registers profile standard high is
-found_by_kind Is.Mmc made registers profile standard high mmc is = found_mmc made registers profile mmc is
+found_by_kind : (kind : Kind) (rca : ℕ) (made : Made) → HasRegisters made → InProfile made → StandardTaken → HighTaken
+    → MmcTaken → made.kind ≡ kind → IsOk (own_found rca made)
+found_by_kind Is.Sd rca made registers profile standard high mmc is =
+    found_sd rca made registers profile standard high is
+found_by_kind Is.Mmc rca made registers profile standard high mmc is = found_mmc rca made registers profile mmc is
 
 -- From anywhere to tran.
 
@@ -169,7 +178,7 @@ register_fails kind ocr fault r a b c err p q =
     (λ same profile.
     let f = pair.fine same in
     let is = ap (λ (m : Made). m.kind) p.stays.carried.made ∙ sym p.own.0 in
-    cc (f.1 (subst InProfile back profile) is (f.0 profile).1).0)
+    absurd (f.1 (subst InProfile back profile) is (f.0 profile).1))
 
 -- what the judges are to judge
 abbrev pub Came : Kind → ℕ → Registers → Result Unit IdentFault → BusView → BusView → Type 0
@@ -190,8 +199,8 @@ came kind ocr registers r a b c d p q s =
     moved_as a d all (p.own.0, p.own.1, subst (λ m. HasTold m registers) made told, s.own)
     (λ same profile.
     let f = all.fine same in
-    let named = (f.0.1 (subst InProfile (sym made) profile) is (f.0.0 profile).1).1 in
-    f.1 (subst InProfile (sym pair.stays.carried.made) profile) (subst (λ n. IsNamed n c.card) (sym told.rca) named))
+    let named = f.0.1 (subst InProfile (sym made) profile) is (f.0.0 profile).1 in
+    f.1 (subst InProfile (sym pair.stays.carried.made) profile) named)
 
 pub take_fails : (kind : Kind) (ocr : ℕ) (registers : Registers) (fault : IdentFault) (r : Result Found IdentFault)
     (a b c d : BusView) → IsErr r → Begins (Ok (kind, ocr)) a b → IsRegistered kind (Ok registers) b c
@@ -200,11 +209,10 @@ take_fails kind ocr registers fault r a b c d err p q s =
     let all = came kind ocr registers (Err fault) a b c d p q s in
     moved_as a d all (IfOk-from_err r _ err) (λ same profile. cc (all.fine same profile))
 
-found_and_left : (made : Made) (r : Result Found IdentFault) (rca : ℕ) (d : BusView) → rca ≡ rca_of made
-    → IfOk r (IsFound made) → IsLeft rca d.card → IfOk r (λ found. IsFound made found × IsLeft found.rca d.card)
-found_and_left made (Ok found) rca d told is left =
-    (is, subst (λ n. IsLeft n d.card) (told ∙ sym is.rca) left)
-found_and_left made (Err fault) rca d told is left = tt
+found_and_left : (made : Made) (r : Result Found IdentFault) (rca : ℕ) (d : BusView)
+    → IfOk r (IsFoundAs rca made) → IsLeft rca d.card → IfOk r (λ found. IsFound made found × IsLeft found.rca d.card)
+found_and_left made (Ok found) rca d is left = (is.0, subst (λ n. IsLeft n d.card) (sym is.1) left)
+found_and_left made (Err fault) rca d is left = tt
 
 pub identified : (kind : Kind) (ocr : ℕ) (registers : Registers) (r : Result Found IdentFault) (a b c d : BusView)
     → r ≡ judged.found kind ocr registers.rca registers.cid registers.csd → StandardTaken → HighTaken → MmcTaken
@@ -215,10 +223,11 @@ identified kind ocr registers r a b c d e standard high mmc p q s =
     let made = a.card.made in
     let told = all.own.2 in
     let own = all.was_card.registers in
-    let is : r ≡ own_found made = e ∙ cc (all.own.0, all.own.1, told.cid, told.rca, told.csd) in
+    let is : r ≡ own_found registers.rca made = e ∙ cc (all.own.0, all.own.1, told.cid, told.csd) in
     moved_as a d all
-    (found_and_left made r registers.rca d told.rca (found_own made r own is) (all.own.3 refl))
-    (λ same profile. subst IsOk (sym is) (found_by_kind made.kind made own profile standard high mmc refl))
+    (found_and_left made r registers.rca d (found_own registers.rca made r own told.rca is) (all.own.3 refl))
+    (λ same profile. subst IsOk (sym is)
+    (found_by_kind made.kind registers.rca made own profile standard high mmc refl))
 
 -- a card in profile is refused only where a fault fell
 pub refused : (r : Result Found IdentFault) (a b : BusView) → Identifies r a b → InProfile a.card.made → IsErr r

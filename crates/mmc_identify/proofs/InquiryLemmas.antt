@@ -77,13 +77,13 @@ announced_by : (kind : Kind) (old : BusView) (heard : Result ℕ Unheard) (new :
     → ((Names 0 old.card → ⊥) → IsUnheard old.card old heard new) → NoFault old new → IsIdle false times old.card
     → (judged.answered heard ≡ Ok (is_sd kind)) × IsIdle (is_sd kind) times new.card
 announced_by Sd old heard new times is card expects other same idle =
-    let rca : old.card.rca ≡ 0 = card.rca.first (ap is_identified idle.state) ∙ ap first_rca is in
+    let rca : old.card.rca ≡ 0 = card.rca (ap is_identified idle.state) ∙ ap first_rca is in
     let f = expects.fine same (is, inl idle.state, sym rca) in
     let after : IsIdle true times (record (shown (forgotten old.card)) { app = true }) =
     record { state = idle.state; app = refl; inquiries = idle.inquiries } in
     (ap judged.answered f.0, subst (IsIdle true times) (sym f.1) after)
 announced_by Mmc old heard new times is card expects other same idle =
-    let rca : old.card.rca ≡ 1 = card.rca.first (ap is_identified idle.state) ∙ ap first_rca is in
+    let rca : old.card.rca ≡ 1 = card.rca (ap is_identified idle.state) ∙ ap first_rca is in
     let f = other (λ mine. (let e : 0 ≡ 1 = mine ∙ rca in cc)) same in
     (ap judged.answered f.0, subst (IsIdle false times) (sym f.1) idle)
 
@@ -136,7 +136,7 @@ inquiry_told times old heard new ocr card profile asked idle is (inl ready) =
 inquiry_told times old heard new ocr card profile asked idle is (inr wait) =
     let below = card.registers.ocr in
     let window = profile.window in
-    let told = wait.0.1 in
+    let told = wait.0.1.1 in
     let few = wait.1 in
     subst (λ r. Inquired times old.card.made r new.card)
     (sym (ap judged.inquired is
@@ -178,7 +178,7 @@ ready_alone : (old : BusView) (ocr : ℕ) (new : BusView) → IsCard old.card �
     → TellsReady old.card ocr new.card ⊎ TellsWait old.card ocr new.card → ocr ≡ ready_ocr old.card.made
 ready_alone old ocr new card high (inl ready) = ready.1
 ready_alone old ocr new card high (inr wait) =
-    let below = card.registers.ocr in let told = wait.1 in absurd (omega (arith, below, told, high))
+    let told = wait.1.1 in absurd (omega (arith, told, high))
 
 -- whatever fell, the OCR of a card that is ready is its own
 pub inquiry_own : {IsThere IsServed : Type 0} (old : BusView) (heard : Result ℕ Unheard) (new : BusView)

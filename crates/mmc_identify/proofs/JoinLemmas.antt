@@ -1,7 +1,7 @@
 -- How the parts of identification join.
 use Rattle.std.proofs.Common.{◌∙◌, ◌≡◌, Bool, List, ap, false, inl, inr, refl, subst, sym, true, ℕ}
 use Rattle.std.proofs.lemmas.Result.{IfOk-from_err}
-use Rattle.std.specs.Prelude.{Err, IfOk, IsErr, IsOk, Ok, Result, is_ok}
+use Rattle.std.specs.Prelude.{Err, IfOk, IsErr, IsOk, IsOkAnd, Ok, Result, is_ok}
 use Rattle.mmc_frame.specs.declared.card_state.State.{State}
 use Rattle.mmc_frame.specs.declared.card_state.State.TheVariants.{Data, Dis, Ident, Idle, Prg, Rcv, Ready, Stby, Tran}
 use Rattle.mmc_frame.specs.declared.kind.Kind.{Kind}
@@ -17,7 +17,7 @@ use Rattle.mmc_bus.specs.Learned.{may_fail}
 use Rattle.mmc_bus.specs.Work.{Moved, Narrows, Worked}
 use Rattle.mmc_bus.proofs.WorkLemmas.{both, moved_as, moved_on, refuted}
 use Rattle.mmc_identify.specs.Stages.{CanStart, HasTold, IsIdle, IsLeft, IsNamed, IsPolled, IsSelected, Looks, echoes}
-use Rattle.mmc_identify.specs.Stages.{rca_of, ready_ocr}
+use Rattle.mmc_identify.specs.Stages.{IsRcaOf, ready_ocr}
 use Rattle.mmc_identify.specs.declared.fault.IdentFault.{IdentFault}
 use Rattle.mmc_identify.specs.declared.identification.Registers.{Registers}
 
@@ -288,9 +288,9 @@ Names r a b =
 
 abbrev pub Addresses : Kind → Result ℕ IdentFault → BusView → BusView → Type 0
 Addresses kind r a b =
-    Moved (λ old new. old.card.made.kind ≡ kind → IfOk r (λ rca. rca ≡ rca_of old.card.made))
+    Moved (λ old new. old.card.made.kind ≡ kind → IfOk r (λ rca. IsRcaOf old.card.made rca))
     (λ old new. InProfile old.card.made → old.card.made.kind ≡ kind → old.card.state ≡ Ident
-    → (r ≡ Ok (rca_of old.card.made)) × IsNamed (rca_of old.card.made) new.card) a b
+    → IsOkAnd r (λ rca. IsNamed rca new.card)) a b
 
 abbrev pub Describes : ℕ → Result (List ℕ) IdentFault → BusView → BusView → Type 0
 Describes rca r a b =
@@ -301,7 +301,7 @@ abbrev pub IsRegistered : Kind → Result Registers IdentFault → BusView → B
 IsRegistered kind r a b =
     Moved (λ old new. old.card.made.kind ≡ kind → IfOk r (λ registers. HasTold old.card.made registers))
     (λ old new. InProfile old.card.made → old.card.made.kind ≡ kind → old.card.state ≡ Ready
-    → IsOk r × IsNamed (rca_of old.card.made) new.card) a b
+    → IsOkAnd r (λ registers. IsNamed registers.rca new.card)) a b
 
 pub address_fails : (kind : Kind) (cid : List ℕ) (fault : IdentFault) (r : Result Registers IdentFault)
     (a b c : BusView) → IsErr r → Names (Ok cid) a b → Addresses kind (Err fault) b c → IsRegistered kind r a c
@@ -311,22 +311,23 @@ address_fails kind cid fault r a b c err p q =
     moved_as a c pair (λ is. IfOk-from_err r _ err)
     (λ same profile is ready.
     let f = pair.fine same in
-    cc (f.1 (subst InProfile back profile) (subst (λ (m : Made). m.kind ≡ kind) back is) (f.0 ready).1).0)
+    absurd (f.1 (subst InProfile back profile) (subst (λ (m : Made). m.kind ≡ kind) back is) (f.0 ready).1))
 
 -- the CSD is told to the RCA that was told, or not
 described : (kind : Kind) (cid : List ℕ) (rca : ℕ) (r : Result (List ℕ) IdentFault) (a b c d : BusView)
     → Names (Ok cid) a b → Addresses kind (Ok rca) b c → Describes rca r c d
     → Moved (λ old new. old.card.made.kind ≡ kind
-    → (cid ≡ old.card.made.cid) × (rca ≡ rca_of old.card.made) × IfOk r (λ csd. csd ≡ old.card.made.csd))
+    → (cid ≡ old.card.made.cid) × IsRcaOf old.card.made rca × IfOk r (λ csd. csd ≡ old.card.made.csd))
     (λ old new. InProfile old.card.made → old.card.made.kind ≡ kind → old.card.state ≡ Ready
-    → (r ≡ Ok old.card.made.csd) × IsNamed (rca_of old.card.made) new.card) a d
+    → (r ≡ Ok old.card.made.csd) × IsNamed rca new.card) a d
 described kind cid rca r a b c d p q s =
     let pair = both a b c p q in
     let all = both a c d pair s in
     let made = p.stays.carried.made in
     let is_kind : a.card.made.kind ≡ kind → b.card.made.kind ≡ kind =
     λ is. subst (λ (m : Made). m.kind ≡ kind) (sym made) is in
-    let told : a.card.made.kind ≡ kind → rca ≡ rca_of a.card.made = λ is. q.own (is_kind is) ∙ ap rca_of made in
+    let told : a.card.made.kind ≡ kind → IsRcaOf a.card.made rca =
+    λ is. subst (λ m. IsRcaOf m rca) made (q.own (is_kind is)) in
     moved_as a d all
     (λ is. (
       p.own,
@@ -335,11 +336,8 @@ described kind cid rca r a b c d p q s =
     ))
     (λ same profile is ready.
     let f = all.fine same in
-    let named = (f.0.1 (subst InProfile (sym made) profile) (is_kind is) (f.0.0 ready).1).1 in
-    let t = f.1 (subst (λ n. IsNamed n c.card) (sym (q.own (is_kind is))) named) in (
-      subst (λ (m : Made). r ≡ Ok m.csd) pair.stays.carried.made t.0,
-      subst (λ n. IsNamed n d.card) (told is) t.1,
-    ))
+    let named = f.0.1 (subst InProfile (sym made) profile) (is_kind is) (f.0.0 ready).1 in
+    let t = f.1 named in (subst (λ (m : Made). r ≡ Ok m.csd) pair.stays.carried.made t.0, t.1))
 
 pub describe_fails : (kind : Kind) (cid : List ℕ) (rca : ℕ) (fault : IdentFault) (r : Result Registers IdentFault)
     (a b c d : BusView) → IsErr r → Names (Ok cid) a b → Addresses kind (Ok rca) b c
@@ -354,4 +352,4 @@ pub registered : (kind : Kind) (cid csd : List ℕ) (rca : ℕ) (a b c d : BusVi
 registered kind cid csd rca a b c d p q s =
     let all = described kind cid rca (Ok csd) a b c d p q s in
     moved_as a d all (λ is. let o = all.own is in record { cid = o.0; rca = o.1; csd = o.2 })
-    (λ same profile is ready. (refl, (all.fine same profile is ready).1))
+    (λ same profile is ready. (all.fine same profile is ready).1)

@@ -1,7 +1,7 @@
 -- What one exchange of identification tells, and where it leaves the card.
 use Rattle.std.proofs.Common.{◌<◌, ◌∙◌, ◌≡◌, ◌↔◌, ◌⊎◌, ◌^◌, Bool, List, ap, arith, cond, false, inl, refl}
 use Rattle.std.proofs.Common.{subst, sym, true, ℕ}
-use Rattle.std.specs.Prelude.{◌%◌, ◌&&◌, ◌/◌, ◌==◌, Err, IfOk, IsOk, Ok, Result, not}
+use Rattle.std.specs.Prelude.{◌%◌, ◌&&◌, ◌/◌, ◌==◌, Err, IfOk, IsOk, IsOkAnd, Ok, Result, not}
 use Rattle.std.proofs.lemmas.Bool.{eqb-true}
 use Rattle.mmc_frame.specs.Field.{field}
 use Rattle.mmc_frame.specs.Status.{IsClean, error_bits, state_number}
@@ -24,8 +24,8 @@ use Rattle.mmc_identify.specs.declared.fault.IdentFault.TheVariants.{Locked, NoA
 
 -- CMD0.
 
-pub idle_reset : (lands : ℕ → Bool) (old new : Card) → new ≡ reset lands old → IsIdle false 0 new
-idle_reset lands old new e = subst (IsIdle false 0) (sym e) (record { state = refl; app = refl; inquiries = refl })
+pub idle_reset : (lands : ℕ → Bool) (keeps : Bool) (old new : Card) → new ≡ reset lands keeps old → IsIdle false 0 new
+idle_reset lands keeps old new e = subst (IsIdle false 0) (sym e) (record { state = refl; app = refl; inquiries = refl })
 
 -- Registers.
 
@@ -53,38 +53,41 @@ named_shown rca old new e =
     subst (IsNamed rca) (sym e)
     (record { state = refl; is_rca = refl; app = refl; command_errors = refl; errors = refl; switch_error = refl })
 
-r6_rca : (card : Card) → r6_argument card / 65536 ≡ card.made.published
-r6_rca card = omega arith
+r6_rca : (rca : ℕ) (card : Card) → r6_argument rca card / 65536 ≡ rca
+r6_rca rca card = omega arith
 
 published_by : (is_zero : Bool) (told rca : ℕ) → (told / 65536 == 0) ≡ is_zero → told / 65536 ≡ rca → (rca ≡ 0 → ⊥)
     → judged.published (Ok told) ≡ Ok rca
 published_by true told rca e is some = absurd (some (sym is ∙ eqb-true (told / 65536) 0 e))
 published_by false told rca e is some = rw e (ap Ok is)
 
-pub published_fine : (old : BusView) (heard : Result ℕ Unheard) (new : BusView) → InProfile old.card.made
-    → old.card.made.kind ≡ Sd
-    → Does ((old.card.state ≡ Ident) ⊎ (old.card.state ≡ Stby)) (r6_argument old.card)
-    (record (shown old.card) { state = Stby; rca = old.card.made.published }) old heard new
-    → NoFault old new → old.card.state ≡ Ident
-    → (judged.published heard ≡ Ok old.card.made.published) × IsNamed old.card.made.published new.card
-published_fine old heard new profile sd does same ident =
-    let rca = old.card.made.published in
+-- CMD3 publishes the RCA by which the card goes then
+abbrev pub Publishes : BusView → Result ℕ Unheard → BusView → Type 0
+Publishes old heard new =
+    Does ((old.card.state ≡ Ident) ⊎ (old.card.state ≡ Stby)) (r6_argument new.card.rca old.card)
+    (record (shown old.card) { state = Stby; rca = new.card.rca }) old heard new
+
+pub published_fine : (old : BusView) (heard : Result ℕ Unheard) (new : BusView) (result : Result ℕ IdentFault)
+    → result ≡ judged.published heard → Publishes old heard new
+    → NoFault old new → old.card.state ≡ Ident → (new.card.rca ≡ 0 → ⊥)
+    → IsOkAnd result (λ rca. IsNamed rca new.card)
+published_fine old heard new result is does same ident some =
+    let rca = new.card.rca in
     let f = does.fine same (inl ident) in
-    let judges = published_by _ (r6_argument old.card) rca refl (r6_rca old.card) (profile.sd sd).published in
-    (ap judged.published f.0 ∙ judges, named_shown rca old.card new.card f.1)
+    let judges = published_by _ (r6_argument rca old.card) rca refl (r6_rca rca old.card) some in
+    subst (λ (r : Result ℕ IdentFault). IsOkAnd r (λ rca. IsNamed rca new.card))
+    (sym (is ∙ ap judged.published f.0 ∙ judges)) (named_shown rca old.card new.card f.1)
 
 published_told : (is_zero : Bool) (told : ℕ) → let result : Result ℕ IdentFault = cond is_zero (Err Register)
     (Ok (told / 65536)) in IfOk result (λ rca. rca ≡ told / 65536)
 published_told true told = tt
 published_told false told = refl
 
-pub published_own : (old : BusView) (heard : Result ℕ Unheard) (new : BusView)
-    → Does ((old.card.state ≡ Ident) ⊎ (old.card.state ≡ Stby)) (r6_argument old.card)
-    (record (shown old.card) { state = Stby; rca = old.card.made.published }) old heard new
-    → IfOk (judged.published heard) (λ rca. rca ≡ old.card.made.published)
+pub published_own : (old : BusView) (heard : Result ℕ Unheard) (new : BusView) → Publishes old heard new
+    → IfOk (judged.published heard) (λ rca. rca ≡ new.card.rca)
 published_own old (Ok told) new does =
     subst (λ (known : ℕ). IfOk (judged.published (Ok told)) (λ rca. rca ≡ known))
-    (ap (λ n. n / 65536) (does.sound told refl).1 ∙ r6_rca old.card) (published_told _ told)
+    (ap (λ n. n / 65536) (does.sound told refl).1 ∙ r6_rca new.card.rca old.card) (published_told _ told)
 published_own old (Err unheard) new does = tt
 
 pub assigned_fine : (old : BusView) (heard : Result ℕ Unheard) (new : BusView)

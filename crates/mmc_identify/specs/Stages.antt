@@ -3,7 +3,7 @@
 use Rattle.std.specs.Prelude.{◌+◌, ◌<◌, ◌^◌, ◌≡◌, Bool, Err, None, Ok, Option, Result, Some, false, if◌then◌else◌}
 use Rattle.std.specs.Prelude.{true, ℕ}
 use Rattle.mmc_frame.specs.declared.card_state.State.TheVariants.{Idle, Ready, Stby, Tran}
-use Rattle.mmc_frame.specs.declared.kind.Kind.TheVariants.{Sd}
+use Rattle.mmc_frame.specs.declared.kind.Kind.TheVariants.{Mmc, Sd}
 use Rattle.mmc_regs.specs.Csd.{csd_in}
 use Rattle.mmc_regs.specs.Ocr.{card_capacity_status}
 use Rattle.mmc_regs.specs.Register.{register_number}
@@ -40,9 +40,9 @@ Inquired times made (Ok None) new = (times < 8) × IsIdle false (times + 1) new
 Inquired times made (Ok (Some ocr)) new = (ocr ≡ ready_ocr made) × (new.state ≡ Ready)
 Inquired times made (Err fault) new = ⊥
 
--- the RCA by which the card goes: SD publishes it, eMMC is assigned 1
-abbrev pub rca_of : Made → ℕ
-rca_of made = if is_sd made.kind then made.published else 1
+-- the RCA by which the card goes: an eMMC device is assigned 1, and an SD card publishes any
+abbrev pub IsRcaOf : Made → ℕ → Type 0
+IsRcaOf made rca = made.kind ≡ Mmc → rca ≡ 1
 
 -- in stby under this RCA, with no error to show
 pub record IsNamed (rca : ℕ) (card : Card) : Type 0 where
@@ -87,12 +87,12 @@ pub record IsLeft (rca : ℕ) (card : Card) : Type 0 where
 pub record IsFound (made : Made) (found : Found) : Type 0 where
   pub kind : found.kind ≡ made.kind
   pub addressing : found.addressing ≡ addressing_of made
-  pub rca : found.rca ≡ rca_of made
+  pub rca : IsRcaOf made found.rca
   pub cid : found.cid ≡ register_number made.cid
   pub csd : csd_in made.kind made.csd ≡ Ok found.csd
 
 -- these registers are the card's own
 pub record HasTold (made : Made) (registers : Registers) : Type 0 where
   pub cid : registers.cid ≡ made.cid
-  pub rca : registers.rca ≡ rca_of made
+  pub rca : IsRcaOf made registers.rca
   pub csd : registers.csd ≡ made.csd

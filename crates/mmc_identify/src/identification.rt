@@ -5,14 +5,14 @@
 //    it goes on by CMD0 and CMD1.
 // 3. CMD2, CMD3, CMD9, CMD7, polls until the card isn't busy, and CMD13, whose status has to be clean.
 // 4. Any other missing or unsound response ends it. Registers are judged at the end.
-ghost use Rattle.std.specs.Prelude.{◌≡◌, ◌+◌, ◌<◌, ◌≤◌, IfOk, IsErr, IsOk, Ok, false, true, ℕ};
+ghost use Rattle.std.specs.Prelude.{◌≡◌, ◌+◌, ◌<◌, ◌≤◌, IfOk, IsErr, IsOk, IsOkAnd, Ok, false, true, ℕ};
 ghost use Rattle.mmc_frame.specs.declared.card_state.State.TheVariants.{Ident, Ready};
 ghost use Rattle.mmc_frame.specs.declared.kind.Kind.TheVariants as Is;
 ghost use Rattle.mmc_card.specs.declared.exchange.Timing.TheVariants.{Default};
 ghost use Rattle.mmc_card.specs.declared.exchange.Width.TheVariants.{One};
 ghost use Rattle.mmc_card.specs.Profile.{InProfile};
 ghost use Rattle.mmc_bus.specs.Work.{Moves};
-ghost use Rattle.mmc_identify.specs.Stages.{CanStart, HasTold, IsFound, IsIdle, IsLeft, IsNamed, IsPolled, Looks, rca_of, ready_ocr};
+ghost use Rattle.mmc_identify.specs.Stages.{CanStart, HasTold, IsFound, IsIdle, IsLeft, IsNamed, IsPolled, IsRcaOf, Looks, ready_ocr};
 
 use crate::fault::IdentFault;
 use crate::found::Found;
@@ -75,9 +75,9 @@ fn address<B: Bus>(bus: &mut B, kind: Kind) -> Result<u16, IdentFault>
     ensures bounded { (B.view bus.new).exchanges ≤ (B.view bus.old).exchanges + 1 }
     ensures lines { (B.view bus.new).lines ≡ (B.view bus.old).lines }
     ensures moves { Moves
-        (λ old new. old.card.made.kind ≡ kind → IfOk result (λ rca. rca ≡ rca_of old.card.made))
+        (λ old new. old.card.made.kind ≡ kind → IfOk result (λ rca. IsRcaOf old.card.made rca))
         (λ old new. InProfile old.card.made → old.card.made.kind ≡ kind → old.card.state ≡ Ident
-        → (result ≡ Ok (rca_of old.card.made)) × IsNamed (rca_of old.card.made) new.card)
+        → IsOkAnd result (λ rca. IsNamed rca new.card))
         (B.view bus.old) (B.view bus.new) }
 {
     match kind {
@@ -93,7 +93,7 @@ fn register<B: Bus>(bus: &mut B, kind: Kind) -> Result<Registers, IdentFault>
     ensures moves { Moves
         (λ old new. old.card.made.kind ≡ kind → IfOk result (λ registers. HasTold old.card.made registers))
         (λ old new. InProfile old.card.made → old.card.made.kind ≡ kind → old.card.state ≡ Ready
-        → IsOk result × IsNamed (rca_of old.card.made) new.card)
+        → IsOkAnd result (λ registers. IsNamed registers.rca new.card))
         (B.view bus.old) (B.view bus.new) }
 {
     let cid = name(bus)?;

@@ -1,5 +1,5 @@
 // What identification does with SD cards (SD Physical Layer 6.00, section 4.2), one exchange or two a function.
-ghost use Rattle.std.specs.Prelude.{◌≡◌, ◌+◌, ◌≤◌, IfOk, Ok, Some, false, true, ℕ};
+ghost use Rattle.std.specs.Prelude.{◌≡◌, ◌+◌, ◌≤◌, IfOk, IsOkAnd, Ok, Some, false, true, ℕ};
 ghost use Rattle.mmc_frame.specs.declared.card_state.State.TheVariants.{Ident, Ready};
 ghost use Rattle.mmc_frame.specs.declared.kind.Kind.TheVariants.{Sd};
 ghost use Rattle.mmc_card.specs.Made.{is_sd};
@@ -123,14 +123,14 @@ pub fn start<B: Bus>(bus: &mut B, hcs: bool) -> Result<u32, IdentFault>
     }
 }
 
-/// CMD3: the RCA that the card publishes.
+/// CMD3: the RCA that the card publishes, by which it goes from now on.
 pub fn publish<B: Bus>(bus: &mut B) -> Result<u16, IdentFault>
     ensures bounded { (B.view bus.new).exchanges ≤ (B.view bus.old).exchanges + 1 }
     ensures lines { (B.view bus.new).lines ≡ (B.view bus.old).lines }
     ensures moves { Moves
-        (λ old new. old.card.made.kind ≡ Sd → IfOk result (λ rca. rca ≡ old.card.made.published))
+        (λ old new. old.card.made.kind ≡ Sd → IfOk result (λ rca. rca ≡ new.card.rca))
         (λ old new. InProfile old.card.made → old.card.made.kind ≡ Sd → old.card.state ≡ Ident
-        → (result ≡ Ok old.card.made.published) × IsNamed old.card.made.published new.card)
+        → IsOkAnd result (λ rca. IsNamed rca new.card))
         (B.view bus.old) (B.view bus.new) }
 {
     identify_laws::cmd3_publishes_the_rca();

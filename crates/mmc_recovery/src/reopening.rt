@@ -1,8 +1,9 @@
-// A reset: the card is initialized again, and has to be the one that it was.
+// A reset: the card is initialized again, and has to be the one that it was, under whatever RCA it publishes now.
 ghost use Rattle.std.specs.Prelude.{◌≡◌, ◌+◌, ◌≤◌, IfErr, IfOk, IsOk, Some};
 ghost use Rattle.mmc_card.specs.Profile.{InProfile};
 ghost use Rattle.mmc_card.specs.declared.part.Part.TheVariants.{User};
 ghost use Rattle.mmc_bus.specs.Work.{Moves};
+ghost use Rattle.mmc_switch.specs.Info.{lasting};
 ghost use Rattle.mmc_switch.specs.Place.{Knows};
 ghost use Rattle.mmc_switch.specs.declared.initialization.TheConstants.{EXCHANGES_OF_AN_INITIALIZATION};
 ghost use Rattle.mmc_recovery.specs.Settled.{Leaves, given_up};
@@ -16,7 +17,8 @@ use mmc_switch::{Broken, Session, initialize};
 /// What is left, where the card isn't initialized or is another one; of a card in profile only where a fault fell.
 pub fn reset<B: Bus>(bus: &mut B, broken: Broken) -> Result<Session, Broken>
     ensures bounded { (B.view bus.new).exchanges ≤ (B.view bus.old).exchanges + EXCHANGES_OF_AN_INITIALIZATION }
-    ensures ok { IfOk result (λ session. (session.info ≡ broken.session.info) × (session.selected ≡ Some User)) }
+    ensures ok { IfOk result (λ session. (lasting session.info ≡ lasting broken.session.info)
+        × (session.selected ≡ Some User)) }
     ensures err { IfErr result (λ left. left ≡ given_up broken) }
     ensures moves { Moves
         (λ old new. Knows broken.session old.card.made → Leaves result new)

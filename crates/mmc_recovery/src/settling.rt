@@ -5,14 +5,15 @@
 //    busy, sixteen times at most. In tran there is nothing to end; any other state leads to rule 4.
 // 3. CMD16 with 512 bytes, CMD13, and a second CMD13, which has to be clean. What any earlier status says else is ignored.
 //    A missing or unsound response, a status that isn't clean, or a card that is busy still leads to rule 4.
-// 4. Identification, and width and speed: all that is known of the card then has to be what was known before. The user
-//    partition is selected now. A failure here is given up: nothing but another reset may help, and which partition is
-//    selected isn't known.
+// 4. Identification, and width and speed: all that is known of the card then has to be what was known before, but for the
+//    RCA, which an SD card may publish anew (SD Physical Layer 6.00, section 4.2.2). The user partition is selected now. A
+//    failure here is given up: nothing but another reset may help, and which partition is selected isn't known.
 ghost use Rattle.std.specs.Prelude.{◌≡◌, ◌<◌, ◌+◌, ◌⊎◌, ◌≤◌, IfErr, IfOk, IsErr, Some, true};
 ghost use Rattle.mmc_card.specs.Profile.{InProfile};
 ghost use Rattle.mmc_card.specs.declared.part.Part.TheVariants.{User};
 ghost use Rattle.mmc_bus.specs.Learned.{Stays};
 ghost use Rattle.mmc_bus.specs.Work.{Narrows};
+ghost use Rattle.mmc_switch.specs.Info.{lasting};
 ghost use Rattle.mmc_switch.specs.Place.{IsLoose};
 ghost use Rattle.mmc_recovery.specs.Settled.{Leaves, given_up};
 
@@ -31,7 +32,7 @@ pub const EXCHANGES_OF_A_SETTLE: u64 = EXCHANGES_OF_A_RESTORATION + EXCHANGES_OF
 /// What is left has to be reset, with the cause `Recovery`; of a card in profile only where a fault fell.
 pub fn settle<B: Bus>(bus: &mut B, broken: Broken) -> Result<Session, Broken>
     ensures bounded { (B.view bus.new).exchanges ≤ (B.view bus.old).exchanges + EXCHANGES_OF_A_SETTLE }
-    ensures ok { IfOk result (λ session. (session.info ≡ broken.session.info)
+    ensures ok { IfOk result (λ session. (lasting session.info ≡ lasting broken.session.info)
         × ((session ≡ broken.session) ⊎ (session.selected ≡ Some User))) }
     ensures err { IfErr result (λ left. left ≡ given_up broken) }
 

@@ -117,9 +117,9 @@ same_info a b e =
 one_csd : (r : Result Csd RegFault) (a b : Csd) → r ≡ Ok a → r ≡ Ok b → a ≡ b
 one_csd r a b e f = cc (e, f)
 
-pub known_info : (made : Made) (a b : Info) → IsInfo made a → IsInfo made b → a ≡ b
+pub known_info : (made : Made) (a b : Info) → IsInfo made a → IsInfo made b → record a { rca = b.rca } ≡ b
 known_info made a b one other =
-    same_fields a b (one.kind ∙ sym other.kind) (one.addressing ∙ sym other.addressing) (one.rca ∙ sym other.rca)
+    same_fields (record a { rca = b.rca }) b (one.kind ∙ sym other.kind) (one.addressing ∙ sym other.addressing) refl
     (one.cid ∙ sym other.cid) (one_csd _ a.csd b.csd one.csd other.csd)
     (all_sizes a.sizes b.sizes (one.sizes User ∙ sym (other.sizes User)) (one.sizes Boot1 ∙ sym (other.sizes Boot1))
     (one.sizes Gp1 ∙ sym (other.sizes Gp1)) (one.sizes Gp2 ∙ sym (other.sizes Gp2))

@@ -16,7 +16,7 @@ use Rattle.mmc_ext_csd.specs.ExtCsd.{sec_count}
 use Rattle.mmc_card.specs.BusView.{BusView}
 use Rattle.mmc_card.specs.Card.{Card, IsCard, is_writing}
 use Rattle.mmc_card.specs.Laws.{Setting}
-use Rattle.mmc_card.specs.Made.{HasRegisters, Made, addressing_of, first_block_length, has_sector_addresses, is_mmc}
+use Rattle.mmc_card.specs.Made.{HasRegisters, Made, addressing_of, has_sector_addresses, named_block_length}
 use Rattle.mmc_card.specs.Profile.{InProfile}
 use Rattle.mmc_card.specs.RowsSwitch.{ext_csd_now, partition_config_for, timing_number, width_number}
 use Rattle.mmc_card.specs.declared.exchange.Timing.{Timing}
@@ -31,7 +31,7 @@ use Rattle.mmc_switch.proofs.FetchLemmas.{SendsExtCsd}
 use Rattle.mmc_switch.proofs.SdLemmas.{SetsUp as SetsUpSd}
 use Rattle.mmc_switch.proofs.SwitchLemmas.{SetsUp as SetsUpMmc}
 use Rattle.mmc_bus.proofs.WorkLemmas.{both, fell, moved_as, refuted}
-use Rattle.mmc_identify.specs.Stages.{IsFound, IsLeft, rca_of}
+use Rattle.mmc_identify.specs.Stages.{IsFound, IsLeft}
 use Rattle.mmc_identify.specs.declared.found.Found.{Found}
 use Rattle.mmc_switch.proofs.InfoLemmas.{byte_kept, count_kept, mmc_speed, tested}
 use Rattle.mmc_switch.specs.Info.{IsInfo, erase_group_def_of, has_high_timing, timing_of, width_of}
@@ -72,7 +72,7 @@ ready_set session rca width timing group view r w t e set =
 -- what is known of the card before is known of it after
 ready : (session : Session) (rca : ℕ) (width : Width) (timing : Timing) (group : ℕ) (a b : BusView) → IsCard b.card
     → Stays a b → Knows session a.card.made → session.selected ≡ Some User
-    → rca ≡ rca_of a.card.made → width ≡ width_of a.card.made → timing ≡ timing_of a.card.made
+    → session.info.rca ≡ rca → width ≡ width_of a.card.made → timing ≡ timing_of a.card.made
     → erase_group_def_of a.card.made.kind ≡ group → IsSet false (user_setting rca width timing group) b
     → IsReady session b
 ready session rca width timing group a b card stays knows selected r w t e set =
@@ -81,7 +81,7 @@ ready session rca width timing group a b card stays knows selected r w t e set =
       is_card = card;
       knows = subst (Knows session) (sym stays.carried.made) knows;
       set =
-          ready_set session rca width timing group b (knows.info.rca ∙ sym r) (knows.info.width ∙ sym w)
+          ready_set session rca width timing group b r (knows.info.width ∙ sym w)
           (knows.info.timing ∙ sym t) (ap erase_group_def_of knows.info.kind ∙ e) set;
       part = record { known = λ known is. user ∙ cc (selected, is); sd = λ sd. user };
     }
@@ -115,8 +115,9 @@ pub sd_widened : (found : Found) (told : Told) (up : Result Told Cause) (said : 
     (session : Session) (a b : BusView) → up ≡ Ok told → said ≡ Some info → session ≡ first_session info 0
     → ((made : Made) → HasRegisters made → made.kind ≡ Sd → IsFound made found → told ≡ told_of made
     → IfSome said (IsInfo made))
+    → IfSome said (λ info. info.rca ≡ found.rca)
     → SetsUpSd found.rca up a b → WidensKind Sd found (Ok session) a b
-sd_widened found told up said info session a b e some opened says p =
+sd_widened found told up said info session a b e some opened says named p =
     let made = a.card.made in
     subst (λ (s : Session). WidensKind Sd found (Ok s) a b) (sym opened)
     (moved_as a b p
@@ -127,7 +128,8 @@ sd_widened found told up said info session a b e some opened says p =
       partition_config = λ mmc. cc (is, mmc);
     } in (
       ready (first_session info 0) found.rca (width_of made) (timing_of made) 0 a b p.is_card p.stays knows refl
-          own.rca refl refl (rw is refl) done.1,
+          (subst (λ (o : Option Info). IfSome o (λ info. info.rca ≡ found.rca)) some named) refl refl (rw is refl)
+          done.1,
       refl,
     ))
     (λ same is profile own set. refl))
@@ -244,9 +246,9 @@ pub mmc_widened : (found : Found) (block : List ℕ) (high : Bool) (sent : Resul
     → (IsTrue high ↔ (high_speed_at_52_mhz block ≡ 1)) → up ≡ Ok timing → config ≡ partition_config block
     → session ≡ first_session info config
     → ((card : Card) → HasRegisters card.made → card.made.kind ≡ Mmc → IsFound card.made found
-    → block ≡ ext_csd_now card → timing ≡ timing_of card.made → IsInfo card.made info)
+    → block ≡ ext_csd_now card → timing ≡ timing_of card.made → IsInfo card.made info) → info.rca ≡ found.rca
     → SendsExtCsd sent a b → SetsUpMmc found.rca high up b c → WidensKind Mmc found (Ok session) a c
-mmc_widened found block high sent timing up info config session a b c e tests done by opened says p q =
+mmc_widened found block high sent timing up info config session a b c e tests done by opened says named p q =
     let all = mmc_set found block high sent up a b c e tests p q in
     let made = a.card.made in
     let registers = all.was_card.registers in
@@ -260,7 +262,7 @@ mmc_widened found block high sent timing up info config session a b c e tests do
       info = says a.card registers is own o.0 t.0;
       partition_config = λ mmc. ap (field 7 3) by ∙ config_kept a.card block registers is user o.0;
     } in (
-      ready (first_session info config) found.rca Over.Eight timing 1 a c all.is_card all.stays knows refl own.rca
+      ready (first_session info config) found.rca Over.Eight timing 1 a c all.is_card all.stays knows refl named
           (rw is refl) t.0 (rw is refl) t.1,
       refl,
     ))
@@ -316,19 +318,13 @@ widened found length r a b c ok p q =
     (λ same profile own left lines.
     (pair.fine same).1 (subst InProfile back profile) (subst (λ m. IsFound m found) back own) (set left lines))
 
-length_by : (mmc high : Bool) (n : ℕ) → high ≡ true → cond (mmc && not high) n 512 ≡ 512
-length_by true true n e = refl
-length_by true false n e = cc e
-length_by false high n e = refl
-
--- with sector addresses the first block length is 512 already
+-- with sector addresses the block length is 512 already
 left_set : (rca : ℕ) (view : BusView) → IsCard view.card → IsLeft rca view.card → view.lines ≡ first_lines
     → addressing_of view.card.made ≡ Sectors → IsSet false (first_setting rca) view
 left_set rca view card left lines sectors =
     let made = view.card.made in
     let is = left.selected in
-    let first : first_block_length made ≡ 512 =
-    length_by (is_mmc made.kind) (has_sector_addresses made) _ (by_sectors (has_sector_addresses made) sectors) in
+    let first : named_block_length made ≡ 512 = rw (by_sectors (has_sector_addresses made) sectors) refl in
     let long : view.card.block_length ≡ 512 = elim card.block_length [ inl e ↦ e | inr e ↦ e ∙ first ] in
     record {
       rest = record {

@@ -14,7 +14,7 @@ use Rattle.mmc_card.specs.declared.exchange.Width.TheVariants.{Eight, Four, One}
 use Rattle.mmc_card.specs.declared.part.Part.{Part}
 use Rattle.mmc_card.specs.Made.{Made, addressing_of, erase_unit_of_card, erased_byte_of_card, has_cmd23, has_high_speed}
 use Rattle.mmc_card.specs.Made.{has_switch_function, is_read_only, is_sd, sectors_in}
-use Rattle.mmc_identify.specs.Stages.{rca_of}
+use Rattle.mmc_identify.specs.Stages.{IsRcaOf}
 use Rattle.mmc_switch.specs.Sizes.{size_of, some_size}
 use Rattle.mmc_switch.specs.declared.info.Info.{Info}
 
@@ -44,11 +44,16 @@ abbrev pub erase_group_def_of : Kind → ℕ
 erase_group_def_of Sd = 0
 erase_group_def_of Mmc = 1
 
+-- What is known of a card for good: all but the RCA, in whose place 1 stands, since an SD card may publish another one
+-- whenever it is asked.
+abbrev pub lasting : Info → Info
+lasting info = record info { rca = 1 }
+
 -- what the host knows of the card is what its registers say
 pub record IsInfo (made : Made) (info : Info) : Type 0 where
   pub kind : info.kind ≡ made.kind
   pub addressing : info.addressing ≡ addressing_of made
-  pub rca : info.rca ≡ rca_of made
+  pub rca : IsRcaOf made info.rca
   pub cid : info.cid ≡ register_number made.cid
   pub csd : csd_in made.kind made.csd ≡ Ok info.csd
   -- a partition that commands can't address as a whole doesn't exist

@@ -7,6 +7,8 @@ use Rattle.mmc_switch.specs.Place.{IsReady}
 use Rattle.mmc_switch.specs.UnderWay.{HasFailed, broken_off}
 use Rattle.mmc_switch.specs.declared.progress.Progress.{Progress}
 use Rattle.mmc_switch.specs.declared.progress.Progress.TheVariants.{Done, Failed, More}
+use Rattle.mmc_switch.specs.declared.progress.Standing.{Standing}
+use Rattle.mmc_switch.specs.declared.progress.Standing.TheVariants as standing
 use Rattle.mmc_switch.specs.declared.session.Session.{Session}
 
 -- what an exchange makes of work for this session: it goes on in the phase behind it, or it is done, or it has failed
@@ -21,6 +23,12 @@ abbrev pub StaysFor : {R : Type 0} → (R → Type 0) → Session → Progress R
 StaysFor IsSame session (More next) = IsSame next
 StaysFor IsSame session (Done same) = same ≡ session
 StaysFor IsSame session (Failed broken) = broken ≡ broken_off session broken.cause
+
+-- how work for this session stands, which is this now
+abbrev pub progress_of : {R : Type 0} → Session → R → Standing → Progress R
+progress_of session run standing.GoesOn = More run
+progress_of session run standing.Done = Done session
+progress_of session run (standing.Failed cause) = Failed (broken_off session cause)
 
 -- the exchanges that are left behind one; once the work is over there is no phase
 abbrev pub left_after : {P : Type 0} → (P → ℕ) → Option P → ℕ

@@ -44,7 +44,7 @@ pub struct Info {
 impl Info {
     ghost use Rattle.std.specs.Prelude.{◌≡◌, true};
     ghost use Rattle.mmc_card.specs.Made.{Made};
-    ghost use Rattle.mmc_switch.specs.Info.{IsInfo, sectors_of};
+    ghost use Rattle.mmc_switch.specs.Info.{IsInfo, lasting, sectors_of};
 
     /// The size of a partition in sectors of 512 bytes, or `None` where the card has no such partition, or one without a
     /// sector.
@@ -54,11 +54,22 @@ impl Info {
         some_size(self.sizes.of(part))
     }
 
-    /// Whether this and what else is known of a card are the same. What is known of one card always is.
+    /// What is known of the card for good: all but the RCA, in whose place 1 stands.
+    pub fn lasting(&self) -> Info
+        ensures { result ≡ lasting self.now }
+    {
+        let mut lasting = *self;
+        lasting.rca = 1;
+        lasting
+    }
+
+    /// Whether this and what else is known of a card are the same, but for the RCA. What is known of one card always is.
     pub fn is_same(&self, other: &Info) -> bool
-        ensures same { result ≡ true → self.now ≡ other.now }
+        ensures same { result ≡ true → lasting self.now ≡ lasting other.now }
         ensures known { (made : Made) → IsInfo made self.now → IsInfo made other.now → result ≡ true }
     {
-        self == other
+        let mut named = *self;
+        named.rca = other.rca;
+        named == *other
     }
 }

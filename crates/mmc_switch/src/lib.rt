@@ -22,7 +22,7 @@ pub use info::Info;
 pub use initialization::{EXCHANGES_OF_AN_INITIALIZATION, InitializationFault, initialize};
 pub use mmc::EXCHANGES_OF_A_SWITCH;
 pub use mmc_bus::Cause;
-pub use progress::Progress;
+pub use progress::{Progress, Standing};
 pub use selection::select;
 pub use session::Session;
 pub use sizes::Sizes;

@@ -1,5 +1,6 @@
 use crate::broken::Broken;
 use crate::session::Session;
+use mmc_bus::Cause;
 
 /// How work that takes several turns stands after one of them.
 #[derive(Debug)]
@@ -10,4 +11,15 @@ pub enum Progress<R> {
     Done(Session),
     /// It has failed.
     Failed(Broken),
+}
+
+/// The same, of work that is advanced where it stands, so that a turn moves no session.
+#[derive(Clone, Copy, Debug)]
+pub enum Standing {
+    /// It goes on.
+    GoesOn,
+    /// It is done, and the card is ready.
+    Done,
+    /// It has failed.
+    Failed(Cause),
 }

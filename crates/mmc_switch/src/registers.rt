@@ -76,6 +76,7 @@ pub fn sd_info(found: &Found, told: &Told) -> Option<Info>
     ensures info { (made : Made) → HasRegisters made → made.kind ≡ Is.Sd → IsFound made found.now → told.now ≡ told_of made
         → IfSome result (IsInfo made) }
     ensures taken { (made : Made) → HasRegisters made → made.kind ≡ Is.Sd → IsFound made found.now → IsSome result }
+    ensures rca { IfSome result (λ info. info.rca ≡ found.now.rca) }
 {
     let erase_unit = sd_erase_unit(&found.csd)?;
     Some(Info {
@@ -100,6 +101,7 @@ pub fn mmc_info(found: &Found, ext_csd: &ExtCsd, timing: Timing) -> Info
     requires some_unit { 1 ≤ erase_unit ext_csd.now }
     ensures info { (card : Card) → HasRegisters card.made → card.made.kind ≡ Is.Mmc → IsFound card.made found.now
         → ext_csd.now ≡ ext_csd_now card → timing ≡ timing_of card.made → IsInfo card.made result }
+    ensures rca { result.rca ≡ found.now.rca }
 {
     Info {
         kind: Kind::Mmc,

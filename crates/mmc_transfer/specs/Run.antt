@@ -3,9 +3,10 @@ use Rattle.std.specs.Prelude.{◌≡◌, List, Option, Result, ℕ}
 use Rattle.mmc_card.specs.BusView.{BusView}
 use Rattle.mmc_card.specs.Sectors.{Sector}
 use Rattle.mmc_bus.specs.declared.cause.Cause.{Cause}
-use Rattle.mmc_switch.specs.Turns.{Leaves, LowersBy, Makes, StaysFor}
+use Rattle.mmc_switch.specs.Turns.{Leaves, LowersBy, Makes, StaysFor, progress_of}
 use Rattle.mmc_switch.specs.UnderWay.{Turn}
 use Rattle.mmc_switch.specs.declared.progress.Progress.{Progress}
+use Rattle.mmc_switch.specs.declared.progress.Standing.{Standing}
 use Rattle.mmc_transfer.specs.Fits.{phase_left}
 use Rattle.mmc_transfer.specs.Running.{HasEffect, IsIn, change_of}
 use Rattle.mmc_transfer.specs.declared.job.Job.{Job}
@@ -15,6 +16,10 @@ use Rattle.mmc_transfer.specs.declared.run.Run.{Run}
 -- how many exchanges it may still take
 abbrev pub exchanges_left : Run → ℕ
 exchanges_left run = phase_left run.job.count run.job.session.info.cmd23 run.phase
+
+-- how it stands after a turn, which is this then
+abbrev pub run_then : Run → Standing → Progress Run
+run_then run standing = progress_of run.job.session run standing
 
 -- It is under way with these blocks, after so many faults in its turns.
 abbrev pub IsRunning : Run → List Sector → ℕ → BusView → Type 0

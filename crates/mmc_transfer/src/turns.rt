@@ -7,7 +7,7 @@ ghost use Rattle.mmc_switch.specs.Place.{IsReady};
 ghost use Rattle.mmc_switch.specs.UnderWay.{FailsBy, room_of};
 ghost use Rattle.mmc_transfer.specs.declared.job.TheConstants.{MAX_BLOCKS};
 ghost use Rattle.mmc_transfer.specs.declared.way.Way.TheVariants.{Read, Write};
-ghost use Rattle.mmc_transfer.specs.Run.{HasProgressed, HasTurned, IsRunning, IsSameRun, Lowers, exchanges_left};
+ghost use Rattle.mmc_transfer.specs.Run.{HasProgressed, HasTurned, IsRunning, IsSameRun, Lowers, exchanges_left, run_then};
 ghost use Rattle.mmc_transfer.specs.Fits.{phase_fits, phase_left};
 
 use crate::job::{Job, MAX_BLOCKS};
@@ -17,7 +17,7 @@ use crate::run::Run;
 use crate::steps::step;
 use crate::way::Way;
 use mmc_bus::{Blocks, BlocksMut, Bus, Cause, MAX_POLLS};
-use mmc_switch::{EXCHANGES_OF_AN_ENDING, Progress, Session};
+use mmc_switch::{EXCHANGES_OF_AN_ENDING, Session, Standing};
 
 /// The most exchanges of a block: the block itself, and the polls behind it.
 pub const EXCHANGES_OF_A_BLOCK: u64 = MAX_POLLS + 1;
@@ -64,55 +64,76 @@ impl Run {
         phase_left(&self.job, self.phase)
     }
 
-    /// The next exchange of a write, with the same blocks at each turn.
-    pub fn write_turn<B: Bus, D: Blocks>(self, bus: &mut B, blocks: &D) -> Progress<Run>
-        requires way { self.job.way ≡ Write }
-        requires count { length (D.blocks blocks.now) ≡ self.job.count }
+    /// The next exchange of a write, with the same blocks at each turn. Once it is done or has failed there is no other.
+    pub fn write_turn<B: Bus, D: Blocks>(&mut self, bus: &mut B, blocks: &D) -> Standing
+        requires way { self.old.job.way ≡ Write }
+        requires count { length (D.blocks blocks.now) ≡ self.old.job.count }
         ensures bounded { (B.view bus.new).exchanges ≤ (B.view bus.old).exchanges + 1 }
         ensures kept { (B.view bus.new).is_kept ≡ true → (B.view bus.old).is_kept ≡ true }
-        ensures same { IsSameRun self result }
-        ensures lowers { Lowers self result }
-        ensures cause { FailsBy result (B.view bus.new) }
-        ensures turned { (B.view bus.new).is_kept ≡ true → (faults : ℕ) → IsRunning self (D.blocks blocks.now) faults (B.view bus.old)
-            → HasTurned self (D.blocks blocks.now) faults (B.view bus.old) result (B.view bus.new) }
+        ensures same { IsSameRun self.old (run_then self.new result) }
+        ensures lowers { Lowers self.old (run_then self.new result) }
+        ensures cause { FailsBy (run_then self.new result) (B.view bus.new) }
+        ensures turned { (B.view bus.new).is_kept ≡ true → (faults : ℕ) → IsRunning self.old (D.blocks blocks.now) faults (B.view bus.old)
+            → HasTurned self.old (D.blocks blocks.now) faults (B.view bus.old) (run_then self.new result) (B.view bus.new) }
     {
-        let Run { job, phase } = self;
-        match phase {
+        match self.phase {
             Phase::Block { done } => {
-                let result = give(bus, &job, done, blocks);
-                progress(job, result)
+                let outcome = give(bus, &self.job, done, blocks);
+                self.stand(outcome)
             }
             Phase::Other(other) => {
-                let result = step(bus, &job, other);
-                progress(job, result)
+                let outcome = step(bus, &self.job, other);
+                self.stand(outcome)
             }
         }
     }
 
-    /// The next exchange of a read, with the same blocks at each turn. What they hold is open until the read is done.
-    pub fn read_turn<B: Bus, D: BlocksMut>(self, bus: &mut B, blocks: &mut D) -> Progress<Run>
-        requires way { self.job.way ≡ Read }
-        requires count { length (D.blocks blocks.old) ≡ self.job.count }
+    /// The next exchange of a read, with the same blocks at each turn. What they hold is open until the read is done. Once it is
+    /// done or has failed there is no other.
+    pub fn read_turn<B: Bus, D: BlocksMut>(&mut self, bus: &mut B, blocks: &mut D) -> Standing
+        requires way { self.old.job.way ≡ Read }
+        requires count { length (D.blocks blocks.old) ≡ self.old.job.count }
         ensures bounded { (B.view bus.new).exchanges ≤ (B.view bus.old).exchanges + 1 }
         ensures kept { (B.view bus.new).is_kept ≡ true → (B.view bus.old).is_kept ≡ true }
-        ensures same { IsSameRun self result }
+        ensures same { IsSameRun self.old (run_then self.new result) }
         ensures count { length (D.blocks blocks.new) ≡ length (D.blocks blocks.old) }
         ensures lent { IsRewritten D.blocks D.with blocks.old blocks.new }
-        ensures lowers { Lowers self result }
-        ensures cause { FailsBy result (B.view bus.new) }
-        ensures turned { (B.view bus.new).is_kept ≡ true → (faults : ℕ) → IsRunning self (D.blocks blocks.old) faults (B.view bus.old)
-            → HasTurned self (D.blocks blocks.new) faults (B.view bus.old) result (B.view bus.new) }
+        ensures lowers { Lowers self.old (run_then self.new result) }
+        ensures cause { FailsBy (run_then self.new result) (B.view bus.new) }
+        ensures turned { (B.view bus.new).is_kept ≡ true → (faults : ℕ) → IsRunning self.old (D.blocks blocks.old) faults (B.view bus.old)
+            → HasTurned self.old (D.blocks blocks.new) faults (B.view bus.old) (run_then self.new result) (B.view bus.new) }
     {
-        let Run { job, phase } = self;
-        match phase {
+        match self.phase {
             Phase::Block { done } => {
-                let result = take(bus, &job, done, blocks);
-                progress(job, result)
+                let outcome = take(bus, &self.job, done, blocks);
+                self.stand(outcome)
             }
             Phase::Other(other) => {
-                let result = step(bus, &job, other);
-                progress(job, result)
+                let outcome = step(bus, &self.job, other);
+                self.stand(outcome)
             }
+        }
+    }
+
+    /// The session that it was begun with, once it is over.
+    pub fn into_session(self) -> Session
+        ensures { result ≡ self.job.session }
+    {
+        self.job.session
+    }
+
+    // What an exchange makes of it.
+    fn stand(&mut self, outcome: Result<Option<Phase>, Cause>) -> Standing
+        requires fits { IfOk outcome (λ next. IfSome next (λ phase. IsTrue (phase_fits self.old.job.count self.old.job.session.info.cmd23 phase))) }
+        ensures { HasProgressed self.old.job outcome (run_then self.new result) }
+    {
+        match outcome {
+            Ok(Some(phase)) => {
+                self.phase = phase;
+                Standing::GoesOn
+            }
+            Ok(None) => Standing::Done,
+            Err(cause) => Standing::Failed(cause),
         }
     }
 }
@@ -139,17 +160,5 @@ fn phase_left(job: &Job, phase: Phase) -> u64
             Step::Stop => EXCHANGES_OF_AN_ENDING + 1,
             Step::End(ending) => ending.left(),
         },
-    }
-}
-
-// What an exchange makes of a run.
-fn progress(job: Job, outcome: Result<Option<Phase>, Cause>) -> Progress<Run>
-    requires fits { IfOk outcome (λ next. IfSome next (λ phase. IsTrue (phase_fits job.count job.session.info.cmd23 phase))) }
-    ensures { HasProgressed job outcome result }
-{
-    match outcome {
-        Ok(Some(phase)) => Progress::More(Run { job, phase }),
-        Ok(None) => Progress::Done(job.session),
-        Err(cause) => Progress::Failed(job.session.break_off(cause)),
     }
 }

@@ -12,7 +12,7 @@ ghost use Rattle.mmc_transfer.specs.Whole.{HasRun};
 use crate::run::Run;
 use crate::way::Way;
 use mmc_bus::{Blocks, BlocksMut, Bus, card_laws};
-use mmc_switch::{Broken, Progress, Session};
+use mmc_switch::{Broken, Session, Standing};
 
 /// Writes these blocks, 1 to `MAX_BLOCKS`, from this sector of the selected partition on, inside which they are, to a card
 /// that isn't write protected. It makes at most `EXCHANGES_OF_A_BLOCK` exchanges a block and `EXCHANGES_BESIDE_BLOCKS` more.
@@ -42,9 +42,9 @@ pub fn write_run<B: Bus, D: Blocks>(
     let mut run = Run::begin(session, start, blocks.len() as u32, Way::Write);
     loop {
         match run.write_turn(bus, blocks) {
-            Progress::More(next) => run = next,
-            Progress::Done(session) => return Ok(session),
-            Progress::Failed(broken) => return Err(broken),
+            Standing::GoesOn => {}
+            Standing::Done => return Ok(run.into_session()),
+            Standing::Failed(cause) => return Err(run.into_session().break_off(cause)),
         }
     }
 }
@@ -77,9 +77,9 @@ pub fn read_run<B: Bus, D: BlocksMut>(
     let mut run = Run::begin(session, start, blocks.len() as u32, Way::Read);
     loop {
         match run.read_turn(bus, blocks) {
-            Progress::More(next) => run = next,
-            Progress::Done(session) => return Ok(session),
-            Progress::Failed(broken) => return Err(broken),
+            Standing::GoesOn => {}
+            Standing::Done => return Ok(run.into_session()),
+            Standing::Failed(cause) => return Err(run.into_session().break_off(cause)),
         }
     }
 }

@@ -1,23 +1,25 @@
 use Rattle.std.proofs.Common.{◌∙◌, ap, refl, subst, sym}
 use Rattle.mmc_bus.specs.Lending.{nothing}
 use Rattle.mmc_queue.specs.Lent.{write_blocks_of}
-use Rattle.mmc_transfer.specs.Run.{HasTurned, IsRunning}
+use Rattle.mmc_transfer.specs.Run.{HasTurned, IsRunning, run_then}
 use Rattle.mmc_block.proofs.StepLemmas.{bytes_are_lent, room_is_lent}
 use Rattle.mmc_block.proofs.step.move_on.Goals as goal
 
 pub returns-in-Read-clause-turned : goal.returns-in-Read-clause-turned
 returns-in-Read-clause-turned g c kept faults at =
-    let run = c.args.run in
+    let run = c.args.run.now in
     let old = g.B.Bus.view c.args.bus.now in
-    subst (λ bs. HasTurned run bs faults old c.read_turn.result (g.B.Bus.view c.read_turn.new.bus))
+    let then = run_then c.read_turn.new.self c.read_turn.result in
+    subst (λ bs. HasTurned run bs faults old then (g.B.Bus.view c.read_turn.new.bus))
     (sym (room_is_lent run.job.way _ c.read_turn.new.blocks c.in-Read.is c.requires.of.1))
     (c.read_turn.ensures.turned kept faults
     (subst (λ bs. IsRunning run bs faults old) (room_is_lent run.job.way _ c.args.group.now c.in-Read.is c.requires.of.1) at))
 
 pub returns-in-Write : goal.returns-in-Write
 returns-in-Write g c =
-    let run = c.args.run in
+    let run = c.args.run.now in
     let old = g.B.Bus.view c.args.bus.now in
+    let then = run_then c.write_turn.new.self c.write_turn.result in
     let lent = bytes_are_lent run.job.way _ c.args.group.now c.in-Write.is c.requires.of.1
     ∙ ap write_blocks_of (sym c.writes.ensures) in
     record {
@@ -31,6 +33,6 @@ returns-in-Write g c =
       lowers = c.write_turn.ensures.lowers;
       cause = c.write_turn.ensures.cause;
       turned = λ kept faults at.
-          subst (λ bs. HasTurned run bs faults old c.write_turn.result (g.B.Bus.view c.write_turn.new.bus)) (sym lent)
+          subst (λ bs. HasTurned run bs faults old then (g.B.Bus.view c.write_turn.new.bus)) (sym lent)
           (c.write_turn.ensures.turned kept faults (subst (λ bs. IsRunning run bs faults old) lent at));
     }

@@ -24,7 +24,6 @@ high_registers : HasRegisters high_made
 unfolding is_sound_register remainder power times_x
 high_registers = record {
   ocr = omega arith;
-  published = standard_registers.published;
   cid = refl;
   csd = refl;
   cid_check = standard_registers.cid_check;
@@ -47,7 +46,7 @@ high_profile = record {
   window = refl;
   unlocked = refl;
   sd = λ h. record {
-    published = λ none. absurd cc;
+    named = refl;
     capacity = inr (record { version = refl; ccs = refl; told = refl });
   };
   mmc = λ h. absurd cc;
@@ -65,7 +64,6 @@ device_made ocr =
 device_registers : (ocr : ℕ) → ocr < 2 ^ 31 → HasRegisters (device_made ocr)
 device_registers ocr below = record {
   ocr = below;
-  published = standard_registers.published;
   cid = refl;
   csd = refl;
   cid_check = standard_registers.cid_check;
@@ -91,6 +89,8 @@ device_profile ocr window addresses = record {
   sd = λ h. absurd cc;
   mmc = λ h. record {
     revision = omega arith;
+    sector_size = refl;
+    unprotected = refl;
     erase_group = λ none. absurd cc;
     addresses = addresses;
   };

@@ -1,7 +1,7 @@
 use Rattle.std.proofs.Common.{ap, sym, ◌∙◌}
 use Rattle.mmc_regs.specs.Csd.{is_protected}
 use Rattle.mmc_card.specs.Made.{csd_number_of}
-use Rattle.mmc_card_sim.proofs.SpecLemmas.{few_sectors, number_of_csd, sizes_exist}
+use Rattle.mmc_card_sim.proofs.SpecLemmas.{few_sectors, image_length, number_of_csd, sizes_exist}
 use Rattle.mmc_card_sim.specs.Registers.{made_of}
 use Rattle.mmc_card_sim.proofs.judging.judge.Goals as goal
 
@@ -10,6 +10,10 @@ returns-clause-protected c =
     let made = made_of c.args.spec.now.registers in
     c.read_only.ensures
     ∙ ap is_protected (number_of_csd made.kind (csd_number_of made) c.in_ok-csd.csd c.in_ok-csd.ensures.csd)
+
+pub returns-clause-image : goal.returns-clause-image
+returns-clause-image c =
+    image_length c.sizes_by-sizes.result c.args.spec.now.image (sym c.if-not-takes_image.ensures)
 
 pub returns-clause-exist : goal.returns-clause-exist
 returns-clause-exist c =

@@ -1,18 +1,15 @@
-use Rattle.std.proofs.Common.{◌∙◌, refl}
 use Rattle.mmc_bus.proofs.WorkLemmas.{moved_as}
-use Rattle.mmc_identify.proofs.AddressLemmas.{addressed}
+use Rattle.mmc_identify.proofs.AddressLemmas.{assigned_named, assigned_rca, published_rca}
 use Rattle.mmc_identify.proofs.identification.address.Goals as goal
 
 pub returns-in-Sd-clause-moves : goal.returns-in-Sd-clause-moves
 returns-in-Sd-clause-moves g c kept =
-    let p = c.publish.ensures.moves kept in
-    rw c.in-Sd.is (addressed _ (g.B.Bus.view c.args.bus.now).card.made.published c.publish.result
-    (g.B.Bus.view c.args.bus.now) (g.B.Bus.view c.publish.new.bus) (λ sd. rw sd refl)
-    (moved_as _ _ p (λ sd. p.own sd) (λ same profile sd state. p.fine same profile sd state)))
+    let made = (g.B.Bus.view c.args.bus.now).card.made in
+    rw c.in-Sd.is (moved_as _ _ (c.publish.ensures.moves kept) (λ sd. published_rca made c.publish.result sd)
+    (λ same profile sd state. (c.publish.ensures.moves kept).fine same profile sd state))
 
 pub returns-in-Mmc-clause-moves : goal.returns-in-Mmc-clause-moves
 returns-in-Mmc-clause-moves g c kept =
-    let p = c.assign.ensures.moves kept in
-    rw c.in-Mmc.is (addressed _ 1 c.assign.result (g.B.Bus.view c.args.bus.now) (g.B.Bus.view c.assign.new.bus)
-    (λ mmc. rw mmc refl)
-    (moved_as _ _ p (λ mmc. c.assign.ensures.one) (λ same profile mmc state. p.fine same mmc state)))
+    let made = (g.B.Bus.view c.args.bus.now).card.made in
+    rw c.in-Mmc.is (moved_as _ _ (c.assign.ensures.moves kept) (λ mmc. assigned_rca made c.assign.result c.assign.ensures.one)
+    (λ same profile mmc state. assigned_named _ _ ((c.assign.ensures.moves kept).fine same mmc state)))

@@ -37,5 +37,5 @@ returns-clause-moves g c kept =
     ∙ ap (λ block. Ok block) (sym c.in_ok-ext_csd.ensures.ok.0))
     c.high_speed.ensures
     (ok_is c.set_up.result c.in_ok-timing.timing c.in_ok-timing.ensures.cases)
-    c.partition_config.ensures c.opened.ensures c.mmc_info-info.ensures.info
+    c.partition_config.ensures c.opened.ensures c.mmc_info-info.ensures.info c.mmc_info-info.ensures.rca
     (c.send_ext_csd.ensures.moves q.was_kept) q

@@ -32,4 +32,5 @@ returns c = record {
     width = rw is refl;
     timing = at;
   };
+  rca = refl;
 }

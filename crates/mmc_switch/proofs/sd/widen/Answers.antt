@@ -18,4 +18,5 @@ returns-clause-moves g c kept =
     sd_widened c.args.found.now c.in_ok-told.told c.set_up.result c.sd_info.result c.in_ok-info.info c.opened.result
     (g.B.Bus.view c.args.bus.now) (g.B.Bus.view c.set_up.new.bus)
     (ok_is c.set_up.result c.in_ok-told.told c.in_ok-told.ensures.cases)
-    c.in_ok-info.ensures.ok_part c.opened.ensures c.sd_info.ensures.info (c.set_up.ensures.moves kept)
+    c.in_ok-info.ensures.ok_part c.opened.ensures c.sd_info.ensures.info c.sd_info.ensures.rca
+    (c.set_up.ensures.moves kept)

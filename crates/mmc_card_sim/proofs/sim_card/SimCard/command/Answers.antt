@@ -1,8 +1,15 @@
 use Rattle.std.proofs.Common.{◌∙◌, ap, refl}
 use Rattle.mmc_card_sim.specs.Chip.{card_of}
+use Rattle.mmc_card_sim.specs.declared.delays.Delays.{Delays}
 use Rattle.mmc_card_sim.specs.FaultyExchanges.{fits_command}
-use Rattle.mmc_card_sim.proofs.SimSteps.{commanded, in_all, still_ok}
+use Rattle.mmc_card_sim.proofs.SimSteps.{commanded, in_all, room, still_ok}
 use Rattle.mmc_card_sim.proofs.sim_card.SimCard.command.Goals as goal
+
+pub counted-self-inside-requires : goal.counted-self-inside-requires
+counted-self-inside-requires c =
+    room _ c.fault-fault.result c.faulty_command-reply.result.1 c.self.invariant c.fault-fault.ensures
+    (λ none. c.faulty_command-reply.ensures.fell_is
+    ∙ ap (λ f. fits_command f c.self.inside.delays (card_of c.self.inside.chip) c.args.frame) none)
 
 pub invariant_of-self : goal.invariant_of-self
 invariant_of-self c =
@@ -14,7 +21,9 @@ invariant_of-self c =
     (λ none. c.faulty_command-reply.ensures.fell_is
     ∙ ap (λ f. fits_command f c.self.inside.delays (card_of c.self.inside.chip) c.args.frame) none)
     c.counted-self-inside.ensures c.note.ensures) in
-    still_ok _ _ c.fault-fault.result c.faulty_command-reply.result.1 _ c.self.invariant refl refl c.fault-fault.ensures
+    still_ok _ _ c.fault-fault.result c.faulty_command-reply.result.1 _ c.self.invariant
+    (ap (λ (d : Delays). d.ready) c.note_rca.ensures) (ap (λ (d : Delays). d.busy) c.note_rca.ensures) refl
+    c.fault-fault.ensures
     (λ none. c.faulty_command-reply.ensures.fell_is
     ∙ ap (λ f. fits_command f c.self.inside.delays (card_of c.self.inside.chip) c.args.frame) none)
     c.counted-self-inside.ensures c.note.ensures did.1

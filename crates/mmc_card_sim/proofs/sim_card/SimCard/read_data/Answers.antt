@@ -13,7 +13,7 @@ counted-self-inside-requires c =
 
 pub invariant_of-self : goal.invariant_of-self
 invariant_of-self c =
-    let did = data_read c.self.inside.plan _ _ _ _ _ _ c.fault-fault.result _ c.faulty_send-got.result.0
+    let did = data_read c.self.inside.plan _ _ _ _ _ _ _ c.fault-fault.result _ c.faulty_send-got.result.0
     c.faulty_send-got.new.buffer
     c.faulty_send-got.result.1 c.counted-self-inside.ensures c.faulty_send-got.ensures c.self.invariant.is_card
     c.note.ensures
@@ -21,14 +21,14 @@ invariant_of-self c =
     (λ none. c.faulty_send-got.ensures.fell_is
     ∙ ap (λ f. fits_read f (card_of c.self.inside.chip) c.self.inside.wire.lines (length c.args.buffer.now)) none)
     c.counted-self-inside.ensures c.note.ensures) in
-    still_ok _ _ c.fault-fault.result c.faulty_send-got.result.1 _ c.self.invariant refl refl c.fault-fault.ensures
+    still_ok _ _ c.fault-fault.result c.faulty_send-got.result.1 _ c.self.invariant refl refl refl c.fault-fault.ensures
     (λ none. c.faulty_send-got.ensures.fell_is
     ∙ ap (λ f. fits_read f (card_of c.self.inside.chip) c.self.inside.wire.lines (length c.args.buffer.now)) none)
     c.counted-self-inside.ensures c.note.ensures did.1
 
 pub returns-clause-exchanged : goal.returns-clause-exchanged
 returns-clause-exchanged c =
-    let did = data_read c.self.inside.plan _ _ _ _ _ _ c.fault-fault.result _ c.faulty_send-got.result.0
+    let did = data_read c.self.inside.plan _ _ _ _ _ _ _ c.fault-fault.result _ c.faulty_send-got.result.0
     c.faulty_send-got.new.buffer
     c.faulty_send-got.result.1 c.counted-self-inside.ensures c.faulty_send-got.ensures c.self.invariant.is_card
     c.note.ensures

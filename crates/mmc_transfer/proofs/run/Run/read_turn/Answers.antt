@@ -4,17 +4,17 @@ use Rattle.mmc_transfer.proofs.run.Run.read_turn.Goals as goal
 
 pub returns-in-Block-clause-turned : goal.returns-in-Block-clause-turned
 returns-in-Block-clause-turned g c kept faults at =
-    has_turned c.args.self _ faults _ c.take-result.result c.progress.result _
-    c.progress.ensures (c.take-result.ensures.turned kept faults (rw c.in-Block.is at at))
+    has_turned c.args.self.now _ faults _ c.take-outcome.result _ _
+    c.stand.ensures (c.take-outcome.ensures.turned kept faults (rw c.in-Block.is at at))
 
 pub returns-in-Other-clause-turned : goal.returns-in-Other-clause-turned
 returns-in-Other-clause-turned g c kept faults at =
     let blocks = g.D.Blocks.blocks c.args.blocks.now in
-    has_turned c.args.self blocks faults _ c.step-result.result c.progress-in-Other.result _
-    c.progress-in-Other.ensures (c.step-result.ensures.turned kept blocks faults c.requires.count (rw c.in-Other.is at at))
+    has_turned c.args.self.now blocks faults _ c.step-outcome.result _ _
+    c.stand-in-Other.ensures (c.step-outcome.ensures.turned kept blocks faults c.requires.count (rw c.in-Other.is at at))
 
 pub returns-in-Block-clause-lent : goal.returns-in-Block-clause-lent
-returns-in-Block-clause-lent g c = c.take-result.ensures.lent
+returns-in-Block-clause-lent g c = c.take-outcome.ensures.lent
 
 pub returns-in-Other-clause-lent : goal.returns-in-Other-clause-lent
 returns-in-Other-clause-lent g c = nothing
