@@ -14,7 +14,7 @@ use Rattle.card_text.specs.declared.text_line.Line.{Line}
 use Rattle.card_text.specs.declared.text_line.Line.TheVariants.{Bad, Says, Skipped}
 use Rattle.card_text.specs.CardFile.{AreCardLines, card_lines_in, plan_of}
 use Rattle.card_text.specs.CardLines.{byte_by, card_line_of, card_line_of_fields, ext_line_of, planned_by, fault_line_of}
-use Rattle.card_text.specs.CardLines.{line_of_key, repeats, sd_line_of, value_line_of}
+use Rattle.card_text.specs.CardLines.{free_line_of, line_of_key, repeats, sd_line_of, value_line_of}
 use Rattle.card_text.specs.FaultTexts.{fault_of}
 use Rattle.card_text.specs.Numbers.{byte_of, number_of}
 use Rattle.card_text.specs.Parts.{parts}
@@ -71,9 +71,13 @@ early_sd : (key text : List ℕ) → EarlyLine (sd_line_of key text)
 unfolding sd_line_of
 early_sd key text = search (rules, by_if, by_map, nothing) depth 14
 
+early_free : (key text : List ℕ) → EarlyLine (free_line_of key text)
+unfolding free_line_of
+early_free key text = search (rules, by_if, by_map, early_sd)
+
 early_key : (key text : List ℕ) → EarlyLine (line_of_key key text)
 unfolding line_of_key
-early_key key text = search (rules, by_if, by_map, early_sd) depth 24
+early_key key text = search (rules, by_if, by_map, early_free) depth 24
 
 early_byte : (place value : Option ℕ) → EarlyLine (byte_by place value)
 early_byte None None = nothing

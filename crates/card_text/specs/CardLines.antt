@@ -8,7 +8,10 @@ use Rattle.mmc_frame.specs.declared.kind.Kind.{Kind as CardKind}
 use Rattle.mmc_frame.specs.declared.kind.Kind.TheVariants.{Mmc, Sd}
 use Rattle.card_text.specs.declared.card_line.CardLine.{CardLine}
 use Rattle.card_text.specs.declared.card_line.CardLine.TheVariants.{Busy, Cid, Cmd8, Csd, Ext, Fault, HighSpeed, Kind}
-use Rattle.card_text.specs.declared.card_line.CardLine.TheVariants.{Locked, Ocr, Rca, Ready, Scr, Sectors}
+use Rattle.card_text.specs.declared.card_line.CardLine.TheVariants.{Early, KeepsLength, Locked, Ocr, Rca, Ready, Scr}
+use Rattle.card_text.specs.declared.card_line.CardLine.TheVariants.{Sectors}
+use Rattle.card_text.specs.declared.card_line.PublishedRca.{PublishedRca}
+use Rattle.card_text.specs.declared.card_line.PublishedRca.TheVariants.{Changes, Fixed}
 use Rattle.card_text.specs.declared.text_line.Line.{Line}
 use Rattle.card_text.specs.declared.text_line.Line.TheVariants.{Skipped}
 use Rattle.card_text.specs.FaultTexts.{fault_of}
@@ -33,13 +36,36 @@ choice_of text =
 unfoldable pub delay_of : List ℕ → Option ℕ
 delay_of text = option_and_then (λ n. if nat_le n 8 then Some n else None) (number_of text)
 
+-- bits 30 and 29 of an OCR
+unfoldable pub early_of : List ℕ → Option ℕ
+early_of text = option_and_then (λ n. if nat_le n 3 then Some n else None) (number_of text)
+
+-- `kept` or `named`
+unfoldable pub keeps_length_of : List ℕ → Option Bool
+keeps_length_of text =
+    if bytes_eq text (codes "kept") then Some true
+    else (if bytes_eq text (codes "named") then Some false else None)
+
+-- `changes`, or an RCA
+unfoldable pub published_rca_of : List ℕ → Option PublishedRca
+published_rca_of text =
+    if bytes_eq text (codes "changes") then Some Changes
+    else option_map (λ bytes. Fixed (from_be_bytes w16 bytes)) (bytes_of 2 text)
+
 -- a key of SD cards with its value
 unfoldable pub sd_line_of : List ℕ → List ℕ → Option CardLine
 sd_line_of key text =
     if bytes_eq key (codes "scr") then option_map (λ bytes. Scr bytes) (bytes_of 8 text)
-    else (if bytes_eq key (codes "rca") then option_map (λ bytes. Rca (from_be_bytes w16 bytes)) (bytes_of 2 text)
+    else (if bytes_eq key (codes "rca") then option_map (λ rca. Rca rca) (published_rca_of text)
     else (if bytes_eq key (codes "cmd8") then option_map (λ choice. Cmd8 choice) (choice_of text)
     else (if bytes_eq key (codes "highspeed") then option_map (λ choice. HighSpeed choice) (choice_of text) else None)))
+
+-- a key of what a card does where it is free, or of SD cards, with its value
+unfoldable pub free_line_of : List ℕ → List ℕ → Option CardLine
+free_line_of key text =
+    if bytes_eq key (codes "early") then option_map (λ bits. Early bits) (early_of text)
+    else (if bytes_eq key (codes "length") then option_map (λ choice. KeepsLength choice) (keeps_length_of text)
+    else sd_line_of key text)
 
 -- a key that stands once with its value
 unfoldable pub line_of_key : List ℕ → List ℕ → Option CardLine
@@ -52,7 +78,7 @@ line_of_key key text =
     else (if bytes_eq key (codes "ready") then option_map (λ count. Ready count) (delay_of text)
     else (if bytes_eq key (codes "busy") then option_map (λ count. Busy count) (delay_of text)
     else (if bytes_eq key (codes "locked") then option_map (λ choice. Locked choice) (choice_of text)
-    else sd_line_of key text)))))))
+    else free_line_of key text)))))))
 
 -- a byte of the EXT_CSD, which has places 0 to 511
 abbrev pub byte_by : Option ℕ → Option ℕ → Option CardLine
@@ -94,7 +120,7 @@ is_of_sd line = true
 -- an eMMC device may have it
 abbrev pub is_of_mmc : CardLine → Bool
 is_of_mmc (Scr bytes) = false
-is_of_mmc (Rca address) = false
+is_of_mmc (Rca rca) = false
 is_of_mmc (Cmd8 choice) = false
 is_of_mmc (HighSpeed choice) = false
 is_of_mmc line = true
@@ -113,9 +139,11 @@ repeats (Csd bytes) (Csd others) = true
 repeats (Sectors count) (Sectors other) = true
 repeats (Ready count) (Ready other) = true
 repeats (Busy count) (Busy other) = true
+repeats (Early bits) (Early other) = true
+repeats (KeepsLength choice) (KeepsLength other) = true
 repeats (Locked choice) (Locked other) = true
 repeats (Scr bytes) (Scr others) = true
-repeats (Rca address) (Rca other) = true
+repeats (Rca rca) (Rca other) = true
 repeats (Cmd8 choice) (Cmd8 other) = true
 repeats (HighSpeed choice) (HighSpeed other) = true
 repeats (Fault exchange fault) (Fault other another) = exchange == other

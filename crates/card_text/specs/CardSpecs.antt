@@ -1,5 +1,6 @@
 -- What a card is built by, as the lines of its file say.
-use Rattle.std.specs.Prelude.{Bool, List, None, Option, Some, [], false, fold, replicate, slice_set, unwrap_or, ◌∷◌, ℕ}
+use Rattle.std.specs.Prelude.{Bool, List, None, Option, Some, [], false, fold, replicate, slice_set, true, unwrap_or}
+use Rattle.std.specs.Prelude.{◌∷◌, ℕ}
 use Rattle.std.specs.Option.{option_or}
 use Rattle.mmc_card_sim.specs.declared.registers.KindRegisters.{KindRegisters}
 use Rattle.mmc_card_sim.specs.declared.registers.KindRegisters.TheVariants as Has
@@ -8,7 +9,9 @@ use Rattle.mmc_frame.specs.declared.kind.Kind.{Kind as CardKind}
 use Rattle.mmc_frame.specs.declared.kind.Kind.TheVariants.{Mmc, Sd}
 use Rattle.card_text.specs.declared.card_line.CardLine.{CardLine}
 use Rattle.card_text.specs.declared.card_line.CardLine.TheVariants.{Busy, Cid, Cmd8, Csd, Ext, HighSpeed, Kind, Locked}
-use Rattle.card_text.specs.declared.card_line.CardLine.TheVariants.{Ocr, Rca, Ready, Scr, Sectors}
+use Rattle.card_text.specs.declared.card_line.CardLine.TheVariants.{Early, KeepsLength, Ocr, Rca, Ready, Scr, Sectors}
+use Rattle.card_text.specs.declared.card_line.PublishedRca.{PublishedRca}
+use Rattle.card_text.specs.declared.card_line.PublishedRca.TheVariants.{Changes, Fixed}
 use Rattle.card_text.specs.declared.card_spec.Given.{Given}
 
 -- the value of the first element that has one
@@ -45,6 +48,14 @@ abbrev pub busy_of_line : CardLine → Option ℕ
 busy_of_line (Busy count) = Some count
 busy_of_line line = None
 
+abbrev pub early_of_line : CardLine → Option ℕ
+early_of_line (Early bits) = Some bits
+early_of_line line = None
+
+abbrev pub keeps_length_of_line : CardLine → Option Bool
+keeps_length_of_line (KeepsLength choice) = Some choice
+keeps_length_of_line line = None
+
 abbrev pub locked_of_line : CardLine → Option Bool
 locked_of_line (Locked choice) = Some choice
 locked_of_line line = None
@@ -53,8 +64,8 @@ abbrev pub scr_of_line : CardLine → Option (List ℕ)
 scr_of_line (Scr bytes) = Some bytes
 scr_of_line line = None
 
-abbrev pub rca_of_line : CardLine → Option ℕ
-rca_of_line (Rca address) = Some address
+abbrev pub rca_of_line : CardLine → Option PublishedRca
+rca_of_line (Rca rca) = Some rca
 rca_of_line line = None
 
 abbrev pub cmd8_of_line : CardLine → Option Bool
@@ -90,6 +101,8 @@ given_by ls = record {
   sectors = first_of sectors_of_line ls;
   ready = first_of ready_of_line ls;
   busy = first_of busy_of_line ls;
+  early = first_of early_of_line ls;
+  keeps_length = first_of keeps_length_of_line ls;
   locked = first_of locked_of_line ls;
   scr = first_of scr_of_line ls;
   rca = first_of rca_of_line ls;
@@ -98,13 +111,23 @@ given_by ls = record {
   ext_csd = ext_csd_of ls;
 }
 
+-- the RCA that an SD card publishes first
+abbrev pub first_rca : Option PublishedRca → ℕ
+first_rca (Some (Fixed rca)) = rca
+first_rca _ = 1
+
+abbrev pub rca_changes : Option PublishedRca → Bool
+rca_changes (Some Changes) = true
+rca_changes _ = false
+
 -- what a card has by its kind: an SD card must have an SCR
 abbrev pub own_registers_of : CardKind → Given → Option KindRegisters
 own_registers_of Sd given = do
   scr ← given.scr
   Some (Has.Sd (record {
     scr = scr;
-    rca = unwrap_or given.rca 1;
+    rca = first_rca given.rca;
+    rca_changes = rca_changes given.rca;
     answers_cmd8 = unwrap_or given.cmd8 false;
     has_high_speed = unwrap_or given.high_speed false;
   }))
@@ -130,6 +153,8 @@ spec_by given = do
     sectors = sectors;
     ready = unwrap_or given.ready 0;
     busy = unwrap_or given.busy 0;
+    early = given.early;
+    keeps_length = unwrap_or given.keeps_length true;
     image = None;
   })
 

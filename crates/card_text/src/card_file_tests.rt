@@ -6,7 +6,7 @@ use mmc_card_sim::{Fault, Flips, KindRegisters, Outcome, Registers, SdRegisters}
 #[test]
 fn reads_every_key_in_any_order(rt: HostRuntime) {
     let text =
-        b"fault 18446744073709551614 flip-reply 300 0\n# \xff any bytes\nhighspeed yes\nbusy 08\ncmd8 no\n\
+        b"fault 18446744073709551614 flip-reply 300 0\n# \xff any bytes\nhighspeed yes\nbusy 08\nearly 2\ncmd8 no\nlength named\n\
         sectors 18446744073709551615\n\nlocked yes\nrca 00fF\nready 0\nscr 0235800000000000\nkind sd\n\
         csd 0000000000090000000040000240009B\ncid 0123456789abcdefFEDCBA9876543210\nocr 40Ff8000\nfault 007 brownout new";
     let Ok(file) = read_card(rt.alloc(), text) else {
@@ -17,6 +17,7 @@ fn reads_every_key_in_any_order(rt: HostRuntime) {
         kind: KindRegisters::Sd(SdRegisters {
             scr: [0x02, 0x35, 0x80, 0, 0, 0, 0, 0],
             rca: 0x00ff,
+            rca_changes: false,
             answers_cmd8: false,
             has_high_speed: true,
         }),
@@ -35,6 +36,7 @@ fn reads_every_key_in_any_order(rt: HostRuntime) {
     assert!(rt;
         spec.sectors == u64::MAX && spec.ready == 0 && spec.busy == 8 && spec.image.is_none()
     );
+    assert!(rt; spec.early == Some(2) && !spec.keeps_length);
     let flips = Flips {
         first: 255,
         second: Some(0),
@@ -44,6 +46,21 @@ fn reads_every_key_in_any_order(rt: HostRuntime) {
         (7, Fault::Brownout(Outcome::New)),
     ];
     assert!(rt; file.plan.as_slice() == plan.as_slice());
+}
+
+#[test]
+fn reads_an_rca_that_changes(rt: HostRuntime) {
+    let text = b"kind sd\nrca changes\nocr 00ff8000\nsectors 1\nscr 0005000000000000\n\
+        cid 00000000000000000000000000000001\ncsd 00000000000000000000000000000001";
+    let Ok(file) = read_card(rt.alloc(), text) else {
+        assert!(rt; false);
+        return;
+    };
+    match file.spec.registers.kind {
+        KindRegisters::Sd(sd) => assert!(rt; sd.rca == 1 && sd.rca_changes),
+        KindRegisters::Mmc(_) => assert!(rt; false),
+    }
+    assert!(rt; file.spec.early.is_none() && file.spec.keeps_length);
 }
 
 #[test]
@@ -64,9 +81,14 @@ fn last_byte_for_a_place_counts(rt: HostRuntime) {
 
 #[test]
 fn refuses_a_card_file(rt: HostRuntime) {
-    let rows: [(&[u8], u64); 14] = [
+    let rows: [(&[u8], u64); 19] = [
         (b"kind sd\nKind sd", 2),
         (b"ready 9", 1),
+        (b"early 4", 1),
+        (b"length 512", 1),
+        (b"rca Changes", 1),
+        (b"rca 0001\nrca changes", 2),
+        (b"rca changes\nkind mmc", 1),
         (b"ocr 0ff8000", 1),
         (b"sectors 18446744073709551616", 1),
         (b"busy 1 ", 1),

@@ -1,7 +1,8 @@
 // Reads one line of a card file.
 ghost use Rattle.std.specs.Prelude.{◌≡◌};
-ghost use Rattle.card_text.specs.CardLines.{card_line_of, card_line_of_fields, choice_of, delay_of, ext_line_of};
-ghost use Rattle.card_text.specs.CardLines.{fault_line_of, kind_of, line_of_key, sd_line_of, value_line_of};
+ghost use Rattle.card_text.specs.CardLines.{card_line_of, card_line_of_fields, choice_of, delay_of, early_of, ext_line_of};
+ghost use Rattle.card_text.specs.CardLines.{fault_line_of, free_line_of, keeps_length_of, kind_of, line_of_key};
+ghost use Rattle.card_text.specs.CardLines.{published_rca_of, sd_line_of, value_line_of};
 ghost use Rattle.card_text.specs.Parts.{left_parts, parts};
 
 use crate::cut::cut;
@@ -11,6 +12,15 @@ use crate::number::{byte, number};
 use crate::text_line::Line;
 use mmc_card_sim::Fault;
 use mmc_frame::Kind;
+
+/// Which RCA an SD card publishes.
+#[derive(Clone, Copy, Debug, PartialEq, Eq)]
+pub enum PublishedRca {
+    /// Always this one.
+    Fixed(u16),
+    /// 1, 2, 3 and so on, at each CMD3 the next one.
+    Changes,
+}
 
 /// What one line of a card file gives.
 #[derive(Clone, Copy, Debug, PartialEq, Eq)]
@@ -29,12 +39,16 @@ pub enum CardLine {
     Ready(u8),
     /// How many of the first polls of a busy time are answered yes, 0 to 8.
     Busy(u8),
+    /// Bits 30 and 29 of the OCR while the card isn't ready, 0 to 3.
+    Early(u8),
+    /// Whether the block length outlives CMD0 and a loss of power.
+    KeepsLength(bool),
     /// Whether the card is locked.
     Locked(bool),
     /// The SCR of an SD card, the highest byte first.
     Scr([u8; 8]),
     /// The RCA that an SD card publishes.
-    Rca(u16),
+    Rca(PublishedRca),
     /// Whether an SD card knows CMD8.
     Cmd8(bool),
     /// Whether an SD card has high speed.
@@ -84,6 +98,8 @@ impl CardLine {
             | (CardLine::Sectors(_), CardLine::Sectors(_))
             | (CardLine::Ready(_), CardLine::Ready(_))
             | (CardLine::Busy(_), CardLine::Busy(_))
+            | (CardLine::Early(_), CardLine::Early(_))
+            | (CardLine::KeepsLength(_), CardLine::KeepsLength(_))
             | (CardLine::Locked(_), CardLine::Locked(_))
             | (CardLine::Scr(_), CardLine::Scr(_))
             | (CardLine::Rca(_), CardLine::Rca(_))
@@ -138,6 +154,41 @@ fn delay(text: &[u8]) -> Option<u8>
     if count <= 8 { Some(count as u8) } else { None }
 }
 
+// Bits 30 and 29 of an OCR: a number from 0 to 3.
+#[tactic(auto, unfolding(crate::specs::CardLines::early_of))]
+fn early(text: &[u8]) -> Option<u8>
+    ensures { result ≡ early_of text.now }
+{
+    let bits = number(text)?;
+    if bits <= 3 { Some(bits as u8) } else { None }
+}
+
+// `kept` or `named`.
+#[tactic(auto, unfolding(crate::specs::CardLines::keeps_length_of))]
+fn keeps_length(text: &[u8]) -> Option<bool>
+    ensures { result ≡ keeps_length_of text.now }
+{
+    if text == b"kept".as_slice() {
+        Some(true)
+    } else if text == b"named".as_slice() {
+        Some(false)
+    } else {
+        None
+    }
+}
+
+// `changes`, or an RCA.
+#[tactic(auto, unfolding(crate::specs::CardLines::published_rca_of))]
+fn published_rca(text: &[u8]) -> Option<PublishedRca>
+    ensures { result ≡ published_rca_of text.now }
+{
+    if text == b"changes".as_slice() {
+        Some(PublishedRca::Changes)
+    } else {
+        Some(PublishedRca::Fixed(u16::from_be_bytes(bytes(text)?)))
+    }
+}
+
 // A key of SD cards with its value.
 #[tactic(auto, unfolding(crate::specs::CardLines::sd_line_of))]
 fn sd_line(key: &[u8], text: &[u8]) -> Option<CardLine>
@@ -146,13 +197,27 @@ fn sd_line(key: &[u8], text: &[u8]) -> Option<CardLine>
     if key == b"scr".as_slice() {
         Some(CardLine::Scr(bytes(text)?))
     } else if key == b"rca".as_slice() {
-        Some(CardLine::Rca(u16::from_be_bytes(bytes(text)?)))
+        Some(CardLine::Rca(published_rca(text)?))
     } else if key == b"cmd8".as_slice() {
         Some(CardLine::Cmd8(choice(text)?))
     } else if key == b"highspeed".as_slice() {
         Some(CardLine::HighSpeed(choice(text)?))
     } else {
         None
+    }
+}
+
+// A key of what a card does where it is free, or of SD cards, with its value.
+#[tactic(auto, unfolding(crate::specs::CardLines::free_line_of))]
+fn free_line(key: &[u8], text: &[u8]) -> Option<CardLine>
+    ensures { result ≡ free_line_of key.now text.now }
+{
+    if key == b"early".as_slice() {
+        Some(CardLine::Early(early(text)?))
+    } else if key == b"length".as_slice() {
+        Some(CardLine::KeepsLength(keeps_length(text)?))
+    } else {
+        sd_line(key, text)
     }
 }
 
@@ -178,7 +243,7 @@ fn line_of_key(key: &[u8], text: &[u8]) -> Option<CardLine>
     } else if key == b"locked".as_slice() {
         Some(CardLine::Locked(choice(text)?))
     } else {
-        sd_line(key, text)
+        free_line(key, text)
     }
 }
 

@@ -1,9 +1,9 @@
 // Makes what a card is built by from the lines of its file.
 ghost use Rattle.std.specs.Prelude.{◌≡◌, [], ◌∷◌, ◌++◌, List, slice_set};
 ghost use Rattle.card_text.specs.declared.card_line.CardLine.{CardLine};
-ghost use Rattle.card_text.specs.CardSpecs.{given_by, own_registers_of, spec_of};
+ghost use Rattle.card_text.specs.CardSpecs.{first_rca, given_by, own_registers_of, spec_of};
 
-use crate::card_line::CardLine;
+use crate::card_line::{CardLine, PublishedRca};
 use mmc_card_sim::{CardSpec, KindRegisters, MmcRegisters, Registers, SdRegisters};
 use mmc_frame::Kind;
 
@@ -17,9 +17,11 @@ pub struct Given {
     sectors: Option<u64>,
     ready: Option<u8>,
     busy: Option<u8>,
+    early: Option<u8>,
+    keeps_length: Option<bool>,
     locked: Option<bool>,
     scr: Option<[u8; 8]>,
-    rca: Option<u16>,
+    rca: Option<PublishedRca>,
     cmd8: Option<bool>,
     high_speed: Option<bool>,
     // A byte that no line gives is 00, and of two lines for a place the last one counts.
@@ -40,6 +42,8 @@ impl Given {
             sectors: None,
             ready: None,
             busy: None,
+            early: None,
+            keeps_length: None,
             locked: None,
             scr: None,
             rca: None,
@@ -62,9 +66,11 @@ impl Given {
             CardLine::Sectors(count) => self.sectors = self.sectors.or(Some(count)),
             CardLine::Ready(count) => self.ready = self.ready.or(Some(count)),
             CardLine::Busy(count) => self.busy = self.busy.or(Some(count)),
+            CardLine::Early(bits) => self.early = self.early.or(Some(bits)),
+            CardLine::KeepsLength(choice) => self.keeps_length = self.keeps_length.or(Some(choice)),
             CardLine::Locked(choice) => self.locked = self.locked.or(Some(choice)),
             CardLine::Scr(bytes) => self.scr = self.scr.or(Some(bytes)),
-            CardLine::Rca(address) => self.rca = self.rca.or(Some(address)),
+            CardLine::Rca(rca) => self.rca = self.rca.or(Some(rca)),
             CardLine::Cmd8(choice) => self.cmd8 = self.cmd8.or(Some(choice)),
             CardLine::HighSpeed(choice) => self.high_speed = self.high_speed.or(Some(choice)),
             CardLine::Ext { place, value } => put_byte(&mut self.ext_csd, place, value),
@@ -90,7 +96,8 @@ impl Given {
         match kind {
             Kind::Sd => Some(KindRegisters::Sd(SdRegisters {
                 scr: self.scr?,
-                rca: self.rca.unwrap_or(1),
+                rca: first_rca(self.rca),
+                rca_changes: matches!(self.rca, Some(PublishedRca::Changes)),
                 answers_cmd8: self.cmd8.unwrap_or(false),
                 has_high_speed: self.high_speed.unwrap_or(false),
             })),
@@ -98,6 +105,16 @@ impl Given {
                 ext_csd: self.ext_csd,
             })),
         }
+    }
+}
+
+// The RCA that an SD card publishes first, which is 1 but where a line gives one.
+fn first_rca(rca: Option<PublishedRca>) -> u16
+    ensures { result ≡ first_rca rca }
+{
+    match rca {
+        Some(PublishedRca::Fixed(rca)) => rca,
+        _ => 1,
     }
 }
 
@@ -129,6 +146,8 @@ pub fn card_spec(lines: &[CardLine]) -> Option<CardSpec>
         sectors: given.sectors?,
         ready: given.ready.unwrap_or(0),
         busy: given.busy.unwrap_or(0),
+        early: given.early,
+        keeps_length: given.keeps_length.unwrap_or(true),
         image: None,
     })
 }

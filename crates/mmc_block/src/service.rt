@@ -1,5 +1,6 @@
-// The service of a device: which requests are served, and how far that has come. A turn moves the phase, which is small; the
-// requests stay where they are, since each move of a list copies all its places.
+// The service of a device: which requests are served, and how far that has come. A turn of a run advances the run where it stands,
+// and what begins, ends, selects or settles moves the phase, which is small; the requests stay where they are, since each move of a
+// list copies all its places.
 //
 // 1. The requests of a group are served by one run. An attempt at it settles the card where something had failed, selects
 //    the partition where another one is selected, and makes the run; each of these takes a turn of its own, and so does each

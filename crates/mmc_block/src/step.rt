@@ -160,7 +160,7 @@ fn left(outcome: Progress<Stage>) -> Phase
     }
 }
 
-// What leaves a run that is over: its session.
+// A run that is over leaves its card.
 #[inline(never)]
 fn end(phase: &mut Phase, standing: Standing)
     requires running { IfRunning phase.old (λ work. Unit {0}) }

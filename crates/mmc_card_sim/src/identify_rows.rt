@@ -32,7 +32,8 @@ impl Chip {
     pub fn start_over(&mut self, keeps_length: bool)
         ensures { let old = card_of self.old in
             card_of self.new ≡ record (powered_on old.made old.sectors) {
-                block_length = if keeps_length then old.block_length else named_block_length old.made } }
+              block_length = if keeps_length then old.block_length else named_block_length old.made;
+            } }
     {
         if !keeps_length {
             self.block_length = self.named_length;

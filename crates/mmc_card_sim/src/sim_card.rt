@@ -122,7 +122,9 @@ impl SimCard {
         let judged = judge(&spec)?;
         let delays = first_delays(&spec);
         let CardSpec {
-            registers, image, ..
+            registers,
+            image,
+            ..
         } = spec;
         let erased = registers.erased_byte();
         let Ok(store) = Store::new(alloc, judged.sizes, &image, erased) else {
@@ -209,7 +211,9 @@ impl SimCard {
     {
         let fault = self.plan.fault(self.wire.exchanges);
         let len = buffer.len();
-        let (got, fell) = self.chip.faulty_send(fault, self.delays, self.wire.lines, buffer);
+        let (got, fell) = self
+            .chip
+            .faulty_send(fault, self.delays, self.wire.lines, buffer);
         self.faults = counted(self.faults, fell);
         self.wire.note(Exchange::In { len, got });
         got
@@ -227,7 +231,9 @@ impl SimCard {
         ensures plan { self.new.plan ≡ self.old.plan }
     {
         let fault = self.plan.fault(self.wire.exchanges);
-        let (got, fell) = self.chip.faulty_accept(fault, self.delays, self.wire.lines, block);
+        let (got, fell) = self
+            .chip
+            .faulty_accept(fault, self.delays, self.wire.lines, block);
         self.faults = counted(self.faults, fell);
         self.wire.note(Exchange::Out { got });
         got
