@@ -83,8 +83,7 @@ with_own rca made csd (Ok addressing) found registers goes sound e h =
       cid = register_number made.cid;
       csd = csd;
     } ≡ found = cc h in
-    subst (IsFoundAs rca made) is
-    (
+    subst (IsFoundAs rca made) is (
       record {
         kind = refl;
         addressing = addressing_by made.kind made csd addressing registers.ocr refl e;
