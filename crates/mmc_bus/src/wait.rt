@@ -13,8 +13,8 @@ use crate::host::poll;
 pub const MAX_POLLS: u64 = 16;
 
 /// Polls until the card isn't busy, `MAX_POLLS` times at most. A no is believed as far as the card is selected still
-/// and holds no error, which its next status tells; of a card that doesn't program it is believed as far as it is
-/// selected.
+/// and holds no error, which its next status tells; of a card that neither programs nor accepts blocks it is believed as
+/// far as it is selected.
 ///
 /// # Errors
 /// `Busy` where it still is at the last poll.

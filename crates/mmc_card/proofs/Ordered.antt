@@ -13,7 +13,7 @@ use Rattle.mmc_card.specs.CardAnswer.{Choice, counted, done, garbled, raised, re
 use Rattle.mmc_card.specs.Blocks.{accepted, fallen_short, is_last, programmed, rejected, rested, sent_from, waited}
 use Rattle.mmc_card.specs.Card.{Both, Card, First, FromBytes, FromSectors, HasItsRca, Held, NoAddress, Source}
 use Rattle.mmc_card.specs.Card.{is_identified, is_in}
-use Rattle.mmc_card.specs.Made.{Made, first_rca, has_switch_function, is_mmc, is_sd}
+use Rattle.mmc_card.specs.Made.{Made, first_rca, has_switch_function, is_sd}
 use Rattle.mmc_card.specs.declared.command.Command.{Command}
 use Rattle.mmc_card.specs.declared.command.Command.TheVariants.{SdSendOpCond, SendScr, SetBusWidth, AllSendCid, AppCmd}
 use Rattle.mmc_card.specs.declared.command.Command.TheVariants.{Erase, EraseEnd, EraseStart, GoIdleState}

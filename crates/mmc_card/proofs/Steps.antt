@@ -1,5 +1,5 @@
 -- What holds of a card holds after a step, if all that a step may do to the card keeps it.
-use Rattle.std.proofs.Common.{◌&&◌, ◌≡◌, Bool, List, false, refl, true, ℕ}
+use Rattle.std.proofs.Common.{◌&&◌, ◌≡◌, Bool, List, refl, true, ℕ}
 use Rattle.mmc_frame.specs.Frame.{command_in}
 use Rattle.mmc_frame.specs.declared.card_state.State.TheVariants.{Prg, Rcv}
 use Rattle.mmc_card.specs.declared.exchange.DataIn.{DataIn}

@@ -10,9 +10,12 @@ returns-clause-works g c kept =
     let law = c.cmd12_ends_a_transfer.ensures.does _ _ _ _ k.step k.was_card in
     command_worked c.ask.ensures.asked refl refl kept
     (λ ok. let judged = c.check_stop.ensures.ok ok in
-    let told = law.sound judged.0 judged.1 in
-    (told.0, told.2, λ never. shows_nothing c.args.kind c.args.may_run_out card judged.0
-    c.a_status_tells_of_its_card.ensures.errors k.was_card told.1 never judged.2))
+    let told = law.sound judged.0 judged.1 in (
+      told.0,
+      told.2,
+      λ never. shows_nothing c.args.kind c.args.may_run_out card judged.0
+          c.a_status_tells_of_its_card.ensures.errors k.was_card told.1 never judged.2,
+    ))
     (λ same can. c.check_stop.ensures.all _ (law.fine same can.moving).0
     (shows_it_stops c.args.kind c.args.may_run_out card c.a_status_tells_of_its_card.ensures.errors
     c.a_status_tells_of_its_card.ensures.at_end k.was_card can))
