@@ -1,5 +1,5 @@
 -- What a host learns, from the step that its exchange was.
-use Rattle.std.proofs.Common.{◌&&◌, ◌<◌, ◌∙◌, ◌≡◌, ◌≤◌, Bool, List, ap, arith, bit_or, cond, false, inl, inr, refl}
+use Rattle.std.proofs.Common.{◌&&◌, ◌+◌, ◌<◌, ◌∙◌, ◌≡◌, ◌≤◌, Bool, List, ap, arith, bit_or, cond, false, inl, inr, refl}
 use Rattle.std.proofs.Common.{subst, sym, true, ℕ}
 use Rattle.std.specs.Prelude.{Ok, Result, Some}
 use Rattle.std.proofs.lemmas.Nat.{le_or_r}
@@ -25,7 +25,9 @@ use Rattle.mmc_bus.proofs.Readers.{Reads}
 use Rattle.mmc_card.proofs.Switching.{command_switches}
 use Rattle.mmc_card.proofs.Standing.{command_stands, write_stands, poll_stands, read_stands}
 use Rattle.mmc_card.specs.CardAnswer.{CardAnswer, Choice, Silent, refused}
-use Rattle.mmc_card.specs.Blocks.{accepted, can_send, can_accept, next_block, next_written, rested, sent, waited}
+use Rattle.mmc_card.proofs.Landing.{snoc_length}
+use Rattle.mmc_card.specs.Blocks.{accepted, can_send, can_accept, fallen_short, next_block, next_written, rested, sent}
+use Rattle.mmc_card.specs.Blocks.{waited}
 use Rattle.mmc_card.specs.Card.{Card, IsCard, holds, is_in, is_selected}
 use Rattle.mmc_bus.specs.Exchanges.{Exchanged}
 use Rattle.mmc_card.specs.Faults.{CommandStep, FallNoMore, WriteStep, IsFlipped, IsPatient, NoFault, OneFault}
@@ -35,7 +37,7 @@ use Rattle.mmc_card.specs.Faults.{lose_command}
 use Rattle.mmc_card.specs.Faults.{busy, lose_reply, lose_status, read_error, reject, slow_inquiry}
 use Rattle.mmc_bus.specs.Heard.{cause_of, cause_of_command}
 use Rattle.mmc_card.specs.Laws.{CountsAtMostOne, erased_by, is_frame_of_run, maybe_erased}
-use Rattle.mmc_bus.specs.Learned.{Asked, CommandFacts, Faithful, WriteFacts, Obeyed, PollFacts, ReadFacts, carried_out}
+use Rattle.mmc_bus.specs.Learned.{Asked, CommandFacts, Faithful, IsAccepted, WriteFacts, Obeyed, PollFacts, ReadFacts, carried_out}
 use Rattle.mmc_bus.specs.Learned.{may_fail, meant}
 use Rattle.mmc_card.specs.Rows.{command_of, answered, is_foreign, is_legal, reached, respond}
 use Rattle.mmc_card.specs.Sectors.{Sector, Within}
@@ -327,16 +329,24 @@ poll_facts old said new bounded step =
 -- Blocks.
 
 by_offer : (b : Bool) (x y new : Card) (got : DataOut) → new ≡ cond b x y → got ≡ cond b Sent.Accepted Sent.Nothing
-    → (got ≡ Sent.Accepted → (b ≡ true) × (new ≡ x)) × (b ≡ true → got ≡ Sent.Accepted)
+    → (got ≡ Sent.Accepted → (b ≡ true) × (new ≡ x)) × (b ≡ true → (got ≡ Sent.Accepted) × (new ≡ x))
     × (b ≡ false → (got ≡ Sent.Nothing) × (new ≡ y))
-by_offer true x y new got card answer = (λ h. (refl, card), λ t. answer, λ f. cc)
+by_offer true x y new got card answer = (λ h. (refl, card), λ t. (answer, card), λ f. cc)
 by_offer false x y new got card answer = (λ h. cc, λ t. cc, λ f. (answer, card))
 
 -- what the answer to a block that is offered tells
 record WriteWays (old : BusView) (block : Sector) (got : DataOut) (new : BusView) : Type 0 where
-  accepts : got ≡ Sent.Accepted → (can_accept old.lines old.card ≡ true) × (new.card ≡ accepted block old.card)
-  fine : NoFault old new → can_accept old.lines old.card ≡ true → got ≡ Sent.Accepted
+  accepts : got ≡ Sent.Accepted → IsAccepted block old new
+  fine : NoFault old new → can_accept old.lines old.card ≡ true
+      → (got ≡ Sent.Accepted) × (new.card ≡ accepted block old.card)
   refuses : NoFault old new → can_accept old.lines old.card ≡ false → (got ≡ Sent.Nothing) × (new.card ≡ old.card)
+
+-- the block behind an accepted one is for the next sector
+one_further : (card : Card) (block : Sector) → next_written (accepted block card) ≡ next_written card + 1
+one_further card block = let long = snoc_length card.values block in omega (arith, long)
+
+behind : (lands : ℕ → Bool) (card : Card) → next_written (fallen_short lands card) + 1 ≡ next_written card + 1
+behind lands card = omega arith
 
 -- with a fault it isn't accepted
 unaccepted : (old : BusView) (block : Sector) (got : DataOut) (new : BusView) → OneFault old new
@@ -358,7 +368,25 @@ write_ways : (old : BusView) (block : Sector) (got : DataOut) (new : BusView) �
     → WriteWays old block got new
 write_ways old block got new (faithful count card answer) =
     let ways = by_offer (can_accept old.lines old.card) (accepted block old.card) old.card new.card got card answer in
-    record { accepts = ways.0; fine = λ same t. ways.1 t; refuses = λ same f. ways.2 f }
+    record {
+      accepts = λ h. let w = ways.0 h in record {
+        could = w.0;
+        goes_on = ap next_written w.1 ∙ one_further old.card block;
+        shown = λ none. w.1;
+      };
+      fine = λ same t. ways.1 t;
+      refuses = λ same f. ways.2 f;
+    }
+write_ways old block got new (fall_short lands bits of can count card answer) =
+    record {
+      accepts = λ h. record {
+        could = can;
+        goes_on = ap next_written card ∙ one_further (fallen_short lands old.card) block ∙ behind lands old.card;
+        shown = λ none. absurd (signed old.card.errors bits of.1 (sym (ap (λ (c : Card). c.errors) card) ∙ none));
+      };
+      fine = λ same t. fell old new count same;
+      refuses = λ same f. fell old new count same;
+    }
 write_ways old block got new (reject ignores can count card answer) = unaccepted old block got new count
     (not_rejected got answer)
 write_ways old block got new (lose_status is_accepted ignores can count card answer) = unaccepted old block got new count

@@ -1,6 +1,6 @@
 -- What a host learns of an exchange over a bus that is kept: what holds whatever fell, what a sound answer tells, fault
 -- or not, and what holds where no fault fell.
-use Rattle.std.specs.Prelude.{◌&&◌, ◌<◌, ◌||◌, ◌≡◌, ◌≤◌, Bool, List, Ok, Result, Some, false, not, true, ℕ}
+use Rattle.std.specs.Prelude.{◌&&◌, ◌+◌, ◌<◌, ◌||◌, ◌≡◌, ◌≤◌, Bool, List, Ok, Result, Some, false, not, true, ℕ}
 use Rattle.mmc_frame.specs.Frame.{command_in}
 use Rattle.mmc_frame.specs.declared.card_state.State.TheVariants.{Prg, Rcv}
 use Rattle.mmc_frame.specs.declared.kind.Kind.{Kind}
@@ -116,14 +116,21 @@ pub record PollFacts (old : BusView) (said : Bool) (new : BusView) : Type 0 wher
 
 -- Blocks.
 
+-- The card has accepted the block as the next one of its write, and if it holds no error none before it has failed.
+pub record IsAccepted (block : Sector) (old new : BusView) : Type 0 where
+  pub could : can_accept old.lines old.card ≡ true
+  pub goes_on : next_written new.card ≡ next_written old.card + 1
+  pub shown : new.card.errors ≡ 0 → new.card ≡ accepted block old.card
+
 pub record WriteFacts (old : BusView) (block : Sector) (got : DataOut) (new : BusView) : Type 0 where
   pub stays : Stays old new
   -- the next sector of the write may hold the block too
   pub widens : WithinOrAccepted old.card block new.card
   pub stands : StillStands old.card new.card
   -- an accepted block was accepted by the card, fault or not
-  pub accepts : got ≡ Sent.Accepted → (can_accept old.lines old.card ≡ true) × (new.card ≡ accepted block old.card)
-  pub fine : NoFault old new → can_accept old.lines old.card ≡ true → got ≡ Sent.Accepted
+  pub accepts : got ≡ Sent.Accepted → IsAccepted block old new
+  pub fine : NoFault old new → can_accept old.lines old.card ≡ true
+      → (got ≡ Sent.Accepted) × (new.card ≡ accepted block old.card)
   pub refuses : NoFault old new → can_accept old.lines old.card ≡ false → (got ≡ Sent.Nothing) × (new.card ≡ old.card)
 
 pub record ReadFacts (old : BusView) (size : ℕ) (got : DataIn) (block : List ℕ) (new : BusView) : Type 0 where

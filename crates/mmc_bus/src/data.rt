@@ -5,6 +5,7 @@ ghost use Rattle.mmc_card.specs.CardAnswer.{Choice};
 ghost use Rattle.mmc_card.specs.declared.exchange.DataIn.TheVariants.{Good};
 ghost use Rattle.mmc_card.specs.declared.exchange.DataOut.TheVariants.{Accepted};
 ghost use Rattle.mmc_bus.specs.declared.cause.Cause.TheVariants as Why;
+ghost use Rattle.mmc_bus.specs.Learned.{IsAccepted};
 ghost use Rattle.mmc_bus.specs.Work.{Ends, Narrows, NarrowsBut, Works};
 
 use crate::bus::Bus;
@@ -56,8 +57,8 @@ pub fn receive<B: Bus>(bus: &mut B, buffer: &mut [u8]) -> Result<(), Cause>
 pub fn offer<B: Bus>(bus: &mut B, block: &[u8; 512]) -> Result<(), Cause>
     ensures ends { Ends 1 (B.view bus.old) result (B.view bus.new) }
     ensures works { Works (NarrowsBut block.now)
-        (λ old new. IsOk result → (can_accept old.lines old.card ≡ true) × (new.card ≡ accepted block.now old.card))
-        (λ old new. can_accept old.lines old.card ≡ true → IsOk result)
+        (λ old new. IsOk result → IsAccepted block.now old new)
+        (λ old new. can_accept old.lines old.card ≡ true → IsOk result × (new.card ≡ accepted block.now old.card))
         (B.view bus.old) (B.view bus.new) }
 {
     check_write(write_block(bus, block))

@@ -19,7 +19,7 @@ use Rattle.mmc_card.proofs.Sending.{sending_fallen_short}
 use Rattle.mmc_card.proofs.Sending.{IsSending, sending_accepted, sending_answered, sending_garbled, sending_programmed}
 use Rattle.mmc_card.proofs.Sending.{sending_raised, sending_reached, sending_rejected, sending_reset, sending_rested}
 use Rattle.mmc_card.proofs.Sending.{sending_sent_from, sending_waited}
-use Rattle.mmc_card.proofs.Settled.{settled_fallen_short}
+use Rattle.mmc_card.proofs.Settled.{accepts_still, settled_fallen_short}
 use Rattle.mmc_card.proofs.Settled.{IsSettled, settled_accepted, settled_answered, settled_garbled, settled_programmed}
 use Rattle.mmc_card.proofs.Settled.{settled_raised, settled_reached, settled_rejected, settled_reset, settled_rested}
 use Rattle.mmc_card.proofs.Settled.{settled_sent_from, settled_waited}
@@ -164,13 +164,22 @@ write_leaves_card old block got new h step k =
     (after_write IsOrdered old block got new o
     (λ accepts. ordered_accepted block old.card (accepts_in_rcv old.lines old.card accepts) o)
     (λ ignores accepts. ordered_rejected ignores old.card (accepts_in_rcv old.lines old.card accepts) o)
+    (λ lands accepts.
+    let rcv = accepts_in_rcv old.lines old.card accepts in
+    ordered_accepted block _ rcv (ordered_fallen_short lands old.card rcv o))
+    (λ bits card _ k. ordered_raised bits card k)
     (λ lands keeps card _. ordered_reset lands keeps card) step)
     (after_write IsSettled old block got new s
     (λ accepts. settled_accepted block old.lines old.card accepts s)
     (λ ignores accepts. settled_rejected ignores old.card (accepts_in_rcv old.lines old.card accepts) s)
+    (λ lands accepts. settled_accepted block old.lines _ (accepts_still lands old.lines old.card accepts)
+    (settled_fallen_short lands old.card s))
+    (λ bits card _ k. settled_raised bits card k)
     (λ lands keeps card _. settled_reset lands keeps card) step)
     (after_write IsSending old block got new g (λ _. sending_accepted block old.card g)
-    (λ ignores _. sending_rejected ignores old.card g) sending_reset step)
+    (λ ignores _. sending_rejected ignores old.card g)
+    (λ lands _. sending_accepted block _ (sending_fallen_short lands old.card g))
+    (λ bits card _ k. sending_raised bits card k) sending_reset step)
 
 pub read_leaves_card : (old : BusView) (size : ℕ) (got : DataIn) (block : Sector) (new : BusView)
     → ReadStep old size got block new → IsCard old.card → IsCard new.card

@@ -14,7 +14,7 @@ use Rattle.mmc_card.proofs.Cards.{card_done, card_fallen_short, card_forgotten, 
 use Rattle.mmc_card.proofs.Cards.{card_refused, card_reset, card_rested, card_shown, card_slow, chosen_card, in_state}
 use Rattle.mmc_card.proofs.Cards.{like_done, like_same, like_shown, stays_card}
 use Rattle.mmc_card.proofs.Conditions.{along, by_cond, first_by_cond}
-use Rattle.mmc_card.proofs.Narrow.{AreSwitched, both, is_switched, sends_data}
+use Rattle.mmc_card.proofs.Narrow.{AreSwitched, accepts_in_rcv, both, is_switched, sends_data}
 use Rattle.mmc_card.proofs.Steps.{after_command, after_write, after_poll, after_read}
 use Rattle.mmc_card.specs.CardAnswer.{Choice, busied, raised, shown}
 use Rattle.mmc_card.specs.Blocks.{accepted, end_errors, is_last, rejected, sent_from}
@@ -277,7 +277,10 @@ pub write_leaves_card : (old : BusView) (block : Sector) (got : DataOut) (new : 
     → WriteStep old block got new → IsBasic old.card → IsBasic new.card
 write_leaves_card old block got new h step k =
     after_write IsBasic old block got new k (λ _. card_accepted block old.card h k)
-    (λ ignores _. card_rejected ignores old.card k) card_reset step
+    (λ ignores _. card_rejected ignores old.card k)
+    (λ lands accepts. card_accepted block _ h
+    (card_fallen_short lands old.card (accepts_in_rcv old.lines old.card accepts) k))
+    (λ bits card among k. card_raised bits card among k) card_reset step
 
 pub read_leaves_card : (old : BusView) (size : ℕ) (got : DataIn) (block : Sector) (new : BusView)
     → ReadStep old size got block new → IsBasic old.card → IsBasic new.card

@@ -33,6 +33,7 @@ pub write_counts : (old : BusView) (block : Sector) (got : DataOut) (new : BusVi
 write_counts old block got new (faithful count card answer) = inl count
 write_counts old block got new (reject ignores accepts count card answer) = inr count
 write_counts old block got new (lose_status is_accepted ignores accepts count card answer) = inr count
+write_counts old block got new (fall_short lands bits of accepts count card answer) = inr count
 write_counts old block got new (brownout lands keeps_length after count card answer) = inr count
 
 pub read_counts : (old : BusView) (size : ℕ) (got : DataIn) (block : Sector) (new : BusView)

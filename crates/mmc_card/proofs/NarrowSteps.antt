@@ -1,5 +1,5 @@
 -- The law of narrowing, step by step.
-use Rattle.std.proofs.Common.{◌≡◌, Bool, List, inl, true, ℕ}
+use Rattle.std.proofs.Common.{◌≡◌, Bool, List, arith, inl, inr, true, ℕ}
 use Rattle.std.specs.Prelude.{Option}
 use Rattle.mmc_frame.specs.Frame.{command_in}
 use Rattle.mmc_card.specs.declared.exchange.DataIn.{DataIn}
@@ -10,7 +10,7 @@ use Rattle.mmc_card.proofs.Narrow.{Keeps, Widens, accepted_adds, carried_accepte
 use Rattle.mmc_card.proofs.Narrow.{keeps_garbled, keeps_programmed, keeps_raised, keeps_rejected, keeps_reset, keeps_rested, keeps_same}
 use Rattle.mmc_card.proofs.Narrow.{keeps_sent_from, keeps_slow, keeps_then, accepts_in_rcv, wide, widens_answered}
 use Rattle.mmc_card.proofs.Steps.{after_command, after_write, after_poll, after_read}
-use Rattle.mmc_card.specs.Blocks.{accepted, can_accept}
+use Rattle.mmc_card.specs.Blocks.{accepted, can_accept, fallen_short}
 use Rattle.mmc_card.specs.Card.{Card}
 use Rattle.mmc_card.specs.Faults.{CommandStep, WriteStep, PollStep, ReadStep}
 use Rattle.mmc_card.specs.Laws.{Carried, WithinOrAccepted, erased_by}
@@ -40,6 +40,25 @@ adds_accepted block lines c t = record {
   adds = accepted_adds block c (accepts_in_rcv lines c t);
 }
 
+-- or what has come so far is settled, and the block is the next one
+adds_behind : (block : Sector) (lands : ℕ → Bool) (lines : Lines) (c : Card) → can_accept lines c ≡ true
+    → Adds block c (accepted block (fallen_short lands c))
+adds_behind block lands lines c t =
+    let before = keeps_fallen_short lands c in
+    let rcv = accepts_in_rcv lines c t in
+    record {
+      carried = carried_then before.carried (carried_accepted block (fallen_short lands c));
+      adds = λ p s v h. elim (accepted_adds block (fallen_short lands c) rcv p s v h) [
+        | inl old ↦ inl (before.narrows p s v old)
+        | inr new ↦ inr (record {
+            receives = rcv;
+            here = new.here;
+            next = (let n = new.next in omega (arith, n));
+            offered = new.offered;
+          })
+      ];
+    }
+
 wide_after : (change : Option Change) (a b c : Card) → Widens change a b → Keeps b c → Widens change a c
 wide_after change a b c p q = record {
   carried = carried_then p.carried q.carried;
@@ -67,6 +86,8 @@ write_adds old block got new step =
     after_write (Adds block old.card) old block got new (adds_none block old.card _ (keeps_same old.card))
     (λ accepts. adds_accepted block old.lines old.card accepts)
     (λ ignores _. adds_none block old.card _ (keeps_rejected ignores old.card))
+    (λ lands accepts. adds_behind block lands old.lines old.card accepts)
+    (λ bits card _ a. adds_then block old.card card _ a (keeps_raised bits card))
     (λ lands keeps card a. adds_then block old.card card _ a (keeps_reset lands keeps card)) step
 
 pub read_keeps : (old : BusView) (size : ℕ) (got : DataIn) (block : Sector) (new : BusView)

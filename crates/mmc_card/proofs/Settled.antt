@@ -10,7 +10,7 @@ use Rattle.mmc_card.specs.declared.exchange.Lines.{Lines}
 use Rattle.mmc_card.proofs.CardRows.{legal_reached}
 use Rattle.mmc_card.proofs.Cards.{in_state}
 use Rattle.mmc_card.proofs.Conditions.{by_cond, first_by_cond}
-use Rattle.mmc_card.proofs.Landing.{snoc_length}
+use Rattle.mmc_card.proofs.Landing.{landed_size, snoc_length}
 use Rattle.mmc_card.proofs.Narrow.{AreSwitched, both, is_switched}
 use Rattle.mmc_card.specs.CardAnswer.{Choice, done, garbled, raised, refused, reset, shown}
 use Rattle.mmc_card.specs.Blocks.{accepted, awaits, can_accept, fallen_short, is_last, next_written, lines_fit}
@@ -297,10 +297,26 @@ settled_answered choice c None k = settled_garbled choice.keeps_count c k
 below_of : (a b : ℕ) → nat_lt a b ≡ true → a < b
 below_of a b h = grind (arith, nat_tests, h)
 
+above_of : (a b : ℕ) → a < b → nat_lt a b ≡ true
+above_of a b h = grind (arith, nat_tests, h)
+
 room : (lines : Lines) (c : Card) → can_accept lines c ≡ true → next_written c < length (stored c c.part)
 room lines c h =
     below_of (next_written c) (length (stored c c.part))
     (both (awaits c.left) _ (both (lines_fit lines c) _ (both (not c.is_busy) _ (both (is_in c.state Rcv) _ h).1).1).1).1
+
+-- behind blocks that turned out not to be programmed the card accepts what it would have accepted
+pub accepts_still : (lands : ℕ → Bool) (lines : Lines) (c : Card) → can_accept lines c ≡ true
+    → can_accept lines (fallen_short lands c) ≡ true
+accepts_still lands lines c h =
+    let rcv = both (is_in c.state Rcv) _ h in
+    let fit = both (lines_fit lines c) _ (both (not c.is_busy) _ rcv.1).1 in
+    let awaited = (both (awaits c.left) _ fit.1).0 in
+    let there = room lines c h in
+    let same = landed_size c lands c.part in
+    let inside : nat_lt (next_written (fallen_short lands c)) (length (stored (fallen_short lands c) c.part)) ≡ true =
+    above_of _ _ (omega (arith, there, same)) in
+    rw (rcv.0, fit.0, awaited, inside) refl
 
 pub settled_accepted : (block : List ℕ) (lines : Lines) (c : Card) → can_accept lines c ≡ true → IsSettled c
     → IsSettled (accepted block c)

@@ -307,6 +307,8 @@ write_stands old block got new step s h =
     after_write (Stands s) old block got new h
     (λ accepts. stands_accepted s block old.card (rcv accepts) h)
     (λ ignores accepts. stands_rejected s ignores old.card (rcv accepts) h)
+    (λ lands accepts. stands_accepted s block _ (rcv accepts) (stands_fallen_short s lands old.card (rcv accepts) h))
+    (λ bits card _ k. stands_raised s bits card k)
     (λ lands keeps card _. stands_reset s lands keeps card) step
 
 pub read_stands : (old : BusView) (size : ℕ) (got : DataIn) (block : Sector) (new : BusView)

@@ -70,9 +70,10 @@ after_poll P old said new stays rests slows fails falls bears survives step =
 
 pub after_write : (P : Card → Type 0) (old : BusView) (block : Sector) (got : DataOut) (new : BusView) → P old.card
     → (can_accept old.lines old.card ≡ true → P (accepted block old.card))
-    → ((ignores : Bool) → can_accept old.lines old.card ≡ true → P (rejected ignores old.card)) → Survives P
-    → WriteStep old block got new → P new.card
-after_write P old block got new stays accepts rejects survives step =
+    → ((ignores : Bool) → can_accept old.lines old.card ≡ true → P (rejected ignores old.card))
+    → ((lands : ℕ → Bool) → can_accept old.lines old.card ≡ true → P (accepted block (fallen_short lands old.card)))
+    → Bears P → Survives P → WriteStep old block got new → P new.card
+after_write P old block got new stays accepts rejects falls bears survives step =
     let offers : P (offered old.lines block old.card) =
     by_cond P (can_accept old.lines old.card) accepts (λ _. stays) in
     elim step [
@@ -80,6 +81,8 @@ after_write P old block got new stays accepts rejects survives step =
       | reject ignores can count card answer ↦ along P card (rejects ignores can)
       | lose_status is_accepted ignores can count card answer ↦ along P card
           (by_cond P is_accepted (λ _. accepts can) (λ _. rejects ignores can))
+      | fall_short lands bits of can count card answer ↦ along P card
+          (bears bits _ (among_all bits of.0) (falls lands can))
       | brownout lands keeps_length after count card answer ↦ along P card
           (survives lands keeps_length _ (by_cond P after (λ _. offers) (λ _. stays)))
     ]

@@ -152,6 +152,10 @@ pub data WriteStep (old : BusView) (block : List ℕ) (got : DataOut) (new : Bus
   lose_status : (is_accepted ignores : Bool) → can_accept old.lines old.card ≡ true → OneFault old new
       → new.card ≡ (if is_accepted then accepted block old.card else rejected ignores old.card) → got ≡ Sent.Nothing
       → WriteStep old block got new
+  -- the card accepts it, and an earlier block turns out not to be programmed, as at a poll
+  fall_short : (lands : ℕ → Bool) (bits : ℕ) → AreOfExecution bits → can_accept old.lines old.card ≡ true
+      → OneFault old new → new.card ≡ raised bits (accepted block (fallen_short lands old.card)) → got ≡ Sent.Accepted
+      → WriteStep old block got new
   brownout : (lands : ℕ → Bool) (keeps_length after : Bool) → OneFault old new
       → new.card ≡ reset lands keeps_length (if after then offered old.lines block old.card else old.card) → got ≡ Sent.Nothing
       → WriteStep old block got new

@@ -9,12 +9,12 @@ use Rattle.mmc_frame.specs.declared.card_state.State.TheVariants.{Prg, Rcv}
 use Rattle.mmc_card.proofs.Narrow.{accepts_in_rcv}
 use Rattle.mmc_card.proofs.SectorLemmas.{cond_in_new, old_maybe, touched_by}
 use Rattle.mmc_card.proofs.Standing.{up_in}
-use Rattle.mmc_card.proofs.Landing.{snoc_length}
 use Rattle.mmc_card.specs.Blocks.{accepted, awaits, can_accept, is_last, next_written, one_less}
 use Rattle.mmc_card.specs.BusView.{BusView}
 use Rattle.mmc_card.specs.Card.{Card, holds, is_in, is_selected, stored}
 use Rattle.mmc_card.specs.Sectors.{Sector, Within, maybe_changed, part_number, touches, value_of}
 use Rattle.mmc_bus.specs.declared.cause.Cause.{Cause}
+use Rattle.mmc_bus.specs.Learned.{IsAccepted}
 use Rattle.mmc_bus.specs.Work.{NarrowsBut, Worked}
 use Rattle.mmc_switch.proofs.UnderWayLemmas.{goes_on, has_failed, lines_in, part_in, quiet_by, room_is}
 use Rattle.mmc_switch.specs.UnderWay.{IsQuiet, part_of, room_of}
@@ -37,8 +37,8 @@ use Rattle.mmc_transfer.specs.Running.{change_of, is_counted, left_of, written}
 abbrev pub Offered : Sector → Result Unit Cause → BusView → BusView → Type 0
 Offered block r =
     Worked (NarrowsBut block)
-    (λ old new. IsOk r → (can_accept old.lines old.card ≡ true) × (new.card ≡ accepted block old.card))
-    (λ old new. can_accept old.lines old.card ≡ true → IsOk r)
+    (λ old new. IsOk r → IsAccepted block old new)
+    (λ old new. can_accept old.lines old.card ≡ true → IsOk r × (new.card ≡ accepted block old.card))
 
 to_write : (way : Way) (P Q : Type 0) → way ≡ Write → Q → by_way way P Q
 to_write Read P Q is h = cc
@@ -181,31 +181,34 @@ module _ (job : Job) (blocks : List Sector) (done faults : ℕ) (block : Sector)
       left = has_failed job.session (Shown job.way (Block done)) (Exact job blocks (Block done)) faults a b at.under_way
           offer
           (record { session = job.session; cause = why; must_reset = false }) refl
-          (λ exact same. cc (offer.fine same (accepts exact)));
+          (λ exact same. cc (offer.fine same (accepts exact)).0);
     }
 
     -- where the block behind it goes
-    place_then : (last : Bool) → b.card ≡ accepted block a.card → is_in a.card.state Rcv ≡ true
+    place_then : (last : Bool) → next_written b.card ≡ next_written a.card + 1 → is_in a.card.state Rcv ≡ true
         → IsPlaced job (Other (if last then End (Wait 0) else Pause (done + 1) 0)) b.card
     place_then true is rcv = tt
     place_then false is rcv =
         to_write job.way (Unit {0}) (GoesOnAt (job.start + (done + 1)) b.card) way
         (λ later.
         let place = next_place rcv in
-        let long = snoc_length a.card.values block in
-        ap next_written is ∙ omega (arith, place, long))
+        is ∙ omega (arith, place))
 
     -- It accepts it, so it is selected, and without an error it is where the blocks have come to.
     pub give_ends : (step : Step) → step ≡ after_written job (done + 1) → Offered block (Ok tt) a b
         → Turned job blocks faults a (Ok (Some (Other step))) b
     give_ends step to offer =
         let own = offer.own refl in
-        let rcv = accepts_in_rcv a.lines a.card own.0 in
-        let comes : Exact job blocks (Block done) a.card → Exact job blocks (Other step) b.card =
-        λ exact.
+        let rcv = accepts_in_rcv a.lines a.card own.could in
+        let none : Shown job.way (Other step) b.card → b.card.errors ≡ 0 =
+        λ shown. none_shown job.way ((done + 1 == job.count) && is_counted job) (done + 1) b.card way
+        (subst (λ s. Shown job.way (Other s) b.card) to shown) in
+        let comes : b.card ≡ accepted block a.card → Exact job blocks (Block done) a.card
+        → Exact job blocks (Other step) b.card =
+        λ taken exact.
         to_write job.way (ReadExact job blocks (Other step) b.card) (WriteExact job blocks (Other step) b.card)
         way
-        (subst (λ c. WriteExact job blocks (Other step) c) (sym own.1)
+        (subst (λ c. WriteExact job blocks (Other step) c) (sym taken)
         (subst (λ s. WriteExact job blocks (Other s) (accepted block a.card)) (sym to)
         (given_by ((done + 1 == job.count) && is_counted job) a.card refl (exactly exact).0))) in
         record {
@@ -216,12 +219,11 @@ module _ (job : Job) (blocks : List Sector) (done faults : ℕ) (block : Sector)
                 at.under_way offer (Shown job.way (Other step)) (Exact job blocks (Other step))
                 (λ shown. to_write job.way (is_selected a.card.state ≡ true) (IsSound a.card) way (
                   up_in a.card Rcv rcv refl,
-                  sym (ap (λ (c : Card). c.errors) own.1)
-                      ∙ none_shown job.way ((done + 1 == job.count) && is_counted job) (done + 1) b.card way
-                      (subst (λ s. Shown job.way (Other s) b.card) to shown),
+                  sym (ap (λ (c : Card). c.errors) (own.shown (none shown))) ∙ none shown,
                 ))
-                (λ exact shown. comes exact) (λ exact same. comes exact);
+                (λ exact shown. comes (own.shown (none shown)) exact)
+                (λ exact same. comes (offer.fine same own.could).1 exact);
             placed = subst (λ s. IsPlaced job (Other s) b.card) (sym to)
-                (place_then ((done + 1 == job.count) && is_counted job) own.1 rcv);
+                (place_then ((done + 1 == job.count) && is_counted job) own.goes_on rcv);
           };
         }
