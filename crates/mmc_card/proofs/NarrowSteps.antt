@@ -51,11 +51,11 @@ adds_behind block lands lines c t =
       adds = λ p s v h. elim (accepted_adds block (fallen_short lands c) rcv p s v h) [
         | inl old ↦ inl (before.narrows p s v old)
         | inr new ↦ inr (record {
-            receives = rcv;
-            here = new.here;
-            next = (let n = new.next in omega (arith, n));
-            offered = new.offered;
-          })
+          receives = rcv;
+          here = new.here;
+          next = (let n = new.next in omega (arith, n));
+          offered = new.offered;
+        })
       ];
     }
 

@@ -1,8 +1,7 @@
 -- The RCA by which a card goes, by its kind.
 use Rattle.std.proofs.Common.{◌≡◌, subst, sym, ℕ}
 use Rattle.std.specs.Prelude.{Err, IfOk, IsOkAnd, Ok, Result}
-use Rattle.mmc_frame.specs.declared.kind.Kind.{Kind}
-use Rattle.mmc_frame.specs.declared.kind.Kind.TheVariants.{Mmc, Sd}
+use Rattle.mmc_frame.specs.declared.kind.Kind.TheVariants.{Sd}
 use Rattle.mmc_card.specs.Card.{Card}
 use Rattle.mmc_card.specs.Made.{Made}
 use Rattle.mmc_identify.specs.declared.fault.IdentFault.{IdentFault}

@@ -20,7 +20,7 @@ use Rattle.mmc_bus.specs.Work.{Moved}
 use Rattle.mmc_bus.proofs.WorkLemmas.{both, fell, moved_as, refuted}
 use Rattle.mmc_identify.proofs.JoinLemmas.{Begins, IsRegistered, Takes}
 use Rattle.mmc_identify.specs.Judged as judged
-use Rattle.mmc_identify.specs.Stages.{HasTold, IsFound, IsLeft, IsNamed, IsRcaOf, ready_ocr}
+use Rattle.mmc_identify.specs.Stages.{HasTold, IsFound, IsLeft, IsRcaOf, ready_ocr}
 use Rattle.mmc_identify.specs.declared.fault.IdentFault.{IdentFault}
 use Rattle.mmc_identify.specs.declared.found.Found.{Found}
 use Rattle.mmc_identify.specs.declared.identification.Registers.{Registers}

@@ -8,7 +8,6 @@ use Rattle.mmc_frame.specs.Status.{IsClean, error_bits, state_number}
 use Rattle.mmc_frame.specs.declared.card_state.State.{State}
 use Rattle.mmc_frame.specs.declared.card_state.State.TheVariants.{Ident, Ready, Stby, Tran}
 use Rattle.mmc_frame.specs.declared.kind.Kind.{Kind}
-use Rattle.mmc_frame.specs.declared.kind.Kind.TheVariants.{Sd}
 use Rattle.mmc_card.specs.BusView.{BusView}
 use Rattle.mmc_card.specs.Card.{Card, IsCard, is_identified, is_selected}
 use Rattle.mmc_card.specs.CardAnswer.{bit, busied, done, r6_argument, reset, shown, status}

@@ -4,8 +4,8 @@ use Rattle.std.proofs.Common.{refl, subst, sym, true, ℕ}
 use Rattle.std.proofs.lemmas.Bool.{eqb-true, le-ltb, ne_eqb}
 use Rattle.std.proofs.lemmas.List.{get_or-set_other, get_or-set_same, length-set}
 use Rattle.std.proofs.lemmas.Result.{IfOk-at_ok, IfOk-from_err}
-use Rattle.std.specs.Prelude.{◌&&◌, ◌*◌, ◌==◌, Err, IfOk, IfSome, IsErr, IsOk, IsSome, IsTrue, MatchResult, Ok, Option}
-use Rattle.std.specs.Prelude.{Result, Some, is_ok, is_some, not, slice_set}
+use Rattle.std.specs.Prelude.{◌*◌, ◌==◌, Err, IfOk, IfSome, IsErr, IsOk, IsSome, IsTrue, MatchResult, Ok, Option}
+use Rattle.std.specs.Prelude.{Result, Some, is_ok, is_some, slice_set}
 use Rattle.mmc_frame.specs.Field.{field}
 use Rattle.mmc_frame.specs.declared.addressing.Addressing.TheVariants.{Bytes, Sectors}
 use Rattle.mmc_frame.specs.declared.kind.Kind.{Kind}
