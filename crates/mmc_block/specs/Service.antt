@@ -126,6 +126,14 @@ IfAt (phase.Serving (Running work)) Holds = ⊥
 IfAt (phase.Idle link) Holds = ⊥
 IfAt phase.Taken Holds = ⊥
 
+-- a card is ready for an attempt whose run is still to begin
+abbrev pub IfReady : Phase → (Session → Type 0) → Type 0
+IfReady (phase.Serving (At (Up session))) Holds = Holds session
+IfReady (phase.Serving (At (Down broken))) Holds = ⊥
+IfReady (phase.Serving (Running work)) Holds = ⊥
+IfReady (phase.Idle link) Holds = ⊥
+IfReady phase.Taken Holds = ⊥
+
 abbrev pub IfRunning : Phase → (Work → Type 0) → Type 0
 IfRunning (phase.Serving (Running work)) Holds = Holds work
 IfRunning (phase.Serving (At link)) Holds = ⊥
@@ -269,6 +277,15 @@ ServiceOk info (Serving stage attempt) waits next =
 ServiceOk info Taken waits next = ⊥
 
 -- What the device decides.
+
+-- what it decides about: an attempt at sound requests, of whose tries one is left, before there is an answer
+pub record IsTried (attempt : Attempt) (answers : List Completion) : Type 0 where
+  pub some : 0 < length attempt.group.members.items
+  pub sound : AreSound attempt.group.members.items
+  pub others : AreSound attempt.others.items
+  pub all : AreAll attempt.group.members.items attempt.others.items
+  pub fits : attempt.failed < tries attempt.group.members.items
+  pub no_answer : answers ≡ []
 
 -- an attempt at these alone, of which none has failed, before these others
 pub record IsFirstTry (attempt : Attempt) (members others : List Entry) : Type 0 where

@@ -8,9 +8,21 @@ use Rattle.mmc_switch.specs.declared.info.Info.{Info}
 use Rattle.mmc_switch.specs.declared.progress.Progress.{Progress}
 use Rattle.mmc_switch.specs.UnderWay.{faults_then}
 use Rattle.mmc_block.specs.Entries.{AreServable}
-use Rattle.mmc_block.specs.Service.{Did, IsAt, IsOutcomeOf, change_of_group, info_of_outcome, info_of_stage}
-use Rattle.mmc_block.specs.Work.{IsCausedBy, Lowers, is_down, most_at, stage_left}
+use Rattle.mmc_switch.specs.Place.{IsReady}
+use Rattle.mmc_switch.specs.declared.session.Session.{Session}
+use Rattle.mmc_block.specs.Service.{Did, IsAt, IsOutcomeOf, IsUnderWay, IsWorkOf, change_of_group, info_of_outcome}
+use Rattle.mmc_block.specs.Service.{info_of_stage, session_of}
+use Rattle.mmc_block.specs.Work.{IsCausedBy, Lowers, is_down, most_at, run_left, stage_left}
 use Rattle.mmc_block.specs.declared.service.Stage.{Stage}
+use Rattle.mmc_block.specs.declared.service.Work.{Work}
+use Rattle.mmc_block.specs.declared.work.TheConstants.{TURNS_OF_A_RUN}
+
+-- A run for the group has begun with this session.
+pub record HasBegun (session : Session) (group : Group) (work : Work) : Type 0 where
+  pub of : IsWorkOf group work
+  pub session_is : session_of work ≡ session
+  pub bounded : run_left work ≤ TURNS_OF_A_RUN
+  pub under_way : (view : BusView) → IsReady session view → IsUnderWay work group 0 view
 
 -- A settle, a select or an exchange, for a group of which so many turns were left, on a card of which this is known and
 -- that had to be settled or not.

@@ -15,6 +15,7 @@ use Rattle.mmc_recovery.specs.declared.settling.TheConstants.{EXCHANGES_OF_A_SET
 use Rattle.mmc_switch.specs.declared.mmc.TheConstants.{EXCHANGES_OF_A_SWITCH}
 use Rattle.mmc_block.specs.Service.{tries}
 use Rattle.mmc_block.specs.declared.service.Attempt.{Attempt}
+use Rattle.mmc_block.specs.declared.service.Link.{Link}
 use Rattle.mmc_block.specs.declared.service.Link.TheVariants.{Down, Up}
 use Rattle.mmc_switch.specs.declared.progress.Progress.{Progress}
 use Rattle.mmc_switch.specs.declared.progress.Progress.TheVariants.{Done, Failed, More}
@@ -42,6 +43,11 @@ abbrev pub stage_left : Stage → Part → ℕ
 stage_left (At (Down broken)) part = TURNS_OF_A_RUN + 2
 stage_left (At (Up session)) part = if is_on session.selected part then TURNS_OF_A_RUN else TURNS_OF_A_RUN + 1
 stage_left (Running work) part = run_left work
+
+-- the card isn't ready in this partition
+abbrev pub IsElsewhere : Part → Link → Type 0
+IsElsewhere part (Up session) = is_on session.selected part ≡ false
+IsElsewhere part (Down broken) = Unit {0}
 
 -- an attempt of which so much was left is nearer to its end
 abbrev pub Lowers : ℕ → Part → Progress Stage → Type 0

@@ -3,7 +3,7 @@
 ghost use Rattle.std.specs.Prelude.{◌≡◌, ◌+◌, ◌<◌, ◌∷◌, [], length, map, MatchOption};
 ghost use Rattle.mmc_queue.specs.Waiting.{AreSound};
 ghost use Rattle.mmc_block.specs.Entries.{completion_of, done_answer};
-ghost use Rattle.mmc_block.specs.Service.{AfterAttempt, AfterFailure, AreAll, Concludes, EmptyIfIdle, IsHere, IsNext, outcome_of, service_of, tries};
+ghost use Rattle.mmc_block.specs.Service.{AfterAttempt, AfterFailure, Concludes, EmptyIfIdle, IsHere, IsNext, IsTried, outcome_of, service_of, tries};
 ghost use Rattle.mmc_block.specs.declared.completion.Answer.TheVariants.{Failed};
 ghost use Rattle.mmc_block.specs.declared.service.Stage.{Stage};
 
@@ -90,11 +90,7 @@ fn next(link: Link, attempt: &mut Attempt) -> Phase
 // The last attempt at these has failed: one alone is answered, and several go on alone.
 #[inline(never)]
 fn give_up(broken: Broken, attempt: &mut Attempt, answers: &mut Completions) -> Phase
-    requires some { 0 < length attempt.old.group.members.items }
-    requires sound { AreSound attempt.old.group.members.items }
-    requires others { AreSound attempt.old.others.items }
-    requires all { AreAll attempt.old.group.members.items attempt.old.others.items }
-    requires no_answer { answers.old.items ≡ [] }
+    requires { IsTried attempt.old answers.old.items }
     ensures after { AfterFailure broken attempt.old.group.members.items attempt.old.others.items (service_of result attempt.new) answers.new.items }
     ensures empty { EmptyIfIdle result attempt.new }
 {
@@ -124,12 +120,7 @@ fn give_up(broken: Broken, attempt: &mut Attempt, answers: &mut Completions) -> 
 // After a failure.
 #[inline(never)]
 fn retry(broken: Broken, attempt: &mut Attempt, answers: &mut Completions) -> Phase
-    requires some { 0 < length attempt.old.group.members.items }
-    requires sound { AreSound attempt.old.group.members.items }
-    requires others { AreSound attempt.old.others.items }
-    requires all { AreAll attempt.old.group.members.items attempt.old.others.items }
-    requires fits { attempt.old.failed < tries attempt.old.group.members.items }
-    requires no_answer { answers.old.items ≡ [] }
+    requires { IsTried attempt.old answers.old.items }
     ensures after { AfterAttempt broken attempt.old (service_of result attempt.new) answers.new.items }
     ensures empty { EmptyIfIdle result attempt.new }
 {
@@ -144,12 +135,7 @@ fn retry(broken: Broken, attempt: &mut Attempt, answers: &mut Completions) -> Ph
 #[inline(never)]
 fn over(phase: &mut Phase, attempt: &mut Attempt, answers: &mut Completions)
     requires here { IsHere phase.old }
-    requires some { 0 < length attempt.old.group.members.items }
-    requires sound { AreSound attempt.old.group.members.items }
-    requires others { AreSound attempt.old.others.items }
-    requires all { AreAll attempt.old.group.members.items attempt.old.others.items }
-    requires fits { attempt.old.failed < tries attempt.old.group.members.items }
-    requires no_answer { answers.old.items ≡ [] }
+    requires tried { IsTried attempt.old answers.old.items }
     ensures concludes { (was : Stage) → Concludes (outcome_of was phase.old) attempt.old (service_of phase.new attempt.new) answers.new.items }
     ensures empty { EmptyIfIdle phase.new attempt.new }
 {
@@ -164,21 +150,19 @@ fn over(phase: &mut Phase, attempt: &mut Attempt, answers: &mut Completions)
     };
 }
 
-/// What follows a step, which is the phase then, and the answers. Where the attempt goes on the phase isn't moved. It takes no
-/// memory.
+/// What follows a step, which is the phase then, and the answers. Where the attempt goes on, or is done and nobody is to be served
+/// alone behind it, the phase isn't moved. It takes no memory.
 pub fn conclude(phase: &mut Phase, attempt: &mut Attempt, answers: &mut Completions)
     requires here { IsHere phase.old }
-    requires some { 0 < length attempt.old.group.members.items }
-    requires sound { AreSound attempt.old.group.members.items }
-    requires others { AreSound attempt.old.others.items }
-    requires all { AreAll attempt.old.group.members.items attempt.old.others.items }
-    requires fits { attempt.old.failed < tries attempt.old.group.members.items }
-    requires no_answer { answers.old.items ≡ [] }
+    requires tried { IsTried attempt.old answers.old.items }
     ensures concludes { (was : Stage) → Concludes (outcome_of was phase.old) attempt.old (service_of phase.new attempt.new) answers.new.items }
     ensures empty { EmptyIfIdle phase.new attempt.new }
 {
     match phase {
         Phase::Serving(_) => {}
+        Phase::Idle(Link::Up(_)) if attempt.others.is_empty() => {
+            answer_all(&mut attempt.group.members, answers)
+        }
         Phase::Idle(_) | Phase::Taken => over(phase, attempt, answers),
     }
 }

@@ -1,6 +1,5 @@
 // What the device does in a turn: one settle, one select, or one exchange of a run.
 ghost use Rattle.std.specs.Prelude.{◌≡◌, ◌+◌, ◌≤◌, Some, false, true, ℕ};
-ghost use Rattle.mmc_card.specs.BusView.{BusView};
 ghost use Rattle.mmc_queue.specs.Group.{IsJoined};
 ghost use Rattle.mmc_queue.specs.Lent.{AreLent};
 ghost use Rattle.mmc_queue.specs.declared.group.Group.{Group};
@@ -11,18 +10,20 @@ ghost use Rattle.mmc_switch.specs.UnderWay.{FailsBy, faults_then};
 ghost use Rattle.mmc_switch.specs.declared.mmc.TheConstants.{EXCHANGES_OF_A_SWITCH};
 ghost use Rattle.mmc_transfer.specs.Run.{HasTurned, IsRunning, IsSameRun, Lowers as LowersBlocks, run_then};
 ghost use Rattle.mmc_block.specs.Entries.{AreServable};
-ghost use Rattle.mmc_block.specs.Service.{Did, IfAt, IfRunning, IfServing, IsHere, IsStageOf, IsUnderWay, IsWorkOf, change_of_group, info_of, info_of_link, info_of_stage, lent_for, outcome_of, session_of, work_then};
-ghost use Rattle.mmc_block.specs.Step.{Advances, Stepped};
-ghost use Rattle.mmc_block.specs.Work.{run_left, stage_left};
+ghost use Rattle.mmc_block.specs.Service.{Did, IfAt, IfReady, IfRunning, IfServing, IsHere, IsStageOf, IsUnderWay, IsWorkOf};
+ghost use Rattle.mmc_block.specs.Service.{change_of_group, info_of, info_of_link, info_of_stage, lent_for, outcome_of, session_of};
+ghost use Rattle.mmc_block.specs.Service.{work_then};
+ghost use Rattle.mmc_block.specs.Step.{Advances, HasBegun, Stepped};
+ghost use Rattle.mmc_block.specs.Work.{IsElsewhere, is_on, run_left, stage_left};
+ghost use Rattle.mmc_block.specs.declared.service.Link.{Link};
 ghost use Rattle.mmc_block.specs.declared.service.Link.TheVariants.{Down, Up};
+ghost use Rattle.mmc_block.specs.declared.service.Phase.TheVariants.{Serving};
 ghost use Rattle.mmc_block.specs.declared.service.Work.TheVariants.{Blocks};
 ghost use Rattle.mmc_block.specs.declared.service.Stage.{Stage};
-ghost use Rattle.mmc_block.specs.declared.service.Stage.TheVariants.{At};
-ghost use Rattle.mmc_block.specs.declared.work.TheConstants.{TURNS_OF_A_RUN};
+ghost use Rattle.mmc_block.specs.declared.service.Stage.TheVariants.{At, Running};
 
 use crate::service::{Link, Phase, Stage, Work};
-use crate::work::TURNS_OF_A_RUN;
-use mmc_bus::Bus;
+use mmc_bus::{Bus, Part};
 use mmc_erase::{EraseRun, How};
 use mmc_queue::laws::{
     a_group_is_one_extent, a_group_lends_each_sector_of_its_extent,
@@ -39,10 +40,7 @@ fn begin(session: Session, group: &Group) -> Work
     requires joined { IsJoined group.now.members.items group.now.extent }
     requires servable { AreServable (info_of session) group.now.members.items }
     requires selected { session.selected ≡ Some group.now.extent.part }
-    ensures of { IsWorkOf group.now result }
-    ensures session { session_of result ≡ session }
-    ensures bounded { run_left result ≤ TURNS_OF_A_RUN }
-    ensures under_way { (view : BusView) → IsReady session view → IsUnderWay result group.now 0 view }
+    ensures { HasBegun session group.now result }
 {
     a_group_is_one_extent();
     let start = group.extent.start;
@@ -98,35 +96,20 @@ fn exchange<B: Bus>(bus: &mut B, work: &mut Work, group: &mut Group) -> Standing
     }
 }
 
-// What is left of a run.
-fn outcome(work: Work, standing: Standing) -> Progress<Stage>
-    ensures { result ≡ work_then work standing }
-{
-    match standing {
-        Standing::GoesOn => Progress::More(Stage::Running(work)),
-        Standing::Done => Progress::Done(work.into_session()),
-        Standing::Failed(cause) => Progress::Failed(work.into_session().break_off(cause)),
-    }
-}
-
-// From a card that is ready: the select, where another partition is selected, or the first exchange of the run. It stands alone, as
-// the settle does, so that a turn in the middle of a run doesn't pay for its locals.
+// From a card that is ready in another partition: the select. It stands alone, as the settle does, so that a turn in the middle of a
+// run doesn't pay for their locals.
 #[inline(never)]
 #[tactic(auto, using(crate::proofs::StepLemmas::same_lent))]
-fn set_out<B: Bus>(bus: &mut B, session: Session, group: &mut Group) -> Progress<Stage>
-    requires joined { IsJoined group.old.members.items group.old.extent }
-    requires servable { AreServable (info_of session) group.old.members.items }
-    ensures advances { Advances (info_of session) false EXCHANGES_OF_A_SWITCH (stage_left (At (Up session)) group.old.extent.part) group.old (B.view bus.old) result group.new (B.view bus.new) }
+fn change_over<B: Bus>(bus: &mut B, session: Session, group: &Group) -> Progress<Stage>
+    requires joined { IsJoined group.now.members.items group.now.extent }
+    requires servable { AreServable (info_of session) group.now.members.items }
+    requires other { is_on session.selected group.now.extent.part ≡ false }
+    ensures advances { Advances (info_of session) false EXCHANGES_OF_A_SWITCH (stage_left (At (Up session)) group.now.extent.part) group.now (B.view bus.old) result group.now (B.view bus.new) }
     ensures did { (B.view bus.new).is_kept ≡ true → IsReady session (B.view bus.old)
-        → Did (change_of_group (info_of session) group.old) group.new (faults_then 0 (B.view bus.old) (B.view bus.new))
+        → Did (change_of_group (info_of session) group.now) group.now (faults_then 0 (B.view bus.old) (B.view bus.new))
         (B.view bus.old) result (B.view bus.new) }
 {
     a_group_is_one_extent();
-    if session.selected() == Some(group.extent.part) {
-        let mut work = begin(session, group);
-        let standing = exchange(bus, &mut work, group);
-        return outcome(work, standing);
-    }
     match select(bus, session, group.extent.part) {
         Ok(session) => Progress::More(Stage::At(Link::Up(session))),
         Err(broken) => Progress::Failed(broken),
@@ -160,6 +143,18 @@ fn left(outcome: Progress<Stage>) -> Phase
     }
 }
 
+// What a run leaves in the phase.
+fn left_by(work: Work, standing: Standing) -> Phase
+    ensures held { IsHere result }
+    ensures left { (was : Stage) → outcome_of was result ≡ work_then work standing }
+{
+    match standing {
+        Standing::GoesOn => Phase::Serving(Stage::Running(work)),
+        Standing::Done => Phase::Idle(Link::Up(work.into_session())),
+        Standing::Failed(cause) => Phase::Idle(Link::Down(work.into_session().break_off(cause))),
+    }
+}
+
 // A run that is over leaves its card.
 #[inline(never)]
 fn end(phase: &mut Phase, standing: Standing)
@@ -168,30 +163,86 @@ fn end(phase: &mut Phase, standing: Standing)
     ensures left { IfRunning phase.old (λ work. (was : Stage) → outcome_of was phase.new ≡ work_then work standing) }
 {
     *phase = match mem::replace(phase, Phase::Taken) {
-        Phase::Serving(Stage::Running(work)) => left(outcome(work, standing)),
+        Phase::Serving(Stage::Running(work)) => left_by(work, standing),
         Phase::Idle(_) | Phase::Serving(Stage::At(_)) | Phase::Taken => unreachable!(),
     };
 }
 
-// From a card between runs.
-fn depart<B: Bus>(bus: &mut B, link: Link, group: &mut Group) -> Progress<Stage>
+// One exchange of a run that is under way. In the middle of the run the phase isn't moved.
+fn go_on<B: Bus>(bus: &mut B, phase: &mut Phase, group: &mut Group)
     requires joined { IsJoined group.old.members.items group.old.extent }
-    requires servable { AreServable (info_of_link link) group.old.members.items }
-    ensures stepped { Stepped (At link) group.old (B.view bus.old) result group.new (B.view bus.new) }
+    requires running { IfRunning phase.old (λ work. AreServable (info_of (session_of work)) group.old.members.items × IsWorkOf group.old work) }
+    ensures held { IsHere phase.new }
+    ensures stepped { IfRunning phase.old (λ work. (was : Stage) → Stepped (Running work) group.old (B.view bus.old) (outcome_of was phase.new) group.new (B.view bus.new)) }
+{
+    match phase {
+        Phase::Serving(Stage::Running(work)) => match exchange(bus, work, group) {
+            Standing::GoesOn => {}
+            standing => end(phase, standing),
+        },
+        Phase::Idle(_) | Phase::Serving(Stage::At(_)) | Phase::Taken => unreachable!(),
+    }
+}
+
+// Whether the card is ready in this partition, so that a run can begin.
+fn can_begin(phase: &Phase, part: Part) -> bool
+    ensures yes { result ≡ true → IfReady phase.now (λ session. session.selected ≡ Some part) }
+    ensures no { result ≡ false → (link : Link) → phase.now ≡ Serving (At link) → IsElsewhere part link }
+{
+    match phase {
+        Phase::Serving(Stage::At(Link::Up(session))) => session.selected() == Some(part),
+        Phase::Serving(_) | Phase::Idle(_) | Phase::Taken => false,
+    }
+}
+
+// The run begins, and the phase has it.
+fn begin_here(phase: &mut Phase, group: &Group)
+    requires joined { IsJoined group.now.members.items group.now.extent }
+    requires ready { IfReady phase.old (λ session. AreServable (info_of session) group.now.members.items
+        × (session.selected ≡ Some group.now.extent.part)) }
+    ensures { IfReady phase.old (λ session. IfRunning phase.new (HasBegun session group.now)) }
+{
+    *phase = match mem::replace(phase, Phase::Taken) {
+        Phase::Serving(Stage::At(Link::Up(session))) => {
+            Phase::Serving(Stage::Running(begin(session, group)))
+        }
+        Phase::Serving(_) | Phase::Idle(_) | Phase::Taken => unreachable!(),
+    };
+}
+
+// The run begins, with its first exchange.
+#[inline(never)]
+fn set_out<B: Bus>(bus: &mut B, phase: &mut Phase, group: &mut Group)
+    requires joined { IsJoined group.old.members.items group.old.extent }
+    requires ready { IfReady phase.old (λ session. AreServable (info_of session) group.old.members.items
+        × (session.selected ≡ Some group.old.extent.part)) }
+    ensures held { IsHere phase.new }
+    ensures stepped { IfReady phase.old (λ session. (was : Stage) → Stepped (At (Up session)) group.old (B.view bus.old) (outcome_of was phase.new) group.new (B.view bus.new)) }
+{
+    begin_here(phase, group);
+    go_on(bus, phase, group);
+}
+
+// From a card that no run can begin with yet.
+fn depart<B: Bus>(bus: &mut B, link: Link, group: &Group) -> Progress<Stage>
+    requires joined { IsJoined group.now.members.items group.now.extent }
+    requires servable { AreServable (info_of_link link) group.now.members.items }
+    requires elsewhere { IsElsewhere group.now.extent.part link }
+    ensures stepped { Stepped (At link) group.now (B.view bus.old) result group.now (B.view bus.new) }
 {
     match link {
-        Link::Up(session) => set_out(bus, session, group),
+        Link::Up(session) => change_over(bus, session, group),
         Link::Down(broken) => restore(bus, broken),
     }
 }
 
-// A step where no run is under way.
+// A settle or a select.
 #[inline(never)]
-fn step_between<B: Bus>(bus: &mut B, phase: &mut Phase, group: &mut Group)
-    requires joined { IsJoined group.old.members.items group.old.extent }
-    requires at { IfAt phase.old (λ link. AreServable (info_of_link link) group.old.members.items) }
+fn prepare<B: Bus>(bus: &mut B, phase: &mut Phase, group: &Group)
+    requires joined { IsJoined group.now.members.items group.now.extent }
+    requires at { IfAt phase.old (λ link. AreServable (info_of_link link) group.now.members.items × IsElsewhere group.now.extent.part link) }
     ensures held { IsHere phase.new }
-    ensures stepped { IfServing phase.old (λ stage. Stepped stage group.old (B.view bus.old) (outcome_of stage phase.new) group.new (B.view bus.new)) }
+    ensures stepped { IfServing phase.old (λ stage. Stepped stage group.now (B.view bus.old) (outcome_of stage phase.new) group.now (B.view bus.new)) }
 {
     *phase = match mem::replace(phase, Phase::Taken) {
         Phase::Serving(Stage::At(link)) => left(depart(bus, link, group)),
@@ -207,12 +258,13 @@ pub fn step<B: Bus>(bus: &mut B, phase: &mut Phase, group: &mut Group)
     ensures stepped { IfServing phase.old (λ stage. Stepped stage group.old (B.view bus.old) (outcome_of stage phase.new) group.new (B.view bus.new)) }
 {
     match phase {
-        Phase::Serving(Stage::Running(work)) => match exchange(bus, work, group) {
-            Standing::GoesOn => {}
-            standing => end(phase, standing),
-        },
-        Phase::Idle(_) | Phase::Serving(Stage::At(_)) | Phase::Taken => {
-            step_between(bus, phase, group)
+        Phase::Serving(Stage::Running(_)) => go_on(bus, phase, group),
+        Phase::Serving(Stage::At(_)) | Phase::Idle(_) | Phase::Taken => {
+            if can_begin(phase, group.extent.part) {
+                set_out(bus, phase, group);
+            } else {
+                prepare(bus, phase, group);
+            }
         }
     }
 }

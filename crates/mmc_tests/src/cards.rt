@@ -5,7 +5,7 @@ use mmc_bus::{Bus, BusAnswer, Bytes, DataIn, Reply, ScriptedBus};
 pub use mmc_card_sim::example_cards::{
     emmc, emmc_with, ext_csd_of_emmc, sdhc, sdsc, sdsc_cmd23, sdsc_with_scr,
 };
-use mmc_card_sim::{CardSpec, Fault, Flips, Outcome, SimCard};
+use mmc_card_sim::{CardSpec, SimCard};
 use mmc_frame::{encode_r2, encode_r3, encode_response};
 use mmc_switch::{Session, initialize};
 use std::alloc::Global;
@@ -39,34 +39,6 @@ pub fn built(alloc: Global, spec: CardSpec) -> Result<SimCard, Fail> {
 /// Initializes a card, if that succeeds.
 pub fn opened<B: Bus>(bus: &mut B) -> Option<Session> {
     initialize(bus).ok()
-}
-
-/// Each fault that can be planned, with two flipped bits where bits are flipped.
-pub fn every_fault() -> [Fault; 18] {
-    let flips = Flips {
-        first: 7,
-        second: Some(40),
-    };
-    [
-        Fault::LoseCommand,
-        Fault::FlipCommand(flips),
-        Fault::LoseReply,
-        Fault::FlipReply(flips),
-        Fault::BadBlock,
-        Fault::NoBlock,
-        Fault::ReadError,
-        Fault::Reject,
-        Fault::RejectAll,
-        Fault::LoseStatus(Outcome::Old),
-        Fault::LoseStatus(Outcome::New),
-        Fault::Fail(Outcome::Old),
-        Fault::Fail(Outcome::New),
-        Fault::FailWith(Outcome::Old, 0x8000_0000),
-        Fault::FailWith(Outcome::New, 0x0020_0000),
-        Fault::Busy,
-        Fault::Brownout(Outcome::Old),
-        Fault::Brownout(Outcome::New),
-    ]
 }
 
 /// An R1 with this status.

@@ -10,7 +10,6 @@ use mmc_card_sim::{CardSpec, SimCard};
 use mmc_erase::{How, erase_run};
 use mmc_switch::{Broken, Cause, Session};
 use std::alloc::Global;
-use std::process::Abort;
 use std::test::Fail;
 
 // Whether an erase of these sectors is of whole units.
@@ -121,66 +120,6 @@ fn erases_and_trims_an_emmc_device(rt: HostRuntime) -> Result<(), Fail> {
         assert_eq!(rt; card.exchanges(), 22 + 5);
     }
     Ok(())
-}
-
-// Each named sector is as before or erased, erased after success, and no other one has changed.
-fn is_as_before_or_erased(card: &SimCard, start: usize, end: usize, is_done: bool) -> bool {
-    card.contents(Part::User)
-        .chunks_exact(512)
-        .enumerate()
-        .all(|(sector, bytes)| {
-            let is_named = start <= sector && sector < end;
-            let is_old = bytes.iter().all(|each| *each == 0x5a);
-            let is_new = bytes.iter().all(|each| *each == 0xff);
-            if is_named {
-                is_new || is_old && !is_done
-            } else {
-                is_old
-            }
-        })
-}
-
-// Each fault at each exchange of a run on the card with units, or on the eMMC device.
-fn sweep(
-    rt: &impl Abort,
-    alloc: Global,
-    is_emmc: bool,
-    start: u64,
-    end: u64,
-    how: How,
-) -> Result<(), Fail> {
-    let first = if is_emmc { 22 } else { 17 };
-    for exchange in first..first + 5 {
-        for fault in every_fault() {
-            let spec = if is_emmc {
-                emmc_written(alloc)?
-            } else {
-                card_of_units(alloc)?
-            };
-            let mut card = built(alloc, spec)?;
-            assert!(rt; card.plan(exchange, fault).is_ok());
-            let session = opened(&mut card).ok_or("not opened")?;
-            let count = end.saturating_sub(start);
-            let is_done = given_up(&mut card, session, start, count, how)?.is_ok();
-            assert!(rt;
-                is_as_before_or_erased(&card, start as usize, end as usize, is_done),
-                "{fault:?} at {exchange}"
-            );
-            assert!(rt; is_done || card.faults() == 1, "{fault:?} at {exchange}");
-        }
-    }
-    Ok(())
-}
-
-#[test]
-fn erases_or_counts_a_fault(rt: HostRuntime) -> Result<(), Fail> {
-    sweep(&rt, rt.alloc(), false, 32, 64, How::Erase)?;
-    sweep(&rt, rt.alloc(), true, 0, 1024, How::Erase)
-}
-
-#[test]
-fn trims_or_counts_a_fault(rt: HostRuntime) -> Result<(), Fail> {
-    sweep(&rt, rt.alloc(), true, 1000, 1030, How::Trim)
 }
 
 // The cause by which an erase fails with this bus.

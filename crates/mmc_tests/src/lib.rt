@@ -16,15 +16,11 @@ mod identify;
 #[cfg(test)]
 mod queue;
 #[cfg(test)]
-mod queue_rule;
-#[cfg(test)]
 mod select;
 #[cfg(test)]
 mod service;
 #[cfg(test)]
 mod settle;
-#[cfg(test)]
-mod sweep;
 #[cfg(test)]
 mod trace;
 #[cfg(test)]

@@ -3,10 +3,9 @@ use crate::cards::*;
 use crate::device::answered;
 use crate::transfer::filled;
 use mmc_block::*;
-use mmc_bus::{BusAnswer, Bytes, DataIn, DataOut, Part, Reply, ScriptedBus};
+use mmc_bus::Part;
 use mmc_card_sim::{Fault, SimCard};
 use std::alloc::Global;
-use std::collections::VecDeque;
 use std::process::Abort;
 use std::test::Fail;
 
@@ -223,111 +222,5 @@ fn is_full_with_256_requests(rt: HostRuntime) -> Result<(), Fail> {
     assert_eq!(rt; device.waiting(), 256);
     assert!(rt; device.cancel(9).is_ok());
     assert_eq!(rt; device.submit(rt.alloc(), 1, read_of(3)).ok(), Some(256));
-    Ok(())
-}
-
-// What card `emmc` answers to a write, to two reads that are served together, and to an erase.
-fn pushed_truths(alloc: Global, answers: &mut VecDeque<BusAnswer>) -> Result<(), Fail> {
-    for answer in [
-        r1(24, 0x900),
-        BusAnswer::Out(DataOut::Accepted),
-        BusAnswer::Busy(false),
-        r1(13, 0x900),
-        r1(23, 0x900),
-        r1(18, 0x900),
-        BusAnswer::In(DataIn::Good, Bytes::new(Vec::new(alloc))),
-        BusAnswer::In(DataIn::Good, Bytes::new(Vec::new(alloc))),
-        r1(35, 0x900),
-        r1(36, 0x900),
-        r1(38, 0x900),
-        BusAnswer::Busy(false),
-        r1(13, 0x900),
-    ] {
-        answers.push_back(answer).ok().ok_or("no room")?;
-    }
-    Ok(())
-}
-
-// One of many answers. Those to CMD13 and CMD16 lead far into a settle.
-fn lie(alloc: Global, number: u32) -> BusAnswer {
-    match number % 12 {
-        0..=3 => r1(13, 0x900),
-        4 => r1(13, 0xb00),
-        5 => r1(16, 0xffff_ffff),
-        6 => r1((number / 16 % 64) as u8, 0xe00),
-        7 => BusAnswer::Command(Reply::Silent),
-        8 => BusAnswer::Command(Reply::Long([0x3f; 17])),
-        9 => BusAnswer::In(DataIn::Bad, Bytes::new(Vec::new(alloc))),
-        10 => BusAnswer::Out(DataOut::Rejected),
-        _ => BusAnswer::Busy(number / 16 % 4 > 0),
-    }
-}
-
-// How many answers open card `emmc`, and how many all requests have besides.
-const OPENING: usize = 22;
-
-const ALL: usize = OPENING + 13;
-
-// A bus that gives so many answers of card `emmc`, and then lies.
-fn lying(alloc: Global, truths: usize, seed: u32) -> Result<ScriptedBus, Fail> {
-    let mut answers = answers_of_emmc(alloc, ext_csd_of_emmc())?;
-    pushed_truths(alloc, &mut answers)?;
-    for _more in truths..answers.len() {
-        let _ = answers.pop_back();
-    }
-    let mut number = seed;
-    for _lie in 0..200 {
-        number = number.wrapping_mul(1_664_525).wrapping_add(1_013_904_223);
-        answers
-            .push_back(lie(alloc, number >> 8))
-            .ok()
-            .ok_or("no room")?;
-    }
-    Ok(ScriptedBus::new(answers))
-}
-
-// How many of four requests fail. All are answered by as many turns as are left.
-fn failures(
-    rt: &impl Abort,
-    alloc: Global,
-    device: &mut BlockDev<ScriptedBus>,
-) -> Result<usize, Fail> {
-    let erase = Request::Erase {
-        part: Part::User,
-        start: 0,
-        count: 1024,
-    };
-    for request in [write_of(alloc, 1, 0x5a)?, read_of(4), read_of(5), erase] {
-        assert!(rt; device.submit(alloc, 1, request).is_ok());
-    }
-    let mut failed = 0;
-    let mut answers = 0;
-    for _turn in 0..device.work_left() {
-        if device.waiting() == 0 {
-            break;
-        }
-        for each in device.turn().as_slice() {
-            answers = u32::saturating_add(answers, 1);
-            failed = usize::saturating_add(failed, usize::from(each.answer.is_failed()));
-        }
-    }
-    assert_eq!(rt; device.waiting(), 0);
-    assert_eq!(rt; answers, 4);
-    Ok(failed)
-}
-
-#[test]
-fn ends_over_a_bus_that_lies(rt: HostRuntime) -> Result<(), Fail> {
-    for seed in 0..4 {
-        for truths in 0..=ALL {
-            let bus = lying(rt.alloc(), truths, seed)?;
-            let Ok(mut device) = BlockDev::open(rt.alloc(), bus) else {
-                assert!(rt; truths < OPENING);
-                continue;
-            };
-            let failed = failures(&rt, rt.alloc(), &mut device)?;
-            assert!(rt; truths < ALL || failed == 0);
-        }
-    }
     Ok(())
 }

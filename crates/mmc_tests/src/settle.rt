@@ -4,7 +4,7 @@ use crate::erase::given_up;
 use crate::select::selected;
 use crate::transfer::{filled, read, written};
 use mmc_bus::{Part, TraceBus};
-use mmc_card_sim::{CardSpec, Fault, Outcome, SimCard};
+use mmc_card_sim::{CardSpec, Fault, SimCard};
 use mmc_erase::How;
 use mmc_recovery::settle;
 use mmc_switch::{Broken, Cause};
@@ -76,69 +76,6 @@ fn settles(rt: &impl Abort, card: &mut SimCard, broken: Broken) {
         assert!(rt; left.cause() == Cause::Recovery);
         assert!(rt; settle(card, left).is_ok());
     }
-}
-
-// A fault, and then another one at each exchange of settling.
-fn settles_with_another(
-    rt: &impl Abort,
-    alloc: Global,
-    which: Which,
-    work: Work,
-    exchange: u64,
-    fault: Fault,
-) -> Result<(), Fail> {
-    let (mut card, left) = failed(alloc, which, work, exchange, fault)?;
-    let Some(broken) = left else {
-        return Ok(());
-    };
-    let first = card.exchanges();
-    settles(rt, &mut card, broken);
-    for again in first..card.exchanges() {
-        for second in [
-            Fault::LoseCommand,
-            Fault::LoseReply,
-            Fault::Brownout(Outcome::Old),
-        ] {
-            let (mut card, left) = failed(alloc, which, work, exchange, fault)?;
-            planned(&mut card, again, second)?;
-            settles(rt, &mut card, left.ok_or("not failed")?);
-        }
-    }
-    Ok(())
-}
-
-// Each fault at each exchange of the work, and a second one.
-fn sweep(
-    rt: &impl Abort,
-    alloc: Global,
-    which: Which,
-    work: Work,
-    first: u64,
-    end: u64,
-) -> Result<(), Fail> {
-    for exchange in first..end {
-        for fault in every_fault() {
-            settles_with_another(rt, alloc, which, work, exchange, fault)?;
-        }
-    }
-    Ok(())
-}
-
-// Card `sdsc` sends and takes two blocks with CMD12, a poll and a CMD13 behind them.
-#[test]
-fn settles_sdsc(rt: HostRuntime) -> Result<(), Fail> {
-    sweep(&rt, rt.alloc(), Which::Sdsc, Work::Write, 17, 17 + 8)?;
-    sweep(&rt, rt.alloc(), Which::Sdsc, Work::Read, 17, 17 + 6)?;
-    sweep(&rt, rt.alloc(), Which::Sdsc, Work::Erase, 17, 17 + 5)
-}
-
-// Card `emmc`, which takes CMD23.
-#[test]
-fn settles_emmc(rt: HostRuntime) -> Result<(), Fail> {
-    sweep(&rt, rt.alloc(), Which::Emmc, Work::Write, 22, 22 + 7)?;
-    sweep(&rt, rt.alloc(), Which::Emmc, Work::Read, 22, 22 + 4)?;
-    sweep(&rt, rt.alloc(), Which::Emmc, Work::Erase, 22, 22 + 5)?;
-    sweep(&rt, rt.alloc(), Which::Emmc, Work::Switch, 22, 22 + 3)
 }
 
 // The reply to the switch of the partition is lost: the device is still programming it.

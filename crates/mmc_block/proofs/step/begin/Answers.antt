@@ -1,6 +1,6 @@
 use Rattle.mmc_erase.specs.declared.how.How.TheVariants as how
 use Rattle.mmc_queue.specs.Requests.{can_merge}
-use Rattle.std.proofs.Common.{◌∙◌, ap, sym}
+use Rattle.std.proofs.Common.{◌∙◌, ap, rules, sym}
 use Rattle.mmc_block.proofs.BeginLemmas.{run_erasable, run_inside, run_suits, run_writable}
 use Rattle.mmc_block.proofs.step.begin.Goals as goal
 
@@ -63,8 +63,18 @@ begin-requires-in-Trim-clause-suits c =
     (c.a_group_is_one_extent.ensures _ _ c.requires.joined) how.Trim c.in-Trim.is
     (c.requires.joined.alone (ap can_merge c.in-Trim.is))
 
-pub returns-in-Read-clause-under_way : goal.returns-in-Read-clause-under_way
-returns-in-Read-clause-under_way c view ready = c.begin.ensures.running view _ ready
+pub returns-in-Read : goal.returns-in-Read
+returns-in-Read c = record {
+  of = search rules;
+  session_is = search rules;
+  bounded = search rules;
+  under_way = λ view ready. c.begin.ensures.running view _ ready;
+}
 
-pub returns-in-Write-clause-under_way : goal.returns-in-Write-clause-under_way
-returns-in-Write-clause-under_way c view ready = c.begin-in-Write.ensures.running view _ ready
+pub returns-in-Write : goal.returns-in-Write
+returns-in-Write c = record {
+  of = search rules;
+  session_is = search rules;
+  bounded = search rules;
+  under_way = λ view ready. c.begin-in-Write.ensures.running view _ ready;
+}

@@ -1,19 +1,16 @@
 use Rattle.std.proofs.Common.{ap}
-use Rattle.mmc_block.specs.Service.{info_of_link}
 use Rattle.mmc_block.specs.declared.service.Stage.TheVariants.{At}
-use Rattle.mmc_block.proofs.EntryLemmas.{lent_servable}
 use Rattle.mmc_block.proofs.StepLemmas.{down_turned, up_turned}
 use Rattle.mmc_block.proofs.step.depart.Goals as goal
 
 pub returns-in-Up : goal.returns-in-Up
 returns-in-Up g c = record {
   stepped = record {
-    advances = rw c.in-Up.is c.set_out.ensures.advances;
-    servable = lent_servable (info_of_link c.args.link) c.args.group.now.members.items c.set_out.new.group.members.items
-        c.set_out.ensures.advances.lent c.requires.servable;
+    advances = rw c.in-Up.is c.change_over.ensures.advances;
+    servable = c.requires.servable;
     did = λ kept faults at.
-        up_turned (At c.args.link) c.in-Up.session c.args.group.now c.set_out.new.group faults (g.B.Bus.view c.args.bus.now)
-        (g.B.Bus.view c.set_out.new.bus) c.set_out.result (ap At c.in-Up.is) (λ ready. c.set_out.ensures.did kept ready) at;
+        up_turned (At c.args.link) c.in-Up.session c.args.group.now c.args.group.now faults (g.B.Bus.view c.args.bus.now)
+        (g.B.Bus.view c.change_over.new.bus) c.change_over.result (ap At c.in-Up.is) (λ ready. c.change_over.ensures.did kept ready) at;
   };
 }
 

@@ -1,7 +1,5 @@
-use Rattle.std.proofs.Common.{◌∙◌}
 use Rattle.mmc_block.proofs.step.end.Goals as goal
 
 pub returns-clause-left : goal.returns-clause-left
 returns-clause-left c =
-    rw (← c.replace.ensures.value, c.in-Serving-Running.is, c.in-Serving-Running.field-0-is)
-    (λ was. c.left.ensures.left was ∙ c.outcome.ensures)
+    rw (← c.replace.ensures.value, c.in-Serving-Running.is, c.in-Serving-Running.field-0-is) c.left_by.ensures.left
