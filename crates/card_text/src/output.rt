@@ -51,8 +51,7 @@ pub fn put_queued<W: Write>(out: &mut W, ticket: Ticket, client: u32) -> io::Res
             Piece::Number(ticket),
             Piece::Text(b" client "),
             Piece::Number(client as u64),
-            Piece::Text(b" queued"),
-            Piece::Text(b"\n"),
+            Piece::Text(b" queued\n"),
         ],
     )
 }
@@ -89,9 +88,7 @@ fn put_completion<W: Write>(out: &mut W, completion: &Completion) -> io::Result<
                 Piece::Number(ticket),
                 Piece::Text(b" client "),
                 Piece::Number(client),
-                Piece::Text(b" "),
-                Piece::Text(b"done"),
-                Piece::Text(b"\n"),
+                Piece::Text(b" done\n"),
             ],
         ),
         Answer::Data(bytes) => put_pieces(
@@ -100,8 +97,7 @@ fn put_completion<W: Write>(out: &mut W, completion: &Completion) -> io::Result<
                 Piece::Number(ticket),
                 Piece::Text(b" client "),
                 Piece::Number(client),
-                Piece::Text(b" "),
-                Piece::Text(b"data "),
+                Piece::Text(b" data "),
                 Piece::Repeats(bytes.as_slice()),
                 Piece::Text(b"\n"),
             ],
@@ -114,8 +110,7 @@ fn put_completion<W: Write>(out: &mut W, completion: &Completion) -> io::Result<
                     Piece::Number(ticket),
                     Piece::Text(b" client "),
                     Piece::Number(client),
-                    Piece::Text(b" "),
-                    Piece::Text(b"failed "),
+                    Piece::Text(b" failed "),
                     Piece::Text(name),
                     Piece::Text(b"\n"),
                 ],
@@ -139,14 +134,7 @@ fn cancel_fault_name(fault: CancelFault) -> &'static [u8]
 pub fn put_cancelled<W: Write>(out: &mut W, ticket: Ticket) -> io::Result<()>
     ensures { Writes (W.contents out.old) (W.contents out.new) result (cancelled_text ticket) }
 {
-    put_pieces(
-        out,
-        &[
-            Piece::Number(ticket),
-            Piece::Text(b" cancelled"),
-            Piece::Text(b"\n"),
-        ],
-    )
+    put_pieces(out, &[Piece::Number(ticket), Piece::Text(b" cancelled\n")])
 }
 
 /// Writes `cancel T refused NO NAME`.

@@ -47,13 +47,18 @@ fn turn<B: Bus, W: Write>(
 }
 
 // Turns until no request is without an answer.
-fn run<B: Bus, W: Write>(device: &mut BlockDev<B>, out: &mut W) -> io::Result<bool>
-    ensures { Plays B.view device.old device.new (Run ∷ []) (W.contents out.old) (W.contents out.new) result }
+fn run<B: Bus, W: Write>(
+    device: &mut BlockDev<B>,
+    given: &mut Completions,
+    out: &mut W,
+) -> io::Result<bool>
+    requires { given.old.items ≡ [] }
+    ensures plays { Plays B.view device.old device.new (Run ∷ []) (W.contents out.old) (W.contents out.new) result }
+    ensures none { given.new.items ≡ [] }
 {
     let mut bad = false;
-    let mut given = ArrayVec::new();
     while device.work_left() > 0 {
-        bad = turn(device, &mut given, out)? | bad;
+        bad = turn(device, given, out)? | bad;
     }
     Ok(bad)
 }
@@ -105,15 +110,18 @@ fn play_event<B: Bus, W: Write>(
     alloc: Global,
     device: &mut BlockDev<B>,
     event: ScriptEvent,
+    given: &mut Completions,
     out: &mut W,
 ) -> io::Result<bool>
-    ensures { Plays B.view device.old device.new (event ∷ []) (W.contents out.old) (W.contents out.new) result }
+    requires { given.old.items ≡ [] }
+    ensures plays { Plays B.view device.old device.new (event ∷ []) (W.contents out.old) (W.contents out.new) result }
+    ensures none { given.new.items ≡ [] }
 {
     match event {
         ScriptEvent::Submit { client, request } => submit(alloc, device, client, request, out),
         ScriptEvent::Cancel { ticket } => cancel(device, ticket, out),
-        ScriptEvent::Turn => turn(device, &mut ArrayVec::new(), out),
-        ScriptEvent::Run => run(device, out),
+        ScriptEvent::Turn => turn(device, given, out),
+        ScriptEvent::Run => run(device, given, out),
     }
 }
 
@@ -129,8 +137,9 @@ pub fn play<B: Bus, W: Write>(
 {
     let mut script = script;
     let mut bad = false;
+    let mut given = ArrayVec::new();
     while let Some(event) = script.take_first() {
-        bad = play_event(alloc, device, event, out)? | bad;
+        bad = play_event(alloc, device, event, &mut given, out)? | bad;
     }
-    Ok(run(device, out)? | bad)
+    Ok(run(device, &mut given, out)? | bad)
 }

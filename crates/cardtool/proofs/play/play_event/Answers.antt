@@ -4,8 +4,8 @@ use Rattle.cardtool.specs.Serving.{Plays}
 use Rattle.cardtool.proofs.ServingLemmas.{one_turn}
 use Rattle.cardtool.proofs.play.play_event.Goals as goal
 
-pub returns-in-Turn : goal.returns-in-Turn
-returns-in-Turn g c =
+pub returns-in-Turn-clause-plays : goal.returns-in-Turn-clause-plays
+returns-in-Turn-clause-plays g c =
     subst (λ (e : ScriptEvent). Plays g.B.Bus.view c.args.device.now c.turn.new.device (e ∷ [])
     (g.W.Write.contents c.args.out.now) (g.W.Write.contents c.turn.new.out) c.turn.result) (sym c.in-Turn.is)
     (record {

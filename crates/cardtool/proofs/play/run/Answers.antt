@@ -7,7 +7,7 @@ use Rattle.cardtool.proofs.play.run.Goals as goal
 pub loop-device-init : goal.loop-device-init
 loop-device-init g c = record {
   so_far = so_far_none g.B.Bus.view c.args.device.now (Run ∷ []) _;
-  none = c.new-given.ensures;
+  none = c.requires;
 }
 
 pub loop-device-preserved : goal.loop-device-preserved
@@ -21,8 +21,8 @@ loop-device-preserved g c = record {
   none = c.turn.ensures.none;
 }
 
-pub returns-in_err-bad : goal.returns-in_err-bad
-returns-in_err-bad g c = record {
+pub returns-in_err-bad-clause-plays : goal.returns-in_err-bad-clause-plays
+returns-in_err-bad-clause-plays g c = record {
   serves = so_far_broken g.B.Bus.view c.args.device.now c.loop-device.device c.turn.new.device (Run ∷ []) (Run ∷ [])
       [] _ (g.W.Write.contents c.loop-device.out) _ _ c.from_residual.result c.from_residual.ensures.0
       c.loop-device.invariant.so_far c.turn.ensures.later_device
@@ -32,8 +32,8 @@ returns-in_err-bad g c = record {
   later_device = later_then _ _ _ _ c.loop-device.invariant.so_far.later_device c.turn.ensures.later_device;
 }
 
-pub returns : goal.returns
-returns g c =
+pub returns-clause-plays : goal.returns-clause-plays
+returns-clause-plays g c =
     let ended = so_far_then g.B.Bus.view c.args.device.now c.loop-device.device c.loop-device.device (Run ∷ [])
     (Run ∷ []) [] [] _ (g.W.Write.contents c.loop-device.out) (g.W.Write.contents c.loop-device.out) _ _
     c.loop-device.invariant.so_far (later_none g.B.Bus.view c.loop-device.device)
