@@ -10,6 +10,9 @@ use Rattle.card_text.specs.declared.card_line.CardLine.{CardLine}
 use Rattle.card_text.specs.declared.card_line.CardLine.TheVariants.{Busy, Cid, Cmd8, Csd, Ext, Fault, HighSpeed, Kind}
 use Rattle.card_text.specs.declared.card_line.CardLine.TheVariants.{Early, KeepsLength, Locked, Ocr, Rca, Ready, Scr}
 use Rattle.card_text.specs.declared.card_line.CardLine.TheVariants.{Sectors}
+use Rattle.card_text.specs.declared.card_line.HighSpeedChoice.{HighSpeedChoice}
+use Rattle.card_text.specs.declared.card_line.HighSpeedChoice.TheVariants.{Refused, Taken}
+use Rattle.mmc_card_sim.specs.declared.spec.Refusal.TheVariants.{SelectsDefault, SelectsNone}
 use Rattle.card_text.specs.declared.card_line.PublishedRca.{PublishedRca}
 use Rattle.card_text.specs.declared.card_line.PublishedRca.TheVariants.{Changes, Fixed}
 use Rattle.card_text.specs.declared.text_line.Line.{Line}
@@ -52,13 +55,20 @@ published_rca_of text =
     if bytes_eq text (codes "changes") then Some Changes
     else option_map (λ bytes. Fixed (from_be_bytes w16 bytes)) (bytes_of 2 text)
 
+-- `refused-15` or `refused-0`, or whether the card has high speed
+unfoldable pub high_speed_of : List ℕ → Option HighSpeedChoice
+high_speed_of text =
+    if bytes_eq text (codes "refused-15") then Some (Refused SelectsNone)
+    else (if bytes_eq text (codes "refused-0") then Some (Refused SelectsDefault)
+    else option_map (λ choice. Taken choice) (choice_of text))
+
 -- a key of SD cards with its value
 unfoldable pub sd_line_of : List ℕ → List ℕ → Option CardLine
 sd_line_of key text =
     if bytes_eq key (codes "scr") then option_map (λ bytes. Scr bytes) (bytes_of 8 text)
     else (if bytes_eq key (codes "rca") then option_map (λ rca. Rca rca) (published_rca_of text)
     else (if bytes_eq key (codes "cmd8") then option_map (λ choice. Cmd8 choice) (choice_of text)
-    else (if bytes_eq key (codes "highspeed") then option_map (λ choice. HighSpeed choice) (choice_of text) else None)))
+    else (if bytes_eq key (codes "highspeed") then option_map (λ choice. HighSpeed choice) (high_speed_of text) else None)))
 
 -- a key of what a card does where it is free, or of SD cards, with its value
 unfoldable pub free_line_of : List ℕ → List ℕ → Option CardLine

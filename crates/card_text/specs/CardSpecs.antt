@@ -10,6 +10,9 @@ use Rattle.mmc_frame.specs.declared.kind.Kind.TheVariants.{Mmc, Sd}
 use Rattle.card_text.specs.declared.card_line.CardLine.{CardLine}
 use Rattle.card_text.specs.declared.card_line.CardLine.TheVariants.{Busy, Cid, Cmd8, Csd, Ext, HighSpeed, Kind, Locked}
 use Rattle.card_text.specs.declared.card_line.CardLine.TheVariants.{Early, KeepsLength, Ocr, Rca, Ready, Scr, Sectors}
+use Rattle.card_text.specs.declared.card_line.HighSpeedChoice.{HighSpeedChoice}
+use Rattle.card_text.specs.declared.card_line.HighSpeedChoice.TheVariants.{Refused, Taken}
+use Rattle.mmc_card_sim.specs.declared.spec.Refusal.{Refusal}
 use Rattle.card_text.specs.declared.card_line.PublishedRca.{PublishedRca}
 use Rattle.card_text.specs.declared.card_line.PublishedRca.TheVariants.{Changes, Fixed}
 use Rattle.card_text.specs.declared.card_spec.Given.{Given}
@@ -72,7 +75,7 @@ abbrev pub cmd8_of_line : CardLine → Option Bool
 cmd8_of_line (Cmd8 choice) = Some choice
 cmd8_of_line line = None
 
-abbrev pub high_speed_of_line : CardLine → Option Bool
+abbrev pub high_speed_of_line : CardLine → Option HighSpeedChoice
 high_speed_of_line (HighSpeed choice) = Some choice
 high_speed_of_line line = None
 
@@ -120,6 +123,17 @@ abbrev pub rca_changes : Option PublishedRca → Bool
 rca_changes (Some Changes) = true
 rca_changes _ = false
 
+-- the switch status of an SD card names high speed
+abbrev pub has_high_speed : Option HighSpeedChoice → Bool
+has_high_speed (Some (Taken has)) = has
+has_high_speed (Some (Refused refusal)) = true
+has_high_speed None = false
+
+-- how it refuses to switch, if it does
+abbrev pub refusal_of : Option HighSpeedChoice → Option Refusal
+refusal_of (Some (Refused refusal)) = Some refusal
+refusal_of _ = None
+
 -- what a card has by its kind: an SD card must have an SCR
 abbrev pub own_registers_of : CardKind → Given → Option KindRegisters
 own_registers_of Sd given = do
@@ -129,7 +143,7 @@ own_registers_of Sd given = do
     rca = first_rca given.rca;
     rca_changes = rca_changes given.rca;
     answers_cmd8 = unwrap_or given.cmd8 false;
-    has_high_speed = unwrap_or given.high_speed false;
+    has_high_speed = has_high_speed given.high_speed;
   }))
 own_registers_of Mmc given = Some (Has.Mmc (record { ext_csd = given.ext_csd }))
 
@@ -155,6 +169,7 @@ spec_by given = do
     busy = unwrap_or given.busy 0;
     early = given.early;
     keeps_length = unwrap_or given.keeps_length true;
+    refusal = refusal_of given.high_speed;
     image = None;
   })
 

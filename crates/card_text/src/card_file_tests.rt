@@ -1,7 +1,7 @@
 // Card files with every key, and one of each kind that is refused.
 use crate::card_file::read_card;
 use crate::fault::CardFault;
-use mmc_card_sim::{Fault, Flips, KindRegisters, Outcome, Registers, SdRegisters};
+use mmc_card_sim::{Fault, Flips, KindRegisters, Outcome, Refusal, Registers, SdRegisters};
 
 #[test]
 fn reads_every_key_in_any_order(rt: HostRuntime) {
@@ -49,18 +49,19 @@ fn reads_every_key_in_any_order(rt: HostRuntime) {
 }
 
 #[test]
-fn reads_an_rca_that_changes(rt: HostRuntime) {
-    let text = b"kind sd\nrca changes\nocr 00ff8000\nsectors 1\nscr 0005000000000000\n\
+fn reads_an_rca_that_changes_and_a_refusal(rt: HostRuntime) {
+    let text = b"kind sd\nrca changes\nhighspeed refused-0\nocr 00ff8000\nsectors 1\nscr 0005000000000000\n\
         cid 00000000000000000000000000000001\ncsd 00000000000000000000000000000001";
     let Ok(file) = read_card(rt.alloc(), text) else {
         assert!(rt; false);
         return;
     };
     match file.spec.registers.kind {
-        KindRegisters::Sd(sd) => assert!(rt; sd.rca == 1 && sd.rca_changes),
+        KindRegisters::Sd(sd) => assert!(rt; sd.rca == 1 && sd.rca_changes && sd.has_high_speed),
         KindRegisters::Mmc(_) => assert!(rt; false),
     }
     assert!(rt; file.spec.early.is_none() && file.spec.keeps_length);
+    assert!(rt; file.spec.refusal == Some(Refusal::SelectsDefault));
 }
 
 #[test]

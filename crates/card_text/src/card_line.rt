@@ -1,7 +1,7 @@
 // Reads one line of a card file.
 ghost use Rattle.std.specs.Prelude.{◌≡◌};
 ghost use Rattle.card_text.specs.CardLines.{card_line_of, card_line_of_fields, choice_of, delay_of, early_of, ext_line_of};
-ghost use Rattle.card_text.specs.CardLines.{fault_line_of, free_line_of, keeps_length_of, kind_of, line_of_key};
+ghost use Rattle.card_text.specs.CardLines.{fault_line_of, free_line_of, high_speed_of, keeps_length_of, kind_of, line_of_key};
 ghost use Rattle.card_text.specs.CardLines.{published_rca_of, sd_line_of, value_line_of};
 ghost use Rattle.card_text.specs.Parts.{left_parts, parts};
 
@@ -10,7 +10,7 @@ use crate::fault_text::fault;
 use crate::hexadecimal::bytes;
 use crate::number::{byte, number};
 use crate::text_line::Line;
-use mmc_card_sim::Fault;
+use mmc_card_sim::{Fault, Refusal};
 use mmc_frame::Kind;
 
 /// Which RCA an SD card publishes.
@@ -20,6 +20,15 @@ pub enum PublishedRca {
     Fixed(u16),
     /// 1, 2, 3 and so on, at each CMD3 the next one.
     Changes,
+}
+
+/// What an SD card does about high speed.
+#[derive(Clone, Copy, Debug, PartialEq, Eq)]
+pub enum HighSpeedChoice {
+    /// Whether it has it, and takes it when it is to switch.
+    Taken(bool),
+    /// It has it, and refuses to switch.
+    Refused(Refusal),
 }
 
 /// What one line of a card file gives.
@@ -51,8 +60,8 @@ pub enum CardLine {
     Rca(PublishedRca),
     /// Whether an SD card knows CMD8.
     Cmd8(bool),
-    /// Whether an SD card has high speed.
-    HighSpeed(bool),
+    /// Whether an SD card has high speed, and whether it takes it.
+    HighSpeed(HighSpeedChoice),
     /// A byte of the EXT_CSD of an eMMC device.
     Ext {
         /// Its place, 0 to 511.
@@ -189,6 +198,20 @@ fn published_rca(text: &[u8]) -> Option<PublishedRca>
     }
 }
 
+// `refused-15` or `refused-0`, or whether the card has high speed.
+#[tactic(auto, unfolding(crate::specs::CardLines::high_speed_of))]
+fn high_speed(text: &[u8]) -> Option<HighSpeedChoice>
+    ensures { result ≡ high_speed_of text.now }
+{
+    if text == b"refused-15".as_slice() {
+        Some(HighSpeedChoice::Refused(Refusal::SelectsNone))
+    } else if text == b"refused-0".as_slice() {
+        Some(HighSpeedChoice::Refused(Refusal::SelectsDefault))
+    } else {
+        Some(HighSpeedChoice::Taken(choice(text)?))
+    }
+}
+
 // A key of SD cards with its value.
 #[tactic(auto, unfolding(crate::specs::CardLines::sd_line_of))]
 fn sd_line(key: &[u8], text: &[u8]) -> Option<CardLine>
@@ -201,7 +224,7 @@ fn sd_line(key: &[u8], text: &[u8]) -> Option<CardLine>
     } else if key == b"cmd8".as_slice() {
         Some(CardLine::Cmd8(choice(text)?))
     } else if key == b"highspeed".as_slice() {
-        Some(CardLine::HighSpeed(choice(text)?))
+        Some(CardLine::HighSpeed(high_speed(text)?))
     } else {
         None
     }

@@ -1,10 +1,10 @@
 // Makes what a card is built by from the lines of its file.
 ghost use Rattle.std.specs.Prelude.{◌≡◌, [], ◌∷◌, ◌++◌, List, slice_set};
 ghost use Rattle.card_text.specs.declared.card_line.CardLine.{CardLine};
-ghost use Rattle.card_text.specs.CardSpecs.{first_rca, given_by, own_registers_of, spec_of};
+ghost use Rattle.card_text.specs.CardSpecs.{first_rca, given_by, has_high_speed, own_registers_of, refusal_of, spec_of};
 
-use crate::card_line::{CardLine, PublishedRca};
-use mmc_card_sim::{CardSpec, KindRegisters, MmcRegisters, Registers, SdRegisters};
+use crate::card_line::{CardLine, HighSpeedChoice, PublishedRca};
+use mmc_card_sim::{CardSpec, KindRegisters, MmcRegisters, Refusal, Registers, SdRegisters};
 use mmc_frame::Kind;
 
 /// What the lines of a card file give: for each key what its first line gives.
@@ -23,7 +23,7 @@ pub struct Given {
     scr: Option<[u8; 8]>,
     rca: Option<PublishedRca>,
     cmd8: Option<bool>,
-    high_speed: Option<bool>,
+    high_speed: Option<HighSpeedChoice>,
     // A byte that no line gives is 00, and of two lines for a place the last one counts.
     ext_csd: [u8; 512],
 }
@@ -99,7 +99,7 @@ impl Given {
                 rca: first_rca(self.rca),
                 rca_changes: matches!(self.rca, Some(PublishedRca::Changes)),
                 answers_cmd8: self.cmd8.unwrap_or(false),
-                has_high_speed: self.high_speed.unwrap_or(false),
+                has_high_speed: has_high_speed(self.high_speed),
             })),
             Kind::Mmc => Some(KindRegisters::Mmc(MmcRegisters {
                 ext_csd: self.ext_csd,
@@ -115,6 +115,27 @@ fn first_rca(rca: Option<PublishedRca>) -> u16
     match rca {
         Some(PublishedRca::Fixed(rca)) => rca,
         _ => 1,
+    }
+}
+
+// Whether the switch status of an SD card names high speed.
+fn has_high_speed(choice: Option<HighSpeedChoice>) -> bool
+    ensures { result ≡ has_high_speed choice }
+{
+    match choice {
+        Some(HighSpeedChoice::Taken(has)) => has,
+        Some(HighSpeedChoice::Refused(_)) => true,
+        None => false,
+    }
+}
+
+// How it refuses to switch, if it does.
+fn refusal_of(choice: Option<HighSpeedChoice>) -> Option<Refusal>
+    ensures { result ≡ refusal_of choice }
+{
+    match choice {
+        Some(HighSpeedChoice::Refused(refusal)) => Some(refusal),
+        _ => None,
     }
 }
 
@@ -148,6 +169,7 @@ pub fn card_spec(lines: &[CardLine]) -> Option<CardSpec>
         busy: given.busy.unwrap_or(0),
         early: given.early,
         keeps_length: given.keeps_length.unwrap_or(true),
+        refusal: refusal_of(given.high_speed),
         image: None,
     })
 }

@@ -1,13 +1,16 @@
 -- Rounds of opening a card.
-use Rattle.std.proofs.Common.{◌+◌, ◌<◌, ◌∙◌, ◌≡◌, ◌≤◌, [], ap, arith, refl, subst, sym}
+use Rattle.std.proofs.Common.{◌+◌, ◌<◌, ◌∙◌, ◌≡◌, ◌≤◌, [], ap, arith, inr, refl, subst, sym}
 use Rattle.std.specs.Prelude.{Err, IfOk, IsErr, IsOk, MatchResult, Ok, Result, is_ok}
+use Rattle.mmc_frame.specs.declared.kind.Kind.{Kind}
+use Rattle.mmc_frame.specs.declared.kind.Kind.TheVariants.{Mmc, Sd}
 use Rattle.mmc_card.specs.BusView.{BusView}
+use Rattle.mmc_card.specs.declared.exchange.Timing.{Timing}
 use Rattle.mmc_card.specs.Profile.{InProfile}
 use Rattle.mmc_bus.proofs.WorkLemmas.{fell, moved_as, moved_then, quiet_parts, stays_same}
 use Rattle.mmc_bus.specs.Learned.{Stays}
 use Rattle.mmc_bus.specs.Work.{Moved, Narrows}
 use Rattle.mmc_card.specs.Made.{Made}
-use Rattle.mmc_switch.specs.Info.{IsInfo, lasting}
+use Rattle.mmc_switch.specs.Info.{IsInfo, IsTimingOf, lasting, lasting_timing}
 use Rattle.mmc_switch.specs.Place.{IsReady}
 use Rattle.mmc_switch.specs.declared.session.Session.{Session}
 use Rattle.mmc_switch.specs.declared.info.Info.{Info}
@@ -37,6 +40,11 @@ opens_as Q (Err fault) (Ok session) a b is same p = cc same
 opens_as Q (Err fault) (Err other) a b is same p = moved_as a b p tt (λ quiet profile. same ∙ p.fine quiet profile)
 
 -- What is known for good is what the registers say.
+timing_lasts : (made : Made) (kind : Kind) (timing : Timing) → made.kind ≡ kind → IsTimingOf made timing
+    → IsTimingOf made (lasting_timing kind timing)
+timing_lasts made Sd timing is known = inr (is, refl)
+timing_lasts made Mmc timing is known = known
+
 lasting_info : (made : Made) (info : Info) → IsInfo made info → IsInfo made (lasting info)
 lasting_info made info k = record {
   kind = k.kind;
@@ -51,7 +59,7 @@ lasting_info made info k = record {
   trims = k.trims;
   cmd23 = k.cmd23;
   width = k.width;
-  timing = k.timing;
+  timing = timing_lasts made info.kind info.timing (sym k.kind) k.timing;
 }
 
 pub opens_known : (session : Session) (info now : Info) (a b : BusView) → info ≡ lasting now → now ≡ session.info

@@ -66,7 +66,7 @@ EmptyIfIdle phase.Taken attempt = Unit {0}
 
 -- What is known of the card.
 
--- for good: an SD card may publish another RCA after each reset
+-- for good: an SD card may publish another RCA after each reset, and take another speed
 abbrev pub info_of : Session → Info
 info_of session = lasting session.info
 
@@ -87,7 +87,7 @@ info_of_outcome (More stage) = info_of_stage stage
 info_of_outcome (Done session) = info_of session
 info_of_outcome (Failed broken) = info_of broken.session
 
--- with the RCA that it has now
+-- with the RCA and the speed that it has now
 abbrev pub info_now_by : Link → Info
 info_now_by (Up session) = session.info
 info_now_by (Down broken) = broken.session.info

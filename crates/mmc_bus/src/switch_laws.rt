@@ -1,5 +1,5 @@
 //! Laws about the commands of width, speed and partition, in the form of `identify_laws`.
-ghost use Rattle.std.specs.Prelude.{◌≡◌, Result, Some, false, true, ℕ};
+ghost use Rattle.std.specs.Prelude.{◌≡◌, Ok, Result, Some, false, true, ℕ};
 ghost use Rattle.mmc_frame.specs.Field.{field};
 ghost use Rattle.mmc_frame.specs.declared.card_state.State.TheVariants.{Tran};
 ghost use Rattle.mmc_frame.specs.declared.kind.Kind.TheVariants.{Mmc, Sd};
@@ -7,11 +7,12 @@ ghost use Rattle.mmc_frame.specs.declared.commands.TheConstants as Index;
 ghost use Rattle.mmc_bus.specs.declared.host.Unheard.{Unheard};
 ghost use Rattle.mmc_card.specs.CardAnswer.{shown, status};
 ghost use Rattle.mmc_card.specs.Card.{Card};
-ghost use Rattle.mmc_bus.specs.CommandLaws.{Does, Responded};
+ghost use Rattle.mmc_bus.specs.CommandLaws.{Does, IsSwitchSource, Responded, bytes_sent};
+ghost use Rattle.mmc_card.specs.Laws.{timing_once_sent};
 ghost use Rattle.mmc_card.specs.Made.{has_switch_function};
 ghost use Rattle.mmc_card.specs.Rows.{without_addresses};
 ghost use Rattle.mmc_card.specs.RowsErase.{forgotten};
-ghost use Rattle.mmc_card.specs.RowsSwitch.{ext_csd_now, programs_switch, switched, timing_after, width_by};
+ghost use Rattle.mmc_card.specs.RowsSwitch.{ext_csd_now, programs_switch, switched, width_by};
 ghost use Rattle.mmc_card.specs.RowsTransfer.{sending};
 ghost use Rattle.mmc_card.specs.BusView.{BusView};
 
@@ -24,15 +25,19 @@ pub fn cmd6_switches_an_emmc_device()
         (status false (without_addresses old.card)) (programs_switch switched_card) old heard new }
 {}
 
-/// CMD6 of SD, SWITCH_FUNC: a card in tran that knows it sends its switch status.
+/// CMD6 of SD, SWITCH_FUNC: a card in tran that knows it sends its switch status, or one that refuses to switch.
 pub fn cmd6_sends_the_switch_status()
-    ensures { (old new : BusView) (argument : ℕ) (heard : Result ℕ Unheard)
+    ensures does { (old new : BusView) (argument : ℕ) (heard : Result ℕ Unheard)
         → Responded Index.SWITCH_FUNC old argument heard new
         → old.card.made.kind ≡ Sd → old.card.app ≡ false
         → Does ((old.card.state ≡ Tran) × (has_switch_function old.card.made ≡ true))
         (status false (without_addresses old.card))
-        (sending old.card.made.switch_status (timing_after old.card argument) (forgotten old.card))
+        (sending (bytes_sent new.card.source) (timing_once_sent new.card.source old.card.timing) (forgotten old.card))
         old heard new }
+    ensures sends { (old new : BusView) (argument told : ℕ) (heard : Result ℕ Unheard)
+        → Responded Index.SWITCH_FUNC old argument heard new
+        → old.card.made.kind ≡ Sd → old.card.app ≡ false → heard ≡ Ok told
+        → IsSwitchSource old.card argument new.card.source }
 {}
 
 /// ACMD6, SET_BUS_WIDTH: a card in tran uses one line or four from then on, as the argument says.

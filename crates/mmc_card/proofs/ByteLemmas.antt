@@ -12,7 +12,7 @@ use Rattle.mmc_card.proofs.Conditions.{by_cond}
 use Rattle.mmc_card.proofs.Narrow.{both}
 use Rattle.mmc_card.specs.Card.{Card, IsBlock}
 use Rattle.mmc_card.specs.Made.{Made, erased_byte_of_card, erased_sector, is_sd}
-use Rattle.mmc_card.specs.RowsSwitch.{access_number, ext_csd_now, partition_config_for, timing_number, width_number}
+use Rattle.mmc_card.specs.RowsSwitch.{access_number, ext_csd_now, partition_config_for, refusal, timing_number, width_number}
 use Rattle.mmc_card.specs.declared.exchange.Timing.{Timing}
 use Rattle.mmc_card.specs.declared.exchange.Timing.TheVariants.{Default, High}
 use Rattle.mmc_card.specs.declared.exchange.Width.{Width}
@@ -78,6 +78,16 @@ ext_csd_bytes c group bytes =
     (bytes_set _ 183 (width_number c.width) (width_below c.width)
     (bytes_set _ 179 (partition_config_for c.made c.part) (config_below _ (access_number c.part) (access_below c.part))
     (bytes_set c.made.ext_csd 175 c.erase_group_def (byte_of_group c.erase_group_def group) bytes)))
+
+-- A switch status that refuses.
+
+selected_below : (selects_none : Bool) (byte : ℕ) → 16 * field 7 4 byte + (if selects_none then 15 else 0) < 256
+selected_below true byte = omega arith
+selected_below false byte = omega arith
+
+pub refusal_bytes : (selects_none : Bool) (status : List ℕ) → AreBytes status → AreBytes (refusal selects_none status)
+refusal_bytes selects_none status bytes =
+    bytes_set status 16 _ (selected_below selects_none (slice_index status 16)) bytes
 
 -- Blocks.
 

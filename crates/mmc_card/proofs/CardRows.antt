@@ -7,7 +7,6 @@ use Rattle.mmc_frame.specs.declared.card_state.State.TheVariants.{Data, Dis, Ide
 use Rattle.mmc_card.specs.declared.exchange.DataIn.{DataIn}
 use Rattle.mmc_card.specs.declared.exchange.DataOut.{DataOut}
 use Rattle.mmc_card.specs.declared.exchange.Reply.{Reply}
-use Rattle.mmc_card.specs.declared.exchange.Timing.{Timing}
 use Rattle.mmc_card.proofs.ByteLemmas.{erased_block}
 use Rattle.mmc_card.proofs.Cards.{IsBasic, IsLike, among_more, apart_card, blocks_replicate, blocks_snoc, card_app}
 use Rattle.mmc_card.proofs.Cards.{card_done, card_fallen_short, card_forgotten, card_garbled, card_programmed, card_raised, card_reached}
@@ -35,8 +34,8 @@ use Rattle.mmc_card.specs.Rows.{answered, command_of, is_foreign, is_legal, leav
 use Rattle.mmc_card.specs.RowsErase.{erase_held, erases, erasing, forgotten, hold_first, hold_last, holds_address}
 use Rattle.mmc_card.specs.RowsErase.{is_no_range, is_trim}
 use Rattle.mmc_card.specs.RowsIdentify.{inquired, is_served}
-use Rattle.mmc_card.specs.RowsSwitch.{ext_csd_now, switch_row, switched, timing_after}
-use Rattle.mmc_card.specs.RowsTransfer.{begun, preset, sending, transfer_errors, transferred}
+use Rattle.mmc_card.specs.RowsSwitch.{ext_csd_now, switch_row, switch_source, switched}
+use Rattle.mmc_card.specs.RowsTransfer.{begun, preset, sending_from, transfer_errors, transferred}
 use Rattle.mmc_card.specs.Sectors.{Sector}
 use Rattle.mmc_card.specs.BusView.{BusView}
 
@@ -81,9 +80,8 @@ card_begun : (state : State) (is_single : Bool) (left : Option ℕ) (c : Card) (
 card_begun state is_single left c address up k =
     chosen_card c _ k (like_shown c _ refl refl refl refl) up refl (λ h. refl) tt
 
-card_sending : (bytes : List ℕ) (timing : Timing) (c : Card) → c.state ≡ Tran → IsBasic c
-    → IsBasic (sending bytes timing c)
-card_sending bytes timing c e k =
+card_sending : (source : Source) (c : Card) → c.state ≡ Tran → IsBasic c → IsBasic (sending_from source c)
+card_sending source c e k =
     chosen_card c _ k (like_shown c _ refl refl refl refl) refl refl (λ h. none_in c Tran k e refl) k.new_values
 
 not_both : (a b : Bool) → (a || b) ≡ true → b ≡ false → a ≡ true
@@ -155,7 +153,7 @@ card_row choice SelectCard c index argument l k =
     chosen_card c _ k (like_shown c _ refl refl refl refl) refl refl
     (λ _. none_in c Stby k (in_state c.state Stby l) refl) k.new_values
 card_row choice SendIfCond c index argument l k = card_done c k
-card_row choice SendExtCsd c index argument l k = card_sending (ext_csd_now c) c.timing c (in_state c.state Tran l) k
+card_row choice SendExtCsd c index argument l k = card_sending (FromBytes (ext_csd_now c) c.timing) c (in_state c.state Tran l) k
 card_row choice SendCsd c index argument l k = card_done c k
 card_row choice StopTransmission c index argument l k = card_stopped c k l
 card_row choice SendStatus c index argument l k = card_shown c k
@@ -182,11 +180,11 @@ card_row choice EraseEnd c index argument l k = card_last index c argument c.era
 card_row choice Erase c index argument l k = card_erase c argument c.erase k
 card_row choice Switch c index argument l k = card_switch c (switched c argument) (is_switched c argument) k
 card_row choice SwitchFunc c index argument l k =
-    card_sending c.made.switch_status (timing_after c argument) c
+    card_sending (switch_source choice c argument) c
     (in_state c.state Tran (both (is_in c.state Tran) (has_switch_function c.made) l).0) k
 card_row choice SetBusWidth c index argument l k =
     card_in_tran c _ (in_state c.state Tran l) k (like_shown c _ refl refl refl refl) refl refl refl
-card_row choice SendScr c index argument l k = card_sending c.made.scr c.timing c (in_state c.state Tran l) k
+card_row choice SendScr c index argument l k = card_sending (FromBytes c.made.scr c.timing) c (in_state c.state Tran l) k
 card_row choice AppCmd c index argument l k = card_app c k
 card_row choice Unknown c index argument l k = cc
 

@@ -3,7 +3,8 @@ use Rattle.std.proofs.Common.{◌&&◌, ◌≡◌, ◌≤◌, Bool, arith, not, 
 use Rattle.std.specs.Prelude.{◌==◌, None, Option, Some}
 use Rattle.mmc_frame.specs.declared.card_state.State.{State}
 use Rattle.mmc_frame.specs.declared.card_state.State.TheVariants.{Data, Prg, Rcv}
-use Rattle.mmc_card.proofs.ByteLemmas.{ext_csd_bytes}
+use Rattle.mmc_frame.specs.Flips.{AreBytes}
+use Rattle.mmc_card.proofs.ByteLemmas.{ext_csd_bytes, refusal_bytes}
 use Rattle.mmc_card.proofs.Conditions.{along, by_cond, first_by_cond}
 use Rattle.mmc_card.proofs.Narrow.{AreSwitched, is_switched}
 use Rattle.mmc_card.specs.CardAnswer.{Choice, garbled, raised, refused, reset, shown}
@@ -18,7 +19,7 @@ use Rattle.mmc_card.specs.declared.command.Command.TheVariants.{Switch, SwitchFu
 use Rattle.mmc_card.specs.Rows.{answered, command_of, is_foreign, is_legal, leaves_erase, reached, responded, row}
 use Rattle.mmc_card.specs.RowsErase.{erase_held, hold_first, hold_last, holds_address, is_no_range}
 use Rattle.mmc_card.specs.RowsIdentify.{inquired, is_served}
-use Rattle.mmc_card.specs.RowsSwitch.{switch_row, switched}
+use Rattle.mmc_card.specs.RowsSwitch.{is_to_speed_up, switch_row, switch_source, switched}
 use Rattle.mmc_card.specs.RowsTransfer.{begun, preset, transfer_errors, transferred}
 
 pub record IsSending (card : Card) : Type 0 where
@@ -122,6 +123,12 @@ sending_switch c (Some d) h k = record {
   sends = along SendsBytes h.source k.sends;
 }
 
+switch_source_bytes : (choice : Choice) (c : Card) (argument : ℕ) → AreBytes c.made.switch_status
+    → SendsBytes (switch_source choice c argument)
+switch_source_bytes choice c argument bytes =
+    by_cond SendsBytes (is_to_speed_up c argument && choice.refuses_speed)
+    (λ _. refusal_bytes choice.selects_none c.made.switch_status bytes) (λ _. bytes)
+
 sending_row : (choice : Choice) (command : Command) (c : Card) (index argument : ℕ) → IsSending c
     → IsSending (row choice command c index argument).0
 sending_row choice GoIdleState c index argument k = sending_reset choice.lands choice.keeps_length c k
@@ -147,7 +154,8 @@ sending_row choice EraseStart c index argument k = sending_first index c argumen
 sending_row choice EraseEnd c index argument k = sending_last index c argument c.erase k
 sending_row choice Erase c index argument k = sending_erase c argument c.erase k
 sending_row choice Switch c index argument k = sending_switch c (switched c argument) (is_switched c argument) k
-sending_row choice SwitchFunc c index argument k = sending_from c _ k refl refl k.registers.switch_status_bytes
+sending_row choice SwitchFunc c index argument k =
+    sending_from c _ k refl refl (switch_source_bytes choice c argument k.registers.switch_status_bytes)
 sending_row choice SendScr c index argument k = sending_from c _ k refl refl k.registers.scr_bytes
 sending_row choice _ c index argument k = sending_like c _ k refl refl refl
 

@@ -32,6 +32,9 @@ pub record Choice : Type 0 where
   pub early : ℕ
   -- the block length outlives CMD0
   pub keeps_length : Bool
+  -- an SD card leaves high speed unselected when it is to switch to it, and its status names function 15 then, none, or 0
+  pub refuses_speed : Bool
+  pub selects_none : Bool
 
 abbrev pub bit : Bool → ℕ
 bit b = if b then 1 else 0

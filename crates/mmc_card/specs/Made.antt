@@ -8,7 +8,7 @@ use Rattle.mmc_frame.specs.declared.addressing.Addressing.{Addressing}
 use Rattle.mmc_frame.specs.declared.addressing.Addressing.TheVariants as By
 use Rattle.mmc_frame.specs.declared.kind.Kind.{Kind}
 use Rattle.mmc_frame.specs.declared.kind.Kind.TheVariants.{Mmc, Sd}
-use Rattle.mmc_regs.specs.Csd.{csd_of, erase_unit_of, is_protected, sectors_of}
+use Rattle.mmc_regs.specs.Csd.{csd_of, erase_unit_of, is_protected, may_switch, sectors_of}
 use Rattle.mmc_regs.specs.CsdFields.{read_bl_len}
 use Rattle.mmc_regs.specs.Ocr.{access_mode, card_capacity_status}
 use Rattle.mmc_regs.specs.Register.{register_number}
@@ -32,7 +32,7 @@ pub record Made : Type 0 where
   pub csd : List ℕ
   -- eight bytes, of an SD card
   pub scr : List ℕ
-  -- 64 bytes, of an SD card: what it sends after CMD6, whether that only asks or switches
+  -- 64 bytes, of an SD card: what it sends after CMD6, but where it refuses to switch
   pub switch_status : List ℕ
   -- 512 bytes, of an eMMC device; where a field can be switched, the card's own field counts in place of its byte
   pub ext_csd : List ℕ
@@ -122,9 +122,9 @@ first_rca Mmc = 1
 abbrev pub has_cmd23 : Made → Bool
 has_cmd23 made = if is_sd made.kind then set_block_count (scr_number made.scr) == 1 else true
 
--- CMD6 of SD: SD_SPEC isn't 0.
+-- CMD6 of SD: CCC may name class 10, and SD_SPEC isn't 0 (SD Physical Layer 6.00, sections 4.3.10, 4.7.3 and 5.6).
 abbrev pub has_switch_function : Made → Bool
-has_switch_function made = not (sd_spec (scr_number made.scr) == 0)
+has_switch_function made = may_switch (csd_number_of made) && not (sd_spec (scr_number made.scr) == 0)
 
 -- the erase unit in sectors; of eMMC that of byte 224, whatever ERASE_GROUP_DEF says (the project's own)
 abbrev pub erase_unit_of_card : Made → ℕ

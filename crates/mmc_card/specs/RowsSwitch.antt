@@ -2,7 +2,7 @@
 -- Width, speed and partition (SD Physical Layer 6.00, sections 4.3.10 and 4.7.4; JESD84-B51, sections 6.6.1 and 7.4).
 -- Each row is what a card does with a command in tran, and its answer.
 use Rattle.std.specs.Prelude.{◌&&◌, ◌*◌, ◌+◌, ◌==◌, ◌^◌, List, None, Option, Some, [], false, if◌then◌else◌, length}
-use Rattle.std.specs.Prelude.{slice_set, true, ℕ}
+use Rattle.std.specs.Prelude.{Bool, slice_index, slice_set, true, ℕ}
 use Rattle.mmc_frame.specs.Field.{field}
 use Rattle.mmc_frame.specs.declared.card_state.State.TheVariants.{Prg}
 use Rattle.mmc_frame.specs.declared.commands.TheConstants as Index
@@ -13,10 +13,10 @@ use Rattle.mmc_card.specs.declared.exchange.Width.{Width}
 use Rattle.mmc_card.specs.declared.exchange.Width.TheVariants.{Eight, Four, One}
 use Rattle.mmc_card.specs.declared.part.Part.{Part}
 use Rattle.mmc_card.specs.declared.part.Part.TheVariants.{Boot1, Boot2, Gp1, Gp2, Gp3, Gp4, User}
-use Rattle.mmc_card.specs.CardAnswer.{CardAnswer, Checked, busied, shown, status}
-use Rattle.mmc_card.specs.Card.{Card, stored}
+use Rattle.mmc_card.specs.CardAnswer.{CardAnswer, Checked, Choice, busied, shown, status}
+use Rattle.mmc_card.specs.Card.{Card, FromBytes, Source, stored}
 use Rattle.mmc_card.specs.Made.{Made, has_high_speed}
-use Rattle.mmc_card.specs.RowsTransfer.{sending}
+use Rattle.mmc_card.specs.RowsTransfer.{sending, sending_from}
 
 -- ACMD6, SET_BUS_WIDTH: bits 1..0 are 0 for one line and 2 for four; with others the lines stay (the project's own)
 abbrev pub width_by : ℕ → Width → Width
@@ -29,13 +29,31 @@ set_bus_width card argument = (
       (status true card),
 )
 
--- CMD6 of SD, SWITCH_FUNC: the card sends its switch status, and with bit 31 it switches once that is sent
-abbrev pub timing_after : Card → ℕ → Timing
-timing_after card argument = if (field 31 31 argument == 1) && has_high_speed card.made then High else card.timing
+-- With bit 31, CMD6 of SD is to switch to high speed, where the card has it.
+abbrev pub is_to_speed_up : Card → ℕ → Bool
+is_to_speed_up card argument = (field 31 31 argument == 1) && has_high_speed card.made
 
-abbrev pub switch_func : Card → ℕ → Card × CardAnswer
-switch_func card argument =
-    (sending card.made.switch_status (timing_after card argument) card, Checked Index.SWITCH_FUNC (status false card))
+abbrev pub timing_after : Card → ℕ → Timing
+timing_after card argument = if is_to_speed_up card argument then High else card.timing
+
+-- A switch status in which bits 379 to 376 select function 15, none, or function 0, default speed
+-- (SD Physical Layer 6.00, section 4.3.10.4).
+abbrev pub refusal : Bool → List ℕ → List ℕ
+refusal selects_none status =
+    slice_set status 16 (16 * field 7 4 (slice_index status 16) + (if selects_none then 15 else 0))
+
+-- The 64 bytes that the card sends: its switch status, and once that is sent it has switched; or, where it is to switch
+-- and leaves high speed unselected, a status that says so, and the timing stays (SD Physical Layer 6.00, section 4.3.10).
+abbrev pub switch_source : Choice → Card → ℕ → Source
+switch_source choice card argument =
+    if is_to_speed_up card argument && choice.refuses_speed
+    then FromBytes (refusal choice.selects_none card.made.switch_status) card.timing
+    else FromBytes card.made.switch_status (timing_after card argument)
+
+-- CMD6 of SD, SWITCH_FUNC
+abbrev pub switch_func : Choice → Card → ℕ → Card × CardAnswer
+switch_func choice card argument =
+    (sending_from (switch_source choice card argument) card, Checked Index.SWITCH_FUNC (status false card))
 
 -- PARTITION_ACCESS (JESD84-B51, section 7.4.69)
 abbrev pub access_number : Part → ℕ

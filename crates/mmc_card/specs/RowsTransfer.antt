@@ -11,7 +11,7 @@ use Rattle.mmc_frame.specs.declared.commands.TheConstants as Index
 use Rattle.mmc_card.specs.declared.exchange.Timing.{Timing}
 use Rattle.mmc_card.specs.CardAnswer.{CardAnswer, Checked, bit, busied, raised, shown, status}
 use Rattle.mmc_card.specs.ErrorBits.{address_error, block_len_error, out_of_range, wp_violation}
-use Rattle.mmc_card.specs.Card.{Card, FromBytes, FromSectors, is_in, stored}
+use Rattle.mmc_card.specs.Card.{Card, FromBytes, FromSectors, Source, is_in, stored}
 use Rattle.mmc_card.specs.Made.{is_misaligned, is_read_only, is_sd, sector_at}
 
 -- a card after CMD12: of a write it programs what it accepted
@@ -97,9 +97,13 @@ write_multiple_block card address =
     transferred Index.WRITE_MULTIPLE_BLOCK (transfer_errors true card address) card
     (begun Rcv false (preset card) card address)
 
+-- the card sends what this names
+abbrev pub sending_from : Source → Card → Card
+sending_from source card = record (shown card) { state = Data; source = source }
+
 -- the card sends these bytes as one block, and has this timing then
 abbrev pub sending : List ℕ → Timing → Card → Card
-sending bytes timing card = record (shown card) { state = Data; source = FromBytes bytes timing }
+sending bytes timing card = sending_from (FromBytes bytes timing) card
 
 -- ACMD51, SEND_SCR (SD Physical Layer 6.00, section 5.6)
 abbrev pub send_scr : Card → Card × CardAnswer

@@ -7,13 +7,15 @@ use Rattle.mmc_card.specs.declared.exchange.Lines.{Lines}
 use Rattle.mmc_card.specs.Blocks.{asked_for, can_send, next_block}
 use Rattle.mmc_card.specs.Card.{Both, Card, First, FromBytes, FromSectors, Held, NoAddress, Source as CardSource}
 use Rattle.mmc_card.specs.CardAnswer.{CardAnswer, Choice}
-use Rattle.std.specs.Prelude.{Some}
+use Rattle.std.specs.Prelude.{None, Option, Some}
 use Rattle.mmc_card_sim.specs.declared.answer.Answer.{Answer}
 use Rattle.mmc_card_sim.specs.declared.chip.Addresses.{Addresses}
 use Rattle.mmc_card_sim.specs.declared.chip.Addresses.TheVariants as Is
 use Rattle.mmc_card_sim.specs.declared.chip.Chip.{Chip}
 use Rattle.mmc_card_sim.specs.declared.chip.Source.{Source}
 use Rattle.mmc_card_sim.specs.declared.delays.Delays.{Delays}
+use Rattle.mmc_card_sim.specs.declared.spec.Refusal.{Refusal}
+use Rattle.mmc_card_sim.specs.declared.spec.Refusal.TheVariants.{SelectsDefault}
 use Rattle.mmc_card_sim.specs.declared.chip.Source.TheVariants as From
 use Rattle.mmc_card_sim.specs.Answer.{HasIndex, answer_of}
 use Rattle.mmc_card_sim.specs.Registers.{made_of}
@@ -65,7 +67,7 @@ card_of chip =
     }
 
 -- All that is unfinished lands at CMD0, OUT_OF_RANGE is set behind the last sector, and a command with a bad check
--- drops the preset count. At a command the card may choose otherwise where CMD0, CMD3 and an inquiry leave it free.
+-- drops the preset count. At a command the card may choose otherwise where CMD0, CMD3, CMD6 and an inquiry leave it free.
 abbrev pub choice_of : Bool → Choice
 choice_of is_slow = record {
   is_slow = is_slow;
@@ -75,7 +77,19 @@ choice_of is_slow = record {
   rca = 0;
   early = 0;
   keeps_length = true;
+  refuses_speed = false;
+  selects_none = true;
 }
+
+-- an SD card that refuses to switch to high speed
+abbrev pub refuses : Option Refusal → Bool
+refuses (Some refusal) = true
+refuses None = false
+
+-- its status selects function 15 then, none, and not function 0
+abbrev pub selects_none : Option Refusal → Bool
+selects_none (Some SelectsDefault) = false
+selects_none _ = true
 
 -- at a command; the first so many inquiries are answered with not ready
 abbrev pub command_choice : Delays → Card → Choice
@@ -84,6 +98,8 @@ command_choice delays card =
       rca = delays.last_rca;
       early = delays.early;
       keeps_length = delays.keeps_length;
+      refuses_speed = refuses delays.refusal;
+      selects_none = selects_none delays.refusal;
     }
 
 -- what the card chooses behind a command, by the RCA that it goes by then: where the RCA changes, the next one follows it

@@ -340,7 +340,7 @@ impl Chip {
             Command::EraseEnd => self.hold_last(index, argument),
             Command::Erase => self.erase(argument),
             Command::Switch => self.switch_byte(argument),
-            Command::SwitchFunc => self.switch_func(argument),
+            Command::SwitchFunc => self.switch_func(delays, argument),
             Command::SetBusWidth => self.set_bus_width(argument),
             Command::SendScr => self.send_scr(),
             Command::AppCmd => self.app_cmd(),

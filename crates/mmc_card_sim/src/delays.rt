@@ -1,6 +1,8 @@
 // What the card does where it is free.
 ghost use Rattle.std.specs.Prelude.{◌%◌, ◌+◌, ◌-◌, ◌^◌, ◌≡◌};
 
+use crate::spec::Refusal;
+
 /// How long the card takes, and what it answers next where it is free to choose.
 #[derive(Clone, Copy, Debug, PartialEq, Eq)]
 pub struct Delays {
@@ -16,6 +18,8 @@ pub struct Delays {
     pub early: u8,
     /// Whether the block length outlives CMD0 and a loss of power.
     pub keeps_length: bool,
+    /// How an SD card refuses to switch to high speed, if it does.
+    pub refusal: Option<Refusal>,
 }
 
 impl Delays {

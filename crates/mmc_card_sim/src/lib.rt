@@ -27,5 +27,5 @@ pub use fault::{Fault, Flips, Outcome};
 pub use plan::{MAX_PLANNED, Plan, PlanFault, Planned};
 pub use registers::{KindRegisters, MmcRegisters, Registers, SdRegisters};
 pub use sim_card::SimCard;
-pub use spec::{BuildFault, CardSpec};
+pub use spec::{BuildFault, CardSpec, Refusal};
 pub use store::MAX_SECTORS;

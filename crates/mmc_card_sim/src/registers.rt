@@ -1,5 +1,10 @@
 // The registers of a card in memory, and what they say of it.
+ghost use Rattle.std.specs.Prelude.{◌≡◌};
+ghost use Rattle.mmc_regs.specs.Csd.{may_switch};
+ghost use Rattle.mmc_regs.specs.Register.{register_number};
+
 use arrayvec::ArrayVec;
+use byteorder::{BigEndian, ByteOrder};
 use mmc_ext_csd::ExtCsd;
 use mmc_frame::Kind;
 use mmc_regs::{Ocr, Scr};
@@ -52,8 +57,16 @@ pub struct Registers {
     pub is_locked: bool,
 }
 
+// CCC, which stands in the same place in every version of the CSD, names class 10 or no class at all.
+fn may_switch(csd: &[u8; 16]) -> bool
+    ensures { result ≡ may_switch (register_number csd.now) }
+{
+    let register = BigEndian::read_u128(csd);
+    (register >> 84) % 0x1000 == 0 || (register >> 94) % 2 == 1
+}
+
 impl Registers {
-    ghost use Rattle.std.specs.Prelude.{◌≡◌, ◌==◌};
+    ghost use Rattle.std.specs.Prelude.{◌==◌};
     ghost use Rattle.mmc_ext_csd.specs.ExtCsd.{high_speed_at_52_mhz, partition_config};
     ghost use Rattle.mmc_card.specs.Made.{erased_byte_of_card, has_cmd23, has_high_speed, has_sector_addresses};
     ghost use Rattle.mmc_card.specs.Made.{has_switch_function};
@@ -120,12 +133,12 @@ impl Registers {
         }
     }
 
-    /// Whether an SD card knows CMD6: SD_SPEC isn't 0.
+    /// Whether an SD card knows CMD6: CCC names class 10, or no class at all, and SD_SPEC isn't 0.
     pub fn has_switch_function(&self) -> bool
         ensures { result ≡ has_switch_function (made_of self.now) }
     {
         match self.kind {
-            KindRegisters::Sd(sd) => Scr::new(&sd.scr).sd_spec() != 0,
+            KindRegisters::Sd(sd) => may_switch(&self.csd) && Scr::new(&sd.scr).sd_spec() != 0,
             KindRegisters::Mmc(_) => false,
         }
     }

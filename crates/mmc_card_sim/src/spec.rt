@@ -3,6 +3,15 @@ use crate::registers::Registers;
 use mmc_bus::Bytes;
 use thiserror::Error;
 
+/// How an SD card refuses to switch to high speed: the function that its switch status selects then.
+#[derive(Clone, Copy, Debug, PartialEq, Eq)]
+pub enum Refusal {
+    /// 15, which is none.
+    SelectsNone,
+    /// 0, which is default speed.
+    SelectsDefault,
+}
+
 /// What a card in memory is built by: what a card file says but its faults, and an image.
 #[derive(Debug, Drop)]
 pub struct CardSpec {
@@ -19,6 +28,8 @@ pub struct CardSpec {
     /// Whether the block length outlives CMD0 and a loss of power. Otherwise it is the one that the registers name then:
     /// 2^READ_BL_LEN of a card with byte addresses, and 512 of any other.
     pub keeps_length: bool,
+    /// How an SD card whose switch status names high speed refuses to switch to it. Without a refusal it switches.
+    pub refusal: Option<Refusal>,
     /// The bytes of all sectors, 512 each, a partition behind the other in the order of `Part`. Without an image all
     /// bytes are the erased byte.
     pub image: Option<Bytes>,

@@ -1,11 +1,14 @@
 // What the card in memory does with the commands of width, speed and partition (SD Physical Layer 6.00, section 4.3.10;
 // JESD84-B51, section 6.6.1), each in tran.
-ghost use Rattle.std.specs.Prelude.{◌≡◌, ◌<◌, None, slice_set};
+ghost use Rattle.std.specs.Prelude.{◌≡◌, ◌<◌, None, Some, if◌then◌else◌, slice_index, slice_set};
 ghost use Rattle.mmc_frame.specs.Field.{field};
+ghost use Rattle.mmc_card_sim.specs.Chip.{selects_none};
 ghost use Rattle.mmc_card.specs.RowsSwitch.{part_accessed, timing_number, width_by, width_number};
 
 use crate::answer::Answer;
 use crate::chip::{Chip, Source};
+use crate::delays::Delays;
+use crate::spec::Refusal;
 use arrayvec::ArrayVec;
 use mmc_card::{Part, Timing, Width};
 use mmc_frame::State;
@@ -79,13 +82,30 @@ fn put(block: &mut ArrayVec<u8, 512>, place: usize, byte: u8)
     }
 }
 
+// A byte of a block, and 0 behind its end.
+fn byte_at(block: &ArrayVec<u8, 512>, place: usize) -> u8
+    ensures { result ≡ slice_index block.now.items place }
+{
+    if place < block.len() { block[place] } else { 0 }
+}
+
+// The function of group 1 that is selected where the card refuses.
+fn function_selected(refusal: Refusal) -> u8
+    ensures { result ≡ (if selects_none (Some refusal) then 15 else 0) }
+{
+    match refusal {
+        Refusal::SelectsNone => 15,
+        Refusal::SelectsDefault => 0,
+    }
+}
+
 impl Chip {
     ghost use Rattle.mmc_card.specs.CardAnswer.{Checked, status};
     ghost use Rattle.mmc_card.specs.RowsSwitch.{accessed, access_switched, ext_csd_now, partition_config_for};
     ghost use Rattle.mmc_card.specs.RowsSwitch.{send_ext_csd, set_bus_width, switch_byte, switch_func, switched};
-    ghost use Rattle.mmc_card.specs.RowsSwitch.{timing_after};
+    ghost use Rattle.mmc_card.specs.RowsSwitch.{is_to_speed_up, refusal as refusal_in, timing_after};
     ghost use Rattle.mmc_card.specs.RowsTransfer.{send_scr, sending};
-    ghost use Rattle.mmc_card_sim.specs.Chip.{Answers, card_of};
+    ghost use Rattle.mmc_card_sim.specs.Chip.{Answers, card_of, command_choice};
     ghost use Rattle.mmc_card_sim.specs.Switches.{switched_to, to_card};
 
     // The card sends this block, and has this timing then.
@@ -134,24 +154,52 @@ impl Chip {
         self.respond_status(SET_BUS_WIDTH, true)
     }
 
+    // Whether an argument of CMD6 of SD is to switch to high speed, and the card has it.
+    fn is_to_speed_up(&self, argument: u32) -> bool
+        ensures { result ≡ is_to_speed_up (card_of self.now) argument }
+    {
+        argument / 0x8000_0000 == 1 && self.registers.has_high_speed()
+    }
+
     // The timing once the switch status is sent.
     fn timing_after(&self, argument: u32) -> Timing
         ensures { result ≡ timing_after (card_of self.now) argument }
     {
-        if argument / 0x8000_0000 == 1 && self.registers.has_high_speed() {
+        if self.is_to_speed_up(argument) {
             Timing::High
         } else {
             self.timing
         }
     }
 
-    /// CMD6 of SD: the card sends its switch status, and with bit 31 it switches once that is sent.
-    pub fn switch_func(&mut self, argument: u32) -> Answer
-        ensures { Answers (switch_func (card_of self.old) argument) self.new result }
+    // The switch status of a card that refuses to switch.
+    fn refused_status(&self, refusal: Refusal) -> ArrayVec<u8, 512>
+        ensures { result.items
+            ≡ refusal_in (selects_none (Some refusal)) (card_of self.now).made.switch_status }
     {
-        let timing = self.timing_after(argument);
-        let status = self.registers.switch_status();
-        self.send_block(SWITCH_FUNC, false, status, timing)
+        let mut status = self.registers.switch_status();
+        let others = byte_at(&status, 16) / 16 * 16;
+        put(&mut status, 16, others + function_selected(refusal));
+        status
+    }
+
+    /// CMD6 of SD: the card sends its switch status, and with bit 31 it switches once that is sent. Where it refuses to,
+    /// the status says so.
+    pub fn switch_func(&mut self, delays: Delays, argument: u32) -> Answer
+        ensures { Answers (switch_func (command_choice delays (card_of self.old)) (card_of self.old) argument) self.new
+            result }
+    {
+        match delays.refusal {
+            Some(refusal) if self.is_to_speed_up(argument) => {
+                let status = self.refused_status(refusal);
+                self.send_block(SWITCH_FUNC, false, status, self.timing)
+            }
+            _ => {
+                let timing = self.timing_after(argument);
+                let status = self.registers.switch_status();
+                self.send_block(SWITCH_FUNC, false, status, timing)
+            }
+        }
     }
 
     // PARTITION_CONFIG for access to this partition.

@@ -1,4 +1,5 @@
-// A reset: the card is initialized again, and has to be the one that it was, under whatever RCA it publishes now.
+// A reset: the card is initialized again, and has to be the one that it was, under whatever RCA it publishes now
+// and at whatever speed it takes.
 ghost use Rattle.std.specs.Prelude.{◌≡◌, ◌+◌, ◌≤◌, IfErr, IfOk, IsOk, Some};
 ghost use Rattle.mmc_card.specs.Profile.{InProfile};
 ghost use Rattle.mmc_card.specs.declared.part.Part.TheVariants.{User};

@@ -6,8 +6,9 @@
 // 3. CMD16 with 512 bytes, CMD13, and a second CMD13, which has to be clean. What any earlier status says else is ignored.
 //    A missing or unsound response, a status that isn't clean, or a card that is busy still leads to rule 4.
 // 4. Identification, and width and speed: all that is known of the card then has to be what was known before, but for the
-//    RCA, which an SD card may publish anew (SD Physical Layer 6.00, section 4.2.2). The user partition is selected now. A
-//    failure here is given up: nothing but another reset may help, and which partition is selected isn't known.
+//    RCA, which an SD card may publish anew (SD Physical Layer 6.00, section 4.2.2), and its speed, since it may refuse
+//    high speed then (section 4.3.10). The user partition is selected now. A failure here is given up: nothing but
+//    another reset may help, and which partition is selected isn't known.
 ghost use Rattle.std.specs.Prelude.{◌≡◌, ◌<◌, ◌+◌, ◌⊎◌, ◌≤◌, IfErr, IfOk, IsErr, Some, true};
 ghost use Rattle.mmc_card.specs.Profile.{InProfile};
 ghost use Rattle.mmc_card.specs.declared.part.Part.TheVariants.{User};

@@ -5,7 +5,7 @@ use Rattle.std.specs.Prelude.{Ok, Err}
 use Rattle.mmc_frame.specs.declared.kind.Kind.{Kind}
 use Rattle.mmc_frame.specs.declared.kind.Kind.TheVariants.{Sd, Mmc as MmcDevice}
 use Rattle.mmc_regs.specs.CsdFields.{csd_structure, read_bl_len, c_size, c_size_mult, perm_write_protect}
-use Rattle.mmc_regs.specs.CsdFields.{tmp_write_protect, erase_blk_en, sector_size, write_bl_len, c_size_v2}
+use Rattle.mmc_regs.specs.CsdFields.{ccc, class_10, tmp_write_protect, erase_blk_en, sector_size, write_bl_len, c_size_v2}
 use Rattle.mmc_regs.specs.Register.{checked_number}
 use Rattle.mmc_regs.specs.declared.fault.RegFault.{RegFault}
 use Rattle.mmc_regs.specs.declared.fault.RegFault.TheVariants.{Structure, Range}
@@ -44,6 +44,10 @@ csd_from kind (Err fault) = Err fault
 -- the check is judged first
 abbrev pub csd_in : Kind → List ℕ → Result Csd RegFault
 csd_in kind register = csd_from kind (checked_number register)
+
+-- The card may know CMD6, of class 10: CCC names that class, or none at all, and says nothing then (the project's own).
+abbrev pub may_switch : ℕ → Bool
+may_switch csd = (ccc csd == 0) || (class_10 csd == 1)
 
 -- the user area in bytes: C_SIZE + 1 times 2^(C_SIZE_MULT + 2) blocks of 2^READ_BL_LEN bytes
 abbrev pub bytes_by_blocks : ℕ → ℕ

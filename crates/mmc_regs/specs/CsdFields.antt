@@ -6,6 +6,14 @@ use Rattle.mmc_frame.specs.Field.{field}
 abbrev pub csd_structure : ℕ → ℕ
 csd_structure csd = field 127 126 csd
 
+-- CCC: the classes of commands that the card has, class 0 in the lowest bit
+abbrev pub ccc : ℕ → ℕ
+ccc csd = field 95 84 csd
+
+-- bit 10 of CCC
+abbrev pub class_10 : ℕ → ℕ
+class_10 csd = field 94 94 csd
+
 abbrev pub read_bl_len : ℕ → ℕ
 read_bl_len csd = field 83 80 csd
 
@@ -31,6 +39,6 @@ sector_size csd = field 45 39 csd
 abbrev pub write_bl_len : ℕ → ℕ
 write_bl_len csd = field 25 22 csd
 
--- of version 2.0, whose protect bits stand as above (SD Physical Layer 6.00, section 5.3.3)
+-- of version 2.0, whose CCC and protect bits stand as above (SD Physical Layer 6.00, section 5.3.3)
 abbrev pub c_size_v2 : ℕ → ℕ
 c_size_v2 csd = field 69 48 csd

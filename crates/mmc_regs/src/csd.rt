@@ -1,6 +1,6 @@
 // The card-specific data register.
 ghost use Rattle.std.specs.Prelude.{◌≡◌, ℕ, ◌+◌, ◌*◌, ◌/◌, ◌^◌, ◌<◌, ◌≤◌, ◌↔◌, IfOk, IsTrue};
-ghost use Rattle.mmc_regs.specs.Csd.{IsOfKind, IsSdCsd, csd_in, csd_number, erase_unit_of, erase_unit_v1, has_block_length, is_protected, sd_csd_of, sectors_of, v1_of};
+ghost use Rattle.mmc_regs.specs.Csd.{IsOfKind, IsSdCsd, csd_in, csd_number, erase_unit_of, erase_unit_v1, has_block_length, is_protected, may_switch, sd_csd_of, sectors_of, v1_of};
 ghost use Rattle.mmc_regs.specs.CsdFields.{perm_write_protect, tmp_write_protect};
 
 use crate::bits::{bits, read_checked};
@@ -69,6 +69,14 @@ impl Csd {
         ensures { result ≡ is_protected (csd_number self.now) }
     {
         self.perm_write_protect() || self.tmp_write_protect()
+    }
+
+    /// Whether an SD card may know CMD6: CCC names class 10, or no class at all.
+    pub fn may_switch(&self) -> bool
+        ensures { result ≡ may_switch (csd_number self.now) }
+    {
+        let register = self.register();
+        bits(register, 95, 84) == 0 || bits(register, 94, 94) == 1
     }
 
     /// The size of the user area in sectors of 512 bytes, rounded down. An eMMC device that is addressed by sectors has

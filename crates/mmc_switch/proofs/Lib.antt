@@ -10,6 +10,7 @@ pub mod SameLemmas
 pub mod SdLemmas
 pub mod SelectLemmas
 pub mod SwitchLemmas
+pub mod SwitchStatusLemmas
 pub mod TurnLemmas
 pub mod UnderWayLemmas
 pub mod WidenLemmas

@@ -2,12 +2,14 @@
 use denote.Enum.Bare.{same_true, true_same}
 use mathlib.Core.HLevel.{is_prop→PathP, Π_prop}
 use native.Mathlib.Bridge.{le_prop}
-use Rattle.std.proofs.Common.{◌∙◌, ◌≡◌, ◌≤◌, Bool, ap, false, refl, rules, subst, sym, true}
+use Rattle.std.proofs.Common.{◌∙◌, ◌≡◌, ◌≤◌, Bool, ap, false, inl, inr, refl, rules, subst, sym, true}
 use Rattle.std.proofs.lemmas.Bool.{eq-eqb, eqb-true}
 use Rattle.std.specs.Prelude.{◌&&◌, ◌==◌, Ok, Result}
 use Rattle.std.specs.contracts.prelude.BoolPartialEq.TheImpl as bool_by
 use Rattle.mmc_frame.specs.contracts.addressing.Addressing.{the_type as addressing_type}
 use Rattle.mmc_frame.specs.contracts.addressing.AddressingPartialEq.TheImpl as addressing_by
+use Rattle.mmc_frame.specs.declared.kind.Kind.{Kind}
+use Rattle.mmc_frame.specs.declared.kind.Kind.TheVariants as Is
 use Rattle.mmc_frame.specs.contracts.kind.Kind.{the_type as kind_type}
 use Rattle.mmc_frame.specs.contracts.kind.KindPartialEq.TheImpl as kind_by
 use Rattle.mmc_regs.specs.contracts.cid.CidPartialEq.TheImpl as cid_by
@@ -20,9 +22,10 @@ use Rattle.mmc_card.specs.Made.{Made}
 use Rattle.mmc_card.specs.contracts.exchange.Timing.{the_type as timing_type}
 use Rattle.mmc_card.specs.contracts.exchange.Width.{the_type as width_type}
 use Rattle.mmc_card.specs.contracts.exchange.WidthPartialEq.TheImpl as width_by
+use Rattle.mmc_card.specs.declared.exchange.Timing.{Timing}
 use Rattle.mmc_card.specs.declared.part.Part.{Part}
 use Rattle.mmc_card.specs.declared.part.Part.TheVariants.{Boot1, Gp1, Gp2, Gp3, Gp4, User}
-use Rattle.mmc_switch.specs.Info.{IsInfo}
+use Rattle.mmc_switch.specs.Info.{IsInfo, IsTimingOf, lasting, lasting_timing}
 use Rattle.mmc_switch.specs.Sizes.{size_of}
 use Rattle.mmc_switch.specs.contracts.info.InfoPartialEq.TheImpl as by
 use Rattle.mmc_switch.specs.contracts.sizes.SizesPartialEq.TheImpl as sizes_by
@@ -117,16 +120,28 @@ same_info a b e =
 one_csd : (r : Result Csd RegFault) (a b : Csd) → r ≡ Ok a → r ≡ Ok b → a ≡ b
 one_csd r a b e f = cc (e, f)
 
-pub known_info : (made : Made) (a b : Info) → IsInfo made a → IsInfo made b → record a { rca = b.rca } ≡ b
+-- of an SD card default speed lasts, and of an eMMC device the timing that its registers name
+same_timing : (made : Made) (kind other : Kind) (a b : Timing) → made.kind ≡ kind → kind ≡ other → IsTimingOf made a
+    → IsTimingOf made b → lasting_timing kind a ≡ lasting_timing other b
+same_timing made Is.Sd Is.Sd a b is same one two = refl
+same_timing made Is.Mmc Is.Mmc a b is same (inl one) (inl two) = one ∙ sym two
+same_timing made Is.Mmc Is.Mmc a b is same (inr one) two = cc (is, one.0)
+same_timing made Is.Mmc Is.Mmc a b is same one (inr two) = cc (is, two.0)
+same_timing made Is.Sd Is.Mmc a b is same one two = cc same
+same_timing made Is.Mmc Is.Sd a b is same one two = cc same
+
+pub known_info : (made : Made) (a b : Info) → IsInfo made a → IsInfo made b → lasting a ≡ lasting b
 known_info made a b one other =
-    same_fields (record a { rca = b.rca }) b (one.kind ∙ sym other.kind) (one.addressing ∙ sym other.addressing) refl
+    same_fields (lasting a) (lasting b) (one.kind ∙ sym other.kind) (one.addressing ∙ sym other.addressing) refl
     (one.cid ∙ sym other.cid) (one_csd _ a.csd b.csd one.csd other.csd)
     (all_sizes a.sizes b.sizes (one.sizes User ∙ sym (other.sizes User)) (one.sizes Boot1 ∙ sym (other.sizes Boot1))
     (one.sizes Gp1 ∙ sym (other.sizes Gp1)) (one.sizes Gp2 ∙ sym (other.sizes Gp2))
     (one.sizes Gp3 ∙ sym (other.sizes Gp3)) (one.sizes Gp4 ∙ sym (other.sizes Gp4)))
     (one.read_only ∙ sym other.read_only) (one.erase_unit ∙ sym other.erase_unit)
     (one.erased_byte ∙ sym other.erased_byte) (one.trims ∙ sym other.trims) (one.cmd23 ∙ sym other.cmd23)
-    (one.width ∙ sym other.width) (one.timing ∙ sym other.timing)
+    (one.width ∙ sym other.width)
+    (same_timing made a.kind b.kind a.timing b.timing (sym one.kind) (one.kind ∙ sym other.kind) one.timing
+    other.timing)
 
 -- What is the same is told to be.
 

@@ -1,10 +1,11 @@
 -- How the exchanges of widening an SD card join.
-use Rattle.std.proofs.Common.{◌∙◌, ◌≡◌, Bool, List, ap, false, refl, subst, sym, true, ℕ}
+use Rattle.std.proofs.Common.{◌∙◌, ◌≡◌, Bool, List, ap, false, inl, inr, refl, subst, sym, true, ℕ}
 use Rattle.std.proofs.lemmas.Bool.{eq-eqb, ne_eqb}
 use Rattle.std.proofs.lemmas.Result.{IfOk-from_err}
-use Rattle.std.specs.Prelude.{◌&&◌, Err, IfOk, IsErr, IsOk, Ok, Result, if◌then◌else◌, not}
+use Rattle.std.specs.Prelude.{◌&&◌, ◌==◌, Err, IfOk, IsErr, IsOk, Ok, Result, if◌then◌else◌, not}
 use Rattle.mmc_frame.specs.declared.kind.Kind.{Kind}
 use Rattle.mmc_frame.specs.declared.kind.Kind.TheVariants.{Sd}
+use Rattle.mmc_regs.specs.Csd.{may_switch}
 use Rattle.mmc_regs.specs.Scr.{scr_number, sd_spec}
 use Rattle.mmc_regs.specs.SwitchStatus.{access_mode_selected, high_speed_support}
 use Rattle.mmc_card.specs.declared.exchange.Timing.{Timing}
@@ -12,21 +13,23 @@ use Rattle.mmc_card.specs.declared.exchange.Timing.TheVariants.{Default, High}
 use Rattle.mmc_card.specs.declared.exchange.Width.{Width}
 use Rattle.mmc_card.specs.declared.exchange.Width.TheVariants.{Four, One}
 use Rattle.mmc_card.specs.BusView.{BusView}
-use Rattle.mmc_card.specs.Card.{Card}
+use Rattle.mmc_card.specs.Card.{Card, FromBytes, IsCard, Source}
 use Rattle.mmc_card.specs.Faults.{NoFault}
-use Rattle.mmc_card.specs.Laws.{Setting}
-use Rattle.mmc_card.specs.Made.{Made, has_high_speed, has_switch_function, is_sd}
-use Rattle.mmc_card.specs.RowsSwitch.{timing_after}
+use Rattle.mmc_card.specs.Laws.{Setting, timing_once_sent}
+use Rattle.mmc_card.specs.Made.{Made, csd_number_of, has_high_speed, has_switch_function, is_sd}
+use Rattle.mmc_bus.specs.CommandLaws.{IsSwitchSource, bytes_sent}
+use Rattle.mmc_bus.proofs.CommandLemmas.{switch_bytes}
 use Rattle.mmc_bus.specs.declared.cause.Cause.{Cause}
 use Rattle.mmc_bus.specs.Learned.{Stays}
 use Rattle.mmc_bus.specs.Work.{Moved}
 use Rattle.mmc_bus.proofs.PollLemmas.{Confirms}
 use Rattle.mmc_bus.proofs.WorkLemmas.{moved_as, moved_then, quiet_parts, refuted}
-use Rattle.mmc_switch.specs.Info.{timing_of, width_of}
-use Rattle.mmc_switch.specs.Stages.{IsSet, IsSetOver, first_setting, lines_of, told_of, user_setting}
+use Rattle.mmc_switch.specs.Info.{IsTimingOf, timing_of, width_of}
+use Rattle.mmc_switch.specs.Stages.{HasSwitched, IsSet, IsSetOver, IsToldOf, first_setting, lines_of, user_setting}
 use Rattle.mmc_switch.specs.declared.sd.TheConstants as Argument
 use Rattle.mmc_switch.specs.declared.sd.Told.{Told}
 use Rattle.mmc_switch.proofs.FetchLemmas.{Fetches}
+use Rattle.mmc_switch.proofs.SwitchStatusLemmas.{checks_only, same_support, says_timing}
 use Rattle.mmc_switch.proofs.RestLemmas.{moved_on_lines, no_error, set_on_lines, set_shown}
 
 -- the card stays of its kind
@@ -130,67 +133,88 @@ abbrev pub Switches : ℕ → Result (List ℕ) Cause → BusView → BusView �
 Switches argument r a b =
     Moved
     (λ old new. (setting : Setting) → old.card.made.kind ≡ Sd → IsSet false setting old
-    → IfOk r (λ status. (status ≡ old.card.made.switch_status)
-    × IsSetOver (lines_of setting) false (record setting { timing = timing_after old.card argument }) new))
+    → IfOk r (λ status. HasSwitched argument setting old.card status new))
     (λ old new. (setting : Setting) → old.card.made.kind ≡ Sd → has_switch_function old.card.made ≡ true
     → IsSet false setting old → IsOk r) a b
 
-pub status_sent : (argument : ℕ) (r : Result (List ℕ) Cause) (a b : BusView)
+-- what came was what the card sent
+switched_by : (argument : ℕ) (setting : Setting) (card : Card) (source : Source) (r : Result (List ℕ) Cause)
+    (b : BusView) → (IsOk r → IsSwitchSource card argument source)
+    → IfOk r (λ status. (status ≡ bytes_sent source)
+    × IsSetOver (lines_of setting) false (record setting { timing = timing_once_sent source card.timing }) b)
+    → IfOk r (λ status. HasSwitched argument setting card status b)
+switched_by argument setting card source (Ok status) b sends own =
+    let sent = sends refl in
+    let timing = timing_once_sent source card.timing in
+    let whole : FromBytes (bytes_sent source) timing ≡ source = switch_bytes card.timing card argument source sent in
+    record {
+      timing = timing;
+      sent = (sent.0, ap (λ (bytes : List ℕ). FromBytes bytes timing) own.0 ∙ whole ∙ sent.1);
+      is_set = own.1;
+    }
+switched_by argument setting card source (Err cause) b sends own = tt
+
+pub status_sent : (argument : ℕ) (r : Result (List ℕ) Cause) (a m b : BusView)
+    → (a.card.made.kind ≡ Sd → a.card.app ≡ false → IsOk r → IsSwitchSource a.card argument m.card.source)
     → Fetches ((a.card.made.kind ≡ Sd) × (a.card.app ≡ false)) (has_switch_function a.card.made ≡ true) false
-    a.card.made.switch_status (timing_after a.card argument) (λ bytes. bytes) r a b
+    (bytes_sent m.card.source) (timing_once_sent m.card.source a.card.timing) (λ bytes. bytes) r a b
     → Switches argument r a b
-status_sent argument r a b p =
-    let switched : Setting → Setting = λ s. record s { timing = timing_after a.card argument } in
-    moved_as a b p (λ setting sd set. p.own setting (switched setting) (sd, set.rest.app) set (ap switched set.is_set))
+status_sent argument r a m b sends p =
+    let timed : Setting → Setting =
+    λ s. record s { timing = timing_once_sent m.card.source a.card.timing } in
+    moved_as a b p
+    (λ setting sd set. switched_by argument setting a.card m.card.source r b (sends sd set.rest.app)
+    (p.own setting (timed setting) (sd, set.rest.app) set (ap timed set.is_set)))
     (λ same setting sd has set. p.fine same setting (sd, set.rest.app) has set)
 
 abbrev pub SwitchesToHigh : Width → Result Timing Cause → BusView → BusView → Type 0
 SwitchesToHigh width r a b =
     Moved
-    (λ old new. (rca : ℕ) → old.card.made.kind ≡ Sd → has_high_speed old.card.made ≡ true
-    → IsSet false (user_setting rca width Default 0) old
-    → IfOk r (λ timing. (timing ≡ High) × IsSet false (user_setting rca width High 0) new))
+    (λ old new. (rca : ℕ) → old.card.made.kind ≡ Sd → IsSet false (user_setting rca width Default 0) old
+    → IfOk r (λ timing. IsSet false (user_setting rca width timing 0) new))
     (λ old new. (rca : ℕ) → old.card.made.kind ≡ Sd → has_switch_function old.card.made ≡ true
     → IsSet false (user_setting rca width Default 0) old → IsOk r) a b
 
 pub switch_fails : (width : Width) (cause : Cause) (r : Result Timing Cause) (a b : BusView) → IsErr r
     → Switches Argument.SWITCH_TO_HIGH_SPEED (Err cause) a b → SwitchesToHigh width r a b
 switch_fails width cause r a b err p =
-    moved_as a b p (λ rca sd high set. IfOk-from_err r _ err)
+    moved_as a b p (λ rca sd set. IfOk-from_err r _ err)
     (λ same rca sd has set.
     refuted {X = List ℕ} (Err cause) refl (p.fine same (user_setting rca width Default 0) sd has set))
 
--- a card with high speed switches to it
-switched_to_high : (card : Card) → has_high_speed card.made ≡ true
-    → timing_after card Argument.SWITCH_TO_HIGH_SPEED ≡ High
-switched_to_high card high = ap (λ (h : Bool). if h then High else card.timing) high
+-- its second status says which timing is selected
+selected : (rca : ℕ) (width : Width) (status : List ℕ) (timing : Timing) (a b : BusView) → IsCard a.card
+    → a.card.made.kind ≡ Sd → (if access_mode_selected status == 1 then High else Default) ≡ timing
+    → IsSet false (user_setting rca width Default 0) a
+    → HasSwitched Argument.SWITCH_TO_HIGH_SPEED (user_setting rca width Default 0) a.card status b
+    → IsSetOver (lines_of (user_setting rca width Default 0)) false (user_setting rca width timing 0) b
+selected rca width status timing a b card sd is set now =
+    let was : a.card.timing ≡ Default = ap (λ (s : Setting). s.timing) set.is_set in
+    subst (λ t. IsSetOver (lines_of (user_setting rca width Default 0)) false (user_setting rca width t 0) b)
+    (says_timing a.card status now.timing card.registers sd now.sent
+    ∙ ap (λ (t : Timing). if access_mode_selected status == 1 then High else t) was ∙ is) now.is_set
 
-pub switched : (width : Width) (status : List ℕ) (a b c : BusView)
+pub switched : (width : Width) (status : List ℕ) (a b c : BusView) → access_mode_selected status ≡ 1
     → (b.is_kept ≡ true → Switches Argument.SWITCH_TO_HIGH_SPEED (Ok status) a b)
     → c ≡ record b { lines = record { width = width; timing = High } } → c.is_kept ≡ true
     → SwitchesToHigh width (Ok High) a c
-switched width status a b c switches e kept =
+switched width status a b c selects switches e kept =
     let q = moved_on_lines a b c _ e switches kept in
     moved_as a c q
-    (λ rca sd high set.
+    (λ rca sd set.
     let setting = user_setting rca width Default 0 in
-    let now = (q.own setting sd set).1 in (
-      refl,
-      set_on_lines false (lines_of setting) (user_setting rca width High 0) b c e
-          (subst (λ t. IsSetOver (lines_of setting) false (user_setting rca width t 0) b)
-          (switched_to_high a.card high) now),
-    ))
+    set_on_lines false (lines_of setting) (user_setting rca width High 0) b c e
+    (selected rca width status High a b q.was_card sd (rw selects refl) set (q.own setting sd set)))
     (λ same rca sd has set. refl)
 
--- its status says so
+-- it refuses
 pub not_switched : (width : Width) (status : List ℕ) (a b : BusView) → (access_mode_selected status ≡ 1 → ⊥)
     → Switches Argument.SWITCH_TO_HIGH_SPEED (Ok status) a b → SwitchesToHigh width (Ok Default) a b
 not_switched width status a b not p =
+    let other = ne_eqb (access_mode_selected status) 1 not in
     moved_as a b p
-    (λ rca sd high set.
-    let told = (p.own (user_setting rca width Default 0) sd set).0 in
-    let selects = p.was_card.registers.selected sd in
-    absurd (not (ap access_mode_selected told ∙ selects ∙ ap (λ (h : Bool). if h then 1 else 15) high)))
+    (λ rca sd set. selected rca width status Default a b p.was_card sd (rw other refl) set
+    (p.own (user_setting rca width Default 0) sd set))
     (λ same rca sd has set. refl)
 
 abbrev pub SpeedsUp : Width → Result Timing Cause → BusView → BusView → Type 0
@@ -198,7 +222,7 @@ SpeedsUp width r a b =
     Moved
     (λ old new. (rca : ℕ) → old.card.made.kind ≡ Sd → has_switch_function old.card.made ≡ true
     → IsSet false (user_setting rca width Default 0) old
-    → IfOk r (λ timing. (timing ≡ timing_of old.card.made) × IsSet false (user_setting rca width timing 0) new))
+    → IfOk r (λ timing. IsTimingOf old.card.made timing × IsSet false (user_setting rca width timing 0) new))
     (λ old new. (rca : ℕ) → old.card.made.kind ≡ Sd → has_switch_function old.card.made ≡ true
     → IsSet false (user_setting rca width Default 0) old → IsOk r) a b
 
@@ -215,8 +239,9 @@ checked_set : (rca : ℕ) (width : Width) (status : List ℕ) (a b : BusView)
     → IsSet false (user_setting rca width Default 0) a → IsSet false (user_setting rca width Default 0) b
 checked_set rca width status a b p sd set =
     let setting = user_setting rca width Default 0 in
+    let now = p.own setting sd set in
     subst (λ t. IsSetOver (lines_of setting) false (user_setting rca width t 0) b)
-    (ap (λ (s : Setting). s.timing) set.is_set) (p.own setting sd set).1
+    (checks_only a.card status now.timing now.sent ∙ ap (λ (s : Setting). s.timing) set.is_set) now.is_set
 
 timing_by : (kind : Kind) (switches fast has high other : Bool) → kind ≡ Sd → switches ≡ has → fast ≡ high
     → (if (if is_sd kind then switches && fast else other) then High else Default)
@@ -229,22 +254,22 @@ sd_timing : (made : Made) (has high : Bool) → made.kind ≡ Sd → has_switch_
 sd_timing made has high sd x y =
     timing_by made.kind (has_switch_function made) (has_high_speed made) has high _ sd x y
 
-pub not_supported : (width : Width) (status : List ℕ) (a b : BusView) → (high_speed_support status ≡ 1 → ⊥)
+pub not_supported : (width : Width) (status : List ℕ) (a b : BusView)
     → Switches Argument.CHECK_HIGH_SPEED (Ok status) a b → SpeedsUp width (Ok Default) a b
-not_supported width status a b not p =
-    moved_as a b p
-    (λ rca sd has set.
-    let told = (p.own (user_setting rca width Default 0) sd set).0 in
-    let slow = ne_eqb (high_speed_support a.card.made.switch_status) 1 (λ e. not (ap high_speed_support told ∙ e)) in
-    (sym (sd_timing a.card.made true false sd has slow), checked_set rca width status a b p sd set))
+not_supported width status a b p =
+    moved_as a b p (λ rca sd has set. (inr (sd, refl), checked_set rca width status a b p sd set))
     (λ same rca sd has set. refl)
 
-high_is : (rca : ℕ) (width : Width) (timing : Timing) (r : Result Timing Cause) (c : BusView) → timing ≡ High
-    → IfOk r (λ t. (t ≡ High) × IsSet false (user_setting rca width High 0) c)
-    → IfOk r (λ t. (t ≡ timing) × IsSet false (user_setting rca width t 0) c)
-high_is rca width timing (Ok t) c is own =
-    (own.0 ∙ sym is, subst (λ t. IsSet false (user_setting rca width t 0) c) (sym own.0) own.1)
-high_is rca width timing (Err cause) c is own = tt
+-- of a card with high speed each timing is one that it may have
+either_timing : (made : Made) (timing : Timing) → made.kind ≡ Sd → timing_of made ≡ High → IsTimingOf made timing
+either_timing made High sd is = inl (sym is)
+either_timing made Default sd is = inr (sd, refl)
+
+timing_known : (rca : ℕ) (width : Width) (made : Made) (r : Result Timing Cause) (c : BusView) → made.kind ≡ Sd
+    → timing_of made ≡ High → IfOk r (λ t. IsSet false (user_setting rca width t 0) c)
+    → IfOk r (λ t. IsTimingOf made t × IsSet false (user_setting rca width t 0) c)
+timing_known rca width made (Ok t) c sd is own = (either_timing made t sd is, own)
+timing_known rca width made (Err cause) c sd is own = tt
 
 pub supported : (width : Width) (status : List ℕ) (r : Result Timing Cause) (a b c : BusView)
     → high_speed_support status ≡ 1 → Switches Argument.CHECK_HIGH_SPEED (Ok status) a b → SwitchesToHigh width r b c
@@ -253,31 +278,40 @@ supported width status r a b c is p q =
     let back = sym p.stays.carried.made in
     moved_then a b c p q
     (λ rca sd has set.
-    let told = (p.own (user_setting rca width Default 0) sd set).0 in
+    let now = p.own (user_setting rca width Default 0) sd set in
+    let told = same_support a.card Argument.CHECK_HIGH_SPEED status now.timing now.sent in
     let fast : has_high_speed a.card.made ≡ true =
-    eq-eqb (high_speed_support a.card.made.switch_status) 1 (ap high_speed_support (sym told) ∙ is) in
-    high_is rca width (timing_of a.card.made) r c (sd_timing a.card.made true true sd has fast)
-    (q.own rca (sd_then a b p.stays sd) (ap has_high_speed (sym back) ∙ fast)
-    (checked_set rca width status a b p sd set)))
+    eq-eqb (high_speed_support a.card.made.switch_status) 1 (sym told ∙ is) in
+    timing_known rca width a.card.made r c sd (sd_timing a.card.made true true sd has fast)
+    (q.own rca (sd_then a b p.stays sd) (checked_set rca width status a b p sd set)))
     (λ same rca sd has set.
     q.fine (quiet_parts a b c p.stays q.stays same).1 rca (sd_then a b p.stays sd)
     (ap has_switch_function (sym back) ∙ has) (checked_set rca width status a b p sd set))
 
-abbrev pub SetsTiming : Width → ℕ → Result Timing Cause → BusView → BusView → Type 0
-SetsTiming width scr r a b =
+abbrev pub SetsTiming : Width → Bool → ℕ → Result Timing Cause → BusView → BusView → Type 0
+SetsTiming width switches scr r a b =
     Moved
-    (λ old new. (rca : ℕ) → old.card.made.kind ≡ Sd → scr ≡ scr_number old.card.made.scr
-    → IsSet false (user_setting rca width Default 0) old
-    → IfOk r (λ timing. (timing ≡ timing_of old.card.made) × IsSet false (user_setting rca width timing 0) new))
-    (λ old new. (rca : ℕ) → old.card.made.kind ≡ Sd → scr ≡ scr_number old.card.made.scr
-    → IsSet false (user_setting rca width Default 0) old → IsOk r) a b
+    (λ old new. (rca : ℕ) → old.card.made.kind ≡ Sd → switches ≡ may_switch (csd_number_of old.card.made)
+    → scr ≡ scr_number old.card.made.scr → IsSet false (user_setting rca width Default 0) old
+    → IfOk r (λ timing. IsTimingOf old.card.made timing × IsSet false (user_setting rca width timing 0) new))
+    (λ old new. (rca : ℕ) → old.card.made.kind ≡ Sd → switches ≡ may_switch (csd_number_of old.card.made)
+    → scr ≡ scr_number old.card.made.scr → IsSet false (user_setting rca width Default 0) old → IsOk r)
+    a b
 
-pub timing_set : (width : Width) (scr : ℕ) (r : Result Timing Cause) (a b : BusView) → (sd_spec scr ≡ 0 → ⊥)
-    → SpeedsUp width r a b → SetsTiming width scr r a b
-timing_set width scr r a b not_old p =
-    let has : scr ≡ scr_number a.card.made.scr → has_switch_function a.card.made ≡ true =
-    λ is. ap not (ne_eqb (sd_spec (scr_number a.card.made.scr)) 0 (λ e. not_old (ap sd_spec is ∙ e))) in
-    moved_as a b p (λ rca sd is set. p.own rca sd (has is) set) (λ same rca sd is set. p.fine same rca sd (has is) set)
+knows_switch : (switches old : Bool) → switches ≡ true → old ≡ false → (switches && not old) ≡ true
+knows_switch true false e f = refl
+knows_switch true true e f = cc f
+knows_switch false old e f = cc e
+
+pub timing_set : (width : Width) (switches : Bool) (scr : ℕ) (r : Result Timing Cause) (a b : BusView)
+    → switches ≡ true → (sd_spec scr ≡ 0 → ⊥) → SpeedsUp width r a b → SetsTiming width switches scr r a b
+timing_set width switches scr r a b known not_old p =
+    let has : switches ≡ may_switch (csd_number_of a.card.made) → scr ≡ scr_number a.card.made.scr
+    → has_switch_function a.card.made ≡ true =
+    λ class is. knows_switch (may_switch (csd_number_of a.card.made)) (sd_spec (scr_number a.card.made.scr) == 0)
+    (sym class ∙ known) (ne_eqb (sd_spec (scr_number a.card.made.scr)) 0 (λ e. not_old (ap sd_spec is ∙ e))) in
+    moved_as a b p (λ rca sd class is set. p.own rca sd (has class is) set)
+    (λ same rca sd class is set. p.fine same rca sd (has class is) set)
 
 -- The exchanges of widening.
 
@@ -298,21 +332,24 @@ HasWidth rca scr r a b =
     (λ old new. old.card.made.kind ≡ Sd → IsSet false (first_setting rca) old → IsOk r) a b
 
 -- and the timing is set or not
-abbrev pub HasTiming : ℕ → ℕ → Width → Result Timing Cause → BusView → BusView → Type 0
-HasTiming rca scr width r a b =
+abbrev pub HasTiming : ℕ → Bool → ℕ → Width → Result Timing Cause → BusView → BusView → Type 0
+HasTiming rca switches scr width r a b =
     Moved
-    (λ old new. old.card.made.kind ≡ Sd → IsSet false (first_setting rca) old
+    (λ old new. old.card.made.kind ≡ Sd → switches ≡ may_switch (csd_number_of old.card.made)
+    → IsSet false (first_setting rca) old
     → (scr ≡ scr_number old.card.made.scr) × (width ≡ width_of old.card.made)
-    × IfOk r (λ timing. (timing ≡ timing_of old.card.made) × IsSet false (user_setting rca width timing 0) new))
-    (λ old new. old.card.made.kind ≡ Sd → IsSet false (first_setting rca) old → IsOk r) a b
+    × IfOk r (λ timing. IsTimingOf old.card.made timing × IsSet false (user_setting rca width timing 0) new))
+    (λ old new. old.card.made.kind ≡ Sd → switches ≡ may_switch (csd_number_of old.card.made)
+    → IsSet false (first_setting rca) old → IsOk r) a b
 
-abbrev pub SetsUp : ℕ → Result Told Cause → BusView → BusView → Type 0
-SetsUp rca r a b =
+abbrev pub SetsUp : ℕ → Bool → Result Told Cause → BusView → BusView → Type 0
+SetsUp rca switches r a b =
     Moved
-    (λ old new. old.card.made.kind ≡ Sd → IsSet false (first_setting rca) old
-    → IfOk r (λ told. (told ≡ told_of old.card.made)
-    × IsSet false (user_setting rca (width_of old.card.made) (timing_of old.card.made) 0) new))
-    (λ old new. old.card.made.kind ≡ Sd → IsSet false (first_setting rca) old → IsOk r) a b
+    (λ old new. old.card.made.kind ≡ Sd → switches ≡ may_switch (csd_number_of old.card.made)
+    → IsSet false (first_setting rca) old
+    → IfOk r (λ told. IsToldOf old.card.made told × IsSet false (user_setting rca told.width told.timing 0) new))
+    (λ old new. old.card.made.kind ≡ Sd → switches ≡ may_switch (csd_number_of old.card.made)
+    → IsSet false (first_setting rca) old → IsOk r) a b
 
 pub width_after : (rca scr : ℕ) (r : Result Width Cause) (a b c : BusView) → ReadsScr rca (Ok scr) a b
     → SetsWidth rca scr r b c → HasWidth rca scr r a c
@@ -331,41 +368,43 @@ width_after rca scr r a b c p q =
     q.fine (quiet_parts a b c p.stays q.stays same).1 (sd_then a b p.stays sd)
     (p.own (first_setting rca) refl set).1)
 
-pub timing_then : (rca scr : ℕ) (width : Width) (r : Result Timing Cause) (a b c : BusView)
-    → HasWidth rca scr (Ok width) a b → SetsTiming width scr r b c → HasTiming rca scr width r a c
-timing_then rca scr width r a b c p q =
+pub timing_then : (rca : ℕ) (switches : Bool) (scr : ℕ) (width : Width) (r : Result Timing Cause) (a b c : BusView)
+    → HasWidth rca scr (Ok width) a b → SetsTiming width switches scr r b c → HasTiming rca switches scr width r a c
+timing_then rca switches scr width r a b c p q =
     let made = p.stays.carried.made in
+    let still : switches ≡ may_switch (csd_number_of a.card.made) → switches ≡ may_switch (csd_number_of b.card.made) =
+    λ class. class ∙ ap (λ (m : Made). may_switch (csd_number_of m)) (sym made) in
     let here : scr ≡ scr_number a.card.made.scr → scr ≡ scr_number b.card.made.scr =
     λ is. is ∙ ap (λ (m : Made). scr_number m.scr) (sym made) in
     moved_then a b c p q
-    (λ sd set.
+    (λ sd class set.
     let got = p.own sd set in (
       got.0,
       got.1.0,
-      subst (λ m. IfOk r (λ timing. (timing ≡ timing_of m) × IsSet false (user_setting rca width timing 0) c))
-          made (q.own rca (sd_then a b p.stays sd) (here got.0) got.1.1),
+      subst (λ m. IfOk r (λ timing. IsTimingOf m timing × IsSet false (user_setting rca width timing 0) c))
+          made (q.own rca (sd_then a b p.stays sd) (still class) (here got.0) got.1.1),
     ))
-    (λ same sd set.
+    (λ same sd class set.
     let got = p.own sd set in
-    q.fine (quiet_parts a b c p.stays q.stays same).1 rca (sd_then a b p.stays sd) (here got.0) got.1.1)
+    q.fine (quiet_parts a b c p.stays q.stays same).1 rca (sd_then a b p.stays sd) (still class) (here got.0) got.1.1)
 
-pub scr_fails : (rca : ℕ) (cause : Cause) (r : Result Told Cause) (a b : BusView) → IsErr r
-    → ReadsScr rca (Err cause) a b → SetsUp rca r a b
-scr_fails rca cause r a b err p =
-    moved_as a b p (λ sd set. IfOk-from_err r _ err)
-    (λ same sd set. refuted {X = ℕ} (Err cause) refl (p.fine same (first_setting rca) refl sd set))
+pub scr_fails : (rca : ℕ) (switches : Bool) (cause : Cause) (r : Result Told Cause) (a b : BusView) → IsErr r
+    → ReadsScr rca (Err cause) a b → SetsUp rca switches r a b
+scr_fails rca switches cause r a b err p =
+    moved_as a b p (λ sd class set. IfOk-from_err r _ err)
+    (λ same sd class set. refuted {X = ℕ} (Err cause) refl (p.fine same (first_setting rca) refl sd set))
 
-pub width_fails : (rca scr : ℕ) (cause : Cause) (r : Result Told Cause) (a b : BusView) → IsErr r
-    → HasWidth rca scr (Err cause) a b → SetsUp rca r a b
-width_fails rca scr cause r a b err p =
-    moved_as a b p (λ sd set. IfOk-from_err r _ err)
-    (λ same sd set. refuted {X = Width} (Err cause) refl (p.fine same sd set))
+pub width_fails : (rca : ℕ) (switches : Bool) (scr : ℕ) (cause : Cause) (r : Result Told Cause) (a b : BusView)
+    → IsErr r → HasWidth rca scr (Err cause) a b → SetsUp rca switches r a b
+width_fails rca switches scr cause r a b err p =
+    moved_as a b p (λ sd class set. IfOk-from_err r _ err)
+    (λ same sd class set. refuted {X = Width} (Err cause) refl (p.fine same sd set))
 
-pub timing_fails : (rca scr : ℕ) (width : Width) (cause : Cause) (r : Result Told Cause) (a b : BusView) → IsErr r
-    → HasTiming rca scr width (Err cause) a b → SetsUp rca r a b
-timing_fails rca scr width cause r a b err p =
-    moved_as a b p (λ sd set. IfOk-from_err r _ err)
-    (λ same sd set. refuted {X = Timing} (Err cause) refl (p.fine same sd set))
+pub timing_fails : (rca : ℕ) (switches : Bool) (scr : ℕ) (width : Width) (cause : Cause) (r : Result Told Cause)
+    (a b : BusView) → IsErr r → HasTiming rca switches scr width (Err cause) a b → SetsUp rca switches r a b
+timing_fails rca switches scr width cause r a b err p =
+    moved_as a b p (λ sd class set. IfOk-from_err r _ err)
+    (λ same sd class set. refuted {X = Timing} (Err cause) refl (p.fine same sd class set))
 
 -- a card at rest is confirmed without a fault
 confirmed_fine : (rca : ℕ) (width : Width) (timing : Timing) (r : Result Unit Cause) (a b : BusView)
@@ -376,26 +415,24 @@ confirmed_fine rca width timing r a b p same set =
     (record { no_error = no_error Sd false a.card rest; tran = rest.state; rests = rest.rests }) rest.app
     (ap (λ (s : Setting). s.rca) set.is_set)
 
-pub confirm_fails : (rca scr : ℕ) (width : Width) (timing : Timing) (cause : Cause) (r : Result Told Cause)
-    (a b c : BusView) → IsErr r → HasTiming rca scr width (Ok timing) a b → Confirms Sd rca (Err cause) b c
-    → SetsUp rca r a c
-confirm_fails rca scr width timing cause r a b c err p q =
-    moved_then a b c p q (λ sd set. IfOk-from_err r _ err)
-    (λ same sd set.
+pub confirm_fails : (rca : ℕ) (switches : Bool) (scr : ℕ) (width : Width) (timing : Timing) (cause : Cause)
+    (r : Result Told Cause) (a b c : BusView) → IsErr r → HasTiming rca switches scr width (Ok timing) a b
+    → Confirms Sd rca (Err cause) b c → SetsUp rca switches r a c
+confirm_fails rca switches scr width timing cause r a b c err p q =
+    moved_then a b c p q (λ sd class set. IfOk-from_err r _ err)
+    (λ same sd class set.
     refuted {X = Unit {0}} (Err cause) refl
-    (confirmed_fine rca width timing (Err cause) b c q (quiet_parts a b c p.stays q.stays same).1 (p.own sd set).2.1))
+    (confirmed_fine rca width timing (Err cause) b c q (quiet_parts a b c p.stays q.stays same).1
+    (p.own sd class set).2.1))
 
-pub set_up : (rca scr : ℕ) (width : Width) (timing : Timing) (a b c : BusView)
-    → HasTiming rca scr width (Ok timing) a b → Confirms Sd rca (Ok tt) b c
-    → SetsUp rca (Ok (record { scr = scr; width = width; timing = timing })) a c
-set_up rca scr width timing a b c p q =
+pub set_up : (rca : ℕ) (switches : Bool) (scr : ℕ) (width : Width) (timing : Timing) (a b c : BusView)
+    → HasTiming rca switches scr width (Ok timing) a b → Confirms Sd rca (Ok tt) b c
+    → SetsUp rca switches (Ok (record { scr = scr; width = width; timing = timing })) a c
+set_up rca switches scr width timing a b c p q =
     moved_then a b c p q
-    (λ sd set.
-    let made = a.card.made in
-    let got = p.own sd set in
-    let now = set_shown (user_setting rca width timing 0) b c q.set.lines (q.own refl).1 got.2.1 in (
-      cc (got.0, got.1, got.2.0),
-      subst (λ w. IsSet false (user_setting rca w (timing_of made) 0) c) got.1
-          (subst (λ t. IsSet false (user_setting rca width t 0) c) got.2.0 now),
+    (λ sd class set.
+    let got = p.own sd class set in (
+      record { scr = got.0; width = got.1; timing = got.2.0 },
+      set_shown (user_setting rca width timing 0) b c q.set.lines (q.own refl).1 got.2.1,
     ))
-    (λ same sd set. refl)
+    (λ same sd class set. refl)

@@ -10,13 +10,15 @@ use Rattle.mmc_frame.specs.Field.{field}
 use Rattle.mmc_frame.specs.declared.addressing.Addressing.TheVariants.{Bytes, Sectors}
 use Rattle.mmc_frame.specs.declared.kind.Kind.{Kind}
 use Rattle.mmc_frame.specs.declared.kind.Kind.TheVariants.{Mmc, Sd}
+use Rattle.mmc_regs.specs.Csd.{csd_number, may_switch}
 use Rattle.mmc_regs.specs.Ocr.{access_mode}
 use Rattle.mmc_ext_csd.specs.ExtCsd.{ext_csd_in, ext_csd_rev, hc_erase_grp_size, high_speed_at_52_mhz, partition_config}
 use Rattle.mmc_ext_csd.specs.ExtCsd.{sec_count}
 use Rattle.mmc_card.specs.BusView.{BusView}
 use Rattle.mmc_card.specs.Card.{Card, IsCard, is_writing}
 use Rattle.mmc_card.specs.Laws.{Setting}
-use Rattle.mmc_card.specs.Made.{HasRegisters, Made, addressing_of, has_sector_addresses, named_block_length}
+use Rattle.mmc_card.specs.Made.{HasRegisters, Made, addressing_of, csd_number_of, has_sector_addresses}
+use Rattle.mmc_card.specs.Made.{named_block_length}
 use Rattle.mmc_card.specs.Profile.{InProfile}
 use Rattle.mmc_card.specs.RowsSwitch.{ext_csd_now, partition_config_for, timing_number, width_number}
 use Rattle.mmc_card.specs.declared.exchange.Timing.{Timing}
@@ -33,10 +35,10 @@ use Rattle.mmc_switch.proofs.SwitchLemmas.{SetsUp as SetsUpMmc}
 use Rattle.mmc_bus.proofs.WorkLemmas.{both, fell, moved_as, refuted}
 use Rattle.mmc_identify.specs.Stages.{IsFound, IsLeft}
 use Rattle.mmc_identify.specs.declared.found.Found.{Found}
-use Rattle.mmc_switch.proofs.InfoLemmas.{byte_kept, count_kept, mmc_speed, tested}
+use Rattle.mmc_switch.proofs.InfoLemmas.{byte_kept, count_kept, mmc_speed, number_is, tested}
 use Rattle.mmc_switch.specs.Info.{IsInfo, erase_group_def_of, has_high_timing, timing_of, width_of}
 use Rattle.mmc_switch.specs.Place.{IsReady, Knows, setting_in}
-use Rattle.mmc_switch.specs.Stages.{IsSet, first_lines, first_setting, told_of, user_setting}
+use Rattle.mmc_switch.specs.Stages.{IsSet, IsToldOf, first_lines, first_setting, user_setting}
 use Rattle.mmc_switch.specs.declared.fault.SwitchFault.{SwitchFault}
 use Rattle.mmc_switch.specs.declared.info.Info.{Info}
 use Rattle.mmc_switch.specs.declared.sd.Told.{Told}
@@ -72,7 +74,7 @@ ready_set session rca width timing group view r w t e set =
 -- what is known of the card before is known of it after
 ready : (session : Session) (rca : ℕ) (width : Width) (timing : Timing) (group : ℕ) (a b : BusView) → IsCard b.card
     → Stays a b → Knows session a.card.made → session.selected ≡ Some User
-    → session.info.rca ≡ rca → width ≡ width_of a.card.made → timing ≡ timing_of a.card.made
+    → session.info.rca ≡ rca → session.info.width ≡ width → session.info.timing ≡ timing
     → erase_group_def_of a.card.made.kind ≡ group → IsSet false (user_setting rca width timing group) b
     → IsReady session b
 ready session rca width timing group a b card stays knows selected r w t e set =
@@ -81,8 +83,7 @@ ready session rca width timing group a b card stays knows selected r w t e set =
       is_card = card;
       knows = subst (Knows session) (sym stays.carried.made) knows;
       set =
-          ready_set session rca width timing group b r (knows.info.width ∙ sym w)
-          (knows.info.timing ∙ sym t) (ap erase_group_def_of knows.info.kind ∙ e) set;
+          ready_set session rca width timing group b r w t (ap erase_group_def_of knows.info.kind ∙ e) set;
       part = record { known = λ known is. user ∙ cc (selected, is); sd = λ sd. user };
     }
 
@@ -97,38 +98,51 @@ WidensKind kind found r a b =
     (λ old new. old.card.made.kind ≡ kind → InProfile old.card.made → IsFound old.card.made found
     → IsSet false (first_setting found.rca) old → IsOk r) a b
 
-pub sd_exchange_fails : (found : Found) (told : Result Told Cause) (r : Result Session SwitchFault) (a b : BusView)
-    → IsErr r → false ≡ is_ok told → SetsUpSd found.rca told a b → WidensKind Sd found r a b
-sd_exchange_fails found told r a b err fails p =
-    moved_as a b p (λ is own set. IfOk-from_err r _ err)
-    (λ same is profile own set. failed told fails (p.fine same is set))
+-- what its CSD lets an SD card know is what CCC of its register says
+class_found : (found : Found) (switches : Bool) (made : Made) → HasRegisters made → IsFound made found
+    → switches ≡ may_switch (csd_number found.csd) → switches ≡ may_switch (csd_number_of made)
+class_found found switches made registers own says = says ∙ ap may_switch (number_is made found.csd registers own.csd)
 
-pub sd_register_fails : (found : Found) (told : Result Told Cause) (info : Option Info) (r : Result Session SwitchFault)
-    (a b : BusView) → IsErr r → false ≡ is_some info
+pub sd_exchange_fails : (found : Found) (switches : Bool) (told : Result Told Cause) (r : Result Session SwitchFault)
+    (a b : BusView) → IsErr r → false ≡ is_ok told → switches ≡ may_switch (csd_number found.csd)
+    → SetsUpSd found.rca switches told a b → WidensKind Sd found r a b
+sd_exchange_fails found switches told r a b err fails class p =
+    moved_as a b p (λ is own set. IfOk-from_err r _ err)
+    (λ same is profile own set.
+    failed told fails
+    (p.fine same is (class_found found switches a.card.made p.was_card.registers own class) set))
+
+pub sd_register_fails : (found : Found) (switches : Bool) (told : Result Told Cause) (info : Option Info)
+    (r : Result Session SwitchFault) (a b : BusView) → IsErr r → false ≡ is_some info
     → ((made : Made) → HasRegisters made → made.kind ≡ Sd → IsFound made found → IsSome info)
-    → SetsUpSd found.rca told a b → WidensKind Sd found r a b
-sd_register_fails found told info r a b err none taken p =
+    → SetsUpSd found.rca switches told a b → WidensKind Sd found r a b
+sd_register_fails found switches told info r a b err none taken p =
     moved_as a b p (λ is own set. IfOk-from_err r _ err)
     (λ same is profile own set. cc (none, taken a.card.made p.was_card.registers is own))
 
-pub sd_widened : (found : Found) (told : Told) (up : Result Told Cause) (said : Option Info) (info : Info)
-    (session : Session) (a b : BusView) → up ≡ Ok told → said ≡ Some info → session ≡ first_session info 0
-    → ((made : Made) → HasRegisters made → made.kind ≡ Sd → IsFound made found → told ≡ told_of made
+pub sd_widened : (found : Found) (switches : Bool) (told : Told) (up : Result Told Cause) (said : Option Info)
+    (info : Info) (session : Session) (a b : BusView) → up ≡ Ok told → said ≡ Some info → session ≡ first_session info 0
+    → switches ≡ may_switch (csd_number found.csd)
+    → ((made : Made) → HasRegisters made → made.kind ≡ Sd → IsFound made found → IsToldOf made told
     → IfSome said (IsInfo made))
     → IfSome said (λ info. info.rca ≡ found.rca)
-    → SetsUpSd found.rca up a b → WidensKind Sd found (Ok session) a b
-sd_widened found told up said info session a b e some opened says named p =
+    → IfSome said (λ info. (info.width ≡ told.width) × (info.timing ≡ told.timing))
+    → SetsUpSd found.rca switches up a b → WidensKind Sd found (Ok session) a b
+sd_widened found switches told up said info session a b e some opened class says named lines p =
     let made = a.card.made in
+    let at = subst (λ (o : Option Info). IfSome o (λ info. (info.width ≡ told.width) × (info.timing ≡ told.timing)))
+    some lines in
     subst (λ (s : Session). WidensKind Sd found (Ok s) a b) (sym opened)
     (moved_as a b p
     (λ is own set.
-    let done = IfOk-at_ok _ e (p.own is set) in
+    let done = IfOk-at_ok _ e
+    (p.own is (class_found found switches made p.was_card.registers own class) set) in
     let knows : Knows (first_session info 0) made = record {
       info = subst (λ o. IfSome o (IsInfo made)) some (says made p.was_card.registers is own done.0);
       partition_config = λ mmc. cc (is, mmc);
     } in (
-      ready (first_session info 0) found.rca (width_of made) (timing_of made) 0 a b p.is_card p.stays knows refl
-          (subst (λ (o : Option Info). IfSome o (λ info. info.rca ≡ found.rca)) some named) refl refl (rw is refl)
+      ready (first_session info 0) found.rca told.width told.timing 0 a b p.is_card p.stays knows refl
+          (subst (λ (o : Option Info). IfSome o (λ info. info.rca ≡ found.rca)) some named) at.0 at.1 (rw is refl)
           done.1,
       refl,
     ))
@@ -247,8 +261,9 @@ pub mmc_widened : (found : Found) (block : List ℕ) (high : Bool) (sent : Resul
     → session ≡ first_session info config
     → ((card : Card) → HasRegisters card.made → card.made.kind ≡ Mmc → IsFound card.made found
     → block ≡ ext_csd_now card → timing ≡ timing_of card.made → IsInfo card.made info) → info.rca ≡ found.rca
+    → (info.width ≡ Over.Eight) × (info.timing ≡ timing)
     → SendsExtCsd sent a b → SetsUpMmc found.rca high up b c → WidensKind Mmc found (Ok session) a c
-mmc_widened found block high sent timing up info config session a b c e tests done by opened says named p q =
+mmc_widened found block high sent timing up info config session a b c e tests done by opened says named lines p q =
     let all = mmc_set found block high sent up a b c e tests p q in
     let made = a.card.made in
     let registers = all.was_card.registers in
@@ -263,7 +278,7 @@ mmc_widened found block high sent timing up info config session a b c e tests do
       partition_config = λ mmc. ap (field 7 3) by ∙ config_kept a.card block registers is user o.0;
     } in (
       ready (first_session info config) found.rca Over.Eight timing 1 a c all.is_card all.stays knows refl named
-          (rw is refl) t.0 (rw is refl) t.1,
+          lines.0 lines.1 (rw is refl) t.1,
       refl,
     ))
     (λ same is profile own set. refl))

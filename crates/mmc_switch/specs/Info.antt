@@ -1,5 +1,5 @@
 -- What a host knows of a card, and what the card's registers say of it.
-use Rattle.std.specs.Prelude.{◌&&◌, ◌==◌, ◌≡◌, Bool, Ok, Option, false, if◌then◌else◌, ℕ}
+use Rattle.std.specs.Prelude.{◌&&◌, ◌==◌, ◌≡◌, ◌⊎◌, Bool, Ok, Option, false, if◌then◌else◌, ℕ}
 use Rattle.mmc_frame.specs.declared.kind.Kind.{Kind}
 use Rattle.mmc_frame.specs.declared.kind.Kind.TheVariants.{Mmc, Sd}
 use Rattle.mmc_regs.specs.Csd.{csd_in}
@@ -26,7 +26,7 @@ sectors_of info part = some_size (size_of info.sizes part)
 abbrev pub width_of : Made → Width
 width_of made = if is_sd made.kind then (if four_lines (scr_number made.scr) == 1 then Four else One) else Eight
 
--- High speed where the card has it: an SD card by its switch status, an eMMC device by DEVICE_TYPE.
+-- The card has high speed: an SD card by its switch status, an eMMC device by DEVICE_TYPE.
 abbrev pub has_high_timing : Made → Bool
 has_high_timing made =
     if is_sd made.kind then has_switch_function made && has_high_speed made
@@ -34,6 +34,11 @@ has_high_timing made =
 
 abbrev pub timing_of : Made → Timing
 timing_of made = if has_high_timing made then High else Default
+
+-- The timing of a card: high speed where it has it, but that an SD card may be left at default speed, since it may
+-- refuse to switch.
+abbrev pub IsTimingOf : Made → Timing → Type 0
+IsTimingOf made timing = (timing ≡ timing_of made) ⊎ ((made.kind ≡ Sd) × (timing ≡ Default))
 
 -- only eMMC devices trim
 abbrev pub trims_of : Made → Bool
@@ -44,10 +49,15 @@ abbrev pub erase_group_def_of : Kind → ℕ
 erase_group_def_of Sd = 0
 erase_group_def_of Mmc = 1
 
+-- An SD card may refuse high speed after one reset and take it after another.
+abbrev pub lasting_timing : Kind → Timing → Timing
+lasting_timing Sd timing = Default
+lasting_timing Mmc timing = timing
+
 -- What is known of a card for good: all but the RCA, in whose place 1 stands, since an SD card may publish another one
--- whenever it is asked.
+-- whenever it is asked, and an SD card's timing, in whose place default speed stands.
 abbrev pub lasting : Info → Info
-lasting info = record info { rca = 1 }
+lasting info = record info { rca = 1; timing = lasting_timing info.kind info.timing }
 
 -- what the host knows of the card is what its registers say
 pub record IsInfo (made : Made) (info : Info) : Type 0 where
@@ -64,4 +74,4 @@ pub record IsInfo (made : Made) (info : Info) : Type 0 where
   pub trims : info.trims ≡ trims_of made
   pub cmd23 : info.cmd23 ≡ has_cmd23 made
   pub width : info.width ≡ width_of made
-  pub timing : info.timing ≡ timing_of made
+  pub timing : IsTimingOf made info.timing

@@ -1,5 +1,5 @@
 -- Where a card is while it is widened, and while its partition is selected.
-use Rattle.std.specs.Prelude.{◌≡◌, Bool, [], false, ℕ}
+use Rattle.std.specs.Prelude.{◌≡◌, Bool, List, [], false, ℕ}
 use Rattle.mmc_frame.specs.declared.card_state.State.TheVariants.{Tran}
 use Rattle.mmc_frame.specs.declared.commands.TheConstants as Index
 use Rattle.mmc_regs.specs.Scr.{scr_number}
@@ -11,10 +11,11 @@ use Rattle.mmc_card.specs.declared.exchange.Width.TheVariants.{One}
 use Rattle.mmc_card.specs.declared.part.Part.{Part}
 use Rattle.mmc_card.specs.declared.part.Part.TheVariants.{User}
 use Rattle.mmc_card.specs.BusView.{BusView}
-use Rattle.mmc_card.specs.Card.{Card, NoAddress}
+use Rattle.mmc_card.specs.Card.{Card, FromBytes, NoAddress}
 use Rattle.mmc_card.specs.Laws.{Setting, StandsIn, SwitchesTo, setting_of}
 use Rattle.mmc_card.specs.Made.{Made}
-use Rattle.mmc_switch.specs.Info.{timing_of, width_of}
+use Rattle.mmc_bus.specs.CommandLaws.{IsSwitchSource}
+use Rattle.mmc_switch.specs.Info.{IsTimingOf, width_of}
 use Rattle.mmc_switch.specs.declared.sd.Told.{Told}
 
 -- In tran, with nothing to show, nothing preset and nothing unfinished; an application command is announced or not.
@@ -63,8 +64,16 @@ abbrev pub first_setting : ℕ → Setting
 first_setting rca = user_setting rca One Default 0
 
 -- what an SD card tells while it is widened
-abbrev pub told_of : Made → Told
-told_of made = record { scr = scr_number made.scr; width = width_of made; timing = timing_of made }
+pub record IsToldOf (made : Made) (told : Told) : Type 0 where
+  pub scr : told.scr ≡ scr_number made.scr
+  pub width : told.width ≡ width_of made
+  pub timing : IsTimingOf made told.timing
+
+-- After CMD6 with this argument the card has sent this status, and is at rest with the timing that follows it.
+pub record HasSwitched (argument : ℕ) (setting : Setting) (old : Card) (status : List ℕ) (new : BusView) : Type 0 where
+  pub timing : Timing
+  pub sent : IsSwitchSource old argument (FromBytes status timing)
+  pub is_set : IsSetOver (lines_of setting) false (record setting { timing = timing }) new
 
 -- Whatever fell, CMD6 with this argument left the card standing: in its partition, or in the one that is named.
 pub record MayStandIn (argument : ℕ) (old new : BusView) : Type 0 where

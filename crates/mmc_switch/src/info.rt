@@ -54,22 +54,25 @@ impl Info {
         some_size(self.sizes.of(part))
     }
 
-    /// What is known of the card for good: all but the RCA, in whose place 1 stands.
+    /// What is known of the card for good: all but the RCA, in whose place 1 stands, and an SD card's timing, in whose
+    /// place default speed stands.
     pub fn lasting(&self) -> Info
         ensures { result ≡ lasting self.now }
     {
         let mut lasting = *self;
         lasting.rca = 1;
+        lasting.timing = match self.kind {
+            Kind::Sd => Timing::Default,
+            Kind::Mmc => self.timing,
+        };
         lasting
     }
 
-    /// Whether this and what else is known of a card are the same, but for the RCA. What is known of one card always is.
+    /// Whether this and what else is known of a card are the same for good. What is known of one card always is.
     pub fn is_same(&self, other: &Info) -> bool
         ensures same { result ≡ true → lasting self.now ≡ lasting other.now }
         ensures known { (made : Made) → IsInfo made self.now → IsInfo made other.now → result ≡ true }
     {
-        let mut named = *self;
-        named.rca = other.rca;
-        named == *other
+        self.lasting() == other.lasting()
     }
 }

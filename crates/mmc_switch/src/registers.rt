@@ -6,10 +6,11 @@ ghost use Rattle.mmc_ext_csd.specs.ExtCsd.{erase_unit};
 ghost use Rattle.mmc_card.specs.Card.{Card};
 ghost use Rattle.mmc_card.specs.Made.{HasRegisters, Made};
 ghost use Rattle.mmc_card.specs.RowsSwitch.{ext_csd_now};
+ghost use Rattle.mmc_card.specs.declared.exchange.Width.TheVariants as Over;
 ghost use Rattle.mmc_identify.specs.Stages.{IsFound};
 ghost use Rattle.mmc_switch.specs.Info.{IsInfo, timing_of};
 ghost use Rattle.mmc_switch.specs.Sizes.{mmc_sizes, sd_sizes, user_size};
-ghost use Rattle.mmc_switch.specs.Stages.{told_of};
+ghost use Rattle.mmc_switch.specs.Stages.{IsToldOf};
 
 use crate::info::Info;
 use crate::sd::Told;
@@ -73,10 +74,11 @@ fn mmc_sizes(found: &Found, ext_csd: &ExtCsd) -> Sizes
 
 /// What is known of an SD card, or none where it was found with the CSD of an eMMC device.
 pub fn sd_info(found: &Found, told: &Told) -> Option<Info>
-    ensures info { (made : Made) → HasRegisters made → made.kind ≡ Is.Sd → IsFound made found.now → told.now ≡ told_of made
+    ensures info { (made : Made) → HasRegisters made → made.kind ≡ Is.Sd → IsFound made found.now → IsToldOf made told.now
         → IfSome result (IsInfo made) }
     ensures taken { (made : Made) → HasRegisters made → made.kind ≡ Is.Sd → IsFound made found.now → IsSome result }
     ensures rca { IfSome result (λ info. info.rca ≡ found.now.rca) }
+    ensures lines { IfSome result (λ info. (info.width ≡ told.now.width) × (info.timing ≡ told.now.timing)) }
 {
     let erase_unit = sd_erase_unit(&found.csd)?;
     Some(Info {
@@ -102,6 +104,7 @@ pub fn mmc_info(found: &Found, ext_csd: &ExtCsd, timing: Timing) -> Info
     ensures info { (card : Card) → HasRegisters card.made → card.made.kind ≡ Is.Mmc → IsFound card.made found.now
         → ext_csd.now ≡ ext_csd_now card → timing ≡ timing_of card.made → IsInfo card.made result }
     ensures rca { result.rca ≡ found.now.rca }
+    ensures lines { (result.width ≡ Over.Eight) × (result.timing ≡ timing) }
 {
     Info {
         kind: Kind::Mmc,

@@ -1,19 +1,19 @@
 // What widening does with SD cards (SD Physical Layer 6.00, sections 4.3.10, 4.7.4 and 5.6).
 ghost use Rattle.std.specs.Prelude.{◌≡◌, ◌+◌, ◌≤◌, IfOk, IsOk, Some, false, true, ℕ};
 ghost use Rattle.mmc_frame.specs.declared.kind.Kind.TheVariants.{Sd};
+ghost use Rattle.mmc_regs.specs.Csd.{may_switch};
 ghost use Rattle.mmc_regs.specs.Scr.{four_lines, scr_number, sd_spec};
 ghost use Rattle.mmc_card.specs.Laws.{Setting};
-ghost use Rattle.mmc_card.specs.Made.{has_high_speed, has_switch_function};
+ghost use Rattle.mmc_card.specs.Made.{csd_number_of, has_switch_function};
 ghost use Rattle.mmc_card.specs.Profile.{InProfile};
-ghost use Rattle.mmc_card.specs.RowsSwitch.{timing_after};
 ghost use Rattle.mmc_card.specs.declared.exchange.Timing.TheVariants as At;
 ghost use Rattle.mmc_card.specs.declared.exchange.Width.TheVariants as Over;
 ghost use Rattle.mmc_card.specs.declared.part.Part.TheVariants.{User};
 ghost use Rattle.mmc_bus.specs.Work.{Moves, MovesFrom};
 ghost use Rattle.mmc_identify.specs.Stages.{IsFound};
-ghost use Rattle.mmc_switch.specs.Info.{timing_of, width_of};
+ghost use Rattle.mmc_switch.specs.Info.{IsTimingOf, width_of};
 ghost use Rattle.mmc_switch.specs.Place.{IsReady};
-ghost use Rattle.mmc_switch.specs.Stages.{IsSet, IsSetOver, first_setting, lines_of, told_of, user_setting};
+ghost use Rattle.mmc_switch.specs.Stages.{HasSwitched, IsSet, IsSetOver, IsToldOf, first_setting, lines_of, user_setting};
 
 use crate::fault::SwitchFault;
 use crate::registers::sd_info;
@@ -143,8 +143,7 @@ fn switch_func<B: Bus>(bus: &mut B, argument: u32) -> Result<SwitchStatus, Cause
     ensures bounded { (B.view bus.new).exchanges ≤ (B.view bus.old).exchanges + 2 }
     ensures moves { Moves
         (λ old new. (setting : Setting) → old.card.made.kind ≡ Sd → IsSet false setting old
-        → IfOk result (λ status. (status ≡ old.card.made.switch_status)
-        × IsSetOver (lines_of setting) false (record setting { timing = timing_after old.card argument }) new))
+        → IfOk result (λ status. HasSwitched argument setting old.card status new))
         (λ old new. (setting : Setting) → old.card.made.kind ≡ Sd → has_switch_function old.card.made ≡ true
         → IsSet false setting old → IsOk result)
         (B.view bus.old) (B.view bus.new) }
@@ -158,13 +157,12 @@ fn switch_func<B: Bus>(bus: &mut B, argument: u32) -> Result<SwitchStatus, Cause
     Ok(SwitchStatus::new(&block))
 }
 
-// High speed, of the card and then of the host, where the card switches to it.
+// High speed, of the card and then of the host, where the card switches to it: its status may say that it didn't.
 fn switch_to_high_speed<B: Bus>(bus: &mut B, width: Width) -> Result<Timing, Cause>
     ensures bounded { (B.view bus.new).exchanges ≤ (B.view bus.old).exchanges + 2 }
     ensures moves { Moves
-        (λ old new. (rca : ℕ) → old.card.made.kind ≡ Sd → has_high_speed old.card.made ≡ true
-        → IsSet false (user_setting rca width At.Default 0) old
-        → IfOk result (λ timing. (timing ≡ At.High) × IsSet false (user_setting rca width At.High 0) new))
+        (λ old new. (rca : ℕ) → old.card.made.kind ≡ Sd → IsSet false (user_setting rca width At.Default 0) old
+        → IfOk result (λ timing. IsSet false (user_setting rca width timing 0) new))
         (λ old new. (rca : ℕ) → old.card.made.kind ≡ Sd → has_switch_function old.card.made ≡ true
         → IsSet false (user_setting rca width At.Default 0) old → IsOk result)
         (B.view bus.old) (B.view bus.new) }
@@ -183,7 +181,7 @@ fn speed_up<B: Bus>(bus: &mut B, width: Width) -> Result<Timing, Cause>
     ensures moves { Moves
         (λ old new. (rca : ℕ) → old.card.made.kind ≡ Sd → has_switch_function old.card.made ≡ true
         → IsSet false (user_setting rca width At.Default 0) old
-        → IfOk result (λ timing. (timing ≡ timing_of old.card.made) × IsSet false (user_setting rca width timing 0) new))
+        → IfOk result (λ timing. IsTimingOf old.card.made timing × IsSet false (user_setting rca width timing 0) new))
         (λ old new. (rca : ℕ) → old.card.made.kind ≡ Sd → has_switch_function old.card.made ≡ true
         → IsSet false (user_setting rca width At.Default 0) old → IsOk result)
         (B.view bus.old) (B.view bus.new) }
@@ -195,38 +193,39 @@ fn speed_up<B: Bus>(bus: &mut B, width: Width) -> Result<Timing, Cause>
     }
 }
 
-// High speed where the card has it.
-fn set_timing<B: Bus>(bus: &mut B, width: Width, scr: Scr) -> Result<Timing, Cause>
+// High speed where the card takes it. CCC decides whether it has CMD6, and then SD_SPEC.
+fn set_timing<B: Bus>(bus: &mut B, width: Width, switches: bool, scr: Scr) -> Result<Timing, Cause>
     ensures bounded { (B.view bus.new).exchanges ≤ (B.view bus.old).exchanges + 4 }
     ensures kept { (B.view bus.new).is_kept ≡ true → (B.view bus.old).is_kept ≡ true }
     ensures moves { MovesFrom
-        (λ old new. (rca : ℕ) → old.card.made.kind ≡ Sd → scr ≡ scr_number old.card.made.scr
-        → IsSet false (user_setting rca width At.Default 0) old
-        → IfOk result (λ timing. (timing ≡ timing_of old.card.made) × IsSet false (user_setting rca width timing 0) new))
-        (λ old new. (rca : ℕ) → old.card.made.kind ≡ Sd → scr ≡ scr_number old.card.made.scr
-        → IsSet false (user_setting rca width At.Default 0) old → IsOk result)
+        (λ old new. (rca : ℕ) → old.card.made.kind ≡ Sd → switches ≡ may_switch (csd_number_of old.card.made)
+        → scr ≡ scr_number old.card.made.scr → IsSet false (user_setting rca width At.Default 0) old
+        → IfOk result (λ timing. IsTimingOf old.card.made timing × IsSet false (user_setting rca width timing 0) new))
+        (λ old new. (rca : ℕ) → old.card.made.kind ≡ Sd → switches ≡ may_switch (csd_number_of old.card.made)
+        → scr ≡ scr_number old.card.made.scr → IsSet false (user_setting rca width At.Default 0) old → IsOk result)
         (B.view bus.old) (B.view bus.new) }
 {
-    if scr.sd_spec() == 0 {
-        Ok(Timing::Default)
-    } else {
+    if switches && scr.sd_spec() != 0 {
         speed_up(bus, width)
+    } else {
+        Ok(Timing::Default)
     }
 }
 
-// The exchanges of widening.
-fn set_up<B: Bus>(bus: &mut B, rca: u16) -> Result<Told, Cause>
+// The exchanges of widening, of a card whose CCC lets it know CMD6, or doesn't.
+fn set_up<B: Bus>(bus: &mut B, rca: u16, switches: bool) -> Result<Told, Cause>
     ensures bounded { (B.view bus.new).exchanges ≤ (B.view bus.old).exchanges + 10 }
     ensures moves { Moves
-        (λ old new. old.card.made.kind ≡ Sd → IsSet false (first_setting rca) old
-        → IfOk result (λ told. (told ≡ told_of old.card.made)
-        × IsSet false (user_setting rca (width_of old.card.made) (timing_of old.card.made) 0) new))
-        (λ old new. old.card.made.kind ≡ Sd → IsSet false (first_setting rca) old → IsOk result)
+        (λ old new. old.card.made.kind ≡ Sd → switches ≡ may_switch (csd_number_of old.card.made)
+        → IsSet false (first_setting rca) old
+        → IfOk result (λ told. IsToldOf old.card.made told × IsSet false (user_setting rca told.width told.timing 0) new))
+        (λ old new. old.card.made.kind ≡ Sd → switches ≡ may_switch (csd_number_of old.card.made)
+        → IsSet false (first_setting rca) old → IsOk result)
         (B.view bus.old) (B.view bus.new) }
 {
     let scr = read_scr(bus, rca)?;
     let width = set_width(bus, rca, scr)?;
-    let timing = set_timing(bus, width, scr)?;
+    let timing = set_timing(bus, width, switches, scr)?;
     confirm(bus, Kind::Sd, rca)?;
     Ok(Told { scr, width, timing })
 }
@@ -243,7 +242,7 @@ pub fn widen<B: Bus>(bus: &mut B, found: &Found) -> Result<Session, SwitchFault>
         → IsSet false (first_setting found.now.rca) old → IsOk result)
         (B.view bus.old) (B.view bus.new) }
 {
-    let told = set_up(bus, found.rca).map_err(|_| SwitchFault::Exchange)?;
+    let told = set_up(bus, found.rca, found.csd.may_switch()).map_err(|_| SwitchFault::Exchange)?;
     let info = sd_info(found, &told).ok_or(SwitchFault::Register)?;
     Ok(Session::opened(info, 0))
 }

@@ -1,8 +1,8 @@
 // Width and speed, from a card that is in tran as identification leaves it to one that is ready.
 //
 // 1. A card with byte addresses gets blocks of 512 bytes (CMD16).
-// 2. SD: the SCR; four lines where it names them; high speed where the card has CMD6 and its switch status names it; and
-//    a clean status.
+// 2. SD: the SCR; four lines where it names them; high speed where the card has CMD6, its switch status names it, and its
+//    second one selects it; and a clean status.
 // 3. eMMC: the EXT_CSD, which is judged at once; erase groups by HC_ERASE_GRP_SIZE, eight lines, and high speed where
 //    DEVICE_TYPE names it: each is one switch, which has to be confirmed before the host's lines follow.
 // 4. Each response has to be sound and without an error. Anything else ends it.

@@ -1,20 +1,46 @@
-use Rattle.std.proofs.Common.{ap, false, refl}
+use Rattle.std.proofs.Common.{◌∙◌, ◌≡◌, ap, false, refl, sym, ℕ}
 use Rattle.mmc_frame.specs.declared.card_state.State.TheVariants.{Tran}
-use Rattle.mmc_bus.proofs.CommandLemmas.{does_known, dropped}
+use Rattle.mmc_bus.proofs.CommandLemmas.{comes, does_known_chosen, dropped, switch_bytes}
 use Rattle.mmc_bus.proofs.switch_laws.cmd6_sends_the_switch_status.Goals as goal
-use Rattle.mmc_card.specs.CardAnswer.{Checked, status}
+use Rattle.mmc_bus.specs.CommandLaws.{bytes_sent}
 use Rattle.mmc_bus.specs.Heard.{response_of}
-use Rattle.mmc_card.specs.Card.{Card}
-use Rattle.mmc_card.specs.Rows.{without_addresses}
-use Rattle.mmc_card.specs.RowsSwitch.{timing_after}
-use Rattle.mmc_card.specs.RowsTransfer.{sending}
+use Rattle.mmc_card.specs.Card.{Card, Source}
+use Rattle.mmc_card.specs.CardAnswer.{CardAnswer, Checked, Choice, status}
+use Rattle.mmc_card.specs.Laws.{timing_once_sent}
 use Rattle.mmc_card.specs.Made.{has_switch_function}
+use Rattle.mmc_card.specs.Rows.{row, without_addresses}
+use Rattle.mmc_card.specs.RowsErase.{forgotten}
+use Rattle.mmc_card.specs.RowsSwitch.{switch_source}
+use Rattle.mmc_card.specs.RowsTransfer.{sending, sending_from}
 use Rattle.mmc_card.specs.declared.command.Command.TheVariants.{SwitchFunc}
 
+-- the row, from the card as it was
+sends : (choice : Choice) (card : Card) (argument : ℕ)
+    → row choice SwitchFunc (without_addresses card) 6 argument
+    ≡ (
+      sending_from (switch_source choice card argument) (forgotten card),
+      Checked 6 (status false (without_addresses card)),
+    )
+sends choice card argument =
+    ap (λ (d : Card). (d, Checked 6 (status false (without_addresses card))))
+    (dropped (λ d. sending_from (switch_source choice d argument) d) card refl)
+
 pub returns : goal.returns
-returns c = λ old new argument heard facts kind app.
-    does_known (response_of 6) Tran (has_switch_function old.card.made) (status false (without_addresses old.card)) _
-    (Checked 6 (status false (without_addresses old.card))) SwitchFunc old 6 argument heard new facts
-    (rw (kind, app) refl)
-    refl refl (λ choice there. ap (λ (d : Card). (d, Checked 6 (status false (without_addresses old.card))))
-    (dropped (λ d. sending d.made.switch_status (timing_after d argument) d) old.card refl)) refl
+returns c = record {
+  does = λ old new argument heard facts kind app.
+      does_known_chosen {N = Source} (response_of 6) Tran (has_switch_function old.card.made)
+      (λ choice. switch_source choice old.card argument) (λ (card : Card). card.source)
+      (status false (without_addresses old.card))
+      (λ source. sending (bytes_sent source) (timing_once_sent source old.card.timing) (forgotten old.card))
+      (Checked 6 (status false (without_addresses old.card))) SwitchFunc old 6 argument heard new facts
+      (rw (kind, app) refl) refl refl
+      (λ choice. sends choice old.card argument
+      ∙ ap (λ (s : Source). (sending_from s (forgotten old.card), Checked 6 (status false (without_addresses old.card))))
+      (sym (switch_bytes old.card.timing old.card argument _ (choice, refl))))
+      refl (λ choice. switch_bytes old.card.timing old.card argument _ (choice, refl));
+  sends = λ old new argument told heard facts kind app h.
+      let o = facts.sound told h in
+      let d = comes o.choice SwitchFunc old.card 6 argument _ (rw (kind, app) refl)
+      (sends o.choice old.card argument) in
+      (o.choice, ap (λ (card : Card). card.source) (o.card ∙ ap (λ (x : Card × CardAnswer). x.0) d));
+}

@@ -38,4 +38,5 @@ returns-clause-moves g c kept =
     c.high_speed.ensures
     (ok_is c.set_up.result c.in_ok-timing.timing c.in_ok-timing.ensures.cases)
     c.partition_config.ensures c.opened.ensures c.mmc_info-info.ensures.info c.mmc_info-info.ensures.rca
+    c.mmc_info-info.ensures.lines
     (c.send_ext_csd.ensures.moves q.was_kept) q

@@ -1,4 +1,4 @@
-use Rattle.std.proofs.Common.{◌∙◌, ap, refl, sym}
+use Rattle.std.proofs.Common.{◌∙◌, ap, inl, refl, sym}
 use Rattle.mmc_ext_csd.specs.ExtCsd.{trim_support}
 use Rattle.mmc_regs.specs.Csd.{is_protected}
 use Rattle.mmc_switch.proofs.InfoLemmas.{mmc_erased, mmc_fit, mmc_sizes_are, mmc_trims, mmc_unit, number_is, tested}
@@ -30,7 +30,8 @@ returns c = record {
         ∙ mmc_trims card c.args.ext_csd.now is told;
     cmd23 = rw is refl;
     width = rw is refl;
-    timing = at;
+    timing = inl at;
   };
   rca = refl;
+  lines = (refl, refl);
 }

@@ -2,7 +2,6 @@ use Rattle.std.proofs.Common.{◌∙◌, ap, refl, sym}
 use Rattle.std.specs.Prelude.{◌==◌}
 use Rattle.mmc_regs.specs.Csd.{is_protected}
 use Rattle.mmc_regs.specs.Scr.{erased_byte, set_block_count}
-use Rattle.mmc_switch.specs.declared.sd.Told.{Told}
 use Rattle.mmc_switch.proofs.InfoLemmas.{is_sd_csd, number_is, sd_fit, sd_sizes_are, sd_unit, tested}
 use Rattle.mmc_switch.proofs.registers.sd_info.Goals as goal
 
@@ -28,11 +27,11 @@ returns-clause-info c made registers is found told = record {
       (sd_sizes_are made c.args.found.now.csd c.args.found.now.addressing registers is found.csd found.addressing);
   read_only = c.read_only.ensures ∙ ap is_protected (number_is made c.args.found.now.csd registers found.csd);
   erase_unit = c.in_ok-erase_unit.ensures.unit ∙ sd_unit made c.args.found.now.csd registers is found.csd;
-  erased_byte = c.erased_byte.ensures ∙ ap (λ (t : Told). erased_byte t.scr) told ∙ rw is refl;
+  erased_byte = c.erased_byte.ensures ∙ ap erased_byte told.scr ∙ rw is refl;
   trims = rw is refl;
   cmd23 =
       tested c.has_set_block_count.result (set_block_count c.args.told.now.scr) c.has_set_block_count.ensures
-      ∙ ap (λ (t : Told). set_block_count t.scr == 1) told ∙ rw is refl;
-  width = ap (λ (t : Told). t.width) told;
-  timing = ap (λ (t : Told). t.timing) told;
+      ∙ ap (λ scr. set_block_count scr == 1) told.scr ∙ rw is refl;
+  width = told.width;
+  timing = told.timing;
 }

@@ -19,5 +19,4 @@ pub returns-else-supports_high_speed-clause-moves :
     goal.returns-else-supports_high_speed-clause-moves
 returns-else-supports_high_speed-clause-moves g c kept =
     not_supported c.args.width c.in_ok-switch_func.field-0 (g.B.Bus.view c.args.bus.now)
-    (g.B.Bus.view c.switch_func.new.bus) (λ supports. cc (c.if-supports_high_speed.ensures.1 supports))
-    (c.in_ok-switch_func.ensures.moves kept)
+    (g.B.Bus.view c.switch_func.new.bus) (c.in_ok-switch_func.ensures.moves kept)

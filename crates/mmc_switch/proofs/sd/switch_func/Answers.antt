@@ -1,9 +1,12 @@
-use Rattle.std.proofs.Common.{◌≡◌, arith, false}
+use Rattle.std.proofs.Common.{◌≡◌, arith, false, refl}
 use Rattle.std.specs.Prelude.{Err, Ok}
 use Rattle.mmc_frame.specs.declared.kind.Kind.TheVariants.{Sd}
-use Rattle.mmc_card.specs.RowsSwitch.{timing_after}
+use Rattle.mmc_card.specs.Laws.{timing_once_sent}
+use Rattle.mmc_bus.specs.CommandLaws.{IsSwitchSource, bytes_sent}
+use Rattle.mmc_bus.proofs.WorkLemmas.{refuted}
 use Rattle.mmc_switch.proofs.FetchLemmas.{block_fails, command_fails, commanded, fetched}
 use Rattle.mmc_switch.proofs.SdLemmas.{status_sent}
+use Rattle.mmc_switch.proofs.SwitchStatusLemmas.{sent_length}
 use Rattle.mmc_switch.proofs.sd.switch_func.Goals as goal
 
 pub returns-in_err-check_r1-clause-moves : goal.returns-in_err-check_r1-clause-moves
@@ -11,8 +14,8 @@ returns-in_err-check_r1-clause-moves g c kept =
     let a = g.B.Bus.view c.args.bus.now in
     let b = g.B.Bus.view c.ask.new.bus in
     let argument = c.args.argument in
-    let bytes = a.card.made.switch_status in
-    let timing = timing_after a.card argument in
+    let bytes = bytes_sent b.card.source in
+    let timing = timing_once_sent b.card.source a.card.timing in
     let asked = c.ask.ensures.asked in
     let r = c.from_residual.result in
     let cause = c.in_err-check_r1.field-0.0 in
@@ -21,8 +24,8 @@ returns-in_err-check_r1-clause-moves g c kept =
     let none = c.no_command_but_erase_widens.ensures a.card 6 argument (omega arith) (λ e. absurd (omega (arith, e))) in
     let p = commanded {Asks = (a.card.made.kind ≡ Sd) × (a.card.app ≡ false)} Sd false bytes timing a 6 argument
     c.ask.result b (Err cause) asked kept none c.a_status_tells_of_its_card.ensures.errors judged.ok judged.all
-    (λ asks. c.cmd6_sends_the_switch_status.ensures _ _ _ _ k.step asks.0 asks.1) in
-    status_sent argument r a b
+    (λ asks. c.cmd6_sends_the_switch_status.ensures.does _ _ _ _ k.step asks.0 asks.1) in
+    status_sent argument r a b b (λ sd app ok. refuted r c.from_residual.ensures.0 ok)
     (command_fails false bytes timing (λ bytes. bytes) cause r a b
     (λ asks has rest. (rest.state, has)) c.from_residual.ensures.0 p)
 
@@ -32,8 +35,8 @@ returns-in_err-receive-clause-moves g c kept =
     let b = g.B.Bus.view c.ask.new.bus in
     let argument = c.args.argument in
     let d = g.B.Bus.view c.receive.new.bus in
-    let bytes = a.card.made.switch_status in
-    let timing = timing_after a.card argument in
+    let bytes = bytes_sent b.card.source in
+    let timing = timing_once_sent b.card.source a.card.timing in
     let asked = c.ask.ensures.asked in
     let r = c.from_residual-in_err-receive.result in
     let cause = c.in_err-receive.field-0.0 in
@@ -43,10 +46,13 @@ returns-in_err-receive-clause-moves g c kept =
     let none = c.no_command_but_erase_widens.ensures a.card 6 argument (omega arith) (λ e. absurd (omega (arith, e))) in
     let p = commanded {Asks = (a.card.made.kind ≡ Sd) × (a.card.app ≡ false)} Sd false bytes timing a 6 argument
     c.ask.result b (Ok tt) asked q.was_kept none c.a_status_tells_of_its_card.ensures.errors judged.ok judged.all
-    (λ asks. c.cmd6_sends_the_switch_status.ensures _ _ _ _ k.step asks.0 asks.1) in
-    status_sent argument r a d
+    (λ asks. c.cmd6_sends_the_switch_status.ensures.does _ _ _ _ k.step asks.0 asks.1) in
+    let sends : a.card.made.kind ≡ Sd → a.card.app ≡ false → IsSwitchSource a.card argument b.card.source =
+    λ sd app. c.cmd6_sends_the_switch_status.ensures.sends _ _ _ _ _ k.step sd app (judged.ok refl).1 in
+    status_sent argument r a b d (λ sd app ok. refuted r c.from_residual-in_err-receive.ensures.0 ok)
     (block_fails 64 false bytes c.receive.new.buffer timing (λ bytes. bytes) cause r a b d
-    (λ asks has card. card.registers.switch_status asks.0) c.from_residual-in_err-receive.ensures.0 p q)
+    (λ asks has card. sent_length a.card argument b.card.source (sends asks.0 asks.1)
+    (card.registers.switch_status asks.0)) c.from_residual-in_err-receive.ensures.0 p q)
 
 pub returns-clause-moves : goal.returns-clause-moves
 returns-clause-moves g c kept =
@@ -54,8 +60,8 @@ returns-clause-moves g c kept =
     let b = g.B.Bus.view c.ask.new.bus in
     let argument = c.args.argument in
     let d = g.B.Bus.view c.receive.new.bus in
-    let bytes = a.card.made.switch_status in
-    let timing = timing_after a.card argument in
+    let bytes = bytes_sent b.card.source in
+    let timing = timing_once_sent b.card.source a.card.timing in
     let asked = c.ask.ensures.asked in
     let judged = c.in_ok-check_r1.ensures in
     let q = c.in_ok-receive.ensures.works kept in
@@ -63,6 +69,8 @@ returns-clause-moves g c kept =
     let none = c.no_command_but_erase_widens.ensures a.card 6 argument (omega arith) (λ e. absurd (omega (arith, e))) in
     let p = commanded {Asks = (a.card.made.kind ≡ Sd) × (a.card.app ≡ false)} Sd false bytes timing a 6 argument
     c.ask.result b (Ok tt) asked q.was_kept none c.a_status_tells_of_its_card.ensures.errors judged.ok judged.all
-    (λ asks. c.cmd6_sends_the_switch_status.ensures _ _ _ _ k.step asks.0 asks.1) in
-    status_sent argument (Ok c.new.result) a d
+    (λ asks. c.cmd6_sends_the_switch_status.ensures.does _ _ _ _ k.step asks.0 asks.1) in
+    let sends : a.card.made.kind ≡ Sd → a.card.app ≡ false → IsSwitchSource a.card argument b.card.source =
+    λ sd app. c.cmd6_sends_the_switch_status.ensures.sends _ _ _ _ _ k.step sd app (judged.ok refl).1 in
+    status_sent argument (Ok c.new.result) a b d (λ sd app ok. sends sd app)
     (fetched 64 false bytes c.receive.new.buffer timing (λ bytes. bytes) c.new.result a b d c.new.ensures p q)
