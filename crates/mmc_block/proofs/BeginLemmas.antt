@@ -4,7 +4,7 @@ use Rattle.mmc_card.specs.RowsErase.{is_boot}
 use Rattle.mmc_erase.specs.Job.{suits}
 use Rattle.mmc_erase.specs.declared.how.How.{How}
 use Rattle.mmc_erase.specs.declared.how.How.TheVariants as how
-use Rattle.mmc_queue.specs.Group.{FormExtent, IsOneOf}
+use Rattle.mmc_queue.specs.Group.{FormExtent, IsFair, IsOneOf}
 use Rattle.mmc_queue.specs.Requests.{count_of, is_read, kind_of, part_of, start_of}
 use Rattle.mmc_queue.specs.declared.entry.Entry.{Entry}
 use Rattle.mmc_queue.specs.declared.group.Group.{Group}
@@ -18,7 +18,13 @@ use Rattle.mmc_switch.specs.UnderWay.{known_part, part_of as selected_part, room
 use Rattle.mmc_switch.specs.declared.info.Info.{Info}
 use Rattle.mmc_switch.specs.declared.session.Session.{Session}
 use Rattle.mmc_block.specs.Entries.{AreServable, IsErasable, IsServable}
-use Rattle.mmc_block.specs.Service.{info_of, kind_of_how}
+use Rattle.mmc_block.specs.Service.{EmptyIfIdle, HasStarted, IfIdle, info_of, kind_of_how, service_of}
+use Rattle.mmc_block.specs.Service.Service.{Serving}
+use Rattle.mmc_block.specs.declared.service.Attempt.{Attempt}
+use Rattle.mmc_block.specs.declared.service.Link.{Link}
+use Rattle.mmc_block.specs.declared.service.Stage.TheVariants.{At}
+use Rattle.mmc_block.specs.declared.service.Phase.{Phase}
+use Rattle.mmc_block.specs.declared.service.Phase.TheVariants as phase
 
 pub is_servable : (info : Info) (es : List Entry) (e : Entry) → IsOneOf es e → AreServable info es
     → IsServable info e.request e.buffer
@@ -119,3 +125,25 @@ module _ (session : Session) (g : Group) (selected : session.selected ≡ Some g
         ∙ ap (λ n. suits how (info_of session) (size_of session.info.sizes (part_of last.request)) (start_of last.request) n)
         (sym counts_all)
         ∙ suits_alone.1
+
+-- Where nothing is in service.
+
+pub nobody_served : (was : Phase) (attempt : Attempt) → IfIdle was (λ link. Unit {0}) → EmptyIfIdle was attempt
+    → attempt.group.members.items ≡ []
+nobody_served (phase.Idle link) attempt idle empty = empty.0
+nobody_served (phase.Serving stage) attempt idle empty = absurd idle
+nobody_served phase.Taken attempt idle empty = absurd idle
+
+-- and the next group goes into service
+pub group_started : (was : Phase) (link : Link) (old left : List Entry) (attempt : Attempt) (group : Group) → was ≡ phase.Idle link
+    → EmptyIfIdle was attempt → IsFair old group.members.items group.extent left
+    → HasStarted old (service_of was attempt) left (Serving (At link) (record attempt { group = group; failed = 0 }))
+group_started was link old left attempt group is empty fair =
+    let none = subst (λ (p : Phase). EmptyIfIdle p attempt) is empty in
+    subst (λ (p : Phase). HasStarted old (service_of p attempt) left (Serving (At link) (record attempt { group = group; failed = 0 })))
+    (sym is) (inr (
+      record attempt { group = group; failed = 0 },
+      refl,
+      record { members_are = refl; others_are = none.1; joined = fair.joined; failed = refl },
+      fair,
+    ))

@@ -119,7 +119,13 @@ IfServing (phase.Serving stage) Holds = Holds stage
 IfServing (phase.Idle link) Holds = ⊥
 IfServing phase.Taken Holds = ⊥
 
--- the same where its run is still to begin, and where that is under way
+-- nothing is in service, and this holds of the card
+abbrev pub IfIdle : Phase → (Link → Type 0) → Type 0
+IfIdle (phase.Idle link) Holds = Holds link
+IfIdle (phase.Serving stage) Holds = ⊥
+IfIdle phase.Taken Holds = ⊥
+
+-- an attempt's run is still to begin, or is under way
 abbrev pub IfAt : Phase → (Link → Type 0) → Type 0
 IfAt (phase.Serving (At link)) Holds = Holds link
 IfAt (phase.Serving (Running work)) Holds = ⊥
