@@ -50,7 +50,8 @@ fn reads_every_key_in_any_order(rt: HostRuntime) {
 
 #[test]
 fn reads_an_rca_that_changes_and_a_refusal(rt: HostRuntime) {
-    let text = b"kind sd\nrca changes\nhighspeed refused-0\nocr 00ff8000\nsectors 1\nscr 0005000000000000\n\
+    let text =
+        b"kind sd\nrca changes\nhighspeed refused-0\nocr 00ff8000\nsectors 1\nscr 0005000000000000\n\
         cid 00000000000000000000000000000001\ncsd 00000000000000000000000000000001";
     let Ok(file) = read_card(rt.alloc(), text) else {
         assert!(rt; false);
