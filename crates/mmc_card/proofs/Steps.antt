@@ -14,7 +14,7 @@ use Rattle.mmc_card.specs.Blocks.{accepted, asked_for, can_send, can_accept, fal
 use Rattle.mmc_card.specs.Blocks.{programmed, rejected, rested, sent, waited}
 use Rattle.mmc_card.specs.Card.{AreAmong, Card, is_in}
 use Rattle.mmc_card.specs.Faults.{CommandStep, WriteStep, PollStep, ReadStep, bad_block, brownout, busy, fail, faithful}
-use Rattle.mmc_card.specs.Faults.{fall_short}
+use Rattle.mmc_card.specs.Faults.{fail_switch, fall_short}
 use Rattle.mmc_card.specs.Faults.{flip_command, flip_reply, lose_command, lose_reply, lose_status, read_error, reject}
 use Rattle.mmc_card.specs.Faults.{slow_inquiry}
 use Rattle.mmc_card.specs.Rows.{answered}
@@ -44,6 +44,7 @@ after_command P old frame reply new stays answers garbles survives step =
       | lose_reply choice patient count card heard silent ↦ along P card (answers choice)
       | flip_reply choice patient count card flipped ↦ along P card (answers choice)
       | slow_inquiry choice slow late inquiry count card spells ↦ along P card (answers choice)
+      | fail_switch choice fails switch count card spells ↦ along P card (answers choice)
       | brownout choice lands keeps_length after patient count card silent ↦ along P card
           (survives lands keeps_length _ (by_cond P after (λ _. answers choice) (λ _. stays)))
     ]

@@ -32,6 +32,9 @@ pub record Choice : Type 0 where
   pub early : ℕ
   -- the block length outlives CMD0
   pub keeps_length : Bool
+  -- a switch of an eMMC device fails; where none is carried out, the status behind it alone says so
+  pub fails_switch : Bool
+  pub says_late : Bool
 
 abbrev pub bit : Bool → ℕ
 bit b = if b then 1 else 0
