@@ -30,10 +30,10 @@ use Rattle.mmc_card.specs.Blocks.{accepted, can_send, can_accept, fallen_short, 
 use Rattle.mmc_card.specs.Blocks.{waited}
 use Rattle.mmc_card.specs.Card.{Card, IsCard, holds, is_in, is_selected}
 use Rattle.mmc_bus.specs.Exchanges.{Exchanged}
-use Rattle.mmc_card.specs.Faults.{CommandStep, FallNoMore, WriteStep, IsFlipped, IsPatient, NoFault, OneFault}
+use Rattle.mmc_card.specs.Faults.{CommandStep, FallNoMore, WriteStep, IsFaultless, IsFlipped, NoFault, OneFault}
 use Rattle.mmc_card.specs.Faults.{PollStep, Spells}
 use Rattle.mmc_card.specs.Faults.{ReadStep, bad_block, brownout, fail, faithful, fall_short, flip_command, flip_reply}
-use Rattle.mmc_card.specs.Faults.{lose_command}
+use Rattle.mmc_card.specs.Faults.{fail_switch, lose_command}
 use Rattle.mmc_card.specs.Faults.{busy, lose_reply, lose_status, read_error, reject, slow_inquiry}
 use Rattle.mmc_bus.specs.Heard.{cause_of, cause_of_command}
 use Rattle.mmc_card.specs.Laws.{CountsAtMostOne, erased_by, is_frame_of_run, maybe_erased}
@@ -86,10 +86,10 @@ obeyed answers choice old index argument heard new mute card answer x h =
 
 faithfully : {X : Type 0} (answers : CardAnswer → X) (choice : Choice) (old : Card) (index argument : ℕ) (heard : X)
     (new : Card)
-    → IsPatient choice old.inquiries → new ≡ (respond choice old index argument).0
+    → IsFaultless choice old → new ≡ (respond choice old index argument).0
     → heard ≡ answers (respond choice old index argument).1
     → Faithful answers old index argument heard new
-faithfully answers choice old index argument heard new patient card answer =
+faithfully answers choice old index argument heard new faultless card answer =
     let obeys : (own : is_foreign (meant old index) old argument ≡ false)
     (legal : is_legal (meant old index) old ≡ true)
     → respond choice old index argument ≡ carried_out choice old index argument = λ own legal. rw (own, legal) refl in
@@ -101,7 +101,7 @@ faithfully answers choice old index argument heard new patient card answer =
     λ own legal. rw (own, legal) refl in
     record {
       choice = choice;
-      patient = patient;
+      faultless = faultless;
       obeys = λ own legal. (
         card ∙ ap (λ (x : Card × CardAnswer). x.0) (obeys own legal),
         answer
@@ -165,6 +165,11 @@ command_sound Fits hears answers old frame index argument reply new reads fits c
     (card_at choice old.card new.card frame index argument command card)
     (heard_at Fits hears answers choice old.card frame index argument reply reads (fits choice) command spells) x h
 command_sound Fits hears answers old frame index argument reply new reads fits command
+    (fail_switch choice fails switch count card spells) x h =
+    obeyed answers choice old.card index argument (hears reply) new.card reads.mute
+    (card_at choice old.card new.card frame index argument command card)
+    (heard_at Fits hears answers choice old.card frame index argument reply reads (fits choice) command spells) x h
+command_sound Fits hears answers old frame index argument reply new reads fits command
     (brownout choice lands keeps_length after patient count card silent) x h =
     absurd (reads.silent x (ap hears (sym silent) ∙ h))
 
@@ -189,6 +194,8 @@ command_fine Fits hears answers old frame index argument reply new reads fits co
     (flip_reply choice patient count card flipped) same = fell old new count same
 command_fine Fits hears answers old frame index argument reply new reads fits command
     (slow_inquiry choice slow late inquiry count card spells) same = fell old new count same
+command_fine Fits hears answers old frame index argument reply new reads fits command
+    (fail_switch choice fails switch count card spells) same = fell old new count same
 command_fine Fits hears answers old frame index argument reply new reads fits command
     (brownout choice lands keeps_length after patient count card silent) same = fell old new count same
 
