@@ -75,6 +75,8 @@ choice_of is_slow = record {
   rca = 0;
   early = 0;
   keeps_length = true;
+  fails_switch = false;
+  says_late = false;
 }
 
 -- at a command; the first so many inquiries are answered with not ready
