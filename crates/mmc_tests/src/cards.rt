@@ -42,7 +42,7 @@ pub fn opened<B: Bus>(bus: &mut B) -> Option<Session> {
 }
 
 /// Each fault that can be planned, with two flipped bits where bits are flipped.
-pub fn every_fault() -> [Fault; 18] {
+pub fn every_fault() -> [Fault; 20] {
     let flips = Flips {
         first: 7,
         second: Some(40),
@@ -52,6 +52,8 @@ pub fn every_fault() -> [Fault; 18] {
         Fault::FlipCommand(flips),
         Fault::LoseReply,
         Fault::FlipReply(flips),
+        Fault::FailSwitch,
+        Fault::FailSwitchLate,
         Fault::BadBlock,
         Fault::NoBlock,
         Fault::ReadError,
