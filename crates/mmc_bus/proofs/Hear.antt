@@ -1,5 +1,5 @@
 -- What a host learns, from the step that its exchange was.
-use Rattle.std.proofs.Common.{◌&&◌, ◌+◌, ◌<◌, ◌∙◌, ◌≡◌, ◌≤◌, Bool, List, ap, arith, bit_or, cond, false, inl, inr, refl}
+use Rattle.std.proofs.Common.{◌&&◌, ◌+◌, ◌<◌, ◌∙◌, ◌≡◌, ◌≤◌, Bool, List, ap, arith, bit_or, cond, false, inl, inr, not, refl}
 use Rattle.std.proofs.Common.{subst, sym, true, ℕ}
 use Rattle.std.specs.Prelude.{Ok, Result, Some}
 use Rattle.std.proofs.lemmas.Nat.{le_or_r}
@@ -27,7 +27,7 @@ use Rattle.mmc_card.proofs.Standing.{command_stands, write_stands, poll_stands, 
 use Rattle.mmc_card.specs.CardAnswer.{CardAnswer, Choice, Silent, refused}
 use Rattle.mmc_card.proofs.Landing.{snoc_length}
 use Rattle.mmc_card.specs.Blocks.{accepted, can_send, can_accept, fallen_short, next_block, next_written, rested, sent}
-use Rattle.mmc_card.specs.Blocks.{waited}
+use Rattle.mmc_card.specs.Blocks.{waited, will_send}
 use Rattle.mmc_card.specs.Card.{Card, IsCard, holds, is_in, is_selected}
 use Rattle.mmc_bus.specs.Exchanges.{Exchanged}
 use Rattle.mmc_card.specs.Faults.{CommandStep, FallNoMore, WriteStep, IsFaultless, IsFlipped, NoFault, OneFault}
@@ -431,7 +431,7 @@ record ReadWays (old : BusView) (size : ℕ) (got : DataIn) (block : List ℕ) (
   good : got ≡ Received.Good
       → (can_send old.lines size old.card ≡ true) × (next_block old.card ≡ Some block)
       × ((choice : Choice) × (new.card ≡ sent choice old.card))
-  fine : NoFault old new → can_send old.lines size old.card ≡ true → got ≡ Received.Good
+  fine : NoFault old new → can_send old.lines size old.card ≡ true → old.card.is_busy ≡ false → got ≡ Received.Good
   refuses : NoFault old new → can_send old.lines size old.card ≡ false → (got ≡ Received.Nothing)
       × (new.card ≡ old.card)
 
@@ -441,7 +441,7 @@ not_good : (old : BusView) (size : ℕ) (got : DataIn) (block : List ℕ) (new :
 not_good old size got block new count none =
     record {
       good = λ h. absurd (none h);
-      fine = λ same t. fell old new count same;
+      fine = λ same t rests. fell old new count same;
       refuses = λ same t. fell old new count same;
     }
 
@@ -450,14 +450,24 @@ bad_or_nothing : (comes : Bool) (got : DataIn) → got ≡ cond comes Received.B
 bad_or_nothing true got e h = cc
 bad_or_nothing false got e h = cc
 
+-- a card that isn't busy sends what it can
+at_rest : (slow holds_on can : Bool) → holds_on ≡ false → can ≡ true → (not (slow && holds_on) && can) ≡ true
+at_rest true holds_on can rests h = rw rests h
+at_rest false holds_on can rests h = h
+
+sends_not : (b can : Bool) → can ≡ false → (b && can) ≡ false
+sends_not true can h = h
+sends_not false can h = refl
+
 read_ways : (old : BusView) (size : ℕ) (got : DataIn) (block : List ℕ) (new : BusView) → ReadStep old size got block new
     → ReadWays old size got block new
 read_ways old size got block new (faithful choice count card answer is) =
-    let ways = by_ask (can_send old.lines size old.card) (sent choice old.card) old.card new.card got card answer in
+    let ways = by_ask (will_send choice old.lines size old.card) (sent choice old.card) old.card new.card got card answer in
+    let can = can_send old.lines size old.card in
     record {
-      good = λ h. let w = ways.0 h in (w.0, is h, (choice, w.1));
-      fine = λ same t. ways.1 t;
-      refuses = λ same f. ways.2 f;
+      good = λ h. let w = ways.0 h in ((both (not (choice.is_slow && old.card.is_busy)) can w.0).1, is h, (choice, w.1));
+      fine = λ same t rests. ways.1 (at_rest choice.is_slow old.card.is_busy can rests t);
+      refuses = λ same f. ways.2 (sends_not (not (choice.is_slow && old.card.is_busy)) can f);
     }
 read_ways old size got block new (bad_block choice comes sends count card answer) =
     not_good old size got block new count (bad_or_nothing comes got answer)

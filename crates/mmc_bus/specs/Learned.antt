@@ -141,6 +141,6 @@ pub record ReadFacts (old : BusView) (size : ℕ) (got : DataIn) (block : List �
   pub good : got ≡ Received.Good
       → (can_send old.lines size old.card ≡ true) × (next_block old.card ≡ Some block)
       × ((choice : Choice) × (new.card ≡ sent choice old.card))
-  pub fine : NoFault old new → can_send old.lines size old.card ≡ true → got ≡ Received.Good
+  pub fine : NoFault old new → can_send old.lines size old.card ≡ true → old.card.is_busy ≡ false → got ≡ Received.Good
   pub refuses : NoFault old new → can_send old.lines size old.card ≡ false → (got ≡ Received.Nothing)
       × (new.card ≡ old.card)

@@ -15,7 +15,7 @@ use Rattle.mmc_card.specs.declared.exchange.Reply.{Reply}
 use Rattle.mmc_card.specs.CardAnswer.{CardAnswer, Checked, Choice, Silent, R3, R2, garbled, raised, reset}
 use Rattle.mmc_card.specs.ErrorBits.{card_ecc_failed, execution_error_bits}
 use Rattle.mmc_card.specs.Blocks.{accepted, asked_for, can_send, can_accept, fallen_short, next_block, offered, polled_once}
-use Rattle.mmc_card.specs.Blocks.{programmed, rejected, sent, waited}
+use Rattle.mmc_card.specs.Blocks.{programmed, rejected, sent, waited, will_send}
 use Rattle.mmc_card.specs.Card.{AreAmong, Card, is_in}
 use Rattle.mmc_card.specs.declared.command.Command.{Command}
 use Rattle.mmc_card.specs.declared.command.Command.TheVariants.{SdSendOpCond, SendOpCond, Switch}
@@ -182,7 +182,7 @@ pub data WriteStep (old : BusView) (block : List ℕ) (got : DataOut) (new : Bus
 -- A block of this length that is asked for.
 pub data ReadStep (old : BusView) (size : ℕ) (got : DataIn) (block : List ℕ) (new : BusView) : Type 0 where
   faithful : (choice : Choice) → NoFault old new → new.card ≡ asked_for choice old.lines size old.card
-      → got ≡ (if can_send old.lines size old.card then Received.Good else Received.Nothing)
+      → got ≡ (if will_send choice old.lines size old.card then Received.Good else Received.Nothing)
       → (got ≡ Received.Good → next_block old.card ≡ Some block)
       → ReadStep old size got block new
   -- the card sends it, and a bad block comes, or none
