@@ -4,7 +4,7 @@ use Rattle.std.specs.Int.{from_be_bytes, w32}
 use Rattle.std.specs.Str.{bytes_eq}
 use Rattle.mmc_card_sim.specs.declared.fault.Fault.{Fault}
 use Rattle.mmc_card_sim.specs.declared.fault.Fault.TheVariants.{BadBlock, Brownout, Busy, Fail, FailWith, FlipCommand}
-use Rattle.mmc_card_sim.specs.declared.fault.Fault.TheVariants.{FlipReply}
+use Rattle.mmc_card_sim.specs.declared.fault.Fault.TheVariants.{FailSwitch, FailSwitchLate, FlipReply}
 use Rattle.mmc_card_sim.specs.declared.fault.Fault.TheVariants.{LoseCommand, LoseReply, LoseStatus, NoBlock, ReadError}
 use Rattle.mmc_card_sim.specs.declared.fault.Fault.TheVariants.{Reject, RejectAll}
 use Rattle.mmc_card_sim.specs.declared.fault.Flips.{Flips}
@@ -55,7 +55,9 @@ lone_fault_of word =
     else (if bytes_eq word (codes "read-error") then Some ReadError
     else (if bytes_eq word (codes "reject") then Some Reject
     else (if bytes_eq word (codes "reject-all") then Some RejectAll
-    else (if bytes_eq word (codes "busy") then Some Busy else None)))))))
+    else (if bytes_eq word (codes "fail-switch") then Some FailSwitch
+    else (if bytes_eq word (codes "fail-switch-late") then Some FailSwitchLate
+    else (if bytes_eq word (codes "busy") then Some Busy else None)))))))))
 
 -- a fault whose name has further words
 unfoldable pub fault_with_words_of : List ℕ → List (List ℕ) → Option Fault

@@ -101,6 +101,10 @@ fn lone_fault(word: &[u8]) -> Option<Fault>
         Some(Fault::Reject)
     } else if word == b"reject-all".as_slice() {
         Some(Fault::RejectAll)
+    } else if word == b"fail-switch".as_slice() {
+        Some(Fault::FailSwitch)
+    } else if word == b"fail-switch-late".as_slice() {
+        Some(Fault::FailSwitchLate)
     } else if word == b"busy".as_slice() {
         Some(Fault::Busy)
     } else {

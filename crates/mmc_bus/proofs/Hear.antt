@@ -1,5 +1,5 @@
 -- What a host learns, from the step that its exchange was.
-use Rattle.std.proofs.Common.{◌&&◌, ◌+◌, ◌<◌, ◌∙◌, ◌≡◌, ◌≤◌, Bool, List, ap, arith, bit_or, cond, false, inl, inr, refl}
+use Rattle.std.proofs.Common.{◌&&◌, ◌+◌, ◌<◌, ◌∙◌, ◌≡◌, ◌≤◌, Bool, List, ap, arith, bit_or, cond, false, inl, inr, not, refl}
 use Rattle.std.proofs.Common.{subst, sym, true, ℕ}
 use Rattle.std.specs.Prelude.{Ok, Result, Some}
 use Rattle.std.proofs.lemmas.Nat.{le_or_r}
@@ -27,13 +27,13 @@ use Rattle.mmc_card.proofs.Standing.{command_stands, write_stands, poll_stands, 
 use Rattle.mmc_card.specs.CardAnswer.{CardAnswer, Choice, Silent, refused}
 use Rattle.mmc_card.proofs.Landing.{snoc_length}
 use Rattle.mmc_card.specs.Blocks.{accepted, can_send, can_accept, fallen_short, next_block, next_written, rested, sent}
-use Rattle.mmc_card.specs.Blocks.{waited}
+use Rattle.mmc_card.specs.Blocks.{waited, will_send}
 use Rattle.mmc_card.specs.Card.{Card, IsCard, holds, is_in, is_selected}
 use Rattle.mmc_bus.specs.Exchanges.{Exchanged}
-use Rattle.mmc_card.specs.Faults.{CommandStep, FallNoMore, WriteStep, IsFlipped, IsPatient, NoFault, OneFault}
+use Rattle.mmc_card.specs.Faults.{CommandStep, FallNoMore, WriteStep, IsFaultless, IsFlipped, NoFault, OneFault}
 use Rattle.mmc_card.specs.Faults.{PollStep, Spells}
 use Rattle.mmc_card.specs.Faults.{ReadStep, bad_block, brownout, fail, faithful, fall_short, flip_command, flip_reply}
-use Rattle.mmc_card.specs.Faults.{lose_command}
+use Rattle.mmc_card.specs.Faults.{fail_switch, lose_command}
 use Rattle.mmc_card.specs.Faults.{busy, lose_reply, lose_status, read_error, reject, slow_inquiry}
 use Rattle.mmc_bus.specs.Heard.{cause_of, cause_of_command}
 use Rattle.mmc_card.specs.Laws.{CountsAtMostOne, erased_by, is_frame_of_run, maybe_erased}
@@ -86,10 +86,10 @@ obeyed answers choice old index argument heard new mute card answer x h =
 
 faithfully : {X : Type 0} (answers : CardAnswer → X) (choice : Choice) (old : Card) (index argument : ℕ) (heard : X)
     (new : Card)
-    → IsPatient choice old.inquiries → new ≡ (respond choice old index argument).0
+    → IsFaultless choice old → new ≡ (respond choice old index argument).0
     → heard ≡ answers (respond choice old index argument).1
     → Faithful answers old index argument heard new
-faithfully answers choice old index argument heard new patient card answer =
+faithfully answers choice old index argument heard new faultless card answer =
     let obeys : (own : is_foreign (meant old index) old argument ≡ false)
     (legal : is_legal (meant old index) old ≡ true)
     → respond choice old index argument ≡ carried_out choice old index argument = λ own legal. rw (own, legal) refl in
@@ -101,7 +101,7 @@ faithfully answers choice old index argument heard new patient card answer =
     λ own legal. rw (own, legal) refl in
     record {
       choice = choice;
-      patient = patient;
+      faultless = faultless;
       obeys = λ own legal. (
         card ∙ ap (λ (x : Card × CardAnswer). x.0) (obeys own legal),
         answer
@@ -165,6 +165,11 @@ command_sound Fits hears answers old frame index argument reply new reads fits c
     (card_at choice old.card new.card frame index argument command card)
     (heard_at Fits hears answers choice old.card frame index argument reply reads (fits choice) command spells) x h
 command_sound Fits hears answers old frame index argument reply new reads fits command
+    (fail_switch choice fails switch count card spells) x h =
+    obeyed answers choice old.card index argument (hears reply) new.card reads.mute
+    (card_at choice old.card new.card frame index argument command card)
+    (heard_at Fits hears answers choice old.card frame index argument reply reads (fits choice) command spells) x h
+command_sound Fits hears answers old frame index argument reply new reads fits command
     (brownout choice lands keeps_length after patient count card silent) x h =
     absurd (reads.silent x (ap hears (sym silent) ∙ h))
 
@@ -189,6 +194,8 @@ command_fine Fits hears answers old frame index argument reply new reads fits co
     (flip_reply choice patient count card flipped) same = fell old new count same
 command_fine Fits hears answers old frame index argument reply new reads fits command
     (slow_inquiry choice slow late inquiry count card spells) same = fell old new count same
+command_fine Fits hears answers old frame index argument reply new reads fits command
+    (fail_switch choice fails switch count card spells) same = fell old new count same
 command_fine Fits hears answers old frame index argument reply new reads fits command
     (brownout choice lands keeps_length after patient count card silent) same = fell old new count same
 
@@ -424,7 +431,7 @@ record ReadWays (old : BusView) (size : ℕ) (got : DataIn) (block : List ℕ) (
   good : got ≡ Received.Good
       → (can_send old.lines size old.card ≡ true) × (next_block old.card ≡ Some block)
       × ((choice : Choice) × (new.card ≡ sent choice old.card))
-  fine : NoFault old new → can_send old.lines size old.card ≡ true → got ≡ Received.Good
+  fine : NoFault old new → can_send old.lines size old.card ≡ true → old.card.is_busy ≡ false → got ≡ Received.Good
   refuses : NoFault old new → can_send old.lines size old.card ≡ false → (got ≡ Received.Nothing)
       × (new.card ≡ old.card)
 
@@ -434,7 +441,7 @@ not_good : (old : BusView) (size : ℕ) (got : DataIn) (block : List ℕ) (new :
 not_good old size got block new count none =
     record {
       good = λ h. absurd (none h);
-      fine = λ same t. fell old new count same;
+      fine = λ same t rests. fell old new count same;
       refuses = λ same t. fell old new count same;
     }
 
@@ -443,14 +450,24 @@ bad_or_nothing : (comes : Bool) (got : DataIn) → got ≡ cond comes Received.B
 bad_or_nothing true got e h = cc
 bad_or_nothing false got e h = cc
 
+-- a card that isn't busy sends what it can
+at_rest : (slow holds_on can : Bool) → holds_on ≡ false → can ≡ true → (not (slow && holds_on) && can) ≡ true
+at_rest true holds_on can rests h = rw rests h
+at_rest false holds_on can rests h = h
+
+sends_not : (b can : Bool) → can ≡ false → (b && can) ≡ false
+sends_not true can h = h
+sends_not false can h = refl
+
 read_ways : (old : BusView) (size : ℕ) (got : DataIn) (block : List ℕ) (new : BusView) → ReadStep old size got block new
     → ReadWays old size got block new
 read_ways old size got block new (faithful choice count card answer is) =
-    let ways = by_ask (can_send old.lines size old.card) (sent choice old.card) old.card new.card got card answer in
+    let ways = by_ask (will_send choice old.lines size old.card) (sent choice old.card) old.card new.card got card answer in
+    let can = can_send old.lines size old.card in
     record {
-      good = λ h. let w = ways.0 h in (w.0, is h, (choice, w.1));
-      fine = λ same t. ways.1 t;
-      refuses = λ same f. ways.2 f;
+      good = λ h. let w = ways.0 h in ((both (not (choice.is_slow && old.card.is_busy)) can w.0).1, is h, (choice, w.1));
+      fine = λ same t rests. ways.1 (at_rest choice.is_slow old.card.is_busy can rests t);
+      refuses = λ same f. ways.2 (sends_not (not (choice.is_slow && old.card.is_busy)) can f);
     }
 read_ways old size got block new (bad_block choice comes sends count card answer) =
     not_good old size got block new count (bad_or_nothing comes got answer)

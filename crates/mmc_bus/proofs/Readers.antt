@@ -1,6 +1,6 @@
 -- What a reader makes of an answer that comes whole, and that it takes no flipped one.
 use Rattle.std.proofs.Common.{◌&&◌, ◌<◌, ◌∙◌, ◌≡◌, Bool, List, ap, cond, false, length, refl, sym, true, ℕ}
-use Rattle.std.specs.Prelude.{◌==◌, ◌||◌, Err, None, Ok, Option, Result, Some, is_ok, not}
+use Rattle.std.specs.Prelude.{◌==◌, ◌||◌, Err, None, Ok, Option, Result, Some, if◌then◌else◌, is_ok, not}
 use Rattle.std.proofs.lemmas.Bool.{agree_below_at, eqb-true}
 use Rattle.mmc_frame.specs.Field.{field}
 use Rattle.mmc_frame.specs.Flips.{RefusesFlips, RefusesFlipsBesideOcr, is_r2, is_response_to}
@@ -92,9 +92,9 @@ erase_answer c argument (Both first last) =
     (forgotten (shown c), Checked 38 (status false (raised erase_param c)))
     (erases (erasing c (is_trim c argument) first last) c, Checked 38 (status false c)) refl refl
 
-switch_answer : (c : Card) (after : Option Card) → IsAnswerTo Switch (switch_row c after).1
-switch_answer c (Some after) = refl
-switch_answer c None = refl
+switch_answer : (late : Bool) (c : Card) (after : Option Card) → IsAnswerTo Switch (switch_row late c after).1
+switch_answer late c (Some after) = refl
+switch_answer late c None = refl
 
 row_answer : (choice : Choice) (command : Command) (c : Card) (index argument : ℕ) → HasRegisters c.made
     → IsAnswerTo command (row choice command c index argument).1
@@ -120,7 +120,8 @@ row_answer choice WriteMultipleBlock c index argument r = transferred_answer Wri
 row_answer choice EraseStart c index argument r = first_answer index c argument c.erase
 row_answer choice EraseEnd c index argument r = last_answer index c argument c.erase
 row_answer choice Erase c index argument r = erase_answer c argument c.erase
-row_answer choice Switch c index argument r = switch_answer c (switched c argument)
+row_answer choice Switch c index argument r =
+    switch_answer choice.says_late c (if choice.fails_switch then None else switched c argument)
 row_answer choice Unknown c index argument r = tt
 row_answer choice _ c index argument r = refl
 

@@ -14,7 +14,7 @@ use Rattle.mmc_card.specs.CardAnswer.{CardAnswer, Choice, Silent, refused}
 use Rattle.mmc_card.specs.Blocks.{accepted, can_send, can_accept, next_block, next_written, rested, sent, waited}
 use Rattle.mmc_card.specs.Card.{Card, holds, is_in, is_selected}
 use Rattle.mmc_bus.specs.Exchanges.{Exchanged}
-use Rattle.mmc_card.specs.Faults.{FallNoMore, IsPatient, NoFault}
+use Rattle.mmc_card.specs.Faults.{FallNoMore, IsFaultless, NoFault}
 use Rattle.mmc_bus.specs.Heard.{cause_of, cause_of_command}
 use Rattle.mmc_card.specs.Laws.{Carried, StandsIn, StillStands, SwitchesTo, WithinOrAccepted, erased_by}
 use Rattle.mmc_card.specs.Laws.{is_frame_of_run, maybe_erased}
@@ -58,7 +58,7 @@ pub record Obeyed {X : Type 0} (answers : CardAnswer → X) (old : Card) (index 
 pub record Faithful {X : Type 0} (answers : CardAnswer → X) (old : Card) (index argument : ℕ) (heard : X)
     (new : Card) : Type 0 where
   pub choice : Choice
-  pub patient : IsPatient choice old.inquiries
+  pub faultless : IsFaultless choice old
   pub obeys : is_foreign (meant old index) old argument ≡ false → is_legal (meant old index) old ≡ true
       → (new ≡ (carried_out choice old index argument).0) × (heard ≡ answers (carried_out choice old index argument).1)
   pub refuses : is_foreign (meant old index) old argument ≡ false → is_legal (meant old index) old ≡ false
@@ -141,6 +141,6 @@ pub record ReadFacts (old : BusView) (size : ℕ) (got : DataIn) (block : List �
   pub good : got ≡ Received.Good
       → (can_send old.lines size old.card ≡ true) × (next_block old.card ≡ Some block)
       × ((choice : Choice) × (new.card ≡ sent choice old.card))
-  pub fine : NoFault old new → can_send old.lines size old.card ≡ true → got ≡ Received.Good
+  pub fine : NoFault old new → can_send old.lines size old.card ≡ true → old.card.is_busy ≡ false → got ≡ Received.Good
   pub refuses : NoFault old new → can_send old.lines size old.card ≡ false → (got ≡ Received.Nothing)
       × (new.card ≡ old.card)

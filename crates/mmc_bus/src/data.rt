@@ -1,5 +1,5 @@
 // Blocks, judged.
-ghost use Rattle.std.specs.Prelude.{◌≡◌, ◌↔◌, IfErr, IsOk, Some, length, true};
+ghost use Rattle.std.specs.Prelude.{◌≡◌, ◌↔◌, IfErr, IsOk, Some, false, length, true};
 ghost use Rattle.mmc_card.specs.Blocks.{accepted, can_accept, can_send, next_block, sent};
 ghost use Rattle.mmc_card.specs.CardAnswer.{Choice};
 ghost use Rattle.mmc_card.specs.declared.exchange.DataIn.TheVariants.{Good};
@@ -35,7 +35,7 @@ fn check_write(got: DataOut) -> Result<(), Cause>
     }
 }
 
-/// Reads the block that the card sends, of the buffer's length.
+/// Reads the block that the card sends, of the buffer's length. A card that is busy may send none.
 ///
 /// # Errors
 /// `Data` where it doesn't come with a good check; what the buffer holds is open then.
@@ -44,7 +44,7 @@ pub fn receive<B: Bus>(bus: &mut B, buffer: &mut [u8]) -> Result<(), Cause>
     ensures works { Works Narrows
         (λ old new. IsOk result → (can_send old.lines (length buffer.old) old.card ≡ true)
         × (next_block old.card ≡ Some buffer.new) × ((choice : Choice) × (new.card ≡ sent choice old.card)))
-        (λ old new. can_send old.lines (length buffer.old) old.card ≡ true → IsOk result)
+        (λ old new. can_send old.lines (length buffer.old) old.card ≡ true → old.card.is_busy ≡ false → IsOk result)
         (B.view bus.old) (B.view bus.new) }
 {
     check_read(read_block(bus, buffer))

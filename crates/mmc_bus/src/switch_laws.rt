@@ -7,22 +7,21 @@ ghost use Rattle.mmc_frame.specs.declared.commands.TheConstants as Index;
 ghost use Rattle.mmc_bus.specs.declared.host.Unheard.{Unheard};
 ghost use Rattle.mmc_card.specs.CardAnswer.{shown, status};
 ghost use Rattle.mmc_card.specs.Card.{Card};
-ghost use Rattle.mmc_bus.specs.CommandLaws.{Does, IsSwitchSource, Responded, bytes_sent};
+ghost use Rattle.mmc_bus.specs.CommandLaws.{Does, IsSwitchSource, Responded, bytes_sent, Switches};
 ghost use Rattle.mmc_card.specs.Laws.{timing_once_sent};
 ghost use Rattle.mmc_card.specs.Made.{has_switch_function};
 ghost use Rattle.mmc_card.specs.Rows.{without_addresses};
 ghost use Rattle.mmc_card.specs.RowsErase.{forgotten};
-ghost use Rattle.mmc_card.specs.RowsSwitch.{ext_csd_now, programs_switch, switched, width_by};
+ghost use Rattle.mmc_card.specs.RowsSwitch.{ext_csd_now, programs_switch, switched, width_by, timing_after};
 ghost use Rattle.mmc_card.specs.RowsTransfer.{sending};
 ghost use Rattle.mmc_card.specs.BusView.{BusView};
 
-/// CMD6 of eMMC, SWITCH: a device in tran carries out a switch that it knows, and is busy with it.
+/// CMD6 of eMMC, SWITCH: a device in tran carries out a switch that it knows, or fails to, and is busy with it.
 pub fn cmd6_switches_an_emmc_device()
     ensures { (old new : BusView) (argument : ℕ) (heard : Result ℕ Unheard) (switched_card : Card)
         → Responded Index.SWITCH_FUNC old argument heard new
         → old.card.made.kind ≡ Mmc → switched (without_addresses old.card) argument ≡ Some switched_card
-        → Does (old.card.state ≡ Tran)
-        (status false (without_addresses old.card)) (programs_switch switched_card) old heard new }
+        → Switches switched_card old heard new }
 {}
 
 /// CMD6 of SD, SWITCH_FUNC: a card in tran that knows it sends its switch status, or one that refuses to switch.

@@ -13,7 +13,7 @@ use Rattle.mmc_card.proofs.Cards.{card_done, card_fallen_short, card_forgotten, 
 use Rattle.mmc_card.proofs.Cards.{card_refused, card_reset, card_rested, card_shown, card_slow, chosen_card, in_state}
 use Rattle.mmc_card.proofs.Cards.{like_done, like_same, like_shown, stays_card}
 use Rattle.mmc_card.proofs.Conditions.{along, by_cond, first_by_cond}
-use Rattle.mmc_card.proofs.Narrow.{AreSwitched, accepts_in_rcv, both, is_switched, sends_data}
+use Rattle.mmc_card.proofs.Narrow.{AreSwitched, accepts_in_rcv, both, may_switch, sends_data}
 use Rattle.mmc_card.proofs.Steps.{after_command, after_write, after_poll, after_read}
 use Rattle.mmc_card.specs.CardAnswer.{Choice, busied, raised, shown}
 use Rattle.mmc_card.specs.Blocks.{accepted, end_errors, is_last, rejected, sent_from}
@@ -127,9 +127,10 @@ card_erase c argument (Both first last) k =
     (like_shown c _ refl refl refl refl) refl refl (λ h. cc)
     (blocks_replicate _ (erased_sector c.made) (erased_block c.made)))
 
-card_switch : (c : Card) (o : Option Card) → AreSwitched c o → IsBasic c → IsBasic (switch_row c o).0
-card_switch c None h k = chosen_card c _ k (like_shown c _ refl refl refl refl) refl refl (λ _. refl) tt
-card_switch c (Some d) h k =
+card_switch : (late : Bool) (c : Card) (o : Option Card) → AreSwitched c o → IsBasic c
+    → IsBasic (switch_row late c o).0
+card_switch late c None h k = chosen_card c _ k (like_shown c _ refl refl refl refl) refl refl (λ _. refl) tt
+card_switch late c (Some d) h k =
     chosen_card c _ k (like_shown c _ h.made h.block_length refl refl) refl h.sectors (λ _. refl) tt
 
 card_row : (choice : Choice) (command : Command) (c : Card) (index argument : ℕ) → is_legal command c ≡ true → IsBasic c
@@ -178,7 +179,7 @@ card_row choice WriteMultipleBlock c index argument l k =
 card_row choice EraseStart c index argument l k = card_first index c argument c.erase (in_state c.state Tran l) k
 card_row choice EraseEnd c index argument l k = card_last index c argument c.erase (in_state c.state Tran l) k
 card_row choice Erase c index argument l k = card_erase c argument c.erase k
-card_row choice Switch c index argument l k = card_switch c (switched c argument) (is_switched c argument) k
+card_row choice Switch c index argument l k = card_switch choice.says_late c _ (may_switch choice.fails_switch c argument) k
 card_row choice SwitchFunc c index argument l k =
     card_sending (switch_source choice c argument) c
     (in_state c.state Tran (both (is_in c.state Tran) (has_switch_function c.made) l).0) k

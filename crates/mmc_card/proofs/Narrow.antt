@@ -240,7 +240,7 @@ access_is_switched c argument =
     (argument == write_byte 179 (8 * field 7 3 (partition_config c.made.ext_csd) + field 10 8 argument))
     (λ _. accessed_switched c (part_accessed (field 10 8 argument))) (λ _. tt)
 
-pub is_switched : (c : Card) (argument : ℕ) → AreSwitched c (switched c argument)
+is_switched : (c : Card) (argument : ℕ) → AreSwitched c (switched c argument)
 is_switched c argument =
     let same : (d : Card) → d.made ≡ c.made → d.sectors ≡ c.sectors → d.block_length ≡ c.block_length → d.rca ≡ c.rca
     → d.erase ≡ c.erase → d.inquiries ≡ c.inquiries → d.source ≡ c.source
@@ -263,9 +263,14 @@ is_switched c argument =
     ((argument == write_byte 185 1) && (high_speed_at_52_mhz c.made.ext_csd == 1))
     (λ _. same _ refl refl refl refl refl refl refl (λ h. h)) (λ _. access_is_switched c argument)))
 
-keeps_switch : (c : Card) (o : Option Card) → AreSwitched c o → Keeps c (switch_row c o).0
-keeps_switch c None h = cleared c _ refl refl refl
-keeps_switch c (Some d) h = cleared c _ h.made h.sectors refl
+-- one that fails differs in nothing
+pub may_switch : (fails : Bool) (c : Card) (argument : ℕ) → AreSwitched c (if fails then None else switched c argument)
+may_switch true c argument = tt
+may_switch false c argument = is_switched c argument
+
+keeps_switch : (late : Bool) (c : Card) (o : Option Card) → AreSwitched c o → Keeps c (switch_row late c o).0
+keeps_switch late c None h = cleared c _ refl refl refl
+keeps_switch late c (Some d) h = cleared c _ h.made h.sectors refl
 
 widens_row : (choice : Choice) (command : Command) (c : Card) (index argument : ℕ)
     → Widens (erased_by_command command c argument) c (row choice command c index argument).0
@@ -299,7 +304,8 @@ widens_row choice WriteMultipleBlock c index argument =
 widens_row choice EraseStart c index argument = wide _ c _ (keeps_first index c argument c.erase)
 widens_row choice EraseEnd c index argument = wide _ c _ (keeps_last index c argument c.erase)
 widens_row choice Erase c index argument = widens_erase c argument c.erase
-widens_row choice Switch c index argument = wide _ c _ (keeps_switch c (switched c argument) (is_switched c argument))
+widens_row choice Switch c index argument =
+    wide _ c _ (keeps_switch choice.says_late c _ (may_switch choice.fails_switch c argument))
 widens_row choice SwitchFunc c index argument = wide _ c _ (plain c _ refl refl refl)
 widens_row choice SetBusWidth c index argument = wide _ c _ (plain c _ refl refl refl)
 widens_row choice SendScr c index argument = wide _ c _ (plain c _ refl refl refl)

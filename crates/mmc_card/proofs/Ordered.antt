@@ -8,7 +8,7 @@ use Rattle.mmc_frame.specs.declared.kind.Kind.{Kind}
 use Rattle.mmc_card.proofs.CardRows.{legal_reached}
 use Rattle.mmc_card.proofs.Cards.{in_state}
 use Rattle.mmc_card.proofs.Conditions.{along, by_cond, first_by_cond}
-use Rattle.mmc_card.proofs.Narrow.{AreSwitched, both, is_switched}
+use Rattle.mmc_card.proofs.Narrow.{AreSwitched, both, may_switch}
 use Rattle.mmc_card.specs.CardAnswer.{Choice, counted, done, garbled, raised, refused, reset, shown}
 use Rattle.mmc_card.specs.Blocks.{accepted, fallen_short, is_last, programmed, rejected, rested, sent_from, waited}
 use Rattle.mmc_card.specs.Card.{Both, Card, First, FromBytes, FromSectors, HasItsRca, Held, NoAddress, Source}
@@ -213,10 +213,11 @@ ordered_erase c argument (Both first last) e k =
     (λ _. ordered_from c (erases (erasing c (is_trim c argument) first last) c) e k refl refl refl refl (λ h. refl)
     refl k.inquiries (omega arith))
 
-ordered_switch : (c : Card) (o : Option Card) → AreSwitched c o → is_in c.state Tran ≡ true → c.erase ≡ NoAddress
-    → IsOrdered c → IsOrdered (switch_row c o).0
-ordered_switch c None h e none k = ordered_from c _ e k refl refl refl none (λ h. refl) refl k.inquiries (omega arith)
-ordered_switch c (Some d) h e none k =
+ordered_switch : (late : Bool) (c : Card) (o : Option Card) → AreSwitched c o → is_in c.state Tran ≡ true
+    → c.erase ≡ NoAddress → IsOrdered c → IsOrdered (switch_row late c o).0
+ordered_switch late c None h e none k =
+    ordered_from c _ e k refl refl refl none (λ h. refl) refl k.inquiries (omega arith)
+ordered_switch late c (Some d) h e none k =
     ordered_from c _ e k refl h.made h.rca (h.erase ∙ none) (λ h. refl) refl
     (along (λ n. n ≤ 8) h.inquiries k.inquiries) (omega arith)
 
@@ -308,7 +309,7 @@ ordered_row choice EraseEnd c index argument l none k =
     ordered_last index c argument c.erase (in_state c.state Tran l) k
 ordered_row choice Erase c index argument l none k = ordered_erase c argument c.erase l k
 ordered_row choice Switch c index argument l none k =
-    ordered_switch c (switched c argument) (is_switched c argument) l (none refl) k
+    ordered_switch choice.says_late c _ (may_switch choice.fails_switch c argument) l (none refl) k
 ordered_row choice SwitchFunc c index argument l none k =
     ordered_from c _ (both (is_in c.state Tran) (has_switch_function c.made) l).0 k refl refl refl (none refl) (λ h. cc)
     refl k.inquiries k.polled

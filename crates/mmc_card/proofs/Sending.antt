@@ -6,7 +6,7 @@ use Rattle.mmc_frame.specs.declared.card_state.State.TheVariants.{Data, Prg, Rcv
 use Rattle.mmc_frame.specs.Flips.{AreBytes}
 use Rattle.mmc_card.proofs.ByteLemmas.{ext_csd_bytes, refusal_bytes}
 use Rattle.mmc_card.proofs.Conditions.{along, by_cond, first_by_cond}
-use Rattle.mmc_card.proofs.Narrow.{AreSwitched, is_switched}
+use Rattle.mmc_card.proofs.Narrow.{AreSwitched, may_switch}
 use Rattle.mmc_card.specs.CardAnswer.{Choice, garbled, raised, refused, reset, shown}
 use Rattle.mmc_card.specs.Blocks.{accepted, fallen_short, programmed, rejected, rested, sent_from, waited}
 use Rattle.mmc_card.specs.Card.{Both, Card, First, FromBytes, FromSectors, Held, NoAddress, SendsBytes, Source, is_in}
@@ -115,9 +115,10 @@ sending_erase c argument (Both first last) k =
     first_by_cond IsSending (is_no_range c first last) _ _ (λ _. sending_like c _ k refl refl refl)
     (λ _. sending_like c _ k refl refl refl)
 
-sending_switch : (c : Card) (o : Option Card) → AreSwitched c o → IsSending c → IsSending (switch_row c o).0
-sending_switch c None h k = sending_like c _ k refl refl refl
-sending_switch c (Some d) h k = record {
+sending_switch : (late : Bool) (c : Card) (o : Option Card) → AreSwitched c o → IsSending c
+    → IsSending (switch_row late c o).0
+sending_switch late c None h k = sending_like c _ k refl refl refl
+sending_switch late c (Some d) h k = record {
   registers = along HasRegisters h.made k.registers;
   erase_group_def = h.erase_group_def k.erase_group_def;
   sends = along SendsBytes h.source k.sends;
@@ -153,7 +154,8 @@ sending_row choice WriteMultipleBlock c index argument k =
 sending_row choice EraseStart c index argument k = sending_first index c argument c.erase k
 sending_row choice EraseEnd c index argument k = sending_last index c argument c.erase k
 sending_row choice Erase c index argument k = sending_erase c argument c.erase k
-sending_row choice Switch c index argument k = sending_switch c (switched c argument) (is_switched c argument) k
+sending_row choice Switch c index argument k =
+    sending_switch choice.says_late c _ (may_switch choice.fails_switch c argument) k
 sending_row choice SwitchFunc c index argument k =
     sending_from c _ k refl refl (switch_source_bytes choice c argument k.registers.switch_status_bytes)
 sending_row choice SendScr c index argument k = sending_from c _ k refl refl k.registers.scr_bytes

@@ -11,7 +11,7 @@ use Rattle.mmc_card.proofs.CardRows.{legal_reached}
 use Rattle.mmc_card.proofs.Cards.{in_state}
 use Rattle.mmc_card.proofs.Conditions.{by_cond, first_by_cond}
 use Rattle.mmc_card.proofs.Landing.{landed_size, snoc_length}
-use Rattle.mmc_card.proofs.Narrow.{AreSwitched, both, is_switched}
+use Rattle.mmc_card.proofs.Narrow.{AreSwitched, both, may_switch}
 use Rattle.mmc_card.specs.CardAnswer.{Choice, done, garbled, raised, refused, reset, shown}
 use Rattle.mmc_card.specs.Blocks.{accepted, awaits, can_accept, fallen_short, is_last, next_written, lines_fit}
 use Rattle.mmc_card.specs.Blocks.{programmed, rejected, rested}
@@ -197,19 +197,19 @@ sources_of : (c : Card) (o : Option Card) → AreSwitched c o → SourcesStay c 
 sources_of c None h = tt
 sources_of c (Some d) h = h.source
 
-sources_stay : (c : Card) (argument : ℕ) → SourcesStay c (switched c argument)
-sources_stay c argument = sources_of c (switched c argument) (is_switched c argument)
+sources_stay : (fails : Bool) (c : Card) (argument : ℕ) → SourcesStay c (if fails then None else switched c argument)
+sources_stay fails c argument = sources_of c _ (may_switch fails c argument)
 
-settled_switch : (c : Card) (o : Option Card) → SourcesStay c o → is_in c.state Tran ≡ true → IsSettled c
-    → IsSettled (switch_row c o).0
-settled_switch c None same tran k = record {
-  fits = fits_none (switch_row c None).0 refl;
+settled_switch : (late : Bool) (c : Card) (o : Option Card) → SourcesStay c o → is_in c.state Tran ≡ true → IsSettled c
+    → IsSettled (switch_row late c o).0
+settled_switch late c None same tran k = record {
+  fits = fits_none (switch_row late c None).0 refl;
   receives = λ h. cc;
   switches = λ h w. refl;
   source = λ h. source_at c Tran k (in_state c.state Tran tran) refl;
 }
-settled_switch c (Some d) same tran k = record {
-  fits = fits_none (switch_row c (Some d)).0 refl;
+settled_switch late c (Some d) same tran k = record {
+  fits = fits_none (switch_row late c (Some d)).0 refl;
   receives = λ h. cc;
   switches = λ h w. refl;
   source = λ h. same ∙ source_at c Tran k (in_state c.state Tran tran) refl;
@@ -270,7 +270,8 @@ settled_row choice WriteMultipleBlock c index argument l k =
 settled_row choice EraseStart c index argument l k = settled_first index c argument c.erase k
 settled_row choice EraseEnd c index argument l k = settled_last index c argument c.erase k
 settled_row choice Erase c index argument l k = settled_erase c argument c.erase l k
-settled_row choice Switch c index argument l k = settled_switch c (switched c argument) (sources_stay c argument) l k
+settled_row choice Switch c index argument l k =
+    settled_switch choice.says_late c _ (sources_stay choice.fails_switch c argument) l k
 settled_row choice SwitchFunc c index argument l k = settled_rest _ Data refl refl refl k.fits (λ h. cc)
 settled_row choice SetBusWidth c index argument l k = settled_like c _ k refl k.fits refl refl refl
 settled_row choice SendScr c index argument l k = settled_rest _ Data refl refl refl k.fits (λ h. cc)

@@ -133,6 +133,13 @@ no_bit : (b : Bool) → bit b ≡ 0 → b ≡ false
 no_bit true h = absurd (omega (arith, h))
 no_bit false h = refl
 
+-- SWITCH_ERROR is among the errors of eMMC, whatever else a status shows
+pub no_switch_error : (app : Bool) (c : Card) → error_bits Mmc (status app c) ≡ 0 → c.switch_error ≡ false
+no_switch_error app c none =
+    let parts = ap (λ n. bit_and n (high_mask * 2 ^ 13 + 128)) (status_parts app c)
+    ∙ masked_parts (high_status c) (low_status app c) 128 (low_below app c) (omega arith) in
+    no_bit c.switch_error (omega (arith, parts, and_pow (low_status app c) 7, low_switch app c, none))
+
 one_bit : (b : Bool) → bit (not b) ≡ 1 → b ≡ false
 one_bit true h = absurd (omega (arith, h))
 one_bit false h = refl

@@ -1,5 +1,5 @@
 -- What holds of a card holds after a step, if all that a step may do to the card keeps it.
-use Rattle.std.proofs.Common.{◌&&◌, ◌≡◌, Bool, List, refl, true, ℕ}
+use Rattle.std.proofs.Common.{◌&&◌, ◌≡◌, Bool, List, not, refl, true, ℕ}
 use Rattle.mmc_frame.specs.Frame.{command_in}
 use Rattle.mmc_frame.specs.declared.card_state.State.TheVariants.{Prg, Rcv}
 use Rattle.mmc_card.specs.declared.exchange.DataIn.{DataIn}
@@ -11,10 +11,10 @@ use Rattle.mmc_card.proofs.Narrow.{both}
 use Rattle.mmc_card.specs.CardAnswer.{Choice, garbled, raised, reset}
 use Rattle.mmc_card.specs.ErrorBits.{card_ecc_failed, error_bits, execution_error_bits}
 use Rattle.mmc_card.specs.Blocks.{accepted, asked_for, can_send, can_accept, fallen_short, offered, polled_once}
-use Rattle.mmc_card.specs.Blocks.{programmed, rejected, rested, sent, waited}
+use Rattle.mmc_card.specs.Blocks.{programmed, rejected, rested, sent, waited, will_send}
 use Rattle.mmc_card.specs.Card.{AreAmong, Card, is_in}
 use Rattle.mmc_card.specs.Faults.{CommandStep, WriteStep, PollStep, ReadStep, bad_block, brownout, busy, fail, faithful}
-use Rattle.mmc_card.specs.Faults.{fall_short}
+use Rattle.mmc_card.specs.Faults.{fail_switch, fall_short}
 use Rattle.mmc_card.specs.Faults.{flip_command, flip_reply, lose_command, lose_reply, lose_status, read_error, reject}
 use Rattle.mmc_card.specs.Faults.{slow_inquiry}
 use Rattle.mmc_card.specs.Rows.{answered}
@@ -44,6 +44,7 @@ after_command P old frame reply new stays answers garbles survives step =
       | lose_reply choice patient count card heard silent ↦ along P card (answers choice)
       | flip_reply choice patient count card flipped ↦ along P card (answers choice)
       | slow_inquiry choice slow late inquiry count card spells ↦ along P card (answers choice)
+      | fail_switch choice fails switch count card spells ↦ along P card (answers choice)
       | brownout choice lands keeps_length after patient count card silent ↦ along P card
           (survives lands keeps_length _ (by_cond P after (λ _. answers choice) (λ _. stays)))
     ]
@@ -93,7 +94,8 @@ pub after_read : (P : Card → Type 0) (old : BusView) (size : ℕ) (got : DataI
     → ReadStep old size got block new → P new.card
 after_read P old size got block new stays sends bears survives step =
     let asks : (choice : Choice) → P (asked_for choice old.lines size old.card) =
-    λ choice. by_cond P (can_send old.lines size old.card) (sends choice) (λ _. stays) in
+    λ choice. by_cond P (will_send choice old.lines size old.card)
+    (λ will. sends choice (both (not (choice.is_slow && old.card.is_busy)) _ will).1) (λ _. stays) in
     elim step [
       | faithful choice count card answer good ↦ along P card (asks choice)
       | bad_block choice comes can count card answer ↦ along P card (sends choice can)

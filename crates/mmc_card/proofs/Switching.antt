@@ -1,7 +1,7 @@
 -- A switch of the partition leaves a card standing, in the old partition or in the new one.
 use Rattle.std.proofs.Common.{◌*◌, ◌+◌, ◌<◌, ◌∙◌, ◌≡◌, ◌≤◌, ◌⊎◌, Bool, List, ap, arith, false, inl, inr, length, refl}
 use Rattle.std.proofs.Common.{subst, sym, true, ℕ}
-use Rattle.std.specs.Prelude.{◌&&◌, ◌==◌, None, Option, Some}
+use Rattle.std.specs.Prelude.{◌&&◌, ◌==◌, None, Option, Some, if◌then◌else◌}
 use Rattle.std.proofs.lemmas.Bool.{eqb-true}
 use Rattle.mmc_frame.specs.Field.{field}
 use Rattle.mmc_frame.specs.Frame.{command_in}
@@ -86,6 +86,12 @@ is_switch part c argument is =
     ∙ part_back part))
     (λ _. tt))))
 
+may_fail : (part : Part) (c : Card) (argument : ℕ) (fails : Bool)
+    → argument ≡ write_byte 179 (partition_config_for c.made part)
+    → IsAccess part c (if fails then None else switched c argument)
+may_fail part c argument true is = tt
+may_fail part c argument false is = is_switch part c argument is
+
 -- a card that stands as before, but that this partition may be the one that is accessed
 abbrev Switched : Part → Setting → Card → Type 0
 Switched part s d = Stands s d ⊎ Stands (record s { part = part }) d
@@ -98,10 +104,10 @@ programs_there s part c tran h = record {
   reset = λ e. cc;
 }
 
-switch_stands : (s : Setting) (part : Part) (c : Card) (o : Option Card) → IsAccess part c o → is_in c.state Tran ≡ true
-    → Stands s c → Switched part s (switch_row c o).0
-switch_stands s part c None is tran h = inl (stands_quiet s c _ refl refl (up_in c Tran tran refl) refl h)
-switch_stands s part c (Some d) is tran h =
+switch_stands : (s : Setting) (part : Part) (late : Bool) (c : Card) (o : Option Card) → IsAccess part c o
+    → is_in c.state Tran ≡ true → Stands s c → Switched part s (switch_row late c o).0
+switch_stands s part late c None is tran h = inl (stands_quiet s c _ refl refl (up_in c Tran tran refl) refl h)
+switch_stands s part late c (Some d) is tran h =
     inr (subst (λ x. Stands (record s { part = part }) (programs_switch x)) (sym is) (programs_there s part c tran h))
 
 same_made : (c : Card) → (reached Switch c).made ≡ c.made
@@ -114,8 +120,8 @@ switch_responds s part choice c argument is h =
     let d = reached Switch c in
     let held = stands_reached s Switch c h in
     first_by_cond (Switched part s) (is_legal Switch c) _ _
-    (λ l. switch_stands s part d (switched d argument)
-    (is_switch part d argument
+    (λ l. switch_stands s part choice.says_late d _
+    (may_fail part d argument choice.fails_switch
     (is ∙ ap (λ (m : Made). write_byte 179 (partition_config_for m part)) (sym (same_made c))))
     (legal_reached Switch c ∙ l) held)
     (λ _. inl (stands_refused s d held))

@@ -108,6 +108,11 @@ is_of_length size None = false
 abbrev pub can_send : Lines → ℕ → Card → Bool
 can_send lines size card = is_in card.state Data && (lines_fit lines card && is_of_length size (next_block card))
 
+-- it does, but while it is busy from CMD7 still it may let nothing come: READY_FOR_DATA was 0
+-- (SD Physical Layer 6.00, section 4.10.1; JESD84-B51, section 6.13)
+abbrev pub will_send : Choice → Lines → ℕ → Card → Bool
+will_send choice lines size card = not (choice.is_slow && card.is_busy) && can_send lines size card
+
 -- behind the last sector of an uncounted read OUT_OF_RANGE may be set
 abbrev pub is_none : Option ℕ → Bool
 is_none None = true
@@ -132,4 +137,4 @@ sent choice card = sent_from card.source choice card
 
 -- a block that is asked for
 abbrev pub asked_for : Choice → Lines → ℕ → Card → Card
-asked_for choice lines size card = if can_send lines size card then sent choice card else card
+asked_for choice lines size card = if will_send choice lines size card then sent choice card else card

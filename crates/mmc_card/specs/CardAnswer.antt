@@ -35,6 +35,9 @@ pub record Choice : Type 0 where
   -- an SD card leaves high speed unselected when it is to switch to it, and its status names function 15 then, none, or 0
   pub refuses_speed : Bool
   pub selects_none : Bool
+  -- a switch of an eMMC device fails; where none is carried out, the status behind it alone says so
+  pub fails_switch : Bool
+  pub says_late : Bool
 
 abbrev pub bit : Bool → ℕ
 bit b = if b then 1 else 0

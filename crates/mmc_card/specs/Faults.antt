@@ -3,24 +3,25 @@
 -- may go wrong, and what a card does then, is the project's own.
 use Rattle.std.specs.Prelude.{◌&&◌, ◌+◌, ◌<◌, ◌≡◌, ◌≤◌, Bool, IsSomeAnd, List, None, Ok, Option, Some, false}
 use Rattle.std.specs.Prelude.{if◌then◌else◌}
-use Rattle.std.specs.Prelude.{length, true, ℕ}
+use Rattle.std.specs.Prelude.{is_some, length, true, ℕ}
 use Rattle.mmc_frame.specs.Check.{bits_of}
 use Rattle.mmc_frame.specs.Flips.{AreBytes, Flips}
 use Rattle.mmc_frame.specs.Frame.{argument_in, command_in, response_in}
 use Rattle.mmc_frame.specs.RegisterFrame.{ocr_frame, register_frame}
-use Rattle.mmc_frame.specs.declared.card_state.State.TheVariants.{Idle, Prg, Rcv}
+use Rattle.mmc_frame.specs.declared.card_state.State.TheVariants.{Idle, Prg, Rcv, Tran}
 use Rattle.mmc_card.specs.declared.exchange.DataIn.{DataIn}
 use Rattle.mmc_card.specs.declared.exchange.DataOut.{DataOut}
 use Rattle.mmc_card.specs.declared.exchange.Reply.{Reply}
 use Rattle.mmc_card.specs.CardAnswer.{CardAnswer, Checked, Choice, Silent, R3, R2, garbled, raised, reset}
 use Rattle.mmc_card.specs.ErrorBits.{card_ecc_failed, execution_error_bits}
 use Rattle.mmc_card.specs.Blocks.{accepted, asked_for, can_send, can_accept, fallen_short, next_block, offered, polled_once}
-use Rattle.mmc_card.specs.Blocks.{programmed, rejected, sent, waited}
+use Rattle.mmc_card.specs.Blocks.{programmed, rejected, sent, waited, will_send}
 use Rattle.mmc_card.specs.Card.{AreAmong, Card, is_in}
 use Rattle.mmc_card.specs.declared.command.Command.{Command}
-use Rattle.mmc_card.specs.declared.command.Command.TheVariants.{SdSendOpCond, SendOpCond}
+use Rattle.mmc_card.specs.declared.command.Command.TheVariants.{SdSendOpCond, SendOpCond, Switch}
 use Rattle.mmc_card.specs.Rows.{answered, command_of}
 use Rattle.mmc_card.specs.RowsIdentify.{is_served}
+use Rattle.mmc_card.specs.RowsSwitch.{switched}
 use Rattle.mmc_card.specs.BusView.{BusView}
 use Rattle.mmc_card.specs.declared.exchange.DataIn.TheVariants as Received
 use Rattle.mmc_card.specs.declared.exchange.DataOut.TheVariants as Sent
@@ -75,13 +76,26 @@ abbrev pub is_inquiry_frame : Card → Option (ℕ × ℕ) → Bool
 is_inquiry_frame card (Some command) = is_inquiry (command_of card.made.kind card.app command.0) card command.1
 is_inquiry_frame card None = false
 
+-- a switch of an eMMC device that it knows
+abbrev pub is_switch : Command → Card → ℕ → Bool
+is_switch Switch card argument = is_in card.state Tran && is_some (switched card argument)
+is_switch _ card argument = false
+
+abbrev pub is_switch_frame : Card → Option (ℕ × ℕ) → Bool
+is_switch_frame card (Some command) = is_switch (command_of card.made.kind card.app command.0) card command.1
+is_switch_frame card None = false
+
 -- not ready, and busy, at most eight times each
 abbrev pub IsPatient : Choice → ℕ → Type 0
 IsPatient choice times = choice.is_slow ≡ true → times < 8
 
+-- so it is at a command, and no switch fails
+abbrev pub IsFaultless : Choice → Card → Type 0
+IsFaultless choice card = IsPatient choice card.inquiries × (choice.fails_switch ≡ false)
+
 -- A command.
 pub data CommandStep (old : BusView) (frame : List ℕ) (reply : Reply) (new : BusView) : Type 0 where
-  faithful : (choice : Choice) → IsPatient choice old.card.inquiries → NoFault old new
+  faithful : (choice : Choice) → IsFaultless choice old.card → NoFault old new
       → new.card ≡ (answered choice old.card (command_in frame)).0
       → Spells (answered choice old.card (command_in frame)).1 reply
       → CommandStep old frame reply new
@@ -91,12 +105,12 @@ pub data CommandStep (old : BusView) (frame : List ℕ) (reply : Reply) (new : B
   flip_command : (keeps_count : Bool) → OneFault old new → new.card ≡ garbled keeps_count old.card → reply ≡ Came.Silent
       → CommandStep old frame reply new
   -- the card answers, and the host hears nothing
-  lose_reply : (choice : Choice) → IsPatient choice old.card.inquiries → OneFault old new
+  lose_reply : (choice : Choice) → IsFaultless choice old.card → OneFault old new
       → new.card ≡ (answered choice old.card (command_in frame)).0
       → ((answered choice old.card (command_in frame)).1 ≡ Silent → ⊥) → reply ≡ Came.Silent
       → CommandStep old frame reply new
   -- one bit or two of the answer are flipped
-  flip_reply : (choice : Choice) → IsPatient choice old.card.inquiries → OneFault old new
+  flip_reply : (choice : Choice) → IsFaultless choice old.card → OneFault old new
       → new.card ≡ (answered choice old.card (command_in frame)).0
       → IsFlipped (answered choice old.card (command_in frame)).1 reply
       → CommandStep old frame reply new
@@ -106,8 +120,13 @@ pub data CommandStep (old : BusView) (frame : List ℕ) (reply : Reply) (new : B
       → new.card ≡ (answered choice old.card (command_in frame)).0
       → Spells (answered choice old.card (command_in frame)).1 reply
       → CommandStep old frame reply new
+  -- a switch fails: no byte changes, which SWITCH_ERROR says, in the response or in the first status behind it
+  fail_switch : (choice : Choice) → choice.fails_switch ≡ true → is_switch_frame old.card (command_in frame) ≡ true
+      → OneFault old new → new.card ≡ (answered choice old.card (command_in frame)).0
+      → Spells (answered choice old.card (command_in frame)).1 reply
+      → CommandStep old frame reply new
   -- the power fails before the step or after it
-  brownout : (choice : Choice) (lands : ℕ → Bool) (keeps_length after : Bool) → IsPatient choice old.card.inquiries
+  brownout : (choice : Choice) (lands : ℕ → Bool) (keeps_length after : Bool) → IsFaultless choice old.card
       → OneFault old new
       → new.card ≡ reset lands keeps_length (if after then (answered choice old.card (command_in frame)).0 else old.card)
       → reply ≡ Came.Silent → CommandStep old frame reply new
@@ -163,7 +182,7 @@ pub data WriteStep (old : BusView) (block : List ℕ) (got : DataOut) (new : Bus
 -- A block of this length that is asked for.
 pub data ReadStep (old : BusView) (size : ℕ) (got : DataIn) (block : List ℕ) (new : BusView) : Type 0 where
   faithful : (choice : Choice) → NoFault old new → new.card ≡ asked_for choice old.lines size old.card
-      → got ≡ (if can_send old.lines size old.card then Received.Good else Received.Nothing)
+      → got ≡ (if will_send choice old.lines size old.card then Received.Good else Received.Nothing)
       → (got ≡ Received.Good → next_block old.card ≡ Some block)
       → ReadStep old size got block new
   -- the card sends it, and a bad block comes, or none

@@ -1,8 +1,8 @@
 -- Headline (README.md, "What to read").
 -- Width, speed and partition (SD Physical Layer 6.00, sections 4.3.10 and 4.7.4; JESD84-B51, sections 6.6.1 and 7.4).
 -- Each row is what a card does with a command in tran, and its answer.
-use Rattle.std.specs.Prelude.{◌&&◌, ◌*◌, ◌+◌, ◌==◌, ◌^◌, List, None, Option, Some, [], false, if◌then◌else◌, length}
-use Rattle.std.specs.Prelude.{Bool, slice_index, slice_set, true, ℕ}
+use Rattle.std.specs.Prelude.{◌&&◌, ◌*◌, ◌+◌, ◌==◌, ◌^◌, List, None, Option, Some, [], false, if◌then◌else◌}
+use Rattle.std.specs.Prelude.{length, Bool, slice_index, slice_set, true, ℕ, ◌||◌, not}
 use Rattle.mmc_frame.specs.Field.{field}
 use Rattle.mmc_frame.specs.declared.card_state.State.TheVariants.{Prg}
 use Rattle.mmc_frame.specs.declared.commands.TheConstants as Index
@@ -121,17 +121,20 @@ switched card argument =
     then Some (record card { timing = High })
     else access_switched card argument
 
--- CMD6 of eMMC, SWITCH: SWITCH_ERROR where no byte changed, and programming in any case
+-- CMD6 of eMMC, SWITCH: programming in any case, and SWITCH_ERROR where no byte changed, in the response or, said late,
+-- in the first status behind it (JESD84-B51, section 6.6.1)
 abbrev pub programs_switch : Card → Card
 programs_switch card = record (busied (shown card)) { state = Prg; is_switching = true; values = [] }
 
-abbrev pub switch_row : Card → Option Card → Card × CardAnswer
-switch_row card (Some after) = (programs_switch after, Checked Index.SWITCH_FUNC (status false card))
-switch_row card None = (
-  programs_switch card,
+abbrev pub switch_row : Bool → Card → Option Card → Card × CardAnswer
+switch_row says_late card (Some after) = (programs_switch after, Checked Index.SWITCH_FUNC (status false card))
+switch_row says_late card None = (
+  record (programs_switch card) { switch_error = says_late },
   Checked Index.SWITCH_FUNC
-      (status false (record card { switch_error = true })),
+      (status false (record card { switch_error = not says_late || card.switch_error })),
 )
 
-abbrev pub switch_byte : Card → ℕ → Card × CardAnswer
-switch_byte card argument = switch_row card (switched card argument)
+-- one that fails changes no byte
+abbrev pub switch_byte : Choice → Card → ℕ → Card × CardAnswer
+switch_byte choice card argument =
+    switch_row choice.says_late card (if choice.fails_switch then None else switched card argument)

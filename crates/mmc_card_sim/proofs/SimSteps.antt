@@ -1,7 +1,7 @@
 -- The exchanges of a card in memory, with a fault or without one, are steps of a card, and leave one.
 use Rattle.std.proofs.Common.{◌&&◌, ◌+◌, ◌-◌, ◌/◌, ◌<◌, ◌^◌, ◌||◌, ◌≡◌, ◌≤◌, ◌∙◌, Bool, List, None, Some, ap, arith}
-use Rattle.std.proofs.Common.{false, not, refl, sym, true, ℕ}
-use Rattle.std.specs.Prelude.{Option, if◌then◌else◌, min, nat_le, nat_lt}
+use Rattle.std.proofs.Common.{false, not, refl, subst, sym, true, ℕ}
+use Rattle.std.specs.Prelude.{Option, if◌then◌else◌, is_some, min, nat_le, nat_lt}
 use Rattle.std.proofs.lemmas.Bool.Decides.{nat_tests}
 use Rattle.mmc_frame.proofs.Bytes.{and_true}
 use Rattle.mmc_card.specs.declared.exchange.DataIn.{DataIn}
@@ -12,16 +12,22 @@ use Rattle.mmc_card.specs.declared.exchange.Reply.{Reply}
 use Rattle.mmc_card.specs.declared.exchange.Want.{Want}
 use Rattle.mmc_card.specs.BusView.{BusView}
 use Rattle.mmc_card.specs.Card.{Card, IsBlock, IsCard, is_in}
-use Rattle.mmc_card.specs.CardAnswer.{raised}
+use Rattle.mmc_card.specs.CardAnswer.{CardAnswer, Choice, raised}
+use Rattle.mmc_card.specs.Rows.{answered, command_of, responded}
+use Rattle.mmc_card.specs.RowsSwitch.{switched}
+use Rattle.mmc_card.specs.declared.command.Command.{Command as Meaning}
+use Rattle.mmc_card.specs.declared.command.Command.TheVariants as Names
+use Rattle.mmc_frame.specs.Frame.{command_in}
 use Rattle.mmc_card.specs.ErrorBits.{general_error}
 use Rattle.mmc_card.specs.Faults.{AreOfExecution, CommandStep, IsPatient, PollStep, ReadStep, WriteStep}
 use Rattle.mmc_card.specs.Faults.CommandStep.{brownout as command_brownout, faithful as does_command, flip_command}
-use Rattle.mmc_card.specs.Faults.CommandStep.{flip_reply, lose_command, lose_reply}
+use Rattle.mmc_card.specs.Faults.CommandStep.{fail_switch, flip_reply, lose_command, lose_reply}
+use Rattle.mmc_card.specs.Faults.{Spells, is_switch, is_switch_frame}
 use Rattle.mmc_card.specs.Faults.PollStep.{brownout as poll_brownout, busy, fail, faithful as does_poll, fall_short}
 use Rattle.mmc_card.specs.Faults.ReadStep.{bad_block, brownout as read_brownout, faithful as does_read, read_error}
 use Rattle.mmc_card.specs.Faults.WriteStep.{brownout as write_brownout, faithful as does_write, lose_status, reject}
 use Rattle.mmc_card.specs.Sectors.{Sector}
-use Rattle.mmc_frame.specs.declared.card_state.State.TheVariants.{Prg, Rcv}
+use Rattle.mmc_frame.specs.declared.card_state.State.TheVariants.{Prg, Rcv, Tran}
 use Rattle.mmc_card.proofs.CardAll.{command_leaves_card, poll_leaves_card, read_leaves_card, write_leaves_card}
 use Rattle.mmc_bus.specs.declared.wire.Wire.{Wire}
 use Rattle.mmc_bus.specs.Exchanges.{Commanded, DataRead, DataWritten, Exchanged, Polled}
@@ -32,7 +38,7 @@ use Rattle.mmc_card_sim.proofs.ChipLemmas.{execution_held}
 use Rattle.mmc_card_sim.specs.FaultyExchanges.{are_of_execution, failed, may_fail, may_fall_short}
 use Rattle.mmc_card_sim.specs.FaultyExchanges.{Commands, IsHeard, Polls, Reads, Writes, after_command, after_poll}
 use Rattle.mmc_card_sim.specs.FaultyExchanges.{after_read, after_write, fits_command, fits_poll, fits_read, fits_write}
-use Rattle.mmc_card_sim.specs.FaultyExchanges.{heeded, is_answer, is_busy_fault, poll_choice, read_in, written_out}
+use Rattle.mmc_card_sim.specs.FaultyExchanges.{done_in, failing, heeded, is_answer, is_busy_fault, poll_choice, read_in, written_out}
 use Rattle.mmc_card_sim.specs.Plan.{fault_at, to_come}
 use Rattle.mmc_card_sim.specs.SimView.{SimOk, SimView}
 use Rattle.mmc_card_sim.proofs.PlanLemmas.{spent}
@@ -76,23 +82,79 @@ soon_ready : (delays : Delays) (card : Card) → delays.ready ≤ 8
     → IsPatient (command_choice delays card) card.inquiries
 soon_ready delays card few slow = few_times delays.ready card.inquiries few slow
 
+-- A switch that fails.
+
+switch_fails : (choice : Choice) (command : Meaning) (card : Card) (index argument : ℕ) → choice.fails_switch ≡ true
+    → is_switch command card argument ≡ true
+    → responded choice command card index argument ≡ failing choice.says_late card
+switch_fails choice Names.Switch card index argument fails h =
+    let tran = (and_true (is_in card.state Tran) (is_some (switched card argument)) h).0 in rw (tran, fails) refl
+switch_fails choice Names.SendOpCond card index argument fails h = cc
+switch_fails choice Names.SdSendOpCond card index argument fails h = cc
+switch_fails choice Names.AllSendCid card index argument fails h = cc
+switch_fails choice Names.SendRelativeAddr card index argument fails h = cc
+switch_fails choice Names.SetRelativeAddr card index argument fails h = cc
+switch_fails choice Names.SelectCard card index argument fails h = cc
+switch_fails choice Names.SendIfCond card index argument fails h = cc
+switch_fails choice Names.SendExtCsd card index argument fails h = cc
+switch_fails choice Names.SendCsd card index argument fails h = cc
+switch_fails choice Names.StopTransmission card index argument fails h = cc
+switch_fails choice Names.SendStatus card index argument fails h = cc
+switch_fails choice Names.SetBlocklen card index argument fails h = cc
+switch_fails choice Names.ReadSingleBlock card index argument fails h = cc
+switch_fails choice Names.ReadMultipleBlock card index argument fails h = cc
+switch_fails choice Names.SetBlockCount card index argument fails h = cc
+switch_fails choice Names.WriteBlock card index argument fails h = cc
+switch_fails choice Names.WriteMultipleBlock card index argument fails h = cc
+switch_fails choice Names.EraseStart card index argument fails h = cc
+switch_fails choice Names.EraseEnd card index argument fails h = cc
+switch_fails choice Names.Erase card index argument fails h = cc
+switch_fails choice Names.SwitchFunc card index argument fails h = cc
+switch_fails choice Names.SetBusWidth card index argument fails h = cc
+switch_fails choice Names.SendScr card index argument fails h = cc
+switch_fails choice Names.AppCmd card index argument fails h = cc
+switch_fails choice Names.Unknown card index argument fails h = cc
+switch_fails choice Names.GoIdleState card index argument fails h = cc
+
+fails_to_switch : (choice : Choice) (card : Card) (command : Option (ℕ × ℕ)) → choice.fails_switch ≡ true
+    → is_switch_frame card command ≡ true → failing choice.says_late card ≡ answered choice card command
+fails_to_switch choice card (Some command) fails h =
+    sym (switch_fails choice (command_of card.made.kind card.app command.0) card command.0 command.1 fails h)
+fails_to_switch choice card None fails h = cc
+
+-- the choice of a card whose switch fails
+abbrev failing_choice : Bool → Delays → Card → Choice
+failing_choice late delays card = record (command_choice delays card) { fails_switch = true; says_late = late }
+
 module _ (plan : List Planned) (old new : Card) (delays : Delays) (soon : delays.ready ≤ 8) (faults later : ℕ)
     (before after : Wire) where
+  failed_switch : (late : Bool) (frame : List ℕ) (reply : Reply) → later ≡ faults + 1
+      → is_switch_frame old (command_in frame) ≡ true → new ≡ (failing late old).0 → Spells (failing late old).1 reply
+      → CommandStep (kept_with plan old faults before) frame reply (kept_with plan new later after)
+  failed_switch late frame reply one fits card heard =
+      let is = fails_to_switch (failing_choice late delays old) old (command_in frame) refl fits in
+      fail_switch (failing_choice late delays old) refl fits one (card ∙ ap (λ (x : Card × CardAnswer). x.0) is)
+      (subst (λ (x : Card × CardAnswer). Spells x.1 reply) is heard)
+
   command_fault : (fault : Option Fault) (frame : List ℕ) (reply : Reply) → later ≡ faults + 1
       → fits_command fault delays old frame ≡ true
-      → new ≡ after_command fault delays old frame → IsHeard fault (heeded delays old frame).1 reply
+      → new ≡ after_command fault delays old frame → IsHeard fault (done_in fault delays old frame).1 reply
       → CommandStep (kept_with plan old faults before) frame reply (kept_with plan new later after)
   command_fault None frame reply one fits card heard = cc
   command_fault (Some Is.LoseCommand) frame reply one fits card heard = lose_command one card heard
   command_fault (Some (Is.FlipCommand flips)) frame reply one fits card heard = flip_command false one card heard
   command_fault (Some Is.LoseReply) frame reply one fits card heard =
-      lose_reply (command_choice delays old) (soon_ready delays old soon) one card
+      lose_reply (command_choice delays old) (soon_ready delays old soon, refl) one card
       (λ none. cc (ap is_answer none, fits)) heard
   command_fault (Some (Is.FlipReply flips)) frame reply one fits card heard =
-      flip_reply (command_choice delays old) (soon_ready delays old soon) one card
+      flip_reply (command_choice delays old) (soon_ready delays old soon, refl) one card
       (is_flipped flips (heeded delays old frame).1 reply fits heard)
+  command_fault (Some Is.FailSwitch) frame reply one fits card heard = failed_switch false frame reply one fits card heard
+  command_fault (Some Is.FailSwitchLate) frame reply one fits card heard =
+      failed_switch true frame reply one fits card heard
   command_fault (Some (Is.Brownout outcome)) frame reply one fits card heard =
-      command_brownout (choice_of false) (lands_by outcome) delays.keeps_length false (λ slow. absurd cc) one card heard
+      command_brownout (choice_of false) (lands_by outcome) delays.keeps_length false (λ slow. absurd cc, refl) one card
+      heard
   command_fault (Some Is.BadBlock) frame reply one fits card heard = cc
   command_fault (Some Is.NoBlock) frame reply one fits card heard = cc
   command_fault (Some Is.ReadError) frame reply one fits card heard = cc
@@ -108,7 +170,7 @@ module _ (plan : List Planned) (old new : Card) (delays : Delays) (soon : delays
       → Commands fault delays old frame reply fell new
       → CommandStep (kept_with plan old faults before) frame reply (kept_with plan new later after)
   command_step fault frame reply false counts does =
-      does_command (command_choice delays old) (soon_ready delays old soon) counts (does.card refl)
+      does_command (command_choice delays old) (soon_ready delays old soon, refl) counts (does.card refl)
       (does.answer refl)
   command_step fault frame reply true counts does =
       command_fault fault frame reply counts (sym does.fell_is) (does.fault_card refl) (does.fault_reply refl)
@@ -145,6 +207,8 @@ module _ (plan : List Planned) (old new : Card) (delays : Delays) (faults later 
   read_fault (Some (Is.FlipCommand flips)) size got block one fits card answer = cc
   read_fault (Some Is.LoseReply) size got block one fits card answer = cc
   read_fault (Some (Is.FlipReply flips)) size got block one fits card answer = cc
+  read_fault (Some Is.FailSwitch) size got block one fits card answer = cc
+  read_fault (Some Is.FailSwitchLate) size got block one fits card answer = cc
   read_fault (Some Is.Busy) size got block one fits card answer = cc
   read_fault (Some Is.Reject) size got block one fits card answer = cc
   read_fault (Some Is.RejectAll) size got block one fits card answer = cc
@@ -190,6 +254,8 @@ module _ (plan : List Planned) (old new : Card) (delays : Delays) (faults later 
   write_fault (Some (Is.FlipCommand flips)) block got one fits card answer = cc
   write_fault (Some Is.LoseReply) block got one fits card answer = cc
   write_fault (Some (Is.FlipReply flips)) block got one fits card answer = cc
+  write_fault (Some Is.FailSwitch) block got one fits card answer = cc
+  write_fault (Some Is.FailSwitchLate) block got one fits card answer = cc
   write_fault (Some Is.Busy) block got one fits card answer = cc
   write_fault (Some Is.BadBlock) block got one fits card answer = cc
   write_fault (Some Is.NoBlock) block got one fits card answer = cc
@@ -272,6 +338,8 @@ module _ (plan : List Planned) (old new : Card) (delays : Delays) (soon : delays
   poll_fault (Some (Is.FlipCommand flips)) said one fits card is = cc
   poll_fault (Some Is.LoseReply) said one fits card is = cc
   poll_fault (Some (Is.FlipReply flips)) said one fits card is = cc
+  poll_fault (Some Is.FailSwitch) said one fits card is = cc
+  poll_fault (Some Is.FailSwitchLate) said one fits card is = cc
   poll_fault (Some Is.BadBlock) said one fits card is = cc
   poll_fault (Some Is.NoBlock) said one fits card is = cc
   poll_fault (Some Is.ReadError) said one fits card is = cc

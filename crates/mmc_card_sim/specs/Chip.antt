@@ -79,6 +79,8 @@ choice_of is_slow = record {
   keeps_length = true;
   refuses_speed = false;
   selects_none = true;
+  fails_switch = false;
+  says_late = false;
 }
 
 -- an SD card that refuses to switch to high speed

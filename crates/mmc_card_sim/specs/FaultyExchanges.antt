@@ -2,7 +2,7 @@
 -- otherwise the exchange is a faithful step.
 use Rattle.std.specs.Prelude.{◌&&◌, ◌*◌, ◌/◌, ◌==◌, ◌^◌, ◌||◌, ◌≡◌, Bool, List, Option, Some, bit_or, false}
 use Rattle.std.specs.Prelude.{if◌then◌else◌, length, nat_le, nat_lt}
-use Rattle.std.specs.Prelude.{not, true, ℕ}
+use Rattle.std.specs.Prelude.{None, not, true, ℕ}
 use Rattle.mmc_frame.specs.Frame.{command_in}
 use Rattle.mmc_frame.specs.declared.card_state.State.TheVariants.{Prg, Rcv}
 use Rattle.mmc_card.specs.declared.exchange.DataIn.{DataIn}
@@ -17,15 +17,17 @@ use Rattle.mmc_card.specs.Blocks.{fallen_short, next_written, waited}
 use Rattle.mmc_card.specs.Card.{Card, is_in, stored}
 use Rattle.mmc_card.specs.CardAnswer.{CardAnswer, Choice, Silent, garbled, raised, reset}
 use Rattle.mmc_card.specs.ErrorBits.{card_ecc_failed, execution_error_bits, general_error}
-use Rattle.mmc_card.specs.Faults.{Spells}
-use Rattle.mmc_card.specs.Rows.{answered}
+use Rattle.mmc_card.specs.Faults.{Spells, is_switch_frame}
+use Rattle.mmc_card.specs.Rows.{answered, reached}
+use Rattle.mmc_card.specs.RowsSwitch.{switch_row}
+use Rattle.mmc_card.specs.declared.command.Command.TheVariants.{Switch}
 use Rattle.mmc_card_sim.specs.Answer.{IsHeardFlipped, can_flip, is_flip}
 use Rattle.mmc_card_sim.specs.Chip.{Sends, choice_of, command_choice}
 use Rattle.mmc_card_sim.specs.Store.{lands_by}
 use Rattle.mmc_card_sim.specs.declared.delays.Delays.{Delays}
 use Rattle.mmc_card_sim.specs.declared.fault.Fault.{Fault}
 use Rattle.mmc_card_sim.specs.declared.fault.Fault.TheVariants.{BadBlock, Brownout, Busy, Fail, FailWith, FlipCommand}
-use Rattle.mmc_card_sim.specs.declared.fault.Fault.TheVariants.{FlipReply}
+use Rattle.mmc_card_sim.specs.declared.fault.Fault.TheVariants.{FailSwitch, FailSwitchLate, FlipReply}
 use Rattle.mmc_card_sim.specs.declared.fault.Fault.TheVariants.{LoseCommand, LoseReply, LoseStatus, NoBlock, ReadError}
 use Rattle.mmc_card_sim.specs.declared.fault.Fault.TheVariants.{Reject, RejectAll}
 use Rattle.mmc_card_sim.specs.declared.fault.Outcome.TheVariants.{New}
@@ -35,6 +37,16 @@ use Rattle.mmc_card_sim.specs.declared.fault.Outcome.TheVariants.{New}
 -- the faithful step of the card with this frame
 abbrev pub heeded : Delays → Card → List ℕ → Card × CardAnswer
 heeded delays card frame = answered (command_choice delays card) card (command_in frame)
+
+-- a switch that fails, which is said late or at once
+abbrev pub failing : Bool → Card → Card × CardAnswer
+failing says_late card = switch_row says_late (reached Switch card) None
+
+-- what the card does with this frame where this fault falls
+abbrev pub done_in : Option Fault → Delays → Card → List ℕ → Card × CardAnswer
+done_in (Some FailSwitch) delays card frame = failing false card
+done_in (Some FailSwitchLate) delays card frame = failing true card
+done_in _ delays card frame = heeded delays card frame
 
 abbrev pub is_answer : CardAnswer → Bool
 is_answer Silent = false
@@ -46,6 +58,8 @@ fits_command (Some LoseCommand) delays card frame = true
 fits_command (Some (FlipCommand flips)) delays card frame = is_flip flips 48
 fits_command (Some LoseReply) delays card frame = is_answer (heeded delays card frame).1
 fits_command (Some (FlipReply flips)) delays card frame = can_flip flips (heeded delays card frame).1
+fits_command (Some FailSwitch) delays card frame = is_switch_frame card (command_in frame)
+fits_command (Some FailSwitchLate) delays card frame = is_switch_frame card (command_in frame)
 fits_command (Some (Brownout outcome)) delays card frame = true
 fits_command _ delays card frame = false
 
@@ -54,19 +68,23 @@ abbrev pub after_command : Option Fault → Delays → Card → List ℕ → Car
 after_command (Some (FlipCommand flips)) delays card frame = garbled false card
 after_command (Some LoseReply) delays card frame = (heeded delays card frame).0
 after_command (Some (FlipReply flips)) delays card frame = (heeded delays card frame).0
+after_command (Some FailSwitch) delays card frame = (failing false card).0
+after_command (Some FailSwitchLate) delays card frame = (failing true card).0
 after_command (Some (Brownout outcome)) delays card frame = reset (lands_by outcome) delays.keeps_length card
 after_command _ delays card frame = card
 
--- what is heard of the answer: nothing, or all but the bits that are flipped
+-- what is heard of the answer: nothing, all but the bits that are flipped, or all
 abbrev pub IsHeard : Option Fault → CardAnswer → Reply → Type 0
 IsHeard (Some (FlipReply flips)) answer reply = IsHeardFlipped flips answer reply
+IsHeard (Some FailSwitch) answer reply = Spells answer reply
+IsHeard (Some FailSwitchLate) answer reply = Spells answer reply
 IsHeard _ answer reply = reply ≡ Came.Silent
 
 pub record Commands (fault : Option Fault) (delays : Delays) (old : Card) (frame : List ℕ) (reply : Reply)
     (fell : Bool) (new : Card) : Type 0 where
   pub fell_is : fell ≡ fits_command fault delays old frame
   pub fault_card : fell ≡ true → new ≡ after_command fault delays old frame
-  pub fault_reply : fell ≡ true → IsHeard fault (heeded delays old frame).1 reply
+  pub fault_reply : fell ≡ true → IsHeard fault (done_in fault delays old frame).1 reply
   pub card : fell ≡ false → new ≡ (heeded delays old frame).0
   pub answer : fell ≡ false → Spells (heeded delays old frame).1 reply
 

@@ -134,8 +134,11 @@ impl Chip {
     ghost use Rattle.mmc_card.specs.Card.{is_identified, is_in, powered_on};
     ghost use Rattle.mmc_card_sim.specs.Chip.{Answers, card_of, command_choice};
     ghost use Rattle.mmc_card_sim.specs.Store.{parts_of, values_of};
-    ghost use Rattle.std.specs.Prelude.{[]};
+    ghost use Rattle.std.specs.Prelude.{[], None};
     ghost use Rattle.mmc_card.specs.Rows.{answered, is_legal, reached, respond, row};
+    ghost use Rattle.mmc_card.specs.Faults.{is_switch_frame};
+    ghost use Rattle.mmc_card.specs.RowsSwitch.{switch_row};
+    ghost use Rattle.mmc_card.specs.declared.command.Command.TheVariants.{Switch};
 
     /// A card after power on. What its registers say is given beside them: the erase unit in sectors, write protection,
     /// and the block length that they name, in bytes.
@@ -365,6 +368,29 @@ impl Chip {
         } else {
             self.refuse()
         }
+    }
+
+    /// Whether a frame is a switch of an eMMC device that the card knows.
+    pub fn is_switch(&self, frame: &[u8; 6]) -> bool
+        ensures { result ≡ is_switch_frame (card_of self.now) (command_in frame.now) }
+    {
+        match read_command(frame) {
+            Some((index, argument)) => {
+                let command = command_of(self.registers.kind(), self.is_app, index);
+                matches!(command, Command::Switch)
+                    && self.is_in(State::Tran)
+                    && self.switched(argument).is_some()
+            }
+            None => false,
+        }
+    }
+
+    /// The answer to a switch that fails.
+    pub fn fail_switch(&mut self, says_late: bool) -> Answer
+        ensures { Answers (switch_row says_late (reached Switch (card_of self.old)) None) self.new result }
+    {
+        self.drop_erase_addresses(Command::Switch);
+        self.leave_byte(says_late)
     }
 
     /// The answer to a command. Where the check of the command is wrong, the card notes that, drops a preset count, and is

@@ -29,6 +29,10 @@ pub enum Fault {
     LoseReply,
     /// The card answers, and the answer comes with flipped bits, none of them the OCR's of an R3.
     FlipReply(Flips),
+    /// A switch of an eMMC device fails, and its response says so.
+    FailSwitch,
+    /// So it does, and the first status behind its busy time says so.
+    FailSwitchLate,
     /// A block that is read comes with a bad check.
     BadBlock,
     /// A block that is read doesn't come.

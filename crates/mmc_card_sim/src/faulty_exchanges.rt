@@ -69,6 +69,12 @@ impl Chip {
             }
             Some(Fault::LoseReply) => self.command_unheard(delays, frame),
             Some(Fault::FlipReply(flips)) => self.command_flipped(delays, frame, flips),
+            Some(Fault::FailSwitch) if self.is_switch(frame) => {
+                (self.fail_switch(false).spelled(), true)
+            }
+            Some(Fault::FailSwitchLate) if self.is_switch(frame) => {
+                (self.fail_switch(true).spelled(), true)
+            }
             Some(Fault::Brownout(outcome)) => {
                 self.lose_power(outcome, delays.keeps_length);
                 (Reply::Silent, true)

@@ -1,6 +1,7 @@
 // What the card in memory does with the commands of width, speed and partition (SD Physical Layer 6.00, section 4.3.10;
 // JESD84-B51, section 6.6.1), each in tran.
-ghost use Rattle.std.specs.Prelude.{◌≡◌, ◌<◌, None, Some, if◌then◌else◌, slice_index, slice_set};
+ghost use Rattle.std.specs.Prelude.{◌≡◌, ◌<◌, None, Some, if◌then◌else◌, slice_index, slice_set, [], false, true};
+ghost use Rattle.mmc_frame.specs.declared.card_state.State.TheVariants.{Prg};
 ghost use Rattle.mmc_frame.specs.Field.{field};
 ghost use Rattle.mmc_card_sim.specs.Chip.{selects_none};
 ghost use Rattle.mmc_card.specs.RowsSwitch.{part_accessed, timing_number, width_by, width_number};
@@ -100,12 +101,12 @@ fn function_selected(refusal: Refusal) -> u8
 }
 
 impl Chip {
-    ghost use Rattle.mmc_card.specs.CardAnswer.{Checked, status};
+    ghost use Rattle.mmc_card.specs.CardAnswer.{Checked, busied, status};
     ghost use Rattle.mmc_card.specs.RowsSwitch.{accessed, access_switched, ext_csd_now, partition_config_for};
     ghost use Rattle.mmc_card.specs.RowsSwitch.{send_ext_csd, set_bus_width, switch_byte, switch_func, switched};
-    ghost use Rattle.mmc_card.specs.RowsSwitch.{is_to_speed_up, refusal as refusal_in, timing_after};
+    ghost use Rattle.mmc_card.specs.RowsSwitch.{is_to_speed_up, refusal as refusal_in, timing_after, switch_row};
     ghost use Rattle.mmc_card.specs.RowsTransfer.{send_scr, sending};
-    ghost use Rattle.mmc_card_sim.specs.Chip.{Answers, card_of, command_choice};
+    ghost use Rattle.mmc_card_sim.specs.Chip.{Answers, card_of, command_choice, choice_of};
     ghost use Rattle.mmc_card_sim.specs.Switches.{switched_to, to_card};
 
     // The card sends this block, and has this timing then.
@@ -246,7 +247,7 @@ impl Chip {
     }
 
     // What an argument switches, if the card knows it.
-    fn switched(&self, argument: u32) -> Option<SwitchTo>
+    pub fn switched(&self, argument: u32) -> Option<SwitchTo>
         ensures { switched (card_of self.now) argument ≡ to_card result (card_of self.now) }
     {
         match argument {
@@ -271,7 +272,7 @@ impl Chip {
 
     /// CMD6 of eMMC: SWITCH_ERROR where the card doesn't know the switch, and programming in any case.
     pub fn switch_byte(&mut self, argument: u32) -> Answer
-        ensures { Answers (switch_byte (card_of self.old) argument) self.new result }
+        ensures { Answers (switch_byte (choice_of false) (card_of self.old) argument) self.new result }
     {
         let to = self.switched(argument);
         if to.is_none() {
@@ -281,10 +282,31 @@ impl Chip {
         if let Some(to) = to {
             self.switch(to);
         }
+        self.program_switch();
+        answer
+    }
+
+    // The card is busy with a switch.
+    fn program_switch(&mut self)
+        ensures { card_of self.new
+            ≡ record (busied (card_of self.old)) { state = Prg; is_switching = true; values = [] } }
+    {
         self.make_busy();
         self.store.drop_values();
         self.state = State::Prg;
         self.is_switching = true;
+    }
+
+    /// A switch that fails: no byte changes, and SWITCH_ERROR shows in the response or, said late, behind it.
+    pub fn leave_byte(&mut self, says_late: bool) -> Answer
+        ensures { Answers (switch_row says_late (card_of self.old) None) self.new result }
+    {
+        if !says_late {
+            self.has_switch_error = true;
+        }
+        let answer = self.respond_status(SWITCH_FUNC, false);
+        self.has_switch_error = says_late;
+        self.program_switch();
         answer
     }
 }

@@ -358,6 +358,8 @@ fn has_only_faults_that_fit(rt: HostRuntime) -> Result<(), Fail> {
         Fault::FlipCommand(two(3, 3)),
         Fault::FlipCommand(one(48)),
         Fault::FlipReply(two(0, 48)),
+        Fault::FailSwitch,
+        Fault::FailSwitchLate,
         Fault::BadBlock,
         Fault::NoBlock,
         Fault::ReadError,

@@ -67,7 +67,7 @@ Received size block r =
     Worked Narrows
     (λ old new. IsOk r → (can_send old.lines size old.card ≡ true) × (next_block old.card ≡ Some block)
     × ((choice : Choice) × (new.card ≡ sent choice old.card)))
-    (λ old new. can_send old.lines size old.card ≡ true → IsOk r)
+    (λ old new. can_send old.lines size old.card ≡ true → old.card.is_busy ≡ false → IsOk r)
 
 same_some : {X : Type 0} (x y : X) → Some x ≡ Some y → x ≡ y
 same_some x y h = cc
@@ -129,8 +129,10 @@ sends_fine : {Asks IsThere : Type 0} (size : ℕ) (is_app : Bool) (bytes block :
     (setting : Setting) (r : Result Unit Cause) (a b c : BusView) → Commands Asks IsThere bytes timing (Ok tt) a b
     → Received size block r b c → Asks → IsSet is_app setting a → length bytes ≡ size → NoFault a c → IsOk r
 sends_fine size is_app bytes block timing setting r a b c p q asks set long same =
+    let sends = p.own asks refl in
     q.fine (quiet_parts a b c p.stays q.stays same).1
-    (sends_all size is_app bytes timing setting a b set (p.own asks refl) long)
+    (sends_all size is_app bytes timing setting a b set sends long)
+    (ap (λ (card : Card). card.is_busy) sends.1 ∙ set.rest.rests)
 
 pub block_fails : {X Asks IsThere Can : Type 0} (size : ℕ) (is_app : Bool) (bytes block : List ℕ) (timing : Timing)
     (tells : List ℕ → X) (cause : Cause) (r : Result X Cause) (a b c : BusView)

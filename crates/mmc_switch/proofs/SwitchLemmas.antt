@@ -1,20 +1,21 @@
 -- A switch of an eMMC device: CMD6 and the status behind it; and the switches of widening, one behind the other.
-use Rattle.std.proofs.Common.{◌∙◌, ◌≡◌, ◌↔◌, Bool, ap, false, inl, inr, refl, subst, sym, true, ℕ}
+use Rattle.std.proofs.Common.{◌∙◌, ◌≡◌, ◌⊎◌, ◌↔◌, Bool, ap, false, inl, inr, refl, subst, sym, true, ℕ}
 use Rattle.std.proofs.lemmas.Result.{IfOk-from_err}
 use Rattle.std.specs.Prelude.{◌&&◌, ◌*◌, ◌+◌, ◌==◌, Err, IfOk, IfSome, IsErr, IsOk, None, Ok, Option, Result, Some}
 use Rattle.std.specs.Prelude.{if◌then◌else◌, length}
 use Rattle.mmc_frame.specs.Field.{field}
 use Rattle.mmc_frame.specs.Status.{error_bits}
-use Rattle.mmc_frame.specs.declared.card_state.State.TheVariants.{Tran}
+use Rattle.mmc_frame.specs.declared.card_state.State.TheVariants.{Prg}
 use Rattle.mmc_frame.specs.declared.kind.Kind.TheVariants.{Mmc}
 use Rattle.mmc_ext_csd.specs.ExtCsd.{high_speed_at_52_mhz, partition_config}
 use Rattle.mmc_card.specs.declared.exchange.Timing.{Timing}
 use Rattle.mmc_card.specs.declared.exchange.Timing.TheVariants.{Default, High}
 use Rattle.mmc_card.specs.declared.exchange.Width.TheVariants.{Eight, One}
 use Rattle.mmc_card.specs.declared.part.Part.{Part}
+use Rattle.mmc_card.proofs.Conditions.{by_cond}
 use Rattle.mmc_card.specs.Blocks.{rested}
 use Rattle.mmc_card.specs.BusView.{BusView}
-use Rattle.mmc_card.specs.Card.{Card, stored}
+use Rattle.mmc_card.specs.Card.{Card, is_in, stored}
 use Rattle.mmc_card.specs.CardAnswer.{shown, status}
 use Rattle.mmc_card.specs.CardLaws.{HasNoError, IsInOrder}
 use Rattle.mmc_card.specs.Faults.{NoFault}
@@ -24,7 +25,7 @@ use Rattle.mmc_card.specs.Rows.{without_addresses}
 use Rattle.mmc_card.specs.RowsSwitch.{access_switched, accessed, part_accessed, programs_switch, switched, write_byte}
 use Rattle.mmc_bus.specs.declared.cause.Cause.{Cause}
 use Rattle.mmc_bus.specs.declared.host.Unheard.{Unheard}
-use Rattle.mmc_bus.specs.CommandLaws.{Does}
+use Rattle.mmc_bus.specs.CommandLaws.{Switches as Written}
 use Rattle.mmc_bus.specs.Exchanges.{Kept}
 use Rattle.mmc_bus.specs.Heard.{response_of}
 use Rattle.mmc_bus.specs.Learned.{CommandFacts}
@@ -41,15 +42,16 @@ abbrev pub Requests : ℕ → Result Unit Cause → BusView → BusView → Type
 Requests argument r =
     Done (MayStandIn argument) Narrows
     (λ old new. (after : Card) → old.card.made.kind ≡ Mmc → IsAtRest false old.card
-    → switched old.card argument ≡ Some after → IsOk r → new.card ≡ programs_switch after)
+    → switched old.card argument ≡ Some after → IsOk r
+    → (new.card ≡ programs_switch after) ⊎ (new.card.switch_error ≡ true))
     (λ old new. (after : Card) → old.card.made.kind ≡ Mmc → IsAtRest false old.card
-    → switched old.card argument ≡ Some after → IsOk r)
+    → switched old.card argument ≡ Some after → IsOk r × (new.card ≡ programs_switch after))
 
 pub requested : (argument : ℕ) (heard : Result ℕ Unheard) (r : Result Unit Cause) (old new : BusView)
     → erased_by old.card (Some (6, argument)) ≡ None → new.lines ≡ old.lines
     → Kept old (CommandFacts (response_of 6) old 6 argument heard new) new
     → ((after : Card) → old.card.made.kind ≡ Mmc → switched (without_addresses old.card) argument ≡ Some after
-    → Does (old.card.state ≡ Tran) (status false (without_addresses old.card)) (programs_switch after) old heard new)
+    → Written after old heard new)
     → ((error_bits Mmc (status false old.card) ≡ 0) ↔ HasNoError Mmc old.card)
     → (IsOk r → (told : ℕ) × (heard ≡ Ok told) × (error_bits Mmc told ≡ 0))
     → ((told : ℕ) → heard ≡ Ok told → error_bits Mmc told ≡ 0 → IsOk r) → Requests argument r old new
@@ -58,12 +60,14 @@ requested argument heard r old new none lines k law clean ok all =
     (λ after mmc rest to good.
     let plain = nothing_dropped old.card rest.erase in
     let told = ok good in
-    ((law after mmc (ap (λ card. switched card argument) plain ∙ to)).sound told.0 told.1).2)
+    ((law after mmc (ap (λ card. switched card argument) plain ∙ to)).sound told.0 told.1 told.2).1)
     (λ same after mmc rest to.
     let plain = nothing_dropped old.card rest.erase in
-    let does = law after mmc (ap (λ card. switched card argument) plain ∙ to) in
-    all (status false old.card) ((does.fine same rest.state).0 ∙ ap (λ card. Ok (status false card)) plain)
-    (clean.1 (no_error Mmc false old.card rest)))
+    let does = (law after mmc (ap (λ card. switched card argument) plain ∙ to)).fine same rest.state in (
+      all (status false old.card) (does.0 ∙ ap (λ card. Ok (status false card)) plain)
+          (clean.1 (no_error Mmc false old.card rest)),
+      does.1,
+    ))
 
 -- The status behind it.
 
@@ -127,7 +131,7 @@ pub request_fails : (rca argument : ℕ) (fault : Cause) (r : Result Unit Cause)
     → Requests argument (Err fault) a b → Switches rca argument r a b
 request_fails rca argument fault r a b err p =
     done_as a b p p.set p.sectors (λ after mmc rest to ok. refuted r err ok)
-    (λ same after mmc rest is_rca to. cc (p.fine same after mmc rest to))
+    (λ same after mmc rest is_rca to. cc (p.fine same after mmc rest to).0)
 
 -- at rest again
 rest_again : (old after new : Card) → IsAtRest false old → after.erase ≡ old.erase
@@ -155,6 +159,14 @@ ordered after = record {
   rests = refl;
 }
 
+-- a clean status behind the busy time rules SWITCH_ERROR out
+unfailed : (card : Card) (X : Type 0) → IsInOrder Mmc (rested card) → X ⊎ (card.switch_error ≡ true) → X
+unfailed card X order (inl is) = is
+unfailed card X order (inr error) =
+    let stays : (rested card).switch_error ≡ card.switch_error =
+    by_cond (λ (d : Card). d.switch_error ≡ card.switch_error) (is_in card.state Prg) (λ _. refl) (λ _. refl) in
+    cc (order.no_error.switch_error refl, stays, error)
+
 pub switches : (rca argument : ℕ) (request r : Result Unit Cause) (a b c : BusView) → IsOk request
     → Requests argument request a b → Ended Mmc rca r b c → Switches rca argument r a c
 switches rca argument request r a b c good p q =
@@ -165,12 +177,12 @@ switches rca argument request r a b c good p q =
     })
     (narrows_then a b c p.sectors q.sectors)
     (λ after mmc rest to ok.
-    let is = p.own after mmc rest to good in
+    let is = unfailed b.card (b.card ≡ programs_switch after) (q.own ok).0 (p.own after mmc rest to good) in
     rest_again a.card after c.card rest (keeps a.card after argument to).0
     ((q.own ok).1 ∙ ap (λ card. shown (rested card)) is))
     (λ same after mmc rest is_rca to.
     let parts = quiet_parts a b c p.stays q.stays same in
-    let back = sym (p.own after mmc rest to good) in
+    let back = sym (p.fine parts.0 after mmc rest to).1 in
     q.fine parts.1 (ap (λ (card : Card). card.polled) (sym back)) (subst (λ card. IsInOrder Mmc (rested card)) back
     (ordered after)) (ap (λ card. (rested card).app) (sym back))
     (ap (λ card. (rested card).rca) (sym back) ∙ (keeps a.card after argument to).1 ∙ is_rca))

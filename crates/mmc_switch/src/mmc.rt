@@ -1,5 +1,5 @@
 // What widening does with eMMC devices, and a switch of one byte (JESD84-B51, sections 6.6.1, 6.6.2 and 7.4).
-ghost use Rattle.std.specs.Prelude.{◌≡◌, ◌*◌, ◌+◌, ◌==◌, ◌≤◌, IfOk, IsErr, IsOk, Ok, Some, false, if◌then◌else◌, true, ℕ};
+ghost use Rattle.std.specs.Prelude.{◌≡◌, ◌⊎◌, ◌*◌, ◌+◌, ◌==◌, ◌≤◌, IfOk, IsErr, IsOk, Ok, Some, false, if◌then◌else◌, true, ℕ};
 ghost use Rattle.mmc_frame.specs.declared.addressing.Addressing.TheVariants.{Sectors};
 ghost use Rattle.mmc_frame.specs.declared.kind.Kind.TheVariants.{Mmc};
 ghost use Rattle.mmc_ext_csd.specs.ExtCsd.{ext_csd_in, sec_count};
@@ -76,14 +76,15 @@ fn judge(block: &[u8; 512], addressing: Addressing) -> Result<ExtCsd, SwitchFaul
     }
 }
 
-// CMD6, whose response has to show no error: the device programs the byte.
+// CMD6, whose response has to show no error: the device programs the byte, or SWITCH_ERROR is to be shown behind that.
 fn request<B: Bus>(bus: &mut B, argument: u32) -> Result<(), Cause>
     ensures ends { Ends 1 (B.view bus.old) result (B.view bus.new) }
     ensures done { (B.view bus.new).is_kept ≡ true → Done (MayStandIn argument) Narrows
         (λ old new. (after : Card) → old.card.made.kind ≡ Mmc → IsAtRest false old.card
-        → switched old.card argument ≡ Some after → IsOk result → new.card ≡ programs_switch after)
+        → switched old.card argument ≡ Some after → IsOk result
+        → (new.card ≡ programs_switch after) ⊎ (new.card.switch_error ≡ true))
         (λ old new. (after : Card) → old.card.made.kind ≡ Mmc → IsAtRest false old.card
-        → switched old.card argument ≡ Some after → IsOk result)
+        → switched old.card argument ≡ Some after → IsOk result × (new.card ≡ programs_switch after))
         (B.view bus.old) (B.view bus.new) }
 {
     switch_laws::cmd6_switches_an_emmc_device();

@@ -44,7 +44,7 @@ Received size bytes r =
     Worked Narrows
     (λ old new. IsOk r → (can_send old.lines size old.card ≡ true) × (next_block old.card ≡ Some bytes)
     × ((choice : Choice) × (new.card ≡ sent choice old.card)))
-    (λ old new. can_send old.lines size old.card ≡ true → IsOk r)
+    (λ old new. can_send old.lines size old.card ≡ true → old.card.is_busy ≡ false → IsOk r)
 
 -- What holds of a read.
 of_read : (way : Way) (P Q : Type 0) → way ≡ Read → by_way way P Q → P
@@ -260,7 +260,7 @@ module _ (job : Job) (blocks news : List Sector) (done faults : ℕ) (bytes : Se
           (λ exact same.
           let x = exactly exact in
           cc (work.fine same (subst (λ n. can_send a.lines n a.card ≡ true) (sym short)
-          (sends (ap is_selected x.quiet.state) x))));
+          (sends (ap is_selected x.quiet.state) x)) x.rests));
     }
 
     -- It comes, so the card is selected, and where the blocks have come to.

@@ -7,4 +7,4 @@ returns-clause-works g c kept =
     let k = e.kept kept in
     done_by _ _ k k.step.stays (record { lines = e.lines; stands = k.step.stands }) k.step.narrows
     (λ ok. k.step.good (c.check_read.ensures.good.0 ok))
-    (λ same can. c.check_read.ensures.good.1 (k.step.fine same can))
+    (λ same can rests. c.check_read.ensures.good.1 (k.step.fine same can rests))
