@@ -32,6 +32,8 @@ pub record Choice : Type 0 where
   pub early : ℕ
   -- the block length outlives CMD0
   pub keeps_length : Bool
+  -- CMD12 that ends a read leaves the card busy
+  pub stays_busy : Bool
 
 abbrev pub bit : Bool → ℕ
 bit b = if b then 1 else 0

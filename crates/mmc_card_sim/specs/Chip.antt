@@ -65,7 +65,7 @@ card_of chip =
     }
 
 -- All that is unfinished lands at CMD0, OUT_OF_RANGE is set behind the last sector, and a command with a bad check
--- drops the preset count. At a command the card may choose otherwise where CMD0, CMD3 and an inquiry leave it free.
+-- drops the preset count. At a command the card may choose otherwise where CMD0, CMD3, CMD12 and an inquiry leave it free.
 abbrev pub choice_of : Bool → Choice
 choice_of is_slow = record {
   is_slow = is_slow;
@@ -75,6 +75,7 @@ choice_of is_slow = record {
   rca = 0;
   early = 0;
   keeps_length = true;
+  stays_busy = false;
 }
 
 -- at a command; the first so many inquiries are answered with not ready
@@ -84,6 +85,7 @@ command_choice delays card =
       rca = delays.last_rca;
       early = delays.early;
       keeps_length = delays.keeps_length;
+      stays_busy = delays.stays_busy;
     }
 
 -- what the card chooses behind a command, by the RCA that it goes by then: where the RCA changes, the next one follows it

@@ -25,6 +25,7 @@ card_with kind ocr csd sectors =
       busy = 0;
       early = None;
       keeps_length = true;
+      stays_busy = false;
       image = None;
     }
 

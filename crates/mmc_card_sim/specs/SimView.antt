@@ -42,6 +42,7 @@ first_delays spec =
       rca_changes = rca_changes_by spec.registers.kind;
       early = unwrap_or spec.early (spec.registers.ocr / 2 ^ 29);
       keeps_length = spec.keeps_length;
+      stays_busy = spec.stays_busy;
     }
 
 -- It is a card, which is slow at most eight times, no more faults have fallen than exchanges were made, and none is

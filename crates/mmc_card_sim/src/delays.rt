@@ -16,6 +16,8 @@ pub struct Delays {
     pub early: u8,
     /// Whether the block length outlives CMD0 and a loss of power.
     pub keeps_length: bool,
+    /// Whether CMD12 that ends a read leaves the card busy.
+    pub stays_busy: bool,
 }
 
 impl Delays {

@@ -25,6 +25,7 @@ fn card_with(kind: KindRegisters, ocr: u32, csd: u128, sectors: u64) -> CardSpec
         busy: 0,
         early: None,
         keeps_length: true,
+        stays_busy: false,
         image: None,
     }
 }

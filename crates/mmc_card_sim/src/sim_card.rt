@@ -30,6 +30,7 @@ fn first_delays(spec: &CardSpec) -> Delays
         rca_changes: registers.rca_changes(),
         early: spec.early.unwrap_or((registers.ocr / 0x2000_0000) as u8),
         keeps_length: spec.keeps_length,
+        stays_busy: spec.stays_busy,
     }
 }
 

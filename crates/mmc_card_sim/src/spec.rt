@@ -19,6 +19,8 @@ pub struct CardSpec {
     /// Whether the block length outlives CMD0 and a loss of power. Otherwise it is the one that the registers name then:
     /// 2^READ_BL_LEN of a card with byte addresses, and 512 of any other.
     pub keeps_length: bool,
+    /// Whether CMD12 that ends a read leaves the card busy, for as many polls as any busy time.
+    pub stays_busy: bool,
     /// The bytes of all sectors, 512 each, a partition behind the other in the order of `Part`. Without an image all
     /// bytes are the erased byte.
     pub image: Option<Bytes>,

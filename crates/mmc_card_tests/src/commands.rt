@@ -24,6 +24,7 @@ fn with_byte_addresses(alloc: Global, csd: u128, sectors: u32) -> Result<CardSpe
         busy: 0,
         early: None,
         keeps_length: true,
+        stays_busy: false,
         image: numbered_image(alloc, sectors)?,
     })
 }

@@ -33,6 +33,7 @@ fn spec(registers: Registers, sectors: u64) -> CardSpec {
         busy: 8,
         early: None,
         keeps_length: true,
+        stays_busy: false,
         image: None,
     }
 }
