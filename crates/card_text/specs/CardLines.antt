@@ -9,7 +9,7 @@ use Rattle.mmc_frame.specs.declared.kind.Kind.TheVariants.{Mmc, Sd}
 use Rattle.card_text.specs.declared.card_line.CardLine.{CardLine}
 use Rattle.card_text.specs.declared.card_line.CardLine.TheVariants.{Busy, Cid, Cmd8, Csd, Ext, Fault, HighSpeed, Kind}
 use Rattle.card_text.specs.declared.card_line.CardLine.TheVariants.{Early, KeepsLength, Locked, Ocr, Rca, Ready, Scr}
-use Rattle.card_text.specs.declared.card_line.CardLine.TheVariants.{Sectors}
+use Rattle.card_text.specs.declared.card_line.CardLine.TheVariants.{Sectors, StaysBusy}
 use Rattle.card_text.specs.declared.card_line.HighSpeedChoice.{HighSpeedChoice}
 use Rattle.card_text.specs.declared.card_line.HighSpeedChoice.TheVariants.{Refused, Taken}
 use Rattle.mmc_card_sim.specs.declared.spec.Refusal.TheVariants.{SelectsDefault, SelectsNone}
@@ -49,6 +49,12 @@ keeps_length_of text =
     if bytes_eq text (codes "kept") then Some true
     else (if bytes_eq text (codes "named") then Some false else None)
 
+-- `busy` or `ready`
+unfoldable pub stays_busy_of : List ℕ → Option Bool
+stays_busy_of text =
+    if bytes_eq text (codes "busy") then Some true
+    else (if bytes_eq text (codes "ready") then Some false else None)
+
 -- `changes`, or an RCA
 unfoldable pub published_rca_of : List ℕ → Option PublishedRca
 published_rca_of text =
@@ -75,7 +81,8 @@ unfoldable pub free_line_of : List ℕ → List ℕ → Option CardLine
 free_line_of key text =
     if bytes_eq key (codes "early") then option_map (λ bits. Early bits) (early_of text)
     else (if bytes_eq key (codes "length") then option_map (λ choice. KeepsLength choice) (keeps_length_of text)
-    else sd_line_of key text)
+    else (if bytes_eq key (codes "stop") then option_map (λ choice. StaysBusy choice) (stays_busy_of text)
+    else sd_line_of key text))
 
 -- a key that stands once with its value
 unfoldable pub line_of_key : List ℕ → List ℕ → Option CardLine
@@ -151,6 +158,7 @@ repeats (Ready count) (Ready other) = true
 repeats (Busy count) (Busy other) = true
 repeats (Early bits) (Early other) = true
 repeats (KeepsLength choice) (KeepsLength other) = true
+repeats (StaysBusy choice) (StaysBusy other) = true
 repeats (Locked choice) (Locked other) = true
 repeats (Scr bytes) (Scr others) = true
 repeats (Rca rca) (Rca other) = true

@@ -13,6 +13,7 @@ use Rattle.card_text.specs.declared.card_line.CardLine.TheVariants.{Early, Keeps
 use Rattle.card_text.specs.declared.card_line.HighSpeedChoice.{HighSpeedChoice}
 use Rattle.card_text.specs.declared.card_line.HighSpeedChoice.TheVariants.{Refused, Taken}
 use Rattle.mmc_card_sim.specs.declared.spec.Refusal.{Refusal}
+use Rattle.card_text.specs.declared.card_line.CardLine.TheVariants.{StaysBusy}
 use Rattle.card_text.specs.declared.card_line.PublishedRca.{PublishedRca}
 use Rattle.card_text.specs.declared.card_line.PublishedRca.TheVariants.{Changes, Fixed}
 use Rattle.card_text.specs.declared.card_spec.Given.{Given}
@@ -58,6 +59,10 @@ early_of_line line = None
 abbrev pub keeps_length_of_line : CardLine → Option Bool
 keeps_length_of_line (KeepsLength choice) = Some choice
 keeps_length_of_line line = None
+
+abbrev pub stays_busy_of_line : CardLine → Option Bool
+stays_busy_of_line (StaysBusy choice) = Some choice
+stays_busy_of_line line = None
 
 abbrev pub locked_of_line : CardLine → Option Bool
 locked_of_line (Locked choice) = Some choice
@@ -106,6 +111,7 @@ given_by ls = record {
   busy = first_of busy_of_line ls;
   early = first_of early_of_line ls;
   keeps_length = first_of keeps_length_of_line ls;
+  stays_busy = first_of stays_busy_of_line ls;
   locked = first_of locked_of_line ls;
   scr = first_of scr_of_line ls;
   rca = first_of rca_of_line ls;
@@ -170,6 +176,7 @@ spec_by given = do
     early = given.early;
     keeps_length = unwrap_or given.keeps_length true;
     refusal = refusal_of given.high_speed;
+    stays_busy = unwrap_or given.stays_busy false;
     image = None;
   })
 

@@ -1,8 +1,8 @@
 // Reads one line of a card file.
 ghost use Rattle.std.specs.Prelude.{◌≡◌};
 ghost use Rattle.card_text.specs.CardLines.{card_line_of, card_line_of_fields, choice_of, delay_of, early_of, ext_line_of};
-ghost use Rattle.card_text.specs.CardLines.{fault_line_of, free_line_of, high_speed_of, keeps_length_of, kind_of, line_of_key};
-ghost use Rattle.card_text.specs.CardLines.{published_rca_of, sd_line_of, value_line_of};
+ghost use Rattle.card_text.specs.CardLines.{fault_line_of, free_line_of, high_speed_of, keeps_length_of, kind_of};
+ghost use Rattle.card_text.specs.CardLines.{line_of_key, published_rca_of, sd_line_of, value_line_of, stays_busy_of};
 ghost use Rattle.card_text.specs.Parts.{left_parts, parts};
 
 use crate::cut::cut;
@@ -52,6 +52,8 @@ pub enum CardLine {
     Early(u8),
     /// Whether the block length outlives CMD0 and a loss of power.
     KeepsLength(bool),
+    /// Whether CMD12 that ends a read leaves the card busy.
+    StaysBusy(bool),
     /// Whether the card is locked.
     Locked(bool),
     /// The SCR of an SD card, the highest byte first.
@@ -109,6 +111,7 @@ impl CardLine {
             | (CardLine::Busy(_), CardLine::Busy(_))
             | (CardLine::Early(_), CardLine::Early(_))
             | (CardLine::KeepsLength(_), CardLine::KeepsLength(_))
+            | (CardLine::StaysBusy(_), CardLine::StaysBusy(_))
             | (CardLine::Locked(_), CardLine::Locked(_))
             | (CardLine::Scr(_), CardLine::Scr(_))
             | (CardLine::Rca(_), CardLine::Rca(_))
@@ -186,6 +189,20 @@ fn keeps_length(text: &[u8]) -> Option<bool>
     }
 }
 
+// `busy` or `ready`.
+#[tactic(auto, unfolding(crate::specs::CardLines::stays_busy_of))]
+fn stays_busy(text: &[u8]) -> Option<bool>
+    ensures { result ≡ stays_busy_of text.now }
+{
+    if text == b"busy".as_slice() {
+        Some(true)
+    } else if text == b"ready".as_slice() {
+        Some(false)
+    } else {
+        None
+    }
+}
+
 // `changes`, or an RCA.
 #[tactic(auto, unfolding(crate::specs::CardLines::published_rca_of))]
 fn published_rca(text: &[u8]) -> Option<PublishedRca>
@@ -239,6 +256,8 @@ fn free_line(key: &[u8], text: &[u8]) -> Option<CardLine>
         Some(CardLine::Early(early(text)?))
     } else if key == b"length".as_slice() {
         Some(CardLine::KeepsLength(keeps_length(text)?))
+    } else if key == b"stop".as_slice() {
+        Some(CardLine::StaysBusy(stays_busy(text)?))
     } else {
         sd_line(key, text)
     }

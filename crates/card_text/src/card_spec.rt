@@ -19,6 +19,7 @@ pub struct Given {
     busy: Option<u8>,
     early: Option<u8>,
     keeps_length: Option<bool>,
+    stays_busy: Option<bool>,
     locked: Option<bool>,
     scr: Option<[u8; 8]>,
     rca: Option<PublishedRca>,
@@ -44,6 +45,7 @@ impl Given {
             busy: None,
             early: None,
             keeps_length: None,
+            stays_busy: None,
             locked: None,
             scr: None,
             rca: None,
@@ -68,6 +70,7 @@ impl Given {
             CardLine::Busy(count) => self.busy = self.busy.or(Some(count)),
             CardLine::Early(bits) => self.early = self.early.or(Some(bits)),
             CardLine::KeepsLength(choice) => self.keeps_length = self.keeps_length.or(Some(choice)),
+            CardLine::StaysBusy(choice) => self.stays_busy = self.stays_busy.or(Some(choice)),
             CardLine::Locked(choice) => self.locked = self.locked.or(Some(choice)),
             CardLine::Scr(bytes) => self.scr = self.scr.or(Some(bytes)),
             CardLine::Rca(rca) => self.rca = self.rca.or(Some(rca)),
@@ -170,6 +173,7 @@ pub fn card_spec(lines: &[CardLine]) -> Option<CardSpec>
         early: given.early,
         keeps_length: given.keeps_length.unwrap_or(true),
         refusal: refusal_of(given.high_speed),
+        stays_busy: given.stays_busy.unwrap_or(false),
         image: None,
     })
 }

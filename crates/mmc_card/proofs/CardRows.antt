@@ -34,8 +34,9 @@ use Rattle.mmc_card.specs.Rows.{answered, command_of, is_foreign, is_legal, leav
 use Rattle.mmc_card.specs.RowsErase.{erase_held, erases, erasing, forgotten, hold_first, hold_last, holds_address}
 use Rattle.mmc_card.specs.RowsErase.{is_no_range, is_trim}
 use Rattle.mmc_card.specs.RowsIdentify.{inquired, is_served}
-use Rattle.mmc_card.specs.RowsSwitch.{ext_csd_now, switch_row, switch_source, switched}
-use Rattle.mmc_card.specs.RowsTransfer.{begun, preset, sending_from, transfer_errors, transferred}
+use Rattle.mmc_card.specs.RowsSwitch.{ext_csd_now, switch_row, switch_source, switched, timing_after}
+use Rattle.mmc_card.specs.RowsTransfer.{begun, preset, sending_from, transfer_errors, transferred, sending}
+use Rattle.mmc_card.specs.RowsTransfer.{stopped}
 use Rattle.mmc_card.specs.Sectors.{Sector}
 use Rattle.mmc_card.specs.BusView.{BusView}
 
@@ -88,16 +89,16 @@ not_both : (a b : Bool) → (a || b) ≡ true → b ≡ false → a ≡ true
 not_both true b h n = refl
 not_both false b h n = cc
 
-card_stopped : (c : Card) → IsBasic c → (is_in c.state Data || is_in c.state Rcv) ≡ true
-    → IsBasic (if is_in c.state Rcv
-    then record (busied (shown c)) { state = Prg; is_switching = false }
-    else record (shown c) { state = Tran; source = FromSectors })
-card_stopped c k l =
+card_stopped : (stays_busy : Bool) (c : Card) → IsBasic c → (is_in c.state Data || is_in c.state Rcv) ≡ true
+    → IsBasic (stopped stays_busy c)
+card_stopped stays_busy c k l =
     by_cond IsBasic (is_in c.state Rcv)
     (λ h. chosen_card c _ k (like_shown c _ refl refl refl refl) refl refl (λ h. cc) k.new_values)
-    (λ h. chosen_card c _ k (like_shown c _ refl refl refl refl) refl refl
-    (λ _. none_in c Data k (in_state c.state Data (not_both (is_in c.state Data) (is_in c.state Rcv) l h)) refl)
-    k.new_values)
+    (λ h.
+    let none = none_in c Data k (in_state c.state Data (not_both (is_in c.state Data) (is_in c.state Rcv) l h)) refl in
+    by_cond IsBasic stays_busy
+    (λ _. chosen_card c _ k (like_shown c _ refl refl refl refl) refl refl (λ _. none) k.new_values)
+    (λ _. chosen_card c _ k (like_shown c _ refl refl refl refl) refl refl (λ _. none) k.new_values))
 
 -- in tran, with one field more that may change
 card_in_tran : (c d : Card) → c.state ≡ Tran → IsBasic c → IsLike c d → d.state ≡ c.state → d.sectors ≡ c.sectors
@@ -156,7 +157,7 @@ card_row choice SelectCard c index argument l k =
 card_row choice SendIfCond c index argument l k = card_done c k
 card_row choice SendExtCsd c index argument l k = card_sending (FromBytes (ext_csd_now c) c.timing) c (in_state c.state Tran l) k
 card_row choice SendCsd c index argument l k = card_done c k
-card_row choice StopTransmission c index argument l k = card_stopped c k l
+card_row choice StopTransmission c index argument l k = card_stopped choice.stays_busy c k l
 card_row choice SendStatus c index argument l k = card_shown c k
 card_row choice SetBlocklen c index argument l k =
     first_by_cond IsBasic (argument == 512) _ _

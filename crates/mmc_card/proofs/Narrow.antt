@@ -32,7 +32,7 @@ use Rattle.mmc_card.specs.RowsErase.{erase_held, erases, erasing, hold_first, ho
 use Rattle.mmc_card.specs.RowsErase.{is_trim}
 use Rattle.mmc_card.specs.RowsIdentify.{inquired, is_served}
 use Rattle.mmc_card.specs.RowsSwitch.{access_switched, accessed, part_accessed, switch_row, switched, write_byte}
-use Rattle.mmc_card.specs.RowsTransfer.{begun, preset, transfer_errors, transferred}
+use Rattle.mmc_card.specs.RowsTransfer.{begun, preset, stopped, transfer_errors, transferred}
 use Rattle.mmc_card.specs.Sectors.{Change, IsIn, Sector, Sets, Within, maybe_changed, part_number, touches, value_of}
 
 -- made the same, of the same sizes, and no sector may hold more
@@ -177,12 +177,10 @@ keeps_begun : (state : State) (is_single : Bool) (left : Option ℕ) (c : Card) 
     → Keeps c (begun state is_single left c address)
 keeps_begun state is_single left c address = cleared c _ refl refl refl
 
-keeps_stopped : (b : Bool) (c : Card)
-    → Keeps c
-    (if b
-    then record (busied (shown c)) { state = Prg; is_switching = false }
-    else record (shown c) { state = Tran; source = FromSectors })
-keeps_stopped b c = by_cond (Keeps c) b (λ _. plain c _ refl refl refl) (λ _. plain c _ refl refl refl)
+keeps_stopped : (stays_busy : Bool) (c : Card) → Keeps c (stopped stays_busy c)
+keeps_stopped stays_busy c =
+    by_cond (Keeps c) (is_in c.state Rcv) (λ _. plain c _ refl refl refl)
+    (λ _. by_cond (Keeps c) stays_busy (λ _. plain c _ refl refl refl) (λ _. plain c _ refl refl refl))
 
 keeps_first : (index : ℕ) (c : Card) (address : ℕ) (held : Held) → Keeps c (hold_first index c address held).0
 keeps_first index c address NoAddress = plain c _ refl refl refl
@@ -285,7 +283,7 @@ widens_row choice SelectCard c index argument = wide _ c _ (plain c _ refl refl 
 widens_row choice SendIfCond c index argument = wide _ c _ (plain c _ refl refl refl)
 widens_row choice SendExtCsd c index argument = wide _ c _ (plain c _ refl refl refl)
 widens_row choice SendCsd c index argument = wide _ c _ (plain c _ refl refl refl)
-widens_row choice StopTransmission c index argument = wide _ c _ (keeps_stopped (is_in c.state Rcv) c)
+widens_row choice StopTransmission c index argument = wide _ c _ (keeps_stopped choice.stays_busy c)
 widens_row choice SendStatus c index argument = wide _ c _ (plain c _ refl refl refl)
 widens_row choice SetBlocklen c index argument =
     wide _ c _

@@ -284,7 +284,9 @@ ordered_row choice StopTransmission c index argument l none k =
     let up = (either_up c.state l).0 in
     by_cond IsOrdered (is_in c.state Rcv)
     (λ h. ordered_up c _ k up refl refl refl (λ _. none refl) (λ _. refl) (λ _. refl) k.inquiries (omega arith))
-    (λ h. ordered_up c _ k up refl refl refl (λ _. none refl) (λ h. cc) (λ _. refl) k.inquiries k.polled)
+    (λ h. by_cond IsOrdered choice.stays_busy
+    (λ _. ordered_up c _ k up refl refl refl (λ _. none refl) (λ h. cc) (λ _. refl) k.inquiries (omega arith))
+    (λ _. ordered_up c _ k up refl refl refl (λ _. none refl) (λ h. cc) (λ _. refl) k.inquiries k.polled))
 ordered_row choice SendStatus c index argument l none k = ordered_shown c k
 ordered_row choice SetBlocklen c index argument l none k =
     first_by_cond IsOrdered (argument == 512) _ _

@@ -138,7 +138,7 @@ sending_row choice SdSendOpCond c index argument k =
     sending_inquired (is_served c argument && not choice.is_slow) choice.early c k
 sending_row choice StopTransmission c index argument k =
     by_cond IsSending (is_in c.state Rcv) (λ _. sending_like c _ k refl refl refl)
-    (λ _. sending_from c _ k refl refl tt)
+    (λ _. by_cond IsSending choice.stays_busy (λ _. sending_from c _ k refl refl tt) (λ _. sending_from c _ k refl refl tt))
 sending_row choice SendExtCsd c index argument k =
     sending_from c _ k refl refl (ext_csd_bytes c k.erase_group_def k.registers.ext_csd_bytes)
 sending_row choice SetBlocklen c index argument k =

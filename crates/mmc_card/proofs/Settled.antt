@@ -253,7 +253,8 @@ settled_row choice StopTransmission c index argument l k =
       switches = λ h w. cc;
       source = λ h. source_at c Rcv k (in_state c.state Rcv rcv) refl;
     })
-    (λ _. settled_rest _ Tran refl refl refl k.fits (λ _. refl))
+    (λ _. by_cond IsSettled choice.stays_busy (λ _. settled_rest _ Tran refl refl refl k.fits (λ _. refl))
+    (λ _. settled_rest _ Tran refl refl refl k.fits (λ _. refl)))
 settled_row choice SendStatus c index argument l k = settled_shown c k
 settled_row choice SetBlocklen c index argument l k =
     first_by_cond IsSettled (argument == 512) _ _

@@ -200,7 +200,8 @@ stands_row s choice StopTransmission c index argument o l h =
     ] in
     by_cond (Stands s) (is_in c.state Rcv)
     (λ _. stands_quiet s c _ refl refl u refl h)
-    (λ _. stands_quiet s c _ refl refl u refl h)
+    (λ _. by_cond (Stands s) choice.stays_busy (λ _. stands_quiet s c _ refl refl u refl h)
+    (λ _. stands_quiet s c _ refl refl u refl h))
 stands_row s choice SendStatus c index argument o l h = stands_shown s c h
 stands_row s choice SetBlockCount c index argument o l h =
     stands_like s c _ refl refl refl (λ a. tran_not_reset c (both (is_in c.state Tran) (has_cmd23 c.made) l).0 a) h

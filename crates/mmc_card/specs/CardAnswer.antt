@@ -38,6 +38,8 @@ pub record Choice : Type 0 where
   -- a switch of an eMMC device fails; where none is carried out, the status behind it alone says so
   pub fails_switch : Bool
   pub says_late : Bool
+  -- CMD12 that ends a read leaves the card busy
+  pub stays_busy : Bool
 
 abbrev pub bit : Bool → ℕ
 bit b = if b then 1 else 0

@@ -9,21 +9,24 @@ use Rattle.mmc_frame.specs.declared.card_state.State.{State}
 use Rattle.mmc_frame.specs.declared.card_state.State.TheVariants.{Data, Prg, Rcv, Tran}
 use Rattle.mmc_frame.specs.declared.commands.TheConstants as Index
 use Rattle.mmc_card.specs.declared.exchange.Timing.{Timing}
-use Rattle.mmc_card.specs.CardAnswer.{CardAnswer, Checked, bit, busied, raised, shown, status}
+use Rattle.mmc_card.specs.CardAnswer.{CardAnswer, Checked, Choice, bit, busied, raised, shown, status}
 use Rattle.mmc_card.specs.ErrorBits.{address_error, block_len_error, out_of_range, wp_violation}
 use Rattle.mmc_card.specs.Card.{Card, FromBytes, FromSectors, Source, is_in, stored}
 use Rattle.mmc_card.specs.Made.{is_misaligned, is_read_only, is_sd, sector_at}
 
--- a card after CMD12: of a write it programs what it accepted
-abbrev pub stopped : Card → Card
-stopped card =
+-- A card after CMD12: of a write it programs what it accepted; of a read it is in tran, and may be busy there (R1b; SD
+-- Physical Layer 6.00, sections 4.3.3 and 4.9.2; JESD84-B51, section 6.6.6).
+abbrev pub stopped : Bool → Card → Card
+stopped stays_busy card =
     if is_in card.state Rcv
     then record (busied (shown card)) { state = Prg; is_switching = false }
+    else if stays_busy then record (busied (shown card)) { state = Tran; source = FromSectors }
     else record (shown card) { state = Tran; source = FromSectors }
 
 -- CMD12, STOP_TRANSMISSION
-abbrev pub stop_transmission : Card → Card × CardAnswer
-stop_transmission card = (stopped card, Checked Index.STOP_TRANSMISSION (status false card))
+abbrev pub stop_transmission : Choice → Card → Card × CardAnswer
+stop_transmission choice card =
+    (stopped choice.stays_busy card, Checked Index.STOP_TRANSMISSION (status false card))
 
 -- CMD16, SET_BLOCKLEN: 512 alone (the project's own: the host sends no other)
 abbrev pub set_blocklen : Card → ℕ → Card × CardAnswer

@@ -67,7 +67,7 @@ card_of chip =
     }
 
 -- All that is unfinished lands at CMD0, OUT_OF_RANGE is set behind the last sector, and a command with a bad check
--- drops the preset count. At a command the card may choose otherwise where CMD0, CMD3, CMD6 and an inquiry leave it free.
+-- drops the preset count. At a command the card may choose otherwise where CMD0, CMD3, CMD6, CMD12 and an inquiry leave it free.
 abbrev pub choice_of : Bool → Choice
 choice_of is_slow = record {
   is_slow = is_slow;
@@ -81,6 +81,7 @@ choice_of is_slow = record {
   selects_none = true;
   fails_switch = false;
   says_late = false;
+  stays_busy = false;
 }
 
 -- an SD card that refuses to switch to high speed
@@ -102,6 +103,7 @@ command_choice delays card =
       keeps_length = delays.keeps_length;
       refuses_speed = refuses delays.refusal;
       selects_none = selects_none delays.refusal;
+      stays_busy = delays.stays_busy;
     }
 
 -- what the card chooses behind a command, by the RCA that it goes by then: where the RCA changes, the next one follows it

@@ -26,6 +26,7 @@ card_with kind ocr csd sectors =
       early = None;
       keeps_length = true;
       refusal = None;
+      stays_busy = false;
       image = None;
     }
 

@@ -43,6 +43,7 @@ first_delays spec =
       early = unwrap_or spec.early (spec.registers.ocr / 2 ^ 29);
       keeps_length = spec.keeps_length;
       refusal = spec.refusal;
+      stays_busy = spec.stays_busy;
     }
 
 -- It is a card, which is slow at most eight times, no more faults have fallen than exchanges were made, and none is

@@ -331,7 +331,7 @@ impl Chip {
             Command::SendIfCond => self.send_if_cond(argument),
             Command::SendExtCsd => self.send_ext_csd(),
             Command::SendCsd => self.send_csd(),
-            Command::StopTransmission => self.stop_transmission(),
+            Command::StopTransmission => self.stop_transmission(delays),
             Command::SendStatus => self.respond_status(SEND_STATUS, false),
             Command::SetBlocklen => self.set_blocklen(argument),
             Command::ReadSingleBlock => self.read_single_block(argument),

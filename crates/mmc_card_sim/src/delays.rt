@@ -20,6 +20,8 @@ pub struct Delays {
     pub keeps_length: bool,
     /// How an SD card refuses to switch to high speed, if it does.
     pub refusal: Option<Refusal>,
+    /// Whether CMD12 that ends a read leaves the card busy.
+    pub stays_busy: bool,
 }
 
 impl Delays {

@@ -26,6 +26,7 @@ fn card_with(kind: KindRegisters, ocr: u32, csd: u128, sectors: u64) -> CardSpec
         early: None,
         keeps_length: true,
         refusal: None,
+        stays_busy: false,
         image: None,
     }
 }

@@ -31,6 +31,7 @@ fn first_delays(spec: &CardSpec) -> Delays
         early: spec.early.unwrap_or((registers.ocr / 0x2000_0000) as u8),
         keeps_length: spec.keeps_length,
         refusal: spec.refusal,
+        stays_busy: spec.stays_busy,
     }
 }
 

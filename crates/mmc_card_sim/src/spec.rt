@@ -30,6 +30,8 @@ pub struct CardSpec {
     pub keeps_length: bool,
     /// How an SD card whose switch status names high speed refuses to switch to it. Without a refusal it switches.
     pub refusal: Option<Refusal>,
+    /// Whether CMD12 that ends a read leaves the card busy, for as many polls as any busy time.
+    pub stays_busy: bool,
     /// The bytes of all sectors, 512 each, a partition behind the other in the order of `Part`. Without an image all
     /// bytes are the erased byte.
     pub image: Option<Bytes>,

@@ -8,6 +8,7 @@ ghost use Rattle.mmc_card.specs.ErrorBits.{error_bits};
 
 use crate::answer::Answer;
 use crate::chip::{Chip, Source};
+use crate::delays::Delays;
 use crate::status_bits::bits_if;
 use bitflags::Flags;
 use mmc_frame::commands::{
@@ -21,7 +22,7 @@ impl Chip {
     ghost use Rattle.mmc_card.specs.RowsTransfer.{begun, preset, read_multiple_block, read_single_block};
     ghost use Rattle.mmc_card.specs.RowsTransfer.{set_block_count_to, set_blocklen, stop_transmission, transfer_errors};
     ghost use Rattle.mmc_card.specs.RowsTransfer.{transferred, write_block, write_multiple_block};
-    ghost use Rattle.mmc_card_sim.specs.Chip.{Answers, card_of};
+    ghost use Rattle.mmc_card_sim.specs.Chip.{Answers, card_of, command_choice};
 
     /// The sector that an address names.
     pub fn sector_at(&self, address: u32) -> usize
@@ -134,9 +135,9 @@ impl Chip {
         self.transfer(WRITE_MULTIPLE_BLOCK, true, false, self.preset(), address)
     }
 
-    /// CMD12: of a write the card programs what it accepted.
-    pub fn stop_transmission(&mut self) -> Answer
-        ensures { Answers (stop_transmission (card_of self.old)) self.new result }
+    /// CMD12: of a write the card programs what it accepted, and of a read it may be busy.
+    pub fn stop_transmission(&mut self, delays: Delays) -> Answer
+        ensures { Answers (stop_transmission (command_choice delays (card_of self.old)) (card_of self.old)) self.new result }
     {
         let writes = self.is_in(State::Rcv);
         let answer = self.respond_status(STOP_TRANSMISSION, false);
@@ -145,6 +146,9 @@ impl Chip {
             self.state = State::Prg;
             self.is_switching = false;
         } else {
+            if delays.stays_busy {
+                self.make_busy();
+            }
             self.state = State::Tran;
             self.source = Source::Sectors;
         }

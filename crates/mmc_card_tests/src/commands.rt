@@ -25,6 +25,7 @@ fn with_byte_addresses(alloc: Global, csd: u128, sectors: u32) -> Result<CardSpe
         early: None,
         keeps_length: true,
         refusal: None,
+        stays_busy: false,
         image: numbered_image(alloc, sectors)?,
     })
 }

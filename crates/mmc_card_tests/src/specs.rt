@@ -34,6 +34,7 @@ fn spec(registers: Registers, sectors: u64) -> CardSpec {
         early: None,
         keeps_length: true,
         refusal: None,
+        stays_busy: false,
         image: None,
     }
 }

@@ -6,6 +6,8 @@ use Rattle.mmc_switch.proofs.UnderWayLemmas.{quiet_by}
 use Rattle.mmc_frame.specs.declared.card_state.State.{State}
 use Rattle.mmc_frame.specs.declared.card_state.State.TheVariants.{Data, Prg, Rcv, Tran}
 use Rattle.mmc_frame.specs.declared.kind.Kind.{Kind}
+use Rattle.mmc_bus.specs.CommandLaws.{IsStopped}
+use Rattle.mmc_card.proofs.Conditions.{by_cond}
 use Rattle.mmc_card.specs.BusView.{BusView}
 use Rattle.mmc_card.specs.Card.{Card, FromSectors, is_in, is_selected}
 use Rattle.mmc_card.specs.CardAnswer.{busied, shown}
@@ -16,9 +18,8 @@ use Rattle.mmc_bus.specs.declared.cause.Cause.{Cause}
 use Rattle.mmc_switch.specs.UnderWay.{room_of}
 use Rattle.mmc_transfer.proofs.StepLemmas.{all_written, each_way, either_way, fails, for_both, goes_there}
 use Rattle.mmc_transfer.specs.Commands.{CanStop, IsMoving, may_run_out}
-use Rattle.mmc_transfer.specs.Running.{AreStored, Exact, IsIn, IsSending, IsTaking, IsThere, Turned, change_of}
+use Rattle.mmc_transfer.specs.Running.{AreStored, Exact, HasStopped, IsIn, IsSending, IsTaking, IsThere, Turned, change_of}
 use Rattle.mmc_switch.specs.Ending.{IsEnding}
-use Rattle.mmc_switch.specs.UnderWay.{IsIdle}
 use Rattle.mmc_switch.specs.declared.ending.Ending.TheVariants.{Wait}
 use Rattle.mmc_transfer.specs.declared.way.Way.TheVariants.{Write}
 use Rattle.mmc_transfer.specs.declared.job.Job.{Job}
@@ -30,7 +31,7 @@ use Rattle.mmc_transfer.specs.declared.phase.Step.TheVariants.{End, Stop}
 abbrev pub Stops : Kind → Bool → Bool → BusView → BusView → Type 0
 Stops kind at_end ok =
     Worked Narrows
-    (λ old new. ok ≡ true → IsMoving old.card × (new.card ≡ stopped old.card) × (at_end ≡ false → old.card.errors ≡ 0))
+    (λ old new. ok ≡ true → IsMoving old.card × IsStopped old.card new.card × (at_end ≡ false → old.card.errors ≡ 0))
     (λ old new. CanStop kind at_end old.card → ok ≡ true)
 
 moving_is_selected : (card : Card) → IsMoving card → is_selected card.state ≡ true
@@ -39,30 +40,37 @@ moving_is_selected card (inr accepts) = ap is_selected accepts
 
 -- A card that sent blocks, and one that accepted them.
 
-stopped_in : (state : State) (card : Card) → card.state ≡ state
-    → stopped card
+stopped_in : (state : State) (stays_busy : Bool) (card : Card) → card.state ≡ state
+    → stopped stays_busy card
     ≡ (if is_in state Rcv then record (busied (shown card)) { state = Prg; is_switching = false }
+    else if stays_busy then record (busied (shown card)) { state = Tran; source = FromSectors }
     else record (shown card) { state = Tran; source = FromSectors })
-stopped_in state card is =
+stopped_in state stays_busy card is =
     ap (λ now. if is_in now Rcv then record (busied (shown card)) { state = Prg; is_switching = false }
+    else if stays_busy then record (busied (shown card)) { state = Tran; source = FromSectors }
     else record (shown card) { state = Tran; source = FromSectors }) is
 
-stopped_reading : (job : Job) (blocks : List Sector) (card : Card) → IsSending job.count job blocks card
-    → IsIdle 0 (stopped card) × AreStored job.count job blocks (stopped card)
-stopped_reading job blocks card sending =
-    subst (λ next. IsIdle 0 next × AreStored job.count job blocks next)
-    (sym (stopped_in Data card sending.quiet.state)) (
-      record {
-        quiet = quiet_by refl refl refl refl refl refl sending.quiet.erase;
-        rests = sending.rests;
-      },
+stopped_reading : (job : Job) (blocks : List Sector) (stays_busy : Bool) (card : Card)
+    → IsSending job.count job blocks card
+    → HasStopped (Wait 0) (stopped stays_busy card) × AreStored job.count job blocks (stopped stays_busy card)
+stopped_reading job blocks stays_busy card sending =
+    subst (λ next. HasStopped (Wait 0) next × AreStored job.count job blocks next)
+    (sym (stopped_in Data stays_busy card sending.quiet.state))
+    (by_cond (λ next. HasStopped (Wait 0) next × AreStored job.count job blocks next) stays_busy
+    (λ busy. (
+      (quiet_by refl refl refl refl refl refl sending.quiet.erase, λ yes. record { busy = refl; polled = λ few. refl }),
       sending.read,
-    )
+    ))
+    (λ rests. (
+      (quiet_by refl refl refl refl refl refl sending.quiet.erase, λ yes. absurd (cc (sending.rests, yes))),
+      sending.read,
+    )))
 
-stopped_writing : (job : Job) (blocks : List Sector) (card : Card) → length blocks ≡ job.count → job.way ≡ Write
-    → IsTaking job.count job blocks card → IsEnding (change_of job blocks) (Wait 0) (stopped card)
-stopped_writing job blocks card all writes taking =
-    subst (IsEnding (change_of job blocks) (Wait 0)) (sym (stopped_in Rcv card taking.quiet.state)) (
+stopped_writing : (job : Job) (blocks : List Sector) (stays_busy : Bool) (card : Card) → length blocks ≡ job.count
+    → job.way ≡ Write → IsTaking job.count job blocks card
+    → IsEnding (change_of job blocks) (Wait 0) (stopped stays_busy card)
+stopped_writing job blocks stays_busy card all writes taking =
+    subst (IsEnding (change_of job blocks) (Wait 0)) (sym (stopped_in Rcv stays_busy card taking.quiet.state)) (
       record {
         quiet = quiet_by refl refl refl refl refl refl taking.quiet.erase;
         start = taking.start;
@@ -125,6 +133,6 @@ module _ (job : Job) (blocks : List Sector) (all : length blocks ≡ job.count) 
   end_goes_on work =
       let own = work.own refl in
       goes_there job blocks (Other Stop) faults a b at work (Other (End (Wait 0))) (is_there own.0 own.2)
-      (λ exact. subst (Exact job blocks (Other (End (Wait 0)))) (sym own.1)
-      (each_way job.way (λ reads sending. stopped_reading job blocks a.card sending)
-      (λ writes taking. stopped_writing job blocks a.card all writes taking.0) exact)) tt
+      (λ exact. subst (Exact job blocks (Other (End (Wait 0)))) (sym own.1.1)
+      (each_way job.way (λ reads sending. stopped_reading job blocks own.1.0 a.card sending)
+      (λ writes taking. stopped_writing job blocks own.1.0 a.card all writes taking.0) exact)) tt

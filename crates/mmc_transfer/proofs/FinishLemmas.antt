@@ -3,17 +3,17 @@ use Rattle.std.proofs.Common.{◌+◌, ◌≡◌, List, [], arith, length, refl,
 use Rattle.std.specs.Prelude.{Err, IsErr, IsSomeAnd, MatchOption, None, Ok, Option, Result, Some, slice_index_or}
 use Rattle.mmc_frame.specs.declared.card_state.State.TheVariants.{Tran}
 use Rattle.mmc_card.proofs.SectorLemmas.{at_in, cond_in_old}
-use Rattle.mmc_card.specs.Blocks.{rested}
+use Rattle.mmc_card.specs.Blocks.{rested, waited}
 use Rattle.mmc_card.specs.BusView.{BusView}
 use Rattle.mmc_card.specs.Card.{Card, holds, known, stored, unfinished}
 use Rattle.mmc_card.specs.Sectors.{AreRead, Sector, touches, value_of}
 use Rattle.mmc_bus.specs.declared.cause.Cause.{Cause}
 use Rattle.mmc_switch.proofs.EndingLemmas.{CanEnd, EndingTurned, ProgramLaw, change_ends, ending_turned, for_any_cause}
-use Rattle.mmc_switch.proofs.EndingLemmas.{idle_shown, rested_in}
+use Rattle.mmc_switch.proofs.EndingLemmas.{busy_still, idle_shown, rested_in}
 use Rattle.mmc_switch.proofs.UnderWayLemmas.{quiet_by, room_is}
 use Rattle.mmc_switch.specs.Ending.{EndingDid}
 use Rattle.mmc_switch.specs.Place.{IsReady}
-use Rattle.mmc_switch.specs.UnderWay.{IsIdle, part_of}
+use Rattle.mmc_switch.specs.UnderWay.{IsIdle, IsQuiet, part_of}
 use Rattle.mmc_switch.specs.declared.ending.Ending.{Ending}
 use Rattle.mmc_switch.specs.declared.ending.Ending.TheVariants.{Confirm}
 use Rattle.mmc_transfer.proofs.StepLemmas.{each_way, either_way}
@@ -24,17 +24,21 @@ use Rattle.mmc_transfer.specs.declared.phase.Phase.TheVariants.{Other}
 use Rattle.mmc_transfer.specs.declared.phase.Step.{Step}
 use Rattle.mmc_transfer.specs.declared.phase.Step.TheVariants.{End}
 
--- A card that sent blocks isn't busy, and stays as it is.
-idle_rested : (job : Job) (blocks : List Sector) (card : Card) → IsIdle 0 card × AreStored job.count job blocks card
-    → IsIdle 0 (rested card) × AreStored job.count job blocks (rested card)
-idle_rested job blocks card exact =
+-- A card that sent blocks, and may be busy: a poll is answered yes or no.
+quiet_waited : (card : Card) → IsQuiet Tran 0 card → IsQuiet Tran 0 (waited card)
+quiet_waited card quiet =
+    quiet_by quiet.state quiet.app quiet.command_errors quiet.errors quiet.switch_error quiet.count quiet.erase
+
+quiet_rested : (job : Job) (blocks : List Sector) (card : Card) → IsQuiet Tran 0 card
+    → AreStored job.count job blocks card → IsIdle 0 (rested card) × AreStored job.count job blocks (rested card)
+quiet_rested job blocks card quiet are =
     subst (λ next. IsIdle 0 next × AreStored job.count job blocks next)
-    (sym (rested_in Tran card exact.0.quiet.state)) (
+    (sym (rested_in Tran card quiet.state)) (
       record {
-        quiet = quiet_by exact.0.quiet.state exact.0.quiet.app exact.0.quiet.command_errors exact.0.quiet.errors exact.0.quiet.switch_error exact.0.quiet.count exact.0.quiet.erase;
+        quiet = quiet_by quiet.state quiet.app quiet.command_errors quiet.errors quiet.switch_error quiet.count quiet.erase;
         rests = refl;
       },
-      exact.1,
+      are,
     )
 
 -- where a run ends
@@ -44,13 +48,17 @@ can_end job blocks =
     let writes = change_ends job.session (change_of job blocks) refl in
     record {
       busy = λ polls card exact busy.
-          either_way job.way (λ reads idle. absurd (cc (idle.0.rests, busy)))
+          either_way job.way (λ reads stopped. stopped.0.1 busy)
           (λ is ending. writes.busy polls card ending busy) exact;
       yes = λ polls card exact busy.
-          each_way job.way (λ reads idle. absurd (cc (idle.0.rests, busy)))
+          each_way job.way
+          (λ reads stopped. (
+            (quiet_waited card stopped.0.0, λ yes. busy_still polls card (stopped.0.1 busy)),
+            stopped.1,
+          ))
           (λ is ending. writes.yes polls card ending busy) exact;
       no = λ programs polls card exact fits part.
-          each_way job.way (λ reads idle. idle_rested job blocks card idle)
+          each_way job.way (λ reads stopped. quiet_rested job blocks card stopped.0.0 stopped.1)
           (λ is ending. writes.no programs polls card ending fits part) exact;
       idle = λ card exact. either_way job.way (λ reads idle. idle.0) (λ is ending. writes.idle card ending) exact;
       shows = λ card exact.

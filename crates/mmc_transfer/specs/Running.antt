@@ -1,7 +1,7 @@
 -- Where the card is in each phase of a run, over a bus that is kept.
 use Rattle.std.specs.Prelude.{◌+◌, ◌-◌, ◌<◌, ◌==◌, ◌≡◌, ◌⊎◌, Bool, List, None, Option, Result, Some, [], false}
 use Rattle.std.specs.Prelude.{if◌then◌else◌, slice_index_or, take, true, ℕ}
-use Rattle.mmc_frame.specs.declared.card_state.State.TheVariants.{Data, Rcv}
+use Rattle.mmc_frame.specs.declared.card_state.State.TheVariants.{Data, Rcv, Tran}
 use Rattle.mmc_card.specs.BusView.{BusView}
 use Rattle.mmc_card.specs.Blocks.{next_written}
 use Rattle.mmc_card.specs.Card.{Card, FromSectors, holds, is_in, is_selected, stored}
@@ -11,6 +11,8 @@ use Rattle.mmc_bus.specs.declared.cause.Cause.{Cause}
 use Rattle.mmc_switch.specs.Ending.{IsEnding, IsSound, ShownIn}
 use Rattle.mmc_switch.specs.Turns.{LeftIn}
 use Rattle.mmc_switch.specs.UnderWay.{IsBusyAfter, IsCarriedOut, IsIdle, IsQuiet, IsUnderWay, Turn, part_of, room_of}
+use Rattle.mmc_switch.specs.declared.ending.Ending.{Ending}
+use Rattle.mmc_switch.specs.declared.ending.Ending.TheVariants.{Confirm, Wait}
 use Rattle.mmc_switch.specs.declared.session.Session.{Session}
 use Rattle.mmc_transfer.specs.Address.{is_counted_by}
 use Rattle.mmc_transfer.specs.declared.job.Job.{Job}
@@ -72,6 +74,11 @@ pub record IsTaking (done : ℕ) (job : Job) (blocks : List Sector) (card : Card
   pub values : card.values ≡ take done blocks
   pub left : card.left ≡ left_of job done
 
+-- A card that ends a read: in tran it may be busy behind CMD12, and then it rests.
+abbrev pub HasStopped : Ending → Card → Type 0
+HasStopped (Wait polls) card = IsQuiet Tran 0 card × (card.is_busy ≡ true → IsBusyAfter polls card)
+HasStopped Confirm card = IsIdle 0 card
+
 -- Exactly here the card is in each phase, but for a fault that nobody has seen.
 abbrev pub ReadExact : Job → List Sector → Phase → Card → Type 0
 ReadExact job blocks (Block done) card = IsSending done job blocks card
@@ -79,7 +86,7 @@ ReadExact job blocks (Other Preset) card = IsIdle 0 card
 ReadExact job blocks (Other Command) card = IsIdle (preset_of job) card
 ReadExact job blocks (Other (Pause done polls)) card = ⊥
 ReadExact job blocks (Other Stop) card = IsSending job.count job blocks card
-ReadExact job blocks (Other (End ending)) card = IsIdle 0 card × AreStored job.count job blocks card
+ReadExact job blocks (Other (End ending)) card = HasStopped ending card × AreStored job.count job blocks card
 
 abbrev pub WriteExact : Job → List Sector → Phase → Card → Type 0
 WriteExact job blocks (Block done) card = IsTaking done job blocks card × (card.is_busy ≡ false)

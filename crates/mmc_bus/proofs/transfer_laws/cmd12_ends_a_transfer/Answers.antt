@@ -1,0 +1,31 @@
+use Rattle.std.proofs.Common.{◌≡◌, Bool, ap, false, refl, true}
+use Rattle.std.specs.Prelude.{if◌then◌else◌}
+use Rattle.mmc_frame.specs.declared.card_state.State.TheVariants.{Data, Prg, Rcv, Tran}
+use Rattle.mmc_bus.proofs.CommandLemmas.{does_one_of_two, low_either}
+use Rattle.mmc_bus.proofs.transfer_laws.cmd12_ends_a_transfer.Goals as goal
+use Rattle.mmc_bus.specs.CommandLaws.{TellsStop}
+use Rattle.mmc_bus.specs.Heard.{response_of}
+use Rattle.mmc_card.specs.Card.{Card, FromSectors}
+use Rattle.mmc_card.specs.CardAnswer.{Checked, Choice, busied, shown, status}
+use Rattle.mmc_card.specs.Rows.{row}
+use Rattle.mmc_card.specs.RowsTransfer.{stopped}
+use Rattle.mmc_card.specs.declared.command.Command.TheVariants.{StopTransmission}
+
+from_data : (stays_busy : Bool) (card : Card) → card.state ≡ Data
+    → stopped stays_busy card
+    ≡ record (if stays_busy then busied (shown card) else shown card) { state = Tran; source = FromSectors }
+from_data true card is = rw is refl
+from_data false card is = rw is refl
+
+pub returns : goal.returns
+returns c = record {
+  does = λ old new argument heard facts k.
+      does_one_of_two (response_of 12) Data Rcv (TellsStop old.card) (λ choice. status false old.card)
+      (λ choice. stopped choice.stays_busy old.card) (λ choice. Checked 12 (status false old.card)) StopTransmission old 12
+      argument heard new facts refl refl refl
+      (λ choice there. ap (λ (c : Card). row choice StopTransmission c 12 argument)
+      (low_either StopTransmission old.card Data Rcv k there refl refl))
+      (λ choice. refl) (λ choice. (refl, (choice.stays_busy, refl)));
+  from_data = from_data;
+  from_rcv = λ stays_busy card is. rw is refl;
+}

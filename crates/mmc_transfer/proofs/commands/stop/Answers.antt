@@ -1,4 +1,6 @@
-use Rattle.std.proofs.Common.{refl}
+use Rattle.std.proofs.Common.{◌∙◌, ap, false, refl}
+use Rattle.std.specs.Prelude.{Ok}
+use Rattle.mmc_card.specs.CardAnswer.{status}
 use Rattle.mmc_bus.proofs.WorkLemmas.{command_worked}
 use Rattle.mmc_transfer.proofs.CommandLemmas.{shows_it_stops, shows_nothing}
 use Rattle.mmc_transfer.proofs.commands.stop.Goals as goal
@@ -12,10 +14,12 @@ returns-clause-works g c kept =
     (λ ok. let judged = c.check_stop.ensures.ok ok in
     let told = law.sound judged.0 judged.1 in (
       told.0,
-      told.2,
+      told.1.1,
       λ never. shows_nothing c.args.kind c.args.may_run_out card judged.0
-          c.a_status_tells_of_its_card.ensures.errors k.was_card told.1 never judged.2,
+          c.a_status_tells_of_its_card.ensures.errors k.was_card told.1.0 never judged.2,
     ))
-    (λ same can. c.check_stop.ensures.all _ (law.fine same can.moving).0
+    (λ same can.
+    let told = law.fine same can.moving in
+    c.check_stop.ensures.all (status false card) (told.1 ∙ ap (λ x. Ok x) told.2.0)
     (shows_it_stops c.args.kind c.args.may_run_out card c.a_status_tells_of_its_card.ensures.errors
     c.a_status_tells_of_its_card.ensures.at_end k.was_card can))
