@@ -71,4 +71,11 @@ impl Places {
         self.items.remove(&Place::of(Edge::Start, entry));
         self.items.remove(&Place::of(Edge::End, entry));
     }
+
+    // Takes all places out.
+    pub(crate) fn clear(&mut self)
+        ensures { (q : Place) → shows self.new.items q ≡ false }
+    {
+        self.items.clear();
+    }
 }

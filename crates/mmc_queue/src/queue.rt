@@ -100,18 +100,20 @@ impl Queue {
         }
     }
 
-    // Takes the oldest entry out.
+    // Takes the oldest entry out. Where it was the only one, no place is looked for.
     pub(crate) fn take_oldest(&mut self) -> Option<Entry>
         ensures ascend { Ascend 0 self.old }
         ensures sound { AreSound self.old }
         ensures taken { MatchOption result ((self.old ≡ []) × (self.new ≡ [])) (λ e. self.old ≡ e ∷ self.new) }
     {
-        match self.by_ticket.pop_first() {
-            Some((_, entry)) => {
-                self.places.remove(&entry);
-                Some(entry)
-            }
-            None => None,
+        let Some((_, entry)) = self.by_ticket.pop_first() else {
+            return None;
+        };
+        if self.by_ticket.is_empty() {
+            self.places.clear();
+            return Some(entry);
         }
+        self.places.remove(&entry);
+        Some(entry)
     }
 }

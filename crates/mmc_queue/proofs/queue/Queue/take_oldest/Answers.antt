@@ -8,8 +8,8 @@ use Rattle.mmc_queue.proofs.MapLemmas.{first_removed}
 use Rattle.mmc_queue.proofs.MirrorLemmas.{taken}
 use Rattle.mmc_queue.proofs.queue.Queue.take_oldest.Goals as goal
 
-pub invariant_of-self : goal.invariant_of-self
-invariant_of-self c =
+pub invariant_of-self-2 : goal.invariant_of-self-2
+invariant_of-self-2 c =
     let m = c.self.inside.by_ticket in
     let t = c.in-Some.field-0-0 in
     let left = c.pop_first.new.self.entries in
@@ -18,6 +18,10 @@ invariant_of-self c =
     taken m c.pop_first.new.self c.self.inside.places.items c.remove.new.self.items c.in-Some.entry t c.self.invariant
     c.in-Some.ensures.value first c.in-Some.ensures.updates c.pop_first.ensures.ordered c.remove.ensures
 
-pub returns-in-Some-clause-ascend : goal.returns-in-Some-clause-ascend
-returns-in-Some-clause-ascend c =
+pub returns-then-is_empty-clause-ascend : goal.returns-then-is_empty-clause-ascend
+returns-then-is_empty-clause-ascend c =
+    subst (Ascend 0) c.self.view_is (ascend_from c.self.inside.by_ticket.entries c.self.invariant.keyed c.self.invariant.ordered)
+
+pub returns-clause-ascend : goal.returns-clause-ascend
+returns-clause-ascend c =
     subst (Ascend 0) c.self.view_is (ascend_from c.self.inside.by_ticket.entries c.self.invariant.keyed c.self.invariant.ordered)
