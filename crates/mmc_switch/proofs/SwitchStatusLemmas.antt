@@ -7,13 +7,12 @@ use Rattle.mmc_frame.specs.Field.{field}
 use Rattle.mmc_frame.specs.declared.kind.Kind.TheVariants.{Sd}
 use Rattle.mmc_regs.specs.SwitchStatus.{access_mode_selected, high_speed_support}
 use Rattle.mmc_card.proofs.Conditions.{along, by_cond}
-use Rattle.mmc_card.proofs.Narrow.{both}
 use Rattle.mmc_card.specs.Card.{Card, FromBytes, Source}
 use Rattle.mmc_card.specs.Laws.{timing_once_sent}
 use Rattle.mmc_card.specs.Made.{HasRegisters, has_high_speed}
 use Rattle.mmc_card.specs.RowsSwitch.{is_to_speed_up, refusal, timing_after}
 use Rattle.mmc_card.specs.declared.exchange.Timing.{Timing}
-use Rattle.mmc_card.specs.declared.exchange.Timing.TheVariants.{Default, High}
+use Rattle.mmc_card.specs.declared.exchange.Timing.TheVariants.{High}
 use Rattle.mmc_bus.proofs.CommandLemmas.{switch_bytes}
 use Rattle.mmc_bus.specs.CommandLaws.{IsSwitchSource, bytes_sent}
 use Rattle.mmc_switch.specs.declared.sd.TheConstants as Argument

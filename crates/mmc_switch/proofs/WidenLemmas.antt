@@ -36,7 +36,7 @@ use Rattle.mmc_bus.proofs.WorkLemmas.{both, fell, moved_as, refuted}
 use Rattle.mmc_identify.specs.Stages.{IsFound, IsLeft}
 use Rattle.mmc_identify.specs.declared.found.Found.{Found}
 use Rattle.mmc_switch.proofs.InfoLemmas.{byte_kept, count_kept, mmc_speed, number_is, tested}
-use Rattle.mmc_switch.specs.Info.{IsInfo, erase_group_def_of, has_high_timing, timing_of, width_of}
+use Rattle.mmc_switch.specs.Info.{IsInfo, erase_group_def_of, has_high_timing, timing_of}
 use Rattle.mmc_switch.specs.Place.{IsReady, Knows, setting_in}
 use Rattle.mmc_switch.specs.Stages.{IsSet, IsToldOf, first_lines, first_setting, user_setting}
 use Rattle.mmc_switch.specs.declared.fault.SwitchFault.{SwitchFault}
