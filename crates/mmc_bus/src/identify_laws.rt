@@ -81,14 +81,15 @@ pub fn cmd7_selects_the_card()
         (status false old.card) (record (busied (shown old.card)) { state = Tran }) old heard new }
 {}
 
-/// CMD8 of SD, SEND_IF_COND, for 2.7 to 3.6 V: a card in idle that knows CMD8 tells the voltage and the pattern again.
+/// CMD8 of SD, SEND_IF_COND, for 2.7 to 3.6 V: a card in idle that knows CMD8 accepts it, and tells the voltage and the
+/// pattern again.
 /// Of one that doesn't know it nothing is heard, and neither of an eMMC device in idle.
 pub fn cmd8_is_repeated_by_a_card_that_knows_it()
     ensures does { (old new : BusView) (argument : ℕ) (heard : Result ℕ Unheard)
         → Responded Index.SEND_IF_COND old argument heard new → IsCard old.card
         → old.card.made.kind ≡ Sd → field 11 8 argument ≡ 1
         → Does ((old.card.state ≡ Idle) × (old.card.made.answers_cmd8 ≡ true))
-        (field 11 0 argument) (done old.card) old heard new }
+        (field 11 0 argument) (record (done old.card) { accepted_cmd8 = true }) old heard new }
     ensures unknown { (old new : BusView) (argument : ℕ) (heard : Result ℕ Unheard)
         → Responded Index.SEND_IF_COND old argument heard new → IsCard old.card
         → old.card.made.kind ≡ Sd → old.card.made.answers_cmd8 ≡ false → old.card.state ≡ Idle

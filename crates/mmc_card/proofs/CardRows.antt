@@ -10,6 +10,7 @@ use Rattle.mmc_card.specs.declared.exchange.Reply.{Reply}
 use Rattle.mmc_card.proofs.ByteLemmas.{erased_block}
 use Rattle.mmc_card.proofs.Cards.{IsBasic, IsLike, among_more, apart_card, blocks_replicate, blocks_snoc, card_app}
 use Rattle.mmc_card.proofs.Cards.{card_done, card_fallen_short, card_forgotten, card_garbled, card_programmed, card_raised, card_reached}
+use Rattle.mmc_card.proofs.Cards.{card_told}
 use Rattle.mmc_card.proofs.Cards.{card_refused, card_reset, card_rested, card_shown, card_slow, chosen_card, in_state}
 use Rattle.mmc_card.proofs.Cards.{like_done, like_same, like_shown, stays_card}
 use Rattle.mmc_card.proofs.Conditions.{along, by_cond, first_by_cond}
@@ -154,7 +155,7 @@ card_row choice SetRelativeAddr c index argument l k =
 card_row choice SelectCard c index argument l k =
     chosen_card c _ k (like_shown c _ refl refl refl refl) refl refl
     (λ _. none_in c Stby k (in_state c.state Stby l) refl) k.new_values
-card_row choice SendIfCond c index argument l k = card_done c k
+card_row choice SendIfCond c index argument l k = card_told _ c k
 card_row choice SendExtCsd c index argument l k = card_sending (FromBytes (ext_csd_now c) c.timing) c (in_state c.state Tran l) k
 card_row choice SendCsd c index argument l k = card_done c k
 card_row choice StopTransmission c index argument l k = card_stopped choice.stays_busy c k l

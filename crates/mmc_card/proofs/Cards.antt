@@ -241,6 +241,11 @@ card_done c k =
     stays_card c (done c) k (like_done c _ k refl refl refl refl) refl refl refl refl refl refl refl (λ h. h)
     (λ h. refl) (λ h. h)
 
+pub card_told : (accepted : Bool) (c : Card) → IsBasic c → IsBasic (record (done c) { accepted_cmd8 = accepted })
+card_told accepted c k =
+    stays_card c _ k (like_done c _ k refl refl refl refl) refl refl refl refl refl refl refl (λ h. h) (λ h. refl)
+    (λ h. h)
+
 pub card_app : (c : Card) → IsBasic c → IsBasic (record (shown c) { app = true })
 card_app c k =
     stays_card c _ k (like_shown c _ refl refl refl refl) refl refl refl refl refl refl refl (λ h. h) (λ h. refl)

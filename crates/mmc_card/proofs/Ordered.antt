@@ -276,7 +276,8 @@ ordered_row choice SetRelativeAddr c index argument l none k =
 ordered_row choice SelectCard c index argument l none k =
     ordered_up c _ k (identified_in c.state Stby (in_state c.state Stby l) refl) refl refl refl (λ h. none refl)
     (λ h. cc) (λ _. refl) k.inquiries (omega arith)
-ordered_row choice SendIfCond c index argument l none k = ordered_done c k
+ordered_row choice SendIfCond c index argument l none k =
+    ordered_like c _ k refl refl refl (λ h. h) (λ h. h) (λ _. refl) k.inquiries k.polled
 ordered_row choice SendExtCsd c index argument l none k =
     ordered_from c _ l k refl refl refl (none refl) (λ h. cc) refl k.inquiries k.polled
 ordered_row choice SendCsd c index argument l none k = ordered_done c k

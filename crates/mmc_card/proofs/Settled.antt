@@ -242,7 +242,7 @@ settled_row choice SetRelativeAddr c index argument l k =
     (λ _. source_at c Ident k (in_state c.state Ident (both (is_mmc c.made.kind) (is_in c.state Ident) l).1) refl)
 settled_row choice SelectCard c index argument l k =
     settled_rest _ Tran refl refl refl k.fits (λ _. source_at c Stby k (in_state c.state Stby l) refl)
-settled_row choice SendIfCond c index argument l k = settled_done c k
+settled_row choice SendIfCond c index argument l k = settled_like c _ k refl k.fits refl refl refl
 settled_row choice SendExtCsd c index argument l k = settled_rest _ Data refl refl refl k.fits (λ h. cc)
 settled_row choice SendCsd c index argument l k = settled_done c k
 settled_row choice StopTransmission c index argument l k =

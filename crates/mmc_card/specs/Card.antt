@@ -49,6 +49,8 @@ pub record Card : Type 0 where
   pub command_errors : ℕ
   pub errors : ℕ
   pub switch_error : Bool
+  -- SD: it has accepted a CMD8 since CMD0 or power on
+  pub accepted_cmd8 : Bool
   -- readiness inquiries since CMD0 or power on, and polls that were answered yes in this busy time
   pub inquiries : ℕ
   pub is_busy : Bool
@@ -136,6 +138,7 @@ powered_on made sectors =
       command_errors = 0;
       errors = 0;
       switch_error = false;
+      accepted_cmd8 = false;
       inquiries = 0;
       is_busy = false;
       polled = 0;

@@ -26,9 +26,11 @@ inquired is_ready early card =
     then (record (done card) { state = Ready; inquiries = counted card.inquiries }, R3 (2 ^ 31 + card.made.ocr))
     else (record (done card) { inquiries = counted card.inquiries }, R3 (early_ocr early card.made.ocr))
 
--- A card with CCS 1 is never ready for a host that doesn't say HCS, bit 30 (SD Physical Layer 6.00, section 4.2.3).
+-- A card with CCS 1 is never ready for a host that doesn't say HCS, bit 30, and ignores it where it has accepted no CMD8
+-- (SD Physical Layer 6.00, section 4.2.3).
 abbrev pub is_served : Card → ℕ → Bool
-is_served card argument = not (card_capacity_status card.made.ocr == 1) || (field 30 30 argument == 1)
+is_served card argument =
+    not (card_capacity_status card.made.ocr == 1) || ((field 30 30 argument == 1) && card.accepted_cmd8)
 
 -- CMD1 of eMMC, SEND_OP_COND
 abbrev pub send_op_cond : Choice → Card → Card × CardAnswer
@@ -65,7 +67,7 @@ select_card card = (record (busied (shown card)) { state = Tran }, Checked Index
 -- CMD8 of SD, SEND_IF_COND: voltage 1, 2.7 to 3.6 V, is the only one (SD Physical Layer 6.00, section 4.3.13)
 abbrev pub send_if_cond : Card → ℕ → Card × CardAnswer
 send_if_cond card argument = (
-  done card,
+  record (done card) { accepted_cmd8 = (field 11 8 argument == 1) || card.accepted_cmd8 },
   if field 11 8 argument == 1 then Checked Index.SEND_IF_COND
       (field 11 0 argument) else Silent,
 )

@@ -53,6 +53,7 @@ card_of chip =
       command_errors = chip.command_errors / 2 ^ 13;
       errors = chip.errors / 2 ^ 13;
       switch_error = chip.has_switch_error;
+      accepted_cmd8 = chip.has_accepted_cmd8;
       inquiries = chip.inquiries;
       is_busy = chip.is_busy;
       polled = chip.polled;

@@ -68,6 +68,8 @@ pub struct Chip {
     pub command_errors: u32,
     pub errors: u32,
     pub has_switch_error: bool,
+    // Of an SD card: it has accepted a CMD8 since CMD0.
+    pub has_accepted_cmd8: bool,
     // Readiness inquiries since CMD0 and polls that were answered yes in this busy time, both up to 8.
     pub inquiries: u8,
     pub is_busy: bool,
@@ -179,6 +181,7 @@ impl Chip {
             command_errors: 0,
             errors: 0,
             has_switch_error: false,
+            has_accepted_cmd8: false,
             inquiries: 0,
             is_busy: false,
             polled: 0,

@@ -51,6 +51,7 @@ impl Chip {
         self.command_errors = 0;
         self.errors = 0;
         self.has_switch_error = false;
+        self.has_accepted_cmd8 = false;
         self.inquiries = 0;
         self.is_busy = false;
         self.polled = 0;
@@ -100,11 +101,12 @@ impl Chip {
         self.inquire(is_ready, delays.early)
     }
 
-    // Whether the card becomes ready for such a host: one with sector addresses wants HCS.
+    // Whether the card becomes ready for such a host: one with sector addresses wants CMD8, and HCS.
     fn is_served(&self, argument: u32) -> bool
         ensures { result ≡ is_served (card_of self.now) argument }
     {
-        !Ocr::new(self.registers.ocr).has_sector_addresses() || argument / HCS % 2 == 1
+        !Ocr::new(self.registers.ocr).has_sector_addresses()
+            || argument / HCS % 2 == 1 && self.has_accepted_cmd8
     }
 
     /// ACMD41.
@@ -188,6 +190,7 @@ impl Chip {
         if argument / 0x100 % 16 != 1 {
             return Answer::Silent;
         }
+        self.has_accepted_cmd8 = true;
         Answer::Checked {
             index: SEND_IF_COND,
             argument: argument % 0x1000,

@@ -27,38 +27,52 @@ use Rattle.mmc_identify.specs.declared.fault.IdentFault.TheVariants.{Voltage}
 
 -- CMD8.
 
-idle_done : (card : Card) → IsIdle false 0 card → IsIdle false 0 (done card)
-idle_done card idle = record { state = idle.state; app = refl; inquiries = idle.inquiries }
+idle_told : (card : Card) → IsIdle false false 0 card → IsIdle true false 0 (record (done card) { accepted_cmd8 = true })
+idle_told card idle = record { state = idle.state; told = refl; app = refl; inquiries = idle.inquiries }
 
-idle_refused : (card : Card) → IsIdle false 0 card → IsIdle false 0 (refused card)
-idle_refused card idle = record { state = idle.state; app = refl; inquiries = idle.inquiries }
+idle_refused : (card : Card) → IsIdle false false 0 card → IsIdle false false 0 (refused card)
+idle_refused card idle = record { state = idle.state; told = idle.told; app = refl; inquiries = idle.inquiries }
 
 -- a card that knows it repeats it, and of no other anything is heard
 abbrev Repeats : BusView → Result ℕ Unheard → BusView → Type 0
 Repeats old heard new =
     (old.card.made.kind ≡ Sd
-    → Does ((old.card.state ≡ Idle) × (old.card.made.answers_cmd8 ≡ true)) 0x1aa (done old.card) old heard new)
+    → Does ((old.card.state ≡ Idle) × (old.card.made.answers_cmd8 ≡ true)) 0x1aa
+    (record (done old.card) { accepted_cmd8 = true }) old heard new)
     × (old.card.made.kind ≡ Sd → old.card.made.answers_cmd8 ≡ false → old.card.state ≡ Idle
     → IsUnheard (refused old.card) old heard new)
     × (old.card.made.kind ≡ Mmc → old.card.state ≡ Idle → IsUnheard (refused old.card) old heard new)
 
+probed_so : (old : BusView) (new : Card) (accepted : Bool) → echoes old.card.made ≡ accepted → IsIdle accepted false 0 new
+    → IsIdle (echoes old.card.made) false 0 new
+probed_so old new accepted is idle = subst (λ b. IsIdle b false 0 new) (sym is) idle
+
 probed_by : (kind : Kind) (answers : Bool) (old : BusView) (heard : Result ℕ Unheard) (new : BusView)
     → old.card.made.kind ≡ kind → old.card.made.answers_cmd8 ≡ answers → Repeats old heard new → NoFault old new
-    → IsIdle false 0 old.card
-    → (judged.echoed heard ≡ Ok (echoes old.card.made)) × IsIdle false 0 new.card
+    → IsIdle false false 0 old.card
+    → (judged.echoed heard ≡ Ok (echoes old.card.made)) × IsIdle (echoes old.card.made) false 0 new.card
 probed_by Sd true old heard new is knows repeats same idle =
     let f = (repeats.0 is).fine same (idle.state, knows) in
-    (ap judged.echoed f.0 ∙ rw (is, knows) refl, subst (IsIdle false 0) (sym f.1) (idle_done old.card idle))
+    let told : echoes old.card.made ≡ true = rw (is, knows) refl in (
+      ap judged.echoed f.0 ∙ ap Ok (sym told),
+      probed_so old new.card true told (subst (IsIdle true false 0) (sym f.1) (idle_told old.card idle)),
+    )
 probed_by Sd false old heard new is knows repeats same idle =
     let f = repeats.1 is knows idle.state same in
-    (ap judged.echoed f.0 ∙ rw (is, knows) refl, subst (IsIdle false 0) (sym f.1) (idle_refused old.card idle))
+    let told : echoes old.card.made ≡ false = rw (is, knows) refl in (
+      ap judged.echoed f.0 ∙ ap Ok (sym told),
+      probed_so old new.card false told (subst (IsIdle false false 0) (sym f.1) (idle_refused old.card idle)),
+    )
 probed_by Mmc answers old heard new is knows repeats same idle =
     let f = repeats.2 is idle.state same in
-    (ap judged.echoed f.0 ∙ rw is refl, subst (IsIdle false 0) (sym f.1) (idle_refused old.card idle))
+    let told : echoes old.card.made ≡ false = rw is refl in (
+      ap judged.echoed f.0 ∙ ap Ok (sym told),
+      probed_so old new.card false told (subst (IsIdle false false 0) (sym f.1) (idle_refused old.card idle)),
+    )
 
 pub probed : (old : BusView) (heard : Result ℕ Unheard) (new : BusView) (result : Result Bool IdentFault)
-    → result ≡ judged.echoed heard → Repeats old heard new → NoFault old new → IsIdle false 0 old.card
-    → (result ≡ Ok (echoes old.card.made)) × IsIdle false 0 new.card
+    → result ≡ judged.echoed heard → Repeats old heard new → NoFault old new → IsIdle false false 0 old.card
+    → (result ≡ Ok (echoes old.card.made)) × IsIdle (echoes old.card.made) false 0 new.card
 probed old heard new result is repeats same idle =
     let p = probed_by old.card.made.kind old.card.made.answers_cmd8 old heard new refl refl repeats same idle in
     (is ∙ p.0, p.1)
@@ -72,28 +86,29 @@ Expects old heard new =
     (record (shown (forgotten old.card)) { app = true }) old heard new
 
 -- an SD card in idle goes by the RCA 0, and an eMMC device by 1
-announced_by : (kind : Kind) (old : BusView) (heard : Result ℕ Unheard) (new : BusView) (times : ℕ)
+announced_by : (kind : Kind) (old : BusView) (heard : Result ℕ Unheard) (new : BusView) (accepted : Bool) (times : ℕ)
     → old.card.made.kind ≡ kind → IsCard old.card → Expects old heard new
-    → ((Names 0 old.card → ⊥) → IsUnheard old.card old heard new) → NoFault old new → IsIdle false times old.card
-    → (judged.answered heard ≡ Ok (is_sd kind)) × IsIdle (is_sd kind) times new.card
-announced_by Sd old heard new times is card expects other same idle =
+    → ((Names 0 old.card → ⊥) → IsUnheard old.card old heard new) → NoFault old new
+    → IsIdle accepted false times old.card
+    → (judged.answered heard ≡ Ok (is_sd kind)) × IsIdle accepted (is_sd kind) times new.card
+announced_by Sd old heard new accepted times is card expects other same idle =
     let rca : old.card.rca ≡ 0 = card.rca (ap is_identified idle.state) ∙ ap first_rca is in
     let f = expects.fine same (is, inl idle.state, sym rca) in
-    let after : IsIdle true times (record (shown (forgotten old.card)) { app = true }) =
-    record { state = idle.state; app = refl; inquiries = idle.inquiries } in
-    (ap judged.answered f.0, subst (IsIdle true times) (sym f.1) after)
-announced_by Mmc old heard new times is card expects other same idle =
+    let after : IsIdle accepted true times (record (shown (forgotten old.card)) { app = true }) =
+    record { state = idle.state; told = idle.told; app = refl; inquiries = idle.inquiries } in
+    (ap judged.answered f.0, subst (IsIdle accepted true times) (sym f.1) after)
+announced_by Mmc old heard new accepted times is card expects other same idle =
     let rca : old.card.rca ≡ 1 = card.rca (ap is_identified idle.state) ∙ ap first_rca is in
     let f = other (λ mine. (let e : 0 ≡ 1 = mine ∙ rca in cc)) same in
-    (ap judged.answered f.0, subst (IsIdle false times) (sym f.1) idle)
+    (ap judged.answered f.0, subst (IsIdle accepted false times) (sym f.1) idle)
 
 pub announced : (old : BusView) (heard : Result ℕ Unheard) (new : BusView) (result : Result Bool IdentFault)
     → result ≡ judged.answered heard → IsCard old.card → Expects old heard new
-    → ((Names 0 old.card → ⊥) → IsUnheard old.card old heard new) → NoFault old new → (times : ℕ)
-    → IsIdle false times old.card
-    → (result ≡ Ok (is_sd old.card.made.kind)) × IsIdle (is_sd old.card.made.kind) times new.card
-announced old heard new result is card expects other same times idle =
-    let p = announced_by old.card.made.kind old heard new times refl card expects other same idle in
+    → ((Names 0 old.card → ⊥) → IsUnheard old.card old heard new) → NoFault old new → (accepted : Bool) (times : ℕ)
+    → IsIdle accepted false times old.card
+    → (result ≡ Ok (is_sd old.card.made.kind)) × IsIdle accepted (is_sd old.card.made.kind) times new.card
+announced old heard new result is card expects other same accepted times idle =
+    let p = announced_by old.card.made.kind old heard new accepted times refl card expects other same idle in
     (is ∙ p.0, p.1)
 
 answered_ok : (heard : Result ℕ Unheard) → judged.answered heard ≡ Ok true → (told : ℕ) × (heard ≡ Ok told)
@@ -121,42 +136,44 @@ low_ocr : (ocr : ℕ) → ocr < 2 ^ 31 → (ocr / 0x80000000 == 1) ≡ false
 low_ocr ocr below = let zero : ocr / 0x80000000 ≡ 0 = omega (arith, below) in rw zero refl
 
 -- the card is ready, or isn't yet
-inquiry_told : (times : ℕ) (old : BusView) (heard : Result ℕ Unheard) (new : BusView) (ocr : ℕ) → IsCard old.card
-    → InProfile old.card.made → old.card.inquiries ≡ times → old.card.state ≡ Idle → heard ≡ Ok ocr
+inquiry_told : (accepted : Bool) (times : ℕ) (old : BusView) (heard : Result ℕ Unheard) (new : BusView) (ocr : ℕ) → IsCard old.card
+    → InProfile old.card.made → old.card.inquiries ≡ times → old.card.state ≡ Idle → old.card.accepted_cmd8 ≡ accepted
+    → heard ≡ Ok ocr
     → TellsReady old.card ocr new.card ⊎ (TellsWait old.card ocr new.card × (old.card.inquiries < 8))
-    → Inquired times old.card.made (judged.inquired heard) new.card
-inquiry_told times old heard new ocr card profile asked idle is (inl ready) =
+    → Inquired accepted times old.card.made (judged.inquired heard) new.card
+inquiry_told accepted times old heard new ocr card profile asked idle flag is (inl ready) =
     let below = card.registers.ocr in
     let window = profile.window in
     let told = ready.1 in
-    subst (λ r. Inquired times old.card.made r new.card)
+    subst (λ r. Inquired accepted times old.card.made r new.card)
     (sym (ap judged.inquired is
     ∙ inquired_ready ocr (eq-eqb _ 3 (omega (arith, told, window))) (eq-eqb _ 1 (omega (arith, told, below)))))
     (told, ap (λ (c : Card). c.state) ready.0)
-inquiry_told times old heard new ocr card profile asked idle is (inr wait) =
+inquiry_told accepted times old heard new ocr card profile asked idle flag is (inr wait) =
     let below = card.registers.ocr in
     let window = profile.window in
     let told = wait.0.1.1 in
     let few = wait.1 in
-    subst (λ r. Inquired times old.card.made r new.card)
+    subst (λ r. Inquired accepted times old.card.made r new.card)
     (sym (ap judged.inquired is
     ∙ inquired_wait ocr (eq-eqb _ 3 (omega (arith, told, window))) (low_ocr ocr (omega (arith, told, below))))) (
       omega (arith, few, asked),
       record {
         state = ap (λ (c : Card). c.state) wait.0.0 ∙ idle;
+        told = ap (λ (c : Card). c.accepted_cmd8) wait.0.0 ∙ flag;
         app = ap (λ (c : Card). c.app) wait.0.0;
         inquiries = ap (λ (c : Card). c.inquiries) wait.0.0 ∙ omega (arith, few, asked);
       },
     )
 
-pub inquiry_fine : {IsThere IsServed : Type 0} (app : Bool) (times : ℕ) (old : BusView) (heard : Result ℕ Unheard)
+pub inquiry_fine : {IsThere IsServed : Type 0} (accepted app : Bool) (times : ℕ) (old : BusView) (heard : Result ℕ Unheard)
     (new : BusView) (result : Result (Option ℕ) IdentFault) → result ≡ judged.inquired heard → IsCard old.card
     → Inquires IsThere IsServed old heard new → NoFault old new → IsThere → IsServed → InProfile old.card.made
-    → IsIdle app times old.card → Inquired times old.card.made result new.card
-inquiry_fine app times old heard new result is card inquires same there served profile idle =
+    → IsIdle accepted app times old.card → Inquired accepted times old.card.made result new.card
+inquiry_fine accepted app times old heard new result is card inquires same there served profile idle =
     let f = inquires.fine same there served in
-    subst (λ r. Inquired times old.card.made r new.card) (sym is)
-    (inquiry_told times old heard new f.0 card profile idle.inquiries idle.state f.1 f.2)
+    subst (λ r. Inquired accepted times old.card.made r new.card) (sym is)
+    (inquiry_told accepted times old heard new f.0 card profile idle.inquiries idle.state idle.told f.1 f.2)
 
 inquired_at : (window ready : Bool) (told ocr : ℕ) → ready ≡ (told / 0x80000000 == 1)
     → let r : Result (Option ℕ) IdentFault = cond window (cond ready (Ok (Some told)) (Ok None)) (Err Voltage) in
@@ -193,15 +210,16 @@ inquiry_own old heard new result is card inquires ocr ok =
 -- A host that says HCS where it has to.
 
 served_by : (high : Bool) (card : Card) (argument : ℕ) → (card_capacity_status card.made.ocr == 1) ≡ high
-    → (high ≡ true → field 30 30 argument ≡ 1) → is_served card argument ≡ true
-served_by true card argument e says = rw e (eq-eqb (field 30 30 argument) 1 (says refl))
-served_by false card argument e says = rw e refl
+    → (high ≡ true → field 30 30 argument ≡ 1) → (high ≡ true → card.accepted_cmd8 ≡ true) → is_served card argument ≡ true
+served_by true card argument e says told = rw (e, eq-eqb (field 30 30 argument) 1 (says refl), told refl) refl
+served_by false card argument e says told = rw e refl
 
 says_hcs : (hcs : Bool) → hcs ≡ true → field 30 30 (judged.window hcs) ≡ 1
 says_hcs true h = refl
 says_hcs false h = cc
 
 pub served : (hcs : Bool) (card : Card) (argument : ℕ) → argument ≡ judged.window hcs
-    → (card_capacity_status card.made.ocr ≡ 1 → hcs ≡ true) → is_served card argument ≡ true
-served hcs card argument is can =
+    → (card_capacity_status card.made.ocr ≡ 1 → hcs ≡ true) → card.accepted_cmd8 ≡ hcs → is_served card argument ≡ true
+served hcs card argument is can told =
     served_by _ card argument refl (λ high. ap (field 30 30) is ∙ says_hcs hcs (can (eqb-true _ 1 high)))
+    (λ high. told ∙ can (eqb-true _ 1 high))

@@ -138,30 +138,30 @@ take_fails rca fault r a b c err p q =
 -- From idle to ready.
 
 abbrev pub Resets : BusView → BusView → Type 0
-Resets a b = Moved (λ old new. Unit {0}) (λ old new. IsIdle false 0 new.card) a b
+Resets a b = Moved (λ old new. Unit {0}) (λ old new. IsIdle false false 0 new.card) a b
 
 abbrev pub Announces : Result Bool IdentFault → BusView → BusView → Type 0
 Announces r a b =
     Moved (λ old new. r ≡ Ok true → old.card.made.kind ≡ Sd)
-    (λ old new. (times : ℕ) → IsIdle false times old.card
-    → (r ≡ Ok (is_sd old.card.made.kind)) × IsIdle (is_sd old.card.made.kind) times new.card) a b
+    (λ old new. (accepted : Bool) (times : ℕ) → IsIdle accepted false times old.card
+    → (r ≡ Ok (is_sd old.card.made.kind)) × IsIdle accepted (is_sd old.card.made.kind) times new.card) a b
 
 abbrev pub StartsSd : Bool → Result ℕ IdentFault → BusView → BusView → Type 0
 StartsSd hcs r a b =
     Moved (λ old new. IfOk r (λ ocr. (old.card.made.kind ≡ Sd) × (ocr ≡ ready_ocr old.card.made)))
     (λ old new. InProfile old.card.made → CanStart old.card.made hcs → old.card.made.kind ≡ Sd
-    → IsIdle true 0 old.card → (r ≡ Ok (ready_ocr old.card.made)) × (new.card.state ≡ Ready)) a b
+    → IsIdle hcs true 0 old.card → (r ≡ Ok (ready_ocr old.card.made)) × (new.card.state ≡ Ready)) a b
 
 abbrev pub StartsMmc : Result ℕ IdentFault → BusView → BusView → Type 0
 StartsMmc r a b =
     Moved (λ old new. IfOk r (λ ocr. (old.card.made.kind ≡ Mmc) × (ocr ≡ ready_ocr old.card.made)))
     (λ old new. InProfile old.card.made → old.card.made.kind ≡ Mmc
-    → IsIdle false 0 old.card → (r ≡ Ok (ready_ocr old.card.made)) × (new.card.state ≡ Ready)) a b
+    → IsIdle false false 0 old.card → (r ≡ Ok (ready_ocr old.card.made)) × (new.card.state ≡ Ready)) a b
 
 abbrev pub Starts : Bool → Result (Kind × ℕ) IdentFault → BusView → BusView → Type 0
 Starts hcs r a b =
     Moved (λ old new. IfOk r (λ told. (told.0 ≡ old.card.made.kind) × (told.1 ≡ ready_ocr old.card.made)))
-    (λ old new. InProfile old.card.made → CanStart old.card.made hcs → IsIdle false 0 old.card
+    (λ old new. InProfile old.card.made → CanStart old.card.made hcs → IsIdle hcs false 0 old.card
     → (r ≡ Ok (old.card.made.kind, ready_ocr old.card.made)) × (new.card.state ≡ Ready)) a b
 
 -- what the inquiries gave is given with the kind
@@ -193,7 +193,7 @@ mmc_by Mmc h = refl
 pub announce_fails : (hcs : Bool) (fault : IdentFault) (r : Result (Kind × ℕ) IdentFault) (a b : BusView) → IsErr r
     → Announces (Err fault) a b → Starts hcs r a b
 announce_fails hcs fault r a b err p =
-    moved_as a b p (IfOk-from_err r _ err) (λ same profile can idle. cc (p.fine same 0 idle).0)
+    moved_as a b p (IfOk-from_err r _ err) (λ same profile can idle. cc (p.fine same hcs 0 idle).0)
 
 pub started_sd : (hcs : Bool) (told : Result ℕ IdentFault) (r : Result (Kind × ℕ) IdentFault) (a b c : BusView)
     → Gives Sd told r → Announces (Ok true) a b → StartsSd hcs told b c → Starts hcs r a c
@@ -204,10 +204,10 @@ started_sd hcs told r a b c gives p q =
     moved_as a c pair (gives_own Sd told r b.card.made a.card.made gives made q.own)
     (λ same profile can idle.
     let f = pair.fine same in
-    let now = f.0 0 idle in
+    let now = f.0 hcs 0 idle in
     let sd = sd_by a.card.made.kind now.0 in
     let t = f.1 (subst InProfile back profile) (subst (λ m. CanStart m hcs) back can)
-    (subst (λ (m : Made). m.kind ≡ Sd) back sd) (subst (λ app. IsIdle app 0 b.card) (ap is_sd sd) now.1) in
+    (subst (λ (m : Made). m.kind ≡ Sd) back sd) (subst (λ app. IsIdle hcs app 0 b.card) (ap is_sd sd) now.1) in
     (gives_fine Sd told r a.card.made gives sd (t.0 ∙ ap (λ m. Ok (ready_ocr m)) made), t.1))
 
 pub started_mmc : (hcs : Bool) (told : Result ℕ IdentFault) (r : Result (Kind × ℕ) IdentFault) (a b c d : BusView)
@@ -220,7 +220,7 @@ started_mmc hcs told r a b c d gives p q s =
     moved_as a d all (gives_own Mmc told r c.card.made a.card.made gives made s.own)
     (λ same profile can idle.
     let f = all.fine same in
-    let mmc = mmc_by a.card.made.kind (f.0.0 0 idle).0 in
+    let mmc = mmc_by a.card.made.kind (f.0.0 hcs 0 idle).0 in
     let t = f.1 (subst InProfile back profile) (subst (λ (m : Made). m.kind ≡ Mmc) back mmc) f.0.1 in
     (gives_fine Mmc told r a.card.made gives mmc (t.0 ∙ ap (λ m. Ok (ready_ocr m)) made), t.1))
 
@@ -229,7 +229,8 @@ started_mmc hcs told r a b c d gives p q s =
 abbrev pub Probes : Result Bool IdentFault → BusView → BusView → Type 0
 Probes r a b =
     Moved (λ old new. Unit {0})
-    (λ old new. IsIdle false 0 old.card → (r ≡ Ok (echoes old.card.made)) × IsIdle false 0 new.card) a b
+    (λ old new. IsIdle false false 0 old.card
+    → (r ≡ Ok (echoes old.card.made)) × IsIdle (echoes old.card.made) false 0 new.card) a b
 
 abbrev pub Begins : Result (Kind × ℕ) IdentFault → BusView → BusView → Type 0
 Begins r a b =
@@ -240,7 +241,7 @@ Begins r a b =
 lined : (a b : BusView) (lines : Lines) → Resets a b → Resets a (record b { lines = lines })
 lined a b lines p =
     moved_on a b lines p tt
-    (λ same. let f = p.fine same in record { state = f.state; app = f.app; inquiries = f.inquiries })
+    (λ same. let f = p.fine same in record { state = f.state; told = f.told; app = f.app; inquiries = f.inquiries })
 
 pub reset_on_lines : (a b c : BusView) (lines : Lines) → c ≡ record b { lines = lines }
     → (b.is_kept ≡ true → Resets a b) → c.is_kept ≡ true → Resets a c
@@ -276,7 +277,8 @@ begun hcs r a b c d p q s =
     let there = subst InProfile (sym made) profile in
     let is : hcs ≡ echoes b.card.made = (let e = probed.0 in cc e) in
     let echo = is ∙ ap echoes (sym q.stays.carried.made) in
-    let t = f.1 there (subst (CanStart c.card.made) (sym echo) (can_start c.card.made there)) probed.1 in
+    let t = f.1 there (subst (CanStart c.card.made) (sym echo) (can_start c.card.made there))
+    (subst (λ accepted. IsIdle accepted false 0 c.card) (sym is) probed.1) in
     (subst (λ (m : Made). r ≡ Ok (m.kind, ready_ocr m)) made t.0, t.1))
 
 -- From ready to stby: CID, RCA and CSD.

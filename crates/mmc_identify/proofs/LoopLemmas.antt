@@ -31,31 +31,31 @@ abbrev pub Asks : Bool → Kind → Bool → Result (Option ℕ) IdentFault → 
 Asks app kind hcs result old new =
     Moved (TellsOcr kind result)
     (λ old new. (times : ℕ) → InProfile old.card.made → CanStart old.card.made hcs → old.card.made.kind ≡ kind
-    → IsIdle app times old.card → Inquired times old.card.made result new.card) old new
+    → IsIdle hcs app times old.card → Inquired hcs times old.card.made result new.card) old new
 
 -- The card was asked so many times first, and is asked so many times now.
 abbrev pub Asking : Bool → Kind → Bool → ℕ → ℕ → BusView → BusView → Type 0
 Asking app kind hcs first times old now =
     Moved Anything
     (λ old now. InProfile old.card.made → CanStart old.card.made hcs → old.card.made.kind ≡ kind
-    → IsIdle app first old.card → IsIdle app times now.card × (times ≤ 8)) old now
+    → IsIdle hcs app first old.card → IsIdle hcs app times now.card × (times ≤ 8)) old now
 
 -- Inquiries of a card that was asked so many times first, until it is ready.
 abbrev pub Starts : Bool → Kind → Bool → ℕ → Result ℕ IdentFault → BusView → BusView → Type 0
 Starts app kind hcs first result old new =
     Moved (GivesOcr kind result)
     (λ old new. InProfile old.card.made → CanStart old.card.made hcs → old.card.made.kind ≡ kind
-    → IsIdle app first old.card → (result ≡ Ok (ready_ocr old.card.made)) × (new.card.state ≡ Ready)) old new
+    → IsIdle hcs app first old.card → (result ≡ Ok (ready_ocr old.card.made)) × (new.card.state ≡ Ready)) old new
 
 -- what an inquiry leaves that has no fault, behind others
 next_inquired : (app : Bool) (kind : Kind) (hcs : Bool) (times : ℕ) (result : Result (Option ℕ) IdentFault)
     (a b c : BusView) → Stays a b → Asks app kind hcs result b c → NoFault b c → InProfile a.card.made
-    → CanStart a.card.made hcs → a.card.made.kind ≡ kind → IsIdle app times b.card
-    → Inquired times a.card.made result c.card
+    → CanStart a.card.made hcs → a.card.made.kind ≡ kind → IsIdle hcs app times b.card
+    → Inquired hcs times a.card.made result c.card
 next_inquired app kind hcs times result a b c stays q same profile can is idle =
     let made = stays.carried.made in
     let back = sym made in
-    subst (λ (m : Made). Inquired times m result c.card) made
+    subst (λ (m : Made). Inquired hcs times m result c.card) made
     (q.fine same times (subst InProfile back profile) (subst (λ (m : Made). CanStart m hcs) back can)
     (ap (λ (m : Made). m.kind) made ∙ is) idle)
 
@@ -142,15 +142,15 @@ first_goes_on hcs result a b c p q =
 abbrev pub Announces : Result Bool IdentFault → BusView → BusView → Type 0
 Announces result old new =
     Moved (λ old new. result ≡ Ok true → old.card.made.kind ≡ Sd)
-    (λ old new. (times : ℕ) → IsIdle false times old.card
-    → (result ≡ Ok (is_sd old.card.made.kind)) × IsIdle (is_sd old.card.made.kind) times new.card) old new
+    (λ old new. (accepted : Bool) (times : ℕ) → IsIdle accepted false times old.card
+    → (result ≡ Ok (is_sd old.card.made.kind)) × IsIdle accepted (is_sd old.card.made.kind) times new.card) old new
 
 -- that of an SD card fails with a fault alone
 pub not_announced : (hcs : Bool) (said : Result Bool IdentFault) (result : Result (Option ℕ) IdentFault)
     (a b : BusView) → IsErr result → (said ≡ Ok true → ⊥) → Announces said a b → Asks false Sd hcs result a b
 not_announced hcs said result a b failed unsaid p =
     moved_as a b p (λ ocr ok. absurd (IfOk-at_ok (λ told. ⊥) ok (IfOk-from_err result (λ told. ⊥) failed)))
-    (λ same times profile can sd idle. absurd (unsaid ((p.fine same times idle).0 ∙ ap Ok (ap is_sd sd))))
+    (λ same times profile can sd idle. absurd (unsaid ((p.fine same hcs times idle).0 ∙ ap Ok (ap is_sd sd))))
 
 pub announced_then : (hcs : Bool) (said : Result Bool IdentFault) (result : Result (Option ℕ) IdentFault)
     (a b c : BusView) → Announces said a b → Asks true Sd hcs result b c → Asks false Sd hcs result a c
@@ -159,29 +159,29 @@ announced_then hcs said result a b c p q =
     (λ ocr ok. subst (IsReadyOcr Sd ocr) p.stays.carried.made (q.own ocr ok))
     (λ same times profile can sd idle.
     let parts = quiet_parts a b c p.stays q.stays same in
-    let now : IsIdle true times b.card =
-    subst (λ app. IsIdle app times b.card) (ap is_sd sd) (p.fine parts.0 times idle).1 in
+    let now : IsIdle hcs true times b.card =
+    subst (λ app. IsIdle hcs app times b.card) (ap is_sd sd) (p.fine parts.0 hcs times idle).1 in
     next_inquired true Sd hcs times result a b c p.stays q parts.1 profile can sd now)
 
--- eMMC devices, which are told of sector addresses at once.
+-- eMMC devices.
 
 abbrev pub AsksMmc : Result (Option ℕ) IdentFault → BusView → BusView → Type 0
 AsksMmc result old new =
     Moved (TellsOcr Mmc result)
-    (λ old new. (times : ℕ) → InProfile old.card.made → old.card.made.kind ≡ Mmc → IsIdle false times old.card
-    → Inquired times old.card.made result new.card) old new
+    (λ old new. (times : ℕ) → InProfile old.card.made → old.card.made.kind ≡ Mmc → IsIdle false false times old.card
+    → Inquired false times old.card.made result new.card) old new
 
 abbrev pub StartsMmc : Result ℕ IdentFault → BusView → BusView → Type 0
 StartsMmc result old new =
     Moved (GivesOcr Mmc result)
-    (λ old new. InProfile old.card.made → old.card.made.kind ≡ Mmc → IsIdle false 0 old.card
+    (λ old new. InProfile old.card.made → old.card.made.kind ≡ Mmc → IsIdle false false 0 old.card
     → (result ≡ Ok (ready_ocr old.card.made)) × (new.card.state ≡ Ready)) old new
 
 pub asks_mmc : (result : Result (Option ℕ) IdentFault) (a b : BusView) → AsksMmc result a b
-    → Asks false Mmc true result a b
+    → Asks false Mmc false result a b
 asks_mmc result a b p = moved_as a b p p.own (λ same times profile can mmc idle. p.fine same times profile mmc idle)
 
-pub starts_mmc : (result : Result ℕ IdentFault) (a b : BusView) → Starts false Mmc true 0 result a b
+pub starts_mmc : (result : Result ℕ IdentFault) (a b : BusView) → Starts false Mmc false 0 result a b
     → StartsMmc result a b
 starts_mmc result a b p =
-    moved_as a b p p.own (λ same profile mmc idle. p.fine same profile (λ sd sectors. refl) mmc idle)
+    moved_as a b p p.own (λ same profile mmc idle. p.fine same profile (λ sd sectors. cc (sd, mmc)) mmc idle)

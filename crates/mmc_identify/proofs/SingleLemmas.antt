@@ -23,8 +23,8 @@ use Rattle.mmc_identify.specs.declared.fault.IdentFault.TheVariants.{Locked, NoA
 
 -- CMD0.
 
-pub idle_reset : (lands : ℕ → Bool) (keeps : Bool) (old new : Card) → new ≡ reset lands keeps old → IsIdle false 0 new
-idle_reset lands keeps old new e = subst (IsIdle false 0) (sym e) (record { state = refl; app = refl; inquiries = refl })
+pub idle_reset : (lands : ℕ → Bool) (keeps : Bool) (old new : Card) → new ≡ reset lands keeps old → IsIdle false false 0 new
+idle_reset lands keeps old new e = subst (IsIdle false false 0) (sym e) (record { state = refl; told = refl; app = refl; inquiries = refl })
 
 -- Registers.
 

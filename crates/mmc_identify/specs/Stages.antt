@@ -24,21 +24,23 @@ ready_ocr made = 2 ^ 31 + made.ocr
 abbrev pub echoes : Made → Bool
 echoes made = if is_sd made.kind then made.answers_cmd8 else false
 
--- in idle, asked so many times whether it is ready, with an application command announced or not
-pub record IsIdle (is_app : Bool) (times : ℕ) (card : Card) : Type 0 where
+-- in idle, having accepted a CMD8 or not, asked so many times whether it is ready, with an application command announced
+-- or not
+pub record IsIdle (accepted is_app : Bool) (times : ℕ) (card : Card) : Type 0 where
   pub state : card.state ≡ Idle
+  pub told : card.accepted_cmd8 ≡ accepted
   pub app : card.app ≡ is_app
   pub inquiries : card.inquiries ≡ times
 
--- a card with sector addresses was told that the host knows them
+-- a card with sector addresses has accepted CMD8, and is told that the host knows them
 abbrev pub CanStart : Made → Bool → Type 0
 CanStart made hcs = made.kind ≡ Sd → card_capacity_status made.ocr ≡ 1 → hcs ≡ true
 
--- one inquiry of a card that was asked so many times before
-abbrev pub Inquired : ℕ → Made → Result (Option ℕ) IdentFault → Card → Type 0
-Inquired times made (Ok None) new = (times < 8) × IsIdle false (times + 1) new
-Inquired times made (Ok (Some ocr)) new = (ocr ≡ ready_ocr made) × (new.state ≡ Ready)
-Inquired times made (Err fault) new = ⊥
+-- one inquiry of a card that was asked so many times before, and has accepted a CMD8 or not
+abbrev pub Inquired : Bool → ℕ → Made → Result (Option ℕ) IdentFault → Card → Type 0
+Inquired accepted times made (Ok None) new = (times < 8) × IsIdle accepted false (times + 1) new
+Inquired accepted times made (Ok (Some ocr)) new = (ocr ≡ ready_ocr made) × (new.state ≡ Ready)
+Inquired accepted times made (Err fault) new = ⊥
 
 -- the RCA by which the card goes: an eMMC device is assigned 1, and an SD card publishes any
 abbrev pub IsRcaOf : Made → ℕ → Type 0

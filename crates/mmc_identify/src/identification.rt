@@ -39,7 +39,7 @@ fn start<B: Bus>(bus: &mut B, hcs: bool) -> Result<(Kind, u32), IdentFault>
     ensures lines { (B.view bus.new).lines ≡ (B.view bus.old).lines }
     ensures moves { Moves
         (λ old new. IfOk result (λ told. (told.0 ≡ old.card.made.kind) × (told.1 ≡ ready_ocr old.card.made)))
-        (λ old new. InProfile old.card.made → CanStart old.card.made hcs → IsIdle false 0 old.card
+        (λ old new. InProfile old.card.made → CanStart old.card.made hcs → IsIdle hcs false 0 old.card
         → (result ≡ Ok (old.card.made.kind, ready_ocr old.card.made)) × (new.card.state ≡ Ready))
         (B.view bus.old) (B.view bus.new) }
 {

@@ -24,7 +24,7 @@ fn inquire<B: Bus>(bus: &mut B) -> Result<Option<u32>, IdentFault>
     ensures moves { Moves
         (λ old new. (ocr : ℕ) → result ≡ Ok (Some ocr) → (old.card.made.kind ≡ Mmc) × (ocr ≡ ready_ocr old.card.made))
         (λ old new. (times : ℕ) → InProfile old.card.made → old.card.made.kind ≡ Mmc
-        → IsIdle false times old.card → Inquired times old.card.made result new.card)
+        → IsIdle false false times old.card → Inquired false times old.card.made result new.card)
         (B.view bus.old) (B.view bus.new) }
 {
     identify_laws::cmd1_asks_an_emmc_device_whether_it_is_ready();
@@ -39,7 +39,7 @@ pub fn start<B: Bus>(bus: &mut B) -> Result<u32, IdentFault>
     ensures moves { Moves
         (λ old new. IfOk result (λ ocr. (old.card.made.kind ≡ Mmc) × (ocr ≡ ready_ocr old.card.made)))
         (λ old new. InProfile old.card.made → old.card.made.kind ≡ Mmc
-        → IsIdle false 0 old.card → (result ≡ Ok (ready_ocr old.card.made)) × (new.card.state ≡ Ready))
+        → IsIdle false false 0 old.card → (result ≡ Ok (ready_ocr old.card.made)) × (new.card.state ≡ Ready))
         (B.view bus.old) (B.view bus.new) }
 {
     for _inquiries in 0..MAX_INQUIRIES {

@@ -1,5 +1,5 @@
 // What identification does with SD cards (SD Physical Layer 6.00, section 4.2), one exchange or two a function.
-ghost use Rattle.std.specs.Prelude.{◌≡◌, ◌+◌, ◌≤◌, IfOk, IsOkAnd, Ok, Some, false, true, ℕ};
+ghost use Rattle.std.specs.Prelude.{◌≡◌, ◌+◌, ◌≤◌, Bool, IfOk, IsOkAnd, Ok, Some, false, true, ℕ};
 ghost use Rattle.mmc_frame.specs.declared.card_state.State.TheVariants.{Ident, Ready};
 ghost use Rattle.mmc_frame.specs.declared.kind.Kind.TheVariants.{Sd};
 ghost use Rattle.mmc_card.specs.Made.{is_sd};
@@ -34,7 +34,8 @@ pub fn probe<B: Bus>(bus: &mut B) -> Result<bool, IdentFault>
     ensures bounded { (B.view bus.new).exchanges ≤ (B.view bus.old).exchanges + 1 }
     ensures lines { (B.view bus.new).lines ≡ (B.view bus.old).lines }
     ensures moves { Moves (λ old new. Unit {0})
-        (λ old new. IsIdle false 0 old.card → (result ≡ Ok (echoes old.card.made)) × IsIdle false 0 new.card)
+        (λ old new. IsIdle false false 0 old.card
+        → (result ≡ Ok (echoes old.card.made)) × IsIdle (echoes old.card.made) false 0 new.card)
         (B.view bus.old) (B.view bus.new) }
 {
     identify_laws::cmd8_is_repeated_by_a_card_that_knows_it();
@@ -47,8 +48,8 @@ pub fn announce<B: Bus>(bus: &mut B) -> Result<bool, IdentFault>
     ensures bounded { (B.view bus.new).exchanges ≤ (B.view bus.old).exchanges + 1 }
     ensures lines { (B.view bus.new).lines ≡ (B.view bus.old).lines }
     ensures moves { Moves (λ old new. result ≡ Ok true → old.card.made.kind ≡ Sd)
-        (λ old new. (times : ℕ) → IsIdle false times old.card
-        → (result ≡ Ok (is_sd old.card.made.kind)) × IsIdle (is_sd old.card.made.kind) times new.card)
+        (λ old new. (accepted : Bool) (times : ℕ) → IsIdle accepted false times old.card
+        → (result ≡ Ok (is_sd old.card.made.kind)) × IsIdle accepted (is_sd old.card.made.kind) times new.card)
         (B.view bus.old) (B.view bus.new) }
 {
     identify_laws::cmd55_announces_an_application_command();
@@ -64,7 +65,7 @@ fn inquire<B: Bus>(bus: &mut B, hcs: bool) -> Result<Option<u32>, IdentFault>
     ensures moves { Moves
         (λ old new. (ocr : ℕ) → result ≡ Ok (Some ocr) → (old.card.made.kind ≡ Sd) × (ocr ≡ ready_ocr old.card.made))
         (λ old new. (times : ℕ) → InProfile old.card.made → CanStart old.card.made hcs → old.card.made.kind ≡ Sd
-        → IsIdle true times old.card → Inquired times old.card.made result new.card)
+        → IsIdle hcs true times old.card → Inquired hcs times old.card.made result new.card)
         (B.view bus.old) (B.view bus.new) }
 {
     identify_laws::acmd41_asks_an_sd_card_whether_it_is_ready();
@@ -79,7 +80,7 @@ fn inquire_again<B: Bus>(bus: &mut B, hcs: bool) -> Result<Option<u32>, IdentFau
     ensures moves { Moves
         (λ old new. (ocr : ℕ) → result ≡ Ok (Some ocr) → (old.card.made.kind ≡ Sd) × (ocr ≡ ready_ocr old.card.made))
         (λ old new. (times : ℕ) → InProfile old.card.made → CanStart old.card.made hcs → old.card.made.kind ≡ Sd
-        → IsIdle false times old.card → Inquired times old.card.made result new.card)
+        → IsIdle hcs false times old.card → Inquired hcs times old.card.made result new.card)
         (B.view bus.old) (B.view bus.new) }
 {
     if !announce(bus)? {
@@ -95,7 +96,7 @@ fn inquire_on<B: Bus>(bus: &mut B, hcs: bool) -> Result<u32, IdentFault>
     ensures moves { Moves
         (λ old new. IfOk result (λ ocr. (old.card.made.kind ≡ Sd) × (ocr ≡ ready_ocr old.card.made)))
         (λ old new. InProfile old.card.made → CanStart old.card.made hcs → old.card.made.kind ≡ Sd
-        → IsIdle false 1 old.card → (result ≡ Ok (ready_ocr old.card.made)) × (new.card.state ≡ Ready))
+        → IsIdle hcs false 1 old.card → (result ≡ Ok (ready_ocr old.card.made)) × (new.card.state ≡ Ready))
         (B.view bus.old) (B.view bus.new) }
 {
     for _inquiries in 1..MAX_INQUIRIES {
@@ -114,7 +115,7 @@ pub fn start<B: Bus>(bus: &mut B, hcs: bool) -> Result<u32, IdentFault>
     ensures moves { Moves
         (λ old new. IfOk result (λ ocr. (old.card.made.kind ≡ Sd) × (ocr ≡ ready_ocr old.card.made)))
         (λ old new. InProfile old.card.made → CanStart old.card.made hcs → old.card.made.kind ≡ Sd
-        → IsIdle true 0 old.card → (result ≡ Ok (ready_ocr old.card.made)) × (new.card.state ≡ Ready))
+        → IsIdle hcs true 0 old.card → (result ≡ Ok (ready_ocr old.card.made)) × (new.card.state ≡ Ready))
         (B.view bus.old) (B.view bus.new) }
 {
     match inquire(bus, hcs)? {

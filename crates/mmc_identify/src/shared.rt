@@ -16,7 +16,7 @@ use mmc_frame::commands::{ALL_SEND_CID, GO_IDLE_STATE, SELECT_CARD, SEND_CSD, SE
 pub fn go_idle<B: Bus>(bus: &mut B)
     ensures bounded { (B.view bus.new).exchanges ≤ (B.view bus.old).exchanges + 1 }
     ensures lines { (B.view bus.new).lines ≡ (B.view bus.old).lines }
-    ensures moves { Moves (λ old new. Unit {0}) (λ old new. IsIdle false 0 new.card) (B.view bus.old) (B.view bus.new) }
+    ensures moves { Moves (λ old new. Unit {0}) (λ old new. IsIdle false false 0 new.card) (B.view bus.old) (B.view bus.new) }
 {
     identify_laws::cmd0_resets_the_card();
     laws::no_command_but_erase_widens();

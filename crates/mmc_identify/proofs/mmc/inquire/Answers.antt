@@ -15,5 +15,5 @@ returns-clause-moves g c kept =
     let told = inquiry_own old c.ask_ocr.result new c.inquired.result c.inquired.ensures k.was_card inquires ocr ok in
     (told.0.0, told.1))
     (λ same times profile mmc idle.
-    inquiry_fine false times old c.ask_ocr.result new c.inquired.result c.inquired.ensures k.was_card inquires same
+    inquiry_fine false false times old c.ask_ocr.result new c.inquired.result c.inquired.ensures k.was_card inquires same
     (mmc, idle.state) tt profile idle)

@@ -12,7 +12,7 @@ returns-in_err-ocr-clause-moves g c kept =
     let new = g.B.Bus.view c.inquire.new.bus in
     let q = asks_mmc (Err c.in_err-ocr.field-0.0) now new (c.in_err-ocr.ensures.moves kept) in
     starts_mmc c.from_residual.result old new
-    (start_fails false Mmc true 0 c.loop-inquiries._inquiries c.from_residual.result c.in_err-ocr.field-0.0 old now new
+    (start_fails false Mmc false 0 c.loop-inquiries._inquiries c.from_residual.result c.in_err-ocr.field-0.0 old now new
     c.from_residual.ensures.0 (c.loop-inquiries.invariant.0 q.was_kept q.was_card) q)
 
 pub returns-in-Some-clause-moves : goal.returns-in-Some-clause-moves
@@ -23,7 +23,7 @@ returns-in-Some-clause-moves g c kept =
     let moves = rw c.in-Some.is at c.in_ok-ocr.ensures.moves in
     let q = asks_mmc (Ok (Some c.in-Some.ocr)) now new (moves kept) in
     starts_mmc (Ok c.in-Some.ocr) old new
-    (started false Mmc true 0 c.loop-inquiries._inquiries c.in-Some.ocr old now new
+    (started false Mmc false 0 c.loop-inquiries._inquiries c.in-Some.ocr old now new
     (c.loop-inquiries.invariant.0 q.was_kept q.was_card) q)
 
 pub loop-inquiries-preserved : goal.loop-inquiries-preserved
@@ -34,7 +34,7 @@ loop-inquiries-preserved g c =
     let moves = rw c.in-None.is at c.in_ok-ocr.ensures.moves in (
       λ kept card.
           let q = asks_mmc (Ok None) now new (moves kept) in
-          asked_on Mmc true 0 c.loop-inquiries._inquiries old now new
+          asked_on Mmc false 0 c.loop-inquiries._inquiries old now new
           (c.loop-inquiries.invariant.0 q.was_kept q.was_card) q,
       λ some kept. (moves kept).is_card,
       omega (arith, c.loop-inquiries.invariant.2, c.in_ok-ocr.ensures.bounded),
@@ -47,5 +47,5 @@ returns-clause-moves g c kept =
     let now = g.B.Bus.view c.loop-inquiries.bus in
     let card = c.loop-inquiries.invariant.1 (omega (arith, c.loop-inquiries-test.false)) kept in
     starts_mmc (Err NoAnswer) old now
-    (start_in_vain false Mmc true 0 c.loop-inquiries._inquiries (Err NoAnswer) old now refl
+    (start_in_vain false Mmc false 0 c.loop-inquiries._inquiries (Err NoAnswer) old now refl
     (omega (arith, c.loop-inquiries-test.false)) (c.loop-inquiries.invariant.0 kept card))

@@ -9,7 +9,7 @@ abbrev pub invariant-loop-inquiries : goal.invariant-loop-inquiries
 invariant-loop-inquiries g l =
     let old = g.B.Bus.view l.initial.bus in
     let now = g.B.Bus.view l.bus in
-    (now.is_kept ≡ true → IsCard now.card → Asking false Mmc true 0 l._inquiries old now)
+    (now.is_kept ≡ true → IsCard now.card → Asking false Mmc false 0 l._inquiries old now)
     × (0 < l._inquiries → now.is_kept ≡ true → IsCard now.card)
     × (now.exchanges ≤ old.exchanges + l._inquiries)
     × (now.lines ≡ old.lines)

@@ -15,5 +15,6 @@ returns-clause-moves g c kept =
     let told = inquiry_own old c.ask_ocr.result new c.inquired.result c.inquired.ensures k.was_card inquires ocr ok in
     (told.0.0, told.1))
     (λ same times profile can sd idle.
-    inquiry_fine true times old c.ask_ocr.result new c.inquired.result c.inquired.ensures k.was_card inquires same
-    (sd, idle.app, idle.state) (served c.args.hcs old.card c.window.result c.window.ensures (can sd)) profile idle)
+    inquiry_fine c.args.hcs true times old c.ask_ocr.result new c.inquired.result c.inquired.ensures k.was_card inquires same
+    (sd, idle.app, idle.state) (served c.args.hcs old.card c.window.result c.window.ensures (can sd) idle.told) profile
+    idle)
