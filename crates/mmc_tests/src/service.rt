@@ -1,4 +1,4 @@
-// How the device serves: turns, groups, attempts and cancellation, over cards in memory and over buses that lie.
+// How the device serves: turns, groups, attempts and cancellation, over cards in memory.
 use crate::cards::*;
 use crate::device::answered;
 use crate::transfer::filled;

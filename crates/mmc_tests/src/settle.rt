@@ -1,4 +1,4 @@
-// Settling cards in memory after a failure, with a second fault in it, and settling by a bus that lies.
+// Settling cards in memory after a failure, and settling by a bus that lies.
 use crate::cards::*;
 use crate::erase::given_up;
 use crate::select::selected;
