@@ -34,7 +34,7 @@ use Rattle.mmc_card.specs.declared.command.Command.TheVariants.{WriteBlock, Writ
 use Rattle.mmc_card.specs.Rows.{answered, command_of, is_foreign, is_legal, leaves_erase, reached, responded, row}
 use Rattle.mmc_card.specs.RowsErase.{erase_held, erases, erasing, forgotten, hold_first, hold_last, holds_address}
 use Rattle.mmc_card.specs.RowsErase.{is_no_range, is_trim}
-use Rattle.mmc_card.specs.RowsIdentify.{inquired, is_served}
+use Rattle.mmc_card.specs.RowsIdentify.{inquired, is_served, may_lag}
 use Rattle.mmc_card.specs.RowsSwitch.{ext_csd_now, switch_row, switched, timing_after}
 use Rattle.mmc_card.specs.RowsTransfer.{begun, preset, sending, stopped, transfer_errors, transferred}
 use Rattle.mmc_card.specs.Sectors.{Sector}
@@ -158,7 +158,11 @@ card_row choice SendIfCond c index argument l k = card_done c k
 card_row choice SendExtCsd c index argument l k = card_sending (ext_csd_now c) c.timing c (in_state c.state Tran l) k
 card_row choice SendCsd c index argument l k = card_done c k
 card_row choice StopTransmission c index argument l k = card_stopped choice.stays_busy c k l
-card_row choice SendStatus c index argument l k = card_shown c k
+card_row choice SendStatus c index argument l k =
+    first_by_cond IsBasic (may_lag c && choice.is_behind) _ _
+    (λ _. stays_card c _ k (like_shown c _ refl refl refl refl) refl refl refl refl refl refl refl (λ h. h)
+    (λ h. refl) (λ h. h))
+    (λ _. card_shown c k)
 card_row choice SetBlocklen c index argument l k =
     first_by_cond IsBasic (argument == 512) _ _
     (λ _. stays_card c _ k

@@ -30,7 +30,7 @@ use Rattle.mmc_card.specs.declared.command.Command.TheVariants.{WriteBlock, Writ
 use Rattle.mmc_card.specs.Rows.{answered, command_of, is_foreign, is_legal, leaves_erase, reached, responded, row}
 use Rattle.mmc_card.specs.RowsErase.{erase_held, erases, erasing, hold_first, hold_last, holds_address, is_no_range}
 use Rattle.mmc_card.specs.RowsErase.{is_trim}
-use Rattle.mmc_card.specs.RowsIdentify.{inquired, is_served}
+use Rattle.mmc_card.specs.RowsIdentify.{inquired, is_served, may_lag}
 use Rattle.mmc_card.specs.RowsSwitch.{access_switched, accessed, part_accessed, switch_row, switched, write_byte}
 use Rattle.mmc_card.specs.RowsTransfer.{begun, preset, stopped, transfer_errors, transferred}
 use Rattle.mmc_card.specs.Sectors.{Change, IsIn, Sector, Sets, Within, maybe_changed, part_number, touches, value_of}
@@ -279,7 +279,10 @@ widens_row choice SendIfCond c index argument = wide _ c _ (plain c _ refl refl 
 widens_row choice SendExtCsd c index argument = wide _ c _ (plain c _ refl refl refl)
 widens_row choice SendCsd c index argument = wide _ c _ (plain c _ refl refl refl)
 widens_row choice StopTransmission c index argument = wide _ c _ (keeps_stopped choice.stays_busy c)
-widens_row choice SendStatus c index argument = wide _ c _ (plain c _ refl refl refl)
+widens_row choice SendStatus c index argument =
+    wide _ c _
+    (first_by_cond (Keeps c) (may_lag c && choice.is_behind) _ _ (λ _. plain c _ refl refl refl)
+    (λ _. plain c _ refl refl refl))
 widens_row choice SetBlocklen c index argument =
     wide _ c _
     (first_by_cond (Keeps c) (argument == 512) _ _ (λ _. plain c _ refl refl refl) (λ _. plain c _ refl refl refl))
