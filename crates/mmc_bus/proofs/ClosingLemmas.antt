@@ -6,7 +6,7 @@ use Rattle.mmc_bus.proofs.PollLemmas.{Counts, polled_as}
 use Rattle.mmc_bus.proofs.WorkLemmas.{joined, narrows_then, quiet_parts, refuted, set_then, stays_same, stays_then, worked_as}
 use Rattle.mmc_bus.specs.CommandLaws.{TellsStatus}
 use Rattle.mmc_bus.specs.declared.host.Unheard.{Unheard}
-use Rattle.mmc_bus.specs.Closings.{Closes, ClosesSoon, HasShown}
+use Rattle.mmc_bus.specs.Closings.{Closes, ClosesSoon, CountsOn, HasShown}
 use Rattle.mmc_bus.specs.Learned.{Stays}
 use Rattle.mmc_bus.specs.Work.{Narrows, StaysSet, Worked}
 use Rattle.mmc_bus.specs.declared.cause.Cause.{Cause}
@@ -19,14 +19,14 @@ use Rattle.mmc_card.specs.Card.{Card, IsCard, is_in, is_selected}
 use Rattle.mmc_card.specs.CardAnswer.{Choice, counted, shown, status}
 use Rattle.mmc_card.specs.CardLaws.{HasNoError, IsInOrder}
 use Rattle.mmc_card.specs.Faults.{NoFault}
-use Rattle.mmc_card.specs.RowsIdentify.{at_work, lagging}
+use Rattle.mmc_card.specs.RowsIdentify.{at_work, lagging, may_lag}
 use Rattle.mmc_frame.specs.declared.card_state.State.TheVariants.{Prg, Tran}
 use Rattle.mmc_frame.specs.declared.kind.Kind.{Kind}
 use Rattle.mmc_frame.specs.Status.{IsAtWork, IsClean, error_bits}
 
 -- A closing status, by what it says.
 pub closes_by : (kind : Kind) (r : Result Closing Cause) (old new : Card)
-    → (r ≡ Ok Clean → IsInOrder kind old × (new ≡ shown old)) → (r ≡ Ok AtWork → HasNoError kind old × HasShown old new)
+    → (r ≡ Ok Clean → IsInOrder kind old × (new ≡ shown old)) → (r ≡ Ok AtWork → HasNoError kind old × HasShown old new × CountsOn old new)
     → Closes kind r old new
 closes_by kind (Ok Clean) old new clean work = clean refl
 closes_by kind (Ok AtWork) old new clean work = work refl
@@ -282,6 +282,14 @@ LagLaw =
 abbrev pub UncleanLaw : Type 0
 UncleanLaw = (kind : Kind) (choice : Choice) (card : Card) → IsClean kind (status false (at_work choice card)) → ⊥
 
+lagged : (old new : Card) → may_lag old ≡ true → new ≡ lagging old
+    → (old.lags ≡ true) × (old.polled < 8) × (new.polled ≡ old.polled + 1)
+lagged old new may e =
+    let soon = both old.lags _ (both (is_in old.state Tran) _ may).1 in
+    let below : old.polled < 8 = ltb-true old.polled 8 soon.1 in
+    let count : new.polled ≡ counted old.polled = ap (λ (c : Card). c.polled) e in
+    (soon.0, below, omega (arith, below, count))
+
 lagging_shown : (old new : Card) → new ≡ lagging old → HasShown old new
 lagging_shown old new e = subst (HasShown old) (sym e) refl
 
@@ -304,10 +312,12 @@ told_closing kind old new heard r k errors clean lag unclean tells is_clean is_w
       | inl itself ↦ (
         (errors kind false old k).0 (subst (λ told. error_bits kind told ≡ 0) itself.0 judged.2.no_error),
         as_shown old new itself.1,
+        λ still. cc (ap (λ (c : Card). c.lags) itself.1, still),
       )
       | inr lags ↦ (
         (lag kind lags.choice old k).0 (subst (IsAtWork kind) lags.told_is judged.2),
         lagging_shown old new lags.card,
+        λ still. lagged old new lags.may lags.card,
       )
     ])
 
@@ -321,23 +331,23 @@ told_soon kind old new heard r k clean lag unclean told is tells order all_clean
       | inl itself ↦ subst (λ r. ClosesSoon r old new)
           (sym (all_clean told is (subst (IsClean kind) (sym itself.0) ((clean kind false old k).1 order)))) tt
       | inr lags ↦
-          (let may = both (is_in old.state Tran) _ lags.may in
-          let soon = both old.lags _ may.1 in
-          let below : old.polled < 8 = ltb-true old.polled 8 soon.1 in
-          let count : new.polled ≡ counted old.polled = ap (λ (c : Card). c.polled) lags.card in
           subst (λ r. ClosesSoon r old new)
           (sym (all_work told is (λ c. unclean kind lags.choice old (subst (IsClean kind) lags.told_is c))
           (subst (IsAtWork kind) (sym lags.told_is) ((lag kind lags.choice old k).1 order.no_error))))
-          (soon.0, below, omega (arith, below, count)))
+          (lagged old new lags.may lags.card)
     ]
 
 -- One status that has to be clean.
 
+abbrev pub ConfirmsOnce : Kind → ℕ → Result Unit Cause → BusView → BusView → Type 0
+ConfirmsOnce kind rca r =
+    Worked Narrows
+    (λ old new. IsOk r → IsInOrder kind old.card × (new.card ≡ shown old.card))
+    (λ old new. IsInOrder kind old.card → old.card.app ≡ false → old.card.rca ≡ rca → old.card.lags ≡ false → IsOk r)
+
 pub asked_once : (kind : Kind) (rca : ℕ) (closing : Result Closing Cause) (r : Result Unit Cause) (a b : BusView)
     → (IsOk r → closing ≡ Ok Clean) → (closing ≡ Ok Clean → IsOk r) → Asks kind rca closing a b
-    → Worked Narrows
-    (λ old new. IsOk r → IsInOrder kind old.card × (new.card ≡ shown old.card))
-    (λ old new. IsInOrder kind old.card → old.card.app ≡ false → old.card.rca ≡ rca → old.card.lags ≡ false → IsOk r) a b
+    → ConfirmsOnce kind rca r a b
 asked_once kind rca closing r a b only all p =
     worked_as a b p p.sectors
     (λ ok. subst (λ c. Closes kind c a.card b.card) (only ok) p.own)

@@ -20,7 +20,7 @@ use Rattle.mmc_card.specs.RowsSwitch.{timing_after}
 use Rattle.mmc_bus.specs.declared.cause.Cause.{Cause}
 use Rattle.mmc_bus.specs.Learned.{Stays}
 use Rattle.mmc_bus.specs.Work.{Moved}
-use Rattle.mmc_bus.proofs.PollLemmas.{Confirms}
+use Rattle.mmc_bus.proofs.ClosingLemmas.{ConfirmsOnce}
 use Rattle.mmc_bus.proofs.WorkLemmas.{moved_as, moved_then, quiet_parts, refuted}
 use Rattle.mmc_switch.specs.Info.{timing_of, width_of}
 use Rattle.mmc_switch.specs.Stages.{IsSet, IsSetOver, first_setting, lines_of, told_of, user_setting}
@@ -369,15 +369,15 @@ timing_fails rca scr width cause r a b err p =
 
 -- a card at rest is confirmed without a fault
 confirmed_fine : (rca : ℕ) (width : Width) (timing : Timing) (r : Result Unit Cause) (a b : BusView)
-    → Confirms Sd rca r a b → NoFault a b → IsSet false (user_setting rca width timing 0) a → IsOk r
+    → ConfirmsOnce Sd rca r a b → NoFault a b → IsSet false (user_setting rca width timing 0) a → IsOk r
 confirmed_fine rca width timing r a b p same set =
     let rest = set.rest in
     p.fine same
     (record { no_error = no_error Sd false a.card rest; tran = rest.state; rests = rest.rests }) rest.app
-    (ap (λ (s : Setting). s.rca) set.is_set)
+    (ap (λ (s : Setting). s.rca) set.is_set) rest.up_to_date
 
 pub confirm_fails : (rca scr : ℕ) (width : Width) (timing : Timing) (cause : Cause) (r : Result Told Cause)
-    (a b c : BusView) → IsErr r → HasTiming rca scr width (Ok timing) a b → Confirms Sd rca (Err cause) b c
+    (a b c : BusView) → IsErr r → HasTiming rca scr width (Ok timing) a b → ConfirmsOnce Sd rca (Err cause) b c
     → SetsUp rca r a c
 confirm_fails rca scr width timing cause r a b c err p q =
     moved_then a b c p q (λ sd set. IfOk-from_err r _ err)
@@ -386,7 +386,7 @@ confirm_fails rca scr width timing cause r a b c err p q =
     (confirmed_fine rca width timing (Err cause) b c q (quiet_parts a b c p.stays q.stays same).1 (p.own sd set).2.1))
 
 pub set_up : (rca scr : ℕ) (width : Width) (timing : Timing) (a b c : BusView)
-    → HasTiming rca scr width (Ok timing) a b → Confirms Sd rca (Ok tt) b c
+    → HasTiming rca scr width (Ok timing) a b → ConfirmsOnce Sd rca (Ok tt) b c
     → SetsUp rca (Ok (record { scr = scr; width = width; timing = timing })) a c
 set_up rca scr width timing a b c p q =
     moved_then a b c p q
