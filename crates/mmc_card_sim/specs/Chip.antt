@@ -54,6 +54,7 @@ card_of chip =
       inquiries = chip.inquiries;
       is_busy = chip.is_busy;
       polled = chip.polled;
+      lags = chip.lags;
       sectors = parts_of chip.store;
       source = source_of chip.source;
       next = chip.next;
@@ -76,6 +77,9 @@ choice_of is_slow = record {
   early = 0;
   keeps_length = true;
   stays_busy = false;
+  is_behind = false;
+  shows_prg = false;
+  shows_ready = false;
 }
 
 -- at a command; the first so many inquiries are answered with not ready

@@ -72,6 +72,8 @@ pub struct Chip {
     pub inquiries: u8,
     pub is_busy: bool,
     pub polled: u8,
+    // Its programming has ended, and its statuses may lag behind.
+    pub lags: bool,
     // What it sends, its next sector, the blocks to come, of an uncounted transfer none, and a transfer of one block.
     pub source: Source,
     pub next: usize,
@@ -179,6 +181,7 @@ impl Chip {
             inquiries: 0,
             is_busy: false,
             polled: 0,
+            lags: false,
             source: Source::Sectors,
             next: 0,
             left: None,
@@ -251,6 +254,7 @@ impl Chip {
         self.is_app = false;
         self.count = 0;
         self.command_errors = 0;
+        self.lags = false;
     }
 
     /// A command that isn't carried out.

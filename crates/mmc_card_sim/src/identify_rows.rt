@@ -54,6 +54,7 @@ impl Chip {
         self.inquiries = 0;
         self.is_busy = false;
         self.polled = 0;
+        self.lags = false;
         self.source = Source::Sectors;
         self.next = 0;
         self.left = None;
