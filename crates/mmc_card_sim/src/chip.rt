@@ -15,7 +15,6 @@ use crate::store::Store;
 use arrayvec::ArrayVec;
 use bitflags::Flags;
 use mmc_card::{Command, Part, Timing, Width, is_addressed, leaves_erase};
-use mmc_frame::commands::SEND_STATUS;
 use mmc_frame::{Kind, State, Status, read_command};
 
 // CURRENT_STATE in a status, from bit 9 on.
@@ -333,7 +332,7 @@ impl Chip {
             Command::SendExtCsd => self.send_ext_csd(),
             Command::SendCsd => self.send_csd(),
             Command::StopTransmission => self.stop_transmission(delays),
-            Command::SendStatus => self.respond_status(SEND_STATUS, false),
+            Command::SendStatus => self.send_status(delays),
             Command::SetBlocklen => self.set_blocklen(argument),
             Command::ReadSingleBlock => self.read_single_block(argument),
             Command::ReadMultipleBlock => self.read_multiple_block(argument),
