@@ -1,3 +1,4 @@
+pub mod ClosingLemmas
 pub mod CommandLemmas
 pub mod ExchangeLines
 pub mod Hear

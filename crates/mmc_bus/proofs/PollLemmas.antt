@@ -1,13 +1,13 @@
 -- What polls in a row leave.
 use Rattle.std.proofs.Common.{◌+◌, ◌<◌, ◌∙◌, ◌≡◌, ◌≤◌, Bool, add-one, ap, arith, false, refl, subst, suc, sym, true}
 use Rattle.std.proofs.Common.{zero, ℕ}
-use Rattle.std.specs.Prelude.{IsErr, IsOk, Result}
+use Rattle.std.specs.Prelude.{Err, IsOk, IsOkAnd, Ok, Result, is_ok}
 use Rattle.mmc_frame.specs.declared.kind.Kind.{Kind}
 use Rattle.mmc_bus.specs.declared.cause.Cause.{Cause}
 use Rattle.mmc_card.specs.CardAnswer.{counted, shown}
 use Rattle.mmc_card.specs.CardLaws.{IsInOrder}
 use Rattle.mmc_bus.proofs.WorkLemmas.{joined, narrows_then, quiet_parts, refuted, set_then, stays_same, stays_then, worked_as}
-use Rattle.mmc_card.specs.Blocks.{rested}
+use Rattle.mmc_card.specs.Blocks.{HasRested, rested}
 use Rattle.mmc_card.specs.Card.{Card, IsCard, is_selected}
 use Rattle.mmc_bus.specs.Exchanges.{Kept}
 use Rattle.mmc_card.specs.Faults.{NoFault}
@@ -88,38 +88,45 @@ polling_yes old polls now new p lines k =
           omega (arith, below, count, all);
     }
 
-pub rested_same : (old : BusView) (polls : ℕ) (now : BusView) → Polling old polls now
-    → rested now.card ≡ rested old.card
-rested_same old polls now p = ap rested p.card
+-- What polls in a row tell, by how many were answered yes before a no.
+abbrev pub Counts : Result ℕ Cause → BusView → BusView → Type 0
+Counts r =
+    Worked Narrows
+    (λ old new. IsOk r → is_selected new.card.state ≡ true → new.card.errors ≡ 0 → HasRested old.card new.card)
+    (λ old new. old.card.polled ≡ 0
+    → IsOkAnd r (λ polls. (polls ≤ 8) × (new.card ≡ rested (record old.card { polled = polls }))))
 
 -- the next poll is answered no
-pub polled_no : {Done : Type 0} (old : BusView) (polls : ℕ) (now new : BusView) → Polling old polls now
-    → new.lines ≡ now.lines
-    → Kept now (PollFacts now false new) new → Done
-    → Worked Narrows
-    (λ old new. Done → is_selected new.card.state ≡ true → new.card.errors ≡ 0 → new.card ≡ rested old.card)
-    (λ old new. old.card.polled ≡ 0 → Done × (new.card ≡ rested old.card)) old new
-polled_no old polls now new p lines k done = record {
+rests_now : (old : BusView) (polls : ℕ) (now : BusView) → Polling old polls now
+    → rested now.card ≡ rested (polled_as old.card (counted_up polls old.card.polled))
+rests_now old polls now p = ap rested p.card
+
+pub polled_no : {count : ℕ} (old : BusView) (polls : ℕ) (now new : BusView) → Polling old polls now
+    → new.lines ≡ now.lines → count ≡ polls
+    → Kept now (PollFacts now false new) new → Counts (Ok count) old new
+polled_no old polls now new p lines is k = record {
   was_kept = p.was_kept;
   was_card = was_card old polls now p k.was_card;
   is_card = k.is_card;
   stays = stays_then old now new p.stays k.step.stays;
   set = set_then old now new p.set (poll_set now false new lines k.step);
   sectors = narrows_then old now new p.narrows k.step.narrows;
-  own = λ done up none. k.step.shown refl up none ∙ rested_same old polls now p;
-  fine = λ same zero. (
-    done,
-    k.step.fine (quiet_parts old now new p.stays k.step.stays same).1 refl
-        ∙ rested_same old polls now p,
-  );
+  own = λ ok up none. (counted_up polls old.card.polled, k.step.shown refl up none ∙ rests_now old polls now p);
+  fine = λ same zero.
+      let parts = quiet_parts old now new p.stays k.step.stays same in
+      let few = p.few parts.0 zero in
+      let all : counted_up polls old.card.polled ≡ polls = ap (counted_up polls) zero ∙ all_counted polls few in (
+        omega (arith, few, is),
+        k.step.fine parts.1 refl ∙ rests_now old polls now p ∙ ap (λ n. rested (polled_as old.card n)) (all ∙ sym is),
+      );
 }
 
 -- a no of a card that can't have failed
 pub calm_no : (old : BusView) (polls : ℕ) (now new : BusView) → Polling old polls now
     → Kept now (PollFacts now false new) new → is_selected new.card.state ≡ true → may_fail old.card ≡ false
-    → new.card ≡ rested old.card
+    → HasRested old.card new.card
 calm_no old polls now new p k up quiet =
-    k.step.calm refl up (ap may_fail p.card ∙ quiet) ∙ rested_same old polls now p
+    (counted_up polls old.card.polled, k.step.calm refl up (ap may_fail p.card ∙ quiet) ∙ rests_now old polls now p)
 
 -- so many times yes don't come without a fault
 pub polled_out : {Own Fine : BusView → BusView → Type 0} (old : BusView) (polls : ℕ) (now : BusView)
@@ -138,45 +145,21 @@ polled_out old polls now p many own =
       fine = λ same zero. absurd (omega (arith, p.few same zero, many));
     }
 
--- Polls, and a status behind them.
 
-abbrev pub Waits : Result Unit Cause → BusView → BusView → Type 0
-Waits r =
-    Worked Narrows
-    (λ old new. IsOk r → is_selected new.card.state ≡ true → new.card.errors ≡ 0 → new.card ≡ rested old.card)
-    (λ old new. old.card.polled ≡ 0 → IsOk r × (new.card ≡ rested old.card))
+-- polls whose number isn't wanted
+rested_all : (counts : Result ℕ Cause) (old new : Card)
+    → IsOkAnd counts (λ polls. (polls ≤ 8) × (new ≡ rested (record old { polled = polls })))
+    → IsOk counts × HasRested old new
+rested_all (Ok polls) old new told = (refl, (polls, told.1))
+rested_all (Err cause) old new told = absurd told
 
-abbrev pub Confirms : Kind → ℕ → Result Unit Cause → BusView → BusView → Type 0
-Confirms kind rca r =
-    Worked Narrows
-    (λ old new. IsOk r → IsInOrder kind old.card × (new.card ≡ shown old.card))
-    (λ old new. IsInOrder kind old.card → old.card.app ≡ false → old.card.rca ≡ rca → IsOk r)
-
-abbrev pub Ended : Kind → ℕ → Result Unit Cause → BusView → BusView → Type 0
-Ended kind rca r =
-    Worked Narrows
-    (λ old new. IsOk r → IsInOrder kind (rested old.card) × (new.card ≡ shown (rested old.card)))
-    (λ old new. old.card.polled ≡ 0 → IsInOrder kind (rested old.card) → (rested old.card).app ≡ false
-    → (rested old.card).rca ≡ rca → IsOk r)
-
--- the polls fail
-pub wait_fails : (kind : Kind) (rca : ℕ) (polls r : Result Unit Cause) (a b : BusView)
-    → IsErr polls → IsErr r → Waits polls a b → Ended kind rca r a b
-wait_fails kind rca polls r a b not err p =
-    worked_as a b p p.sectors (λ ok. refuted r err ok)
-    (λ same zero order app is. refuted polls not (p.fine same zero).0)
-
--- a clean status tells that the poll before it was answered truly
-pub ended : (kind : Kind) (rca : ℕ) (polls r : Result Unit Cause) (a b c : BusView)
-    → IsOk polls → Waits polls a b → Confirms kind rca r b c → Ended kind rca r a c
-ended kind rca polls r a b c ok p q =
-    joined a b c p q (narrows_then a b c p.sectors q.sectors)
-    (λ confirmed.
-    let told = q.own confirmed in
-    let was = p.own ok (ap is_selected told.0.tran) told.0.no_error.errors in
-    (subst (IsInOrder kind) was told.0, told.1 ∙ ap shown was))
-    (λ same zero order app is.
-    let parts = quiet_parts a b c p.stays q.stays same in
-    let was = (p.fine parts.0 zero).1 in
-    q.fine parts.1 (subst (IsInOrder kind) (sym was) order) (ap (λ (x : Card). x.app) was ∙ app)
-    (ap (λ (x : Card). x.rca) was ∙ is))
+pub waited_out : (counts : Result ℕ Cause) (r : Result Unit Cause) (a b : BusView) → is_ok r ≡ is_ok counts
+    → Counts counts a b
+    → Worked Narrows
+    (λ old new. IsOk r → is_selected new.card.state ≡ true → new.card.errors ≡ 0 → HasRested old.card new.card)
+    (λ old new. old.card.polled ≡ 0 → IsOk r × HasRested old.card new.card) a b
+waited_out counts r a b same p =
+    worked_as a b p p.sectors (λ ok. p.own (sym same ∙ ok))
+    (λ quiet zero.
+    let told = rested_all counts a.card b.card (p.fine quiet zero) in
+    (same ∙ told.0, told.1))

@@ -27,12 +27,12 @@ use Rattle.mmc_card.specs.Made.{HasRegisters}
 use Rattle.mmc_card.specs.declared.command.Command.{Command}
 use Rattle.mmc_card.specs.declared.command.Command.TheVariants.{SdSendOpCond, AllSendCid, Erase, EraseEnd, EraseStart}
 use Rattle.mmc_card.specs.declared.command.Command.TheVariants.{GoIdleState, ReadMultipleBlock, ReadSingleBlock}
-use Rattle.mmc_card.specs.declared.command.Command.TheVariants.{SendCsd, SendIfCond, SendOpCond, SetBlocklen, Switch}
-use Rattle.mmc_card.specs.declared.command.Command.TheVariants.{Unknown, WriteBlock, WriteMultipleBlock}
+use Rattle.mmc_card.specs.declared.command.Command.TheVariants.{SendCsd, SendIfCond, SendOpCond, SendStatus, SetBlocklen}
+use Rattle.mmc_card.specs.declared.command.Command.TheVariants.{Switch, Unknown, WriteBlock, WriteMultipleBlock}
 use Rattle.mmc_card.specs.Rows.{command_of, is_foreign, is_legal, reached, responded, row}
 use Rattle.mmc_card.specs.RowsErase.{erase_held, erases, erasing, forgotten, hold_first, hold_last, is_no_range}
 use Rattle.mmc_card.specs.RowsErase.{is_trim}
-use Rattle.mmc_card.specs.RowsIdentify.{inquired, is_served}
+use Rattle.mmc_card.specs.RowsIdentify.{at_work, inquired, is_served, lagging, may_lag}
 use Rattle.mmc_card.specs.RowsSwitch.{switch_row, switched}
 use Rattle.mmc_card.specs.RowsTransfer.{transfer_errors, transferred}
 
@@ -106,6 +106,9 @@ row_answer choice AllSendCid c index argument r = record { size = r.cid; check =
 row_answer choice SendCsd c index argument r = record { size = r.csd; check = r.csd_check; end_bit = r.csd_end }
 row_answer choice SendIfCond c index argument r = by_cond (IsAnswerTo SendIfCond)
     (field 11 8 argument == 1) {x = Checked 8 (field 11 0 argument)} {y = Silent} (λ _. refl) (λ _. tt)
+row_answer choice SendStatus c index argument r =
+    answer_cond SendStatus (may_lag c && choice.is_behind) (lagging c, Checked 13 (status false (at_work choice c)))
+    (shown c, Checked 13 (status false c)) refl refl
 row_answer choice SetBlocklen c index argument r =
     answer_cond SetBlocklen (argument == 512) (record (shown c) { block_length = 512 }, Checked 16 (status false c))
     (shown c, Checked 16 (status false (raised block_len_error c))) refl refl

@@ -1,5 +1,6 @@
 pub mod BlockLaws
 pub mod Bytes
+pub mod Closings
 pub mod CommandLaws
 pub mod ExchangeText
 pub mod Exchanges

@@ -9,7 +9,7 @@ ghost use Rattle.mmc_frame.specs.declared.commands.TheConstants as Index;
 ghost use Rattle.mmc_bus.specs.declared.host.Unheard.{Unheard};
 ghost use Rattle.mmc_card.specs.CardAnswer.{busied, done, r6_argument, refused, reset, shown, status};
 ghost use Rattle.mmc_card.specs.Card.{IsCard, is_identified};
-ghost use Rattle.mmc_bus.specs.CommandLaws.{Does, Inquires, IsUnheard, Names, Responded};
+ghost use Rattle.mmc_bus.specs.CommandLaws.{Does, DoesOne, Inquires, IsUnheard, Names, Responded, TellsStatus};
 ghost use Rattle.mmc_card.specs.Faults.{NoFault};
 ghost use Rattle.mmc_bus.specs.Heard.{nothing_of, ocr_of, register_of};
 ghost use Rattle.mmc_bus.specs.Learned.{CommandFacts};
@@ -108,12 +108,13 @@ pub fn cmd9_tells_the_csd()
     laws::register_comes_back();
 }
 
-/// CMD13, SEND_STATUS: an identified card tells its status, and holds no error after it.
+/// CMD13, SEND_STATUS: an identified card tells its status, which behind its programming may lag, and holds no error after
+/// it.
 pub fn cmd13_tells_the_status()
     ensures { (old new : BusView) (argument : ℕ) (heard : Result ℕ Unheard)
         → Responded Index.SEND_STATUS old argument heard new
-        → Does ((is_identified old.card.state ≡ true) × (old.card.app ≡ false) × Names argument old.card)
-        (status false old.card) (shown old.card) old heard new }
+        → DoesOne ((is_identified old.card.state ≡ true) × (old.card.app ≡ false) × Names argument old.card)
+        (TellsStatus old.card) old heard new }
 {}
 
 /// ACMD41, SD_SEND_OP_COND: a card in idle tells its OCR, and says to a host that serves it at most eight times that it

@@ -1,23 +1,26 @@
 // Judging a card by its status.
-ghost use Rattle.std.specs.Prelude.{◌≡◌, ◌*◌, ◌+◌, ◌^◌, Err, IfErr, IsOk, Ok, false, ℕ};
+ghost use Rattle.std.specs.Prelude.{◌≡◌, ◌*◌, ◌+◌, ◌<◌, ◌^◌, Err, IfErr, IsOk, Ok, Some, false, ℕ};
 ghost use Rattle.mmc_frame.specs.Field.{field};
-ghost use Rattle.mmc_frame.specs.Status.{IsClean, error_bits};
+ghost use Rattle.mmc_frame.specs.Status.{IsAtWork, IsClean, error_bits};
 ghost use Rattle.mmc_card.specs.Blocks.{rested};
 ghost use Rattle.mmc_card.specs.CardAnswer.{shown};
 ghost use Rattle.mmc_card.specs.CardLaws.{IsInOrder};
-ghost use Rattle.mmc_bus.specs.Heard.{cause_of_response};
+ghost use Rattle.mmc_bus.specs.Closings.{Closes, ClosesSoon};
+ghost use Rattle.mmc_bus.specs.Heard.{cause_of, cause_of_response};
 ghost use Rattle.mmc_bus.specs.Work.{Ends, Narrows, Works};
+ghost use Rattle.mmc_bus.specs.declared.cause.Cause.TheVariants.{Status};
+ghost use Rattle.mmc_bus.specs.declared.status.Closing.TheVariants.{AtWork, Clean};
 ghost use Rattle.mmc_bus.specs.declared.wait.TheConstants.{MAX_POLLS};
 
 use crate::bus::Bus;
 use crate::cause::Cause;
 use crate::host::{Unheard, ask};
 use crate::identify_laws;
-use crate::wait::wait_while_busy;
+use crate::wait::{MAX_POLLS, count_polls};
 use bitflags::Flags;
 use mmc_card::card_laws;
 use mmc_frame::commands::SEND_STATUS;
-use mmc_frame::{Kind, errors, is_clean};
+use mmc_frame::{Kind, errors, is_at_work, is_clean};
 
 /// Judges an R1: a status without an error (SD Physical Layer 6.00, section 4.10.1; JESD84-B51, section 6.13).
 ///
@@ -36,18 +39,51 @@ pub fn check_r1(kind: Kind, heard: Result<u32, Unheard>) -> Result<(), Cause>
     }
 }
 
-// Judges the R1 of a closing CMD13: a clean status.
-fn check_clean(kind: Kind, heard: Result<u32, Unheard>) -> Result<(), Cause>
-    ensures ok { IsOk result → (status : ℕ) × (heard ≡ Ok status) × IsClean kind status }
-    ensures all { (status : ℕ) → heard ≡ Ok status → IsClean kind status → IsOk result }
+/// What a closing status without an error says.
+#[derive(Clone, Copy, Debug, PartialEq, Eq)]
+pub enum Closing {
+    /// The card is in tran, and ready for data.
+    Clean,
+    /// It is in prg, or in tran and not ready for data: not yet.
+    AtWork,
+}
+
+// Judges the R1 of a closing CMD13: a clean status, or one that shows the card still at work.
+fn check_closing(kind: Kind, heard: Result<u32, Unheard>) -> Result<Closing, Cause>
+    ensures clean { result ≡ Ok Clean → (status : ℕ) × (heard ≡ Ok status) × IsClean kind status }
+    ensures at_work { result ≡ Ok AtWork → (status : ℕ) × (heard ≡ Ok status) × IsAtWork kind status }
+    ensures all_clean { (status : ℕ) → heard ≡ Ok status → IsClean kind status → result ≡ Ok Clean }
+    ensures all_at_work { (status : ℕ) → heard ≡ Ok status → (IsClean kind status → ⊥) → IsAtWork kind status
+        → result ≡ Ok AtWork }
     ensures cause { IfErr result (λ cause. cause ≡ cause_of_response heard) }
 {
     let status = heard.map_err(|_| Cause::Answer)?;
     if is_clean(kind, status) {
-        Ok(())
+        Ok(Closing::Clean)
+    } else if is_at_work(kind, status) {
+        Ok(Closing::AtWork)
     } else {
         Err(Cause::Status)
     }
+}
+
+/// Asks the card with this RCA for its status (CMD13), which has to show no error, and the state tran and that it is ready
+/// for data, or prg or that it isn't ready yet.
+///
+/// # Errors
+/// `Answer` where no sound response was heard, `Status` where it shows anything else.
+pub fn ask_closing<B: Bus>(bus: &mut B, kind: Kind, rca: u16) -> Result<Closing, Cause>
+    ensures ends { Ends 1 (B.view bus.old) result (B.view bus.new) }
+    ensures at_work { result ≡ Ok AtWork → cause_of (B.view bus.new).last ≡ Some Status }
+    ensures works { Works Narrows
+        (λ old new. Closes kind result old.card new.card)
+        (λ old new. IsInOrder kind old.card → old.card.app ≡ false → old.card.rca ≡ rca
+        → ClosesSoon result old.card new.card)
+        (B.view bus.old) (B.view bus.new) }
+{
+    identify_laws::cmd13_tells_the_status();
+    card_laws::a_status_tells_of_its_card();
+    check_closing(kind, ask(bus, SEND_STATUS, rca_argument(rca)))
 }
 
 /// Asks the card with this RCA for its status (CMD13), which has to be clean: no error, tran, and ready for data.
@@ -58,29 +94,53 @@ pub fn confirm<B: Bus>(bus: &mut B, kind: Kind, rca: u16) -> Result<(), Cause>
     ensures ends { Ends 1 (B.view bus.old) result (B.view bus.new) }
     ensures works { Works Narrows
         (λ old new. IsOk result → IsInOrder kind old.card × (new.card ≡ shown old.card))
-        (λ old new. IsInOrder kind old.card → old.card.app ≡ false → old.card.rca ≡ rca → IsOk result)
+        (λ old new. IsInOrder kind old.card → old.card.app ≡ false → old.card.rca ≡ rca → old.card.lags ≡ false
+        → IsOk result)
         (B.view bus.old) (B.view bus.new) }
 {
-    identify_laws::cmd13_tells_the_status();
-    card_laws::a_status_tells_of_its_card();
-    check_clean(kind, ask(bus, SEND_STATUS, rca_argument(rca)))
+    match ask_closing(bus, kind, rca)? {
+        Closing::Clean => Ok(()),
+        Closing::AtWork => Err(Cause::Status),
+    }
+}
+
+// Asks for a clean status, at most so many times while the card is at work.
+fn confirm_within<B: Bus>(bus: &mut B, kind: Kind, rca: u16, most: u64) -> Result<(), Cause>
+    requires { 0 < most }
+    ensures ends { Ends most (B.view bus.old) result (B.view bus.new) }
+    ensures works { Works Narrows
+        (λ old new. IsOk result → IsInOrder kind old.card
+        × (new.card ≡ record (shown old.card) { polled = new.card.polled }))
+        (λ old new. IsInOrder kind old.card → old.card.app ≡ false → old.card.rca ≡ rca → 8 < old.card.polled + most
+        → IsOk result)
+        (B.view bus.old) (B.view bus.new) }
+{
+    for _statuses in 0..most {
+        match ask_closing(bus, kind, rca)? {
+            Closing::Clean => return Ok(()),
+            Closing::AtWork => {}
+        }
+    }
+    Err(Cause::Status)
 }
 
 /// Waits until the card with this RCA isn't busy, and asks for its status, which has to be clean: that alone tells that
-/// what made it busy has ended well.
+/// what made it busy has ended well. Behind the last poll a status may still show the card at work; it is asked again, so
+/// that polls and statuses together say at most `MAX_POLLS` times that it is.
 ///
 /// # Errors
 /// `Busy` where it still is at the last poll, otherwise as `confirm`.
 pub fn wait_and_confirm<B: Bus>(bus: &mut B, kind: Kind, rca: u16) -> Result<(), Cause>
     ensures ends { Ends (MAX_POLLS + 1) (B.view bus.old) result (B.view bus.new) }
     ensures works { Works Narrows
-        (λ old new. IsOk result → IsInOrder kind (rested old.card) × (new.card ≡ shown (rested old.card)))
+        (λ old new. IsOk result → IsInOrder kind (rested old.card)
+        × (new.card ≡ record (shown (rested old.card)) { polled = new.card.polled }))
         (λ old new. old.card.polled ≡ 0 → IsInOrder kind (rested old.card) → (rested old.card).app ≡ false
         → (rested old.card).rca ≡ rca → IsOk result)
         (B.view bus.old) (B.view bus.new) }
 {
-    wait_while_busy(bus)?;
-    confirm(bus, kind, rca)
+    let polls = count_polls(bus)?;
+    confirm_within(bus, kind, rca, MAX_POLLS - polls)
 }
 
 /// The argument that names a card: its RCA in bits 31 to 16.

@@ -16,7 +16,7 @@ use Rattle.mmc_card.proofs.Cards.{like_done, like_same, like_shown, stays_card}
 use Rattle.mmc_card.proofs.Conditions.{along, by_cond, first_by_cond}
 use Rattle.mmc_card.proofs.Narrow.{AreSwitched, accepts_in_rcv, both, may_switch, sends_data}
 use Rattle.mmc_card.proofs.Steps.{after_command, after_write, after_poll, after_read}
-use Rattle.mmc_card.specs.CardAnswer.{Choice, busied, raised, shown}
+use Rattle.mmc_card.specs.CardAnswer.{Choice, raised}
 use Rattle.mmc_card.specs.Blocks.{accepted, end_errors, is_last, rejected, sent_from}
 use Rattle.mmc_card.specs.Card.{AreAmong, AreBlocks, Both, Card, First, FromBytes, FromSectors, Held, IsBlock}
 use Rattle.mmc_card.specs.Card.{NoAddress, Source, is_in, is_selected, is_writing}
@@ -34,7 +34,7 @@ use Rattle.mmc_card.specs.declared.command.Command.TheVariants.{WriteBlock, Writ
 use Rattle.mmc_card.specs.Rows.{answered, command_of, is_foreign, is_legal, leaves_erase, reached, responded, row}
 use Rattle.mmc_card.specs.RowsErase.{erase_held, erases, erasing, forgotten, hold_first, hold_last, holds_address}
 use Rattle.mmc_card.specs.RowsErase.{is_no_range, is_trim}
-use Rattle.mmc_card.specs.RowsIdentify.{inquired, is_served}
+use Rattle.mmc_card.specs.RowsIdentify.{inquired, is_served, may_lag}
 use Rattle.mmc_card.specs.RowsSwitch.{ext_csd_now, switch_row, switch_source, switched, timing_after}
 use Rattle.mmc_card.specs.RowsTransfer.{begun, preset, sending_from, transfer_errors, transferred, sending}
 use Rattle.mmc_card.specs.RowsTransfer.{stopped}
@@ -159,7 +159,11 @@ card_row choice SendIfCond c index argument l k = card_told _ c k
 card_row choice SendExtCsd c index argument l k = card_sending (FromBytes (ext_csd_now c) c.timing) c (in_state c.state Tran l) k
 card_row choice SendCsd c index argument l k = card_done c k
 card_row choice StopTransmission c index argument l k = card_stopped choice.stays_busy c k l
-card_row choice SendStatus c index argument l k = card_shown c k
+card_row choice SendStatus c index argument l k =
+    first_by_cond IsBasic (may_lag c && choice.is_behind) _ _
+    (λ _. stays_card c _ k (like_shown c _ refl refl refl refl) refl refl refl refl refl refl refl (λ h. h)
+    (λ h. refl) (λ h. h))
+    (λ _. card_shown c k)
 card_row choice SetBlocklen c index argument l k =
     first_by_cond IsBasic (argument == 512) _ _
     (λ _. stays_card c _ k

@@ -2,10 +2,10 @@
 -- an erase erases.
 use Rattle.std.proofs.Common.{◌&&◌, ◌*◌, ◌++◌, ◌+◌, ◌-◌, ◌∙◌, ◌∷◌, ◌≡◌, Bool, List, [], ap, arith, cond, false, inl}
 use Rattle.std.proofs.Common.{inr, length, not, refl, subst, true, ℕ, ◌≤◌}
-use Rattle.std.specs.Prelude.{◌==◌, None, Option, Some, if◌then◌else◌, slice_index_or}
+use Rattle.std.specs.Prelude.{◌==◌, None, Option, Some, slice_index_or}
 use Rattle.mmc_frame.specs.Field.{field}
 use Rattle.mmc_frame.specs.declared.card_state.State.{State}
-use Rattle.mmc_frame.specs.declared.card_state.State.TheVariants.{Data, Prg, Rcv, Tran}
+use Rattle.mmc_frame.specs.declared.card_state.State.TheVariants.{Data, Prg, Rcv}
 use Rattle.mmc_ext_csd.specs.ExtCsd.{high_speed_at_52_mhz, partition_config}
 use Rattle.mmc_card.specs.declared.exchange.Lines.{Lines}
 use Rattle.mmc_card.specs.declared.part.Part.{Part}
@@ -13,7 +13,7 @@ use Rattle.mmc_card.proofs.Conditions.{by_cond, first_by_cond}
 use Rattle.mmc_card.proofs.Landing.{at_snoc, landed_size, landed_within, snoc_length}
 use Rattle.mmc_card.proofs.SectorLemmas.{by_touch, cond_in_new, cond_in_old, in_cond, maybe_within, old_maybe}
 use Rattle.mmc_card.proofs.SectorLemmas.{same_part, touched_by, untouched, within_same}
-use Rattle.mmc_card.specs.CardAnswer.{Choice, busied, garbled, raised, refused, reset, shown}
+use Rattle.mmc_card.specs.CardAnswer.{Choice, garbled, raised, refused, reset}
 use Rattle.mmc_card.specs.Blocks.{accepted, can_send, can_accept, fallen_short, programmed, rejected, rested, sent_from}
 use Rattle.mmc_card.specs.Blocks.{waited}
 use Rattle.mmc_card.specs.Card.{Both, Card, First, FromBytes, FromSectors, Held, NoAddress, Source, at_sector, holds}
@@ -30,7 +30,7 @@ use Rattle.mmc_card.specs.declared.command.Command.TheVariants.{WriteBlock, Writ
 use Rattle.mmc_card.specs.Rows.{answered, command_of, is_foreign, is_legal, leaves_erase, reached, responded, row}
 use Rattle.mmc_card.specs.RowsErase.{erase_held, erases, erasing, hold_first, hold_last, holds_address, is_no_range}
 use Rattle.mmc_card.specs.RowsErase.{is_trim}
-use Rattle.mmc_card.specs.RowsIdentify.{inquired, is_served}
+use Rattle.mmc_card.specs.RowsIdentify.{inquired, is_served, may_lag}
 use Rattle.mmc_card.specs.RowsSwitch.{access_switched, accessed, part_accessed, switch_row, switched, write_byte}
 use Rattle.mmc_card.specs.RowsTransfer.{begun, preset, stopped, transfer_errors, transferred}
 use Rattle.mmc_card.specs.Sectors.{Change, IsIn, Sector, Sets, Within, maybe_changed, part_number, touches, value_of}
@@ -284,7 +284,10 @@ widens_row choice SendIfCond c index argument = wide _ c _ (plain c _ refl refl 
 widens_row choice SendExtCsd c index argument = wide _ c _ (plain c _ refl refl refl)
 widens_row choice SendCsd c index argument = wide _ c _ (plain c _ refl refl refl)
 widens_row choice StopTransmission c index argument = wide _ c _ (keeps_stopped choice.stays_busy c)
-widens_row choice SendStatus c index argument = wide _ c _ (plain c _ refl refl refl)
+widens_row choice SendStatus c index argument =
+    wide _ c _
+    (first_by_cond (Keeps c) (may_lag c && choice.is_behind) _ _ (λ _. plain c _ refl refl refl)
+    (λ _. plain c _ refl refl refl))
 widens_row choice SetBlocklen c index argument =
     wide _ c _
     (first_by_cond (Keeps c) (argument == 512) _ _ (λ _. plain c _ refl refl refl) (λ _. plain c _ refl refl refl))

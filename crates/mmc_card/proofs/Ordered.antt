@@ -26,7 +26,7 @@ use Rattle.mmc_card.specs.Rows.{answered, command_of, is_foreign, is_legal, leav
 use Rattle.mmc_card.specs.Rows.{without_addresses}
 use Rattle.mmc_card.specs.RowsErase.{erase_held, erases, erasing, forgotten, hold_first, hold_last, holds_address}
 use Rattle.mmc_card.specs.RowsErase.{is_no_range, is_trim}
-use Rattle.mmc_card.specs.RowsIdentify.{inquired, is_served}
+use Rattle.mmc_card.specs.RowsIdentify.{inquired, is_served, may_lag}
 use Rattle.mmc_card.specs.RowsSwitch.{switch_row, switched}
 use Rattle.mmc_card.specs.RowsTransfer.{transfer_errors, transferred}
 
@@ -132,8 +132,7 @@ pub ordered_programmed : (lands : ℕ → Bool) (c : Card) → is_in c.state Prg
     → IsOrdered (programmed lands c)
 ordered_programmed lands c prg k =
     let e = in_state c.state Prg prg in
-    ordered_up c _ k (identified_in c.state Prg e refl) refl refl refl (λ h. cc) (λ h. cc) k.app k.inquiries
-    (omega arith)
+    ordered_up c _ k (identified_in c.state Prg e refl) refl refl refl (λ h. cc) (λ h. cc) k.app k.inquiries k.polled
 
 pub ordered_fallen_short : (lands : ℕ → Bool) (c : Card) → is_in c.state Rcv ≡ true → IsOrdered c
     → IsOrdered (fallen_short lands c)
@@ -155,7 +154,7 @@ ordered_rested c k =
       rca = k.rca;
       app = k.app;
       inquiries = k.inquiries;
-      polled = omega arith;
+      polled = k.polled;
     })
 
 pub ordered_waited : (c : Card) → IsOrdered c → IsOrdered (waited c)
@@ -288,7 +287,10 @@ ordered_row choice StopTransmission c index argument l none k =
     (λ h. by_cond IsOrdered choice.stays_busy
     (λ _. ordered_up c _ k up refl refl refl (λ _. none refl) (λ h. cc) (λ _. refl) k.inquiries (omega arith))
     (λ _. ordered_up c _ k up refl refl refl (λ _. none refl) (λ h. cc) (λ _. refl) k.inquiries k.polled))
-ordered_row choice SendStatus c index argument l none k = ordered_shown c k
+ordered_row choice SendStatus c index argument l none k =
+    first_by_cond IsOrdered (may_lag c && choice.is_behind) _ _
+    (λ _. ordered_like c _ k refl refl refl (λ h. h) (λ h. h) (λ _. refl) k.inquiries (counted_below c.polled))
+    (λ _. ordered_shown c k)
 ordered_row choice SetBlocklen c index argument l none k =
     first_by_cond IsOrdered (argument == 512) _ _
     (λ _. ordered_like c _ k refl refl refl (λ h. h) (λ h. h) (λ _. refl) k.inquiries k.polled) (λ _. ordered_shown c k)

@@ -14,11 +14,12 @@ use Rattle.mmc_card.specs.Made.{HasRegisters}
 use Rattle.mmc_card.specs.declared.command.Command.{Command}
 use Rattle.mmc_card.specs.declared.command.Command.TheVariants.{SdSendOpCond, SendScr, Erase, EraseEnd, EraseStart}
 use Rattle.mmc_card.specs.declared.command.Command.TheVariants.{GoIdleState, ReadMultipleBlock, ReadSingleBlock}
-use Rattle.mmc_card.specs.declared.command.Command.TheVariants.{SendExtCsd, SendOpCond, SetBlocklen, StopTransmission}
-use Rattle.mmc_card.specs.declared.command.Command.TheVariants.{Switch, SwitchFunc, WriteBlock, WriteMultipleBlock}
+use Rattle.mmc_card.specs.declared.command.Command.TheVariants.{SendExtCsd, SendOpCond, SendStatus, SetBlocklen}
+use Rattle.mmc_card.specs.declared.command.Command.TheVariants.{StopTransmission, Switch, SwitchFunc, WriteBlock}
+use Rattle.mmc_card.specs.declared.command.Command.TheVariants.{WriteMultipleBlock}
 use Rattle.mmc_card.specs.Rows.{answered, command_of, is_foreign, is_legal, leaves_erase, reached, responded, row}
 use Rattle.mmc_card.specs.RowsErase.{erase_held, hold_first, hold_last, holds_address, is_no_range}
-use Rattle.mmc_card.specs.RowsIdentify.{inquired, is_served}
+use Rattle.mmc_card.specs.RowsIdentify.{inquired, is_served, may_lag}
 use Rattle.mmc_card.specs.RowsSwitch.{is_to_speed_up, switch_row, switch_source, switched}
 use Rattle.mmc_card.specs.RowsTransfer.{begun, preset, transfer_errors, transferred}
 
@@ -143,6 +144,9 @@ sending_row choice SendExtCsd c index argument k =
     sending_from c _ k refl refl (ext_csd_bytes c k.erase_group_def k.registers.ext_csd_bytes)
 sending_row choice SetBlocklen c index argument k =
     first_by_cond IsSending (argument == 512) _ _ (λ _. sending_like c _ k refl refl refl) (λ _. sending_shown c k)
+sending_row choice SendStatus c index argument k =
+    first_by_cond IsSending (may_lag c && choice.is_behind) _ _ (λ _. sending_like c _ k refl refl refl)
+    (λ _. sending_shown c k)
 sending_row choice ReadSingleBlock c index argument k =
     sending_transferred 17 (transfer_errors false c argument) c _ k (sending_begun Data true (Some 1) c argument k)
 sending_row choice ReadMultipleBlock c index argument k =

@@ -102,7 +102,7 @@ landed_changed c fits p s =
 pub carried_out : (c : Card) → c.state ≡ Prg → FitsPart c → Same (holds (rested c)) (changed (unfinished c) (known c))
 carried_out c prg fits p s =
     let e : rested c ≡ programmed (λ i. true) c =
-    first_of (is_in c.state Prg) (programmed (λ i. true) c) (record c { is_busy = false; polled = 0 })
+    first_of (is_in c.state Prg) (programmed (λ i. true) c) (record c { is_busy = false })
     (ap (λ t. is_in t Prg) prg) in
     ap (λ d. holds d p s) e ∙ at_rest (programmed (λ i. true) c) refl p s ∙ landed_changed c fits p s
 

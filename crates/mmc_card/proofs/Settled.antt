@@ -30,7 +30,7 @@ use Rattle.mmc_card.specs.declared.command.Command.TheVariants.{WriteBlock, Writ
 use Rattle.mmc_card.specs.Rows.{answered, command_of, is_foreign, is_legal, leaves_erase, reached, responded, row}
 use Rattle.mmc_card.specs.RowsErase.{erase_held, erased_from, erased_to, forgotten, hold_first, hold_last}
 use Rattle.mmc_card.specs.RowsErase.{holds_address, is_boot, is_no_range, is_trim}
-use Rattle.mmc_card.specs.RowsIdentify.{inquired, is_served}
+use Rattle.mmc_card.specs.RowsIdentify.{inquired, is_served, may_lag}
 use Rattle.mmc_card.specs.RowsSwitch.{switch_row, switched}
 use Rattle.mmc_card.specs.RowsTransfer.{begun, preset, transfer_errors, transferred}
 
@@ -255,7 +255,9 @@ settled_row choice StopTransmission c index argument l k =
     })
     (λ _. by_cond IsSettled choice.stays_busy (λ _. settled_rest _ Tran refl refl refl k.fits (λ _. refl))
     (λ _. settled_rest _ Tran refl refl refl k.fits (λ _. refl)))
-settled_row choice SendStatus c index argument l k = settled_shown c k
+settled_row choice SendStatus c index argument l k =
+    first_by_cond IsSettled (may_lag c && choice.is_behind) _ _
+    (λ _. settled_like c _ k refl k.fits refl refl refl) (λ _. settled_shown c k)
 settled_row choice SetBlocklen c index argument l k =
     first_by_cond IsSettled (argument == 512) _ _
     (λ _. settled_like c _ k refl k.fits refl refl refl) (λ _. settled_shown c k)

@@ -1,6 +1,6 @@
 -- The steps of a run leave a card selected as it was, or as after CMD0.
 use Rattle.std.proofs.Common.{◌||◌, ◌∙◌, ◌≡◌, ◌⊎◌, Bool, List, ap, false, inl, inr, refl, sym, true, ℕ}
-use Rattle.std.specs.Prelude.{◌==◌, None, Option, Some}
+use Rattle.std.specs.Prelude.{◌&&◌, ◌==◌, None, Option, Some}
 use Rattle.mmc_frame.specs.Frame.{command_in}
 use Rattle.mmc_frame.specs.declared.card_state.State.{State}
 use Rattle.mmc_frame.specs.declared.card_state.State.TheVariants.{Data, Prg, Rcv, Tran}
@@ -28,6 +28,7 @@ use Rattle.mmc_card.specs.declared.command.Command.TheVariants.{StopTransmission
 use Rattle.mmc_card.specs.declared.command.Command.TheVariants.{WriteMultipleBlock}
 use Rattle.mmc_card.specs.Rows.{answered, command_of, is_foreign, is_legal, leaves_erase, reached, responded, row}
 use Rattle.mmc_card.specs.RowsErase.{erase_held, forgotten, hold_first, hold_last, holds_address, is_no_range}
+use Rattle.mmc_card.specs.RowsIdentify.{may_lag}
 use Rattle.mmc_card.specs.RowsTransfer.{begun, preset, transfer_errors, transferred}
 use Rattle.mmc_card.specs.Sectors.{Sector}
 use Rattle.mmc_card.specs.BusView.{BusView}
@@ -202,7 +203,12 @@ stands_row s choice StopTransmission c index argument o l h =
     (λ _. stands_quiet s c _ refl refl u refl h)
     (λ _. by_cond (Stands s) choice.stays_busy (λ _. stands_quiet s c _ refl refl u refl h)
     (λ _. stands_quiet s c _ refl refl u refl h))
-stands_row s choice SendStatus c index argument o l h = stands_shown s c h
+stands_row s choice SendStatus c index argument o l h =
+    first_by_cond (Stands s) (may_lag c && choice.is_behind) _ _
+    (λ lag.
+    let tran = (both (is_in c.state Tran) _ (both (may_lag c) choice.is_behind lag).0).0 in
+    stands_like s c _ refl refl refl (λ a. tran_not_reset c tran a) h)
+    (λ _. stands_shown s c h)
 stands_row s choice SetBlockCount c index argument o l h =
     stands_like s c _ refl refl refl (λ a. tran_not_reset c (both (is_in c.state Tran) (has_cmd23 c.made) l).0 a) h
 stands_row s choice ReadSingleBlock c index argument o l h =
@@ -255,7 +261,7 @@ stands_rested s c h =
     by_cond (Stands s) (is_in c.state Prg)
     (λ prg. stands_programmed s (λ i. true) c prg h)
     (λ _. stands_like s c _ refl refl refl
-    (reset_like c _ refl refl refl (λ b. refl) (λ b. b) (λ b. b) (λ b. b) refl (λ b. refl) refl) h)
+    (reset_like c _ refl refl refl (λ b. refl) (λ b. b) (λ b. b) (λ b. b) refl (λ b. b) refl) h)
 
 stands_slow : (s : Setting) (c : Card) → c.is_busy ≡ true → Stands s c → Stands s (waited c)
 stands_slow s c busy h = stands_like s c _ refl refl refl (λ a. cc (busy, a.apart.is_busy)) h

@@ -1,21 +1,22 @@
 -- What a status says of its card.
-use Rattle.std.proofs.Common.{◌*◌, ◌+◌, ◌<◌, ◌∙◌, ◌≡◌, ◌≤◌, ◌↔◌, ◌^◌, Bool, ap, arith, bit_or, false, refl, sym, true}
+use Rattle.std.proofs.Common.{◌*◌, ◌+◌, ◌<◌, ◌∙◌, ◌≡◌, ◌≤◌, ◌⊎◌, ◌↔◌, ◌^◌, Bool, ap, arith, bit_or, false, inl, inr, refl, sym, true}
 use Rattle.std.proofs.Common.{ℕ}
-use Rattle.std.specs.Prelude.{◌==◌, not}
+use Rattle.std.specs.Prelude.{◌&&◌, ◌==◌, if◌then◌else◌, not}
 use Rattle.std.specs.Int.{bit_at}
 use Rattle.std.specs.Int.RustNames.{bit_and}
 use Rattle.std.proofs.lemmas.Nat.{and_block, and_le_r, and_or_apart, or_disjoint}
 use Rattle.std.proofs.lemmas.Nat.Bits.{and_pow, bit_at_and, bit_at_or, bit_at-zero, same_from_bits}
 use Rattle.mmc_frame.specs.Field.{field}
-use Rattle.mmc_frame.specs.Status.{IsClean, error_bits, state_number}
+use Rattle.mmc_frame.specs.Status.{IsAtWork, IsClean, error_bits, state_number}
 use Rattle.mmc_frame.specs.declared.card_state.State.{State}
 use Rattle.mmc_frame.specs.declared.card_state.State.TheVariants.{Data, Dis, Ident, Idle, Prg, Rcv, Ready, Stby, Tran}
 use Rattle.mmc_frame.specs.declared.kind.Kind.{Kind}
 use Rattle.mmc_frame.specs.declared.kind.Kind.TheVariants.{Mmc, Sd}
 use Rattle.mmc_card.proofs.Cards.{among_more, in_state}
-use Rattle.mmc_card.specs.CardAnswer.{bit, status}
+use Rattle.mmc_card.specs.CardAnswer.{Choice, bit, status}
 use Rattle.mmc_card.specs.Card.{AreAmong, Card, IsCard}
 use Rattle.mmc_card.specs.ErrorBits.{card_is_locked, command_error_bits, error_bits as held_bits, out_of_range}
+use Rattle.mmc_card.specs.RowsIdentify.{at_work}
 use Rattle.mmc_card.specs.CardLaws.{HasNoError, IsInOrder}
 
 -- Bits.
@@ -112,19 +113,23 @@ high_status card = card.command_errors + card.errors + card_is_locked * bit card
 status_parts : (app : Bool) (c : Card) → status app c ≡ 2 ^ 13 * high_status c + low_status app c
 status_parts app c = omega arith
 
-masked : (app : Bool) (c : Card) (m : ℕ) → IsCard c → m < 2 ^ 13
+-- the bits that a card holds are those that it may hold
+abbrev HoldsErrors : Card → Type 0
+HoldsErrors c = AreAmong c.command_errors command_error_bits × AreAmong c.errors held_bits
+
+masked : (app : Bool) (c : Card) (m : ℕ) → HoldsErrors c → m < 2 ^ 13
     → bit_and (status app c) (high_mask * 2 ^ 13 + m)
     ≡ (c.command_errors + c.errors) * 2 ^ 13 + bit_and (low_status app c) m
 masked app c m k small =
     ap (λ n. bit_and n (high_mask * 2 ^ 13 + m)) (status_parts app c)
     ∙ masked_parts (high_status c) (low_status app c) m (low_below app c) small
     ∙ ap (λ n. n * 2 ^ 13 + bit_and (low_status app c) m)
-    (masked_held c.command_errors c.errors c.made.is_locked k.command_errors k.errors)
+    (masked_held c.command_errors c.errors c.made.is_locked k.0 k.1)
 
-sd_errors : (app : Bool) (c : Card) → IsCard c → error_bits Sd (status app c) ≡ (c.command_errors + c.errors) * 2 ^ 13
+sd_errors : (app : Bool) (c : Card) → HoldsErrors c → error_bits Sd (status app c) ≡ (c.command_errors + c.errors) * 2 ^ 13
 sd_errors app c k = omega (arith, masked app c 0 k (omega arith), and_le_r (low_status app c) 0)
 
-mmc_errors : (app : Bool) (c : Card) → IsCard c
+mmc_errors : (app : Bool) (c : Card) → HoldsErrors c
     → error_bits Mmc (status app c) ≡ (c.command_errors + c.errors) * 2 ^ 13 + bit c.switch_error * 2 ^ 7
 mmc_errors app c k =
     omega (arith, masked app c 128 k (omega arith), and_pow (low_status app c) 7, low_switch app c)
@@ -144,14 +149,14 @@ one_bit : (b : Bool) → bit (not b) ≡ 1 → b ≡ false
 one_bit true h = absurd (omega (arith, h))
 one_bit false h = refl
 
-pub status_errors : (kind : Kind) (app : Bool) (card : Card) → IsCard card
+errors_shown : (kind : Kind) (app : Bool) (card : Card) → HoldsErrors card
     → ((error_bits kind (status app card) ≡ 0) ↔ HasNoError kind card)
-status_errors Sd app c k =
+errors_shown Sd app c k =
     let e = sd_errors app c k in (
       λ h. record { command_errors = omega (arith, e, h); errors = omega (arith, e, h); switch_error = λ other. cc },
       λ h. (let command_errors = h.command_errors in let errors = h.errors in omega (arith, e, command_errors, errors)),
     )
-status_errors Mmc app c k =
+errors_shown Mmc app c k =
     let e = mmc_errors app c k in (
       λ h. record {
         command_errors = omega (arith, e, h);
@@ -165,14 +170,18 @@ status_errors Mmc app c k =
           omega (arith, e, command_errors, errors, none)),
     )
 
+pub status_errors : (kind : Kind) (app : Bool) (card : Card) → IsCard card
+    → ((error_bits kind (status app card) ≡ 0) ↔ HasNoError kind card)
+status_errors kind app c k = errors_shown kind app c (k.command_errors, k.errors)
+
 -- of a card that holds OUT_OF_RANGE and no other error
 pub status_at_end : (kind : Kind) (app : Bool) (card : Card) → IsCard card → HasNoError kind (record card { errors = 0 })
     → card.errors ≡ out_of_range → error_bits kind (status app card) ≡ 2 ^ 31
 status_at_end Sd app c k none end =
-    let command_errors = none.command_errors in omega (arith, sd_errors app c k, command_errors, end)
+    let command_errors = none.command_errors in omega (arith, sd_errors app c (k.command_errors, k.errors), command_errors, end)
 status_at_end Mmc app c k none end =
     let command_errors = none.command_errors in
-    omega (arith, mmc_errors app c k, command_errors, end, ap bit (none.switch_error refl))
+    omega (arith, mmc_errors app c (k.command_errors, k.errors), command_errors, end, ap bit (none.switch_error refl))
 
 -- The fields of a status.
 
@@ -199,3 +208,41 @@ clean_status kind app c k =
         ready_for_data = status_ready app c ∙ ap (λ b. bit (not b)) h.rests;
       },
     )
+
+-- The status of a card that lags behind its programming.
+
+works_by : (prg ready : Bool) → let s = if prg then Prg else Tran in
+    (state_number s ≡ state_number Prg) ⊎ ((state_number s ≡ state_number Tran) × (bit (not (not (prg && ready))) ≡ 0))
+works_by true ready = inl refl
+works_by false ready = inr (refl, refl)
+
+not_clean_by : (prg ready : Bool) → let s = if prg then Prg else Tran in
+    state_number s ≡ state_number Tran → bit (not (not (prg && ready))) ≡ 1 → ⊥
+not_clean_by true ready tran r = cc
+not_clean_by false ready tran r = cc
+
+pub lagging_status : (kind : Kind) (choice : Choice) (card : Card) → IsCard card
+    → (IsAtWork kind (status false (at_work choice card)) ↔ HasNoError kind card)
+lagging_status kind choice c k =
+    let seen = at_work choice c in
+    let errors = errors_shown kind false seen (k.command_errors, k.errors) in
+    let state = status_state false seen in
+    let ready = status_ready false seen in (
+      λ h. (let none = errors.0 h.no_error in
+      record { command_errors = none.command_errors; errors = none.errors; switch_error = none.switch_error }),
+      λ h. record {
+        no_error = errors.1
+            (record { command_errors = h.command_errors; errors = h.errors; switch_error = h.switch_error });
+        works = elim (works_by choice.shows_prg choice.shows_ready) [
+          | inl prg ↦ inl (state ∙ prg)
+          | inr tran ↦ inr (state ∙ tran.0, ready ∙ tran.1)
+        ];
+      },
+    )
+
+pub lagging_is_not_clean : (kind : Kind) (choice : Choice) (card : Card)
+    → IsClean kind (status false (at_work choice card)) → ⊥
+lagging_is_not_clean kind choice c h =
+    let seen = at_work choice c in
+    not_clean_by choice.shows_prg choice.shows_ready (sym (status_state false seen) ∙ h.in_tran)
+    (sym (status_ready false seen) ∙ h.ready_for_data)

@@ -1,7 +1,7 @@
 -- Headline (README.md, "What to read").
 -- Polls, and blocks that are read and written (SD Physical Layer 6.00, sections 4.3.3 and 4.3.4; JESD84-B51, sections
 -- 6.6.7 and 6.6.8). What makes a card busy, and for how long, is the project's own.
-use Rattle.std.specs.Prelude.{◌&&◌, ◌++◌, ◌+◌, ◌-◌, ◌==◌, ◌∷◌, Bool, List, None, Option, Some, [], false, if◌then◌else◌}
+use Rattle.std.specs.Prelude.{◌&&◌, ◌++◌, ◌+◌, ◌-◌, ◌==◌, ◌∷◌, ◌≡◌, Bool, List, None, Option, Some, [], false, if◌then◌else◌}
 use Rattle.std.specs.Prelude.{length, nat_lt, not, slice_index_or, true, ℕ}
 use Rattle.mmc_frame.specs.declared.card_state.State.TheVariants.{Data, Prg, Rcv, Tran}
 use Rattle.mmc_card.specs.declared.exchange.Lines.{Lines}
@@ -10,15 +10,19 @@ use Rattle.mmc_card.specs.ErrorBits.{out_of_range}
 use Rattle.mmc_card.specs.Card.{Card, FromBytes, FromSectors, Source, is_in, landed, stored}
 use Rattle.mmc_card.specs.RowsSwitch.{timing_number, width_number}
 
--- Programming has ended, and these values have landed.
+-- Programming has ended, and these values have landed; statuses may lag behind.
 abbrev pub programmed : (ℕ → Bool) → Card → Card
 programmed lands card =
-    record card { state = Tran; is_busy = false; polled = 0; sectors = landed lands card; values = [] }
+    record card { state = Tran; is_busy = false; lags = true; sectors = landed lands card; values = [] }
 
 -- a poll that is answered no: the card isn't busy any more; in prg all has landed
 abbrev pub rested : Card → Card
 rested card =
-    if is_in card.state Prg then programmed (λ i. true) card else record card { is_busy = false; polled = 0 }
+    if is_in card.state Prg then programmed (λ i. true) card else record card { is_busy = false }
+
+-- it rests so, however often it was polled before
+abbrev pub HasRested : Card → Card → Type 0
+HasRested old new = (polls : ℕ) × (new ≡ rested (record old { polled = polls }))
 
 -- a poll that is answered yes
 abbrev pub waited : Card → Card

@@ -55,6 +55,8 @@ pub record Card : Type 0 where
   pub inquiries : ℕ
   pub is_busy : Bool
   pub polled : ℕ
+  -- its programming has ended, and its statuses may lag behind
+  pub lags : Bool
   -- a list of sectors for each partition, as they were before the write or erase that is unfinished
   pub sectors : List (List Sector)
   -- What a transfer sends; its next sector; the blocks to come, of an uncounted transfer none; a write of CMD24.
@@ -142,6 +144,7 @@ powered_on made sectors =
       inquiries = 0;
       is_busy = false;
       polled = 0;
+      lags = false;
       sectors = sectors;
       source = FromSectors;
       next = 0;

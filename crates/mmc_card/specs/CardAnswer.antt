@@ -40,6 +40,10 @@ pub record Choice : Type 0 where
   pub says_late : Bool
   -- CMD12 that ends a read leaves the card busy
   pub stays_busy : Bool
+  -- a status behind programming shows the card still at work: in prg, where it may be ready for data, or in tran
+  pub is_behind : Bool
+  pub shows_prg : Bool
+  pub shows_ready : Bool
 
 abbrev pub bit : Bool → ℕ
 bit b = if b then 1 else 0
@@ -66,14 +70,15 @@ r6_argument rca card =
 abbrev pub raised : ℕ → Card → Card
 raised bits card = record card { errors = bit_or card.errors bits }
 
--- A command is carried out: it is no longer an application command, a preset count was for it alone, and bits 23 and 22
--- are cleared, whatever its response.
+-- A command is carried out: it is no longer an application command, a preset count was for it alone, bits 23 and 22
+-- are cleared, whatever its response, and no status lags behind it.
 abbrev pub done : Card → Card
-done card = record card { app = false; count = 0; command_errors = 0 }
+done card = record card { app = false; count = 0; command_errors = 0; lags = false }
 
 -- it has a response with a status: all error bits are shown, and cleared, whether the host receives them or not
 abbrev pub shown : Card → Card
-shown card = record card { app = false; count = 0; command_errors = 0; errors = 0; switch_error = false }
+shown card =
+    record card { app = false; count = 0; command_errors = 0; errors = 0; switch_error = false; lags = false }
 
 -- A command that isn't carried out: no response, and ILLEGAL_COMMAND.
 abbrev pub refused : Card → Card

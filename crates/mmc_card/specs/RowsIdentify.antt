@@ -1,14 +1,14 @@
 -- Headline (README.md, "What to read").
 -- Identification and status (SD Physical Layer 6.00, sections 4.2 and 4.3; JESD84-B51, sections 6.4 and 6.6.1).
 -- Each row is what a card does with a command in a state where it is legal, and its answer.
-use Rattle.std.specs.Prelude.{◌%◌, ◌&&◌, ◌*◌, ◌+◌, ◌==◌, ◌^◌, ◌||◌, Bool, false, if◌then◌else◌, not, true, ℕ}
+use Rattle.std.specs.Prelude.{◌%◌, ◌&&◌, ◌*◌, ◌+◌, ◌==◌, ◌^◌, ◌||◌, Bool, false, if◌then◌else◌, nat_lt, not, true, ℕ}
 use Rattle.mmc_frame.specs.Field.{field}
-use Rattle.mmc_frame.specs.declared.card_state.State.TheVariants.{Ident, Ready, Stby, Tran}
+use Rattle.mmc_frame.specs.declared.card_state.State.TheVariants.{Ident, Prg, Ready, Stby, Tran}
 use Rattle.mmc_frame.specs.declared.commands.TheConstants as Index
 use Rattle.mmc_regs.specs.Ocr.{card_capacity_status}
 use Rattle.mmc_card.specs.CardAnswer.{CardAnswer, Checked, Choice, Silent, R3, R2, busied, counted, done, published}
 use Rattle.mmc_card.specs.CardAnswer.{r6_argument, reset, shown, status}
-use Rattle.mmc_card.specs.Card.{Card}
+use Rattle.mmc_card.specs.Card.{Card, is_in}
 
 -- CMD0, GO_IDLE_STATE
 abbrev pub go_idle_state : Choice → Card → Card × CardAnswer
@@ -76,9 +76,30 @@ send_if_cond card argument = (
 abbrev pub send_csd : Card → Card × CardAnswer
 send_csd card = (done card, R2 card.made.csd)
 
+-- Behind its programming a card's status may still show it at work. Together with the polls of its busy time that were
+-- answered yes that is so at most eight times (the project's own).
+abbrev pub may_lag : Card → Bool
+may_lag card = is_in card.state Tran && (card.lags && nat_lt card.polled 8)
+
+-- as such a status shows it: in prg, ready for data or not, or in tran and not ready (SD Physical Layer 6.00, section
+-- 4.10.1; JESD84-B51, section 6.13)
+abbrev pub at_work : Choice → Card → Card
+at_work choice card =
+    record card {
+      state = if choice.shows_prg then Prg else Tran;
+      is_busy = not (choice.shows_prg && choice.shows_ready);
+    }
+
+-- a card after such a status
+abbrev pub lagging : Card → Card
+lagging card = record (shown card) { lags = true; polled = counted card.polled }
+
 -- CMD13, SEND_STATUS
-abbrev pub send_status : Card → Card × CardAnswer
-send_status card = (shown card, Checked Index.SEND_STATUS (status false card))
+abbrev pub send_status : Choice → Card → Card × CardAnswer
+send_status choice card =
+    if may_lag card && choice.is_behind
+    then (lagging card, Checked Index.SEND_STATUS (status false (at_work choice card)))
+    else (shown card, Checked Index.SEND_STATUS (status false card))
 
 -- CMD55 of SD, APP_CMD (SD Physical Layer 6.00, section 4.3.9)
 abbrev pub app_cmd : Card → Card × CardAnswer

@@ -1,20 +1,21 @@
 //! Laws about what a card shows and what it holds. Each function does nothing; its contract is the law, which a caller
 //! then knows.
-ghost use Rattle.std.specs.Prelude.{◌^◌, ◌≡◌, ◌↔◌, Bool, []};
+ghost use Rattle.std.specs.Prelude.{◌^◌, ◌≡◌, ◌↔◌, Bool, [], false};
 ghost use Rattle.mmc_frame.specs.Field.{field};
-ghost use Rattle.mmc_frame.specs.Status.{IsClean, error_bits, state_number};
+ghost use Rattle.mmc_frame.specs.Status.{IsAtWork, IsClean, error_bits, state_number};
 ghost use Rattle.mmc_frame.specs.declared.card_state.State.TheVariants.{Prg};
 ghost use Rattle.mmc_frame.specs.declared.kind.Kind.{Kind};
-ghost use Rattle.mmc_card.specs.CardAnswer.{status};
+ghost use Rattle.mmc_card.specs.CardAnswer.{Choice, status};
 ghost use Rattle.mmc_card.specs.Blocks.{rested};
 ghost use Rattle.mmc_card.specs.Card.{Card, FitsPart, IsCard, holds, known, unfinished};
 ghost use Rattle.mmc_card.specs.CardLaws.{HasNoError, IsInOrder};
 ghost use Rattle.mmc_card.specs.ErrorBits.{out_of_range};
+ghost use Rattle.mmc_card.specs.RowsIdentify.{at_work};
 ghost use Rattle.mmc_card.specs.Sectors.{AreRead, Change, Same, Sets, changed};
 
 /// A status has the state of its card. Its error bits are 0 just where the card holds no error, and it is clean just
 /// where, besides, the card is in tran and not busy. Of a card that holds OUT_OF_RANGE and no other error they are bit
-/// 31.
+/// 31. A status that lags behind the card's programming shows it at work just where it holds no error, and is never clean.
 pub fn a_status_tells_of_its_card()
     ensures state { (app : Bool) (card : Card) → field 12 9 (status app card) ≡ state_number card.state }
     ensures errors { (kind : Kind) (app : Bool) (card : Card) → IsCard card
@@ -24,6 +25,10 @@ pub fn a_status_tells_of_its_card()
     ensures at_end { (kind : Kind) (app : Bool) (card : Card) → IsCard card
         → HasNoError kind (record card { errors = 0 }) → card.errors ≡ out_of_range
         → error_bits kind (status app card) ≡ 2 ^ 31 }
+    ensures lagging { (kind : Kind) (choice : Choice) (card : Card) → IsCard card
+        → (IsAtWork kind (status false (at_work choice card)) ↔ HasNoError kind card) }
+    ensures lags_unclean { (kind : Kind) (choice : Choice) (card : Card)
+        → IsClean kind (status false (at_work choice card)) → ⊥ }
 {}
 
 /// Where no write, erase or trim is unfinished, each sector holds what is stored, and nothing else.

@@ -2,7 +2,7 @@
 use Rattle.std.proofs.Common.{◌%◌, ◌*◌, ◌+◌, ◌/◌, ◌==◌, ◌^◌, ◌∙◌, ◌≡◌, ◌≤◌, Bool, List, ap, arith, bit_or, false, refl}
 use Rattle.std.proofs.Common.{sym, true, ℕ}
 use Rattle.std.proofs.lemmas.Bool.Decides.{nat_tests}
-use Rattle.std.specs.Prelude.{if◌then◌else◌, nat_le}
+use Rattle.std.specs.Prelude.{◌&&◌, if◌then◌else◌, nat_le}
 use Rattle.mmc_frame.proofs.Bytes.{and_true}
 use Rattle.mmc_card.proofs.Cards.{among_wider}
 use Rattle.mmc_card.specs.Faults.{AreOfExecution}
@@ -126,3 +126,8 @@ pub with_change : (card : Card) (parts : List (List Sector)) (start : ℕ) (valu
     → record card { sectors = parts; start = start; values = values }
     ≡ record card { start = change.start; values = change.values }
 with_change card parts start values change same is_start are_values = rw (same, is_start, are_values) refl
+
+-- no status lags where the card doesn't choose so
+pub never_behind : (may : Bool) → (may && false) ≡ false
+never_behind true = refl
+never_behind false = refl

@@ -57,6 +57,7 @@ card_of chip =
       inquiries = chip.inquiries;
       is_busy = chip.is_busy;
       polled = chip.polled;
+      lags = chip.lags;
       sectors = parts_of chip.store;
       source = source_of chip.source;
       next = chip.next;
@@ -83,6 +84,9 @@ choice_of is_slow = record {
   fails_switch = false;
   says_late = false;
   stays_busy = false;
+  is_behind = false;
+  shows_prg = false;
+  shows_ready = false;
 }
 
 -- an SD card that refuses to switch to high speed

@@ -183,9 +183,9 @@ impl Chip {
         if self.is_in(State::Prg) {
             self.store.land(self.part);
             self.state = State::Tran;
+            self.lags = true;
         }
         self.is_busy = false;
-        self.polled = 0;
     }
 
     /// A poll of a card that is slow or not: whether it is busy.

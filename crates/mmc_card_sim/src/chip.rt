@@ -15,7 +15,6 @@ use crate::store::Store;
 use arrayvec::ArrayVec;
 use bitflags::Flags;
 use mmc_card::{Command, Part, Timing, Width, is_addressed, leaves_erase};
-use mmc_frame::commands::SEND_STATUS;
 use mmc_frame::{Kind, State, Status, read_command};
 
 // CURRENT_STATE in a status, from bit 9 on.
@@ -74,6 +73,8 @@ pub struct Chip {
     pub inquiries: u8,
     pub is_busy: bool,
     pub polled: u8,
+    // Its programming has ended, and its statuses may lag behind.
+    pub lags: bool,
     // What it sends, its next sector, the blocks to come, of an uncounted transfer none, and a transfer of one block.
     pub source: Source,
     pub next: usize,
@@ -185,6 +186,7 @@ impl Chip {
             inquiries: 0,
             is_busy: false,
             polled: 0,
+            lags: false,
             source: Source::Sectors,
             next: 0,
             left: None,
@@ -257,6 +259,7 @@ impl Chip {
         self.is_app = false;
         self.count = 0;
         self.command_errors = 0;
+        self.lags = false;
     }
 
     /// A command that isn't carried out.
@@ -335,7 +338,7 @@ impl Chip {
             Command::SendExtCsd => self.send_ext_csd(),
             Command::SendCsd => self.send_csd(),
             Command::StopTransmission => self.stop_transmission(delays),
-            Command::SendStatus => self.respond_status(SEND_STATUS, false),
+            Command::SendStatus => self.send_status(delays),
             Command::SetBlocklen => self.set_blocklen(argument),
             Command::ReadSingleBlock => self.read_single_block(argument),
             Command::ReadMultipleBlock => self.read_multiple_block(argument),

@@ -52,7 +52,7 @@ impl Chip {
         self.store.settle(self.part, outcome);
         self.state = State::Tran;
         self.is_busy = false;
-        self.polled = 0;
+        self.lags = true;
         self.raise(Status::ERROR);
     }
 
@@ -65,7 +65,7 @@ impl Chip {
         self.store.settle(self.part, outcome);
         self.state = State::Tran;
         self.is_busy = false;
-        self.polled = 0;
+        self.lags = true;
         self.raise_bits(bits);
     }
 

@@ -7,7 +7,7 @@ use crate::chip::{Addresses, Chip, Source, first_rca};
 use crate::delays::Delays;
 use mmc_card::{Part, Timing, Width};
 use mmc_frame::State;
-use mmc_frame::commands::{APP_CMD, SELECT_CARD, SEND_IF_COND, SEND_RELATIVE_ADDR};
+use mmc_frame::commands::{APP_CMD, SELECT_CARD, SEND_IF_COND, SEND_RELATIVE_ADDR, SEND_STATUS};
 use mmc_regs::Ocr;
 
 // Bit 31 of an OCR: the card is ready (SD Physical Layer 6.00, section 5.1; JESD84-B51, section 7.1).
@@ -24,7 +24,7 @@ impl Chip {
     ghost use Rattle.mmc_card.specs.Card.{powered_on};
     ghost use Rattle.mmc_card.specs.RowsIdentify.{all_send_cid, app_cmd, go_idle_state, inquired, is_served};
     ghost use Rattle.mmc_card.specs.RowsIdentify.{sd_send_op_cond, select_card, send_csd, send_if_cond, send_op_cond};
-    ghost use Rattle.mmc_card.specs.RowsIdentify.{send_relative_addr, set_relative_addr};
+    ghost use Rattle.mmc_card.specs.RowsIdentify.{send_relative_addr, send_status, set_relative_addr};
     ghost use Rattle.mmc_card.specs.Made.{named_block_length};
     ghost use Rattle.mmc_card_sim.specs.Chip.{Answers, card_of, command_choice};
 
@@ -55,6 +55,7 @@ impl Chip {
         self.inquiries = 0;
         self.is_busy = false;
         self.polled = 0;
+        self.lags = false;
         self.source = Source::Sectors;
         self.next = 0;
         self.left = None;
@@ -170,6 +171,14 @@ impl Chip {
     {
         self.is_busy = true;
         self.polled = 0;
+    }
+
+    /// CMD13, which tells the status as it is.
+    #[tactic(auto, using(crate::proofs::ChipLemmas::never_behind))]
+    pub fn send_status(&mut self, delays: Delays) -> Answer
+        ensures { Answers (send_status (command_choice delays (card_of self.old)) (card_of self.old)) self.new result }
+    {
+        self.respond_status(SEND_STATUS, false)
     }
 
     /// CMD7: the card is busy after it.

@@ -137,7 +137,8 @@ impl Chip {
 
     /// CMD12: of a write the card programs what it accepted, and of a read it may be busy.
     pub fn stop_transmission(&mut self, delays: Delays) -> Answer
-        ensures { Answers (stop_transmission (command_choice delays (card_of self.old)) (card_of self.old)) self.new result }
+        ensures { Answers (stop_transmission (command_choice delays (card_of self.old)) (card_of self.old)) self.new
+            result }
     {
         let writes = self.is_in(State::Rcv);
         let answer = self.respond_status(STOP_TRANSMISSION, false);

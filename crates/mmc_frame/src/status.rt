@@ -1,7 +1,7 @@
 // The card status.
 ghost use Rattle.std.specs.Prelude.{⊤, ◌≡◌, ◌≤◌, ◌↔◌, [], ◌∷◌, ◌^◌, codes, IsNone, IfSome, IsTrue};
 ghost use Rattle.mmc_frame.specs.Field.{field};
-ghost use Rattle.mmc_frame.specs.Status.{IsClean, bits_in, error_bits, state_number};
+ghost use Rattle.mmc_frame.specs.Status.{IsAtWork, IsClean, bits_in, error_bits, state_number};
 
 use crate::card_state::State;
 use crate::kind::Kind;
@@ -103,4 +103,13 @@ pub fn is_clean(kind: Kind, status: u32) -> bool
     ensures { IsTrue result ↔ IsClean kind status }
 {
     errors(kind, status).0 == 0 && status / 512 % 16 == 4 && status / 256 % 2 == 1
+}
+
+/// Whether a card status reports no error, and that the card is still at work: the state prg, or tran without bit 8,
+/// READY_FOR_DATA.
+pub fn is_at_work(kind: Kind, status: u32) -> bool
+    ensures { IsTrue result ↔ IsAtWork kind status }
+{
+    let state = status / 512 % 16;
+    errors(kind, status).0 == 0 && (state == 7 || state == 4 && status / 256 % 2 == 0)
 }

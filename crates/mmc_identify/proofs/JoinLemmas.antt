@@ -7,7 +7,7 @@ use Rattle.mmc_frame.specs.declared.card_state.State.TheVariants.{Data, Dis, Ide
 use Rattle.mmc_frame.specs.declared.kind.Kind.{Kind}
 use Rattle.mmc_frame.specs.declared.kind.Kind.TheVariants.{Mmc, Sd}
 use Rattle.mmc_card.specs.declared.exchange.Lines.{Lines}
-use Rattle.mmc_card.specs.Blocks.{rested}
+use Rattle.mmc_card.specs.Blocks.{HasRested, rested}
 use Rattle.mmc_card.specs.BusView.{BusView}
 use Rattle.mmc_card.specs.Card.{Card, is_in, is_selected}
 use Rattle.mmc_card.specs.Made.{Made, is_sd}
@@ -47,13 +47,14 @@ accepts_none Rcv tran = cc (tran refl)
 accepts_none Prg tran = refl
 accepts_none Dis tran = refl
 
-rested_is : (old : Card) → is_in old.state Prg ≡ false → rested old ≡ record old { is_busy = false; polled = 0 }
-rested_is old quiet = rw quiet refl
+rested_is : (old : Card) (polls : ℕ) → is_in old.state Prg ≡ false
+    → rested (record old { polled = polls }) ≡ record old { is_busy = false; polled = polls }
+rested_is old polls quiet = rw quiet refl
 
 -- whether a card is busy, and how often it was polled, is no part of being selected
-selected_still : (rca : ℕ) (old new : Card) → new ≡ record old { is_busy = false; polled = 0 } → IsSelected rca old
-    → IsSelected rca new
-selected_still rca old new e at =
+selected_still : (rca : ℕ) (polls : ℕ) (old new : Card) → new ≡ record old { is_busy = false; polled = polls }
+    → IsSelected rca old → IsSelected rca new
+selected_still rca polls old new e at =
     subst (IsSelected rca) (sym e)
     (record {
       state = at.state;
@@ -68,51 +69,53 @@ selected_still rca old new e at =
       command_errors = at.command_errors;
       errors = at.errors;
       switch_error = at.switch_error;
+      up_to_date = at.up_to_date;
     })
 
 looks_on : (rca : ℕ) (old new : Card)
-    → (is_selected new.state ≡ true → may_fail old ≡ false → new ≡ rested old) → Looks rca old → Looks rca new
+    → (is_selected new.state ≡ true → may_fail old ≡ false → HasRested old new) → Looks rca old → Looks rca new
 looks_on rca old new calm looks up =
     let quiet = at_rest old.state (λ was. (looks was).state) in
     let none = accepts_none old.state (λ was. (looks was).state) in
-    let e : new ≡ record old { is_busy = false; polled = 0 } = calm up (rw (none, quiet) refl) ∙ rested_is old quiet in
-    selected_still rca old new e (looks (ap (λ (c : Card). is_selected c.state) (sym e) ∙ up))
+    let rests = calm up (rw (none, quiet) refl) in
+    let e : new ≡ record old { is_busy = false; polled = rests.0 } = rests.1 ∙ rested_is old rests.0 quiet in
+    selected_still rca rests.0 old new e (looks (ap (λ (c : Card). is_selected c.state) (sym e) ∙ up))
 
-polled_out : (rca : ℕ) (old new : Card) → new ≡ rested old → IsPolled 0 true rca old → IsPolled 0 false rca new
+polled_out : (rca : ℕ) (old new : Card) → HasRested old new → IsPolled true rca old → IsPolled false rca new
 polled_out rca old new is at =
-    let e : new ≡ record old { is_busy = false; polled = 0 } =
-    is ∙ rested_is old (ap (λ (s : State). is_in s Prg) at.selected.state) in
+    let e : new ≡ record old { is_busy = false; polled = is.0 } =
+    is.1 ∙ rested_is old is.0 (ap (λ (s : State). is_in s Prg) at.selected.state) in
     record {
-      selected = selected_still rca old new e at.selected;
-      polled = ap (λ (c : Card). c.polled) e;
+      selected = selected_still rca is.0 old new e at.selected;
+      polled = λ never. cc never;
       is_busy = ap (λ (c : Card). c.is_busy) e;
     }
 
 abbrev pub Waits : ℕ → Result Unit IdentFault → BusView → BusView → Type 0
 Waits rca r a b =
     Moved (λ old new. IsOk r → Looks rca old.card → Looks rca new.card)
-    (λ old new. IsPolled 0 true rca old.card → IsOk r × IsPolled 0 false rca new.card) a b
+    (λ old new. IsPolled true rca old.card → IsOk r × IsPolled false rca new.card) a b
 
 pub waited : {Own : BusView → BusView → Type 0} (rca : ℕ) (polls : Result Unit Cause) (r : Result Unit IdentFault)
     (a b : BusView) → is_ok r ≡ is_ok polls
-    → (IsOk polls → is_selected b.card.state ≡ true → may_fail a.card ≡ false → b.card ≡ rested a.card)
-    → Worked Narrows Own (λ old new. old.card.polled ≡ 0 → IsOk polls × (new.card ≡ rested old.card)) a b
+    → (IsOk polls → is_selected b.card.state ≡ true → may_fail a.card ≡ false → HasRested a.card b.card)
+    → Worked Narrows Own (λ old new. old.card.polled ≡ 0 → IsOk polls × HasRested old.card new.card) a b
     → Waits rca r a b
 waited rca polls r a b same calm p =
     moved_as a b p (λ ok. looks_on rca a.card b.card (calm (sym same ∙ ok)))
-    (λ quiet at. let f = p.fine quiet at.polled in (same ∙ f.0, polled_out rca a.card b.card f.1 at))
+    (λ quiet at. let f = p.fine quiet (at.polled refl) in (same ∙ f.0, polled_out rca a.card b.card f.1 at))
 
 -- From stby to tran.
 
 abbrev pub Selects : ℕ → Result Unit IdentFault → BusView → BusView → Type 0
 Selects rca r a b =
     Moved (λ old new. IsOk r → Looks rca new.card)
-    (λ old new. InProfile old.card.made → IsNamed rca old.card → IsOk r × IsPolled 0 true rca new.card) a b
+    (λ old new. InProfile old.card.made → IsNamed rca old.card → IsOk r × IsPolled true rca new.card) a b
 
 abbrev pub Confirms : ℕ → Result Unit IdentFault → BusView → BusView → Type 0
 Confirms rca r a b =
     Moved (λ old new. Looks rca old.card → IsOk r → IsLeft rca new.card)
-    (λ old new. InProfile old.card.made → IsPolled 0 false rca old.card → IsOk r) a b
+    (λ old new. InProfile old.card.made → IsPolled false rca old.card → IsOk r) a b
 
 abbrev pub Takes : ℕ → Result Unit IdentFault → BusView → BusView → Type 0
 Takes rca r a b =

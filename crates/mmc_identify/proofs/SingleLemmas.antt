@@ -1,5 +1,5 @@
 -- What one exchange of identification tells, and where it leaves the card.
-use Rattle.std.proofs.Common.{◌<◌, ◌∙◌, ◌≡◌, ◌↔◌, ◌⊎◌, ◌^◌, Bool, List, ap, arith, cond, false, inl, refl}
+use Rattle.std.proofs.Common.{◌<◌, ◌∙◌, ◌≡◌, ◌↔◌, ◌⊎◌, ◌^◌, Bool, List, ap, arith, cond, false, inl, inr, refl}
 use Rattle.std.proofs.Common.{subst, sym, true, ℕ}
 use Rattle.std.specs.Prelude.{◌%◌, ◌&&◌, ◌/◌, ◌==◌, Err, IfOk, IsOk, IsOkAnd, Ok, Result, not}
 use Rattle.std.proofs.lemmas.Bool.{eqb-true}
@@ -9,12 +9,14 @@ use Rattle.mmc_frame.specs.declared.card_state.State.{State}
 use Rattle.mmc_frame.specs.declared.card_state.State.TheVariants.{Ident, Ready, Stby, Tran}
 use Rattle.mmc_frame.specs.declared.kind.Kind.{Kind}
 use Rattle.mmc_card.specs.BusView.{BusView}
-use Rattle.mmc_card.specs.Card.{Card, IsCard, is_identified, is_selected}
-use Rattle.mmc_card.specs.CardAnswer.{bit, busied, done, r6_argument, reset, shown, status}
+use Rattle.mmc_card.specs.Card.{Card, IsCard, is_identified, is_in, is_selected}
+use Rattle.mmc_card.specs.CardAnswer.{Choice, bit, busied, done, r6_argument, reset, shown, status}
 use Rattle.mmc_card.specs.CardLaws.{IsInOrder}
 use Rattle.mmc_card.specs.Faults.{NoFault}
+use Rattle.mmc_card.proofs.Narrow.{both}
+use Rattle.mmc_card.specs.RowsIdentify.{at_work}
 use Rattle.mmc_card.specs.Profile.{InProfile}
-use Rattle.mmc_bus.specs.CommandLaws.{Does, Names}
+use Rattle.mmc_bus.specs.CommandLaws.{Does, DoesOne, Names, TellsStatus}
 use Rattle.mmc_bus.specs.declared.host.Unheard.{Unheard}
 use Rattle.mmc_identify.specs.Judged as judged
 use Rattle.mmc_identify.specs.Stages.{IsIdle, IsLeft, IsNamed, IsPolled, IsSelected, Looks}
@@ -119,10 +121,10 @@ described_fine rca argument old heard new is_rca does same named =
 -- CMD7.
 
 selected_after : (rca : ℕ) (old new : Card) → IsCard old → old.state ≡ Stby → old.rca ≡ rca
-    → new ≡ record (busied (shown old)) { state = Tran } → IsPolled 0 true rca new
+    → new ≡ record (busied (shown old)) { state = Tran } → IsPolled true rca new
 selected_after rca old new card stby is e =
     let apart = card.apart (ap is_selected stby) in
-    subst (IsPolled 0 true rca) (sym e) (record {
+    subst (IsPolled true rca) (sym e) (record {
       selected = record {
         state = refl;
         is_rca = is;
@@ -136,8 +138,9 @@ selected_after rca old new card stby is e =
         command_errors = refl;
         errors = refl;
         switch_error = refl;
+        up_to_date = refl;
       };
-      polled = refl;
+      polled = λ busy. refl;
       is_busy = refl;
     })
 
@@ -167,7 +170,7 @@ pub selected_fine : (rca argument : ℕ) (old : BusView) (heard : Result ℕ Unh
     → field 31 16 argument ≡ rca → IsCard old.card → InProfile old.card.made
     → Does ((old.card.state ≡ Stby) × Names argument old.card) (status false old.card)
     (record (busied (shown old.card)) { state = Tran }) old heard new
-    → NoFault old new → IsNamed rca old.card → IsOk (judged.selected heard) × IsPolled 0 true rca new.card
+    → NoFault old new → IsNamed rca old.card → IsOk (judged.selected heard) × IsPolled true rca new.card
 selected_fine rca argument old heard new is_rca card profile does same named =
     let f = does.fine same (named.state, is_rca ∙ sym named.is_rca) in
     let none = unlocked old.card Stby named.state (omega arith) named.command_errors named.errors profile.unlocked in
@@ -209,12 +212,18 @@ confirms : (kind : Kind) (told : ℕ) → told / 0x2000000 % 2 ≡ 0 → judged.
     → judged.confirmed kind (Ok told) ≡ Ok tt
 confirms kind told none clean = rw (none, clean) refl
 
+-- a card that has programmed nothing tells its status as it is
+never_lags : {told : ℕ} (old new : Card) → old.lags ≡ false → TellsStatus old told new → told ≡ status false old
+never_lags old new up (inl itself) = itself.0
+never_lags old new up (inr behind) =
+    let soon = both old.lags _ (both (is_in old.state Tran) _ behind.may).1 in absurd (cc (up, soon.0))
+
 pub confirmed_fine : (rca argument : ℕ) (kind : Kind) (old : BusView) (heard : Result ℕ Unheard) (new : BusView)
     → field 31 16 argument ≡ rca → InProfile old.card.made
     → (IsClean kind (status false old.card) ↔ IsInOrder kind old.card)
-    → Does ((is_identified old.card.state ≡ true) × (old.card.app ≡ false) × Names argument old.card)
-    (status false old.card) (shown old.card) old heard new
-    → NoFault old new → IsPolled 0 false rca old.card → IsOk (judged.confirmed kind heard)
+    → DoesOne ((is_identified old.card.state ≡ true) × (old.card.app ≡ false) × Names argument old.card)
+    (TellsStatus old.card) old heard new
+    → NoFault old new → IsPolled false rca old.card → IsOk (judged.confirmed kind heard)
 confirmed_fine rca argument kind old heard new is_rca profile clean does same polled =
     let is = polled.selected in
     let f = does.fine same (ap is_identified is.state, is.app, is_rca ∙ sym is.is_rca) in
@@ -229,7 +238,9 @@ confirmed_fine rca argument kind old heard new is_rca profile clean does same po
       rests = polled.is_busy;
     } in
     let is_clean = clean_by kind (status false old.card) (clean.1 order) in
-    let judges = ap (judged.confirmed kind) f.0 ∙ confirms kind (status false old.card) none is_clean in
+    let told : heard ≡ Ok (status false old.card) =
+    f.1 ∙ ap (λ x. Ok x) (never_lags old.card new.card is.up_to_date f.2) in
+    let judges = ap (judged.confirmed kind) told ∙ confirms kind (status false old.card) none is_clean in
     subst IsOk (sym judges) refl
 
 confirmed_by : (kind : Kind) (told : ℕ) (locked clean : Bool) → let result : Result Unit IdentFault = cond locked
@@ -261,16 +272,21 @@ left_shown rca old new is rests e =
         command_errors = refl;
         errors = refl;
         switch_error = refl;
+        up_to_date = refl;
       };
       rests = rests;
     })
 
 pub confirmed_own : {IsThere : Type 0} (rca : ℕ) (kind : Kind) (old : BusView) (heard : Result ℕ Unheard)
     (new : BusView) → (IsClean kind (status false old.card) ↔ IsInOrder kind old.card)
-    → Does IsThere (status false old.card) (shown old.card) old heard new
+    → ((choice : Choice) → IsClean kind (status false (at_work choice old.card)) → ⊥)
+    → DoesOne IsThere (TellsStatus old.card) old heard new
     → Looks rca old.card → IsOk (judged.confirmed kind heard) → IsLeft rca new.card
-confirmed_own rca kind old heard new clean does looks ok =
+confirmed_own rca kind old heard new clean unclean does looks ok =
     let t = confirmed_ok kind heard ok in
-    let s = does.sound t.0 t.1 in
-    let order = clean.0 (subst (IsClean kind) s.1 t.2) in
-    left_shown rca old.card new.card (looks (ap is_selected order.tran)) order.rests s.2
+    elim (does.sound t.0 t.1).1 [
+      | inl itself ↦
+          (let order = clean.0 (subst (IsClean kind) itself.0 t.2) in
+          left_shown rca old.card new.card (looks (ap is_selected order.tran)) order.rests itself.1)
+      | inr behind ↦ absurd (unclean behind.choice (subst (IsClean kind) behind.told_is t.2))
+    ]

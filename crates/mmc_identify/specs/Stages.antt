@@ -69,11 +69,13 @@ pub record IsSelected (rca : ℕ) (card : Card) : Type 0 where
   pub command_errors : card.command_errors ≡ 0
   pub errors : card.errors ≡ 0
   pub switch_error : card.switch_error ≡ false
+  -- it has programmed nothing, so that no status lags
+  pub up_to_date : card.lags ≡ false
 
--- polled so many times, and busy or not
-pub record IsPolled (times : ℕ) (busy : Bool) (rca : ℕ) (card : Card) : Type 0 where
+-- busy and not polled yet, or not busy any more
+pub record IsPolled (busy : Bool) (rca : ℕ) (card : Card) : Type 0 where
   pub selected : IsSelected rca card
-  pub polled : card.polled ≡ times
+  pub polled : busy ≡ true → card.polled ≡ 0
   pub is_busy : card.is_busy ≡ busy
 
 -- it is as CMD7 left it, or not selected any more

@@ -107,7 +107,7 @@ fn wait<B: Bus>(bus: &mut B, rca: u16) -> Result<(), IdentFault>
     ensures bounded { (B.view bus.new).exchanges ≤ (B.view bus.old).exchanges + 16 }
     ensures lines { (B.view bus.new).lines ≡ (B.view bus.old).lines }
     ensures moves { Moves (λ old new. IsOk result → Looks rca old.card → Looks rca new.card)
-        (λ old new. IsPolled 0 true rca old.card → IsOk result × IsPolled 0 false rca new.card)
+        (λ old new. IsPolled true rca old.card → IsOk result × IsPolled false rca new.card)
         (B.view bus.old) (B.view bus.new) }
 {
     wait_while_busy(bus).map_err(|_| IdentFault::NoAnswer)

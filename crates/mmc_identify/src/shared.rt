@@ -54,7 +54,7 @@ pub fn select<B: Bus>(bus: &mut B, rca: u16) -> Result<(), IdentFault>
     ensures bounded { (B.view bus.new).exchanges ≤ (B.view bus.old).exchanges + 1 }
     ensures lines { (B.view bus.new).lines ≡ (B.view bus.old).lines }
     ensures moves { Moves (λ old new. IsOk result → Looks rca new.card)
-        (λ old new. InProfile old.card.made → IsNamed rca old.card → IsOk result × IsPolled 0 true rca new.card)
+        (λ old new. InProfile old.card.made → IsNamed rca old.card → IsOk result × IsPolled true rca new.card)
         (B.view bus.old) (B.view bus.new) }
 {
     identify_laws::cmd7_selects_the_card();
@@ -67,7 +67,7 @@ pub fn confirm<B: Bus>(bus: &mut B, kind: Kind, rca: u16) -> Result<(), IdentFau
     ensures bounded { (B.view bus.new).exchanges ≤ (B.view bus.old).exchanges + 1 }
     ensures lines { (B.view bus.new).lines ≡ (B.view bus.old).lines }
     ensures moves { Moves (λ old new. Looks rca old.card → IsOk result → IsLeft rca new.card)
-        (λ old new. InProfile old.card.made → IsPolled 0 false rca old.card → IsOk result)
+        (λ old new. InProfile old.card.made → IsPolled false rca old.card → IsOk result)
         (B.view bus.old) (B.view bus.new) }
 {
     identify_laws::cmd13_tells_the_status();

@@ -1,15 +1,17 @@
 -- A card that is brought back in order where it stands.
-use Rattle.std.proofs.Common.{◌∙◌, ◌≡◌, ap}
+use Rattle.std.proofs.Common.{◌∙◌, ◌≡◌, ap, false, inl, inr, refl, subst, sym, ℕ}
 use Rattle.std.specs.Prelude.{IsErr, IsOk, Result}
 use Rattle.mmc_frame.specs.declared.card_state.State.TheVariants.{Tran}
 use Rattle.mmc_frame.specs.declared.kind.Kind.{Kind}
 use Rattle.mmc_card.specs.BusView.{BusView}
-use Rattle.mmc_card.specs.Card.{Card, IsCard, is_selected}
+use Rattle.mmc_card.specs.Card.{Card, IsCard, NoAddress, is_selected}
 use Rattle.mmc_card.specs.CardAnswer.{shown}
 use Rattle.mmc_card.specs.CardLaws.{IsInOrder}
 use Rattle.mmc_card.specs.Laws.{Setting, setting_of}
 use Rattle.mmc_card.specs.RowsErase.{forgotten}
 use Rattle.mmc_bus.proofs.WorkLemmas.{joined, moved_as, moved_then, narrows_then, refuted}
+use Rattle.mmc_bus.specs.Closings.{HasShown}
+use Rattle.mmc_bus.specs.CommandLaws.{TellsStatus}
 use Rattle.mmc_bus.specs.Work.{Anything, Done, Moved, Narrows, Worked}
 use Rattle.mmc_bus.specs.declared.cause.Cause.{Cause}
 use Rattle.mmc_switch.proofs.UnderWayLemmas.{knows_then, quiet_by, ready_again, stands_then}
@@ -52,7 +54,12 @@ SetsBlocks r =
     Moved (λ old new. IsOk r → (old.card.state ≡ Tran) × (new.card ≡ set_to_blocks old.card)) Anything
 
 abbrev pub Shows : {X : Type 0} → Result X Cause → BusView → BusView → Type 0
-Shows r = Worked Narrows (λ old new. IsOk r → new.card ≡ shown old.card) Anything
+Shows r = Worked Narrows (λ old new. IsOk r → HasShown old.card new.card) Anything
+
+-- a status shows itself, whether it lags or not
+pub has_shown : {told : ℕ} (old new : Card) → TellsStatus old told new → HasShown old new
+has_shown old new (inl itself) = subst (HasShown old) (sym itself.1) refl
+has_shown old new (inr behind) = subst (HasShown old) (sym behind.card) refl
 
 -- a card in tran stands as it did
 stands_with_blocks : (session : Session) (a b : BusView) → b.lines ≡ a.lines → a.card.state ≡ Tran
@@ -72,13 +79,13 @@ stands_with_blocks session a b lines tran e stands =
     }
 
 -- the card after CMD16 and two CMD13, of which the last one finds it in order
-in_order_again : (kind : Kind) (session : Session) (card : Card) (c d : BusView) → c.card ≡ shown (set_to_blocks card)
+in_order_again : (kind : Kind) (session : Session) (c d : BusView) → c.card.erase ≡ NoAddress
     → d.card ≡ shown c.card → IsInOrder kind c.card → IsCard d.card → Knows session d.card.made → StandsAs session d
     → IsReady session d
-in_order_again kind session card c d e f order is knows stands =
+in_order_again kind session c d erase f order is knows stands =
     ready_again session d is knows stands
-    (quiet_by (ap (λ (x : Card). x.state) f ∙ order.tran) (ap (λ (x : Card). x.app) f) (ap (λ (x : Card). x.command_errors) f) (ap (λ (x : Card). x.errors) f) (ap (λ (x : Card). x.switch_error) f) (ap (λ (x : Card). x.count) f) (ap (λ (x : Card). x.erase) f ∙ ap (λ (x : Card). x.erase) e))
-    (ap (λ (x : Card). x.is_busy) f ∙ order.rests)
+    (quiet_by (ap (λ (x : Card). x.state) f ∙ order.tran) (ap (λ (x : Card). x.app) f) (ap (λ (x : Card). x.command_errors) f) (ap (λ (x : Card). x.errors) f) (ap (λ (x : Card). x.switch_error) f) (ap (λ (x : Card). x.count) f) (ap (λ (x : Card). x.erase) f ∙ erase))
+    (ap (λ (x : Card). x.is_busy) f ∙ order.rests) (ap (λ (x : Card). x.lags) f)
 
 pub puts_in_order : {X : Type 0} {Fine : BusView → BusView → Type 0} (info : Info) (kind : Kind)
     (first : Result Unit Cause) (second : Result X Cause)
@@ -96,7 +103,8 @@ puts_in_order info kind first second last a b c d one two lines p q r =
     let final = r.own ok in
     let with = stands_with_blocks session a b lines blocks.0 blocks.1 stands in
     let still = stands_then session b d rest.set with in
-    in_order_again kind session a.card c d (showed ∙ ap shown blocks.1) final.1 final.0 r.is_card
+    in_order_again kind session c d (ap (λ (x : Card). x.erase) showed ∙ ap (λ (x : Card). x.erase) blocks.1) final.1
+    final.0 r.is_card
     (knows_then session a.card d.card all.stays.carried knows) still)
     (λ same. tt)
 

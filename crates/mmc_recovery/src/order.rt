@@ -3,6 +3,7 @@ ghost use Rattle.std.specs.Prelude.{◌≡◌, ◌+◌, ◌≤◌, IsOk, true};
 ghost use Rattle.mmc_frame.specs.declared.card_state.State.TheVariants.{Tran};
 ghost use Rattle.mmc_card.specs.CardAnswer.{shown};
 ghost use Rattle.mmc_card.specs.RowsErase.{forgotten};
+ghost use Rattle.mmc_bus.specs.Closings.{HasShown};
 ghost use Rattle.mmc_bus.specs.Work.{Anything, Moves, Narrows, Works};
 ghost use Rattle.mmc_recovery.specs.Settled.{Restores};
 
@@ -17,7 +18,7 @@ use mmc_switch::Info;
 // CMD13: the status, whatever errors it shows. They are cleared by it.
 fn show_status<B: Bus>(bus: &mut B, rca: u16) -> Result<u32, Cause>
     ensures bounded { (B.view bus.new).exchanges ≤ (B.view bus.old).exchanges + 1 }
-    ensures works { Works Narrows (λ old new. IsOk result → new.card ≡ shown old.card) Anything
+    ensures works { Works Narrows (λ old new. IsOk result → HasShown old.card new.card) Anything
         (B.view bus.old) (B.view bus.new) }
 {
     identify_laws::cmd13_tells_the_status();

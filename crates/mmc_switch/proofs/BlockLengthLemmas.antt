@@ -40,6 +40,7 @@ set_after rca old new card left first lines e =
         count = refl;
         erase = refl;
         finished = card.finished (ap is_writing is.state);
+        up_to_date = refl;
       };
       is_set = rw (is.is_rca, is.part, is.width, is.timing, is.erase_group_def) refl;
       on_lines = lines ∙ first;

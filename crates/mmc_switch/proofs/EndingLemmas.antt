@@ -15,14 +15,17 @@ use Rattle.mmc_card.specs.Laws.{Setting}
 use Rattle.mmc_card.specs.Sectors.{Change, IsIn as IsOneOf, Same, Sector, Sets, Within, changed, touches, value_of}
 use Rattle.mmc_card.specs.declared.exchange.Exchange.TheVariants.{Busy}
 use Rattle.mmc_bus.specs.Exchanges.{Exchanged}
+use Rattle.mmc_bus.specs.Closings.{ClosesSoon, CountsOn, HasShown}
 use Rattle.mmc_bus.specs.Learned.{PollFacts}
 use Rattle.mmc_bus.specs.declared.cause.Cause.{Cause}
+use Rattle.mmc_bus.specs.declared.status.Closing.{Closing}
+use Rattle.mmc_bus.specs.declared.status.Closing.TheVariants.{AtWork, Clean}
 use Rattle.mmc_bus.specs.declared.wait.TheConstants.{MAX_POLLS}
 use Rattle.mmc_bus.proofs.WorkLemmas.{done_by}
 use Rattle.mmc_switch.proofs.TurnLemmas.{no_more, turn_fails, turn_goes_on}
 use Rattle.mmc_switch.proofs.UnderWayLemmas.{knows_then, no_error, part_in, quiet_by, ready_again, set_in}
 use Rattle.mmc_switch.proofs.UnderWayLemmas.{stands_then}
-use Rattle.mmc_switch.specs.Ending.{Confirms, EndingDid, IsEnding, Polls, ShownIn}
+use Rattle.mmc_switch.specs.Ending.{Confirms, EndingDid, FailsAt, IsEnding, LagsAfter, Polls, ShownIn}
 use Rattle.mmc_switch.specs.Place.{IsReady}
 use Rattle.mmc_switch.specs.Turns.{LeftIn}
 use Rattle.mmc_switch.specs.UnderWay.{IsBusyAfter, IsCarriedOut, IsIdle, IsProgramming, IsUnderWay, Turn, part_of}
@@ -64,9 +67,9 @@ not_so_often polls a b last facts busy same =
 
 pub rested_in : (state : State) (card : Card) → card.state ≡ state
     → rested card
-    ≡ (if is_in state Prg then programmed (λ i. true) card else record card { is_busy = false; polled = 0 })
+    ≡ (if is_in state Prg then programmed (λ i. true) card else record card { is_busy = false })
 rested_in state card is =
-    ap (λ now. if is_in now Prg then programmed (λ i. true) card else record card { is_busy = false; polled = 0 }) is
+    ap (λ now. if is_in now Prg then programmed (λ i. true) card else record card { is_busy = false }) is
 
 -- it held no error before, if it holds none now
 pub none_before : (old new : Card) → new ≡ rested old → new.errors ≡ 0 → old.errors ≡ 0
@@ -108,15 +111,43 @@ idle_shown card idle = record {
   rests = idle.rests;
 }
 
+-- and where the status shows it at work still
+pub idle_after : (old new : Card) → HasShown old new → IsIdle 0 old → IsIdle 0 new
+idle_after old new e idle =
+    subst (IsIdle 0) (sym e) (record {
+      quiet = quiet_by idle.quiet.state refl refl refl refl refl idle.quiet.erase;
+      rests = idle.rests;
+    })
+
+pub lags_on : (waits : ℕ) (old new : Card) → LagsAfter waits old → CountsOn old new → LagsAfter (waits + 1) new
+lags_on waits old new after counts still few =
+    let on = counts still in
+    let was = after on.0 on.1 in
+    let more = on.2 in
+    omega (arith, was, more)
+
+-- a status is no failure of a card in order
+never_fails : (waits : ℕ) (old new : Card) (closing : Result Closing Cause) → FailsAt waits closing → LagsAfter waits old
+    → ClosesSoon closing old new → ⊥
+never_fails waits old new (Ok Clean) fails after soon = fails
+never_fails waits old new (Ok AtWork) fails after soon =
+    let was = after soon.0 soon.1 in
+    let below = soon.1 in
+    absurd (omega (arith, was, below, fails))
+never_fails waits old new (Err cause) fails after soon = soon
+
 -- where an ending leads to by itself
 pub record CanEnd (session : Session) (Exact : Ending → Card → Type 0) : Type 0 where
   pub busy : (polls : ℕ) (card : Card) → Exact (Wait polls) card → card.is_busy ≡ true → IsBusyAfter polls card
   pub yes : (polls : ℕ) (card : Card) → Exact (Wait polls) card → card.is_busy ≡ true
       → Exact (Wait (polls + 1)) (waited card)
   pub no : ProgramLaw → (polls : ℕ) (card : Card) → Exact (Wait polls) card → FitsPart card
-      → (is_selected card.state ≡ true → card.part ≡ part_of session) → Exact Confirm (rested card)
-  pub idle : (card : Card) → Exact Confirm card → IsIdle 0 card
-  pub shows : (card : Card) → Exact Confirm card → Exact Confirm (shown card)
+      → (is_selected card.state ≡ true → card.part ≡ part_of session) → Exact (Confirm polls) (rested card)
+  pub works : (waits : ℕ) (card new : Card) → Exact (Confirm waits) card → HasShown card new → CountsOn card new
+      → Exact (Confirm (waits + 1)) new
+  pub idle : (waits : ℕ) (card : Card) → Exact (Confirm waits) card → IsIdle 0 card
+  pub lags : (waits : ℕ) (card : Card) → Exact (Confirm waits) card → LagsAfter waits card
+  pub shows : (waits : ℕ) (card : Card) → Exact (Confirm waits) card → Exact (Confirm 0) (shown card)
 
 -- that of a change
 pub change_ends : (session : Session) (change : Change) → change.part ≡ part_of session
@@ -134,9 +165,16 @@ change_ends session change part = record {
   no = λ law polls card exact fits in_part. (
     idle_programmed _ _ card exact.0,
     carried_out change card law fits (in_part (ap is_selected exact.0.quiet.state) ∙ sym part) exact.0,
+    subst (LagsAfter polls) (sym (rested_in Prg card exact.0.quiet.state)) (λ lags few. exact.1.polled few),
   );
-  idle = λ card exact. exact.0;
-  shows = λ card exact. (idle_shown card exact.0, exact.1);
+  works = λ waits card new exact shows counts. (
+    idle_after card new shows exact.0,
+    subst (IsCarriedOut change) (sym shows) exact.1,
+    lags_on waits card new exact.2 counts,
+  );
+  idle = λ waits card exact. exact.0;
+  lags = λ waits card exact. exact.2;
+  shows = λ waits card exact. (idle_shown card exact.0, exact.1, λ lags few. cc lags);
 }
 
 -- A turn of an ending, from what its exchange did.
@@ -145,7 +183,8 @@ abbrev pub EndingTurned : Session → Change → (Ending → Card → Type 0) �
     → Type 0
 EndingTurned session change Exact faults old result new =
     Turn change
-    (LeftIn session (λ ending. IsUnderWay session (ShownIn ending) (Exact ending)) (Exact Confirm) result) faults old new
+    (LeftIn session (λ ending. IsUnderWay session (ShownIn ending) (Exact ending)) (Exact (Confirm 0)) result) faults old
+    new
 
 module _ (session : Session) (change : Change) (Exact : Ending → Card → Type 0) (ends : CanEnd session Exact)
     (some : IsSome session.selected) (faults : ℕ) (a b : BusView) where
@@ -154,7 +193,7 @@ module _ (session : Session) (change : Change) (Exact : Ending → Card → Type
     wait_fails : (cause : Cause) → polls + 1 ≡ MAX_POLLS → Polls true a b
         → EndingTurned session change Exact faults a (Err cause) b
     wait_fails cause last work =
-        turn_fails session change ShownIn Exact (Exact Confirm) (Wait polls) faults a b at work cause
+        turn_fails session change ShownIn Exact (Exact (Confirm 0)) (Wait polls) faults a b at work cause
         (λ waits quiet. not_so_often polls a b last work.own (ends.busy polls a.card waits (work.own.yes refl).0) quiet)
 
     -- yes
@@ -163,30 +202,31 @@ module _ (session : Session) (change : Change) (Exact : Ending → Card → Type
         let yes = work.own.yes refl in
         let comes : Exact (Wait polls) a.card → Exact (Wait (polls + 1)) b.card =
         λ waits. subst (Exact (Wait (polls + 1))) (sym yes.1) (ends.yes polls a.card waits yes.0) in
-        turn_goes_on session change ShownIn Exact (Exact Confirm) (Wait polls) faults a b at work (Wait (polls + 1))
+        turn_goes_on session change ShownIn Exact (Exact (Confirm 0)) (Wait polls) faults a b at work (Wait (polls + 1))
         (λ none. sym (ap (λ (c : Card). c.errors) yes.1) ∙ none) (λ waits none. comes waits) (λ waits quiet. comes waits)
 
-    is_over : ProgramLaw → Exact (Wait polls) a.card → b.card ≡ rested a.card → Exact Confirm b.card
+    is_over : ProgramLaw → Exact (Wait polls) a.card → b.card ≡ rested a.card
+        → Exact (Confirm polls) b.card
     is_over programs waits is =
-        subst (Exact Confirm) (sym is)
+        subst (Exact (Confirm polls)) (sym is)
         (ends.no programs polls a.card waits at.is_card.fits (λ selected. part_in session a some at.stands selected))
 
     -- no
-    wait_ends : ProgramLaw → Polls false a b → EndingTurned session change Exact faults a (Ok (Some Confirm)) b
+    wait_ends : ProgramLaw → Polls false a b → EndingTurned session change Exact faults a (Ok (Some (Confirm polls))) b
     wait_ends programs work =
-        turn_goes_on session change ShownIn Exact (Exact Confirm) (Wait polls) faults a b at work Confirm
+        turn_goes_on session change ShownIn Exact (Exact (Confirm 0)) (Wait polls) faults a b at work (Confirm polls)
         (λ sound. none_before a.card b.card (work.own.shown refl sound.0 sound.1) sound.1)
         (λ waits sound. is_over programs waits (work.own.shown refl sound.0 sound.1))
         (λ waits same. is_over programs waits (work.own.fine same refl))
 
-  module _ (at : IsUnderWay session (ShownIn Confirm) (Exact Confirm) faults a) where
+  module _ (waits : ℕ) (at : IsUnderWay session (ShownIn (Confirm waits)) (Exact (Confirm waits)) faults a) where
     -- the status isn't clean
-    confirm_fails : (cause : Cause) → Confirms session.info.kind session.info.rca false a b
-        → EndingTurned session change Exact faults a (Err cause) b
-    confirm_fails cause work =
-        turn_fails session change ShownIn Exact (Exact Confirm) Confirm faults a b at work cause
+    confirm_fails : (cause : Cause) (closing : Result Closing Cause) → FailsAt waits closing
+        → Confirms session.info.kind session.info.rca closing a b → EndingTurned session change Exact faults a (Err cause) b
+    confirm_fails cause closing fails work =
+        turn_fails session change ShownIn Exact (Exact (Confirm 0)) (Confirm waits) faults a b at work cause
         (λ rests quiet.
-        let idle = ends.idle a.card rests in
+        let idle = ends.idle waits a.card rests in
         let selected : is_selected a.card.state ≡ true = ap is_selected idle.quiet.state in
         let is_rca : a.card.rca ≡ session.info.rca =
         ap (λ (s : Setting). s.rca) (set_in session a some at.stands selected) in
@@ -195,21 +235,34 @@ module _ (session : Session) (change : Change) (Exact : Ending → Card → Type
           tran = idle.quiet.state;
           rests = idle.rests;
         } in
-        cc (work.fine quiet order idle.quiet.app is_rca))
+        never_fails waits a.card b.card closing fails (ends.lags waits a.card rests)
+        (work.fine quiet order idle.quiet.app is_rca))
 
-    -- it is
-    is_ready : Confirms session.info.kind session.info.rca true a b → IsReady session b × Exact Confirm b.card
+    -- it shows the card at work
+    works_on : Confirms session.info.kind session.info.rca (Ok AtWork) a b
+        → EndingTurned session change Exact faults a (Ok (Some (Confirm (waits + 1)))) b
+    works_on work =
+        let own = work.own in
+        let comes : Exact (Confirm waits) a.card → Exact (Confirm (waits + 1)) b.card =
+        λ rests. ends.works waits a.card b.card rests own.1 own.2 in
+        turn_goes_on session change ShownIn Exact (Exact (Confirm 0)) (Confirm waits) faults a b at work
+        (Confirm (waits + 1))
+        (λ sound. (ap (λ (c : Card). is_selected c.state) (sym own.1) ∙ sound.0, own.0.errors))
+        (λ rests sound. comes rests) (λ rests quiet. comes rests)
+
+    -- it is clean
+    is_ready : Confirms session.info.kind session.info.rca (Ok Clean) a b → IsReady session b × Exact (Confirm 0) b.card
     is_ready work =
-        let own = work.own refl in
+        let own = work.own in
         let rests = at.shown (ap is_selected own.0.tran, own.0.no_error.errors) in
-        let stays : Exact Confirm b.card = subst (Exact Confirm) (sym own.1) (ends.shows a.card rests) in
-        let idle = ends.idle b.card stays in (
+        let stays : Exact (Confirm 0) b.card = subst (Exact (Confirm 0)) (sym own.1) (ends.shows waits a.card rests) in
+        let idle = ends.idle 0 b.card stays in (
           ready_again session b work.is_card (knows_then session a.card b.card work.stays.carried at.knows)
-              (stands_then session a b work.set at.stands) idle.quiet idle.rests,
+              (stands_then session a b work.set at.stands) idle.quiet idle.rests (ap (λ (c : Card). c.lags) own.1),
           stays,
         )
 
-    confirm_ends : Confirms session.info.kind session.info.rca true a b
+    confirm_ends : Confirms session.info.kind session.info.rca (Ok Clean) a b
         → EndingTurned session change Exact faults a (Ok None) b
     confirm_ends work = record {
       stays = work.stays;
@@ -221,15 +274,16 @@ module _ (session : Session) (change : Change) (Exact : Ending → Card → Type
       → (result : Result (Option Ending) Cause) → EndingDid session ending a result b
       → EndingTurned session change Exact faults a result b
   ending_turned programs (Wait polls) at (Ok (Some (Wait more))) did = rw did.0 (wait_more polls at did.1)
-  ending_turned programs (Wait polls) at (Ok (Some Confirm)) did = wait_ends polls at programs did
+  ending_turned programs (Wait polls) at (Ok (Some (Confirm waits))) did = rw did.0 (wait_ends polls at programs did.1)
   ending_turned programs (Wait polls) at (Ok None) did = absurd did
   ending_turned programs (Wait polls) at (Err cause) did = wait_fails polls at cause did.0 did.1
-  ending_turned programs Confirm at (Ok (Some ending)) did = absurd did
-  ending_turned programs Confirm at (Ok None) did = confirm_ends at did
-  ending_turned programs Confirm at (Err cause) did = confirm_fails at cause did
+  ending_turned programs (Confirm waits) at (Ok (Some (Wait more))) did = absurd did
+  ending_turned programs (Confirm waits) at (Ok (Some (Confirm more))) did = rw did.0 (works_on waits at did.1)
+  ending_turned programs (Confirm waits) at (Ok None) did = confirm_ends waits at did
+  ending_turned programs (Confirm waits) at (Err cause) did = confirm_fails waits at cause did.0 did.1 did.2
 
 -- a failure is the same for any cause
 pub for_any_cause : (session : Session) (ending : Ending) (a b : BusView) (cause other : Cause)
     → EndingDid session ending a (Err cause) b → EndingDid session ending a (Err other) b
 for_any_cause session (Wait polls) a b cause other did = did
-for_any_cause session Confirm a b cause other did = did
+for_any_cause session (Confirm waits) a b cause other did = did

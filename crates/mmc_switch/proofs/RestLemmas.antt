@@ -84,6 +84,7 @@ rests_as is_app was_app state source width timing block_length old tran rest = r
   count = refl;
   erase = refl;
   finished = rest.finished;
+  up_to_date = refl;
 }
 
 -- it is at rest, on the same lines of the host

@@ -22,7 +22,7 @@ use Rattle.mmc_bus.proofs.CommandLemmas.{switch_bytes}
 use Rattle.mmc_bus.specs.declared.cause.Cause.{Cause}
 use Rattle.mmc_bus.specs.Learned.{Stays}
 use Rattle.mmc_bus.specs.Work.{Moved}
-use Rattle.mmc_bus.proofs.PollLemmas.{Confirms}
+use Rattle.mmc_bus.proofs.ClosingLemmas.{ConfirmsOnce}
 use Rattle.mmc_bus.proofs.WorkLemmas.{moved_as, moved_then, quiet_parts, refuted}
 use Rattle.mmc_switch.specs.Info.{IsTimingOf, timing_of, width_of}
 use Rattle.mmc_switch.specs.Stages.{HasSwitched, IsSet, IsSetOver, IsToldOf, first_setting, lines_of, user_setting}
@@ -408,16 +408,16 @@ timing_fails rca switches scr width cause r a b err p =
 
 -- a card at rest is confirmed without a fault
 confirmed_fine : (rca : ℕ) (width : Width) (timing : Timing) (r : Result Unit Cause) (a b : BusView)
-    → Confirms Sd rca r a b → NoFault a b → IsSet false (user_setting rca width timing 0) a → IsOk r
+    → ConfirmsOnce Sd rca r a b → NoFault a b → IsSet false (user_setting rca width timing 0) a → IsOk r
 confirmed_fine rca width timing r a b p same set =
     let rest = set.rest in
     p.fine same
     (record { no_error = no_error Sd false a.card rest; tran = rest.state; rests = rest.rests }) rest.app
-    (ap (λ (s : Setting). s.rca) set.is_set)
+    (ap (λ (s : Setting). s.rca) set.is_set) rest.up_to_date
 
 pub confirm_fails : (rca : ℕ) (switches : Bool) (scr : ℕ) (width : Width) (timing : Timing) (cause : Cause)
     (r : Result Told Cause) (a b c : BusView) → IsErr r → HasTiming rca switches scr width (Ok timing) a b
-    → Confirms Sd rca (Err cause) b c → SetsUp rca switches r a c
+    → ConfirmsOnce Sd rca (Err cause) b c → SetsUp rca switches r a c
 confirm_fails rca switches scr width timing cause r a b c err p q =
     moved_then a b c p q (λ sd class set. IfOk-from_err r _ err)
     (λ same sd class set.
@@ -426,7 +426,7 @@ confirm_fails rca switches scr width timing cause r a b c err p q =
     (p.own sd class set).2.1))
 
 pub set_up : (rca : ℕ) (switches : Bool) (scr : ℕ) (width : Width) (timing : Timing) (a b c : BusView)
-    → HasTiming rca switches scr width (Ok timing) a b → Confirms Sd rca (Ok tt) b c
+    → HasTiming rca switches scr width (Ok timing) a b → ConfirmsOnce Sd rca (Ok tt) b c
     → SetsUp rca switches (Ok (record { scr = scr; width = width; timing = timing })) a c
 set_up rca switches scr width timing a b c p q =
     moved_then a b c p q

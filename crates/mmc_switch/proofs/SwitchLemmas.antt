@@ -30,7 +30,7 @@ use Rattle.mmc_bus.specs.Exchanges.{Kept}
 use Rattle.mmc_bus.specs.Heard.{response_of}
 use Rattle.mmc_bus.specs.Learned.{CommandFacts}
 use Rattle.mmc_bus.specs.Work.{Done, Moved, Narrows}
-use Rattle.mmc_bus.proofs.PollLemmas.{Ended}
+use Rattle.mmc_bus.proofs.ClosingLemmas.{Ended}
 use Rattle.mmc_bus.proofs.WorkLemmas.{done_as, done_by, done_then, moved_as, moved_on, moved_then, narrows_then, quiet_parts, refuted}
 use Rattle.mmc_switch.specs.Info.{has_high_timing, timing_of}
 use Rattle.mmc_switch.proofs.RestLemmas.{no_error, nothing_dropped, set_on_lines}
@@ -135,7 +135,7 @@ request_fails rca argument fault r a b err p =
 
 -- at rest again
 rest_again : (old after new : Card) → IsAtRest false old → after.erase ≡ old.erase
-    → new ≡ shown (rested (programs_switch after)) → IsAtRest false new × (setting_of new ≡ setting_of after)
+    → new ≡ record (shown (rested (programs_switch after))) { polled = new.polled } → IsAtRest false new × (setting_of new ≡ setting_of after)
 rest_again old after new rest erase e =
     subst (λ card. IsAtRest false card × (setting_of card ≡ setting_of after)) (sym e) (
       record {
@@ -148,6 +148,7 @@ rest_again old after new rest erase e =
         count = refl;
         erase = erase ∙ rest.erase;
         finished = refl;
+        up_to_date = refl;
       },
       refl,
     )
@@ -179,7 +180,7 @@ switches rca argument request r a b c good p q =
     (λ after mmc rest to ok.
     let is = unfailed b.card (b.card ≡ programs_switch after) (q.own ok).0 (p.own after mmc rest to good) in
     rest_again a.card after c.card rest (keeps a.card after argument to).0
-    ((q.own ok).1 ∙ ap (λ card. shown (rested card)) is))
+    ((q.own ok).1 ∙ ap (λ card. record (shown (rested card)) { polled = c.card.polled }) is))
     (λ same after mmc rest is_rca to.
     let parts = quiet_parts a b c p.stays q.stays same in
     let back = sym (p.fine parts.0 after mmc rest to).1 in

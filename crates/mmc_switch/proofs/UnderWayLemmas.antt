@@ -164,9 +164,10 @@ no_error kind count card quiet =
     record { command_errors = quiet.command_errors; errors = quiet.errors; switch_error = λ mmc. quiet.switch_error }
 
 -- A card in tran with nothing to do is ready.
-pub ready_again : (session : Session) (view : BusView) → IsCard view.card → Knows session view.card.made → StandsAs session view → IsQuiet Tran 0 view.card → view.card.is_busy ≡ false
+pub ready_again : (session : Session) (view : BusView) → IsCard view.card → Knows session view.card.made
+    → StandsAs session view → IsQuiet Tran 0 view.card → view.card.is_busy ≡ false → view.card.lags ≡ false
     → IsReady session view
-ready_again session view card knows stands quiet rests =
+ready_again session view card knows stands quiet rests up_to_date =
     let selected : is_selected view.card.state ≡ true = ap is_selected quiet.state in
     let setting : setting_of view.card ≡ setting_in session.info stands.part = stands.stands.selected selected in
     let part : view.card.part ≡ stands.part = ap (λ (s : Setting). s.part) setting in
@@ -184,6 +185,7 @@ ready_again session view card knows stands quiet rests =
           count = quiet.count;
           erase = quiet.erase;
           finished = card.finished (rw quiet.state refl);
+          up_to_date = up_to_date;
         };
         is_set = setting ∙ ap (setting_in session.info) (sym part);
         on_lines = stands.lines ∙ ap (λ p. lines_of (setting_in session.info p)) (sym part);

@@ -29,6 +29,8 @@ pub record IsAtRest (is_app : Bool) (card : Card) : Type 0 where
   pub count : card.count ≡ 0
   pub erase : card.erase ≡ NoAddress
   pub finished : card.values ≡ []
+  -- no status lags behind
+  pub up_to_date : card.lags ≡ false
 
 -- the lines of a card that is set so
 abbrev pub lines_of : Setting → Lines

@@ -2,7 +2,8 @@
 // went well its status alone tells.
 //
 // 1. The card is polled until it isn't busy, at most `MAX_POLLS` times.
-// 2. Then comes a CMD13 whose status has to be clean.
+// 2. Then comes a CMD13 whose status has to be clean. One that shows the card still at work counts as a poll that was answered
+//    yes, and CMD13 comes again.
 ghost use Rattle.std.specs.Prelude.{◌≡◌, ◌+◌, ◌<◌, IfErr, IfOk, IfSome, IsTrue, true};
 ghost use Rattle.mmc_bus.specs.Work.{Ends};
 ghost use Rattle.mmc_bus.specs.declared.cause.Cause.TheVariants.{Busy};
@@ -11,9 +12,9 @@ ghost use Rattle.mmc_switch.specs.Ending.{EndingDid, ending_fits, ending_left};
 ghost use Rattle.mmc_switch.specs.Turns.{left_after};
 
 use crate::session::Session;
-use mmc_bus::{Bus, Cause, MAX_POLLS, confirm, poll};
+use mmc_bus::{Bus, Cause, Closing, MAX_POLLS, ask_closing, poll};
 
-/// The most exchanges of an ending: the polls, and CMD13.
+/// The most exchanges of an ending: polls and statuses that say that the card is at work, a poll that says no, and CMD13.
 pub const EXCHANGES_OF_AN_ENDING: u64 = MAX_POLLS + 1;
 
 /// The next exchange of an ending.
@@ -21,8 +22,8 @@ pub const EXCHANGES_OF_AN_ENDING: u64 = MAX_POLLS + 1;
 pub enum Ending {
     /// A poll, after so many.
     Wait { polls: u64 },
-    /// CMD13.
-    Confirm,
+    /// CMD13, after so many polls and statuses that said that the card is at work.
+    Confirm { waits: u64 },
 }
 
 /// One poll more.
@@ -49,14 +50,15 @@ impl Ending {
     {
         match self {
             Ending::Wait { polls } => EXCHANGES_OF_AN_ENDING - *polls,
-            Ending::Confirm => 1,
+            Ending::Confirm { waits } => MAX_POLLS - *waits,
         }
     }
 
     /// Its exchange, and what comes behind it, or `None` where the card is ready.
     ///
     /// # Errors
-    /// The cause of the exchange: `Busy` of a poll, and of CMD13 `Answer` or `Status`.
+    /// The cause of the exchange: `Busy` of a poll, and of CMD13 `Answer` or `Status`, also where it showed the card at work
+    /// once too often.
     pub fn step<B: Bus>(self, bus: &mut B, session: &Session) -> Result<Option<Ending>, Cause>
         requires fits { IsTrue (ending_fits self) }
         ensures ends { Ends 1 (B.view bus.old) result (B.view bus.new) }
@@ -71,13 +73,16 @@ impl Ending {
                     let polls = one_more(polls)?;
                     Ok(Some(Ending::Wait { polls }))
                 } else {
-                    Ok(Some(Ending::Confirm))
+                    Ok(Some(Ending::Confirm { waits: polls }))
                 }
             }
-            Ending::Confirm => {
-                confirm(bus, session.kind(), session.rca())?;
-                Ok(None)
-            }
+            Ending::Confirm { waits } => match ask_closing(bus, session.kind(), session.rca())? {
+                Closing::Clean => Ok(None),
+                Closing::AtWork if waits + 1 < MAX_POLLS => {
+                    Ok(Some(Ending::Confirm { waits: waits + 1 }))
+                }
+                Closing::AtWork => Err(Cause::Status),
+            },
         }
     }
 }

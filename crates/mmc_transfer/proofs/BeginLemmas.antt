@@ -112,6 +112,7 @@ module _ (job : Job) (blocks : List Sector) (faults : ℕ) (kind : Kind) (addres
   is_begun Read idle = record {
     quiet = quiet_by refl refl refl refl refl refl idle.quiet.erase;
     rests = idle.rests;
+    up_to_date = refl;
     errors = inl refl;
     source = refl;
     next = (let at_start = sector_is in omega (arith, at_start));

@@ -58,11 +58,11 @@ stopped_reading job blocks stays_busy card sending =
     (sym (stopped_in Data stays_busy card sending.quiet.state))
     (by_cond (λ next. HasStopped (Wait 0) next × AreStored job.count job blocks next) stays_busy
     (λ busy. (
-      (quiet_by refl refl refl refl refl refl sending.quiet.erase, λ yes. record { busy = refl; polled = λ few. refl }),
+      (quiet_by refl refl refl refl refl refl sending.quiet.erase, λ yes. record { busy = refl; polled = λ few. refl }, refl),
       sending.read,
     ))
     (λ rests. (
-      (quiet_by refl refl refl refl refl refl sending.quiet.erase, λ yes. absurd (cc (sending.rests, yes))),
+      (quiet_by refl refl refl refl refl refl sending.quiet.erase, λ yes. absurd (cc (sending.rests, yes)), refl),
       sending.read,
     )))
 

@@ -1,5 +1,5 @@
 -- What ends a run: polls behind what ended the transfer, and CMD13.
-use Rattle.std.proofs.Common.{◌+◌, ◌≡◌, List, [], arith, length, refl, subst, sym, ℕ}
+use Rattle.std.proofs.Common.{◌+◌, ◌≡◌, List, [], arith, false, length, refl, subst, sym, ℕ}
 use Rattle.std.specs.Prelude.{Err, IsErr, IsSomeAnd, MatchOption, None, Ok, Option, Result, Some, slice_index_or}
 use Rattle.mmc_frame.specs.declared.card_state.State.TheVariants.{Tran}
 use Rattle.mmc_card.proofs.SectorLemmas.{at_in, cond_in_old}
@@ -9,7 +9,7 @@ use Rattle.mmc_card.specs.Card.{Card, holds, known, stored, unfinished}
 use Rattle.mmc_card.specs.Sectors.{AreRead, Sector, touches, value_of}
 use Rattle.mmc_bus.specs.declared.cause.Cause.{Cause}
 use Rattle.mmc_switch.proofs.EndingLemmas.{CanEnd, EndingTurned, ProgramLaw, change_ends, ending_turned, for_any_cause}
-use Rattle.mmc_switch.proofs.EndingLemmas.{busy_still, idle_shown, rested_in}
+use Rattle.mmc_switch.proofs.EndingLemmas.{busy_still, idle_after, idle_shown, lags_on, rested_in}
 use Rattle.mmc_switch.proofs.UnderWayLemmas.{quiet_by, room_is}
 use Rattle.mmc_switch.specs.Ending.{EndingDid}
 use Rattle.mmc_switch.specs.Place.{IsReady}
@@ -17,7 +17,7 @@ use Rattle.mmc_switch.specs.UnderWay.{IsIdle, IsQuiet, part_of}
 use Rattle.mmc_switch.specs.declared.ending.Ending.{Ending}
 use Rattle.mmc_switch.specs.declared.ending.Ending.TheVariants.{Confirm}
 use Rattle.mmc_transfer.proofs.StepLemmas.{each_way, either_way}
-use Rattle.mmc_transfer.specs.Running.{AreStored, Exact, HasEffect, IsIn, Turned, change_of}
+use Rattle.mmc_transfer.specs.Running.{AreStored, Exact, HasEffect, HasStopped, IsIn, Turned, change_of}
 use Rattle.mmc_transfer.specs.declared.job.Job.{Job}
 use Rattle.mmc_transfer.specs.declared.phase.Phase.{Phase}
 use Rattle.mmc_transfer.specs.declared.phase.Phase.TheVariants.{Other}
@@ -29,15 +29,19 @@ quiet_waited : (card : Card) → IsQuiet Tran 0 card → IsQuiet Tran 0 (waited 
 quiet_waited card quiet =
     quiet_by quiet.state quiet.app quiet.command_errors quiet.errors quiet.switch_error quiet.count quiet.erase
 
-quiet_rested : (job : Job) (blocks : List Sector) (card : Card) → IsQuiet Tran 0 card
-    → AreStored job.count job blocks card → IsIdle 0 (rested card) × AreStored job.count job blocks (rested card)
-quiet_rested job blocks card quiet are =
-    subst (λ next. IsIdle 0 next × AreStored job.count job blocks next)
+quiet_rested : (job : Job) (blocks : List Sector) (polls : ℕ) (card : Card) → IsQuiet Tran 0 card → card.lags ≡ false
+    → AreStored job.count job blocks card
+    → HasStopped (Confirm polls) (rested card) × AreStored job.count job blocks (rested card)
+quiet_rested job blocks polls card quiet up_to_date are =
+    subst (λ next. HasStopped (Confirm polls) next × AreStored job.count job blocks next)
     (sym (rested_in Tran card quiet.state)) (
-      record {
-        quiet = quiet_by quiet.state quiet.app quiet.command_errors quiet.errors quiet.switch_error quiet.count quiet.erase;
-        rests = refl;
-      },
+      (
+        record {
+          quiet = quiet_by quiet.state quiet.app quiet.command_errors quiet.errors quiet.switch_error quiet.count quiet.erase;
+          rests = refl;
+        },
+        λ lags few. cc (up_to_date, lags),
+      ),
       are,
     )
 
@@ -53,17 +57,27 @@ can_end job blocks =
       yes = λ polls card exact busy.
           each_way job.way
           (λ reads stopped. (
-            (quiet_waited card stopped.0.0, λ yes. busy_still polls card (stopped.0.1 busy)),
+            (quiet_waited card stopped.0.0, λ yes. busy_still polls card (stopped.0.1 busy), stopped.0.2),
             stopped.1,
           ))
           (λ is ending. writes.yes polls card ending busy) exact;
       no = λ programs polls card exact fits part.
-          each_way job.way (λ reads stopped. quiet_rested job blocks card stopped.0.0 stopped.1)
+          each_way job.way (λ reads stopped. quiet_rested job blocks polls card stopped.0.0 stopped.0.2 stopped.1)
           (λ is ending. writes.no programs polls card ending fits part) exact;
-      idle = λ card exact. either_way job.way (λ reads idle. idle.0) (λ is ending. writes.idle card ending) exact;
-      shows = λ card exact.
-          each_way job.way (λ reads idle. (idle_shown card idle.0, idle.1))
-          (λ is ending. writes.shows card ending) exact;
+      works = λ waits card new exact shows counts.
+          each_way job.way
+          (λ reads stopped. (
+            (idle_after card new shows stopped.0.0, lags_on waits card new stopped.0.1 counts),
+            subst (AreStored job.count job blocks) (sym shows) stopped.1,
+          ))
+          (λ is ending. writes.works waits card new ending shows counts) exact;
+      idle = λ waits card exact.
+          either_way job.way (λ reads stopped. stopped.0.0) (λ is ending. writes.idle waits card ending) exact;
+      lags = λ waits card exact.
+          either_way job.way (λ reads stopped. stopped.0.1) (λ is ending. writes.lags waits card ending) exact;
+      shows = λ waits card exact.
+          each_way job.way (λ reads stopped. ((idle_shown card stopped.0.0, λ lags few. cc lags), stopped.1))
+          (λ is ending. writes.shows waits card ending) exact;
     }
 
 module _ (job : Job) (blocks : List Sector) (all : length blocks ≡ job.count) (faults : ℕ) (ending : Ending)
@@ -88,7 +102,7 @@ module _ (job : Job) (blocks : List Sector) (all : length blocks ≡ job.count) 
       (at_in (stored b.card part) (job.start + i) (slice_index_or blocks i [])
       (omega (arith, fits, room, less, all)) (are_stored i (omega (arith, less, all))))
 
-  has_effect : IsReady job.session b → Exact job blocks (Other (End Confirm)) b.card → HasEffect job blocks b.card
+  has_effect : IsReady job.session b → Exact job blocks (Other (End (Confirm 0))) b.card → HasEffect job blocks b.card
   has_effect ready exact =
       each_way job.way (λ reads stays. are_read ready stays.1) (λ writes done. done.1) exact
 

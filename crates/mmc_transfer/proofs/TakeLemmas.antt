@@ -162,6 +162,7 @@ module _ (job : Job) (blocks news : List Sector) (done faults : ℕ) (bytes : Se
         subst (IsSending (done + 1) job news) (sym is_after) (record {
           quiet = quiet_by (ap (λ b. if b then Tran else Data) last) x.quiet.app x.quiet.command_errors refl x.quiet.switch_error x.quiet.count x.quiet.erase;
           rests = x.rests;
+          up_to_date = x.up_to_date;
           errors = errors_by (is_none card.left) choice.says_end (card.next + 1 == length (stored card card.part))
               (is_counted job) card.errors (job.start + (done + 1) ≡ room_of job.session) clear
               (λ none. none_by (is_counted job) (job.count - done) (sym (ap is_none x.left) ∙ none))
@@ -175,13 +176,15 @@ module _ (job : Job) (blocks news : List Sector) (done faults : ℕ) (bytes : Se
 
     -- it is in tran, and the read is done
     has_sent : is_last card.left ≡ true → is_counted job ≡ true
-        → IsQuiet Tran 0 (sent choice card) × ((sent choice card).is_busy ≡ false)
+        → IsQuiet Tran 0 (sent choice card) × ((sent choice card).is_busy ≡ false) × ((sent choice card).lags ≡ false)
         × AreStored (done + 1) job news (sent choice card)
     has_sent last counted =
-        subst (λ c. IsQuiet Tran 0 c × (c.is_busy ≡ false) × AreStored (done + 1) job news c) (sym is_after) (
+        subst (λ c. IsQuiet Tran 0 c × (c.is_busy ≡ false) × (c.lags ≡ false) × AreStored (done + 1) job news c)
+        (sym is_after) (
           quiet_by (ap (λ b. if b then Tran else Data) last) x.quiet.app x.quiet.command_errors (no_errors (is_none card.left) _ card.errors clear
               (ap is_none x.left ∙ some_by (is_counted job) (job.count - done) counted)) x.quiet.switch_error x.quiet.count x.quiet.erase,
           x.rests,
+          x.up_to_date,
           read_after,
         )
 
@@ -306,12 +309,13 @@ module _ (job : Job) (blocks news : List Sector) (done faults : ℕ) (bytes : Se
           let knows = knows_then job.session a.card b.card work.stays.carried at.under_way.knows in
           let inside = job.inside in (
             ready_again job.session b work.is_card knows (stands_then job.session a b work.set at.under_way.stands)
-                (subst (IsQuiet Tran 0) (sym is) sent_all.0) (ap (λ (c : Card). c.is_busy) is ∙ sent_all.1),
+                (subst (IsQuiet Tran 0) (sym is) sent_all.0) (ap (λ (c : Card). c.is_busy) is ∙ sent_all.1)
+                (ap (λ (c : Card). c.lags) is ∙ sent_all.2),
             to_read job.way (AreRead (holds b.card) (part_of job.session) job.start news) (IsCarriedOut (change_of job news) b.card)
                 way
                 (are_read b.card (room_is job.session b.card work.is_card.sizes knows (omega (arith, inside, more)))
                 (subst (λ n. AreStored n job news b.card) all
-                (subst (AreStored (done + 1) job news) (sym is) sent_all.2))),
+                (subst (AreStored (done + 1) job news) (sym is) sent_all.3))),
           )
 
       left_by : (next counted : Bool) → nat_lt (done + 1) job.count ≡ next → is_counted job ≡ counted

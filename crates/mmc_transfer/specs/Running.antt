@@ -8,7 +8,7 @@ use Rattle.mmc_card.specs.Card.{Card, FromSectors, holds, is_in, is_selected, st
 use Rattle.mmc_card.specs.ErrorBits.{out_of_range}
 use Rattle.mmc_card.specs.Sectors.{AreRead, Change, Sector}
 use Rattle.mmc_bus.specs.declared.cause.Cause.{Cause}
-use Rattle.mmc_switch.specs.Ending.{IsEnding, IsSound, ShownIn}
+use Rattle.mmc_switch.specs.Ending.{IsEnding, IsSound, LagsAfter, ShownIn}
 use Rattle.mmc_switch.specs.Turns.{LeftIn}
 use Rattle.mmc_switch.specs.UnderWay.{IsBusyAfter, IsCarriedOut, IsIdle, IsQuiet, IsUnderWay, Turn, part_of, room_of}
 use Rattle.mmc_switch.specs.declared.ending.Ending.{Ending}
@@ -60,6 +60,7 @@ AreStored done job blocks card =
 pub record IsSending (done : ℕ) (job : Job) (blocks : List Sector) (card : Card) : Type 0 where
   pub quiet : IsQuiet Data 0 (record card { errors = 0 })
   pub rests : card.is_busy ≡ false
+  pub up_to_date : card.lags ≡ false
   pub errors : (card.errors ≡ 0)
       ⊎ ((is_counted job ≡ false) × (job.start + done ≡ room_of job.session) × (card.errors ≡ out_of_range))
   pub source : card.source ≡ FromSectors
@@ -76,8 +77,9 @@ pub record IsTaking (done : ℕ) (job : Job) (blocks : List Sector) (card : Card
 
 -- A card that ends a read: in tran it may be busy behind CMD12, and then it rests.
 abbrev pub HasStopped : Ending → Card → Type 0
-HasStopped (Wait polls) card = IsQuiet Tran 0 card × (card.is_busy ≡ true → IsBusyAfter polls card)
-HasStopped Confirm card = IsIdle 0 card
+HasStopped (Wait polls) card =
+    IsQuiet Tran 0 card × (card.is_busy ≡ true → IsBusyAfter polls card) × (card.lags ≡ false)
+HasStopped (Confirm waits) card = IsIdle 0 card × LagsAfter waits card
 
 -- Exactly here the card is in each phase, but for a fault that nobody has seen.
 abbrev pub ReadExact : Job → List Sector → Phase → Card → Type 0

@@ -1,12 +1,12 @@
 use Rattle.std.proofs.Common.{◌≡◌, Bool, ap, false, refl, true}
 use Rattle.std.specs.Prelude.{if◌then◌else◌}
-use Rattle.mmc_frame.specs.declared.card_state.State.TheVariants.{Data, Prg, Rcv, Tran}
+use Rattle.mmc_frame.specs.declared.card_state.State.TheVariants.{Data, Rcv, Tran}
 use Rattle.mmc_bus.proofs.CommandLemmas.{does_one_of_two, low_either}
 use Rattle.mmc_bus.proofs.transfer_laws.cmd12_ends_a_transfer.Goals as goal
 use Rattle.mmc_bus.specs.CommandLaws.{TellsStop}
 use Rattle.mmc_bus.specs.Heard.{response_of}
 use Rattle.mmc_card.specs.Card.{Card, FromSectors}
-use Rattle.mmc_card.specs.CardAnswer.{Checked, Choice, busied, shown, status}
+use Rattle.mmc_card.specs.CardAnswer.{Checked, busied, shown, status}
 use Rattle.mmc_card.specs.Rows.{row}
 use Rattle.mmc_card.specs.RowsTransfer.{stopped}
 use Rattle.mmc_card.specs.declared.command.Command.TheVariants.{StopTransmission}

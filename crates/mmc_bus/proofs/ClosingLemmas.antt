@@ -1,0 +1,354 @@
+-- What statuses in a row tell, while the card is at work and then not any more.
+use Rattle.std.proofs.lemmas.Bool.{ltb-true}
+use Rattle.std.proofs.Common.{◌+◌, ◌<◌, ◌-◌, ◌∙◌, ◌≡◌, ◌≤◌, ◌↔◌, Bool, ap, arith, cond, false, inl, inr, refl, subst, sym, true, ℕ}
+use Rattle.std.specs.Prelude.{Err, IsErr, IsOk, Ok, Result}
+use Rattle.mmc_bus.proofs.PollLemmas.{Counts, polled_as}
+use Rattle.mmc_bus.proofs.WorkLemmas.{joined, narrows_then, quiet_parts, refuted, set_then, stays_same, stays_then, worked_as}
+use Rattle.mmc_bus.specs.CommandLaws.{TellsStatus}
+use Rattle.mmc_bus.specs.declared.host.Unheard.{Unheard}
+use Rattle.mmc_bus.specs.Closings.{Closes, ClosesSoon, CountsOn, HasShown}
+use Rattle.mmc_bus.specs.Learned.{Stays}
+use Rattle.mmc_bus.specs.Work.{Narrows, StaysSet, Worked}
+use Rattle.mmc_bus.specs.declared.cause.Cause.{Cause}
+use Rattle.mmc_bus.specs.declared.status.Closing.{Closing}
+use Rattle.mmc_bus.specs.declared.status.Closing.TheVariants.{AtWork, Clean}
+use Rattle.mmc_card.proofs.Narrow.{both}
+use Rattle.mmc_card.specs.Blocks.{HasRested, programmed, rested}
+use Rattle.mmc_card.specs.BusView.{BusView}
+use Rattle.mmc_card.specs.Card.{Card, IsCard, is_in, is_selected}
+use Rattle.mmc_card.specs.CardAnswer.{Choice, counted, shown, status}
+use Rattle.mmc_card.specs.CardLaws.{HasNoError, IsInOrder}
+use Rattle.mmc_card.specs.Faults.{NoFault}
+use Rattle.mmc_card.specs.RowsIdentify.{at_work, lagging, may_lag}
+use Rattle.mmc_frame.specs.declared.card_state.State.TheVariants.{Prg, Tran}
+use Rattle.mmc_frame.specs.declared.kind.Kind.{Kind}
+use Rattle.mmc_frame.specs.Status.{IsAtWork, IsClean, error_bits}
+
+-- A closing status, by what it says.
+pub closes_by : (kind : Kind) (r : Result Closing Cause) (old new : Card)
+    → (r ≡ Ok Clean → IsInOrder kind old × (new ≡ shown old)) → (r ≡ Ok AtWork → HasNoError kind old × HasShown old new × CountsOn old new)
+    → Closes kind r old new
+closes_by kind (Ok Clean) old new clean work = clean refl
+closes_by kind (Ok AtWork) old new clean work = work refl
+closes_by kind (Err cause) old new clean work = tt
+
+pub as_shown : (old new : Card) → new ≡ shown old → HasShown old new
+as_shown old new e = subst (HasShown old) (sym e) refl
+
+-- of a card whose statuses don't lag it is clean
+comes_clean : (r : Result Closing Cause) (old new : Card) → old.lags ≡ false → ClosesSoon r old new → r ≡ Ok Clean
+comes_clean (Ok Clean) old new up soon = refl
+comes_clean (Ok AtWork) old new up soon = absurd (cc (up, soon.0))
+comes_clean (Err cause) old new up soon = absurd soon
+
+-- What one status asks, as work.
+abbrev pub Asks : Kind → ℕ → Result Closing Cause → BusView → BusView → Type 0
+Asks kind rca r =
+    Worked Narrows (λ old new. Closes kind r old.card new.card)
+    (λ old new. IsInOrder kind old.card → old.card.app ≡ false → old.card.rca ≡ rca → ClosesSoon r old.card new.card)
+
+-- a card that has only shown its status is in order where it was
+order_back : (kind : Kind) (old new : Card) → HasNoError kind old → HasShown old new → IsInOrder kind new
+    → IsInOrder kind old
+order_back kind old new none e order = record {
+  no_error = none;
+  tran = sym (ap (λ (c : Card). c.state) e) ∙ order.tran;
+  rests = sym (ap (λ (c : Card). c.is_busy) e) ∙ order.rests;
+}
+
+order_on : (kind : Kind) (old new : Card) → HasShown old new → IsInOrder kind old → IsInOrder kind new
+order_on kind old new e order =
+    subst (IsInOrder kind) (sym e) (record {
+      no_error = record { command_errors = refl; errors = refl; switch_error = λ mmc. refl };
+      tran = order.tran;
+      rests = order.rests;
+    })
+
+-- So many statuses showed the card at work.
+pub record Asking (kind : Kind) (rca : ℕ) (old : BusView) (statuses : ℕ) (now : BusView) : Type 0 where
+  pub was_kept : old.is_kept ≡ true
+  pub was_card : IsCard now.card → IsCard old.card
+  pub is_card : 0 < statuses → IsCard now.card
+  pub stays : Stays old now
+  pub set : StaysSet old now
+  pub narrows : Narrows old now
+  pub back : IsInOrder kind now.card → IsInOrder kind old.card
+  pub card : shown now.card ≡ polled_as (shown old.card) now.card.polled
+  pub soon : NoFault old now → IsInOrder kind old.card → old.card.app ≡ false → old.card.rca ≡ rca
+      → IsInOrder kind now.card × (now.card.app ≡ false) × (now.card.rca ≡ rca)
+      × (now.card.polled ≡ old.card.polled + statuses)
+  pub few : NoFault old now → IsInOrder kind old.card → old.card.app ≡ false → old.card.rca ≡ rca → 0 < statuses
+      → now.card.polled ≤ 8
+
+pub asking_none : (kind : Kind) (rca : ℕ) (old : BusView) → old.is_kept ≡ true → Asking kind rca old 0 old
+asking_none kind rca old kept = record {
+  was_kept = kept;
+  was_card = λ k. k;
+  is_card = λ h. absurd (omega (arith, h));
+  stays = stays_same old old.lines;
+  set = record { lines = refl; stands = λ setting s. s };
+  narrows = λ part sector value h. h;
+  back = λ order. order;
+  card = refl;
+  soon = λ same order app is. (order, app, is, omega arith);
+  few = λ same order app is some. absurd (omega (arith, some));
+}
+
+pub asking_on : (kind : Kind) (rca : ℕ) (old : BusView) (statuses : ℕ) (now new : BusView)
+    → Asking kind rca old statuses now → Asks kind rca (Ok AtWork) now new → Asking kind rca old (statuses + 1) new
+asking_on kind rca old statuses now new p q =
+    let own = q.own in
+    let after : (same : NoFault old new) (order : IsInOrder kind old.card) (app : old.card.app ≡ false)
+        (is : old.card.rca ≡ rca) → IsInOrder kind now.card × (now.card.app ≡ false) × (now.card.rca ≡ rca)
+        × (now.card.polled ≡ old.card.polled + statuses) × (now.card.polled < 8)
+        × (new.card.polled ≡ now.card.polled + 1) =
+    λ same order app is.
+    let parts = quiet_parts old now new p.stays q.stays same in
+    let was = p.soon parts.0 order app is in
+    let comes = q.fine parts.1 was.0 was.1 was.2 in
+    (was.0, was.1, was.2, was.3, comes.1, comes.2) in
+    record {
+      was_kept = p.was_kept;
+      was_card = λ k. p.was_card q.was_card;
+      is_card = λ h. q.is_card;
+      stays = stays_then old now new p.stays q.stays;
+      set = set_then old now new p.set q.set;
+      narrows = narrows_then old now new p.narrows q.sectors;
+      back = λ order. p.back (order_back kind now.card new.card own.0 own.1 order);
+      card = ap shown own.1 ∙ ap (λ (c : Card). polled_as c new.card.polled) p.card;
+      soon = λ same order app is.
+          let all = after same order app is in
+          let was = all.3 in
+          let more = all.5 in (
+            order_on kind now.card new.card own.1 all.0,
+            ap (λ (c : Card). c.app) own.1,
+            ap (λ (c : Card). c.rca) own.1 ∙ all.2,
+            omega (arith, was, more),
+          );
+      few = λ same order app is some.
+          let all = after same order app is in
+          let below = all.4 in
+          let more = all.5 in
+          omega (arith, below, more);
+    }
+
+-- Asking for a clean status, at most so many times.
+abbrev pub Confirms : Kind → ℕ → ℕ → Result Unit Cause → BusView → BusView → Type 0
+Confirms kind rca most r =
+    Worked Narrows
+    (λ old new. IsOk r → IsInOrder kind old.card × (new.card ≡ record (shown old.card) { polled = new.card.polled }))
+    (λ old new. IsInOrder kind old.card → old.card.app ≡ false → old.card.rca ≡ rca → 8 < old.card.polled + most → IsOk r)
+
+-- the next one is clean
+pub asked_clean : (kind : Kind) (rca most : ℕ) (old : BusView) (statuses : ℕ) (now new : BusView)
+    → Asking kind rca old statuses now → Asks kind rca (Ok Clean) now new → Confirms kind rca most (Ok tt) old new
+asked_clean kind rca most old statuses now new p q =
+    let e : new.card ≡ polled_as (shown old.card) now.card.polled = q.own.1 ∙ p.card in
+    record {
+      was_kept = p.was_kept;
+      was_card = p.was_card q.was_card;
+      is_card = q.is_card;
+      stays = stays_then old now new p.stays q.stays;
+      set = set_then old now new p.set q.set;
+      sectors = narrows_then old now new p.narrows q.sectors;
+      own = λ ok. (
+        p.back q.own.0,
+        e ∙ ap (λ n. polled_as (shown old.card) n) (sym (ap (λ (c : Card). c.polled) e)),
+      );
+      fine = λ same order app is enough. refl;
+    }
+
+-- none comes, or one with an error
+pub asked_in_vain : (kind : Kind) (rca most : ℕ) (cause : Cause) (r : Result Unit Cause) (old : BusView) (statuses : ℕ)
+    (now new : BusView) → IsErr r → Asking kind rca old statuses now → Asks kind rca (Err cause) now new
+    → Confirms kind rca most r old new
+asked_in_vain kind rca most cause r old statuses now new err p q = record {
+  was_kept = p.was_kept;
+  was_card = p.was_card q.was_card;
+  is_card = q.is_card;
+  stays = stays_then old now new p.stays q.stays;
+  set = set_then old now new p.set q.set;
+  sectors = narrows_then old now new p.narrows q.sectors;
+  own = λ ok. refuted r err ok;
+  fine = λ same order app is enough.
+      let parts = quiet_parts old now new p.stays q.stays same in
+      let was = p.soon parts.0 order app is in
+      absurd (q.fine parts.1 was.0 was.1 was.2);
+}
+
+-- so many times at work don't come without a fault
+pub asked_out : (kind : Kind) (rca most : ℕ) (r : Result Unit Cause) (old : BusView) (now : BusView) → IsErr r → 0 < most
+    → Asking kind rca old most now → Confirms kind rca most r old now
+asked_out kind rca most r old now err some p =
+    let card = p.is_card some in
+    record {
+      was_kept = p.was_kept;
+      was_card = p.was_card card;
+      is_card = card;
+      stays = p.stays;
+      set = p.set;
+      sectors = p.narrows;
+      own = λ ok. refuted r err ok;
+      fine = λ same order app is enough.
+          let few = p.few same order app is some in
+          let all = (p.soon same order app is).3 in
+          absurd (omega (arith, few, all, enough));
+    }
+
+-- Polls, and statuses behind them.
+
+rested_by : (b : Bool) (x y : Card) (polls : ℕ)
+    → cond b (polled_as x polls) (polled_as y polls) ≡ polled_as (cond b x y) polls
+rested_by true x y polls = refl
+rested_by false x y polls = refl
+
+-- it rests the same, however often it was polled
+rested_polled : (card : Card) (polls : ℕ) → rested (polled_as card polls) ≡ polled_as (rested card) polls
+rested_polled card polls =
+    rested_by (is_in card.state Prg) (programmed (λ i. true) card) (record card { is_busy = false }) polls
+
+abbrev pub Ended : Kind → ℕ → Result Unit Cause → BusView → BusView → Type 0
+Ended kind rca r =
+    Worked Narrows
+    (λ old new. IsOk r → IsInOrder kind (rested old.card)
+    × (new.card ≡ record (shown (rested old.card)) { polled = new.card.polled }))
+    (λ old new. old.card.polled ≡ 0 → IsInOrder kind (rested old.card) → (rested old.card).app ≡ false
+    → (rested old.card).rca ≡ rca → IsOk r)
+
+order_polled : (kind : Kind) (card : Card) (polls : ℕ) → IsInOrder kind (polled_as card polls) → IsInOrder kind card
+order_polled kind card polls order = record {
+  no_error = record {
+    command_errors = order.no_error.command_errors;
+    errors = order.no_error.errors;
+    switch_error = order.no_error.switch_error;
+  };
+  tran = order.tran;
+  rests = order.rests;
+}
+
+polled_order : (kind : Kind) (card : Card) (polls : ℕ) → IsInOrder kind card → IsInOrder kind (polled_as card polls)
+polled_order kind card polls order = record {
+  no_error = record {
+    command_errors = order.no_error.command_errors;
+    errors = order.no_error.errors;
+    switch_error = order.no_error.switch_error;
+  };
+  tran = order.tran;
+  rests = order.rests;
+}
+
+-- the polls fail
+pub wait_fails : (kind : Kind) (rca : ℕ) (cause : Cause) (r : Result Unit Cause) (a b : BusView)
+    → IsErr r → Counts (Err cause) a b → Ended kind rca r a b
+wait_fails kind rca cause r a b err p =
+    worked_as a b p p.sectors (λ ok. refuted r err ok) (λ same zero order app is. absurd (p.fine same zero))
+
+-- a clean status tells that the poll before it was answered truly
+pub ended : (kind : Kind) (rca polls most : ℕ) (r : Result Unit Cause) (a b c : BusView) → most ≡ 16 - polls
+    → Counts (Ok polls) a b → Confirms kind rca most r b c → Ended kind rca r a c
+ended kind rca polls most r a b c is_most p q =
+    joined a b c p q (narrows_then a b c p.sectors q.sectors)
+    (λ confirmed.
+    let told = q.own confirmed in
+    let was = p.own refl (ap is_selected told.0.tran) told.0.no_error.errors in
+    let e = was.1 ∙ rested_polled a.card was.0 in (
+      order_polled kind (rested a.card) was.0 (subst (IsInOrder kind) e told.0),
+      told.1 ∙ ap (λ (card : Card). polled_as (shown card) c.card.polled) e,
+    ))
+    (λ same zero order app is.
+    let parts = quiet_parts a b c p.stays q.stays same in
+    let was = p.fine parts.0 zero in
+    let e = was.1 ∙ rested_polled a.card polls in
+    let few = was.0 in
+    let count = ap (λ (card : Card). card.polled) e in
+    q.fine parts.1 (subst (IsInOrder kind) (sym e) (polled_order kind (rested a.card) polls order))
+    (ap (λ (x : Card). x.app) e ∙ app) (ap (λ (x : Card). x.rca) e ∙ is) (omega (arith, few, count, is_most)))
+
+-- What one status tells, from the laws of statuses.
+
+abbrev pub ErrorsLaw : Type 0
+ErrorsLaw =
+    (kind : Kind) (app : Bool) (card : Card) → IsCard card → ((error_bits kind (status app card) ≡ 0) ↔ HasNoError kind card)
+
+abbrev pub CleanLaw : Type 0
+CleanLaw =
+    (kind : Kind) (app : Bool) (card : Card) → IsCard card → (IsClean kind (status app card) ↔ IsInOrder kind card)
+
+abbrev pub LagLaw : Type 0
+LagLaw =
+    (kind : Kind) (choice : Choice) (card : Card) → IsCard card
+    → (IsAtWork kind (status false (at_work choice card)) ↔ HasNoError kind card)
+
+abbrev pub UncleanLaw : Type 0
+UncleanLaw = (kind : Kind) (choice : Choice) (card : Card) → IsClean kind (status false (at_work choice card)) → ⊥
+
+lagged : (old new : Card) → may_lag old ≡ true → new ≡ lagging old
+    → (old.lags ≡ true) × (old.polled < 8) × (new.polled ≡ old.polled + 1)
+lagged old new may e =
+    let soon = both old.lags _ (both (is_in old.state Tran) _ may).1 in
+    let below : old.polled < 8 = ltb-true old.polled 8 soon.1 in
+    let count : new.polled ≡ counted old.polled = ap (λ (c : Card). c.polled) e in
+    (soon.0, below, omega (arith, below, count))
+
+lagging_shown : (old new : Card) → new ≡ lagging old → HasShown old new
+lagging_shown old new e = subst (HasShown old) (sym e) refl
+
+pub told_closing : (kind : Kind) (old new : Card) (heard : Result ℕ Unheard) (r : Result Closing Cause) → IsCard old
+    → ErrorsLaw → CleanLaw → LagLaw → UncleanLaw → ((told : ℕ) → heard ≡ Ok told → TellsStatus old told new)
+    → (r ≡ Ok Clean → (told : ℕ) × (heard ≡ Ok told) × IsClean kind told)
+    → (r ≡ Ok AtWork → (told : ℕ) × (heard ≡ Ok told) × IsAtWork kind told)
+    → Closes kind r old new
+told_closing kind old new heard r k errors clean lag unclean tells is_clean is_work =
+    closes_by kind r old new
+    (λ is.
+    let judged = is_clean is in
+    elim (tells judged.0 judged.1) [
+      | inl itself ↦ ((clean kind false old k).0 (subst (IsClean kind) itself.0 judged.2), itself.1)
+      | inr lags ↦ absurd (unclean kind lags.choice old (subst (IsClean kind) lags.told_is judged.2))
+    ])
+    (λ is.
+    let judged = is_work is in
+    elim (tells judged.0 judged.1) [
+      | inl itself ↦ (
+        (errors kind false old k).0 (subst (λ told. error_bits kind told ≡ 0) itself.0 judged.2.no_error),
+        as_shown old new itself.1,
+        λ still. cc (ap (λ (c : Card). c.lags) itself.1, still),
+      )
+      | inr lags ↦ (
+        (lag kind lags.choice old k).0 (subst (IsAtWork kind) lags.told_is judged.2),
+        lagging_shown old new lags.card,
+        λ still. lagged old new lags.may lags.card,
+      )
+    ])
+
+pub told_soon : (kind : Kind) (old new : Card) (heard : Result ℕ Unheard) (r : Result Closing Cause) → IsCard old
+    → CleanLaw → LagLaw → UncleanLaw → (told : ℕ) → heard ≡ Ok told → TellsStatus old told new → IsInOrder kind old
+    → ((told : ℕ) → heard ≡ Ok told → IsClean kind told → r ≡ Ok Clean)
+    → ((told : ℕ) → heard ≡ Ok told → (IsClean kind told → ⊥) → IsAtWork kind told → r ≡ Ok AtWork)
+    → ClosesSoon r old new
+told_soon kind old new heard r k clean lag unclean told is tells order all_clean all_work =
+    elim tells [
+      | inl itself ↦ subst (λ r. ClosesSoon r old new)
+          (sym (all_clean told is (subst (IsClean kind) (sym itself.0) ((clean kind false old k).1 order)))) tt
+      | inr lags ↦
+          subst (λ r. ClosesSoon r old new)
+          (sym (all_work told is (λ c. unclean kind lags.choice old (subst (IsClean kind) lags.told_is c))
+          (subst (IsAtWork kind) (sym lags.told_is) ((lag kind lags.choice old k).1 order.no_error))))
+          (lagged old new lags.may lags.card)
+    ]
+
+-- One status that has to be clean.
+
+abbrev pub ConfirmsOnce : Kind → ℕ → Result Unit Cause → BusView → BusView → Type 0
+ConfirmsOnce kind rca r =
+    Worked Narrows
+    (λ old new. IsOk r → IsInOrder kind old.card × (new.card ≡ shown old.card))
+    (λ old new. IsInOrder kind old.card → old.card.app ≡ false → old.card.rca ≡ rca → old.card.lags ≡ false → IsOk r)
+
+pub asked_once : (kind : Kind) (rca : ℕ) (closing : Result Closing Cause) (r : Result Unit Cause) (a b : BusView)
+    → (IsOk r → closing ≡ Ok Clean) → (closing ≡ Ok Clean → IsOk r) → Asks kind rca closing a b
+    → ConfirmsOnce kind rca r a b
+asked_once kind rca closing r a b only all p =
+    worked_as a b p p.sectors
+    (λ ok. subst (λ c. Closes kind c a.card b.card) (only ok) p.own)
+    (λ same order app is up. all (comes_clean closing a.card b.card up (p.fine same order app is)))
