@@ -2,7 +2,7 @@
 -- an erase erases.
 use Rattle.std.proofs.Common.{◌&&◌, ◌*◌, ◌++◌, ◌+◌, ◌-◌, ◌∙◌, ◌∷◌, ◌≡◌, Bool, List, [], ap, arith, cond, false, inl}
 use Rattle.std.proofs.Common.{inr, length, not, refl, subst, true, ℕ, ◌≤◌}
-use Rattle.std.specs.Prelude.{◌==◌, None, Option, Some, slice_index_or}
+use Rattle.std.specs.Prelude.{◌==◌, None, Option, Some, slice_index_or, if◌then◌else◌}
 use Rattle.mmc_frame.specs.Field.{field}
 use Rattle.mmc_frame.specs.declared.card_state.State.{State}
 use Rattle.mmc_frame.specs.declared.card_state.State.TheVariants.{Data, Prg, Rcv}
