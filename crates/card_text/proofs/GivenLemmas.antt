@@ -6,10 +6,10 @@ use Rattle.std.specs.Prelude.{slice_set}
 use Rattle.card_text.specs.declared.card_line.CardLine.{CardLine}
 use Rattle.card_text.specs.declared.card_line.CardLine.TheVariants.{Busy, Cid, Cmd8, Csd, Ext, Fault, HighSpeed, Kind}
 use Rattle.card_text.specs.declared.card_line.CardLine.TheVariants.{Early, KeepsLength, Locked, Ocr, Rca, Ready, Scr}
-use Rattle.card_text.specs.declared.card_line.CardLine.TheVariants.{Sectors, StaysBusy}
+use Rattle.card_text.specs.declared.card_line.CardLine.TheVariants.{Sectors, SlowStatus, StaysBusy}
 use Rattle.card_text.specs.declared.card_spec.Given.{Given}
 use Rattle.card_text.specs.CardSpecs.{busy_of_line, cid_of_line, cmd8_of_line, csd_of_line, early_of_line, ext_csd_of}
-use Rattle.card_text.specs.CardSpecs.{first_of, given_by, high_speed_of_line, keeps_length_of_line, kind_of_line}
+use Rattle.card_text.specs.CardSpecs.{first_of, given_by, high_speed_of_line, keeps_length_of_line, kind_of_line, lagging_of_line}
 use Rattle.card_text.specs.CardSpecs.{locked_of_line, ocr_of_line, rca_of_line}
 use Rattle.card_text.specs.CardSpecs.{ready_of_line, scr_of_line, sectors_of_line, stays_busy_of_line, with_byte}
 
@@ -40,6 +40,7 @@ with_line given (Busy value) = record given { busy = option_or given.busy (Some 
 with_line given (Early value) = record given { early = option_or given.early (Some value) }
 with_line given (KeepsLength value) = record given { keeps_length = option_or given.keeps_length (Some value) }
 with_line given (StaysBusy value) = record given { stays_busy = option_or given.stays_busy (Some value) }
+with_line given (SlowStatus value) = record given { lagging = option_or given.lagging (Some value) }
 with_line given (Locked value) = record given { locked = option_or given.locked (Some value) }
 with_line given (Scr value) = record given { scr = option_or given.scr (Some value) }
 with_line given (Rca value) = record given { rca = option_or given.rca (Some value) }
@@ -61,6 +62,7 @@ by_fields given line = record {
   early = option_or given.early (early_of_line line);
   keeps_length = option_or given.keeps_length (keeps_length_of_line line);
   stays_busy = option_or given.stays_busy (stays_busy_of_line line);
+  lagging = option_or given.lagging (lagging_of_line line);
   locked = option_or given.locked (locked_of_line line);
   scr = option_or given.scr (scr_of_line line);
   rca = option_or given.rca (rca_of_line line);

@@ -9,7 +9,7 @@ use Rattle.mmc_frame.specs.declared.kind.Kind.TheVariants.{Mmc, Sd}
 use Rattle.card_text.specs.declared.card_line.CardLine.{CardLine}
 use Rattle.card_text.specs.declared.card_line.CardLine.TheVariants.{Busy, Cid, Cmd8, Csd, Ext, Fault, HighSpeed, Kind}
 use Rattle.card_text.specs.declared.card_line.CardLine.TheVariants.{Early, KeepsLength, Locked, Ocr, Rca, Ready, Scr}
-use Rattle.card_text.specs.declared.card_line.CardLine.TheVariants.{Sectors, StaysBusy}
+use Rattle.card_text.specs.declared.card_line.CardLine.TheVariants.{Sectors, SlowStatus, StaysBusy}
 use Rattle.card_text.specs.declared.card_line.HighSpeedChoice.{HighSpeedChoice}
 use Rattle.card_text.specs.declared.card_line.HighSpeedChoice.TheVariants.{Refused, Taken}
 use Rattle.mmc_card_sim.specs.declared.spec.Refusal.TheVariants.{SelectsDefault, SelectsNone}
@@ -82,7 +82,8 @@ free_line_of key text =
     if bytes_eq key (codes "early") then option_map (λ bits. Early bits) (early_of text)
     else (if bytes_eq key (codes "length") then option_map (λ choice. KeepsLength choice) (keeps_length_of text)
     else (if bytes_eq key (codes "stop") then option_map (λ choice. StaysBusy choice) (stays_busy_of text)
-    else sd_line_of key text))
+    else (if bytes_eq key (codes "slow-status") then option_map (λ count. SlowStatus count) (delay_of text)
+    else sd_line_of key text)))
 
 -- a key that stands once with its value
 unfoldable pub line_of_key : List ℕ → List ℕ → Option CardLine
@@ -159,6 +160,7 @@ repeats (Busy count) (Busy other) = true
 repeats (Early bits) (Early other) = true
 repeats (KeepsLength choice) (KeepsLength other) = true
 repeats (StaysBusy choice) (StaysBusy other) = true
+repeats (SlowStatus count) (SlowStatus other) = true
 repeats (Locked choice) (Locked other) = true
 repeats (Scr bytes) (Scr others) = true
 repeats (Rca rca) (Rca other) = true

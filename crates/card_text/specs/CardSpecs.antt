@@ -13,7 +13,7 @@ use Rattle.card_text.specs.declared.card_line.CardLine.TheVariants.{Early, Keeps
 use Rattle.card_text.specs.declared.card_line.HighSpeedChoice.{HighSpeedChoice}
 use Rattle.card_text.specs.declared.card_line.HighSpeedChoice.TheVariants.{Refused, Taken}
 use Rattle.mmc_card_sim.specs.declared.spec.Refusal.{Refusal}
-use Rattle.card_text.specs.declared.card_line.CardLine.TheVariants.{StaysBusy}
+use Rattle.card_text.specs.declared.card_line.CardLine.TheVariants.{SlowStatus, StaysBusy}
 use Rattle.card_text.specs.declared.card_line.PublishedRca.{PublishedRca}
 use Rattle.card_text.specs.declared.card_line.PublishedRca.TheVariants.{Changes, Fixed}
 use Rattle.card_text.specs.declared.card_spec.Given.{Given}
@@ -64,6 +64,10 @@ abbrev pub stays_busy_of_line : CardLine → Option Bool
 stays_busy_of_line (StaysBusy choice) = Some choice
 stays_busy_of_line line = None
 
+abbrev pub lagging_of_line : CardLine → Option ℕ
+lagging_of_line (SlowStatus count) = Some count
+lagging_of_line line = None
+
 abbrev pub locked_of_line : CardLine → Option Bool
 locked_of_line (Locked choice) = Some choice
 locked_of_line line = None
@@ -112,6 +116,7 @@ given_by ls = record {
   early = first_of early_of_line ls;
   keeps_length = first_of keeps_length_of_line ls;
   stays_busy = first_of stays_busy_of_line ls;
+  lagging = first_of lagging_of_line ls;
   locked = first_of locked_of_line ls;
   scr = first_of scr_of_line ls;
   rca = first_of rca_of_line ls;
@@ -177,6 +182,7 @@ spec_by given = do
     keeps_length = unwrap_or given.keeps_length true;
     refusal = refusal_of given.high_speed;
     stays_busy = unwrap_or given.stays_busy false;
+    lagging = unwrap_or given.lagging 0;
     image = None;
   })
 

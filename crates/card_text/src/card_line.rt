@@ -54,6 +54,8 @@ pub enum CardLine {
     KeepsLength(bool),
     /// Whether CMD12 that ends a read leaves the card busy.
     StaysBusy(bool),
+    /// How many statuses behind the end of a programming still show prg, 0 to 8.
+    SlowStatus(u8),
     /// Whether the card is locked.
     Locked(bool),
     /// The SCR of an SD card, the highest byte first.
@@ -112,6 +114,7 @@ impl CardLine {
             | (CardLine::Early(_), CardLine::Early(_))
             | (CardLine::KeepsLength(_), CardLine::KeepsLength(_))
             | (CardLine::StaysBusy(_), CardLine::StaysBusy(_))
+            | (CardLine::SlowStatus(_), CardLine::SlowStatus(_))
             | (CardLine::Locked(_), CardLine::Locked(_))
             | (CardLine::Scr(_), CardLine::Scr(_))
             | (CardLine::Rca(_), CardLine::Rca(_))
@@ -258,6 +261,8 @@ fn free_line(key: &[u8], text: &[u8]) -> Option<CardLine>
         Some(CardLine::KeepsLength(keeps_length(text)?))
     } else if key == b"stop".as_slice() {
         Some(CardLine::StaysBusy(stays_busy(text)?))
+    } else if key == b"slow-status".as_slice() {
+        Some(CardLine::SlowStatus(delay(text)?))
     } else {
         sd_line(key, text)
     }

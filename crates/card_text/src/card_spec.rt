@@ -20,6 +20,7 @@ pub struct Given {
     early: Option<u8>,
     keeps_length: Option<bool>,
     stays_busy: Option<bool>,
+    lagging: Option<u8>,
     locked: Option<bool>,
     scr: Option<[u8; 8]>,
     rca: Option<PublishedRca>,
@@ -46,6 +47,7 @@ impl Given {
             early: None,
             keeps_length: None,
             stays_busy: None,
+            lagging: None,
             locked: None,
             scr: None,
             rca: None,
@@ -71,6 +73,7 @@ impl Given {
             CardLine::Early(bits) => self.early = self.early.or(Some(bits)),
             CardLine::KeepsLength(choice) => self.keeps_length = self.keeps_length.or(Some(choice)),
             CardLine::StaysBusy(choice) => self.stays_busy = self.stays_busy.or(Some(choice)),
+            CardLine::SlowStatus(count) => self.lagging = self.lagging.or(Some(count)),
             CardLine::Locked(choice) => self.locked = self.locked.or(Some(choice)),
             CardLine::Scr(bytes) => self.scr = self.scr.or(Some(bytes)),
             CardLine::Rca(rca) => self.rca = self.rca.or(Some(rca)),
@@ -174,6 +177,7 @@ pub fn card_spec(lines: &[CardLine]) -> Option<CardSpec>
         keeps_length: given.keeps_length.unwrap_or(true),
         refusal: refusal_of(given.high_speed),
         stays_busy: given.stays_busy.unwrap_or(false),
+        lagging: given.lagging.unwrap_or(0),
         image: None,
     })
 }

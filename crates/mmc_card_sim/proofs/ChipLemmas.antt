@@ -126,8 +126,3 @@ pub with_change : (card : Card) (parts : List (List Sector)) (start : ℕ) (valu
     → record card { sectors = parts; start = start; values = values }
     ≡ record card { start = change.start; values = change.values }
 with_change card parts start values change same is_start are_values = rw (same, is_start, are_values) refl
-
--- no status lags where the card doesn't choose so
-pub never_behind : (may : Bool) → (may && false) ≡ false
-never_behind true = refl
-never_behind false = refl

@@ -1,5 +1,5 @@
 -- What a chip in memory stands for, and the choices that it makes where a card is free.
-use Rattle.std.specs.Prelude.{◌&&◌, ◌/◌, ◌==◌, ◌^◌, ◌≡◌, Bool, List, false, if◌then◌else◌, length, nat_lt, not, true}
+use Rattle.std.specs.Prelude.{◌&&◌, ◌+◌, ◌/◌, ◌==◌, ◌^◌, ◌≡◌, Bool, List, false, if◌then◌else◌, length, nat_lt, not, true}
 use Rattle.std.specs.Prelude.{ℕ}
 use Rattle.mmc_card.specs.declared.exchange.DataIn.{DataIn}
 use Rattle.mmc_card.specs.declared.exchange.DataIn.TheVariants as Received
@@ -69,7 +69,8 @@ card_of chip =
     }
 
 -- All that is unfinished lands at CMD0, OUT_OF_RANGE is set behind the last sector, and a command with a bad check
--- drops the preset count. At a command the card may choose otherwise where CMD0, CMD3, CMD6, CMD12 and an inquiry leave it free.
+-- drops the preset count. At a command the card may choose otherwise where CMD0, CMD3, CMD6, CMD12, CMD13 and an inquiry leave it
+-- free.
 abbrev pub choice_of : Bool → Choice
 choice_of is_slow = record {
   is_slow = is_slow;
@@ -85,7 +86,7 @@ choice_of is_slow = record {
   says_late = false;
   stays_busy = false;
   is_behind = false;
-  shows_prg = false;
+  shows_prg = true;
   shows_ready = false;
 }
 
@@ -109,6 +110,7 @@ command_choice delays card =
       refuses_speed = refuses delays.refusal;
       selects_none = selects_none delays.refusal;
       stays_busy = delays.stays_busy;
+      is_behind = nat_lt card.polled (delays.busy + delays.lagging);
     }
 
 -- what the card chooses behind a command, by the RCA that it goes by then: where the RCA changes, the next one follows it

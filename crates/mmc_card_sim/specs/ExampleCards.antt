@@ -27,6 +27,7 @@ card_with kind ocr csd sectors =
       keeps_length = true;
       refusal = None;
       stays_busy = false;
+      lagging = 0;
       image = None;
     }
 

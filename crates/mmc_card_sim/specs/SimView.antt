@@ -44,6 +44,7 @@ first_delays spec =
       keeps_length = spec.keeps_length;
       refusal = spec.refusal;
       stays_busy = spec.stays_busy;
+      lagging = spec.lagging;
     }
 
 -- It is a card, which is slow at most eight times, no more faults have fallen than exchanges were made, and none is

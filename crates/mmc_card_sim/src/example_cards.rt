@@ -27,6 +27,7 @@ fn card_with(kind: KindRegisters, ocr: u32, csd: u128, sectors: u64) -> CardSpec
         keeps_length: true,
         refusal: None,
         stays_busy: false,
+        lagging: 0,
         image: None,
     }
 }

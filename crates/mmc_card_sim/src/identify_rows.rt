@@ -24,7 +24,7 @@ impl Chip {
     ghost use Rattle.mmc_card.specs.Card.{powered_on};
     ghost use Rattle.mmc_card.specs.RowsIdentify.{all_send_cid, app_cmd, go_idle_state, inquired, is_served};
     ghost use Rattle.mmc_card.specs.RowsIdentify.{sd_send_op_cond, select_card, send_csd, send_if_cond, send_op_cond};
-    ghost use Rattle.mmc_card.specs.RowsIdentify.{send_relative_addr, send_status, set_relative_addr};
+    ghost use Rattle.mmc_card.specs.RowsIdentify.{may_lag, send_relative_addr, send_status, set_relative_addr};
     ghost use Rattle.mmc_card.specs.Made.{named_block_length};
     ghost use Rattle.mmc_card_sim.specs.Chip.{Answers, card_of, command_choice};
 
@@ -173,12 +173,31 @@ impl Chip {
         self.polled = 0;
     }
 
-    /// CMD13, which tells the status as it is.
-    #[tactic(auto, using(crate::proofs::ChipLemmas::never_behind))]
+    // Whether the next status lags behind a programming that has ended.
+    fn is_behind(&self, delays: Delays) -> bool
+        ensures { result ≡ (may_lag (card_of self.now) && (command_choice delays (card_of self.now)).is_behind) }
+    {
+        self.is_in(State::Tran)
+            && (self.lags && self.polled < 8)
+            && u16::from(self.polled) < u16::from(delays.busy) + u16::from(delays.lagging)
+    }
+
+    /// CMD13, whose status may lag behind a programming that has ended: it shows prg then.
     pub fn send_status(&mut self, delays: Delays) -> Answer
         ensures { Answers (send_status (command_choice delays (card_of self.old)) (card_of self.old)) self.new result }
     {
-        self.respond_status(SEND_STATUS, false)
+        if !self.is_behind(delays) {
+            return self.respond_status(SEND_STATUS, false);
+        }
+        let is_busy = self.is_busy;
+        self.state = State::Prg;
+        self.is_busy = true;
+        let answer = self.respond_status(SEND_STATUS, false);
+        self.state = State::Tran;
+        self.is_busy = is_busy;
+        self.polled += 1;
+        self.lags = true;
+        answer
     }
 
     /// CMD7: the card is busy after it.

@@ -32,6 +32,7 @@ fn first_delays(spec: &CardSpec) -> Delays
         keeps_length: spec.keeps_length,
         refusal: spec.refusal,
         stays_busy: spec.stays_busy,
+        lagging: spec.lagging,
     }
 }
 

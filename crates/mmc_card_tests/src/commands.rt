@@ -26,6 +26,7 @@ fn with_byte_addresses(alloc: Global, csd: u128, sectors: u32) -> Result<CardSpe
         keeps_length: true,
         refusal: None,
         stays_busy: false,
+        lagging: 0,
         image: numbered_image(alloc, sectors)?,
     })
 }

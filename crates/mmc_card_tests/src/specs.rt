@@ -35,6 +35,7 @@ fn spec(registers: Registers, sectors: u64) -> CardSpec {
         keeps_length: true,
         refusal: None,
         stays_busy: false,
+        lagging: 0,
         image: None,
     }
 }
