@@ -99,9 +99,9 @@ pub asking_on : (kind : Kind) (rca : ℕ) (old : BusView) (statuses : ℕ) (now 
 asking_on kind rca old statuses now new p q =
     let own = q.own in
     let after : (same : NoFault old new) (order : IsInOrder kind old.card) (app : old.card.app ≡ false)
-        (is : old.card.rca ≡ rca) → IsInOrder kind now.card × (now.card.app ≡ false) × (now.card.rca ≡ rca)
-        × (now.card.polled ≡ old.card.polled + statuses) × (now.card.polled < 8)
-        × (new.card.polled ≡ now.card.polled + 1) =
+    (is : old.card.rca ≡ rca) → IsInOrder kind now.card × (now.card.app ≡ false) × (now.card.rca ≡ rca)
+    × (now.card.polled ≡ old.card.polled + statuses) × (now.card.polled < 8)
+    × (new.card.polled ≡ now.card.polled + 1) =
     λ same order app is.
     let parts = quiet_parts old now new p.stays q.stays same in
     let was = p.soon parts.0 order app is in

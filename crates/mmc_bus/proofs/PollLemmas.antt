@@ -145,7 +145,6 @@ polled_out old polls now p many own =
       fine = λ same zero. absurd (omega (arith, p.few same zero, many));
     }
 
-
 -- polls whose number isn't wanted
 rested_all : (counts : Result ℕ Cause) (old new : Card)
     → IsOkAnd counts (λ polls. (polls ≤ 8) × (new ≡ rested (record old { polled = polls })))

@@ -229,7 +229,7 @@ lagging_status kind choice c k =
     let state = status_state false seen in
     let ready = status_ready false seen in (
       λ h. (let none = errors.0 h.no_error in
-      record { command_errors = none.command_errors; errors = none.errors; switch_error = none.switch_error }),
+          record { command_errors = none.command_errors; errors = none.errors; switch_error = none.switch_error }),
       λ h. record {
         no_error = errors.1
             (record { command_errors = h.command_errors; errors = h.errors; switch_error = h.switch_error });

@@ -278,6 +278,7 @@ impl Chip {
     fn drop_erase_addresses(&mut self, command: Command)
         ensures card { card_of self.new ≡ reached command (card_of self.old) }
         ensures inquiries { self.new.inquiries ≡ self.old.inquiries }
+        ensures polled { self.new.polled ≡ self.old.polled }
     {
         if leaves_erase(command) || matches!(self.addresses, Addresses::None) {
             return;

@@ -1,6 +1,6 @@
 // What the card in memory does with the commands of identification (SD Physical Layer 6.00, section 4.2; JESD84-B51,
 // section 6.4), each where it is legal.
-ghost use Rattle.std.specs.Prelude.{◌≡◌, false, if◌then◌else◌, not};
+ghost use Rattle.std.specs.Prelude.{◌&&◌, ◌≡◌, false, if◌then◌else◌, not};
 
 use crate::answer::Answer;
 use crate::chip::{Addresses, Chip, Source, first_rca};
