@@ -246,7 +246,7 @@ impl Chip {
         Some(SwitchTo::Access(part))
     }
 
-    // What an argument switches, if the card knows it.
+    /// What an argument switches, if the card knows it.
     pub fn switched(&self, argument: u32) -> Option<SwitchTo>
         ensures { switched (card_of self.now) argument ≡ to_card result (card_of self.now) }
     {
