@@ -110,7 +110,7 @@ command_choice delays card =
       refuses_speed = refuses delays.refusal;
       selects_none = selects_none delays.refusal;
       stays_busy = delays.stays_busy;
-      is_behind = nat_lt card.polled (delays.busy + delays.lagging);
+      is_behind = nat_lt 0 delays.lagging && nat_lt card.polled (delays.busy + delays.lagging);
     }
 
 -- what the card chooses behind a command, by the RCA that it goes by then: where the RCA changes, the next one follows it

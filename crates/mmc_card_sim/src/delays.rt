@@ -22,7 +22,8 @@ pub struct Delays {
     pub refusal: Option<Refusal>,
     /// Whether CMD12 that ends a read leaves the card busy.
     pub stays_busy: bool,
-    /// How many statuses lag behind each programming; with the polls that were answered yes they are 8 at most.
+    /// How many statuses lag behind each programming: they and the polls that were answered yes are as many as this and
+    /// `busy` say, 8 at most.
     pub lagging: u8,
 }
 

@@ -177,9 +177,10 @@ impl Chip {
     fn is_behind(&self, delays: Delays) -> bool
         ensures { result ≡ (may_lag (card_of self.now) && (command_choice delays (card_of self.now)).is_behind) }
     {
+        let most = u16::from(delays.busy) + u16::from(delays.lagging);
         self.is_in(State::Tran)
             && (self.lags && self.polled < 8)
-            && u16::from(self.polled) < u16::from(delays.busy) + u16::from(delays.lagging)
+            && (delays.lagging > 0 && u16::from(self.polled) < most)
     }
 
     /// CMD13, whose status may lag behind a programming that has ended: it shows prg then.

@@ -73,6 +73,7 @@ fn says_other_bits_before_it_is_ready(rt: HostRuntime) -> Result<(), Fail> {
         ..sdhc()
     };
     let mut card = built(rt.alloc(), sd)?;
+    send(&mut card, encode(8, 0x1aa));
     let inquiry = encode(41, 0x4030_0000);
     expect_ocrs(&rt, &mut card, inquiry, [0x00ff_8000, 0xc0ff_8000]);
     let mmc = CardSpec {

@@ -137,6 +137,7 @@ fn waits_for_sector_addresses(rt: HostRuntime) -> Result<(), Fail> {
     let mut spec = sdhc();
     spec.ready = 8;
     let mut card = built(rt.alloc(), spec)?;
+    send(&mut card, encode(8, 0x1aa));
     for _inquiry in 0..10 {
         expect_r1(&rt, &mut card, 55, 0, 0x120);
         let not_ready = [0x3f, 0x40, 0xff, 0x80, 0x00, 0xff];

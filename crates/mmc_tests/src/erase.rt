@@ -146,8 +146,20 @@ fn names_the_cause_of_each_lie(rt: HostRuntime) -> Result<(), Fail> {
         ),
         (&busy[..], Some(Cause::Busy)),
         (
-            &[first, last, erase, rests, Said::Response(13, 0xe00)][..],
+            &[first, last, erase, rests, Said::Response(13, 0xb00)][..],
             Some(Cause::Status),
+        ),
+        // Its first status shows prg still.
+        (
+            &[
+                first,
+                last,
+                erase,
+                rests,
+                Said::Response(13, 0xe00),
+                Said::Response(13, 0x900),
+            ][..],
+            None,
         ),
         (
             &[first, last, erase, rests, Said::Response(13, 0x900)][..],

@@ -235,10 +235,11 @@ fn names_the_cause_of_each_lie(rt: HostRuntime) -> Result<(), Fail> {
         assert_eq!(rt; cause_of(rt.alloc(), lie)?, Some(cause));
     }
     for number in 0..16 {
-        let cause = if number == 4 {
-            None
-        } else {
-            Some(Cause::Status)
+        let cause = match number {
+            4 => None,
+            // The card is asked again, and nothing comes.
+            7 => Some(Cause::Answer),
+            _ => Some(Cause::Status),
         };
         assert_eq!(rt; cause_of(rt.alloc(), Lie::State(number))?, cause);
     }
