@@ -1,7 +1,8 @@
 -- Lines and texts of faults with further words.
 use Rattle.std.proofs.Common.{◌≡◌, ℕ, List, [], ◌∷◌, None, refl}
 use Rattle.card_text.specs.CardLines.{value_line_of}
-use Rattle.card_text.specs.FaultTexts.{failure_of, fault_of, fault_with_words_of, flips_of, outcome_of}
+use Rattle.card_text.specs.FaultTexts.{command_error_of, failure_of, fault_of, fault_with_words_of, flips_of}
+use Rattle.card_text.specs.FaultTexts.{outcome_of}
 use Rattle.card_text.specs.Parts.{parts}
 use Rattle.card_text.proofs.PartLemmas.{split_some}
 
@@ -14,6 +15,16 @@ two_outcomes a (b ∷ words) some = refl
 pub many_outcomes : (a text : List ℕ) → None ≡ outcome_of (a ∷ parts 32 text)
 unfolding parts
 many_outcomes a text = two_outcomes a _ (split_some _ text)
+
+two_errors : (a : List ℕ) (words : List (List ℕ)) → (words ≡ [] → ⊥) → None ≡ command_error_of (a ∷ words)
+unfolding command_error_of
+two_errors a [] some = absurd (some refl)
+two_errors a (b ∷ words) some = refl
+
+-- more words than an error of a command has
+pub many_errors : (a text : List ℕ) → None ≡ command_error_of (a ∷ parts 32 text)
+unfolding parts
+many_errors a text = two_errors a _ (split_some _ text)
 
 three_words : (a b : List ℕ) (words : List (List ℕ)) → (words ≡ [] → ⊥) → None ≡ failure_of (a ∷ b ∷ words)
 unfolding failure_of

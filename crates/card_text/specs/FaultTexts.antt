@@ -2,9 +2,11 @@
 use Rattle.std.specs.Prelude.{ℕ, List, [], ◌∷◌, Option, None, Some, codes, if◌then◌else◌, min, option_and_then, option_map}
 use Rattle.std.specs.Int.{from_be_bytes, w32}
 use Rattle.std.specs.Str.{bytes_eq}
+use Rattle.mmc_card_sim.specs.declared.fault.CommandError.{CommandError}
+use Rattle.mmc_card_sim.specs.declared.fault.CommandError.TheVariants.{ComCrc, Illegal}
 use Rattle.mmc_card_sim.specs.declared.fault.Fault.{Fault}
 use Rattle.mmc_card_sim.specs.declared.fault.Fault.TheVariants.{BadBlock, Brownout, Busy, Fail, FailWith, FlipCommand}
-use Rattle.mmc_card_sim.specs.declared.fault.Fault.TheVariants.{FailSwitch, FailSwitchLate, FlipReply}
+use Rattle.mmc_card_sim.specs.declared.fault.Fault.TheVariants.{FailSwitch, FailSwitchLate, FlipReply, LeaveOver}
 use Rattle.mmc_card_sim.specs.declared.fault.Fault.TheVariants.{LoseCommand, LoseReply, LoseStatus, NoBlock, ReadError}
 use Rattle.mmc_card_sim.specs.declared.fault.Fault.TheVariants.{Reject, RejectAll}
 use Rattle.mmc_card_sim.specs.declared.fault.Flips.{Flips}
@@ -37,6 +39,17 @@ unfoldable pub outcome_of : List (List ℕ) → Option Outcome
 outcome_of (word ∷ []) = outcome_in word
 outcome_of words = None
 
+-- `crc` or `illegal`
+unfoldable pub command_error_in : List ℕ → Option CommandError
+command_error_in word =
+    if bytes_eq word (codes "crc") then Some ComCrc
+    else (if bytes_eq word (codes "illegal") then Some Illegal else None)
+
+-- that one word
+unfoldable pub command_error_of : List (List ℕ) → Option CommandError
+command_error_of (word ∷ []) = command_error_in word
+command_error_of words = None
+
 -- an outcome alone, or with error bits as a status has them, in 8 digits
 unfoldable pub failure_of : List (List ℕ) → Option Fault
 failure_of (word ∷ []) = option_map (λ outcome. Fail outcome) (outcome_in word)
@@ -64,10 +77,11 @@ unfoldable pub fault_with_words_of : List ℕ → List (List ℕ) → Option Fau
 fault_with_words_of name words =
     if bytes_eq name (codes "flip-command") then option_map (λ flips. FlipCommand flips) (flips_of words)
     else (if bytes_eq name (codes "flip-reply") then option_map (λ flips. FlipReply flips) (flips_of words)
+    else (if bytes_eq name (codes "left-over") then option_map (λ error. LeaveOver error) (command_error_of words)
     else (if bytes_eq name (codes "lose-status") then option_map (λ outcome. LoseStatus outcome) (outcome_of words)
     else (if bytes_eq name (codes "fail") then failure_of words
     else (if bytes_eq name (codes "brownout") then option_map (λ outcome. Brownout outcome) (outcome_of words)
-    else None))))
+    else None)))))
 
 -- the text of a fault, by its fields
 unfoldable pub fault_of : List (List ℕ) → Option Fault

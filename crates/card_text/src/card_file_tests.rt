@@ -1,14 +1,17 @@
 // Card files with every key, and one of each kind that is refused.
 use crate::card_file::read_card;
 use crate::fault::CardFault;
-use mmc_card_sim::{Fault, Flips, KindRegisters, Outcome, Refusal, Registers, SdRegisters};
+use mmc_card_sim::{
+    CommandError, Fault, Flips, KindRegisters, Outcome, Refusal, Registers, SdRegisters,
+};
 
 #[test]
 fn reads_every_key_in_any_order(rt: HostRuntime) {
     let text =
         b"fault 18446744073709551614 flip-reply 300 0\n# \xff any bytes\nhighspeed yes\nbusy 08\nearly 2\ncmd8 no\nlength named\n\
         sectors 18446744073709551615\n\nlocked yes\nrca 00fF\nready 0\nscr 0235800000000000\nkind sd\n\
-        csd 0000000000090000000040000240009B\ncid 0123456789abcdefFEDCBA9876543210\nocr 40Ff8000\nfault 007 brownout new";
+        csd 0000000000090000000040000240009B\ncid 0123456789abcdefFEDCBA9876543210\nocr 40Ff8000\n\
+        fault 007 brownout new\nfault 8 left-over crc\nfault 9 left-over illegal";
     let Ok(file) = read_card(rt.alloc(), text) else {
         assert!(rt; false);
         return;
@@ -44,6 +47,8 @@ fn reads_every_key_in_any_order(rt: HostRuntime) {
     let plan = [
         (u64::MAX - 1, Fault::FlipReply(flips)),
         (7, Fault::Brownout(Outcome::New)),
+        (8, Fault::LeaveOver(CommandError::ComCrc)),
+        (9, Fault::LeaveOver(CommandError::Illegal)),
     ];
     assert!(rt; file.plan.as_slice() == plan.as_slice());
 }
@@ -83,7 +88,7 @@ fn last_byte_for_a_place_counts(rt: HostRuntime) {
 
 #[test]
 fn refuses_a_card_file(rt: HostRuntime) {
-    let rows: [(&[u8], u64); 19] = [
+    let rows: [(&[u8], u64); 22] = [
         (b"kind sd\nKind sd", 2),
         (b"ready 9", 1),
         (b"early 4", 1),
@@ -105,6 +110,9 @@ fn refuses_a_card_file(rt: HostRuntime) {
         (b"fault 18446744073709551615 busy", 1),
         (b"fault 1 flip-command 1 2 3", 1),
         (b"fault 1 fail", 1),
+        (b"fault 1 left-over", 1),
+        (b"fault 1 left-over old", 1),
+        (b"fault 1 left-over crc illegal", 1),
         (b"fault 1", 1),
     ];
     for (text, line) in rows {

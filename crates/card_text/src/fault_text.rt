@@ -1,13 +1,14 @@
 // Reads the text of a planned fault.
 ghost use Rattle.std.specs.Prelude.{◌≡◌};
-ghost use Rattle.card_text.specs.FaultTexts.{failure_of, fault_of, fault_with_words_of, flips_of, lone_fault_of, outcome_in};
+ghost use Rattle.card_text.specs.FaultTexts.{command_error_in, command_error_of, failure_of, fault_of};
+ghost use Rattle.card_text.specs.FaultTexts.{fault_with_words_of, flips_of, lone_fault_of, outcome_in};
 ghost use Rattle.card_text.specs.FaultTexts.{outcome_of, position_of};
 ghost use Rattle.card_text.specs.Parts.{left_parts, parts};
 
 use crate::cut::cut;
 use crate::hexadecimal::bytes;
 use crate::number::number;
-use mmc_card_sim::{Fault, Flips, Outcome};
+use mmc_card_sim::{CommandError, Fault, Flips, Outcome};
 
 // A position of a bit in a frame: one past the frame, however large, as 255.
 #[tactic(auto, unfolding(crate::specs::FaultTexts::position_of))]
@@ -62,6 +63,31 @@ fn outcome(words: &[u8]) -> Option<Outcome>
     match cut(words, b' ') {
         (_, Some(_)) => None,
         (word, None) => outcome_in(word),
+    }
+}
+
+// `crc` or `illegal`.
+#[tactic(auto, unfolding(crate::specs::FaultTexts::command_error_in))]
+fn command_error_in(word: &[u8]) -> Option<CommandError>
+    ensures { result ≡ command_error_in word.now }
+{
+    if word == b"crc".as_slice() {
+        Some(CommandError::ComCrc)
+    } else if word == b"illegal".as_slice() {
+        Some(CommandError::Illegal)
+    } else {
+        None
+    }
+}
+
+// That one word.
+#[tactic(auto, unfolding(crate::specs::FaultTexts::command_error_of))]
+fn command_error(words: &[u8]) -> Option<CommandError>
+    ensures { result ≡ command_error_of (parts 32 words.now) }
+{
+    match cut(words, b' ') {
+        (_, Some(_)) => None,
+        (word, None) => command_error_in(word),
     }
 }
 
@@ -121,6 +147,8 @@ fn fault_with_words(name: &[u8], words: &[u8]) -> Option<Fault>
         Some(Fault::FlipCommand(flips(words)?))
     } else if name == b"flip-reply".as_slice() {
         Some(Fault::FlipReply(flips(words)?))
+    } else if name == b"left-over".as_slice() {
+        Some(Fault::LeaveOver(command_error(words)?))
     } else if name == b"lose-status".as_slice() {
         Some(Fault::LoseStatus(outcome(words)?))
     } else if name == b"fail".as_slice() {

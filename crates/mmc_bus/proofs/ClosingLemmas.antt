@@ -4,29 +4,30 @@ use Rattle.std.proofs.Common.{◌+◌, ◌<◌, ◌-◌, ◌∙◌, ◌≡◌, �
 use Rattle.std.specs.Prelude.{Err, IsErr, IsOk, Ok, Result}
 use Rattle.mmc_bus.proofs.PollLemmas.{Counts, polled_as}
 use Rattle.mmc_bus.proofs.WorkLemmas.{joined, narrows_then, quiet_parts, refuted, set_then, stays_same, stays_then, worked_as}
-use Rattle.mmc_bus.specs.CommandLaws.{TellsStatus}
+use Rattle.mmc_bus.specs.CommandLaws.{LeftOver, TellsStatus}
 use Rattle.mmc_bus.specs.declared.host.Unheard.{Unheard}
-use Rattle.mmc_bus.specs.Closings.{Closes, ClosesSoon, CountsOn, HasShown}
+use Rattle.mmc_bus.specs.Closings.{Closes, ClosesSoon, CountsOn, HasLagged, HasShown}
 use Rattle.mmc_bus.specs.Learned.{Stays}
 use Rattle.mmc_bus.specs.Work.{Narrows, StaysSet, Worked}
 use Rattle.mmc_bus.specs.declared.cause.Cause.{Cause}
 use Rattle.mmc_bus.specs.declared.status.Closing.{Closing}
 use Rattle.mmc_bus.specs.declared.status.Closing.TheVariants.{AtWork, Clean}
+use Rattle.mmc_card.proofs.CardAll.{card_left}
 use Rattle.mmc_card.proofs.Narrow.{both}
 use Rattle.mmc_card.specs.Blocks.{HasRested, programmed, rested}
 use Rattle.mmc_card.specs.BusView.{BusView}
 use Rattle.mmc_card.specs.Card.{Card, IsCard, is_in, is_selected}
-use Rattle.mmc_card.specs.CardAnswer.{Choice, counted, shown, status}
-use Rattle.mmc_card.specs.CardLaws.{HasNoError, IsInOrder}
+use Rattle.mmc_card.specs.CardAnswer.{Choice, counted, left_with, shown, status}
+use Rattle.mmc_card.specs.CardLaws.{HasNoErrorOfItsOwn, IsInOrder}
 use Rattle.mmc_card.specs.Faults.{NoFault}
 use Rattle.mmc_card.specs.RowsIdentify.{at_work, lagging, may_lag}
 use Rattle.mmc_frame.specs.declared.card_state.State.TheVariants.{Prg, Tran}
 use Rattle.mmc_frame.specs.declared.kind.Kind.{Kind}
-use Rattle.mmc_frame.specs.Status.{IsAtWork, IsClean, error_bits}
+use Rattle.mmc_frame.specs.Status.{IsAtWork, IsClean, error_bits, own_status}
 
 -- A closing status, by what it says.
 pub closes_by : (kind : Kind) (r : Result Closing Cause) (old new : Card)
-    → (r ≡ Ok Clean → IsInOrder kind old × (new ≡ shown old)) → (r ≡ Ok AtWork → HasNoError kind old × HasShown old new × CountsOn old new)
+    → (r ≡ Ok Clean → IsInOrder kind old × (new ≡ shown old)) → (r ≡ Ok AtWork → HasNoErrorOfItsOwn kind old × HasShown old new × CountsOn old new)
     → Closes kind r old new
 closes_by kind (Ok Clean) old new clean work = clean refl
 closes_by kind (Ok AtWork) old new clean work = work refl
@@ -48,7 +49,7 @@ Asks kind rca r =
     (λ old new. IsInOrder kind old.card → old.card.app ≡ false → old.card.rca ≡ rca → ClosesSoon r old.card new.card)
 
 -- a card that has only shown its status is in order where it was
-order_back : (kind : Kind) (old new : Card) → HasNoError kind old → HasShown old new → IsInOrder kind new
+order_back : (kind : Kind) (old new : Card) → HasNoErrorOfItsOwn kind old → HasShown old new → IsInOrder kind new
     → IsInOrder kind old
 order_back kind old new none e order = record {
   no_error = none;
@@ -59,7 +60,7 @@ order_back kind old new none e order = record {
 order_on : (kind : Kind) (old new : Card) → HasShown old new → IsInOrder kind old → IsInOrder kind new
 order_on kind old new e order =
     subst (IsInOrder kind) (sym e) (record {
-      no_error = record { command_errors = refl; errors = refl; switch_error = λ mmc. refl };
+      no_error = record { errors = refl; switch_error = λ mmc. refl };
       tran = order.tran;
       rests = order.rests;
     })
@@ -218,7 +219,6 @@ Ended kind rca r =
 order_polled : (kind : Kind) (card : Card) (polls : ℕ) → IsInOrder kind (polled_as card polls) → IsInOrder kind card
 order_polled kind card polls order = record {
   no_error = record {
-    command_errors = order.no_error.command_errors;
     errors = order.no_error.errors;
     switch_error = order.no_error.switch_error;
   };
@@ -229,7 +229,6 @@ order_polled kind card polls order = record {
 polled_order : (kind : Kind) (card : Card) (polls : ℕ) → IsInOrder kind card → IsInOrder kind (polled_as card polls)
 polled_order kind card polls order = record {
   no_error = record {
-    command_errors = order.no_error.command_errors;
     errors = order.no_error.errors;
     switch_error = order.no_error.switch_error;
   };
@@ -266,24 +265,27 @@ ended kind rca polls most r a b c is_most p q =
 
 -- What one status tells, from the laws of statuses.
 
-abbrev pub ErrorsLaw : Type 0
-ErrorsLaw =
-    (kind : Kind) (app : Bool) (card : Card) → IsCard card → ((error_bits kind (status app card) ≡ 0) ↔ HasNoError kind card)
+abbrev pub OwnLaw : Type 0
+OwnLaw =
+    (kind : Kind) (app : Bool) (card : Card) → IsCard card
+    → ((error_bits kind (own_status (status app card)) ≡ 0) ↔ HasNoErrorOfItsOwn kind card)
 
 abbrev pub CleanLaw : Type 0
 CleanLaw =
-    (kind : Kind) (app : Bool) (card : Card) → IsCard card → (IsClean kind (status app card) ↔ IsInOrder kind card)
+    (kind : Kind) (app : Bool) (card : Card) → IsCard card
+    → (IsClean kind (own_status (status app card)) ↔ IsInOrder kind card)
 
 abbrev pub LagLaw : Type 0
 LagLaw =
     (kind : Kind) (choice : Choice) (card : Card) → IsCard card
-    → (IsAtWork kind (status false (at_work choice card)) ↔ HasNoError kind card)
+    → (IsAtWork kind (own_status (status false (at_work choice card))) ↔ HasNoErrorOfItsOwn kind card)
 
 abbrev pub UncleanLaw : Type 0
-UncleanLaw = (kind : Kind) (choice : Choice) (card : Card) → IsClean kind (status false (at_work choice card)) → ⊥
+UncleanLaw =
+    (kind : Kind) (choice : Choice) (card : Card) → IsCard card
+    → IsClean kind (own_status (status false (at_work choice card))) → ⊥
 
-lagged : (old new : Card) → may_lag old ≡ true → new ≡ lagging old
-    → (old.lags ≡ true) × (old.polled < 8) × (new.polled ≡ old.polled + 1)
+lagged : (old new : Card) → may_lag old ≡ true → new ≡ lagging old → HasLagged old new
 lagged old new may e =
     let soon = both old.lags _ (both (is_in old.state Tran) _ may).1 in
     let below : old.polled < 8 = ltb-true old.polled 8 soon.1 in
@@ -293,29 +295,56 @@ lagged old new may e =
 lagging_shown : (old new : Card) → new ≡ lagging old → HasShown old new
 lagging_shown old new e = subst (HasShown old) (sym e) refl
 
+-- what is left over says nothing of the card itself
+none_of_its_own : (kind : Kind) (left : ℕ) (card : Card) → HasNoErrorOfItsOwn kind (left_with left card)
+    → HasNoErrorOfItsOwn kind card
+none_of_its_own kind left card none = record { errors = none.errors; switch_error = none.switch_error }
+
+in_order_of_its_own : (kind : Kind) (left : ℕ) (card : Card) → IsInOrder kind (left_with left card) → IsInOrder kind card
+in_order_of_its_own kind left card order = record {
+  no_error = none_of_its_own kind left card order.no_error;
+  tran = order.tran;
+  rests = order.rests;
+}
+
 pub told_closing : (kind : Kind) (old new : Card) (heard : Result ℕ Unheard) (r : Result Closing Cause) → IsCard old
-    → ErrorsLaw → CleanLaw → LagLaw → UncleanLaw → ((told : ℕ) → heard ≡ Ok told → TellsStatus old told new)
-    → (r ≡ Ok Clean → (told : ℕ) × (heard ≡ Ok told) × IsClean kind told)
-    → (r ≡ Ok AtWork → (told : ℕ) × (heard ≡ Ok told) × IsAtWork kind told)
+    → OwnLaw → CleanLaw → LagLaw → UncleanLaw
+    → ((told : ℕ) → heard ≡ Ok told → LeftOver (λ card. TellsStatus card told new) old)
+    → (r ≡ Ok Clean → (told : ℕ) × (heard ≡ Ok told) × IsClean kind (own_status told))
+    → (r ≡ Ok AtWork → (told : ℕ) × (heard ≡ Ok told) × IsAtWork kind (own_status told))
     → Closes kind r old new
-told_closing kind old new heard r k errors clean lag unclean tells is_clean is_work =
+told_closing kind old new heard r k own clean lag unclean tells is_clean is_work =
     closes_by kind r old new
     (λ is.
     let judged = is_clean is in
-    elim (tells judged.0 judged.1) [
-      | inl itself ↦ ((clean kind false old k).0 (subst (IsClean kind) itself.0 judged.2), itself.1)
-      | inr lags ↦ absurd (unclean kind lags.choice old (subst (IsClean kind) lags.told_is judged.2))
+    let says = tells judged.0 judged.1 in
+    let met = left_with says.0 old in
+    let is_met = card_left says.0 old says.1 k in
+    elim says.2 [
+      | inl itself ↦ (
+        in_order_of_its_own kind says.0 old
+            ((clean kind false met is_met).0 (subst (λ told. IsClean kind (own_status told)) itself.0 judged.2)),
+        itself.1,
+      )
+      | inr lags ↦ absurd (unclean kind lags.choice met is_met
+          (subst (λ told. IsClean kind (own_status told)) lags.told_is judged.2))
     ])
     (λ is.
     let judged = is_work is in
-    elim (tells judged.0 judged.1) [
+    let says = tells judged.0 judged.1 in
+    let met = left_with says.0 old in
+    let is_met = card_left says.0 old says.1 k in
+    elim says.2 [
       | inl itself ↦ (
-        (errors kind false old k).0 (subst (λ told. error_bits kind told ≡ 0) itself.0 judged.2.no_error),
+        none_of_its_own kind says.0 old
+            ((own kind false met is_met).0
+            (subst (λ told. error_bits kind (own_status told) ≡ 0) itself.0 judged.2.no_error)),
         as_shown old new itself.1,
         λ still. cc (ap (λ (c : Card). c.lags) itself.1, still),
       )
       | inr lags ↦ (
-        (lag kind lags.choice old k).0 (subst (IsAtWork kind) lags.told_is judged.2),
+        none_of_its_own kind says.0 old
+            ((lag kind lags.choice met is_met).0 (subst (λ told. IsAtWork kind (own_status told)) lags.told_is judged.2)),
         lagging_shown old new lags.card,
         λ still. lagged old new lags.may lags.card,
       )
@@ -323,17 +352,21 @@ told_closing kind old new heard r k errors clean lag unclean tells is_clean is_w
 
 pub told_soon : (kind : Kind) (old new : Card) (heard : Result ℕ Unheard) (r : Result Closing Cause) → IsCard old
     → CleanLaw → LagLaw → UncleanLaw → (told : ℕ) → heard ≡ Ok told → TellsStatus old told new → IsInOrder kind old
-    → ((told : ℕ) → heard ≡ Ok told → IsClean kind told → r ≡ Ok Clean)
-    → ((told : ℕ) → heard ≡ Ok told → (IsClean kind told → ⊥) → IsAtWork kind told → r ≡ Ok AtWork)
+    → ((told : ℕ) → heard ≡ Ok told → IsClean kind (own_status told) → r ≡ Ok Clean)
+    → ((told : ℕ) → heard ≡ Ok told → (IsClean kind (own_status told) → ⊥) → IsAtWork kind (own_status told)
+    → r ≡ Ok AtWork)
     → ClosesSoon r old new
 told_soon kind old new heard r k clean lag unclean told is tells order all_clean all_work =
     elim tells [
       | inl itself ↦ subst (λ r. ClosesSoon r old new)
-          (sym (all_clean told is (subst (IsClean kind) (sym itself.0) ((clean kind false old k).1 order)))) tt
+          (sym (all_clean told is
+          (subst (λ told. IsClean kind (own_status told)) (sym itself.0) ((clean kind false old k).1 order)))) tt
       | inr lags ↦
           subst (λ r. ClosesSoon r old new)
-          (sym (all_work told is (λ c. unclean kind lags.choice old (subst (IsClean kind) lags.told_is c))
-          (subst (IsAtWork kind) (sym lags.told_is) ((lag kind lags.choice old k).1 order.no_error))))
+          (sym (all_work told is (λ c. unclean kind lags.choice old k
+          (subst (λ told. IsClean kind (own_status told)) lags.told_is c))
+          (subst (λ told. IsAtWork kind (own_status told)) (sym lags.told_is)
+          ((lag kind lags.choice old k).1 order.no_error))))
           (lagged old new lags.may lags.card)
     ]
 

@@ -3,6 +3,7 @@ use Rattle.std.proofs.Common.{◌&&◌, ◌+◌, ◌<◌, ◌∙◌, ◌≡◌, 
 use Rattle.std.proofs.Common.{subst, sym, true, ℕ}
 use Rattle.std.specs.Prelude.{Ok, Result, Some}
 use Rattle.std.proofs.lemmas.Nat.{le_or_r}
+use Rattle.std.specs.Int.Bits.{or_zero_r}
 use Rattle.mmc_frame.specs.Frame.{command_in}
 use Rattle.mmc_frame.specs.declared.card_state.State.{State}
 use Rattle.mmc_frame.specs.declared.card_state.State.TheVariants.{Idle, Prg, Rcv}
@@ -21,24 +22,27 @@ use Rattle.mmc_card.proofs.Steps.{after_poll}
 use Rattle.mmc_card.proofs.FaultCount.{command_counts, write_counts, poll_counts, read_counts}
 use Rattle.mmc_card.proofs.Narrow.{both}
 use Rattle.mmc_card.proofs.NarrowSteps.{command_widens, write_adds, poll_keeps, read_keeps}
-use Rattle.mmc_bus.proofs.Readers.{Reads}
+use Rattle.mmc_bus.proofs.Readers.{Reads, with_errors}
 use Rattle.mmc_card.proofs.Switching.{command_switches}
 use Rattle.mmc_card.proofs.Standing.{command_stands, write_stands, poll_stands, read_stands}
-use Rattle.mmc_card.specs.CardAnswer.{CardAnswer, Choice, Silent, refused}
+use Rattle.mmc_card.specs.CardAnswer.{CardAnswer, Choice, Silent, left_with, refused}
 use Rattle.mmc_card.proofs.Landing.{snoc_length}
 use Rattle.mmc_card.specs.Blocks.{accepted, can_send, can_accept, fallen_short, next_block, next_written, rested, sent}
 use Rattle.mmc_card.specs.Blocks.{waited, will_send}
-use Rattle.mmc_card.specs.Card.{Card, IsCard, holds, is_in, is_selected}
+use Rattle.mmc_card.specs.Card.{AreAmong, Card, IsCard, holds, is_in, is_selected}
+use Rattle.mmc_card.specs.ErrorBits.{command_error_bits}
 use Rattle.mmc_bus.specs.Exchanges.{Exchanged}
 use Rattle.mmc_card.specs.Faults.{CommandStep, FallNoMore, WriteStep, IsFaultless, IsFlipped, NoFault, OneFault}
 use Rattle.mmc_card.specs.Faults.{PollStep, Spells}
 use Rattle.mmc_card.specs.Faults.{ReadStep, bad_block, brownout, fail, faithful, fall_short, flip_command, flip_reply}
-use Rattle.mmc_card.specs.Faults.{fail_switch, lose_command}
+use Rattle.mmc_card.specs.Faults.{fail_switch, leave_over, lose_command}
 use Rattle.mmc_card.specs.Faults.{busy, lose_reply, lose_status, read_error, reject, slow_inquiry}
 use Rattle.mmc_bus.specs.Heard.{cause_of, cause_of_command}
 use Rattle.mmc_card.specs.Laws.{CountsAtMostOne, erased_by, is_frame_of_run, maybe_erased}
 use Rattle.mmc_bus.specs.Learned.{Asked, CommandFacts, Faithful, IsAccepted, WriteFacts, Obeyed, PollFacts, ReadFacts, carried_out}
 use Rattle.mmc_bus.specs.Learned.{may_fail, meant}
+use Rattle.mmc_card.specs.declared.command.Command.{Command as Meaning}
+use Rattle.mmc_card.specs.declared.command.Command.TheVariants.{GoIdleState}
 use Rattle.mmc_card.specs.Rows.{command_of, answered, is_foreign, is_legal, reached, respond}
 use Rattle.mmc_card.specs.Sectors.{Sector, Within}
 use Rattle.mmc_card.specs.BusView.{BusView}
@@ -57,22 +61,52 @@ fell old new more same = absurd (omega (arith, more, same))
 
 -- Commands.
 
-obeyed_by : {X : Type 0} (answers : CardAnswer → Result X Unheard) (choice : Choice) (old : Card) (index argument : ℕ)
-    (heard : Result X Unheard) (new : Card)
+-- what is left over changes nothing of where a command is carried out
+legal_left : (left : ℕ) (command : Meaning) (card : Card)
+    → is_legal command (left_with left card) ≡ is_legal command card
+legal_left left GoIdleState card = refl
+legal_left left _ card = refl
+
+-- the card that carries the command out, with what is left over
+obeyed_by : {X : Type 0} (answers : CardAnswer → Result X Unheard) (choice : Choice) (left : ℕ) (old : Card)
+    (index argument : ℕ) (heard : Result X Unheard) (new : Card)
     (foreign legal : Bool) → foreign ≡ is_foreign (meant old index) old argument
-    → legal ≡ is_legal (meant old index) old
-    → ((x : X) → answers Silent ≡ Ok x → ⊥)
-    → new ≡ (cond foreign (old, Silent) (cond legal (carried_out choice old index argument)
-    (refused (reached (meant old index) old), Silent))).0
-    → heard ≡ answers (cond foreign (old, Silent)
-    (cond legal (carried_out choice old index argument) (refused (reached (meant old index) old), Silent))).1
+    → legal ≡ is_legal (meant old index) (left_with left old)
+    → AreAmong left command_error_bits → ((x : X) → answers Silent ≡ Ok x → ⊥)
+    → new ≡ (cond foreign (left_with left old, Silent) (cond legal (carried_out choice (left_with left old) index argument)
+    (refused (reached (meant old index) (left_with left old)), Silent))).0
+    → heard ≡ answers (cond foreign (left_with left old, Silent)
+    (cond legal (carried_out choice (left_with left old) index argument)
+    (refused (reached (meant old index) (left_with left old)), Silent))).1
     → (x : X) → heard ≡ Ok x → Obeyed answers old index argument heard new
-obeyed_by answers choice old index argument heard new true legal f l mute card answer x h =
+obeyed_by answers choice left old index argument heard new true legal f l among mute card answer x h =
     absurd (mute x (sym answer ∙ h))
-obeyed_by answers choice old index argument heard new false true f l mute card answer x h =
-    record { choice = choice; own = sym f; legal = sym l; card = card; answer = answer }
-obeyed_by answers choice old index argument heard new false false f l mute card answer x h =
+obeyed_by answers choice left old index argument heard new false true f l among mute card answer x h =
+    record {
+      choice = choice;
+      left = left;
+      among = among;
+      own = sym f;
+      legal = sym (l ∙ legal_left left (meant old index) old);
+      card = card;
+      answer = answer;
+    }
+obeyed_by answers choice left old index argument heard new false false f l among mute card answer x h =
     absurd (mute x (sym answer ∙ h))
+
+obeyed_left : {X : Type 0} (answers : CardAnswer → Result X Unheard) (choice : Choice) (left : ℕ) (old : Card)
+    (index argument : ℕ) (heard : Result X Unheard) (new : Card) → AreAmong left command_error_bits
+    → ((x : X) → answers Silent ≡ Ok x → ⊥) → new ≡ (respond choice (left_with left old) index argument).0
+    → heard ≡ answers (respond choice (left_with left old) index argument).1
+    → (x : X) → heard ≡ Ok x → Obeyed answers old index argument heard new
+obeyed_left answers choice left old index argument heard new among mute card answer x h =
+    obeyed_by answers choice left old index argument heard new (is_foreign (meant old index) old argument)
+    (is_legal (meant old index) (left_with left old))
+    refl refl among mute card answer x h
+
+-- where nothing is left over
+left_none : (card : Card) → left_with 0 card ≡ card
+left_none card = ap (λ (n : ℕ). record card { command_errors = n }) (or_zero_r card.command_errors)
 
 obeyed : {X : Type 0} (answers : CardAnswer → Result X Unheard) (choice : Choice) (old : Card) (index argument : ℕ)
     (heard : Result X Unheard) (new : Card)
@@ -80,9 +114,10 @@ obeyed : {X : Type 0} (answers : CardAnswer → Result X Unheard) (choice : Choi
     → heard ≡ answers (respond choice old index argument).1
     → (x : X) → heard ≡ Ok x → Obeyed answers old index argument heard new
 obeyed answers choice old index argument heard new mute card answer x h =
-    obeyed_by answers choice old index argument heard new (is_foreign (meant old index) old argument)
-    (is_legal (meant old index) old)
-    refl refl mute card answer x h
+    let none = sym (left_none old) in
+    obeyed_left answers choice 0 old index argument heard new refl mute
+    (card ∙ ap (λ (c : Card). (respond choice c index argument).0) none)
+    (answer ∙ ap (λ (c : Card). answers (respond choice c index argument).1) none) x h
 
 faithfully : {X : Type 0} (answers : CardAnswer → X) (choice : Choice) (old : Card) (index argument : ℕ) (heard : X)
     (new : Card)
@@ -138,14 +173,14 @@ heard_at Fits hears answers choice old frame index argument reply reads fits com
 command_sound : {X : Type 0} (Fits : CardAnswer → Type 0) (hears : Reply → Result X Unheard)
     (answers : CardAnswer → Result X Unheard)
     (old : BusView) (frame : List ℕ) (index argument : ℕ) (reply : Reply) (new : BusView)
-    → Reads Fits hears answers → ((choice : Choice) → Fits (respond choice old.card index argument).1)
+    → Reads Fits hears answers → ((errors : ℕ) (choice : Choice) → Fits (respond choice (with_errors errors old.card) index argument).1)
     → command_in frame ≡ Some (index, argument) → CommandStep old frame reply new
     → (x : X) → hears reply ≡ Ok x → Obeyed answers old.card index argument (hears reply) new.card
 command_sound Fits hears answers old frame index argument reply new reads fits command
     (faithful choice patient count card spells) x h =
     obeyed answers choice old.card index argument (hears reply) new.card reads.mute
     (card_at choice old.card new.card frame index argument command card)
-    (heard_at Fits hears answers choice old.card frame index argument reply reads (fits choice) command spells) x h
+    (heard_at Fits hears answers choice old.card frame index argument reply reads (fits _ choice) command spells) x h
 command_sound Fits hears answers old frame index argument reply new reads fits command
     (lose_command count card silent) x h =
     absurd (reads.silent x (ap hears (sym silent) ∙ h))
@@ -157,18 +192,24 @@ command_sound Fits hears answers old frame index argument reply new reads fits c
     absurd (reads.silent x (ap hears (sym silent) ∙ h))
 command_sound Fits hears answers old frame index argument reply new reads fits command
     (flip_reply choice patient count card flipped) x h =
-    absurd (reads.flipped (respond choice old.card index argument).1 reply (fits choice)
+    absurd (reads.flipped (respond choice old.card index argument).1 reply (fits _ choice)
     (subst (λ s. IsFlipped (answered choice old.card s).1 reply) command flipped) x h)
 command_sound Fits hears answers old frame index argument reply new reads fits command
     (slow_inquiry choice slow late inquiry count card spells) x h =
     obeyed answers choice old.card index argument (hears reply) new.card reads.mute
     (card_at choice old.card new.card frame index argument command card)
-    (heard_at Fits hears answers choice old.card frame index argument reply reads (fits choice) command spells) x h
+    (heard_at Fits hears answers choice old.card frame index argument reply reads (fits _ choice) command spells) x h
 command_sound Fits hears answers old frame index argument reply new reads fits command
     (fail_switch choice fails switch count card spells) x h =
     obeyed answers choice old.card index argument (hears reply) new.card reads.mute
     (card_at choice old.card new.card frame index argument command card)
-    (heard_at Fits hears answers choice old.card frame index argument reply reads (fits choice) command spells) x h
+    (heard_at Fits hears answers choice old.card frame index argument reply reads (fits _ choice) command spells) x h
+command_sound Fits hears answers old frame index argument reply new reads fits command
+    (leave_over choice bits of patient count card spells) x h =
+    obeyed_left answers choice bits old.card index argument (hears reply) new.card of.0 reads.mute
+    (card_at choice (left_with bits old.card) new.card frame index argument command card)
+    (heard_at Fits hears answers choice (left_with bits old.card) frame index argument reply reads (fits _ choice)
+    command spells) x h
 command_sound Fits hears answers old frame index argument reply new reads fits command
     (brownout choice lands keeps_length after patient count card silent) x h =
     absurd (reads.silent x (ap hears (sym silent) ∙ h))
@@ -176,14 +217,14 @@ command_sound Fits hears answers old frame index argument reply new reads fits c
 command_fine : {X : Type 0} (Fits : CardAnswer → Type 0) (hears : Reply → Result X Unheard)
     (answers : CardAnswer → Result X Unheard)
     (old : BusView) (frame : List ℕ) (index argument : ℕ) (reply : Reply) (new : BusView)
-    → Reads Fits hears answers → ((choice : Choice) → Fits (respond choice old.card index argument).1)
+    → Reads Fits hears answers → ((errors : ℕ) (choice : Choice) → Fits (respond choice (with_errors errors old.card) index argument).1)
     → command_in frame ≡ Some (index, argument) → CommandStep old frame reply new
     → NoFault old new → Faithful answers old.card index argument (hears reply) new.card
 command_fine Fits hears answers old frame index argument reply new reads fits command
     (faithful choice patient count card spells) same =
     faithfully answers choice old.card index argument (hears reply) new.card patient
     (card_at choice old.card new.card frame index argument command card)
-    (heard_at Fits hears answers choice old.card frame index argument reply reads (fits choice) command spells)
+    (heard_at Fits hears answers choice old.card frame index argument reply reads (fits _ choice) command spells)
 command_fine Fits hears answers old frame index argument reply new reads fits command
     (lose_command count card silent) same = fell old new count same
 command_fine Fits hears answers old frame index argument reply new reads fits command
@@ -197,12 +238,14 @@ command_fine Fits hears answers old frame index argument reply new reads fits co
 command_fine Fits hears answers old frame index argument reply new reads fits command
     (fail_switch choice fails switch count card spells) same = fell old new count same
 command_fine Fits hears answers old frame index argument reply new reads fits command
+    (leave_over choice bits of patient count card spells) same = fell old new count same
+command_fine Fits hears answers old frame index argument reply new reads fits command
     (brownout choice lands keeps_length after patient count card silent) same = fell old new count same
 
 pub command_facts : {X : Type 0} (Fits : CardAnswer → Type 0) (hears : Reply → Result X Unheard)
     (answers : CardAnswer → Result X Unheard)
     (old : BusView) (frame : List ℕ) (index argument : ℕ) (reply : Reply) (new : BusView)
-    → Reads Fits hears answers → ((choice : Choice) → Fits (respond choice old.card index argument).1)
+    → Reads Fits hears answers → ((errors : ℕ) (choice : Choice) → Fits (respond choice (with_errors errors old.card) index argument).1)
     → command_in frame ≡ Some (index, argument) → FallNoMore old new → CommandStep old frame reply new
     → CommandFacts answers old index argument (hears reply) new
 command_facts Fits hears answers old frame index argument reply new reads fits command bounded step =
@@ -516,7 +559,8 @@ with_facts old exchange new e facts = record {
 pub asked : {X : Type 0} (Fits : CardAnswer → Type 0) (hears : Reply → Result X Unheard)
     (answers : CardAnswer → Result X Unheard)
     (old : BusView) (frame : List ℕ) (index argument : ℕ) (want : Want) (reply : Reply) (heard : Result X Unheard)
-    (new : BusView) → Reads Fits hears answers → (IsCard old.card → (choice : Choice) → Fits (respond choice old.card index argument).1)
+    (new : BusView) → Reads Fits hears answers → (IsCard old.card → (errors : ℕ) (choice : Choice)
+    → Fits (respond choice (with_errors errors old.card) index argument).1)
     → command_in frame ≡ Some (index, argument)
     → ((kind : Kind) (app : Bool) → want ≡ response_to (command_of kind app index)) → heard ≡ hears reply
     → Exchanged old (Command frame want reply) (CommandStep old frame reply new) new

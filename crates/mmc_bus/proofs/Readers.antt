@@ -15,11 +15,10 @@ use Rattle.mmc_card.specs.declared.exchange.Reply.{Reply}
 use Rattle.mmc_card.specs.declared.exchange.Reply.TheVariants as Came
 use Rattle.mmc_bus.specs.declared.host.Unheard.{Unheard}
 use Rattle.mmc_bus.specs.declared.host.Unheard.TheVariants.{Unsound}
-use Rattle.mmc_card.proofs.CardAll.{card_reached}
 use Rattle.mmc_card.proofs.Conditions.{by_cond, neither}
 use Rattle.mmc_card.specs.CardAnswer.{CardAnswer, Checked, Choice, Silent, R3, R2, raised, refused, shown, status}
 use Rattle.mmc_card.specs.ErrorBits.{block_len_error, erase_param}
-use Rattle.mmc_card.specs.Card.{Both, Card, First, Held, IsCard, NoAddress}
+use Rattle.mmc_card.specs.Card.{Both, Card, First, Held, NoAddress}
 use Rattle.mmc_card.specs.Faults.{IsFlipped, Spells}
 use Rattle.mmc_bus.specs.Heard.{index_of_inquiry, is_inquiry_index, nothing_heard, nothing_of, ocr_heard, ocr_of}
 use Rattle.mmc_bus.specs.Heard.{or_unsound, register_heard, register_of, response_heard, response_of}
@@ -29,8 +28,8 @@ use Rattle.mmc_card.specs.declared.command.Command.TheVariants.{SdSendOpCond, Al
 use Rattle.mmc_card.specs.declared.command.Command.TheVariants.{GoIdleState, ReadMultipleBlock, ReadSingleBlock}
 use Rattle.mmc_card.specs.declared.command.Command.TheVariants.{SendCsd, SendIfCond, SendOpCond, SendStatus, SetBlocklen}
 use Rattle.mmc_card.specs.declared.command.Command.TheVariants.{Switch, Unknown, WriteBlock, WriteMultipleBlock}
-use Rattle.mmc_card.specs.Rows.{command_of, is_foreign, is_legal, reached, responded, row}
-use Rattle.mmc_card.specs.RowsErase.{erase_held, erases, erasing, forgotten, hold_first, hold_last, is_no_range}
+use Rattle.mmc_card.specs.Rows.{command_of, is_foreign, is_legal, leaves_erase, reached, responded, row}
+use Rattle.mmc_card.specs.RowsErase.{erase_held, erases, erasing, forgotten, hold_first, hold_last, holds_address, is_no_range}
 use Rattle.mmc_card.specs.RowsErase.{is_trim}
 use Rattle.mmc_card.specs.RowsIdentify.{at_work, inquired, is_served, lagging, may_lag}
 use Rattle.mmc_card.specs.RowsSwitch.{switch_row, switched}
@@ -128,15 +127,24 @@ row_answer choice Switch c index argument r =
 row_answer choice Unknown c index argument r = tt
 row_answer choice _ c index argument r = refl
 
-pub responded_answer : (choice : Choice) (command : Command) (c : Card) (index argument : ℕ) → IsCard c
+-- the card with these of bits 23 and 22 to be shown
+abbrev pub with_errors : ℕ → Card → Card
+with_errors errors card = record card { command_errors = errors }
+
+registers_reached : (command : Command) (c : Card) → HasRegisters c.made → HasRegisters (reached command c).made
+registers_reached command c r =
+    let Has : Card → Type 0 = λ card. HasRegisters card.made in
+    by_cond Has (leaves_erase command) (λ _. r) (λ _. by_cond Has (holds_address c.erase) (λ _. r) (λ _. r))
+
+pub responded_answer : (choice : Choice) (command : Command) (c : Card) (index argument : ℕ) → HasRegisters c.made
     → IsAnswerTo command (responded choice command c index argument).1
-responded_answer choice command c index argument k =
+responded_answer choice command c index argument r =
     answer_cond command (is_foreign command c argument) (c, Silent)
     (cond (is_legal command c) (row choice command (reached command c) index argument)
     (refused (reached command c), Silent)) tt
     (answer_cond command (is_legal command c) (row choice command (reached command c) index argument)
     (refused (reached command c), Silent)
-    (row_answer choice command (reached command c) index argument (card_reached command c k).registers) tt)
+    (row_answer choice command (reached command c) index argument (registers_reached command c r)) tt)
 
 -- no other index than those of the inquiries means one
 named_so : (kind : Kind) (app : Bool) (index : ℕ) → index < 64

@@ -10,9 +10,10 @@ use Rattle.mmc_card.specs.declared.exchange.DataIn.{DataIn}
 use Rattle.mmc_card.specs.declared.exchange.DataOut.{DataOut}
 use Rattle.mmc_card.specs.declared.exchange.Reply.{Reply}
 use Rattle.mmc_card.specs.declared.exchange.Want.{Want}
-use Rattle.mmc_card.specs.CardAnswer.{CardAnswer, Choice, Silent, refused}
+use Rattle.mmc_card.specs.CardAnswer.{CardAnswer, Choice, Silent, left_with, refused}
 use Rattle.mmc_card.specs.Blocks.{accepted, can_send, can_accept, next_block, next_written, rested, sent, waited}
-use Rattle.mmc_card.specs.Card.{Card, holds, is_in, is_selected}
+use Rattle.mmc_card.specs.Card.{AreAmong, Card, holds, is_in, is_selected}
+use Rattle.mmc_card.specs.ErrorBits.{command_error_bits}
 use Rattle.mmc_bus.specs.Exchanges.{Exchanged}
 use Rattle.mmc_card.specs.Faults.{FallNoMore, IsFaultless, NoFault}
 use Rattle.mmc_bus.specs.Heard.{cause_of, cause_of_command}
@@ -45,14 +46,16 @@ abbrev pub carried_out : Choice → Card → ℕ → ℕ → Card × CardAnswer
 carried_out choice card index argument =
     row choice (meant card index) (reached (meant card index) card) index argument
 
--- The card has carried the command out, and this is its answer.
+-- The card has carried the command out, and this is its answer; in a fault some of bits 23 and 22 were left over.
 pub record Obeyed {X : Type 0} (answers : CardAnswer → X) (old : Card) (index argument : ℕ) (heard : X)
     (new : Card) : Type 0 where
   pub choice : Choice
+  pub left : ℕ
+  pub among : AreAmong left command_error_bits
   pub own : is_foreign (meant old index) old argument ≡ false
   pub legal : is_legal (meant old index) old ≡ true
-  pub card : new ≡ (carried_out choice old index argument).0
-  pub answer : heard ≡ answers (carried_out choice old index argument).1
+  pub card : new ≡ (carried_out choice (left_with left old) index argument).0
+  pub answer : heard ≡ answers (carried_out choice (left_with left old) index argument).1
 
 -- The card did as the table says, no slower than it may, and all of its answer came.
 pub record Faithful {X : Type 0} (answers : CardAnswer → X) (old : Card) (index argument : ℕ) (heard : X)

@@ -41,7 +41,7 @@ pub fn cmd1_asks_an_emmc_device_whether_it_is_ready()
 pub fn cmd2_tells_the_cid()
     ensures { (old new : BusView) (argument : ℕ) (heard : Result (List ℕ) Unheard)
         → CommandFacts register_of old Index.ALL_SEND_CID argument heard new → IsCard old.card
-        → Does (old.card.state ≡ Ready) old.card.made.cid (record (done old.card) { state = Ident }) old heard new }
+        → Does (old.card.state ≡ Ready) (λ card. card.made.cid) (record (done old.card) { state = Ident }) old heard new }
 {
     laws::register_comes_back();
 }
@@ -53,7 +53,7 @@ pub fn cmd3_publishes_the_rca()
         → Responded Index.SEND_RELATIVE_ADDR old argument heard new → IsCard old.card
         → old.card.made.kind ≡ Sd
         → Does ((old.card.state ≡ Ident) ⊎ (old.card.state ≡ Stby))
-        (r6_argument new.card.rca old.card)
+        (r6_argument new.card.rca)
         (record (shown old.card) { state = Stby; rca = new.card.rca })
         old heard new }
     ensures named { (old new : BusView) (argument : ℕ) (heard : Result ℕ Unheard)
@@ -68,7 +68,7 @@ pub fn cmd3_gives_the_rca()
         → Responded Index.SEND_RELATIVE_ADDR old argument heard new → IsCard old.card
         → old.card.made.kind ≡ Mmc
         → Does (old.card.state ≡ Ident)
-        (status false old.card)
+        (status false)
         (record (shown old.card) { state = Stby; rca = field 31 16 argument })
         old heard new }
 {}
@@ -78,7 +78,7 @@ pub fn cmd7_selects_the_card()
     ensures { (old new : BusView) (argument : ℕ) (heard : Result ℕ Unheard)
         → Responded Index.SELECT_CARD old argument heard new → IsCard old.card
         → Does ((old.card.state ≡ Stby) × Names argument old.card)
-        (status false old.card) (record (busied (shown old.card)) { state = Tran }) old heard new }
+        (status false) (record (busied (shown old.card)) { state = Tran }) old heard new }
 {}
 
 /// CMD8 of SD, SEND_IF_COND, for 2.7 to 3.6 V: a card in idle that knows CMD8 accepts it, and tells the voltage and the
@@ -89,7 +89,7 @@ pub fn cmd8_is_repeated_by_a_card_that_knows_it()
         → Responded Index.SEND_IF_COND old argument heard new → IsCard old.card
         → old.card.made.kind ≡ Sd → field 11 8 argument ≡ 1
         → Does ((old.card.state ≡ Idle) × (old.card.made.answers_cmd8 ≡ true))
-        (field 11 0 argument) (record (done old.card) { accepted_cmd8 = true }) old heard new }
+        (λ card. field 11 0 argument) (record (done old.card) { accepted_cmd8 = true }) old heard new }
     ensures unknown { (old new : BusView) (argument : ℕ) (heard : Result ℕ Unheard)
         → Responded Index.SEND_IF_COND old argument heard new → IsCard old.card
         → old.card.made.kind ≡ Sd → old.card.made.answers_cmd8 ≡ false → old.card.state ≡ Idle
@@ -103,7 +103,7 @@ pub fn cmd8_is_repeated_by_a_card_that_knows_it()
 pub fn cmd9_tells_the_csd()
     ensures { (old new : BusView) (argument : ℕ) (heard : Result (List ℕ) Unheard)
         → CommandFacts register_of old Index.SEND_CSD argument heard new → IsCard old.card
-        → Does ((old.card.state ≡ Stby) × Names argument old.card) old.card.made.csd (done old.card) old heard new }
+        → Does ((old.card.state ≡ Stby) × Names argument old.card) (λ card. card.made.csd) (done old.card) old heard new }
 {
     laws::register_comes_back();
 }
@@ -114,7 +114,7 @@ pub fn cmd13_tells_the_status()
     ensures { (old new : BusView) (argument : ℕ) (heard : Result ℕ Unheard)
         → Responded Index.SEND_STATUS old argument heard new
         → DoesOne ((is_identified old.card.state ≡ true) × (old.card.app ≡ false) × Names argument old.card)
-        (TellsStatus old.card) old heard new }
+        TellsStatus old heard new }
 {}
 
 /// ACMD41, SD_SEND_OP_COND: a card in idle tells its OCR, and says to a host that serves it at most eight times that it
@@ -133,7 +133,7 @@ pub fn cmd55_announces_an_application_command()
         → Responded Index.APP_CMD old argument heard new → IsCard old.card
         → Does ((old.card.made.kind ≡ Sd) × ((old.card.state ≡ Idle) ⊎ (is_identified old.card.state ≡ true))
         × Names argument old.card)
-        (status true (without_addresses old.card))
+        (λ card. status true (without_addresses card))
         (record (shown (forgotten old.card)) { app = true })
         old heard new }
     ensures mmc { (old new : BusView) (argument : ℕ) (heard : Result ℕ Unheard)

@@ -29,7 +29,9 @@ pub use host::{Unheard, ask, ask_ocr, ask_register, poll, read_block, tell, writ
 pub use memory::NoMemory;
 pub use mmc_card::{DataIn, DataOut, Exchange, Lines, Part, Reply, Timing, Want, Width, card_laws};
 pub use scripted::{BusAnswer, ScriptedBus};
-pub use status::{Closing, ask_closing, check_r1, confirm, rca_argument, wait_and_confirm};
+pub use status::{
+    Closing, ask_closing, check_own, check_r1, confirm, rca_argument, wait_and_confirm,
+};
 pub use trace::{MAX_KEPT, TraceBus};
 pub use wait::{MAX_POLLS, wait_while_busy};
 pub use wire::Wire;

@@ -1,7 +1,7 @@
 // Judging a card by its status.
 ghost use Rattle.std.specs.Prelude.{◌≡◌, ◌*◌, ◌+◌, ◌<◌, ◌^◌, Err, IfErr, IsOk, Ok, Some, false, ℕ};
 ghost use Rattle.mmc_frame.specs.Field.{field};
-ghost use Rattle.mmc_frame.specs.Status.{IsAtWork, IsClean, error_bits};
+ghost use Rattle.mmc_frame.specs.Status.{IsAtWork, IsClean, error_bits, own_status};
 ghost use Rattle.mmc_card.specs.Blocks.{rested};
 ghost use Rattle.mmc_card.specs.CardAnswer.{shown};
 ghost use Rattle.mmc_card.specs.CardLaws.{IsInOrder};
@@ -20,7 +20,7 @@ use crate::wait::{MAX_POLLS, count_polls};
 use bitflags::Flags;
 use mmc_card::card_laws;
 use mmc_frame::commands::SEND_STATUS;
-use mmc_frame::{Kind, errors, is_at_work, is_clean};
+use mmc_frame::{Kind, errors, is_at_work, is_clean, own_status};
 
 /// Judges an R1: a status without an error (SD Physical Layer 6.00, section 4.10.1; JESD84-B51, section 6.13).
 ///
@@ -39,6 +39,19 @@ pub fn check_r1(kind: Kind, heard: Result<u32, Unheard>) -> Result<(), Cause>
     }
 }
 
+/// Judges an R1 of opening: a status without an error, but for those of an earlier command, which say nothing of this one.
+///
+/// # Errors
+/// `Answer` where no sound response was heard, `Status` where it shows an error of its own.
+pub fn check_own(kind: Kind, heard: Result<u32, Unheard>) -> Result<(), Cause>
+    ensures ok { IsOk result → (status : ℕ) × (heard ≡ Ok status) × (error_bits kind (own_status status) ≡ 0) }
+    ensures own { (status : ℕ) → heard ≡ Ok status → error_bits kind (own_status status) ≡ 0 → IsOk result }
+    ensures all { (status : ℕ) → heard ≡ Ok status → error_bits kind status ≡ 0 → IsOk result }
+    ensures cause { IfErr result (λ cause. cause ≡ cause_of_response heard) }
+{
+    check_r1(kind, heard.map(|status| own_status(status)))
+}
+
 /// What a closing status without an error says.
 #[derive(Clone, Copy, Debug, PartialEq, Eq)]
 pub enum Closing {
@@ -48,16 +61,17 @@ pub enum Closing {
     AtWork,
 }
 
-// Judges the R1 of a closing CMD13: a clean status, or one that shows the card still at work.
+// Judges the R1 of a closing CMD13: a clean status, or one that shows the card still at work. Errors of an earlier command
+// say nothing of the card as it is now.
 fn check_closing(kind: Kind, heard: Result<u32, Unheard>) -> Result<Closing, Cause>
-    ensures clean { result ≡ Ok Clean → (status : ℕ) × (heard ≡ Ok status) × IsClean kind status }
-    ensures at_work { result ≡ Ok AtWork → (status : ℕ) × (heard ≡ Ok status) × IsAtWork kind status }
-    ensures all_clean { (status : ℕ) → heard ≡ Ok status → IsClean kind status → result ≡ Ok Clean }
-    ensures all_at_work { (status : ℕ) → heard ≡ Ok status → (IsClean kind status → ⊥) → IsAtWork kind status
-        → result ≡ Ok AtWork }
+    ensures clean { result ≡ Ok Clean → (status : ℕ) × (heard ≡ Ok status) × IsClean kind (own_status status) }
+    ensures at_work { result ≡ Ok AtWork → (status : ℕ) × (heard ≡ Ok status) × IsAtWork kind (own_status status) }
+    ensures all_clean { (status : ℕ) → heard ≡ Ok status → IsClean kind (own_status status) → result ≡ Ok Clean }
+    ensures all_at_work { (status : ℕ) → heard ≡ Ok status → (IsClean kind (own_status status) → ⊥)
+        → IsAtWork kind (own_status status) → result ≡ Ok AtWork }
     ensures cause { IfErr result (λ cause. cause ≡ cause_of_response heard) }
 {
-    let status = heard.map_err(|_| Cause::Answer)?;
+    let status = own_status(heard.map_err(|_| Cause::Answer)?);
     if is_clean(kind, status) {
         Ok(Closing::Clean)
     } else if is_at_work(kind, status) {
@@ -67,8 +81,8 @@ fn check_closing(kind: Kind, heard: Result<u32, Unheard>) -> Result<Closing, Cau
     }
 }
 
-/// Asks the card with this RCA for its status (CMD13), which has to show no error, and the state tran and that it is ready
-/// for data, or prg or that it isn't ready yet.
+/// Asks the card with this RCA for its status (CMD13), which has to show no error but those of an earlier command, and the
+/// state tran and that it is ready for data, or prg or that it isn't ready yet.
 ///
 /// # Errors
 /// `Answer` where no sound response was heard, `Status` where it shows anything else.
@@ -86,7 +100,8 @@ pub fn ask_closing<B: Bus>(bus: &mut B, kind: Kind, rca: u16) -> Result<Closing,
     check_closing(kind, ask(bus, SEND_STATUS, rca_argument(rca)))
 }
 
-/// Asks the card with this RCA for its status (CMD13), which has to be clean: no error, tran, and ready for data.
+/// Asks the card with this RCA for its status (CMD13), which has to be clean: no error but those of an earlier command, tran,
+/// and ready for data.
 ///
 /// # Errors
 /// `Answer` where no sound response was heard, `Status` where it isn't clean.

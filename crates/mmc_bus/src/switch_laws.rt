@@ -30,7 +30,7 @@ pub fn cmd6_sends_the_switch_status()
         → Responded Index.SWITCH_FUNC old argument heard new
         → old.card.made.kind ≡ Sd → old.card.app ≡ false
         → Does ((old.card.state ≡ Tran) × (has_switch_function old.card.made ≡ true))
-        (status false (without_addresses old.card))
+        (λ card. status false (without_addresses card))
         (sending (bytes_sent new.card.source) (timing_once_sent new.card.source old.card.timing) (forgotten old.card))
         old heard new }
     ensures sends { (old new : BusView) (argument told : ℕ) (heard : Result ℕ Unheard)
@@ -45,7 +45,7 @@ pub fn acmd6_sets_the_width()
         → Responded Index.SET_BUS_WIDTH old argument heard new
         → old.card.made.kind ≡ Sd → old.card.app ≡ true
         → Does (old.card.state ≡ Tran)
-        (status true (without_addresses old.card))
+        (λ card. status true (without_addresses card))
         (record (shown (forgotten old.card)) { width = width_by (field 1 0 argument) old.card.width })
         old heard new }
 {}
@@ -56,7 +56,7 @@ pub fn cmd8_sends_the_ext_csd()
         → Responded Index.SEND_IF_COND old argument heard new
         → old.card.made.kind ≡ Mmc
         → Does (old.card.state ≡ Tran)
-        (status false (without_addresses old.card))
+        (λ card. status false (without_addresses card))
         (sending (ext_csd_now old.card) old.card.timing (forgotten old.card))
         old heard new }
 {}

@@ -12,22 +12,22 @@ use Rattle.mmc_card.proofs.Cards.{IsBasic}
 use Rattle.mmc_card.proofs.Narrow.{sends_data, accepts_in_rcv}
 use Rattle.mmc_card.proofs.NarrowSteps.{command_widens, poll_keeps, read_keeps, write_adds}
 use Rattle.mmc_card.proofs.Ordered.{ordered_fallen_short}
-use Rattle.mmc_card.proofs.Ordered.{IsOrdered, ordered_accepted, ordered_answered, ordered_garbled, ordered_programmed}
+use Rattle.mmc_card.proofs.Ordered.{IsOrdered, ordered_accepted, ordered_answered, ordered_garbled, ordered_left, ordered_programmed}
 use Rattle.mmc_card.proofs.Ordered.{ordered_raised, ordered_reached, ordered_rejected, ordered_reset, ordered_rested}
 use Rattle.mmc_card.proofs.Ordered.{ordered_sent_from, ordered_waited}
 use Rattle.mmc_card.proofs.Sending.{sending_fallen_short}
-use Rattle.mmc_card.proofs.Sending.{IsSending, sending_accepted, sending_answered, sending_garbled, sending_programmed}
+use Rattle.mmc_card.proofs.Sending.{IsSending, sending_accepted, sending_answered, sending_garbled, sending_left, sending_programmed}
 use Rattle.mmc_card.proofs.Sending.{sending_raised, sending_reached, sending_rejected, sending_reset, sending_rested}
 use Rattle.mmc_card.proofs.Sending.{sending_sent_from, sending_waited}
 use Rattle.mmc_card.proofs.Settled.{accepts_still, settled_fallen_short}
-use Rattle.mmc_card.proofs.Settled.{IsSettled, settled_accepted, settled_answered, settled_garbled, settled_programmed}
+use Rattle.mmc_card.proofs.Settled.{IsSettled, settled_accepted, settled_answered, settled_garbled, settled_left, settled_programmed}
 use Rattle.mmc_card.proofs.Settled.{settled_raised, settled_reached, settled_rejected, settled_reset, settled_rested}
 use Rattle.mmc_card.proofs.Settled.{settled_sent_from, settled_waited}
 use Rattle.mmc_card.proofs.Steps.{after_command, after_write, after_poll, after_read}
-use Rattle.mmc_card.specs.CardAnswer.{raised}
+use Rattle.mmc_card.specs.CardAnswer.{left_with, raised}
 use Rattle.mmc_card.specs.Card.{AreAmong, AreBlocks, Card, HasItsSizes, IsBlock, IsCard, powered_on, stored}
 use Rattle.mmc_card.specs.Laws.{Carried}
-use Rattle.mmc_card.specs.ErrorBits.{error_bits}
+use Rattle.mmc_card.specs.ErrorBits.{command_error_bits, error_bits}
 use Rattle.mmc_card.specs.Made.{HasRegisters, Made, first_block_length, is_sd, named_block_length, sectors_in}
 use Rattle.mmc_card.specs.declared.part.Part.{Part}
 use Rattle.mmc_card.specs.Faults.{CommandStep, WriteStep, PollStep, ReadStep}
@@ -105,6 +105,11 @@ card_reached command c k =
     whole _ (reached_sizes command c k) (cards.card_reached command c (basic c k)) (ordered_reached command c (ordered c k))
     (settled_reached command c (settled c k)) (sending_reached command c (sending c k))
 
+pub card_left : (bits : ℕ) (c : Card) → AreAmong bits command_error_bits → IsCard c → IsCard (left_with bits c)
+card_left bits c among k =
+    whole _ k.sizes (cards.card_left bits c among (basic c k)) (ordered_left bits c (ordered c k))
+    (settled_left bits c (settled c k)) (sending_left bits c (sending c k))
+
 pub card_raised : (bits : ℕ) (c : Card) → AreAmong bits error_bits → IsCard c → IsCard (raised bits c)
 card_raised bits c among k =
     whole _ k.sizes (cards.card_raised bits c among (basic c k)) (ordered_raised bits c (ordered c k))
@@ -122,14 +127,17 @@ command_leaves_card old frame reply new step k =
     (rows.command_leaves_card old frame reply new step (basic old.card k))
     (after_command IsOrdered old frame reply new o
     (λ choice. ordered_answered choice old.card (command_in frame) o)
+    (λ choice bits _. ordered_answered choice _ (command_in frame) (ordered_left bits old.card o))
     (λ keeps. ordered_garbled keeps old.card o)
     (λ lands keeps card _. ordered_reset lands keeps card) step)
     (after_command IsSettled old frame reply new s
     (λ choice. settled_answered choice old.card (command_in frame) s)
+    (λ choice bits _. settled_answered choice _ (command_in frame) (settled_left bits old.card s))
     (λ keeps. settled_garbled keeps old.card s)
     (λ lands keeps card _. settled_reset lands keeps card) step)
     (after_command IsSending old frame reply new g
     (λ choice. sending_answered choice old.card (command_in frame) g)
+    (λ choice bits _. sending_answered choice _ (command_in frame) (sending_left bits old.card g))
     (λ keeps. sending_garbled keeps old.card g) sending_reset step)
 
 pub poll_leaves_card : (old : BusView) (said : Bool) (new : BusView) → PollStep old said new → IsCard old.card

@@ -9,7 +9,7 @@ use Rattle.mmc_card.specs.declared.exchange.DataOut.{DataOut}
 use Rattle.mmc_card.specs.declared.exchange.Reply.{Reply}
 use Rattle.mmc_card.proofs.ByteLemmas.{erased_block}
 use Rattle.mmc_card.proofs.Cards.{IsBasic, IsLike, among_more, apart_card, blocks_replicate, blocks_snoc, card_app}
-use Rattle.mmc_card.proofs.Cards.{card_done, card_fallen_short, card_forgotten, card_garbled, card_programmed, card_raised, card_reached}
+use Rattle.mmc_card.proofs.Cards.{card_done, card_fallen_short, card_forgotten, card_garbled, card_left, card_programmed, card_raised, card_reached}
 use Rattle.mmc_card.proofs.Cards.{card_told}
 use Rattle.mmc_card.proofs.Cards.{card_refused, card_reset, card_rested, card_shown, card_slow, chosen_card, in_state}
 use Rattle.mmc_card.proofs.Cards.{like_done, like_same, like_shown, stays_card}
@@ -268,7 +268,8 @@ pub command_leaves_card : (old : BusView) (frame : List ℕ) (reply : Reply) (ne
     → CommandStep old frame reply new → IsBasic old.card → IsBasic new.card
 command_leaves_card old frame reply new step k =
     after_command IsBasic old frame reply new k
-    (λ choice. card_answered choice old.card (command_in frame) k) (λ keeps. card_garbled keeps old.card k)
+    (λ choice. card_answered choice old.card (command_in frame) k)
+    (λ choice bits among. card_answered choice _ (command_in frame) (card_left bits old.card among k)) (λ keeps. card_garbled keeps old.card k)
     card_reset step
 
 pub poll_leaves_card : (old : BusView) (said : Bool) (new : BusView) → PollStep old said new → IsBasic old.card

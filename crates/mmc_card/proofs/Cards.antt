@@ -8,7 +8,7 @@ use Rattle.mmc_frame.specs.declared.card_state.State.TheVariants.{Data, Dis, Ide
 use Rattle.mmc_card.specs.declared.part.Part.{Part}
 use Rattle.mmc_card.proofs.Conditions.{along, by_cond}
 use Rattle.mmc_card.proofs.Landing.{one_set}
-use Rattle.mmc_card.specs.CardAnswer.{done, garbled, raised, refused, reset, shown}
+use Rattle.mmc_card.specs.CardAnswer.{done, garbled, left_with, raised, refused, reset, shown}
 use Rattle.mmc_card.specs.Blocks.{fallen_short, programmed, rested, waited}
 use Rattle.mmc_card.specs.Card.{AreAmong, AreBlocks, Card, IsApart, IsBlock, NoAddress, is_in, is_selected, is_writing}
 use Rattle.mmc_card.specs.Card.{landed, landed_in, stored}
@@ -266,6 +266,17 @@ card_refused c k =
       errors = k.errors;
     })
     refl refl refl refl refl refl refl (λ h. h) (λ h. refl) (λ h. h)
+
+pub card_left : (bits : ℕ) (c : Card) → AreAmong bits command_error_bits → IsBasic c → IsBasic (left_with bits c)
+card_left bits c among k =
+    stays_card c (left_with bits c) k
+    (record {
+      made = refl;
+      block_length = inl refl;
+      command_errors = among_more c.command_errors bits command_error_bits k.command_errors among;
+      errors = k.errors;
+    })
+    refl refl refl refl refl refl refl (λ h. h) (λ h. h) (λ h. h)
 
 pub card_garbled : (keeps : Bool) (c : Card) → IsBasic c → IsBasic (garbled keeps c)
 card_garbled keeps c k =

@@ -4,7 +4,7 @@ use Rattle.mmc_card.specs.declared.exchange.DataIn.{DataIn}
 use Rattle.mmc_card.specs.declared.exchange.DataOut.{DataOut}
 use Rattle.mmc_card.specs.declared.exchange.Reply.{Reply}
 use Rattle.mmc_card.specs.Faults.{CommandStep, WriteStep, PollStep, ReadStep, bad_block, brownout, busy, fail, faithful}
-use Rattle.mmc_card.specs.Faults.{fail_switch, fall_short}
+use Rattle.mmc_card.specs.Faults.{fail_switch, fall_short, leave_over}
 use Rattle.mmc_card.specs.Faults.{flip_command, flip_reply, lose_command, lose_reply, lose_status, read_error, reject}
 use Rattle.mmc_card.specs.Faults.{slow_inquiry}
 use Rattle.mmc_card.specs.Laws.{CountsAtMostOne}
@@ -20,6 +20,7 @@ command_counts old frame reply new (lose_reply choice patient count card answers
 command_counts old frame reply new (flip_reply choice patient count card flipped) = inr count
 command_counts old frame reply new (slow_inquiry choice slow late inquiry count card spells) = inr count
 command_counts old frame reply new (fail_switch choice fails switch count card spells) = inr count
+command_counts old frame reply new (leave_over choice bits of patient count card spells) = inr count
 command_counts old frame reply new (brownout choice lands keeps_length after patient count card silent) = inr count
 
 pub poll_counts : (old : BusView) (said : Bool) (new : BusView) → PollStep old said new → CountsAtMostOne old new

@@ -13,7 +13,7 @@ use Rattle.mmc_card.proofs.Conditions.{by_cond, first_by_cond}
 use Rattle.mmc_card.proofs.Landing.{at_snoc, landed_size, landed_within, snoc_length}
 use Rattle.mmc_card.proofs.SectorLemmas.{by_touch, cond_in_new, cond_in_old, in_cond, maybe_within, old_maybe}
 use Rattle.mmc_card.proofs.SectorLemmas.{same_part, touched_by, untouched, within_same}
-use Rattle.mmc_card.specs.CardAnswer.{Choice, garbled, raised, refused, reset}
+use Rattle.mmc_card.specs.CardAnswer.{Choice, garbled, left_with, raised, refused, reset}
 use Rattle.mmc_card.specs.Blocks.{accepted, can_send, can_accept, fallen_short, programmed, rejected, rested, sent_from}
 use Rattle.mmc_card.specs.Blocks.{waited}
 use Rattle.mmc_card.specs.Card.{Both, Card, First, FromBytes, FromSectors, Held, NoAddress, Source, at_sector, holds}
@@ -347,6 +347,28 @@ pub widens_answered : (choice : Choice) (c : Card) (sent : Option (ℕ × ℕ))
 widens_answered choice c (Some command) =
     widens_responded choice (command_of c.made.kind c.app command.0) c command.0 command.1
 widens_answered choice c None = wide _ c _ (keeps_garbled choice.keeps_count c)
+
+-- what is left over erases nothing
+held_left : (bits : ℕ) (c : Card) (argument : ℕ) (held : Held)
+    → erased_by_held (left_with bits c) argument held ≡ erased_by_held c argument held
+held_left bits c argument (Both first last) = refl
+held_left bits c argument _ = refl
+
+command_left : (bits : ℕ) (command : Command) (c : Card) (argument : ℕ)
+    → erased_by_command command (left_with bits c) argument ≡ erased_by_command command c argument
+command_left bits Erase c argument = held_left bits c argument c.erase
+command_left bits _ c argument = refl
+
+erased_left : (bits : ℕ) (c : Card) (sent : Option (ℕ × ℕ)) → erased_by (left_with bits c) sent ≡ erased_by c sent
+erased_left bits c (Some command) = command_left bits (command_of c.made.kind c.app command.0) c command.1
+erased_left bits c None = refl
+
+pub widens_left : (choice : Choice) (bits : ℕ) (c : Card) (sent : Option (ℕ × ℕ))
+    → Widens (erased_by c sent) c (answered choice (left_with bits c) sent).0
+widens_left choice bits c sent =
+    subst (λ t. Widens t c (answered choice (left_with bits c) sent).0) (erased_left bits c sent)
+    (wide_then _ c (left_with bits c) _ (plain c (left_with bits c) refl refl refl)
+    (widens_answered choice (left_with bits c) sent))
 
 -- Blocks.
 

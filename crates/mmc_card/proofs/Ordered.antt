@@ -9,7 +9,7 @@ use Rattle.mmc_card.proofs.CardRows.{legal_reached}
 use Rattle.mmc_card.proofs.Cards.{in_state}
 use Rattle.mmc_card.proofs.Conditions.{along, by_cond, first_by_cond}
 use Rattle.mmc_card.proofs.Narrow.{AreSwitched, both, may_switch}
-use Rattle.mmc_card.specs.CardAnswer.{Choice, counted, done, garbled, raised, refused, reset, shown}
+use Rattle.mmc_card.specs.CardAnswer.{Choice, counted, done, garbled, left_with, raised, refused, reset, shown}
 use Rattle.mmc_card.specs.Blocks.{accepted, fallen_short, is_last, programmed, rejected, rested, sent_from, waited}
 use Rattle.mmc_card.specs.Card.{Both, Card, First, FromBytes, FromSectors, HasItsRca, Held, NoAddress, Source}
 use Rattle.mmc_card.specs.Card.{is_identified, is_in}
@@ -105,6 +105,9 @@ ordered_forgotten c k = ordered_like c _ k refl refl refl (λ h. refl) (λ h. h)
 
 pub ordered_refused : (c : Card) → IsOrdered c → IsOrdered (refused c)
 ordered_refused c k = ordered_like c _ k refl refl refl (λ h. h) (λ h. h) (λ _. refl) k.inquiries k.polled
+
+pub ordered_left : (bits : ℕ) (c : Card) → IsOrdered c → IsOrdered (left_with bits c)
+ordered_left bits c k = ordered_like c _ k refl refl refl (λ h. h) (λ h. h) k.app k.inquiries k.polled
 
 pub ordered_garbled : (keeps : Bool) (c : Card) → IsOrdered c → IsOrdered (garbled keeps c)
 ordered_garbled keeps c k = ordered_like c _ k refl refl refl (λ h. h) (λ h. h) k.app k.inquiries k.polled

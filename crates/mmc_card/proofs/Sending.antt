@@ -7,7 +7,7 @@ use Rattle.mmc_frame.specs.Flips.{AreBytes}
 use Rattle.mmc_card.proofs.ByteLemmas.{ext_csd_bytes, refusal_bytes}
 use Rattle.mmc_card.proofs.Conditions.{along, by_cond, first_by_cond}
 use Rattle.mmc_card.proofs.Narrow.{AreSwitched, may_switch}
-use Rattle.mmc_card.specs.CardAnswer.{Choice, garbled, raised, refused, reset, shown}
+use Rattle.mmc_card.specs.CardAnswer.{Choice, garbled, left_with, raised, refused, reset, shown}
 use Rattle.mmc_card.specs.Blocks.{accepted, fallen_short, programmed, rejected, rested, sent_from, waited}
 use Rattle.mmc_card.specs.Card.{Both, Card, First, FromBytes, FromSectors, Held, NoAddress, SendsBytes, Source, is_in}
 use Rattle.mmc_card.specs.Made.{HasRegisters}
@@ -51,6 +51,9 @@ sending_shown c k = sending_like c _ k refl refl refl
 
 sending_refused : (c : Card) → IsSending c → IsSending (refused c)
 sending_refused c k = sending_like c _ k refl refl refl
+
+pub sending_left : (bits : ℕ) (c : Card) → IsSending c → IsSending (left_with bits c)
+sending_left bits c k = sending_like c _ k refl refl refl
 
 pub sending_garbled : (keeps : Bool) (c : Card) → IsSending c → IsSending (garbled keeps c)
 sending_garbled keeps c k = sending_like c _ k refl refl refl

@@ -12,7 +12,7 @@ use Rattle.mmc_card.proofs.Cards.{in_state}
 use Rattle.mmc_card.proofs.Conditions.{by_cond, first_by_cond}
 use Rattle.mmc_card.proofs.Landing.{landed_size, snoc_length}
 use Rattle.mmc_card.proofs.Narrow.{AreSwitched, both, may_switch}
-use Rattle.mmc_card.specs.CardAnswer.{Choice, done, garbled, raised, refused, reset, shown}
+use Rattle.mmc_card.specs.CardAnswer.{Choice, done, garbled, left_with, raised, refused, reset, shown}
 use Rattle.mmc_card.specs.Blocks.{accepted, awaits, can_accept, fallen_short, is_last, next_written, lines_fit}
 use Rattle.mmc_card.specs.Blocks.{programmed, rejected, rested}
 use Rattle.mmc_card.specs.Blocks.{sent_from, waited}
@@ -77,6 +77,9 @@ settled_forgotten c k = settled_like c _ k refl k.fits refl refl refl
 
 settled_refused : (c : Card) → IsSettled c → IsSettled (refused c)
 settled_refused c k = settled_like c _ k refl k.fits refl refl refl
+
+pub settled_left : (bits : ℕ) (c : Card) → IsSettled c → IsSettled (left_with bits c)
+settled_left bits c k = settled_like c _ k refl k.fits refl refl refl
 
 pub settled_garbled : (keeps : Bool) (c : Card) → IsSettled c → IsSettled (garbled keeps c)
 settled_garbled keeps c k = settled_like c _ k refl k.fits refl refl refl

@@ -13,7 +13,7 @@ use Rattle.mmc_card.proofs.Cards.{in_state}
 use Rattle.mmc_card.proofs.Conditions.{by_cond, first_by_cond}
 use Rattle.mmc_card.proofs.Narrow.{both, sends_data, accepts_in_rcv}
 use Rattle.mmc_card.proofs.Steps.{after_command, after_write, after_poll, after_read}
-use Rattle.mmc_card.specs.CardAnswer.{Choice, garbled, raised, refused, reset, shown}
+use Rattle.mmc_card.specs.CardAnswer.{Choice, garbled, left_with, raised, refused, reset, shown}
 use Rattle.mmc_card.specs.ErrorBits.{erase_reset}
 use Rattle.mmc_card.specs.Blocks.{accepted, fallen_short, is_last, programmed, rejected, rested, sent_from, waited}
 use Rattle.mmc_card.specs.Card.{Both, Card, First, FromBytes, FromSectors, Held, NoAddress, Source, is_in, is_selected}
@@ -117,6 +117,11 @@ pub stands_refused : (s : Setting) (c : Card) → Stands s c → Stands s (refus
 stands_refused s c h =
     stands_like s c (refused c) refl refl refl
     (reset_like c (refused c) refl refl refl (λ b. b) (λ b. refl) (λ b. b) (λ b. refl) refl (λ b. b) refl) h
+
+pub stands_left : (s : Setting) (bits : ℕ) (c : Card) → Stands s c → Stands s (left_with bits c)
+stands_left s bits c h =
+    stands_like s c (left_with bits c) refl refl refl
+    (reset_like c (left_with bits c) refl refl refl (λ b. b) (λ b. b) (λ b. b) (λ b. b) refl (λ b. b) refl) h
 
 pub stands_garbled : (s : Setting) (keeps : Bool) (c : Card) → Stands s c → Stands s (garbled keeps c)
 stands_garbled s keeps c h =
@@ -297,6 +302,7 @@ pub command_stands : (old : BusView) (frame : List ℕ) (reply : Reply) (new : B
 command_stands old frame reply new o step s h =
     after_command (Stands s) old frame reply new h
     (λ choice. stands_answered s choice old.card (command_in frame) o h)
+    (λ choice bits _. stands_answered s choice (left_with bits old.card) (command_in frame) o (stands_left s bits old.card h))
     (λ keeps. stands_garbled s keeps old.card h)
     (λ lands keeps card _. stands_reset s lands keeps card) step
 

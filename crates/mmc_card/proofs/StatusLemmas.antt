@@ -1,13 +1,13 @@
 -- What a status says of its card.
 use Rattle.std.proofs.Common.{◌*◌, ◌+◌, ◌<◌, ◌∙◌, ◌≡◌, ◌≤◌, ◌⊎◌, ◌↔◌, ◌^◌, Bool, ap, arith, bit_or, false, inl, inr, refl, sym, true}
 use Rattle.std.proofs.Common.{ℕ}
-use Rattle.std.specs.Prelude.{◌&&◌, ◌==◌, if◌then◌else◌, not}
+use Rattle.std.specs.Prelude.{◌%◌, ◌-◌, ◌&&◌, ◌/◌, ◌==◌, if◌then◌else◌, not}
 use Rattle.std.specs.Int.{bit_at}
 use Rattle.std.specs.Int.RustNames.{bit_and}
 use Rattle.std.proofs.lemmas.Nat.{and_block, and_le_r, and_or_apart, or_disjoint}
 use Rattle.std.proofs.lemmas.Nat.Bits.{and_pow, bit_at_and, bit_at_or, bit_at-zero, same_from_bits}
 use Rattle.mmc_frame.specs.Field.{field}
-use Rattle.mmc_frame.specs.Status.{IsAtWork, IsClean, error_bits, state_number}
+use Rattle.mmc_frame.specs.Status.{IsAtWork, IsClean, error_bits, own_status, state_number}
 use Rattle.mmc_frame.specs.declared.card_state.State.{State}
 use Rattle.mmc_frame.specs.declared.card_state.State.TheVariants.{Data, Dis, Ident, Idle, Prg, Rcv, Ready, Stby, Tran}
 use Rattle.mmc_frame.specs.declared.kind.Kind.{Kind}
@@ -17,7 +17,7 @@ use Rattle.mmc_card.specs.CardAnswer.{Choice, bit, status}
 use Rattle.mmc_card.specs.Card.{AreAmong, Card, IsCard}
 use Rattle.mmc_card.specs.ErrorBits.{card_is_locked, command_error_bits, error_bits as held_bits, out_of_range}
 use Rattle.mmc_card.specs.RowsIdentify.{at_work}
-use Rattle.mmc_card.specs.CardLaws.{HasNoError, IsInOrder}
+use Rattle.mmc_card.specs.CardLaws.{HasNoError, HasNoErrorOfItsOwn, IsInOrder}
 
 -- Bits.
 
@@ -139,10 +139,12 @@ no_bit true h = absurd (omega (arith, h))
 no_bit false h = refl
 
 -- SWITCH_ERROR is among the errors of eMMC, whatever else a status shows
-pub no_switch_error : (app : Bool) (c : Card) → error_bits Mmc (status app c) ≡ 0 → c.switch_error ≡ false
+pub no_switch_error : (app : Bool) (c : Card) → error_bits Mmc (own_status (status app c)) ≡ 0 → c.switch_error ≡ false
 no_switch_error app c none =
-    let parts = ap (λ n. bit_and n (high_mask * 2 ^ 13 + 128)) (status_parts app c)
-    ∙ masked_parts (high_status c) (low_status app c) 128 (low_below app c) (omega arith) in
+    let high = high_status c - 2 ^ 9 * (high_status c / 2 ^ 9 % 4) in
+    let is : own_status (status app c) ≡ 2 ^ 13 * high + low_status app c = omega (arith, low_below app c) in
+    let parts = ap (λ n. bit_and n (high_mask * 2 ^ 13 + 128)) is
+    ∙ masked_parts high (low_status app c) 128 (low_below app c) (omega arith) in
     no_bit c.switch_error (omega (arith, parts, and_pow (low_status app c) 7, low_switch app c, none))
 
 one_bit : (b : Bool) → bit (not b) ≡ 1 → b ≡ false
@@ -193,19 +195,64 @@ status_ready : (app : Bool) (c : Card) → field 8 8 (status app c) ≡ bit (not
 status_ready app c =
     omega (arith, state_below c.state, bit_below (not c.is_busy), bit_below c.switch_error, bit_below app)
 
+-- What a status says of its card alone.
+
+abbrev without_errors : Card → Card
+without_errors card = record card { command_errors = 0 }
+
+-- of bits 23 and 22 those of the command before stand alone there
+apart_at : (n : ℕ) → AreAmong n held_bits → n / 2 ^ 9 % 4 ≡ 0
+apart_at n among =
+    let ninth = bit_among n held_bits 9 among in
+    let tenth = bit_among n held_bits 10 among in
+    omega (arith, ninth, tenth)
+
+command_at : (n : ℕ) → AreAmong n command_error_bits → n ≡ 2 ^ 9 * (n / 2 ^ 9 % 4)
+command_at n among =
+    let split : n ≡ n / 2 ^ 9 * 2 ^ 9 + n % 2 ^ 9 = omega arith in
+    let block = and_block 9 (n / 2 ^ 9) 3 (n % 2 ^ 9) 0 (omega arith) (omega arith) in
+    let whole = ap (λ x. bit_and x command_error_bits) split in
+    omega (arith, and_among n command_error_bits among, whole, block, and_le_r (n % 2 ^ 9) 0, and_le_r (n / 2 ^ 9) 3)
+
+own_parts : (app : Bool) (c : Card) → HoldsErrors c → own_status (status app c) ≡ status app (without_errors c)
+own_parts app c k =
+    let held = apart_at c.errors k.1 in
+    let earlier = command_at c.command_errors k.0 in
+    let low = low_below app c in
+    omega (arith, held, earlier, low, bit_below c.made.is_locked)
+
+own_errors : (kind : Kind) (app : Bool) (c : Card) → HoldsErrors c
+    → ((error_bits kind (own_status (status app c)) ≡ 0) ↔ HasNoErrorOfItsOwn kind c)
+own_errors kind app c k =
+    let own = own_parts app c k in
+    let errors = errors_shown kind app (without_errors c) (refl, k.1) in (
+      λ h. (let none = errors.0 (ap (error_bits kind) (sym own) ∙ h) in
+          record { errors = none.errors; switch_error = none.switch_error }),
+      λ h. ap (error_bits kind) own
+          ∙ errors.1 (record { command_errors = refl; errors = h.errors; switch_error = h.switch_error }),
+    )
+
+pub own_status_errors : (kind : Kind) (app : Bool) (card : Card) → IsCard card
+    → ((error_bits kind (own_status (status app card)) ≡ 0) ↔ HasNoErrorOfItsOwn kind card)
+own_status_errors kind app c k = own_errors kind app c (k.command_errors, k.errors)
+
 pub clean_status : (kind : Kind) (app : Bool) (card : Card) → IsCard card
-    → (IsClean kind (status app card) ↔ IsInOrder kind card)
+    → (IsClean kind (own_status (status app card)) ↔ IsInOrder kind card)
 clean_status kind app c k =
-    let errors = status_errors kind app c k in (
+    let holds : HoldsErrors c = (k.command_errors, k.errors) in
+    let own = own_parts app c holds in
+    let errors = own_errors kind app c holds in
+    let state = ap (field 12 9) own ∙ status_state app (without_errors c) in
+    let ready = ap (field 8 8) own ∙ status_ready app (without_errors c) in (
       λ h. record {
         no_error = errors.0 h.no_error;
-        tran = in_state c.state Tran (ap (λ n. n == 4) (sym (status_state app c) ∙ h.in_tran));
-        rests = one_bit c.is_busy (sym (status_ready app c) ∙ h.ready_for_data);
+        tran = in_state c.state Tran (ap (λ n. n == 4) (sym state ∙ h.in_tran));
+        rests = one_bit c.is_busy (sym ready ∙ h.ready_for_data);
       },
       λ h. record {
         no_error = errors.1 h.no_error;
-        in_tran = status_state app c ∙ ap state_number h.tran;
-        ready_for_data = status_ready app c ∙ ap (λ b. bit (not b)) h.rests;
+        in_tran = state ∙ ap state_number h.tran;
+        ready_for_data = ready ∙ ap (λ b. bit (not b)) h.rests;
       },
     )
 
@@ -222,17 +269,18 @@ not_clean_by true ready tran r = cc
 not_clean_by false ready tran r = cc
 
 pub lagging_status : (kind : Kind) (choice : Choice) (card : Card) → IsCard card
-    → (IsAtWork kind (status false (at_work choice card)) ↔ HasNoError kind card)
+    → (IsAtWork kind (own_status (status false (at_work choice card))) ↔ HasNoErrorOfItsOwn kind card)
 lagging_status kind choice c k =
     let seen = at_work choice c in
-    let errors = errors_shown kind false seen (k.command_errors, k.errors) in
-    let state = status_state false seen in
-    let ready = status_ready false seen in (
+    let holds : HoldsErrors seen = (k.command_errors, k.errors) in
+    let own = own_parts false seen holds in
+    let errors = own_errors kind false seen holds in
+    let state = ap (field 12 9) own ∙ status_state false (without_errors seen) in
+    let ready = ap (field 8 8) own ∙ status_ready false (without_errors seen) in (
       λ h. (let none = errors.0 h.no_error in
-          record { command_errors = none.command_errors; errors = none.errors; switch_error = none.switch_error }),
+          record { errors = none.errors; switch_error = none.switch_error }),
       λ h. record {
-        no_error = errors.1
-            (record { command_errors = h.command_errors; errors = h.errors; switch_error = h.switch_error });
+        no_error = errors.1 (record { errors = h.errors; switch_error = h.switch_error });
         works = elim (works_by choice.shows_prg choice.shows_ready) [
           | inl prg ↦ inl (state ∙ prg)
           | inr tran ↦ inr (state ∙ tran.0, ready ∙ tran.1)
@@ -240,9 +288,11 @@ lagging_status kind choice c k =
       },
     )
 
-pub lagging_is_not_clean : (kind : Kind) (choice : Choice) (card : Card)
-    → IsClean kind (status false (at_work choice card)) → ⊥
-lagging_is_not_clean kind choice c h =
+pub lagging_is_not_clean : (kind : Kind) (choice : Choice) (card : Card) → IsCard card
+    → IsClean kind (own_status (status false (at_work choice card))) → ⊥
+lagging_is_not_clean kind choice c k h =
     let seen = at_work choice c in
-    not_clean_by choice.shows_prg choice.shows_ready (sym (status_state false seen) ∙ h.in_tran)
-    (sym (status_ready false seen) ∙ h.ready_for_data)
+    let own = own_parts false seen (k.command_errors, k.errors) in
+    not_clean_by choice.shows_prg choice.shows_ready
+    (sym (ap (field 12 9) own ∙ status_state false (without_errors seen)) ∙ h.in_tran)
+    (sym (ap (field 8 8) own ∙ status_ready false (without_errors seen)) ∙ h.ready_for_data)

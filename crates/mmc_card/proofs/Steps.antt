@@ -8,13 +8,13 @@ use Rattle.mmc_card.specs.declared.exchange.Reply.{Reply}
 use Rattle.mmc_card.proofs.Cards.{among_wider}
 use Rattle.mmc_card.proofs.Conditions.{along, by_cond, first_by_cond}
 use Rattle.mmc_card.proofs.Narrow.{both}
-use Rattle.mmc_card.specs.CardAnswer.{Choice, garbled, raised, reset}
-use Rattle.mmc_card.specs.ErrorBits.{card_ecc_failed, error_bits, execution_error_bits}
+use Rattle.mmc_card.specs.CardAnswer.{Choice, garbled, left_with, raised, reset}
+use Rattle.mmc_card.specs.ErrorBits.{card_ecc_failed, command_error_bits, error_bits, execution_error_bits}
 use Rattle.mmc_card.specs.Blocks.{accepted, asked_for, can_send, can_accept, fallen_short, offered, polled_once}
 use Rattle.mmc_card.specs.Blocks.{programmed, rejected, rested, sent, waited, will_send}
 use Rattle.mmc_card.specs.Card.{AreAmong, Card, is_in}
 use Rattle.mmc_card.specs.Faults.{CommandStep, WriteStep, PollStep, ReadStep, bad_block, brownout, busy, fail, faithful}
-use Rattle.mmc_card.specs.Faults.{fail_switch, fall_short}
+use Rattle.mmc_card.specs.Faults.{fail_switch, fall_short, leave_over}
 use Rattle.mmc_card.specs.Faults.{flip_command, flip_reply, lose_command, lose_reply, lose_status, read_error, reject}
 use Rattle.mmc_card.specs.Faults.{slow_inquiry}
 use Rattle.mmc_card.specs.Rows.{answered}
@@ -35,8 +35,10 @@ among_all bits among = among_wider bits execution_error_bits error_bits among re
 
 pub after_command : (P : Card → Type 0) (old : BusView) (frame : List ℕ) (reply : Reply) (new : BusView) → P old.card
     → ((choice : Choice) → P (answered choice old.card (command_in frame)).0)
+    → ((choice : Choice) (bits : ℕ) → AreAmong bits command_error_bits
+    → P (answered choice (left_with bits old.card) (command_in frame)).0)
     → ((keeps : Bool) → P (garbled keeps old.card)) → Survives P → CommandStep old frame reply new → P new.card
-after_command P old frame reply new stays answers garbles survives step =
+after_command P old frame reply new stays answers leaves garbles survives step =
     elim step [
       | faithful choice patient count card spells ↦ along P card (answers choice)
       | lose_command count card silent ↦ along P card stays
@@ -45,6 +47,7 @@ after_command P old frame reply new stays answers garbles survives step =
       | flip_reply choice patient count card flipped ↦ along P card (answers choice)
       | slow_inquiry choice slow late inquiry count card spells ↦ along P card (answers choice)
       | fail_switch choice fails switch count card spells ↦ along P card (answers choice)
+      | leave_over choice bits of patient count card spells ↦ along P card (leaves choice bits of.0)
       | brownout choice lands keeps_length after patient count card silent ↦ along P card
           (survives lands keeps_length _ (by_cond P after (λ _. answers choice) (λ _. stays)))
     ]

@@ -15,9 +15,9 @@ use Rattle.mmc_card.specs.declared.part.Part.TheVariants.{Boot1, Boot2, Gp1, Gp2
 use Rattle.mmc_card.proofs.ByteLemmas.{access_below}
 use Rattle.mmc_card.proofs.CardRows.{legal_reached}
 use Rattle.mmc_card.proofs.Conditions.{by_cond, first_by_cond}
-use Rattle.mmc_card.proofs.Standing.{stands_garbled, stands_quiet, stands_reached, stands_refused, stands_reset, up_in}
+use Rattle.mmc_card.proofs.Standing.{stands_garbled, stands_left, stands_quiet, stands_reached, stands_refused, stands_reset, up_in}
 use Rattle.mmc_card.proofs.Steps.{after_command}
-use Rattle.mmc_card.specs.CardAnswer.{Choice}
+use Rattle.mmc_card.specs.CardAnswer.{Choice, left_with}
 use Rattle.mmc_card.specs.Card.{Card, is_in, stored}
 use Rattle.mmc_card.specs.Faults.{CommandStep}
 use Rattle.mmc_card.specs.Laws.{Setting, Stands, StandsIn, SwitchesTo}
@@ -137,10 +137,13 @@ pub command_switches : (part : Part) (old : BusView) (frame : List ℕ) (index a
     (new : BusView) → SwitchesTo part old.card index argument → command_in frame ≡ Some (index, argument)
     → CommandStep old frame reply new → StandsIn part old.card new.card
 command_switches part old frame index argument reply new switch command step s h =
-    let answers : (choice : Choice) → Switched part s (answered choice old.card (command_in frame)).0 =
-    λ choice. subst (λ x. Switched part s (answered choice old.card x).0) (sym command)
-    (subst (λ i. Switched part s (respond choice old.card i argument).0) (sym switch.switch)
-    (switch_answers s part choice old.card.made.kind old.card argument switch.mmc switch.access h)) in
-    after_command (Switched part s) old frame reply new (inl h) answers
+    let answers : (choice : Choice) (card : Card) → card.made ≡ old.card.made → Stands s card
+    → Switched part s (answered choice card (command_in frame)).0 =
+    λ choice card made h. subst (λ x. Switched part s (answered choice card x).0) (sym command)
+    (subst (λ i. Switched part s (respond choice card i argument).0) (sym switch.switch)
+    (switch_answers s part choice card.made.kind card argument (ap (λ (m : Made). m.kind) made ∙ switch.mmc)
+    (switch.access ∙ ap (λ (m : Made). write_byte 179 (partition_config_for m part)) (sym made)) h)) in
+    after_command (Switched part s) old frame reply new (inl h) (λ choice. answers choice old.card refl h)
+    (λ choice bits _. answers choice (left_with bits old.card) refl (stands_left s bits old.card h))
     (λ keeps. inl (stands_garbled s keeps old.card h))
     (λ lands keeps card _. inl (stands_reset s lands keeps card)) step

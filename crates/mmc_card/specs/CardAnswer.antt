@@ -80,17 +80,17 @@ abbrev pub shown : Card → Card
 shown card =
     record card { app = false; count = 0; command_errors = 0; errors = 0; switch_error = false; lags = false }
 
+-- some of bits 23 and 22 are left to be shown, besides those that are
+abbrev pub left_with : ℕ → Card → Card
+left_with bits card = record card { command_errors = bit_or card.command_errors bits }
+
 -- A command that isn't carried out: no response, and ILLEGAL_COMMAND.
 abbrev pub refused : Card → Card
-refused card = record card { app = false; count = 0; command_errors = bit_or card.command_errors illegal_command }
+refused card = record (left_with illegal_command card) { app = false; count = 0 }
 
 -- A command with a bad check: no response, and COM_CRC_ERROR; the preset count stays or goes, and nothing else changes.
 abbrev pub garbled : Bool → Card → Card
-garbled keeps_count card =
-    record card {
-      command_errors = bit_or card.command_errors com_crc_error;
-      count = if keeps_count then card.count else 0;
-    }
+garbled keeps_count card = record (left_with com_crc_error card) { count = if keeps_count then card.count else 0 }
 
 -- As after CMD0 (SD Physical Layer 6.00, section 4.3; JESD84-B51, section 6.4.1): each block or sector of an unfinished
 -- write, erase or trim is old or new. The block length stays, or is the one that the registers name.

@@ -11,8 +11,13 @@ pub record HasNoError (kind : Kind) (card : Card) : Type 0 where
   pub errors : card.errors ≡ 0
   pub switch_error : kind ≡ Mmc → card.switch_error ≡ false
 
--- what a clean status says of a card
+-- nor one but those of an earlier command
+pub record HasNoErrorOfItsOwn (kind : Kind) (card : Card) : Type 0 where
+  pub errors : card.errors ≡ 0
+  pub switch_error : kind ≡ Mmc → card.switch_error ≡ false
+
+-- what a status that is clean but for errors of an earlier command says of a card
 pub record IsInOrder (kind : Kind) (card : Card) : Type 0 where
-  pub no_error : HasNoError kind card
+  pub no_error : HasNoErrorOfItsOwn kind card
   pub tran : card.state ≡ Tran
   pub rests : card.is_busy ≡ false

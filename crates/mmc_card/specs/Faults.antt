@@ -12,8 +12,8 @@ use Rattle.mmc_frame.specs.declared.card_state.State.TheVariants.{Idle, Prg, Rcv
 use Rattle.mmc_card.specs.declared.exchange.DataIn.{DataIn}
 use Rattle.mmc_card.specs.declared.exchange.DataOut.{DataOut}
 use Rattle.mmc_card.specs.declared.exchange.Reply.{Reply}
-use Rattle.mmc_card.specs.CardAnswer.{CardAnswer, Checked, Choice, Silent, R3, R2, garbled, raised, reset}
-use Rattle.mmc_card.specs.ErrorBits.{card_ecc_failed, execution_error_bits}
+use Rattle.mmc_card.specs.CardAnswer.{CardAnswer, Checked, Choice, Silent, R3, R2, garbled, left_with, raised, reset}
+use Rattle.mmc_card.specs.ErrorBits.{card_ecc_failed, command_error_bits, execution_error_bits}
 use Rattle.mmc_card.specs.Blocks.{accepted, asked_for, can_send, can_accept, fallen_short, next_block, offered, polled_once}
 use Rattle.mmc_card.specs.Blocks.{programmed, rejected, sent, waited, will_send}
 use Rattle.mmc_card.specs.Card.{AreAmong, Card, is_in}
@@ -93,6 +93,10 @@ IsPatient choice times = choice.is_slow ≡ true → times < 8
 abbrev pub IsFaultless : Choice → Card → Type 0
 IsFaultless choice card = IsPatient choice card.inquiries × (choice.fails_switch ≡ false)
 
+-- ILLEGAL_COMMAND, COM_CRC_ERROR, or both
+abbrev pub AreOfACommand : ℕ → Type 0
+AreOfACommand bits = AreAmong bits command_error_bits × (bits ≡ 0 → ⊥)
+
 -- A command.
 pub data CommandStep (old : BusView) (frame : List ℕ) (reply : Reply) (new : BusView) : Type 0 where
   faithful : (choice : Choice) → IsFaultless choice old.card → NoFault old new
@@ -124,6 +128,12 @@ pub data CommandStep (old : BusView) (frame : List ℕ) (reply : Reply) (new : B
   fail_switch : (choice : Choice) → choice.fails_switch ≡ true → is_switch_frame old.card (command_in frame) ≡ true
       → OneFault old new → new.card ≡ (answered choice old.card (command_in frame)).0
       → Spells (answered choice old.card (command_in frame)).1 reply
+      → CommandStep old frame reply new
+  -- the card has something to show that it took for a command before this one
+  -- (SD Physical Layer 6.00, section 4.10.1, clear condition B; JESD84-B51, section 6.13)
+  leave_over : (choice : Choice) (bits : ℕ) → AreOfACommand bits → IsFaultless choice old.card → OneFault old new
+      → new.card ≡ (answered choice (left_with bits old.card) (command_in frame)).0
+      → Spells (answered choice (left_with bits old.card) (command_in frame)).1 reply
       → CommandStep old frame reply new
   -- the power fails before the step or after it
   brownout : (choice : Choice) (lands : ℕ → Bool) (keeps_length after : Bool) → IsFaultless choice old.card

@@ -2,33 +2,36 @@
 //! then knows.
 ghost use Rattle.std.specs.Prelude.{◌^◌, ◌≡◌, ◌↔◌, Bool, [], false};
 ghost use Rattle.mmc_frame.specs.Field.{field};
-ghost use Rattle.mmc_frame.specs.Status.{IsAtWork, IsClean, error_bits, state_number};
+ghost use Rattle.mmc_frame.specs.Status.{IsAtWork, IsClean, error_bits, own_status, state_number};
 ghost use Rattle.mmc_frame.specs.declared.card_state.State.TheVariants.{Prg};
 ghost use Rattle.mmc_frame.specs.declared.kind.Kind.{Kind};
 ghost use Rattle.mmc_card.specs.CardAnswer.{Choice, status};
 ghost use Rattle.mmc_card.specs.Blocks.{rested};
 ghost use Rattle.mmc_card.specs.Card.{Card, FitsPart, IsCard, holds, known, unfinished};
-ghost use Rattle.mmc_card.specs.CardLaws.{HasNoError, IsInOrder};
+ghost use Rattle.mmc_card.specs.CardLaws.{HasNoError, HasNoErrorOfItsOwn, IsInOrder};
 ghost use Rattle.mmc_card.specs.ErrorBits.{out_of_range};
 ghost use Rattle.mmc_card.specs.RowsIdentify.{at_work};
 ghost use Rattle.mmc_card.specs.Sectors.{AreRead, Change, Same, Sets, changed};
 
-/// A status has the state of its card. Its error bits are 0 just where the card holds no error, and it is clean just
-/// where, besides, the card is in tran and not busy. Of a card that holds OUT_OF_RANGE and no other error they are bit
-/// 31. A status that lags behind the card's programming shows it at work just where it holds no error, and is never clean.
+/// A status has the state of its card. Its error bits are 0 just where the card holds no error. Of a card that holds
+/// OUT_OF_RANGE and no other error they are bit 31. But for errors of an earlier command a status is clean just where the
+/// card holds none of its own, is in tran and isn't busy; one that lags behind the card's programming shows it at work just
+/// where it holds none of its own, and is never clean.
 pub fn a_status_tells_of_its_card()
     ensures state { (app : Bool) (card : Card) → field 12 9 (status app card) ≡ state_number card.state }
     ensures errors { (kind : Kind) (app : Bool) (card : Card) → IsCard card
         → ((error_bits kind (status app card) ≡ 0) ↔ HasNoError kind card) }
+    ensures own { (kind : Kind) (app : Bool) (card : Card) → IsCard card
+        → ((error_bits kind (own_status (status app card)) ≡ 0) ↔ HasNoErrorOfItsOwn kind card) }
     ensures clean { (kind : Kind) (app : Bool) (card : Card) → IsCard card
-        → (IsClean kind (status app card) ↔ IsInOrder kind card) }
+        → (IsClean kind (own_status (status app card)) ↔ IsInOrder kind card) }
     ensures at_end { (kind : Kind) (app : Bool) (card : Card) → IsCard card
         → HasNoError kind (record card { errors = 0 }) → card.errors ≡ out_of_range
         → error_bits kind (status app card) ≡ 2 ^ 31 }
     ensures lagging { (kind : Kind) (choice : Choice) (card : Card) → IsCard card
-        → (IsAtWork kind (status false (at_work choice card)) ↔ HasNoError kind card) }
-    ensures lags_unclean { (kind : Kind) (choice : Choice) (card : Card)
-        → IsClean kind (status false (at_work choice card)) → ⊥ }
+        → (IsAtWork kind (own_status (status false (at_work choice card))) ↔ HasNoErrorOfItsOwn kind card) }
+    ensures lags_unclean { (kind : Kind) (choice : Choice) (card : Card) → IsCard card
+        → IsClean kind (own_status (status false (at_work choice card))) → ⊥ }
 {}
 
 /// Where no write, erase or trim is unfinished, each sector holds what is stored, and nothing else.

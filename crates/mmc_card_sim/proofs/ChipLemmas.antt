@@ -2,7 +2,7 @@
 use Rattle.std.proofs.Common.{◌%◌, ◌*◌, ◌+◌, ◌/◌, ◌==◌, ◌^◌, ◌∙◌, ◌≡◌, ◌≤◌, Bool, List, ap, arith, bit_or, false, refl}
 use Rattle.std.proofs.Common.{sym, true, ℕ}
 use Rattle.std.proofs.lemmas.Bool.Decides.{nat_tests}
-use Rattle.std.specs.Prelude.{◌&&◌, if◌then◌else◌, nat_le}
+use Rattle.std.specs.Prelude.{if◌then◌else◌, nat_le}
 use Rattle.mmc_frame.proofs.Bytes.{and_true}
 use Rattle.mmc_card.proofs.Cards.{among_wider}
 use Rattle.mmc_card.specs.Faults.{AreOfExecution}

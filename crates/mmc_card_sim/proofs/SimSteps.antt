@@ -18,10 +18,10 @@ use Rattle.mmc_card.specs.RowsSwitch.{switched}
 use Rattle.mmc_card.specs.declared.command.Command.{Command as Meaning}
 use Rattle.mmc_card.specs.declared.command.Command.TheVariants as Names
 use Rattle.mmc_frame.specs.Frame.{command_in}
-use Rattle.mmc_card.specs.ErrorBits.{general_error}
+use Rattle.mmc_card.specs.ErrorBits.{com_crc_error, general_error, illegal_command}
 use Rattle.mmc_card.specs.Faults.{AreOfExecution, CommandStep, IsPatient, PollStep, ReadStep, WriteStep}
 use Rattle.mmc_card.specs.Faults.CommandStep.{brownout as command_brownout, faithful as does_command, flip_command}
-use Rattle.mmc_card.specs.Faults.CommandStep.{fail_switch, flip_reply, lose_command, lose_reply}
+use Rattle.mmc_card.specs.Faults.CommandStep.{fail_switch, flip_reply, leave_over, lose_command, lose_reply}
 use Rattle.mmc_card.specs.Faults.{Spells, is_switch, is_switch_frame}
 use Rattle.mmc_card.specs.Faults.PollStep.{brownout as poll_brownout, busy, fail, faithful as does_poll, fall_short}
 use Rattle.mmc_card.specs.Faults.ReadStep.{bad_block, brownout as read_brownout, faithful as does_read, read_error}
@@ -44,6 +44,7 @@ use Rattle.mmc_card_sim.specs.SimView.{SimOk, SimView}
 use Rattle.mmc_card_sim.proofs.PlanLemmas.{spent}
 use Rattle.mmc_card_sim.specs.Store.{lands_by}
 use Rattle.mmc_card_sim.specs.declared.delays.Delays.{Delays}
+use Rattle.mmc_card_sim.specs.declared.fault.CommandError.TheVariants.{ComCrc, Illegal}
 use Rattle.mmc_card_sim.specs.declared.fault.Fault.{Fault}
 use Rattle.mmc_card_sim.specs.declared.fault.Fault.TheVariants as Is
 use Rattle.mmc_card_sim.specs.declared.fault.Outcome.TheVariants.{New, Old}
@@ -152,6 +153,12 @@ module _ (plan : List Planned) (old new : Card) (delays : Delays) (soon : delays
   command_fault (Some Is.FailSwitch) frame reply one fits card heard = failed_switch false frame reply one fits card heard
   command_fault (Some Is.FailSwitchLate) frame reply one fits card heard =
       failed_switch true frame reply one fits card heard
+  command_fault (Some (Is.LeaveOver ComCrc)) frame reply one fits card heard =
+      leave_over (command_choice delays old) com_crc_error (refl, λ none. cc) (soon_ready delays old soon, refl) one
+      card heard
+  command_fault (Some (Is.LeaveOver Illegal)) frame reply one fits card heard =
+      leave_over (command_choice delays old) illegal_command (refl, λ none. cc) (soon_ready delays old soon, refl) one
+      card heard
   command_fault (Some (Is.Brownout outcome)) frame reply one fits card heard =
       command_brownout (choice_of false) (lands_by outcome) delays.keeps_length false (λ slow. absurd cc, refl) one card
       heard
@@ -209,6 +216,7 @@ module _ (plan : List Planned) (old new : Card) (delays : Delays) (faults later 
   read_fault (Some (Is.FlipReply flips)) size got block one fits card answer = cc
   read_fault (Some Is.FailSwitch) size got block one fits card answer = cc
   read_fault (Some Is.FailSwitchLate) size got block one fits card answer = cc
+  read_fault (Some (Is.LeaveOver error)) size got block one fits card answer = cc
   read_fault (Some Is.Busy) size got block one fits card answer = cc
   read_fault (Some Is.Reject) size got block one fits card answer = cc
   read_fault (Some Is.RejectAll) size got block one fits card answer = cc
@@ -256,6 +264,7 @@ module _ (plan : List Planned) (old new : Card) (delays : Delays) (faults later 
   write_fault (Some (Is.FlipReply flips)) block got one fits card answer = cc
   write_fault (Some Is.FailSwitch) block got one fits card answer = cc
   write_fault (Some Is.FailSwitchLate) block got one fits card answer = cc
+  write_fault (Some (Is.LeaveOver error)) block got one fits card answer = cc
   write_fault (Some Is.Busy) block got one fits card answer = cc
   write_fault (Some Is.BadBlock) block got one fits card answer = cc
   write_fault (Some Is.NoBlock) block got one fits card answer = cc
@@ -340,6 +349,7 @@ module _ (plan : List Planned) (old new : Card) (delays : Delays) (soon : delays
   poll_fault (Some (Is.FlipReply flips)) said one fits card is = cc
   poll_fault (Some Is.FailSwitch) said one fits card is = cc
   poll_fault (Some Is.FailSwitchLate) said one fits card is = cc
+  poll_fault (Some (Is.LeaveOver error)) said one fits card is = cc
   poll_fault (Some Is.BadBlock) said one fits card is = cc
   poll_fault (Some Is.NoBlock) said one fits card is = cc
   poll_fault (Some Is.ReadError) said one fits card is = cc

@@ -15,8 +15,9 @@ use Rattle.mmc_card.specs.declared.exchange.Reply.TheVariants as Came
 use Rattle.mmc_card.specs.Blocks.{accepted, can_accept, can_send, offered, polled_once, programmed, rejected, sent}
 use Rattle.mmc_card.specs.Blocks.{fallen_short, next_written, waited}
 use Rattle.mmc_card.specs.Card.{Card, is_in, stored}
-use Rattle.mmc_card.specs.CardAnswer.{CardAnswer, Choice, Silent, garbled, raised, reset}
-use Rattle.mmc_card.specs.ErrorBits.{card_ecc_failed, execution_error_bits, general_error}
+use Rattle.mmc_card.specs.CardAnswer.{CardAnswer, Choice, Silent, garbled, left_with, raised, reset}
+use Rattle.mmc_card.specs.ErrorBits.{card_ecc_failed, com_crc_error, execution_error_bits, general_error}
+use Rattle.mmc_card.specs.ErrorBits.{illegal_command}
 use Rattle.mmc_card.specs.Faults.{Spells, is_switch_frame}
 use Rattle.mmc_card.specs.Rows.{answered, reached}
 use Rattle.mmc_card.specs.RowsSwitch.{switch_row}
@@ -25,9 +26,11 @@ use Rattle.mmc_card_sim.specs.Answer.{IsHeardFlipped, can_flip, is_flip}
 use Rattle.mmc_card_sim.specs.Chip.{Sends, choice_of, command_choice}
 use Rattle.mmc_card_sim.specs.Store.{lands_by}
 use Rattle.mmc_card_sim.specs.declared.delays.Delays.{Delays}
+use Rattle.mmc_card_sim.specs.declared.fault.CommandError.{CommandError}
+use Rattle.mmc_card_sim.specs.declared.fault.CommandError.TheVariants.{ComCrc, Illegal}
 use Rattle.mmc_card_sim.specs.declared.fault.Fault.{Fault}
 use Rattle.mmc_card_sim.specs.declared.fault.Fault.TheVariants.{BadBlock, Brownout, Busy, Fail, FailWith, FlipCommand}
-use Rattle.mmc_card_sim.specs.declared.fault.Fault.TheVariants.{FailSwitch, FailSwitchLate, FlipReply}
+use Rattle.mmc_card_sim.specs.declared.fault.Fault.TheVariants.{FailSwitch, FailSwitchLate, FlipReply, LeaveOver}
 use Rattle.mmc_card_sim.specs.declared.fault.Fault.TheVariants.{LoseCommand, LoseReply, LoseStatus, NoBlock, ReadError}
 use Rattle.mmc_card_sim.specs.declared.fault.Fault.TheVariants.{Reject, RejectAll}
 use Rattle.mmc_card_sim.specs.declared.fault.Outcome.TheVariants.{New}
@@ -42,10 +45,20 @@ heeded delays card frame = answered (command_choice delays card) card (command_i
 abbrev pub failing : Bool → Card → Card × CardAnswer
 failing says_late card = switch_row says_late (reached Switch card) None
 
+-- the error bit of a command, in units of bit 13
+abbrev pub error_bit : CommandError → ℕ
+error_bit ComCrc = com_crc_error
+error_bit Illegal = illegal_command
+
+-- the faithful step of the card that has this error left over
+abbrev pub heeded_with : CommandError → Delays → Card → List ℕ → Card × CardAnswer
+heeded_with error delays card frame = heeded delays (left_with (error_bit error) card) frame
+
 -- what the card does with this frame where this fault falls
 abbrev pub done_in : Option Fault → Delays → Card → List ℕ → Card × CardAnswer
 done_in (Some FailSwitch) delays card frame = failing false card
 done_in (Some FailSwitchLate) delays card frame = failing true card
+done_in (Some (LeaveOver error)) delays card frame = heeded_with error delays card frame
 done_in _ delays card frame = heeded delays card frame
 
 abbrev pub is_answer : CardAnswer → Bool
@@ -60,6 +73,7 @@ fits_command (Some LoseReply) delays card frame = is_answer (heeded delays card 
 fits_command (Some (FlipReply flips)) delays card frame = can_flip flips (heeded delays card frame).1
 fits_command (Some FailSwitch) delays card frame = is_switch_frame card (command_in frame)
 fits_command (Some FailSwitchLate) delays card frame = is_switch_frame card (command_in frame)
+fits_command (Some (LeaveOver error)) delays card frame = true
 fits_command (Some (Brownout outcome)) delays card frame = true
 fits_command _ delays card frame = false
 
@@ -70,6 +84,7 @@ after_command (Some LoseReply) delays card frame = (heeded delays card frame).0
 after_command (Some (FlipReply flips)) delays card frame = (heeded delays card frame).0
 after_command (Some FailSwitch) delays card frame = (failing false card).0
 after_command (Some FailSwitchLate) delays card frame = (failing true card).0
+after_command (Some (LeaveOver error)) delays card frame = (heeded_with error delays card frame).0
 after_command (Some (Brownout outcome)) delays card frame = reset (lands_by outcome) delays.keeps_length card
 after_command _ delays card frame = card
 
@@ -78,6 +93,7 @@ abbrev pub IsHeard : Option Fault → CardAnswer → Reply → Type 0
 IsHeard (Some (FlipReply flips)) answer reply = IsHeardFlipped flips answer reply
 IsHeard (Some FailSwitch) answer reply = Spells answer reply
 IsHeard (Some FailSwitchLate) answer reply = Spells answer reply
+IsHeard (Some (LeaveOver error)) answer reply = Spells answer reply
 IsHeard _ answer reply = reply ≡ Came.Silent
 
 pub record Commands (fault : Option Fault) (delays : Delays) (old : Card) (frame : List ℕ) (reply : Reply)

@@ -7,6 +7,15 @@ pub enum Outcome {
     New,
 }
 
+/// An error bit of a command that isn't carried out (SD Physical Layer 6.00, section 4.10.1).
+#[derive(Clone, Copy, Debug, PartialEq, Eq)]
+pub enum CommandError {
+    /// COM_CRC_ERROR: its check was bad.
+    ComCrc,
+    /// ILLEGAL_COMMAND: it wasn't legal in the card's state.
+    Illegal,
+}
+
 /// Which bits of a frame are flipped, by their positions in order of sending: 0 to 47 in a frame of six bytes, 0 to 135
 /// in one of seventeen. Two equal positions, or one past the frame, fit no exchange.
 #[derive(Clone, Copy, Debug, PartialEq, Eq)]
@@ -33,6 +42,8 @@ pub enum Fault {
     FailSwitch,
     /// So it does, and the first status behind its busy time says so.
     FailSwitchLate,
+    /// The card has this error of an earlier command left over, which the command's response shows if it has a status.
+    LeaveOver(CommandError),
     /// A block that is read comes with a bad check.
     BadBlock,
     /// A block that is read doesn't come.

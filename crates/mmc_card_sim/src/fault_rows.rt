@@ -1,18 +1,18 @@
 // What the card in memory does in a fault: a function for each row of the card relation that leaves the card otherwise
 // than a faithful step.
 ghost use Rattle.std.specs.Prelude.{◌/◌, ◌^◌, ◌≡◌, ◌≤◌, false, length, true};
-ghost use Rattle.mmc_card_sim.specs.FaultyExchanges.{are_of_execution};
+ghost use Rattle.mmc_card_sim.specs.FaultyExchanges.{are_of_execution, error_bit};
 ghost use Rattle.mmc_card_sim.specs.Store.{lands_by};
 
 use crate::chip::Chip;
-use crate::fault::Outcome;
+use crate::fault::{CommandError, Outcome};
 use bitflags::Flags;
 use mmc_frame::{State, Status};
 
 impl Chip {
     ghost use Rattle.mmc_card.specs.Blocks.{fallen_short, next_written, programmed, rejected};
     ghost use Rattle.mmc_card.specs.Card.{stored};
-    ghost use Rattle.mmc_card.specs.CardAnswer.{garbled, raised, reset};
+    ghost use Rattle.mmc_card.specs.CardAnswer.{garbled, left_with, raised, reset};
     ghost use Rattle.mmc_card.specs.ErrorBits.{card_ecc_failed, general_error};
     ghost use Rattle.mmc_card_sim.specs.Chip.{card_of};
 
@@ -23,6 +23,17 @@ impl Chip {
     {
         self.command_errors |= Status::COM_CRC_ERROR.bits();
         self.count = 0;
+    }
+
+    /// The card has an error of an earlier command left over.
+    #[tactic(auto, using(mmc_card::proofs::Cards::among_more, crate::proofs::ChipLemmas::or_held))]
+    pub fn leave_over(&mut self, error: CommandError)
+        ensures { card_of self.new ≡ left_with (error_bit error) (card_of self.old) }
+    {
+        match error {
+            CommandError::ComCrc => self.command_errors |= Status::COM_CRC_ERROR.bits(),
+            CommandError::Illegal => self.command_errors |= Status::ILLEGAL_COMMAND.bits(),
+        }
     }
 
     /// The card can't correct the block that it was asked for.

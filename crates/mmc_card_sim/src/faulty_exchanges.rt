@@ -75,6 +75,10 @@ impl Chip {
             Some(Fault::FailSwitchLate) if self.is_switch(frame) => {
                 (self.fail_switch(true).spelled(), true)
             }
+            Some(Fault::LeaveOver(error)) => {
+                self.leave_over(error);
+                (self.command(delays, frame).spelled(), true)
+            }
             Some(Fault::Brownout(outcome)) => {
                 self.lose_power(outcome, delays.keeps_length);
                 (Reply::Silent, true)

@@ -23,7 +23,7 @@ mod store;
 mod switch_rows;
 mod transfer_rows;
 
-pub use fault::{Fault, Flips, Outcome};
+pub use fault::{CommandError, Fault, Flips, Outcome};
 pub use plan::{MAX_PLANNED, Plan, PlanFault, Planned};
 pub use registers::{KindRegisters, MmcRegisters, Registers, SdRegisters};
 pub use sim_card::SimCard;

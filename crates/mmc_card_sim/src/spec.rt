@@ -32,7 +32,8 @@ pub struct CardSpec {
     pub refusal: Option<Refusal>,
     /// Whether CMD12 that ends a read leaves the card busy, for as many polls as any busy time.
     pub stays_busy: bool,
-    /// How many statuses behind the end of a programming still show prg; with the polls of that busy time they are 8 at most.
+    /// How many statuses lag behind each programming and still show prg: they and the polls that were answered yes are as many
+    /// as this and the delay of busy say, 8 at most.
     pub lagging: u8,
     /// The bytes of all sectors, 512 each, a partition behind the other in the order of `Part`. Without an image all
     /// bytes are the erased byte.

@@ -2,7 +2,7 @@
 use crate::cards::*;
 use mmc_bus::{DataIn, DataOut, Part, Reply, Want};
 use mmc_card_sim::example_cards::*;
-use mmc_card_sim::{Fault, Flips, Outcome, PlanFault, SimCard};
+use mmc_card_sim::{CommandError, Fault, Flips, Outcome, PlanFault, SimCard};
 use mmc_frame::encode;
 use std::alloc::Global;
 use std::test::Fail;
@@ -120,6 +120,38 @@ fn flips_bits_of_a_cid(rt: HostRuntime) -> Result<(), Fail> {
         );
         expect_reply(&rt, &mut card, encode(2, 0), Reply::Long(heard));
         assert_eq!(rt; card.faults(), faults);
+    }
+    Ok(())
+}
+
+// An error of an earlier command is left over: the response to the command shows it, and then it is cleared. A response
+// without a status, here an R3, clears it unshown.
+#[test]
+fn leaves_errors_over(rt: HostRuntime) -> Result<(), Fail> {
+    for (error, status) in [
+        (CommandError::ComCrc, 0x0080_0900),
+        (CommandError::Illegal, 0x0040_0900),
+    ] {
+        let fault = Fault::LeaveOver(error);
+        let mut card = faulty(rt.alloc(), 0, fault)?;
+        expect_r1(&rt, &mut card, 17, 512, status);
+        expect_data(&rt, &mut card, DataIn::Good);
+        expect_status(&rt, &mut card, 0x900);
+        assert_eq!(rt; card.faults(), 1);
+
+        let mut spec = sdsc();
+        spec.ready = 1;
+        let mut card = built(rt.alloc(), spec)?;
+        plan_after(&mut card, 1, fault)?;
+        expect_r1(&rt, &mut card, 55, 0, 0x120);
+        expect_frame(
+            &rt,
+            &mut card,
+            encode(41, 0),
+            [0x3f, 0, 0xff, 0x80, 0, 0xff],
+        );
+        expect_r1(&rt, &mut card, 55, 0, 0x120);
+        assert_eq!(rt; card.faults(), 1);
     }
     Ok(())
 }

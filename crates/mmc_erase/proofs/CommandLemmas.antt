@@ -60,7 +60,7 @@ abbrev pub FirstLaw : Kind → Type 0
 FirstLaw kind =
     (old new : BusView) (address : ℕ) (heard : Result ℕ Unheard) → Responded (first_index kind) old address heard new
     → old.card.made.kind ≡ kind → old.card.erase ≡ NoAddress
-    → Does (old.card.state ≡ Tran) (status false old.card) (record (shown old.card) { erase = First address }) old heard new
+    → Does (old.card.state ≡ Tran) (status false) (record (shown old.card) { erase = First address }) old heard new
 
 pub first_law : FirstLaw Sd → FirstLaw Mmc → (kind : Kind) → FirstLaw kind
 first_law sd mmc Sd = sd
@@ -70,7 +70,7 @@ abbrev pub LastLaw : Kind → Type 0
 LastLaw kind =
     (old new : BusView) (first address : ℕ) (heard : Result ℕ Unheard)
     → Responded (last_index kind) old address heard new → old.card.made.kind ≡ kind → old.card.erase ≡ First first
-    → Does (old.card.state ≡ Tran) (status false old.card) (record (shown old.card) { erase = Both first address }) old
+    → Does (old.card.state ≡ Tran) (status false) (record (shown old.card) { erase = Both first address }) old
     heard new
 
 pub last_law : LastLaw Sd → LastLaw Mmc → (kind : Kind) → LastLaw kind
@@ -84,7 +84,7 @@ shows_no_error kind held card errors k can = (errors kind false card k).1 can.no
 
 -- A command that was judged, from what it does.
 module _ (kind : Kind) (after : Card) (old : BusView) (heard : Result ℕ Unheard) (new : BusView)
-    (does : Does (old.card.state ≡ Tran) (status false old.card) after old heard new) where
+    (does : Does (old.card.state ≡ Tran) (status false) after old heard new) where
   pub done_where_answered : (told : ℕ) → heard ≡ Ok told → new.card ≡ after
   done_where_answered told is = (does.sound told is).2
 

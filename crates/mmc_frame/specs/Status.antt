@@ -1,5 +1,5 @@
 -- The card status, a number of 32 bits (SD Physical Layer 6.00, section 4.10.1; JESD84-B51, section 6.13).
-use Rattle.std.specs.Prelude.{◌≡◌, ◌⊎◌, ℕ}
+use Rattle.std.specs.Prelude.{◌*◌, ◌-◌, ◌^◌, ◌≡◌, ◌⊎◌, ℕ}
 use Rattle.std.specs.Int.RustNames.{bit_and}
 use Rattle.mmc_frame.specs.Field.{field}
 use Rattle.mmc_frame.specs.declared.kind.Kind.{Kind}
@@ -31,6 +31,10 @@ error_mask Mmc = 0xfdf9a080
 
 abbrev pub error_bits : Kind → ℕ → ℕ
 error_bits kind status = bit_and status (error_mask kind)
+
+-- the status without bits 23 and 22, COM_CRC_ERROR and ILLEGAL_COMMAND
+abbrev pub own_status : ℕ → ℕ
+own_status status = status - 2 ^ 22 * field 23 22 status
 
 -- no error, state tran, ready for data (bit 8)
 pub record IsClean (kind : Kind) (status : ℕ) : Type 0 where

@@ -24,7 +24,7 @@ pub use fault::FrameFault;
 pub use kind::Kind;
 pub use register_response::{check_fits, encode_r2, encode_r3, read_r2, read_r3};
 pub use response::{R6, R7, encode_response, read_r1, read_r6, read_r7};
-pub use status::{Status, errors, is_at_work, is_clean, state};
+pub use status::{Status, errors, is_at_work, is_clean, own_status, state};
 
 #[cfg(test)]
 mod tests;

@@ -1,7 +1,8 @@
 // The card status.
 ghost use Rattle.std.specs.Prelude.{⊤, ◌≡◌, ◌≤◌, ◌↔◌, [], ◌∷◌, ◌^◌, codes, IsNone, IfSome, IsTrue};
 ghost use Rattle.mmc_frame.specs.Field.{field};
-ghost use Rattle.mmc_frame.specs.Status.{IsAtWork, IsClean, bits_in, error_bits, state_number};
+ghost use Rattle.mmc_frame.specs.declared.kind.Kind.{Kind};
+ghost use Rattle.mmc_frame.specs.Status.{IsAtWork, IsClean, bits_in, error_bits, own_status, state_number};
 
 use crate::card_state::State;
 use crate::kind::Kind;
@@ -96,6 +97,15 @@ pub fn errors(kind: Kind, status: u32) -> Status
         Kind::Mmc => MMC_ERRORS,
     };
     Status(status & mask)
+}
+
+/// A card status without bits 23 and 22, COM_CRC_ERROR and ILLEGAL_COMMAND, which tell of a command before the one that is
+/// answered (SD Physical Layer 6.00, section 4.10.1, clear condition B; JESD84-B51, section 6.13).
+pub fn own_status(status: u32) -> u32
+    ensures own { result ≡ own_status status }
+    ensures clear { (kind : Kind) → error_bits kind status ≡ 0 → result ≡ status }
+{
+    status - status / 0x0040_0000 % 4 * 0x0040_0000
 }
 
 /// Whether a card status reports no error, the state tran and bit 8, READY_FOR_DATA.

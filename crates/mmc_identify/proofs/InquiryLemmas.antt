@@ -37,7 +37,7 @@ idle_refused card idle = record { state = idle.state; told = idle.told; app = re
 abbrev Repeats : BusView → Result ℕ Unheard → BusView → Type 0
 Repeats old heard new =
     (old.card.made.kind ≡ Sd
-    → Does ((old.card.state ≡ Idle) × (old.card.made.answers_cmd8 ≡ true)) 0x1aa
+    → Does ((old.card.state ≡ Idle) × (old.card.made.answers_cmd8 ≡ true)) (λ card. 0x1aa)
     (record (done old.card) { accepted_cmd8 = true }) old heard new)
     × (old.card.made.kind ≡ Sd → old.card.made.answers_cmd8 ≡ false → old.card.state ≡ Idle
     → IsUnheard (refused old.card) old heard new)
@@ -82,7 +82,7 @@ probed old heard new result is repeats same idle =
 abbrev Expects : BusView → Result ℕ Unheard → BusView → Type 0
 Expects old heard new =
     Does ((old.card.made.kind ≡ Sd) × ((old.card.state ≡ Idle) ⊎ (is_identified old.card.state ≡ true))
-    × Names 0 old.card) (status true (without_addresses old.card))
+    × Names 0 old.card) (λ card. status true (without_addresses card))
     (record (shown (forgotten old.card)) { app = true }) old heard new
 
 -- an SD card in idle goes by the RCA 0, and an eMMC device by 1

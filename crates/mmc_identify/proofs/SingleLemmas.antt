@@ -4,17 +4,19 @@ use Rattle.std.proofs.Common.{subst, sym, true, ℕ}
 use Rattle.std.specs.Prelude.{◌%◌, ◌&&◌, ◌/◌, ◌==◌, Err, IfOk, IsOk, IsOkAnd, Ok, Result, not}
 use Rattle.std.proofs.lemmas.Bool.{eqb-true}
 use Rattle.mmc_frame.specs.Field.{field}
-use Rattle.mmc_frame.specs.Status.{IsClean, error_bits, state_number}
+use Rattle.mmc_frame.specs.Status.{IsClean, error_bits, own_status, state_number}
 use Rattle.mmc_frame.specs.declared.card_state.State.{State}
 use Rattle.mmc_frame.specs.declared.card_state.State.TheVariants.{Ident, Ready, Stby, Tran}
 use Rattle.mmc_frame.specs.declared.kind.Kind.{Kind}
 use Rattle.mmc_card.specs.BusView.{BusView}
 use Rattle.mmc_card.specs.Card.{Card, IsCard, is_identified, is_in, is_selected}
-use Rattle.mmc_card.specs.CardAnswer.{Choice, bit, busied, done, r6_argument, reset, shown, status}
+use Rattle.mmc_card.specs.CardAnswer.{Choice, bit, busied, done, left_with, r6_argument, reset, shown, status}
 use Rattle.mmc_card.specs.CardLaws.{IsInOrder}
 use Rattle.mmc_card.specs.Faults.{NoFault}
+use Rattle.mmc_card.proofs.CardAll.{card_left}
 use Rattle.mmc_card.proofs.Narrow.{both}
 use Rattle.mmc_card.specs.RowsIdentify.{at_work}
+use Rattle.mmc_card.specs.Made.{Made}
 use Rattle.mmc_card.specs.Profile.{InProfile}
 use Rattle.mmc_bus.specs.CommandLaws.{Does, DoesOne, Names, TellsStatus}
 use Rattle.mmc_bus.specs.declared.host.Unheard.{Unheard}
@@ -31,16 +33,16 @@ idle_reset lands keeps old new e = subst (IsIdle false false 0) (sym e) (record 
 -- Registers.
 
 -- what is heard of a register is the one that the card tells
-pub register_own : {IsThere : Type 0} (register : List ℕ) (after : Card) (old : BusView)
-    (heard : Result (List ℕ) Unheard) (new : BusView) → Does IsThere register after old heard new
-    → IfOk (judged.told_register heard) (λ bytes. bytes ≡ register)
-register_own register after old (Ok bytes) new does = (does.sound bytes refl).1
+pub register_own : {IsThere : Type 0} (register : Made → List ℕ) (after : Card) (old : BusView)
+    (heard : Result (List ℕ) Unheard) (new : BusView) → Does IsThere (λ card. register card.made) after old heard new
+    → IfOk (judged.told_register heard) (λ bytes. bytes ≡ register old.card.made)
+register_own register after old (Ok bytes) new does = (does.sound bytes refl).1.2
 register_own register after old (Err unheard) new does = tt
 
 -- CMD2.
 
 pub named_fine : (old : BusView) (heard : Result (List ℕ) Unheard) (new : BusView)
-    → Does (old.card.state ≡ Ready) old.card.made.cid (record (done old.card) { state = Ident }) old heard new
+    → Does (old.card.state ≡ Ready) (λ card. card.made.cid) (record (done old.card) { state = Ident }) old heard new
     → NoFault old new → old.card.state ≡ Ready
     → (judged.told_register heard ≡ Ok old.card.made.cid) × (new.card.state ≡ Ident)
 named_fine old heard new does same ready =
@@ -65,7 +67,7 @@ published_by false told rca e is some = rw e (ap Ok is)
 -- CMD3 publishes the RCA by which the card goes then
 abbrev pub Publishes : BusView → Result ℕ Unheard → BusView → Type 0
 Publishes old heard new =
-    Does ((old.card.state ≡ Ident) ⊎ (old.card.state ≡ Stby)) (r6_argument new.card.rca old.card)
+    Does ((old.card.state ≡ Ident) ⊎ (old.card.state ≡ Stby)) (r6_argument new.card.rca)
     (record (shown old.card) { state = Stby; rca = new.card.rca }) old heard new
 
 pub published_fine : (old : BusView) (heard : Result ℕ Unheard) (new : BusView) (result : Result ℕ IdentFault)
@@ -88,11 +90,12 @@ pub published_own : (old : BusView) (heard : Result ℕ Unheard) (new : BusView)
     → IfOk (judged.published heard) (λ rca. rca ≡ new.card.rca)
 published_own old (Ok told) new does =
     subst (λ (known : ℕ). IfOk (judged.published (Ok told)) (λ rca. rca ≡ known))
-    (ap (λ n. n / 65536) (does.sound told refl).1 ∙ r6_rca new.card.rca old.card) (published_told _ told)
+    (let says = (does.sound told refl).1 in
+    ap (λ n. n / 65536) says.2 ∙ r6_rca new.card.rca (left_with says.0 old.card)) (published_told _ told)
 published_own old (Err unheard) new does = tt
 
 pub assigned_fine : (old : BusView) (heard : Result ℕ Unheard) (new : BusView)
-    → Does (old.card.state ≡ Ident) (status false old.card)
+    → Does (old.card.state ≡ Ident) (status false)
     (record (shown old.card) { state = Stby; rca = 1 }) old heard new
     → NoFault old new → old.card.state ≡ Ident → (judged.assigned heard ≡ Ok 1) × IsNamed 1 new.card
 assigned_fine old heard new does same ident =
@@ -103,7 +106,7 @@ assigned_fine old heard new does same ident =
 
 pub described_fine : (rca argument : ℕ) (old : BusView) (heard : Result (List ℕ) Unheard) (new : BusView)
     → field 31 16 argument ≡ rca
-    → Does ((old.card.state ≡ Stby) × Names argument old.card) old.card.made.csd (done old.card) old heard new
+    → Does ((old.card.state ≡ Stby) × Names argument old.card) (λ card. card.made.csd) (done old.card) old heard new
     → NoFault old new → IsNamed rca old.card
     → (judged.told_register heard ≡ Ok old.card.made.csd) × IsNamed rca new.card
 described_fine rca argument old heard new is_rca does same named =
@@ -168,7 +171,7 @@ selects told none = rw none refl
 
 pub selected_fine : (rca argument : ℕ) (old : BusView) (heard : Result ℕ Unheard) (new : BusView)
     → field 31 16 argument ≡ rca → IsCard old.card → InProfile old.card.made
-    → Does ((old.card.state ≡ Stby) × Names argument old.card) (status false old.card)
+    → Does ((old.card.state ≡ Stby) × Names argument old.card) (status false)
     (record (busied (shown old.card)) { state = Tran }) old heard new
     → NoFault old new → IsNamed rca old.card → IsOk (judged.selected heard) × IsPolled true rca new.card
 selected_fine rca argument old heard new is_rca card profile does same named =
@@ -183,7 +186,7 @@ selected_ok (Err unheard) ok = cc
 
 pub selected_own : (rca argument : ℕ) (old : BusView) (heard : Result ℕ Unheard) (new : BusView)
     → field 31 16 argument ≡ rca → IsCard old.card
-    → Does ((old.card.state ≡ Stby) × Names argument old.card) (status false old.card)
+    → Does ((old.card.state ≡ Stby) × Names argument old.card) (status false)
     (record (busied (shown old.card)) { state = Tran }) old heard new
     → IsOk (judged.selected heard) → Looks rca new.card
 selected_own rca argument old heard new is_rca card does ok up =
@@ -208,7 +211,7 @@ clean_of kind told true true false x y z h = cc
 clean_of kind told true false ready x y z h = cc
 clean_of kind told false tran ready x y z h = cc
 
-confirms : (kind : Kind) (told : ℕ) → told / 0x2000000 % 2 ≡ 0 → judged.is_clean kind told ≡ true
+confirms : (kind : Kind) (told : ℕ) → told / 0x2000000 % 2 ≡ 0 → judged.is_clean kind (own_status told) ≡ true
     → judged.confirmed kind (Ok told) ≡ Ok tt
 confirms kind told none clean = rw (none, clean) refl
 
@@ -220,24 +223,20 @@ never_lags old new up (inr behind) =
 
 pub confirmed_fine : (rca argument : ℕ) (kind : Kind) (old : BusView) (heard : Result ℕ Unheard) (new : BusView)
     → field 31 16 argument ≡ rca → InProfile old.card.made
-    → (IsClean kind (status false old.card) ↔ IsInOrder kind old.card)
+    → (IsClean kind (own_status (status false old.card)) ↔ IsInOrder kind old.card)
     → DoesOne ((is_identified old.card.state ≡ true) × (old.card.app ≡ false) × Names argument old.card)
-    (TellsStatus old.card) old heard new
+    TellsStatus old heard new
     → NoFault old new → IsPolled false rca old.card → IsOk (judged.confirmed kind heard)
 confirmed_fine rca argument kind old heard new is_rca profile clean does same polled =
     let is = polled.selected in
     let f = does.fine same (ap is_identified is.state, is.app, is_rca ∙ sym is.is_rca) in
     let none = unlocked old.card Tran is.state (omega arith) is.command_errors is.errors profile.unlocked in
     let order : IsInOrder kind old.card = record {
-      no_error = record {
-        command_errors = is.command_errors;
-        errors = is.errors;
-        switch_error = λ _. is.switch_error;
-      };
+      no_error = record { errors = is.errors; switch_error = λ _. is.switch_error };
       tran = is.state;
       rests = polled.is_busy;
     } in
-    let is_clean = clean_by kind (status false old.card) (clean.1 order) in
+    let is_clean = clean_by kind (own_status (status false old.card)) (clean.1 order) in
     let told : heard ≡ Ok (status false old.card) =
     f.1 ∙ ap (λ x. Ok x) (never_lags old.card new.card is.up_to_date f.2) in
     let judges = ap (judged.confirmed kind) told ∙ confirms kind (status false old.card) none is_clean in
@@ -250,9 +249,9 @@ confirmed_by kind told false true ok = refl
 confirmed_by kind told false false ok = cc
 
 confirmed_ok : (kind : Kind) (heard : Result ℕ Unheard) → IsOk (judged.confirmed kind heard)
-    → (told : ℕ) × (heard ≡ Ok told) × IsClean kind told
+    → (told : ℕ) × (heard ≡ Ok told) × IsClean kind (own_status told)
 confirmed_ok kind (Ok told) ok =
-    (told, refl, clean_of kind told _ _ _ refl refl refl (confirmed_by kind told _ _ ok))
+    (told, refl, clean_of kind (own_status told) _ _ _ refl refl refl (confirmed_by kind told _ _ ok))
 confirmed_ok kind (Err unheard) ok = cc
 
 -- a clean status leaves the card as it is, but for what it has shown
@@ -278,15 +277,20 @@ left_shown rca old new is rests e =
     })
 
 pub confirmed_own : {IsThere : Type 0} (rca : ℕ) (kind : Kind) (old : BusView) (heard : Result ℕ Unheard)
-    (new : BusView) → (IsClean kind (status false old.card) ↔ IsInOrder kind old.card)
-    → ((choice : Choice) → IsClean kind (status false (at_work choice old.card)) → ⊥)
-    → DoesOne IsThere (TellsStatus old.card) old heard new
+    (new : BusView) → IsCard old.card
+    → ((card : Card) → IsCard card → (IsClean kind (own_status (status false card)) ↔ IsInOrder kind card))
+    → ((choice : Choice) (card : Card) → IsCard card → IsClean kind (own_status (status false (at_work choice card))) → ⊥)
+    → DoesOne IsThere TellsStatus old heard new
     → Looks rca old.card → IsOk (judged.confirmed kind heard) → IsLeft rca new.card
-confirmed_own rca kind old heard new clean unclean does looks ok =
+confirmed_own rca kind old heard new card clean unclean does looks ok =
     let t = confirmed_ok kind heard ok in
-    elim (does.sound t.0 t.1).1 [
+    let says = (does.sound t.0 t.1).1 in
+    let met = left_with says.0 old.card in
+    let is_met = card_left says.0 old.card says.1 card in
+    elim says.2 [
       | inl itself ↦
-          (let order = clean.0 (subst (IsClean kind) itself.0 t.2) in
+          (let order = (clean met is_met).0 (subst (λ told. IsClean kind (own_status told)) itself.0 t.2) in
           left_shown rca old.card new.card (looks (ap is_selected order.tran)) order.rests itself.1)
-      | inr behind ↦ absurd (unclean behind.choice (subst (IsClean kind) behind.told_is t.2))
+      | inr behind ↦
+          absurd (unclean behind.choice met is_met (subst (λ told. IsClean kind (own_status told)) behind.told_is t.2))
     ]

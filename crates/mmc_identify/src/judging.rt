@@ -9,7 +9,7 @@ ghost use Rattle.mmc_identify.specs.Judged as judged;
 use crate::fault::IdentFault;
 use crate::found::Found;
 use mmc_bus::Unheard;
-use mmc_frame::{Addressing, Kind, is_clean};
+use mmc_frame::{Addressing, Kind, is_clean, own_status};
 use mmc_regs::{Csd, Ocr, read_cid, read_csd};
 
 /// CMD8: whether the card repeated voltage and pattern.
@@ -97,7 +97,7 @@ pub fn selected(heard: Result<u32, Unheard>) -> Result<(), IdentFault>
     }
 }
 
-/// The closing CMD13: a clean status of a card that isn't locked.
+/// The closing CMD13: a clean status of a card that isn't locked, but for errors of an earlier command.
 pub fn confirmed(kind: Kind, heard: Result<u32, Unheard>) -> Result<(), IdentFault>
     ensures { result ≡ judged.confirmed kind heard }
 {
@@ -105,7 +105,7 @@ pub fn confirmed(kind: Kind, heard: Result<u32, Unheard>) -> Result<(), IdentFau
     if status / 0x0200_0000 % 2 == 1 {
         return Err(IdentFault::Locked);
     }
-    if is_clean(kind, status) {
+    if is_clean(kind, own_status(status)) {
         Ok(())
     } else {
         Err(IdentFault::NoAnswer)

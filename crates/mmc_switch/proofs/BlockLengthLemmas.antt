@@ -1,7 +1,7 @@
 -- Blocks of 512 bytes, by CMD16.
 use Rattle.std.proofs.Common.{◌∙◌, ◌≡◌, ◌↔◌, ap, false, refl, subst, sym, ℕ}
 use Rattle.std.specs.Prelude.{IsOk, None, Ok, Result, Some}
-use Rattle.mmc_frame.specs.Status.{error_bits}
+use Rattle.mmc_frame.specs.Status.{error_bits, own_status}
 use Rattle.mmc_frame.specs.declared.card_state.State.TheVariants.{Tran}
 use Rattle.mmc_frame.specs.declared.kind.Kind.{Kind}
 use Rattle.mmc_card.specs.BusView.{BusView}
@@ -49,10 +49,10 @@ set_after rca old new card left first lines e =
 pub length_set : (kind : Kind) (heard : Result ℕ Unheard) (r : Result Unit Cause) (old new : BusView)
     → erased_by old.card (Some (16, 512)) ≡ None → new.lines ≡ old.lines
     → Kept old (CommandFacts (response_of 16) old 16 512 heard new) new
-    → Does (old.card.state ≡ Tran) (status false (without_addresses old.card))
+    → Does (old.card.state ≡ Tran) (λ card. status false (without_addresses card))
     (record (shown (forgotten old.card)) { block_length = 512 }) old heard new
     → ((error_bits kind (status false old.card) ≡ 0) ↔ HasNoError kind old.card)
-    → (IsOk r → (told : ℕ) × (heard ≡ Ok told) × (error_bits kind told ≡ 0))
+    → (IsOk r → (told : ℕ) × (heard ≡ Ok told) × (error_bits kind (own_status told) ≡ 0))
     → ((told : ℕ) → heard ≡ Ok told → error_bits kind told ≡ 0 → IsOk r)
     → Moved (λ old new. (rca : ℕ) → IsLeft rca old.card → old.lines ≡ first_lines → IsOk r
     → IsSet false (first_setting rca) new)

@@ -23,7 +23,7 @@ use Rattle.mmc_bus.specs.declared.status.Closing.TheVariants.{AtWork, Clean}
 use Rattle.mmc_bus.specs.declared.wait.TheConstants.{MAX_POLLS}
 use Rattle.mmc_bus.proofs.WorkLemmas.{done_by}
 use Rattle.mmc_switch.proofs.TurnLemmas.{no_more, turn_fails, turn_goes_on}
-use Rattle.mmc_switch.proofs.UnderWayLemmas.{knows_then, no_error, part_in, quiet_by, ready_again, set_in}
+use Rattle.mmc_switch.proofs.UnderWayLemmas.{knows_then, part_in, quiet_by, ready_again, set_in}
 use Rattle.mmc_switch.proofs.UnderWayLemmas.{stands_then}
 use Rattle.mmc_switch.specs.Ending.{Confirms, EndingDid, FailsAt, IsEnding, LagsAfter, Polls, ShownIn}
 use Rattle.mmc_switch.specs.Place.{IsReady}
@@ -231,7 +231,7 @@ module _ (session : Session) (change : Change) (Exact : Ending → Card → Type
         let is_rca : a.card.rca ≡ session.info.rca =
         ap (λ (s : Setting). s.rca) (set_in session a some at.stands selected) in
         let order : IsInOrder session.info.kind a.card = record {
-          no_error = no_error session.info.kind 0 a.card idle.quiet;
+          no_error = record { errors = idle.quiet.errors; switch_error = λ mmc. idle.quiet.switch_error };
           tran = idle.quiet.state;
           rests = idle.rests;
         } in

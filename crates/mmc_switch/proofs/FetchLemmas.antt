@@ -4,7 +4,7 @@ use Rattle.std.proofs.lemmas.Bool.{eq-eqb}
 use Rattle.std.proofs.lemmas.List.{length-set}
 use Rattle.std.proofs.lemmas.Result.{IfOk-from_err}
 use Rattle.std.specs.Prelude.{Err, IfOk, IsErr, IsOk, None, Ok, Result, Some}
-use Rattle.mmc_frame.specs.Status.{error_bits}
+use Rattle.mmc_frame.specs.Status.{error_bits, own_status}
 use Rattle.mmc_frame.specs.declared.card_state.State.TheVariants.{Tran}
 use Rattle.mmc_frame.specs.declared.kind.Kind.{Kind}
 use Rattle.mmc_frame.specs.declared.kind.Kind.TheVariants.{Mmc}
@@ -45,9 +45,9 @@ pub commanded : {Asks IsThere : Type 0} (kind : Kind) (app : Bool) (bytes : List
     (index argument : ℕ) (heard : Result ℕ Unheard) (b : BusView) (r : Result Unit Cause)
     → Asked (response_heard index) (response_of index) a index argument heard b → b.is_kept ≡ true
     → erased_by a.card (Some (index, argument)) ≡ None → ErrorsLaw
-    → (IsOk r → (told : ℕ) × (heard ≡ Ok told) × (error_bits kind told ≡ 0))
+    → (IsOk r → (told : ℕ) × (heard ≡ Ok told) × (error_bits kind (own_status told) ≡ 0))
     → ((told : ℕ) → heard ≡ Ok told → error_bits kind told ≡ 0 → IsOk r)
-    → (Asks → Does IsThere (status app (without_addresses a.card)) (sending bytes timing (forgotten a.card)) a heard b)
+    → (Asks → Does IsThere (λ card. status app (without_addresses card)) (sending bytes timing (forgotten a.card)) a heard b)
     → Commands Asks IsThere bytes timing r a b
 commanded kind app bytes timing a index argument heard b r asked kept none errors judged judges law =
     let k = asked.exchanged.kept kept in
@@ -55,7 +55,7 @@ commanded kind app bytes timing a index argument heard b r asked kept none error
     moved_by a index argument heard b none k
     (λ asks ok. (
       asked.exchanged.lines,
-      (carried_out kind (status app (without_addresses a.card)) after a heard b r judged (law asks) ok).1,
+      (carried_out kind (λ card. status app (without_addresses card)) after a heard b r judged (law asks) ok).1,
     ))
     (λ same is_app asks there rest.
     answers_well kind app is_app after a heard b r errors k.was_card judges (law asks) same rest there)

@@ -1,7 +1,7 @@
 -- A card at rest: what a command finds of it, and what it leaves of it.
 use Rattle.std.proofs.Common.{◌∙◌, ◌≡◌, ◌↔◌, Bool, ap, false, refl, subst, sym, true, ℕ}
 use Rattle.std.specs.Prelude.{IsOk, Ok, Result}
-use Rattle.mmc_frame.specs.Status.{error_bits}
+use Rattle.mmc_frame.specs.Status.{error_bits, own_status}
 use Rattle.mmc_frame.specs.declared.card_state.State.{State}
 use Rattle.mmc_frame.specs.declared.card_state.State.TheVariants.{Tran}
 use Rattle.mmc_frame.specs.declared.kind.Kind.{Kind}
@@ -32,9 +32,9 @@ no_error kind is_app card rest =
     record { command_errors = rest.command_errors; errors = rest.errors; switch_error = λ mmc. rest.switch_error }
 
 -- an R1 without an error comes from where the command is carried out
-pub carried_out : {IsThere : Type 0} (kind : Kind) (told : ℕ) (after : Card) (old : BusView) (heard : Result ℕ Unheard)
-    (new : BusView) (r : Result Unit Cause)
-    → (IsOk r → (status : ℕ) × (heard ≡ Ok status) × (error_bits kind status ≡ 0))
+pub carried_out : {IsThere : Type 0} (kind : Kind) (told : Card → ℕ) (after : Card) (old : BusView)
+    (heard : Result ℕ Unheard) (new : BusView) (r : Result Unit Cause)
+    → (IsOk r → (status : ℕ) × (heard ≡ Ok status) × (error_bits kind (own_status status) ≡ 0))
     → Does IsThere told after old heard new → IsOk r → IsThere × (new.card ≡ after)
 carried_out kind told after old heard new r judged does ok =
     let t = judged ok in
@@ -51,7 +51,7 @@ ErrorsLaw =
 pub answers_well : {IsThere : Type 0} (kind : Kind) (app is_app : Bool) (after : Card) (old : BusView)
     (heard : Result ℕ Unheard) (new : BusView) (r : Result Unit Cause) → ErrorsLaw → IsCard old.card
     → ((status : ℕ) → heard ≡ Ok status → error_bits kind status ≡ 0 → IsOk r)
-    → Does IsThere (status app (without_addresses old.card)) after old heard new → NoFault old new
+    → Does IsThere (λ card. status app (without_addresses card)) after old heard new → NoFault old new
     → IsAtRest is_app old.card → IsThere → IsOk r
 answers_well kind app is_app after old heard new r errors card judges does same rest there =
     let none = (errors kind app old.card card).1 (no_error kind is_app old.card rest) in

@@ -412,7 +412,11 @@ confirmed_fine : (rca : ℕ) (width : Width) (timing : Timing) (r : Result Unit 
 confirmed_fine rca width timing r a b p same set =
     let rest = set.rest in
     p.fine same
-    (record { no_error = no_error Sd false a.card rest; tran = rest.state; rests = rest.rests }) rest.app
+    (record {
+      no_error = record { errors = rest.errors; switch_error = λ mmc. rest.switch_error };
+      tran = rest.state;
+      rests = rest.rests;
+    }) rest.app
     (ap (λ (s : Setting). s.rca) set.is_set) rest.up_to_date
 
 pub confirm_fails : (rca : ℕ) (switches : Bool) (scr : ℕ) (width : Width) (timing : Timing) (cause : Cause)

@@ -4,7 +4,7 @@ use Rattle.std.proofs.lemmas.Result.{IfOk-from_err}
 use Rattle.std.specs.Prelude.{◌&&◌, ◌*◌, ◌+◌, ◌==◌, Err, IfOk, IfSome, IsErr, IsOk, None, Ok, Option, Result, Some}
 use Rattle.std.specs.Prelude.{if◌then◌else◌, length}
 use Rattle.mmc_frame.specs.Field.{field}
-use Rattle.mmc_frame.specs.Status.{error_bits}
+use Rattle.mmc_frame.specs.Status.{error_bits, own_status}
 use Rattle.mmc_frame.specs.declared.card_state.State.TheVariants.{Prg}
 use Rattle.mmc_frame.specs.declared.kind.Kind.TheVariants.{Mmc}
 use Rattle.mmc_ext_csd.specs.ExtCsd.{high_speed_at_52_mhz, partition_config}
@@ -53,7 +53,7 @@ pub requested : (argument : ℕ) (heard : Result ℕ Unheard) (r : Result Unit C
     → ((after : Card) → old.card.made.kind ≡ Mmc → switched (without_addresses old.card) argument ≡ Some after
     → Written after old heard new)
     → ((error_bits Mmc (status false old.card) ≡ 0) ↔ HasNoError Mmc old.card)
-    → (IsOk r → (told : ℕ) × (heard ≡ Ok told) × (error_bits Mmc told ≡ 0))
+    → (IsOk r → (told : ℕ) × (heard ≡ Ok told) × (error_bits Mmc (own_status told) ≡ 0))
     → ((told : ℕ) → heard ≡ Ok told → error_bits Mmc told ≡ 0 → IsOk r) → Requests argument r old new
 requested argument heard r old new none lines k law clean ok all =
     done_by old new k k.step.stays (record { lines = lines; stands = k.step.switches }) (rw none at k.step.narrows)
@@ -155,7 +155,7 @@ rest_again old after new rest erase e =
 
 ordered : (after : Card) → IsInOrder Mmc (rested (programs_switch after))
 ordered after = record {
-  no_error = record { command_errors = refl; errors = refl; switch_error = λ mmc. refl };
+  no_error = record { errors = refl; switch_error = λ mmc. refl };
   tran = refl;
   rests = refl;
 }

@@ -21,7 +21,7 @@ use crate::fault::SwitchFault;
 use crate::registers::mmc_info;
 use crate::session::Session;
 use mmc_bus::{
-    Bus, Cause, Timing, Width, ask, card_laws, check_r1, receive, switch_laws, wait_and_confirm,
+    Bus, Cause, Timing, Width, ask, card_laws, check_own, receive, switch_laws, wait_and_confirm,
 };
 use mmc_card::laws;
 use mmc_ext_csd::ExtCsd;
@@ -58,7 +58,7 @@ fn send_ext_csd<B: Bus>(bus: &mut B) -> Result<[u8; 512], Cause>
     switch_laws::cmd8_sends_the_ext_csd();
     card_laws::a_status_tells_of_its_card();
     laws::no_command_but_erase_widens();
-    check_r1(Kind::Mmc, ask(bus, SEND_IF_COND, 0))?;
+    check_own(Kind::Mmc, ask(bus, SEND_IF_COND, 0))?;
     let mut block = [0; 512];
     receive(bus, &mut block)?;
     Ok(block)
@@ -90,7 +90,7 @@ fn request<B: Bus>(bus: &mut B, argument: u32) -> Result<(), Cause>
     switch_laws::cmd6_switches_an_emmc_device();
     card_laws::a_status_tells_of_its_card();
     laws::no_command_but_erase_widens();
-    check_r1(Kind::Mmc, ask(bus, SWITCH_FUNC, argument))
+    check_own(Kind::Mmc, ask(bus, SWITCH_FUNC, argument))
 }
 
 /// Switches a byte of the EXT_CSD: CMD6, polls until the device isn't busy, and a clean status, which alone tells that the

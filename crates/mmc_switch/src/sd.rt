@@ -19,7 +19,7 @@ use crate::fault::SwitchFault;
 use crate::registers::sd_info;
 use crate::session::Session;
 use mmc_bus::{
-    Bus, Cause, Timing, Width, ask, card_laws, check_r1, confirm, identify_laws, rca_argument,
+    Bus, Cause, Timing, Width, ask, card_laws, check_own, confirm, identify_laws, rca_argument,
     receive, switch_laws, transfer_laws,
 };
 use mmc_card::laws;
@@ -56,7 +56,7 @@ fn announce<B: Bus>(bus: &mut B, rca: u16) -> Result<(), Cause>
     identify_laws::cmd55_announces_an_application_command();
     card_laws::a_status_tells_of_its_card();
     laws::no_command_but_erase_widens();
-    check_r1(Kind::Sd, ask(bus, APP_CMD, rca_argument(rca)))
+    check_own(Kind::Sd, ask(bus, APP_CMD, rca_argument(rca)))
 }
 
 // ACMD51 and its block: the SCR.
@@ -71,7 +71,7 @@ fn send_scr<B: Bus>(bus: &mut B) -> Result<Scr, Cause>
     transfer_laws::acmd51_sends_the_scr();
     card_laws::a_status_tells_of_its_card();
     laws::no_command_but_erase_widens();
-    check_r1(Kind::Sd, ask(bus, SEND_SCR, 0))?;
+    check_own(Kind::Sd, ask(bus, SEND_SCR, 0))?;
     let mut block = [0; 8];
     receive(bus, &mut block)?;
     Ok(Scr::new(&block))
@@ -102,7 +102,7 @@ fn set_bus_width<B: Bus>(bus: &mut B) -> Result<(), Cause>
     switch_laws::acmd6_sets_the_width();
     card_laws::a_status_tells_of_its_card();
     laws::no_command_but_erase_widens();
-    check_r1(Kind::Sd, ask(bus, SET_BUS_WIDTH, FOUR_LINES))
+    check_own(Kind::Sd, ask(bus, SET_BUS_WIDTH, FOUR_LINES))
 }
 
 // Four lines, of the card and then of the host.
@@ -151,7 +151,7 @@ fn switch_func<B: Bus>(bus: &mut B, argument: u32) -> Result<SwitchStatus, Cause
     switch_laws::cmd6_sends_the_switch_status();
     card_laws::a_status_tells_of_its_card();
     laws::no_command_but_erase_widens();
-    check_r1(Kind::Sd, ask(bus, SWITCH_FUNC, argument))?;
+    check_own(Kind::Sd, ask(bus, SWITCH_FUNC, argument))?;
     let mut block = [0; 64];
     receive(bus, &mut block)?;
     Ok(SwitchStatus::new(&block))

@@ -19,7 +19,7 @@ ghost use Rattle.mmc_switch.specs.declared.mmc.TheConstants.{EXCHANGES_OF_A_SWIT
 use crate::fault::SwitchFault;
 use crate::session::Session;
 use crate::{mmc, sd};
-use mmc_bus::{Bus, Cause, ask, card_laws, check_r1, transfer_laws};
+use mmc_bus::{Bus, Cause, ask, card_laws, check_own, transfer_laws};
 use mmc_card::laws;
 use mmc_frame::commands::SET_BLOCKLEN;
 use mmc_frame::{Addressing, Kind};
@@ -37,7 +37,7 @@ fn set_block_length<B: Bus>(bus: &mut B, kind: Kind) -> Result<(), Cause>
     transfer_laws::cmd16_sets_the_block_length();
     card_laws::a_status_tells_of_its_card();
     laws::no_command_but_erase_widens();
-    check_r1(kind, ask(bus, SET_BLOCKLEN, 512))
+    check_own(kind, ask(bus, SET_BLOCKLEN, 512))
 }
 
 // From blocks of 512 bytes on.

@@ -1,5 +1,6 @@
 use Rattle.std.proofs.Common.{◌≡◌, Bool, cond, false, inl, inr, not, refl, true, ℕ}
 use Rattle.std.specs.Prelude.{◌&&◌, Ok, if◌then◌else◌}
+use Rattle.mmc_bus.proofs.Readers.{with_errors}
 use Rattle.mmc_bus.proofs.CommandLemmas.{does_one, named, not_true, owns}
 use Rattle.mmc_card.proofs.Narrow.{both}
 use Rattle.mmc_bus.proofs.identify_laws.cmd13_tells_the_status.Goals as goal
@@ -24,16 +25,16 @@ tells_by false old x y m n lags itself = inl itself
 pub returns : goal.returns
 returns c = λ old new argument heard facts.
     let card = old.card in
-    does_one (response_of 13) _ (TellsStatus card)
-    (λ choice. if may_lag card && choice.is_behind then status false (at_work choice card) else status false card)
-    (λ choice. (send_status choice card).0) (λ choice. (send_status choice card).1) SendStatus old 13 argument
+    does_one (response_of 13) _ TellsStatus
+    (λ choice card. if may_lag card && choice.is_behind then status false (at_work choice card) else status false card)
+    (λ choice card. (send_status choice card).0) (λ choice card. (send_status choice card).1) SendStatus old 13 argument
     heard new facts refl
     (λ own legal. let h = both (is_identified card.state) (not card.app) legal in
     (h.0, not_true card.app h.1, named argument card own))
     (λ there. (owns argument card there.2, rw (there.0, there.1) refl))
-    (λ choice there. refl)
-    (λ choice. told_by (may_lag card && choice.is_behind) _ _ _ _)
-    (λ choice there. tells_by (may_lag card && choice.is_behind) card _ _ _ _
+    (λ errors choice there. refl)
+    (λ errors choice. told_by (may_lag card && choice.is_behind) _ _ _ _)
+    (λ errors choice there. tells_by (may_lag card && choice.is_behind) (with_errors errors card) _ _ _ _
     (λ lags. record {
       may = (both (may_lag card) choice.is_behind lags).0;
       choice = choice;

@@ -1,5 +1,6 @@
 use Rattle.std.proofs.Common.{ap, false, refl}
 use Rattle.mmc_frame.specs.declared.card_state.State.TheVariants.{Ident}
+use Rattle.mmc_bus.proofs.Readers.{with_errors}
 use Rattle.mmc_bus.proofs.CommandLemmas.{does_in, low_reached}
 use Rattle.mmc_bus.proofs.identify_laws.cmd3_gives_the_rca.Goals as goal
 use Rattle.mmc_card.specs.CardAnswer.{Checked, status}
@@ -10,7 +11,7 @@ use Rattle.mmc_card.specs.Rows.{row}
 
 pub returns : goal.returns
 returns c = λ old new argument heard facts k kind.
-    does_in (response_of 3) Ident (status false old.card) _
-    (Checked 3 (status false old.card)) SetRelativeAddr old 3 argument heard new facts (rw kind refl)
-    refl (rw kind refl) (λ choice there. ap (λ (c : Card). row choice SetRelativeAddr c 3 argument)
-    (low_reached SetRelativeAddr old.card Ident k there refl)) refl
+    does_in (response_of 3) Ident (status false) _
+    (λ card. Checked 3 (status false card)) SetRelativeAddr old 3 argument heard new facts (rw kind refl)
+    refl (rw kind refl) (λ errors choice there. ap (λ (c : Card). row choice SetRelativeAddr c 3 argument)
+    (low_reached SetRelativeAddr (with_errors errors old.card) Ident k.held there refl)) (λ errors. refl)

@@ -1,5 +1,6 @@
 use Rattle.std.proofs.Common.{ap, refl, true}
 use Rattle.mmc_frame.specs.declared.card_state.State.TheVariants.{Idle}
+use Rattle.mmc_bus.proofs.Readers.{with_errors}
 use Rattle.mmc_bus.proofs.CommandLemmas.{does, dropped, either_in, in_either, named, owns, told_by_kind, unheard}
 use Rattle.mmc_card.proofs.Narrow.{both}
 use Rattle.mmc_bus.proofs.identify_laws.cmd55_announces_an_application_command.Goals as goal
@@ -13,8 +14,8 @@ use Rattle.mmc_card.specs.declared.command.Command.TheVariants.{AppCmd}
 pub returns : goal.returns
 returns c = record {
   idle = λ old new argument heard facts k.
-      does (response_of 55) _ (status true (without_addresses old.card)) _
-      (Checked 55 (status true (without_addresses old.card))) AppCmd old 55 argument heard new facts refl
+      does (response_of 55) _ (λ card. status true (without_addresses card)) _
+      (λ card. Checked 55 (status true (without_addresses card))) AppCmd old 55 argument heard new facts refl
       (λ own legal. let h = both (is_sd old.card.made.kind) _ legal in (
         told_by_kind old.card.made.kind h.0,
         in_either old.card.state Idle (is_identified old.card.state) h.1,
@@ -24,10 +25,10 @@ returns c = record {
         owns argument old.card there.2,
         rw (there.0, either_in old.card.state Idle (is_identified old.card.state) there.1) refl,
       ))
-      (λ choice there. ap (λ (d : Card). (
+      (λ errors choice there. ap (λ (d : Card). (
         record d { app = true },
-        Checked 55 (status true (without_addresses old.card)),
-      )) (dropped shown old.card refl)) refl;
+        Checked 55 (status true (without_addresses (with_errors errors old.card))),
+      )) (dropped shown (with_errors errors old.card) refl)) (λ errors. refl);
   mmc = λ old new argument heard facts k kind mine.
       unheard (response_of 55) AppCmd old 55 argument heard new facts refl (owns argument old.card mine)
       (rw kind refl) refl;

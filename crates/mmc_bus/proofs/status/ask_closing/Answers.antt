@@ -15,7 +15,7 @@ returns-clause-works g c kept =
     let names = c.rca_argument.ensures.names in
     command_worked c.ask.ensures.asked refl refl kept
     (told_closing c.args.kind card (g.B.Bus.view c.ask.new.bus).card c.ask.result c.check_closing.result k.was_card
-    tells.errors tells.clean tells.lagging tells.lags_unclean (λ told h. (law.sound told h).1)
+    tells.own tells.clean tells.lagging tells.lags_unclean (λ told h. (law.sound told h).1)
     c.check_closing.ensures.clean c.check_closing.ensures.at_work)
     (λ same order app rca.
     let told = law.fine same (ap is_identified order.tran, app, names ∙ sym rca) in

@@ -1,5 +1,6 @@
 use Rattle.std.proofs.Common.{ap, refl, true}
 use Rattle.mmc_frame.specs.declared.card_state.State.TheVariants.{Tran}
+use Rattle.mmc_bus.proofs.Readers.{with_errors}
 use Rattle.mmc_bus.proofs.CommandLemmas.{does_in, dropped}
 use Rattle.mmc_bus.proofs.switch_laws.acmd6_sets_the_width.Goals as goal
 use Rattle.mmc_card.specs.CardAnswer.{Checked, shown, status}
@@ -12,8 +13,8 @@ use Rattle.mmc_card.specs.declared.command.Command.TheVariants.{SetBusWidth}
 
 pub returns : goal.returns
 returns c = λ old new argument heard facts kind app.
-    does_in (response_of 6) Tran (status true (without_addresses old.card)) _
-    (Checked 6 (status true (without_addresses old.card))) SetBusWidth old 6 argument heard new facts
+    does_in (response_of 6) Tran (λ card. status true (without_addresses card)) _
+    (λ card. Checked 6 (status true (without_addresses card))) SetBusWidth old 6 argument heard new facts
     (rw (kind, app) refl)
-    refl refl (λ choice there. ap (λ (d : Card). (d, Checked 6 (status true (without_addresses old.card))))
-    (dropped (λ d. record (shown d) { width = width_by (field 1 0 argument) d.width }) old.card refl)) refl
+    refl refl (λ errors choice there. ap (λ (d : Card). (d, Checked 6 (status true (without_addresses (with_errors errors old.card)))))
+    (dropped (λ d. record (shown d) { width = width_by (field 1 0 argument) d.width }) (with_errors errors old.card) refl)) (λ errors. refl)

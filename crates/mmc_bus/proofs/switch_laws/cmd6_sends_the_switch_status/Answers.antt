@@ -1,11 +1,12 @@
 use Rattle.std.proofs.Common.{◌∙◌, ◌≡◌, ap, false, refl, sym, ℕ}
 use Rattle.mmc_frame.specs.declared.card_state.State.TheVariants.{Tran}
+use Rattle.mmc_bus.proofs.Readers.{with_errors}
 use Rattle.mmc_bus.proofs.CommandLemmas.{comes, does_known_chosen, dropped, switch_bytes}
 use Rattle.mmc_bus.proofs.switch_laws.cmd6_sends_the_switch_status.Goals as goal
 use Rattle.mmc_bus.specs.CommandLaws.{bytes_sent}
 use Rattle.mmc_bus.specs.Heard.{response_of}
 use Rattle.mmc_card.specs.Card.{Card, Source}
-use Rattle.mmc_card.specs.CardAnswer.{CardAnswer, Checked, Choice, status}
+use Rattle.mmc_card.specs.CardAnswer.{CardAnswer, Checked, Choice, status, left_with}
 use Rattle.mmc_card.specs.Laws.{timing_once_sent}
 use Rattle.mmc_card.specs.Made.{has_switch_function}
 use Rattle.mmc_card.specs.Rows.{row, without_addresses}
@@ -30,17 +31,20 @@ returns c = record {
   does = λ old new argument heard facts kind app.
       does_known_chosen {N = Source} (response_of 6) Tran (has_switch_function old.card.made)
       (λ choice. switch_source choice old.card argument) (λ (card : Card). card.source)
-      (status false (without_addresses old.card))
+      (λ card. status false (without_addresses card))
       (λ source. sending (bytes_sent source) (timing_once_sent source old.card.timing) (forgotten old.card))
-      (Checked 6 (status false (without_addresses old.card))) SwitchFunc old 6 argument heard new facts
+      (λ card. Checked 6 (status false (without_addresses card))) SwitchFunc old 6 argument heard new facts
       (rw (kind, app) refl) refl refl
-      (λ choice. sends choice old.card argument
-      ∙ ap (λ (s : Source). (sending_from s (forgotten old.card), Checked 6 (status false (without_addresses old.card))))
+      (λ errors choice. sends choice (with_errors errors old.card) argument
+      ∙ ap (λ (s : Source). (
+        sending_from s (forgotten old.card),
+        Checked 6 (status false (without_addresses (with_errors errors old.card))),
+      ))
       (sym (switch_bytes old.card.timing old.card argument _ (choice, refl))))
-      refl (λ choice. switch_bytes old.card.timing old.card argument _ (choice, refl));
+      (λ errors. refl) (λ choice. switch_bytes old.card.timing old.card argument _ (choice, refl));
   sends = λ old new argument told heard facts kind app h.
       let o = facts.sound told h in
-      let d = comes o.choice SwitchFunc old.card 6 argument _ (rw (kind, app) refl)
-      (sends o.choice old.card argument) in
+      let d = comes o.choice SwitchFunc (left_with o.left old.card) 6 argument _ (rw (kind, app) refl)
+      (sends o.choice (left_with o.left old.card) argument) in
       (o.choice, ap (λ (card : Card). card.source) (o.card ∙ ap (λ (x : Card × CardAnswer). x.0) d));
 }

@@ -1,5 +1,6 @@
 use Rattle.std.proofs.Common.{ap, false, refl}
 use Rattle.mmc_frame.specs.declared.card_state.State.TheVariants.{Tran}
+use Rattle.mmc_bus.proofs.Readers.{with_errors}
 use Rattle.mmc_bus.proofs.CommandLemmas.{does_in, dropped}
 use Rattle.mmc_bus.proofs.transfer_laws.cmd16_sets_the_block_length.Goals as goal
 use Rattle.mmc_card.specs.CardAnswer.{Checked, shown, status}
@@ -10,8 +11,8 @@ use Rattle.mmc_card.specs.declared.command.Command.TheVariants.{SetBlocklen}
 
 pub returns : goal.returns
 returns c = λ old new heard facts.
-    does_in (response_of 16) Tran (status false (without_addresses old.card)) _
-    (Checked 16 (status false (without_addresses old.card))) SetBlocklen old 16 512 heard new facts refl
-    refl refl (λ choice there. ap (λ (d : Card).
-    (record d { block_length = 512 }, Checked 16 (status false (without_addresses old.card))))
-    (dropped shown old.card refl)) refl
+    does_in (response_of 16) Tran (λ card. status false (without_addresses card)) _
+    (λ card. Checked 16 (status false (without_addresses card))) SetBlocklen old 16 512 heard new facts refl
+    refl refl (λ errors choice there. ap (λ (d : Card).
+    (record d { block_length = 512 }, Checked 16 (status false (without_addresses (with_errors errors old.card)))))
+    (dropped shown (with_errors errors old.card) refl)) (λ errors. refl)

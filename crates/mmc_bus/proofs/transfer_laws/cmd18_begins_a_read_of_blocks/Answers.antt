@@ -1,5 +1,6 @@
 use Rattle.std.proofs.Common.{false, refl}
 use Rattle.mmc_frame.specs.declared.card_state.State.TheVariants.{Data}
+use Rattle.mmc_bus.proofs.Readers.{with_errors}
 use Rattle.mmc_bus.proofs.CommandLemmas.{begins, transfers}
 use Rattle.mmc_bus.proofs.transfer_laws.cmd18_begins_a_read_of_blocks.Goals as goal
 use Rattle.mmc_card.specs.RowsTransfer.{begun, preset}
@@ -7,4 +8,4 @@ use Rattle.mmc_card.specs.RowsTransfer.{begun, preset}
 pub returns : goal.returns
 returns c = λ old new address heard facts card.
     begins false 18 _ old address heard new facts card refl refl
-    (λ choice. transfers false 18 old.card address (λ d. begun Data false (preset d) d address) refl)
+    (λ errors choice. transfers false 18 (with_errors errors old.card) address (λ d. begun Data false (preset d) d address) refl)

@@ -1,5 +1,6 @@
 use Rattle.std.proofs.Common.{ap, false, refl}
 use Rattle.mmc_frame.specs.declared.card_state.State.TheVariants.{Tran}
+use Rattle.mmc_bus.proofs.Readers.{with_errors}
 use Rattle.mmc_bus.proofs.CommandLemmas.{does_known, dropped}
 use Rattle.mmc_bus.proofs.transfer_laws.cmd23_presets_the_count.Goals as goal
 use Rattle.mmc_card.specs.CardAnswer.{Checked, status}
@@ -12,7 +13,7 @@ use Rattle.mmc_card.specs.declared.command.Command.TheVariants.{SetBlockCount}
 
 pub returns : goal.returns
 returns c = λ old new argument heard facts.
-    does_known (response_of 23) Tran (has_cmd23 old.card.made) (status false (without_addresses old.card)) _
-    (Checked 23 (status false (without_addresses old.card))) SetBlockCount old 23 argument heard new facts refl
-    refl refl (λ choice there. ap (λ (d : Card). (d, Checked 23 (status false (without_addresses old.card))))
-    (dropped (λ d. preset_to d argument) old.card refl)) refl
+    does_known (response_of 23) Tran (has_cmd23 old.card.made) (λ card. status false (without_addresses card)) _
+    (λ card. Checked 23 (status false (without_addresses card))) SetBlockCount old 23 argument heard new facts refl
+    refl refl (λ errors choice there. ap (λ (d : Card). (d, Checked 23 (status false (without_addresses (with_errors errors old.card)))))
+    (dropped (λ d. preset_to d argument) (with_errors errors old.card) refl)) (λ errors. refl)

@@ -1,5 +1,6 @@
 use Rattle.std.proofs.Common.{false, refl, true}
 use Rattle.mmc_frame.specs.declared.card_state.State.TheVariants.{Rcv}
+use Rattle.mmc_bus.proofs.Readers.{with_errors}
 use Rattle.mmc_bus.proofs.CommandLemmas.{begins, transfers}
 use Rattle.mmc_bus.proofs.transfer_laws.cmd25_begins_a_write_of_blocks.Goals as goal
 use Rattle.mmc_card.specs.RowsTransfer.{begun, preset}
@@ -7,4 +8,4 @@ use Rattle.mmc_card.specs.RowsTransfer.{begun, preset}
 pub returns : goal.returns
 returns c = λ old new address heard facts card.
     begins true 25 _ old address heard new facts card refl refl
-    (λ choice. transfers true 25 old.card address (λ d. begun Rcv false (preset d) d address) refl)
+    (λ errors choice. transfers true 25 (with_errors errors old.card) address (λ d. begun Rcv false (preset d) d address) refl)

@@ -14,11 +14,11 @@ returns-clause-moves g c kept =
     let argument = c.rca_argument.result in
     let k = c.ask.ensures.asked.exchanged.kept kept in
     let law = c.cmd13_tells_the_status.ensures _ _ _ _ k.step in
-    let clean = c.a_status_tells_of_its_card.ensures.clean kind false old.card k.was_card in
-    let unclean = c.a_status_tells_of_its_card.ensures.lags_unclean in
+    let clean = c.a_status_tells_of_its_card.ensures.clean kind false in
+    let unclean = c.a_status_tells_of_its_card.ensures.lags_unclean kind in
     let none = c.no_command_but_erase_widens.ensures old.card 13 argument (omega arith) (λ e. cc) in
     let is_rca = c.rca_argument.ensures.names in
     moved_by old 13 argument heard new none k
-    (λ looks ok. confirmed_own rca kind old heard new clean (λ choice. unclean kind choice old.card) law looks (subst IsOk c.confirmed.ensures ok))
+    (λ looks ok. confirmed_own rca kind old heard new k.was_card clean unclean law looks (subst IsOk c.confirmed.ensures ok))
     (λ same profile polled. subst IsOk (sym c.confirmed.ensures)
-    (confirmed_fine rca argument kind old heard new is_rca profile clean law same polled))
+    (confirmed_fine rca argument kind old heard new is_rca profile (clean old.card k.was_card) law same polled))

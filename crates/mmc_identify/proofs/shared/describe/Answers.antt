@@ -16,6 +16,6 @@ returns-clause-moves g c kept =
     let is_rca = c.rca_argument.ensures.names in
     moved_by old 9 argument heard new none k
     (subst (λ r. IfOk r (λ csd. csd ≡ old.card.made.csd)) (sym c.told_register.ensures)
-    (register_own old.card.made.csd _ old heard new law))
+    (register_own (λ made. made.csd) _ old heard new law))
     (λ same named. let f = described_fine c.args.rca argument old heard new is_rca law same named in
     (c.told_register.ensures ∙ f.0, f.1))

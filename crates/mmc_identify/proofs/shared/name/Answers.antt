@@ -14,5 +14,5 @@ returns-clause-moves g c kept =
     let none = c.no_command_but_erase_widens.ensures old.card 2 0 (omega arith) (λ e. cc) in
     moved_by old 2 0 heard new none k
     (subst (λ r. IfOk r (λ cid. cid ≡ old.card.made.cid)) (sym c.told_register.ensures)
-    (register_own old.card.made.cid _ old heard new law))
+    (register_own (λ made. made.cid) _ old heard new law))
     (λ same ready. let f = named_fine old heard new law same ready in (c.told_register.ensures ∙ f.0, f.1))

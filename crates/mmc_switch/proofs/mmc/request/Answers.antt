@@ -13,7 +13,7 @@ returns-clause-done g c kept =
     let k = e.kept kept in
     let none = c.no_command_but_erase_widens.ensures old.card 6 argument (omega arith)
     (λ is. absurd (omega (arith, is))) in
-    requested argument heard c.check_r1.result old new none e.lines k
+    requested argument heard c.check_own.result old new none e.lines k
     (λ after. c.cmd6_switches_an_emmc_device.ensures old new argument heard after k.step)
-    (c.a_status_tells_of_its_card.ensures.errors Mmc false old.card k.was_card) c.check_r1.ensures.ok
-    c.check_r1.ensures.all
+    (c.a_status_tells_of_its_card.ensures.errors Mmc false old.card k.was_card) c.check_own.ensures.ok
+    c.check_own.ensures.all

@@ -5,16 +5,16 @@ use Rattle.mmc_card.specs.RowsSwitch.{ext_csd_now}
 use Rattle.mmc_switch.proofs.FetchLemmas.{block_fails, command_fails, commanded, ext_csd_length, ext_csd_sent, fetched}
 use Rattle.mmc_switch.proofs.mmc.send_ext_csd.Goals as goal
 
-pub returns-in_err-check_r1-clause-moves : goal.returns-in_err-check_r1-clause-moves
-returns-in_err-check_r1-clause-moves g c kept =
+pub returns-in_err-check_own-clause-moves : goal.returns-in_err-check_own-clause-moves
+returns-in_err-check_own-clause-moves g c kept =
     let a = g.B.Bus.view c.args.bus.now in
     let b = g.B.Bus.view c.ask.new.bus in
     let bytes = ext_csd_now a.card in
     let timing = a.card.timing in
     let asked = c.ask.ensures.asked in
     let r = c.from_residual.result in
-    let cause = c.in_err-check_r1.field-0.0 in
-    let judged = c.in_err-check_r1.ensures in
+    let cause = c.in_err-check_own.field-0.0 in
+    let judged = c.in_err-check_own.ensures in
     let k = asked.exchanged.kept kept in
     let none = c.no_command_but_erase_widens.ensures a.card 8 0 (omega arith) (λ e. absurd (omega (arith, e))) in
     let p = commanded {Asks = a.card.made.kind ≡ Mmc} Mmc false bytes timing a 8 0 c.ask.result b (Err cause) asked
@@ -34,7 +34,7 @@ returns-in_err-receive-clause-moves g c kept =
     let asked = c.ask.ensures.asked in
     let r = c.from_residual-in_err-receive.result in
     let cause = c.in_err-receive.field-0.0 in
-    let judged = c.in_ok-check_r1.ensures in
+    let judged = c.in_ok-check_own.ensures in
     let q = c.in_err-receive.ensures.works kept in
     let k = asked.exchanged.kept q.was_kept in
     let none = c.no_command_but_erase_widens.ensures a.card 8 0 (omega arith) (λ e. absurd (omega (arith, e))) in
@@ -53,7 +53,7 @@ returns-clause-moves g c kept =
     let bytes = ext_csd_now a.card in
     let timing = a.card.timing in
     let asked = c.ask.ensures.asked in
-    let judged = c.in_ok-check_r1.ensures in
+    let judged = c.in_ok-check_own.ensures in
     let q = c.in_ok-receive.ensures.works kept in
     let k = asked.exchanged.kept q.was_kept in
     let none = c.no_command_but_erase_widens.ensures a.card 8 0 (omega arith) (λ e. absurd (omega (arith, e))) in

@@ -12,7 +12,7 @@ returns-clause-moves g c kept =
     let old = g.B.Bus.view c.args.bus.now in
     let new = g.B.Bus.view c.ask.new.bus in
     let heard = c.ask.result in
-    let r = c.check_r1.result in
+    let r = c.check_own.result in
     let argument = c.rca_argument.result in
     let card = old.card in
     let e = c.ask.ensures.asked.exchanged in
@@ -22,10 +22,10 @@ returns-clause-moves g c kept =
     moved_by old 55 argument heard new none k
     (λ setting is set ok.
     set_as true false card.state card.source card.width card.timing card.block_length (lines_of setting) setting setting
-    old new set.rest.state e.lines (carried_out Sd _ _ old heard new r c.check_r1.ensures.ok law ok).1 set.is_set set)
+    old new set.rest.state e.lines (carried_out Sd _ _ old heard new r c.check_own.ensures.ok law ok).1 set.is_set set)
     (λ same setting is sd set.
     answers_well Sd true false _ old heard new r c.a_status_tells_of_its_card.ensures.errors k.was_card
-    c.check_r1.ensures.all law same set.rest (
+    c.check_own.ensures.all law same set.rest (
       sd,
       inr (ap is_identified set.rest.state),
       c.rca_argument.ensures.names ∙ sym (ap (λ (s : Setting). s.rca) set.is_set ∙ is),

@@ -12,7 +12,7 @@ returns-clause-moves g c kept =
     let old = g.B.Bus.view c.args.bus.now in
     let new = g.B.Bus.view c.ask.new.bus in
     let heard = c.ask.result in
-    let r = c.check_r1.result in
+    let r = c.check_own.result in
     let e = c.ask.ensures.asked.exchanged in
     let k = e.kept kept in
     let none = c.no_command_but_erase_widens.ensures old.card 6 2 (omega arith) (λ e. absurd (omega (arith, e))) in
@@ -22,8 +22,8 @@ returns-clause-moves g c kept =
     let law = c.acmd6_sets_the_width.ensures _ _ _ _ k.step sd set.rest.app in
     set_as false true old.card.state old.card.source Four old.card.timing old.card.block_length (lines_of setting)
     setting (four setting) old new set.rest.state e.lines
-    (carried_out Sd _ _ old heard new r c.check_r1.ensures.ok law ok).1 (ap four set.is_set) set)
+    (carried_out Sd _ _ old heard new r c.check_own.ensures.ok law ok).1 (ap four set.is_set) set)
     (λ same setting sd set.
     answers_well Sd true true _ old heard new r c.a_status_tells_of_its_card.ensures.errors k.was_card
-    c.check_r1.ensures.all (c.acmd6_sets_the_width.ensures _ _ _ _ k.step sd set.rest.app) same set.rest
+    c.check_own.ensures.all (c.acmd6_sets_the_width.ensures _ _ _ _ k.step sd set.rest.app) same set.rest
     set.rest.state)

@@ -9,8 +9,8 @@ use Rattle.mmc_switch.proofs.SdLemmas.{status_sent}
 use Rattle.mmc_switch.proofs.SwitchStatusLemmas.{sent_length}
 use Rattle.mmc_switch.proofs.sd.switch_func.Goals as goal
 
-pub returns-in_err-check_r1-clause-moves : goal.returns-in_err-check_r1-clause-moves
-returns-in_err-check_r1-clause-moves g c kept =
+pub returns-in_err-check_own-clause-moves : goal.returns-in_err-check_own-clause-moves
+returns-in_err-check_own-clause-moves g c kept =
     let a = g.B.Bus.view c.args.bus.now in
     let b = g.B.Bus.view c.ask.new.bus in
     let argument = c.args.argument in
@@ -18,8 +18,8 @@ returns-in_err-check_r1-clause-moves g c kept =
     let timing = timing_once_sent b.card.source a.card.timing in
     let asked = c.ask.ensures.asked in
     let r = c.from_residual.result in
-    let cause = c.in_err-check_r1.field-0.0 in
-    let judged = c.in_err-check_r1.ensures in
+    let cause = c.in_err-check_own.field-0.0 in
+    let judged = c.in_err-check_own.ensures in
     let k = asked.exchanged.kept kept in
     let none = c.no_command_but_erase_widens.ensures a.card 6 argument (omega arith) (λ e. absurd (omega (arith, e))) in
     let p = commanded {Asks = (a.card.made.kind ≡ Sd) × (a.card.app ≡ false)} Sd false bytes timing a 6 argument
@@ -40,7 +40,7 @@ returns-in_err-receive-clause-moves g c kept =
     let asked = c.ask.ensures.asked in
     let r = c.from_residual-in_err-receive.result in
     let cause = c.in_err-receive.field-0.0 in
-    let judged = c.in_ok-check_r1.ensures in
+    let judged = c.in_ok-check_own.ensures in
     let q = c.in_err-receive.ensures.works kept in
     let k = asked.exchanged.kept q.was_kept in
     let none = c.no_command_but_erase_widens.ensures a.card 6 argument (omega arith) (λ e. absurd (omega (arith, e))) in
@@ -63,7 +63,7 @@ returns-clause-moves g c kept =
     let bytes = bytes_sent b.card.source in
     let timing = timing_once_sent b.card.source a.card.timing in
     let asked = c.ask.ensures.asked in
-    let judged = c.in_ok-check_r1.ensures in
+    let judged = c.in_ok-check_own.ensures in
     let q = c.in_ok-receive.ensures.works kept in
     let k = asked.exchanged.kept q.was_kept in
     let none = c.no_command_but_erase_widens.ensures a.card 6 argument (omega arith) (λ e. absurd (omega (arith, e))) in

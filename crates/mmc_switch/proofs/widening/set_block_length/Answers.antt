@@ -12,7 +12,7 @@ returns-clause-moves g c kept =
     let k = e.kept kept in
     let none = c.no_command_but_erase_widens.ensures old.card 16 512 (omega arith)
     (λ is. absurd (omega (arith, is))) in
-    length_set kind heard c.check_r1.result old new none e.lines k
+    length_set kind heard c.check_own.result old new none e.lines k
     (c.cmd16_sets_the_block_length.ensures old new heard k.step)
-    (c.a_status_tells_of_its_card.ensures.errors kind false old.card k.was_card) c.check_r1.ensures.ok
-    c.check_r1.ensures.all
+    (c.a_status_tells_of_its_card.ensures.errors kind false old.card k.was_card) c.check_own.ensures.ok
+    c.check_own.ensures.all
