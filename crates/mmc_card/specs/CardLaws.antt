@@ -11,7 +11,7 @@ pub record HasNoError (kind : Kind) (card : Card) : Type 0 where
   pub errors : card.errors ≡ 0
   pub switch_error : kind ≡ Mmc → card.switch_error ≡ false
 
--- nor one but those of an earlier command
+-- no error bit is held but those of an earlier command
 pub record HasNoErrorOfItsOwn (kind : Kind) (card : Card) : Type 0 where
   pub errors : card.errors ≡ 0
   pub switch_error : kind ≡ Mmc → card.switch_error ≡ false

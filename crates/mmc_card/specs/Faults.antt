@@ -129,7 +129,7 @@ pub data CommandStep (old : BusView) (frame : List ℕ) (reply : Reply) (new : B
       → OneFault old new → new.card ≡ (answered choice old.card (command_in frame)).0
       → Spells (answered choice old.card (command_in frame)).1 reply
       → CommandStep old frame reply new
-  -- the card has something to show that it took for a command before this one
+  -- the card has an error to show of something on the line that it took for a command before this one
   -- (SD Physical Layer 6.00, section 4.10.1, clear condition B; JESD84-B51, section 6.13)
   leave_over : (choice : Choice) (bits : ℕ) → AreOfACommand bits → IsFaultless choice old.card → OneFault old new
       → new.card ≡ (answered choice (left_with bits old.card) (command_in frame)).0

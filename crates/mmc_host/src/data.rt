@@ -1,0 +1,74 @@
+// The data behind commands.
+ghost use Rattle.std.specs.Prelude.{◌≡◌};
+ghost use Rattle.mmc_host.specs.Table.{blocks_of, data_of};
+
+use mmc_card::Command;
+
+/// How many blocks come behind a command.
+#[derive(Clone, Copy, Debug, PartialEq, Eq)]
+pub enum Blocks {
+    /// So many.
+    Counted(u16),
+    /// As many as come until CMD12.
+    UntilStopped,
+}
+
+/// The data behind a command, over the data lines.
+#[derive(Clone, Copy, Debug, PartialEq, Eq)]
+pub enum Data {
+    /// None.
+    Nothing,
+    /// The card sends blocks of this many bytes.
+    Read {
+        /// The length of each block in bytes: 8, 64 or 512.
+        length: u16,
+        /// How many come.
+        blocks: Blocks,
+    },
+    /// The host sends blocks of 512 bytes.
+    Write {
+        /// How many it sends.
+        blocks: Blocks,
+    },
+}
+
+// How many blocks a transfer of several has, by the count that CMD23 has preset, if it has one.
+fn blocks_of(count: u16) -> Blocks
+    ensures { result ≡ blocks_of count }
+{
+    match count {
+        0 => Blocks::UntilStopped,
+        count => Blocks::Counted(count),
+    }
+}
+
+/// The data behind each command, with the count that CMD23 has preset for it, 0 where none is (SD Physical Layer 6.00, sections
+/// 4.3.3, 4.3.4, 4.3.10 and 4.7.4; JESD84-B51, sections 6.6.7, 6.6.8 and 6.10.4).
+pub fn data_of(command: Command, count: u16) -> Data
+    ensures { result ≡ data_of command count }
+{
+    let one = Blocks::Counted(1);
+    match command {
+        Command::SendScr => Data::Read {
+            length: 8,
+            blocks: one,
+        },
+        Command::SwitchFunc => Data::Read {
+            length: 64,
+            blocks: one,
+        },
+        Command::SendExtCsd | Command::ReadSingleBlock => Data::Read {
+            length: 512,
+            blocks: one,
+        },
+        Command::ReadMultipleBlock => Data::Read {
+            length: 512,
+            blocks: blocks_of(count),
+        },
+        Command::WriteBlock => Data::Write { blocks: one },
+        Command::WriteMultipleBlock => Data::Write {
+            blocks: blocks_of(count),
+        },
+        _ => Data::Nothing,
+    }
+}

@@ -1,0 +1,17 @@
+//! What a host controller is told of a command: its response, and the data behind it.
+//!
+//! A controller wants a command decoded, with the kind of its response, and direction, length and number of the blocks behind
+//! it. All of that follows from the frame, from CMD55 before it, and from the count that CMD23 has preset.
+#![tactic(auto)]
+
+mod data;
+pub mod laws;
+mod meaning;
+mod response;
+
+pub use data::{Blocks, Data, data_of};
+pub use meaning::meant;
+pub use response::{Response, response_of};
+
+#[cfg(test)]
+mod tests;
