@@ -48,6 +48,20 @@ Asks kind rca r =
     Worked Narrows (λ old new. Closes kind r old.card new.card)
     (λ old new. IsInOrder kind old.card → old.card.app ≡ false → old.card.rca ≡ rca → ClosesSoon r old.card new.card)
 
+-- errors of its own are those of `errors` and SWITCH_ERROR; order hangs on them, the state, and whether it is busy
+none_like : (kind : Kind) (card other : Card) → other.errors ≡ card.errors → other.switch_error ≡ card.switch_error
+    → HasNoErrorOfItsOwn kind card → HasNoErrorOfItsOwn kind other
+none_like kind card other errors switch none =
+    record { errors = errors ∙ none.errors; switch_error = λ mmc. switch ∙ none.switch_error mmc }
+
+order_like : (kind : Kind) (card other : Card) → other.errors ≡ card.errors → other.switch_error ≡ card.switch_error
+    → other.state ≡ card.state → other.is_busy ≡ card.is_busy → IsInOrder kind card → IsInOrder kind other
+order_like kind card other errors switch state busy order = record {
+  no_error = none_like kind card other errors switch order.no_error;
+  tran = state ∙ order.tran;
+  rests = busy ∙ order.rests;
+}
+
 -- a card that has only shown its status is in order where it was
 order_back : (kind : Kind) (old new : Card) → HasNoErrorOfItsOwn kind old → HasShown old new → IsInOrder kind new
     → IsInOrder kind old
@@ -216,26 +230,6 @@ Ended kind rca r =
     (λ old new. old.card.polled ≡ 0 → IsInOrder kind (rested old.card) → (rested old.card).app ≡ false
     → (rested old.card).rca ≡ rca → IsOk r)
 
-order_polled : (kind : Kind) (card : Card) (polls : ℕ) → IsInOrder kind (polled_as card polls) → IsInOrder kind card
-order_polled kind card polls order = record {
-  no_error = record {
-    errors = order.no_error.errors;
-    switch_error = order.no_error.switch_error;
-  };
-  tran = order.tran;
-  rests = order.rests;
-}
-
-polled_order : (kind : Kind) (card : Card) (polls : ℕ) → IsInOrder kind card → IsInOrder kind (polled_as card polls)
-polled_order kind card polls order = record {
-  no_error = record {
-    errors = order.no_error.errors;
-    switch_error = order.no_error.switch_error;
-  };
-  tran = order.tran;
-  rests = order.rests;
-}
-
 -- the polls fail
 pub wait_fails : (kind : Kind) (rca : ℕ) (cause : Cause) (r : Result Unit Cause) (a b : BusView)
     → IsErr r → Counts (Err cause) a b → Ended kind rca r a b
@@ -251,7 +245,7 @@ ended kind rca polls most r a b c is_most p q =
     let told = q.own confirmed in
     let was = p.own refl (ap is_selected told.0.tran) told.0.no_error.errors in
     let e = was.1 ∙ rested_polled a.card was.0 in (
-      order_polled kind (rested a.card) was.0 (subst (IsInOrder kind) e told.0),
+      order_like kind _ (rested a.card) refl refl refl refl (subst (IsInOrder kind) e told.0),
       told.1 ∙ ap (λ (card : Card). polled_as (shown card) c.card.polled) e,
     ))
     (λ same zero order app is.
@@ -260,7 +254,7 @@ ended kind rca polls most r a b c is_most p q =
     let e = was.1 ∙ rested_polled a.card polls in
     let few = was.0 in
     let count = ap (λ (card : Card). card.polled) e in
-    q.fine parts.1 (subst (IsInOrder kind) (sym e) (polled_order kind (rested a.card) polls order))
+    q.fine parts.1 (subst (IsInOrder kind) (sym e) (order_like kind (rested a.card) (polled_as (rested a.card) polls) refl refl refl refl order))
     (ap (λ (x : Card). x.app) e ∙ app) (ap (λ (x : Card). x.rca) e ∙ is) (omega (arith, few, count, is_most)))
 
 -- What one status tells, from the laws of statuses.
@@ -295,17 +289,21 @@ lagged old new may e =
 lagging_shown : (old new : Card) → new ≡ lagging old → HasShown old new
 lagging_shown old new e = subst (HasShown old) (sym e) refl
 
--- what is left over says nothing of the card itself
-none_of_its_own : (kind : Kind) (left : ℕ) (card : Card) → HasNoErrorOfItsOwn kind (left_with left card)
-    → HasNoErrorOfItsOwn kind card
-none_of_its_own kind left card none = record { errors = none.errors; switch_error = none.switch_error }
-
-in_order_of_its_own : (kind : Kind) (left : ℕ) (card : Card) → IsInOrder kind (left_with left card) → IsInOrder kind card
-in_order_of_its_own kind left card order = record {
-  no_error = none_of_its_own kind left card order.no_error;
-  tran = order.tran;
-  rests = order.rests;
-}
+-- a status that was heard, by the card that told it: as it is, or as it lags behind
+told_by : (old new : Card) (heard : Result ℕ Unheard) → IsCard old
+    → ((told : ℕ) → heard ≡ Ok told → LeftOver (λ card. TellsStatus card told new) old)
+    → (P : ℕ → Type 0) (X : Type 0) → (told : ℕ) × (heard ≡ Ok told) × P (own_status told)
+    → ((left : ℕ) → IsCard (left_with left old) → P (own_status (status false (left_with left old))) → new ≡ shown old → X)
+    → ((left : ℕ) (choice : Choice) → IsCard (left_with left old)
+    → P (own_status (status false (at_work choice (left_with left old)))) → may_lag old ≡ true → new ≡ lagging old → X)
+    → X
+told_by old new heard k tells P X judged itself lags =
+    let says = tells judged.0 judged.1 in
+    let met = card_left says.0 old says.1 k in
+    elim says.2 [
+      | inl is ↦ itself says.0 met (subst (λ told. P (own_status told)) is.0 judged.2) is.1
+      | inr is ↦ lags says.0 is.choice met (subst (λ told. P (own_status told)) is.told_is judged.2) is.may is.card
+    ]
 
 pub told_closing : (kind : Kind) (old new : Card) (heard : Result ℕ Unheard) (r : Result Closing Cause) → IsCard old
     → OwnLaw → CleanLaw → LagLaw → UncleanLaw
@@ -315,40 +313,20 @@ pub told_closing : (kind : Kind) (old new : Card) (heard : Result ℕ Unheard) (
     → Closes kind r old new
 told_closing kind old new heard r k own clean lag unclean tells is_clean is_work =
     closes_by kind r old new
-    (λ is.
-    let judged = is_clean is in
-    let says = tells judged.0 judged.1 in
-    let met = left_with says.0 old in
-    let is_met = card_left says.0 old says.1 k in
-    elim says.2 [
-      | inl itself ↦ (
-        in_order_of_its_own kind says.0 old
-            ((clean kind false met is_met).0 (subst (λ told. IsClean kind (own_status told)) itself.0 judged.2)),
-        itself.1,
-      )
-      | inr lags ↦ absurd (unclean kind lags.choice met is_met
-          (subst (λ told. IsClean kind (own_status told)) lags.told_is judged.2))
-    ])
-    (λ is.
-    let judged = is_work is in
-    let says = tells judged.0 judged.1 in
-    let met = left_with says.0 old in
-    let is_met = card_left says.0 old says.1 k in
-    elim says.2 [
-      | inl itself ↦ (
-        none_of_its_own kind says.0 old
-            ((own kind false met is_met).0
-            (subst (λ told. error_bits kind (own_status told) ≡ 0) itself.0 judged.2.no_error)),
-        as_shown old new itself.1,
-        λ still. cc (ap (λ (c : Card). c.lags) itself.1, still),
-      )
-      | inr lags ↦ (
-        none_of_its_own kind says.0 old
-            ((lag kind lags.choice met is_met).0 (subst (λ told. IsAtWork kind (own_status told)) lags.told_is judged.2)),
-        lagging_shown old new lags.card,
-        λ still. lagged old new lags.may lags.card,
-      )
-    ])
+    (λ is. told_by old new heard k tells (IsClean kind) _ (is_clean is)
+    (λ left met says e. (order_like kind (left_with left old) old refl refl refl refl ((clean kind false _ met).0 says), e))
+    (λ left choice met says may e. absurd (unclean kind choice _ met says)))
+    (λ is. told_by old new heard k tells (IsAtWork kind) _ (is_work is)
+    (λ left met says e. (
+      none_like kind (left_with left old) old refl refl ((own kind false _ met).0 says.no_error),
+      as_shown old new e,
+      λ still. cc (ap (λ (c : Card). c.lags) e, still),
+    ))
+    (λ left choice met says may e. (
+      none_like kind (left_with left old) old refl refl ((lag kind choice _ met).0 says),
+      lagging_shown old new e,
+      λ still. lagged old new may e,
+    )))
 
 pub told_soon : (kind : Kind) (old new : Card) (heard : Result ℕ Unheard) (r : Result Closing Cause) → IsCard old
     → CleanLaw → LagLaw → UncleanLaw → (told : ℕ) → heard ≡ Ok told → TellsStatus old told new → IsInOrder kind old

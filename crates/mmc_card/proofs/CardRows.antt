@@ -15,6 +15,7 @@ use Rattle.mmc_card.proofs.Cards.{card_refused, card_reset, card_rested, card_sh
 use Rattle.mmc_card.proofs.Cards.{like_done, like_same, like_shown, stays_card}
 use Rattle.mmc_card.proofs.Conditions.{along, by_cond, first_by_cond}
 use Rattle.mmc_card.proofs.Narrow.{AreSwitched, accepts_in_rcv, both, may_switch, sends_data}
+use Rattle.mmc_card.proofs.Responses.{after_answer, after_response}
 use Rattle.mmc_card.proofs.Steps.{after_command, after_write, after_poll, after_read}
 use Rattle.mmc_card.specs.CardAnswer.{Choice, raised}
 use Rattle.mmc_card.specs.Blocks.{accepted, end_errors, is_last, rejected, sent_from}
@@ -31,12 +32,12 @@ use Rattle.mmc_card.specs.declared.command.Command.TheVariants.{SendExtCsd, Send
 use Rattle.mmc_card.specs.declared.command.Command.TheVariants.{SendStatus, SetBlockCount, SetBlocklen, SetRelativeAddr}
 use Rattle.mmc_card.specs.declared.command.Command.TheVariants.{StopTransmission, Switch, SwitchFunc, Unknown}
 use Rattle.mmc_card.specs.declared.command.Command.TheVariants.{WriteBlock, WriteMultipleBlock}
-use Rattle.mmc_card.specs.Rows.{answered, command_of, is_foreign, is_legal, leaves_erase, reached, responded, row}
+use Rattle.mmc_card.specs.Rows.{answered, is_legal, leaves_erase, reached, responded, row}
 use Rattle.mmc_card.specs.RowsErase.{erase_held, erases, erasing, forgotten, hold_first, hold_last, holds_address}
 use Rattle.mmc_card.specs.RowsErase.{is_no_range, is_trim}
 use Rattle.mmc_card.specs.RowsIdentify.{inquired, is_served, may_lag}
-use Rattle.mmc_card.specs.RowsSwitch.{ext_csd_now, switch_row, switch_source, switched, timing_after}
-use Rattle.mmc_card.specs.RowsTransfer.{begun, preset, sending_from, transfer_errors, transferred, sending}
+use Rattle.mmc_card.specs.RowsSwitch.{ext_csd_now, switch_row, switch_source}
+use Rattle.mmc_card.specs.RowsTransfer.{begun, preset, sending_from, transfer_errors, transferred}
 use Rattle.mmc_card.specs.RowsTransfer.{stopped}
 use Rattle.mmc_card.specs.Sectors.{Sector}
 use Rattle.mmc_card.specs.BusView.{BusView}
@@ -210,17 +211,16 @@ legal_reached command c =
 pub card_responded : (choice : Choice) (command : Command) (c : Card) (index argument : ℕ) → IsBasic c
     → IsBasic (responded choice command c index argument).0
 card_responded choice command c index argument k =
-    first_by_cond IsBasic (is_foreign command c argument) _ _ (λ _. k)
-    (λ _. first_by_cond IsBasic (is_legal command c) _ _
-    (λ l. card_row choice command (reached command c) index argument (legal_reached command c ∙ l)
-    (card_reached command c k))
-    (λ _. card_refused (reached command c) (card_reached command c k)))
+    let now = card_reached command c k in
+    after_response IsBasic choice command c index argument k
+    (λ l. card_row choice command (reached command c) index argument (legal_reached command c ∙ l) now)
+    (card_refused (reached command c) now)
 
 pub card_answered : (choice : Choice) (c : Card) (sent : Option (ℕ × ℕ)) → IsBasic c
     → IsBasic (answered choice c sent).0
-card_answered choice c (Some command) k =
-    card_responded choice (command_of c.made.kind c.app command.0) c command.0 command.1 k
-card_answered choice c None k = card_garbled choice.keeps_count c k
+card_answered choice c sent k =
+    after_answer IsBasic choice c sent (λ command index argument. card_responded choice command c index argument k)
+    (card_garbled choice.keeps_count c k)
 
 -- Blocks.
 

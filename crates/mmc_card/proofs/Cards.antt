@@ -231,6 +231,17 @@ like_same c d k m b x y = record {
   errors = along (λ n. AreAmong n error_bits) y k.errors;
 }
 
+-- it has these errors of a command to show besides
+like_left : (bits : ℕ) (c d : Card) → AreAmong bits command_error_bits → IsBasic c → d.made ≡ c.made
+    → d.block_length ≡ c.block_length → d.command_errors ≡ bit_or c.command_errors bits → d.errors ≡ c.errors → IsLike c d
+like_left bits c d among k m b x y = record {
+  made = m;
+  block_length = inl b;
+  command_errors = along (λ n. AreAmong n command_error_bits) x
+      (among_more c.command_errors bits command_error_bits k.command_errors among);
+  errors = along (λ n. AreAmong n error_bits) y k.errors;
+}
+
 pub card_shown : (c : Card) → IsBasic c → IsBasic (shown c)
 card_shown c k =
     stays_card c (shown c) k (like_shown c _ refl refl refl refl) refl refl refl refl refl refl refl (λ h. h)
@@ -258,36 +269,15 @@ card_forgotten c k =
 
 pub card_refused : (c : Card) → IsBasic c → IsBasic (refused c)
 card_refused c k =
-    stays_card c (refused c) k
-    (record {
-      made = refl;
-      block_length = inl refl;
-      command_errors = among_more c.command_errors illegal_command command_error_bits k.command_errors refl;
-      errors = k.errors;
-    })
-    refl refl refl refl refl refl refl (λ h. h) (λ h. refl) (λ h. h)
+    stays_card c (refused c) k (like_left illegal_command c _ refl k refl refl refl refl) refl refl refl refl refl refl refl (λ h. h) (λ h. refl) (λ h. h)
 
 pub card_left : (bits : ℕ) (c : Card) → AreAmong bits command_error_bits → IsBasic c → IsBasic (left_with bits c)
 card_left bits c among k =
-    stays_card c (left_with bits c) k
-    (record {
-      made = refl;
-      block_length = inl refl;
-      command_errors = among_more c.command_errors bits command_error_bits k.command_errors among;
-      errors = k.errors;
-    })
-    refl refl refl refl refl refl refl (λ h. h) (λ h. h) (λ h. h)
+    stays_card c (left_with bits c) k (like_left bits c _ among k refl refl refl refl) refl refl refl refl refl refl refl (λ h. h) (λ h. h) (λ h. h)
 
 pub card_garbled : (keeps : Bool) (c : Card) → IsBasic c → IsBasic (garbled keeps c)
 card_garbled keeps c k =
-    stays_card c (garbled keeps c) k
-    (record {
-      made = refl;
-      block_length = inl refl;
-      command_errors = among_more c.command_errors com_crc_error command_error_bits k.command_errors refl;
-      errors = k.errors;
-    })
-    refl refl refl refl refl refl refl (λ h. h)
+    stays_card c (garbled keeps c) k (like_left com_crc_error c _ refl k refl refl refl refl) refl refl refl refl refl refl refl (λ h. h)
     (λ h. by_cond (λ n. n ≡ 0) keeps (λ _. h) (λ _. refl)) (λ h. h)
 
 -- error bits are raised

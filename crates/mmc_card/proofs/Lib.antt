@@ -10,6 +10,7 @@ pub mod Narrow
 pub mod NarrowSteps
 pub mod Ordered
 pub mod ProfileLemmas
+pub mod Responses
 pub mod SectorLemmas
 pub mod Sending
 pub mod SetLemmas

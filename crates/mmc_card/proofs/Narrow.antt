@@ -10,6 +10,7 @@ use Rattle.mmc_ext_csd.specs.ExtCsd.{high_speed_at_52_mhz, partition_config}
 use Rattle.mmc_card.specs.declared.exchange.Lines.{Lines}
 use Rattle.mmc_card.specs.declared.part.Part.{Part}
 use Rattle.mmc_card.proofs.Conditions.{by_cond, first_by_cond}
+use Rattle.mmc_card.proofs.Responses.{after_response}
 use Rattle.mmc_card.proofs.Landing.{at_snoc, landed_size, landed_within, snoc_length}
 use Rattle.mmc_card.proofs.SectorLemmas.{by_touch, cond_in_new, cond_in_old, in_cond, maybe_within, old_maybe}
 use Rattle.mmc_card.proofs.SectorLemmas.{same_part, touched_by, untouched, within_same}
@@ -27,7 +28,7 @@ use Rattle.mmc_card.specs.declared.command.Command.TheVariants.{SendExtCsd, Send
 use Rattle.mmc_card.specs.declared.command.Command.TheVariants.{SendStatus, SetBlockCount, SetBlocklen, SetRelativeAddr}
 use Rattle.mmc_card.specs.declared.command.Command.TheVariants.{StopTransmission, Switch, SwitchFunc, Unknown}
 use Rattle.mmc_card.specs.declared.command.Command.TheVariants.{WriteBlock, WriteMultipleBlock}
-use Rattle.mmc_card.specs.Rows.{answered, command_of, is_foreign, is_legal, leaves_erase, reached, responded, row}
+use Rattle.mmc_card.specs.Rows.{answered, command_of, leaves_erase, reached, responded, row}
 use Rattle.mmc_card.specs.RowsErase.{erase_held, erases, erasing, hold_first, hold_last, holds_address, is_no_range}
 use Rattle.mmc_card.specs.RowsErase.{is_trim}
 use Rattle.mmc_card.specs.RowsIdentify.{inquired, is_served, may_lag}
@@ -338,9 +339,9 @@ pub widens_responded : (choice : Choice) (command : Command) (c : Card) (index a
     → Widens (erased_by_command command c argument) c (responded choice command c index argument).0
 widens_responded choice command c index argument =
     let change = erased_by_command command c argument in
-    first_by_cond (Widens change c) (is_foreign command c argument) _ _ (λ _. wide change c c (keeps_same c))
-    (λ _. first_by_cond (Widens change c) (is_legal command c) _ _ (λ _. widens_reached choice command c index argument)
-    (λ _. wide change c _ (keeps_then (keeps_reached command c) (keeps_refused (reached command c)))))
+    after_response (Widens change c) choice command c index argument (wide change c c (keeps_same c))
+    (λ _. widens_reached choice command c index argument)
+    (wide change c _ (keeps_then (keeps_reached command c) (keeps_refused (reached command c))))
 
 pub widens_answered : (choice : Choice) (c : Card) (sent : Option (ℕ × ℕ))
     → Widens (erased_by c sent) c (answered choice c sent).0

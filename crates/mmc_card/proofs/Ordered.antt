@@ -8,6 +8,7 @@ use Rattle.mmc_frame.specs.declared.kind.Kind.{Kind}
 use Rattle.mmc_card.proofs.CardRows.{legal_reached}
 use Rattle.mmc_card.proofs.Cards.{in_state}
 use Rattle.mmc_card.proofs.Conditions.{along, by_cond, first_by_cond}
+use Rattle.mmc_card.proofs.Responses.{after_answer, after_response}
 use Rattle.mmc_card.proofs.Narrow.{AreSwitched, both, may_switch}
 use Rattle.mmc_card.specs.CardAnswer.{Choice, counted, done, garbled, left_with, raised, refused, reset, shown}
 use Rattle.mmc_card.specs.Blocks.{accepted, fallen_short, is_last, programmed, rejected, rested, sent_from, waited}
@@ -22,12 +23,12 @@ use Rattle.mmc_card.specs.declared.command.Command.TheVariants.{SendExtCsd, Send
 use Rattle.mmc_card.specs.declared.command.Command.TheVariants.{SendStatus, SetBlockCount, SetBlocklen, SetRelativeAddr}
 use Rattle.mmc_card.specs.declared.command.Command.TheVariants.{StopTransmission, Switch, SwitchFunc, Unknown}
 use Rattle.mmc_card.specs.declared.command.Command.TheVariants.{WriteBlock, WriteMultipleBlock}
-use Rattle.mmc_card.specs.Rows.{answered, command_of, is_foreign, is_legal, leaves_erase, reached, responded, row}
+use Rattle.mmc_card.specs.Rows.{answered, is_legal, leaves_erase, reached, responded, row}
 use Rattle.mmc_card.specs.Rows.{without_addresses}
 use Rattle.mmc_card.specs.RowsErase.{erase_held, erases, erasing, forgotten, hold_first, hold_last, holds_address}
 use Rattle.mmc_card.specs.RowsErase.{is_no_range, is_trim}
 use Rattle.mmc_card.specs.RowsIdentify.{inquired, is_served, may_lag}
-use Rattle.mmc_card.specs.RowsSwitch.{switch_row, switched}
+use Rattle.mmc_card.specs.RowsSwitch.{switch_row}
 use Rattle.mmc_card.specs.RowsTransfer.{transfer_errors, transferred}
 
 pub record IsOrdered (card : Card) : Type 0 where
@@ -343,17 +344,17 @@ none_reached command c h =
 pub ordered_responded : (choice : Choice) (command : Command) (c : Card) (index argument : ℕ) → IsOrdered c
     → IsOrdered (responded choice command c index argument).0
 ordered_responded choice command c index argument k =
-    first_by_cond IsOrdered (is_foreign command c argument) _ _ (λ _. k)
-    (λ _. first_by_cond IsOrdered (is_legal command c) _ _
+    let now = ordered_reached command c k in
+    after_response IsOrdered choice command c index argument k
     (λ l. ordered_row choice command (reached command c) index argument (legal_reached command c ∙ l)
-    (none_reached command c) (ordered_reached command c k))
-    (λ _. ordered_refused (reached command c) (ordered_reached command c k)))
+    (none_reached command c) now)
+    (ordered_refused (reached command c) now)
 
 pub ordered_answered : (choice : Choice) (c : Card) (sent : Option (ℕ × ℕ)) → IsOrdered c
     → IsOrdered (answered choice c sent).0
-ordered_answered choice c (Some command) k =
-    ordered_responded choice (command_of c.made.kind c.app command.0) c command.0 command.1 k
-ordered_answered choice c None k = ordered_garbled choice.keeps_count c k
+ordered_answered choice c sent k =
+    after_answer IsOrdered choice c sent (λ command index argument. ordered_responded choice command c index argument k)
+    (ordered_garbled choice.keeps_count c k)
 
 -- Blocks.
 

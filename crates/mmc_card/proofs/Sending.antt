@@ -6,6 +6,7 @@ use Rattle.mmc_frame.specs.declared.card_state.State.TheVariants.{Data, Prg, Rcv
 use Rattle.mmc_frame.specs.Flips.{AreBytes}
 use Rattle.mmc_card.proofs.ByteLemmas.{ext_csd_bytes, refusal_bytes}
 use Rattle.mmc_card.proofs.Conditions.{along, by_cond, first_by_cond}
+use Rattle.mmc_card.proofs.Responses.{after_answer, after_response}
 use Rattle.mmc_card.proofs.Narrow.{AreSwitched, may_switch}
 use Rattle.mmc_card.specs.CardAnswer.{Choice, garbled, left_with, raised, refused, reset, shown}
 use Rattle.mmc_card.specs.Blocks.{accepted, fallen_short, programmed, rejected, rested, sent_from, waited}
@@ -17,10 +18,10 @@ use Rattle.mmc_card.specs.declared.command.Command.TheVariants.{GoIdleState, Rea
 use Rattle.mmc_card.specs.declared.command.Command.TheVariants.{SendExtCsd, SendOpCond, SendStatus, SetBlocklen}
 use Rattle.mmc_card.specs.declared.command.Command.TheVariants.{StopTransmission, Switch, SwitchFunc, WriteBlock}
 use Rattle.mmc_card.specs.declared.command.Command.TheVariants.{WriteMultipleBlock}
-use Rattle.mmc_card.specs.Rows.{answered, command_of, is_foreign, is_legal, leaves_erase, reached, responded, row}
+use Rattle.mmc_card.specs.Rows.{answered, leaves_erase, reached, responded, row}
 use Rattle.mmc_card.specs.RowsErase.{erase_held, hold_first, hold_last, holds_address, is_no_range}
 use Rattle.mmc_card.specs.RowsIdentify.{inquired, is_served, may_lag}
-use Rattle.mmc_card.specs.RowsSwitch.{is_to_speed_up, switch_row, switch_source, switched}
+use Rattle.mmc_card.specs.RowsSwitch.{is_to_speed_up, switch_row, switch_source}
 use Rattle.mmc_card.specs.RowsTransfer.{begun, preset, transfer_errors, transferred}
 
 pub record IsSending (card : Card) : Type 0 where
@@ -171,16 +172,15 @@ sending_row choice _ c index argument k = sending_like c _ k refl refl refl
 sending_responded : (choice : Choice) (command : Command) (c : Card) (index argument : ℕ) → IsSending c
     → IsSending (responded choice command c index argument).0
 sending_responded choice command c index argument k =
-    let r = sending_reached command c k in
-    first_by_cond IsSending (is_foreign command c argument) _ _ (λ _. k)
-    (λ _. first_by_cond IsSending (is_legal command c) _ _
-    (λ _. sending_row choice command (reached command c) index argument r) (λ _. sending_refused (reached command c) r))
+    let now = sending_reached command c k in
+    after_response IsSending choice command c index argument k
+    (λ _. sending_row choice command (reached command c) index argument now) (sending_refused (reached command c) now)
 
 pub sending_answered : (choice : Choice) (c : Card) (sent : Option (ℕ × ℕ)) → IsSending c
     → IsSending (answered choice c sent).0
-sending_answered choice c (Some command) k =
-    sending_responded choice (command_of c.made.kind c.app command.0) c command.0 command.1 k
-sending_answered choice c None k = sending_garbled choice.keeps_count c k
+sending_answered choice c sent k =
+    after_answer IsSending choice c sent (λ command index argument. sending_responded choice command c index argument k)
+    (sending_garbled choice.keeps_count c k)
 
 -- Blocks.
 

@@ -10,6 +10,7 @@ use Rattle.mmc_card.specs.declared.exchange.Lines.{Lines}
 use Rattle.mmc_card.proofs.CardRows.{legal_reached}
 use Rattle.mmc_card.proofs.Cards.{in_state}
 use Rattle.mmc_card.proofs.Conditions.{by_cond, first_by_cond}
+use Rattle.mmc_card.proofs.Responses.{after_answer, after_response}
 use Rattle.mmc_card.proofs.Landing.{landed_size, snoc_length}
 use Rattle.mmc_card.proofs.Narrow.{AreSwitched, both, may_switch}
 use Rattle.mmc_card.specs.CardAnswer.{Choice, done, garbled, left_with, raised, refused, reset, shown}
@@ -27,7 +28,7 @@ use Rattle.mmc_card.specs.declared.command.Command.TheVariants.{SendExtCsd, Send
 use Rattle.mmc_card.specs.declared.command.Command.TheVariants.{SendStatus, SetBlockCount, SetBlocklen, SetRelativeAddr}
 use Rattle.mmc_card.specs.declared.command.Command.TheVariants.{StopTransmission, Switch, SwitchFunc, Unknown}
 use Rattle.mmc_card.specs.declared.command.Command.TheVariants.{WriteBlock, WriteMultipleBlock}
-use Rattle.mmc_card.specs.Rows.{answered, command_of, is_foreign, is_legal, leaves_erase, reached, responded, row}
+use Rattle.mmc_card.specs.Rows.{answered, is_legal, leaves_erase, reached, responded, row}
 use Rattle.mmc_card.specs.RowsErase.{erase_held, erased_from, erased_to, forgotten, hold_first, hold_last}
 use Rattle.mmc_card.specs.RowsErase.{holds_address, is_boot, is_no_range, is_trim}
 use Rattle.mmc_card.specs.RowsIdentify.{inquired, is_served, may_lag}
@@ -287,17 +288,16 @@ settled_row choice Unknown c index argument l k = cc
 settled_responded : (choice : Choice) (command : Command) (c : Card) (index argument : ℕ) → IsSettled c
     → IsSettled (responded choice command c index argument).0
 settled_responded choice command c index argument k =
-    first_by_cond IsSettled (is_foreign command c argument) _ _ (λ _. k)
-    (λ _. first_by_cond IsSettled (is_legal command c) _ _
-    (λ l. settled_row choice command (reached command c) index argument (legal_reached command c ∙ l)
-    (settled_reached command c k))
-    (λ _. settled_refused (reached command c) (settled_reached command c k)))
+    let now = settled_reached command c k in
+    after_response IsSettled choice command c index argument k
+    (λ l. settled_row choice command (reached command c) index argument (legal_reached command c ∙ l) now)
+    (settled_refused (reached command c) now)
 
 pub settled_answered : (choice : Choice) (c : Card) (sent : Option (ℕ × ℕ)) → IsSettled c
     → IsSettled (answered choice c sent).0
-settled_answered choice c (Some command) k =
-    settled_responded choice (command_of c.made.kind c.app command.0) c command.0 command.1 k
-settled_answered choice c None k = settled_garbled choice.keeps_count c k
+settled_answered choice c sent k =
+    after_answer IsSettled choice c sent (λ command index argument. settled_responded choice command c index argument k)
+    (settled_garbled choice.keeps_count c k)
 
 -- Blocks.
 

@@ -11,6 +11,7 @@ use Rattle.mmc_card.specs.declared.exchange.Timing.{Timing}
 use Rattle.mmc_card.proofs.CardRows.{legal_reached, up_if}
 use Rattle.mmc_card.proofs.Cards.{in_state}
 use Rattle.mmc_card.proofs.Conditions.{by_cond, first_by_cond}
+use Rattle.mmc_card.proofs.Responses.{after_response}
 use Rattle.mmc_card.proofs.Narrow.{both, sends_data, accepts_in_rcv}
 use Rattle.mmc_card.proofs.Steps.{after_command, after_write, after_poll, after_read}
 use Rattle.mmc_card.specs.CardAnswer.{Choice, garbled, left_with, raised, refused, reset, shown}
@@ -26,7 +27,7 @@ use Rattle.mmc_card.specs.declared.command.Command.TheVariants.{Erase, EraseEnd,
 use Rattle.mmc_card.specs.declared.command.Command.TheVariants.{ReadSingleBlock, SendStatus, SetBlockCount}
 use Rattle.mmc_card.specs.declared.command.Command.TheVariants.{StopTransmission, Unknown, WriteBlock}
 use Rattle.mmc_card.specs.declared.command.Command.TheVariants.{WriteMultipleBlock}
-use Rattle.mmc_card.specs.Rows.{answered, command_of, is_foreign, is_legal, leaves_erase, reached, responded, row}
+use Rattle.mmc_card.specs.Rows.{answered, command_of, is_legal, leaves_erase, reached, responded, row}
 use Rattle.mmc_card.specs.RowsErase.{erase_held, forgotten, hold_first, hold_last, holds_address, is_no_range}
 use Rattle.mmc_card.specs.RowsIdentify.{may_lag}
 use Rattle.mmc_card.specs.RowsTransfer.{begun, preset, transfer_errors, transferred}
@@ -237,11 +238,10 @@ stands_row s choice _ c index argument o l h = cc
 stands_responded : (s : Setting) (choice : Choice) (command : Command) (c : Card) (index argument : ℕ)
     → is_of_run command ≡ true → Stands s c → Stands s (responded choice command c index argument).0
 stands_responded s choice command c index argument o h =
-    first_by_cond (Stands s) (is_foreign command c argument) _ _ (λ _. h)
-    (λ _. first_by_cond (Stands s) (is_legal command c) _ _
-    (λ l. stands_row s choice command (reached command c) index argument o (legal_reached command c ∙ l)
-    (stands_reached s command c h))
-    (λ _. stands_refused s (reached command c) (stands_reached s command c h)))
+    let now = stands_reached s command c h in
+    after_response (Stands s) choice command c index argument h
+    (λ l. stands_row s choice command (reached command c) index argument o (legal_reached command c ∙ l) now)
+    (stands_refused s (reached command c) now)
 
 stands_answered : (s : Setting) (choice : Choice) (c : Card) (sent : Option (ℕ × ℕ)) → is_frame_of_run c sent ≡ true
     → Stands s c → Stands s (answered choice c sent).0
