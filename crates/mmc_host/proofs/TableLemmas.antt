@@ -1,5 +1,5 @@
 -- The table, command by command.
-use Rattle.std.proofs.Common.{◌<◌, ◌∙◌, ◌≡◌, Bool, ap, cond, false, refl, subst, sym, true, ℕ}
+use Rattle.std.proofs.Common.{◌<◌, ◌∙◌, ◌≡◌, Bool, ap, cond, false, refl, subst, sym, true, ℕ, inl, inr}
 use Rattle.std.specs.Prelude.{◌==◌, ◌&&◌, None, Option, Some, if◌then◌else◌, length, not}
 use Rattle.std.proofs.lemmas.List.{length-set}
 use Rattle.std.proofs.lemmas.Bool.{agree_below_at, eqb-true}
@@ -8,6 +8,7 @@ use Rattle.mmc_frame.specs.declared.commands.TheConstants as Index
 use Rattle.mmc_frame.specs.declared.kind.Kind.{Kind}
 use Rattle.mmc_frame.specs.declared.kind.Kind.TheVariants.{Mmc, Sd}
 use Rattle.mmc_card.proofs.Conditions.{by_cond, first_by_cond}
+use Rattle.mmc_card.proofs.Responses.{after_response}
 use Rattle.mmc_card.specs.Card.{Both, Card, First, Held, NoAddress, is_in}
 use Rattle.mmc_card.specs.CardAnswer.{CardAnswer, Checked, Choice, Silent, R2, R3}
 use Rattle.mmc_card.specs.Rows.{command_of, is_foreign, is_legal, leaves_erase, reached, responded, row}
@@ -33,6 +34,20 @@ use Rattle.mmc_host.specs.declared.data.Data.{Data}
 use Rattle.mmc_host.specs.Fits.{AreSent, AreToCome, Begins, HasDataBehind, IsAnswered, IsBusyBehind}
 use Rattle.mmc_host.specs.Table.{data_of, response_of}
 
+-- the card that a command reaches has other errors and erase addresses alone
+record Likeness (old now : Card) : Type 0 where
+  state : now.state ≡ old.state
+  is_busy : now.is_busy ≡ old.is_busy
+  count : now.count ≡ old.count
+  made : now.made ≡ old.made
+
+like_reached : (command : Command) (card : Card) → Likeness card (reached command card)
+like_reached command card =
+    let same : Likeness card card = record { state = refl; is_busy = refl; count = refl; made = refl } in
+    by_cond (Likeness card) (leaves_erase command) (λ _. same)
+    (λ _. by_cond (Likeness card) (holds_address card.erase)
+    (λ _. record { state = refl; is_busy = refl; count = refl; made = refl }) (λ _. same))
+
 -- Busy.
 
 abbrev Rests : Command → Card → Card → Type 0
@@ -40,75 +55,59 @@ Rests command old new = IsBusyBehind (response_of command) old new
 
 busy_first : (index : ℕ) (card : Card) (argument : ℕ) (held : Held)
     → Rests EraseStart card (hold_first index card argument held).0
-busy_first index card argument NoAddress = λ h. h
-busy_first index card argument _ = λ h. h
+busy_first index card argument NoAddress = λ busy. inl busy
+busy_first index card argument _ = λ busy. inl busy
 
 busy_last : (index : ℕ) (card : Card) (argument : ℕ) (held : Held)
     → Rests EraseEnd card (hold_last index card argument held).0
-busy_last index card argument (First first) = λ h. h
-busy_last index card argument _ = λ h. h
+busy_last index card argument (First first) = λ busy. inl busy
+busy_last index card argument _ = λ busy. inl busy
 
 busy_row : (choice : Choice) (command : Command) (card : Card) (index argument : ℕ)
     → Rests command card (row choice command card index argument).0
-busy_row choice GoIdleState card index argument = λ h. cc
+busy_row choice GoIdleState card index argument = λ busy. cc
 busy_row choice SendOpCond card index argument =
-    first_by_cond (Rests SendOpCond card) (not choice.is_slow) _ _ (λ _ h. h) (λ _ h. h)
+    first_by_cond (Rests SendOpCond card) (not choice.is_slow) _ _ (λ _ busy. inl busy) (λ _ busy. inl busy)
 busy_row choice SdSendOpCond card index argument =
-    first_by_cond (Rests SdSendOpCond card) (is_served card argument && not choice.is_slow) _ _ (λ _ h. h) (λ _ h. h)
-busy_row choice SelectCard card index argument = tt
-busy_row choice StopTransmission card index argument = tt
-busy_row choice Erase card index argument = tt
-busy_row choice Switch card index argument = tt
+    first_by_cond (Rests SdSendOpCond card) (is_served card argument && not choice.is_slow) _ _ (λ _ busy. inl busy) (λ _ busy. inl busy)
+busy_row choice SelectCard card index argument = λ busy. inr refl
+busy_row choice StopTransmission card index argument = λ busy. inr refl
+busy_row choice Erase card index argument = λ busy. inr refl
+busy_row choice Switch card index argument = λ busy. inr refl
 busy_row choice SendStatus card index argument =
-    first_by_cond (Rests SendStatus card) (may_lag card && choice.is_behind) _ _ (λ _ h. h) (λ _ h. h)
+    first_by_cond (Rests SendStatus card) (may_lag card && choice.is_behind) _ _ (λ _ busy. inl busy) (λ _ busy. inl busy)
 busy_row choice SetBlocklen card index argument =
-    first_by_cond (Rests SetBlocklen card) (argument == 512) _ _ (λ _ h. h) (λ _ h. h)
+    first_by_cond (Rests SetBlocklen card) (argument == 512) _ _ (λ _ busy. inl busy) (λ _ busy. inl busy)
 busy_row choice ReadSingleBlock card index argument =
-    first_by_cond (Rests ReadSingleBlock card) (transfer_errors false card argument == 0) _ _ (λ _ h. h) (λ _ h. h)
+    first_by_cond (Rests ReadSingleBlock card) (transfer_errors false card argument == 0) _ _ (λ _ busy. inl busy) (λ _ busy. inl busy)
 busy_row choice ReadMultipleBlock card index argument =
-    first_by_cond (Rests ReadMultipleBlock card) (transfer_errors false card argument == 0) _ _ (λ _ h. h) (λ _ h. h)
+    first_by_cond (Rests ReadMultipleBlock card) (transfer_errors false card argument == 0) _ _ (λ _ busy. inl busy) (λ _ busy. inl busy)
 busy_row choice WriteBlock card index argument =
-    first_by_cond (Rests WriteBlock card) (transfer_errors true card argument == 0) _ _ (λ _ h. h) (λ _ h. h)
+    first_by_cond (Rests WriteBlock card) (transfer_errors true card argument == 0) _ _ (λ _ busy. inl busy) (λ _ busy. inl busy)
 busy_row choice WriteMultipleBlock card index argument =
-    first_by_cond (Rests WriteMultipleBlock card) (transfer_errors true card argument == 0) _ _ (λ _ h. h) (λ _ h. h)
+    first_by_cond (Rests WriteMultipleBlock card) (transfer_errors true card argument == 0) _ _ (λ _ busy. inl busy) (λ _ busy. inl busy)
 busy_row choice EraseStart card index argument = busy_first index card argument card.erase
 busy_row choice EraseEnd card index argument = busy_last index card argument card.erase
-busy_row choice _ card index argument = λ h. h
-
-busy_reached : (command : Command) (card : Card) → (reached command card).is_busy ≡ card.is_busy
-busy_reached command card =
-    let Same : Card → Type 0 = λ now. now.is_busy ≡ card.is_busy in
-    by_cond Same (leaves_erase command) (λ _. refl) (λ _. by_cond Same (holds_address card.erase) (λ _. refl) (λ _. refl))
+busy_row choice _ card index argument = λ busy. inl busy
 
 -- a card that is as busy
 as_busy : (response : Response) (old before new : Card) → before.is_busy ≡ old.is_busy → IsBusyBehind response before new
     → IsBusyBehind response old new
-as_busy To.R1b old before new same h = tt
-as_busy To.Nothing old before new same h = λ busy. sym same ∙ h busy
-as_busy To.R1 old before new same h = λ busy. sym same ∙ h busy
-as_busy To.R2 old before new same h = λ busy. sym same ∙ h busy
-as_busy To.R3 old before new same h = λ busy. sym same ∙ h busy
-as_busy To.R6 old before new same h = λ busy. sym same ∙ h busy
-as_busy To.R7 old before new same h = λ busy. sym same ∙ h busy
-
-rests : (response : Response) (old new : Card) → new.is_busy ≡ old.is_busy → IsBusyBehind response old new
-rests To.R1b old new same = tt
-rests To.Nothing old new same = λ busy. sym same ∙ busy
-rests To.R1 old new same = λ busy. sym same ∙ busy
-rests To.R2 old new same = λ busy. sym same ∙ busy
-rests To.R3 old new same = λ busy. sym same ∙ busy
-rests To.R6 old new same = λ busy. sym same ∙ busy
-rests To.R7 old new same = λ busy. sym same ∙ busy
+as_busy response old before new same behind = λ busy.
+    elim (behind busy) [
+      | inl was ↦ inl (sym same ∙ was)
+      | inr is ↦ inr is
+    ]
 
 pub busy_behind : (choice : Choice) (command : Command) (card : Card) (index argument : ℕ)
     → IsBusyBehind (response_of command) card (responded choice command card index argument).0
 busy_behind choice command card index argument =
     let now = reached command card in
-    first_by_cond (Rests command card) (is_foreign command card argument) _ _
-    (λ _. rests (response_of command) card card refl)
-    (λ _. first_by_cond (Rests command card) (is_legal command card) _ _
-    (λ _. as_busy (response_of command) card now _ (busy_reached command card) (busy_row choice command now index argument))
-    (λ _. rests (response_of command) card (refused now) (busy_reached command card)))
+    let same = (like_reached command card).is_busy in
+    after_response (Rests command card) choice command card index argument (λ busy. inl busy)
+    (λ _. as_busy (response_of command) card now (row choice command now index argument).0 same
+    (busy_row choice command now index argument))
+    (λ busy. inl (sym same ∙ busy))
 
 -- Answers.
 
@@ -342,19 +341,6 @@ move_row choice SendExtCsd card index argument sized =
     begins_to_send (data_of SendExtCsd card.count) card after refl (refl, (ext_csd_length card sized, refl))
 move_row choice _ card index argument sized = stays _ card _ refl
 
--- what the card was reached as changes none of that
-record Likeness (old now : Card) : Type 0 where
-  state : now.state ≡ old.state
-  count : now.count ≡ old.count
-  made : now.made ≡ old.made
-
-like_reached : (command : Command) (card : Card) → Likeness card (reached command card)
-like_reached command card =
-    let same : Likeness card card = record { state = refl; count = refl; made = refl } in
-    by_cond (Likeness card) (leaves_erase command) (λ _. same)
-    (λ _. by_cond (Likeness card) (holds_address card.erase) (λ _. record { state = refl; count = refl; made = refl })
-    (λ _. same))
-
 as_before : (told : Data) (old before new : Card) → before.state ≡ old.state → HasDataBehind told before new
     → HasDataBehind told old new
 as_before told old before new same moves = record {
@@ -373,12 +359,11 @@ pub data_behind : (choice : Choice) (command : Command) (card : Card) (index arg
 data_behind choice command card index argument sized =
     let now = reached command card in
     let like = like_reached command card in
-    first_by_cond (Moves command card) (is_foreign command card argument) _ _ (λ _. stays _ card card refl)
-    (λ _. first_by_cond (Moves command card) (is_legal command card) _ _
+    after_response (Moves command card) choice command card index argument (stays _ card card refl)
     (λ _. as_before _ card now _ like.state
     (subst (λ n. HasDataBehind (data_of command n) now (row choice command now index argument).0) like.count
     (move_row choice command now index argument (sized_as command card now like.made sized))))
-    (λ _. stays _ card (refused now) like.state))
+    (stays _ card (refused now) like.state)
 
 -- each kind sends its own registers
 abbrev is_of : Kind → Command → Bool

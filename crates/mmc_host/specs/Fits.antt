@@ -1,5 +1,5 @@
 -- What a controller is told of a command fits what a card does with it.
-use Rattle.std.specs.Prelude.{◌≡◌, List, None, Option, Some, false, length, true, ℕ}
+use Rattle.std.specs.Prelude.{◌≡◌, ◌⊎◌, List, None, Option, Some, false, length, true, ℕ}
 use Rattle.mmc_frame.specs.declared.card_state.State.TheVariants as In
 use Rattle.mmc_card.specs.Card.{Card, FromBytes, FromSectors, Source, is_in}
 use Rattle.mmc_card.specs.CardAnswer.{CardAnswer, Checked, Silent, R2, R3}
@@ -21,10 +21,9 @@ IsAnswered To.R6 index (Checked other argument) = other ≡ index
 IsAnswered To.R7 index (Checked other argument) = other ≡ index
 IsAnswered response index answer = ⊥
 
--- only behind an R1b a card is busy that wasn't
+-- a card that is busy was so before, but behind an R1b
 abbrev pub IsBusyBehind : Response → Card → Card → Type 0
-IsBusyBehind To.R1b old new = Unit {0}
-IsBusyBehind response old new = new.is_busy ≡ true → old.is_busy ≡ true
+IsBusyBehind response old new = new.is_busy ≡ true → (old.is_busy ≡ true) ⊎ (response ≡ To.R1b)
 
 -- so many blocks are to come
 abbrev pub AreToCome : Blocks → Option ℕ → Type 0

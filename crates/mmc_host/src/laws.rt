@@ -8,7 +8,7 @@ ghost use Rattle.mmc_host.specs.Fits.{HasDataBehind, IsAnswered, IsBusyBehind};
 ghost use Rattle.mmc_host.specs.Table.{data_of, response_of};
 
 /// Whatever a card does with a command, by its kind, its state and behind CMD55 or not: its answer is the response of the
-/// table to this index, or none; only behind an R1b it is busy that wasn't; and where it begins to send or to accept
+/// table to this index, or none; it is busy only where it was, or behind an R1b; and where it begins to send or to accept
 /// blocks, they are the data of the table, by the count that it holds preset.
 pub fn a_card_does_as_the_table_says()
     ensures answer { (choice : Choice) (card : Card) (index argument : ℕ) → index < 64
