@@ -1,30 +1,19 @@
 -- Lines and texts of faults with further words.
 use Rattle.std.proofs.Common.{◌≡◌, ℕ, List, [], ◌∷◌, None, refl}
 use Rattle.card_text.specs.CardLines.{value_line_of}
-use Rattle.card_text.specs.FaultTexts.{command_error_of, failure_of, fault_of, fault_with_words_of, flips_of}
-use Rattle.card_text.specs.FaultTexts.{outcome_of}
+use Rattle.card_text.specs.FaultTexts.{failure_of, fault_of, fault_with_words_of, flips_of, lone_word_of}
 use Rattle.card_text.specs.Parts.{parts}
 use Rattle.card_text.proofs.PartLemmas.{split_some}
 
-two_outcomes : (a : List ℕ) (words : List (List ℕ)) → (words ≡ [] → ⊥) → None ≡ outcome_of (a ∷ words)
-unfolding outcome_of
-two_outcomes a [] some = absurd (some refl)
-two_outcomes a (b ∷ words) some = refl
+two_words : (a : List ℕ) (words : List (List ℕ)) → (words ≡ [] → ⊥) → None ≡ lone_word_of (a ∷ words)
+unfolding lone_word_of
+two_words a [] some = absurd (some refl)
+two_words a (b ∷ words) some = refl
 
--- more words than an outcome has
-pub many_outcomes : (a text : List ℕ) → None ≡ outcome_of (a ∷ parts 32 text)
+-- more words than one
+pub no_lone_word : (a text : List ℕ) → None ≡ lone_word_of (a ∷ parts 32 text)
 unfolding parts
-many_outcomes a text = two_outcomes a _ (split_some _ text)
-
-two_errors : (a : List ℕ) (words : List (List ℕ)) → (words ≡ [] → ⊥) → None ≡ command_error_of (a ∷ words)
-unfolding command_error_of
-two_errors a [] some = absurd (some refl)
-two_errors a (b ∷ words) some = refl
-
--- more words than an error of a command has
-pub many_errors : (a text : List ℕ) → None ≡ command_error_of (a ∷ parts 32 text)
-unfolding parts
-many_errors a text = two_errors a _ (split_some _ text)
+no_lone_word a text = two_words a _ (split_some _ text)
 
 three_words : (a b : List ℕ) (words : List (List ℕ)) → (words ≡ [] → ⊥) → None ≡ failure_of (a ∷ b ∷ words)
 unfolding failure_of

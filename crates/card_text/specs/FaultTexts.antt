@@ -28,16 +28,19 @@ flips_of (a ∷ b ∷ []) =
     (position_of a)
 flips_of words = None
 
+-- the one word, where there is no other
+unfoldable pub lone_word_of : List (List ℕ) → Option (List ℕ)
+lone_word_of (word ∷ []) = Some word
+lone_word_of words = None
+
 -- `old` or `new`
 unfoldable pub outcome_in : List ℕ → Option Outcome
 outcome_in word =
     if bytes_eq word (codes "old") then Some Old
     else (if bytes_eq word (codes "new") then Some New else None)
 
--- that one word
 unfoldable pub outcome_of : List (List ℕ) → Option Outcome
-outcome_of (word ∷ []) = outcome_in word
-outcome_of words = None
+outcome_of words = option_and_then (λ word. outcome_in word) (lone_word_of words)
 
 -- `crc` or `illegal`
 unfoldable pub command_error_in : List ℕ → Option CommandError
@@ -45,10 +48,8 @@ command_error_in word =
     if bytes_eq word (codes "crc") then Some ComCrc
     else (if bytes_eq word (codes "illegal") then Some Illegal else None)
 
--- that one word
 unfoldable pub command_error_of : List (List ℕ) → Option CommandError
-command_error_of (word ∷ []) = command_error_in word
-command_error_of words = None
+command_error_of words = option_and_then (λ word. command_error_in word) (lone_word_of words)
 
 -- an outcome alone, or with error bits as a status has them, in 8 digits
 unfoldable pub failure_of : List (List ℕ) → Option Fault

@@ -1,7 +1,7 @@
 // Reads the text of a planned fault.
-ghost use Rattle.std.specs.Prelude.{◌≡◌};
+ghost use Rattle.std.specs.Prelude.{◌≡◌, option_map};
 ghost use Rattle.card_text.specs.FaultTexts.{command_error_in, command_error_of, failure_of, fault_of};
-ghost use Rattle.card_text.specs.FaultTexts.{fault_with_words_of, flips_of, lone_fault_of, outcome_in};
+ghost use Rattle.card_text.specs.FaultTexts.{fault_with_words_of, flips_of, lone_fault_of, lone_word_of, outcome_in};
 ghost use Rattle.card_text.specs.FaultTexts.{outcome_of, position_of};
 ghost use Rattle.card_text.specs.Parts.{left_parts, parts};
 
@@ -41,6 +41,17 @@ fn flips(words: &[u8]) -> Option<Flips>
     }
 }
 
+// The one word of a text that has no other.
+#[tactic(auto, unfolding(crate::specs::FaultTexts::lone_word_of))]
+fn lone_word(words: &[u8]) -> Option<&[u8]>
+    ensures { option_map (λ word. word.now) result ≡ lone_word_of (parts 32 words.now) }
+{
+    match cut(words, b' ') {
+        (_, Some(_)) => None,
+        (word, None) => Some(word),
+    }
+}
+
 // `old` or `new`.
 #[tactic(auto, unfolding(crate::specs::FaultTexts::outcome_in))]
 fn outcome_in(word: &[u8]) -> Option<Outcome>
@@ -55,15 +66,11 @@ fn outcome_in(word: &[u8]) -> Option<Outcome>
     }
 }
 
-// That one word.
 #[tactic(auto, unfolding(crate::specs::FaultTexts::outcome_of))]
 fn outcome(words: &[u8]) -> Option<Outcome>
     ensures { result ≡ outcome_of (parts 32 words.now) }
 {
-    match cut(words, b' ') {
-        (_, Some(_)) => None,
-        (word, None) => outcome_in(word),
-    }
+    outcome_in(lone_word(words)?)
 }
 
 // `crc` or `illegal`.
@@ -80,15 +87,11 @@ fn command_error_in(word: &[u8]) -> Option<CommandError>
     }
 }
 
-// That one word.
 #[tactic(auto, unfolding(crate::specs::FaultTexts::command_error_of))]
 fn command_error(words: &[u8]) -> Option<CommandError>
     ensures { result ≡ command_error_of (parts 32 words.now) }
 {
-    match cut(words, b' ') {
-        (_, Some(_)) => None,
-        (word, None) => command_error_in(word),
-    }
+    command_error_in(lone_word(words)?)
 }
 
 // How programming fails: an outcome, and error bits where they are said.

@@ -9,7 +9,10 @@ use Rattle.mmc_frame.specs.declared.card_state.State.{State}
 use Rattle.mmc_frame.specs.declared.card_state.State.TheVariants.{Ident, Ready, Stby, Tran}
 use Rattle.mmc_frame.specs.declared.kind.Kind.{Kind}
 use Rattle.mmc_card.specs.BusView.{BusView}
-use Rattle.mmc_card.specs.Card.{Card, IsCard, is_identified, is_in, is_selected}
+use Rattle.mmc_card.specs.Card.{Card, IsCard, NoAddress, is_identified, is_in, is_selected}
+use Rattle.mmc_card.specs.declared.exchange.Timing.TheVariants.{Default}
+use Rattle.mmc_card.specs.declared.exchange.Width.TheVariants.{One}
+use Rattle.mmc_card.specs.declared.part.Part.TheVariants.{User}
 use Rattle.mmc_card.specs.CardAnswer.{Choice, bit, busied, done, left_with, r6_argument, reset, shown, status}
 use Rattle.mmc_card.specs.CardLaws.{IsInOrder}
 use Rattle.mmc_card.specs.Faults.{NoFault}
@@ -123,26 +126,33 @@ described_fine rca argument old heard new is_rca does same named =
 
 -- CMD7.
 
+-- a card in tran that has just shown what it had to show, busy or not
+shown_selected : (rca : ℕ) (old : Card) (state : State) (busy : Bool) (polled : ℕ) → state ≡ Tran → old.rca ≡ rca
+    → old.part ≡ User → old.width ≡ One → old.timing ≡ Default → old.erase_group_def ≡ 0 → old.erase ≡ NoAddress
+    → IsSelected rca (record (shown old) { state = state; is_busy = busy; polled = polled })
+shown_selected rca old state busy polled tran is part width timing erase_group_def erase = record {
+  state = tran;
+  is_rca = is;
+  part = part;
+  width = width;
+  timing = timing;
+  erase_group_def = erase_group_def;
+  count = refl;
+  app = refl;
+  erase = erase;
+  command_errors = refl;
+  errors = refl;
+  switch_error = refl;
+  up_to_date = refl;
+}
+
 selected_after : (rca : ℕ) (old new : Card) → IsCard old → old.state ≡ Stby → old.rca ≡ rca
     → new ≡ record (busied (shown old)) { state = Tran } → IsPolled true rca new
 selected_after rca old new card stby is e =
     let apart = card.apart (ap is_selected stby) in
     subst (IsPolled true rca) (sym e) (record {
-      selected = record {
-        state = refl;
-        is_rca = is;
-        part = apart.part;
-        width = apart.width;
-        timing = apart.timing;
-        erase_group_def = apart.erase_group_def;
-        count = refl;
-        app = refl;
-        erase = apart.erase;
-        command_errors = refl;
-        errors = refl;
-        switch_error = refl;
-        up_to_date = refl;
-      };
+      selected = shown_selected rca old Tran true 0 refl is apart.part apart.width apart.timing apart.erase_group_def
+          apart.erase;
       polled = λ busy. refl;
       is_busy = refl;
     })
@@ -258,21 +268,8 @@ confirmed_ok kind (Err unheard) ok = cc
 left_shown : (rca : ℕ) (old new : Card) → IsSelected rca old → old.is_busy ≡ false → new ≡ shown old → IsLeft rca new
 left_shown rca old new is rests e =
     subst (IsLeft rca) (sym e) (record {
-      selected = record {
-        state = is.state;
-        is_rca = is.is_rca;
-        part = is.part;
-        width = is.width;
-        timing = is.timing;
-        erase_group_def = is.erase_group_def;
-        count = refl;
-        app = refl;
-        erase = is.erase;
-        command_errors = refl;
-        errors = refl;
-        switch_error = refl;
-        up_to_date = refl;
-      };
+      selected = shown_selected rca old old.state old.is_busy old.polled is.state is.is_rca is.part is.width is.timing
+          is.erase_group_def is.erase;
       rests = rests;
     })
 
