@@ -14,7 +14,7 @@ use Rattle.mmc_bus.specs.declared.status.Closing.{Closing}
 use Rattle.mmc_bus.specs.declared.status.Closing.TheVariants.{AtWork, Clean}
 use Rattle.mmc_card.proofs.CardAll.{card_left}
 use Rattle.mmc_card.proofs.Narrow.{both}
-use Rattle.mmc_card.specs.Blocks.{HasRested, programmed, rested}
+use Rattle.mmc_card.specs.Blocks.{programmed, rested}
 use Rattle.mmc_card.specs.BusView.{BusView}
 use Rattle.mmc_card.specs.Card.{Card, IsCard, is_in, is_selected}
 use Rattle.mmc_card.specs.CardAnswer.{Choice, counted, left_with, shown, status}

@@ -2,11 +2,9 @@
 use Rattle.std.proofs.Common.{◌+◌, ◌<◌, ◌∙◌, ◌≡◌, ◌≤◌, Bool, add-one, ap, arith, false, refl, subst, suc, sym, true}
 use Rattle.std.proofs.Common.{zero, ℕ}
 use Rattle.std.specs.Prelude.{Err, IsOk, IsOkAnd, Ok, Result, is_ok}
-use Rattle.mmc_frame.specs.declared.kind.Kind.{Kind}
 use Rattle.mmc_bus.specs.declared.cause.Cause.{Cause}
-use Rattle.mmc_card.specs.CardAnswer.{counted, shown}
-use Rattle.mmc_card.specs.CardLaws.{IsInOrder}
-use Rattle.mmc_bus.proofs.WorkLemmas.{joined, narrows_then, quiet_parts, refuted, set_then, stays_same, stays_then, worked_as}
+use Rattle.mmc_card.specs.CardAnswer.{counted}
+use Rattle.mmc_bus.proofs.WorkLemmas.{narrows_then, quiet_parts, set_then, stays_same, stays_then, worked_as}
 use Rattle.mmc_card.specs.Blocks.{HasRested, rested}
 use Rattle.mmc_card.specs.Card.{Card, IsCard, is_selected}
 use Rattle.mmc_bus.specs.Exchanges.{Kept}

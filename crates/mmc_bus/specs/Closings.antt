@@ -1,5 +1,5 @@
 -- The status that closes programming.
-use Rattle.std.specs.Prelude.{◌+◌, ◌<◌, ◌≡◌, Err, Ok, Result, true, ℕ}
+use Rattle.std.specs.Prelude.{◌+◌, ◌<◌, ◌≡◌, Err, Ok, Result, true}
 use Rattle.mmc_frame.specs.declared.kind.Kind.{Kind}
 use Rattle.mmc_bus.specs.declared.cause.Cause.{Cause}
 use Rattle.mmc_bus.specs.declared.status.Closing.{Closing}

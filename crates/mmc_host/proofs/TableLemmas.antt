@@ -10,10 +10,10 @@ use Rattle.mmc_frame.specs.declared.kind.Kind.TheVariants.{Mmc, Sd}
 use Rattle.mmc_card.proofs.Conditions.{by_cond, first_by_cond}
 use Rattle.mmc_card.proofs.Responses.{after_response}
 use Rattle.mmc_card.specs.Card.{Both, Card, First, Held, NoAddress, is_in}
-use Rattle.mmc_card.specs.CardAnswer.{CardAnswer, Checked, Choice, Silent, R2, R3}
+use Rattle.mmc_card.specs.CardAnswer.{CardAnswer, Choice, Silent}
 use Rattle.mmc_card.specs.Rows.{command_of, is_foreign, is_legal, leaves_erase, reached, responded, row}
 use Rattle.mmc_card.specs.RowsErase.{erase_held, hold_first, hold_last, holds_address, is_no_range}
-use Rattle.mmc_card.specs.RowsIdentify.{inquired, is_served, may_lag}
+use Rattle.mmc_card.specs.RowsIdentify.{is_served, may_lag}
 use Rattle.mmc_card.specs.RowsSwitch.{ext_csd_now, is_to_speed_up, switch_row, switch_source, switched}
 use Rattle.mmc_card.specs.RowsTransfer.{begun, preset, sending, sending_from, transfer_errors, transferred}
 use Rattle.mmc_card.specs.declared.command.Command.{Command}

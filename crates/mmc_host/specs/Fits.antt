@@ -1,5 +1,5 @@
 -- What a controller is told of a command fits what a card does with it.
-use Rattle.std.specs.Prelude.{◌≡◌, ◌⊎◌, List, None, Option, Some, false, length, true, ℕ}
+use Rattle.std.specs.Prelude.{◌≡◌, ◌⊎◌, None, Option, Some, false, length, true, ℕ}
 use Rattle.mmc_frame.specs.declared.card_state.State.TheVariants as In
 use Rattle.mmc_card.specs.Card.{Card, FromBytes, FromSectors, Source, is_in}
 use Rattle.mmc_card.specs.CardAnswer.{CardAnswer, Checked, Silent, R2, R3}

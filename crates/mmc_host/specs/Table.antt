@@ -10,9 +10,7 @@ use Rattle.mmc_card.specs.declared.command.Command.TheVariants.{WriteBlock, Writ
 use Rattle.mmc_host.specs.declared.data.Blocks.{Blocks}
 use Rattle.mmc_host.specs.declared.data.Blocks.TheVariants.{Counted, UntilStopped}
 use Rattle.mmc_host.specs.declared.data.Data.{Data}
-use Rattle.mmc_host.specs.declared.data.Data.TheVariants as Data
 use Rattle.mmc_host.specs.declared.response.Response.{Response}
-use Rattle.mmc_host.specs.declared.response.Response.TheVariants as Response
 
 abbrev pub response_of : Command → Response
 response_of GoIdleState = Response.Nothing

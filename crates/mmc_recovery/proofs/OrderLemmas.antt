@@ -1,5 +1,5 @@
 -- A card that is brought back in order where it stands.
-use Rattle.std.proofs.Common.{◌∙◌, ◌≡◌, ap, false, inl, inr, refl, subst, sym, ℕ}
+use Rattle.std.proofs.Common.{◌∙◌, ◌≡◌, ap, inl, inr, refl, subst, sym, ℕ}
 use Rattle.std.specs.Prelude.{IsErr, IsOk, Result}
 use Rattle.mmc_frame.specs.declared.card_state.State.TheVariants.{Tran}
 use Rattle.mmc_frame.specs.declared.kind.Kind.{Kind}

@@ -30,7 +30,7 @@ use Rattle.mmc_switch.specs.declared.sd.TheConstants as Argument
 use Rattle.mmc_switch.specs.declared.sd.Told.{Told}
 use Rattle.mmc_switch.proofs.FetchLemmas.{Fetches}
 use Rattle.mmc_switch.proofs.SwitchStatusLemmas.{checks_only, same_support, says_timing}
-use Rattle.mmc_switch.proofs.RestLemmas.{moved_on_lines, no_error, set_on_lines, set_shown}
+use Rattle.mmc_switch.proofs.RestLemmas.{moved_on_lines, set_on_lines, set_shown}
 
 -- the card stays of its kind
 sd_then : (a b : BusView) → Stays a b → a.card.made.kind ≡ Sd → b.card.made.kind ≡ Sd

@@ -13,7 +13,7 @@ use Rattle.mmc_switch.proofs.EndingLemmas.{busy_still, idle_after, idle_shown, l
 use Rattle.mmc_switch.proofs.UnderWayLemmas.{quiet_by, room_is}
 use Rattle.mmc_switch.specs.Ending.{EndingDid}
 use Rattle.mmc_switch.specs.Place.{IsReady}
-use Rattle.mmc_switch.specs.UnderWay.{IsIdle, IsQuiet, part_of}
+use Rattle.mmc_switch.specs.UnderWay.{IsQuiet, part_of}
 use Rattle.mmc_switch.specs.declared.ending.Ending.{Ending}
 use Rattle.mmc_switch.specs.declared.ending.Ending.TheVariants.{Confirm}
 use Rattle.mmc_transfer.proofs.StepLemmas.{each_way, either_way}

@@ -7,8 +7,8 @@ use Rattle.mmc_bus.proofs.identify_laws.cmd13_tells_the_status.Goals as goal
 use Rattle.mmc_bus.specs.CommandLaws.{LagsBehind, TellsStatus}
 use Rattle.mmc_bus.specs.Heard.{response_of}
 use Rattle.mmc_card.specs.Card.{Card, is_identified}
-use Rattle.mmc_card.specs.CardAnswer.{CardAnswer, Checked, Choice, shown, status}
-use Rattle.mmc_card.specs.RowsIdentify.{at_work, lagging, may_lag, send_status}
+use Rattle.mmc_card.specs.CardAnswer.{CardAnswer, Checked, shown, status}
+use Rattle.mmc_card.specs.RowsIdentify.{at_work, may_lag, send_status}
 use Rattle.mmc_card.specs.declared.command.Command.TheVariants.{SendStatus}
 
 told_by : (b : Bool) (x y : Card) (m n : ℕ)

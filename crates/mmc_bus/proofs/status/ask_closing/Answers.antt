@@ -1,6 +1,4 @@
-use Rattle.std.proofs.Common.{◌≡◌, ap, false, refl, subst, sym, ◌∙◌}
-use Rattle.mmc_frame.specs.Status.{IsAtWork, IsClean}
-use Rattle.mmc_card.specs.CardAnswer.{status}
+use Rattle.std.proofs.Common.{ap, refl, sym, ◌∙◌}
 use Rattle.mmc_card.specs.Card.{is_identified}
 use Rattle.mmc_bus.proofs.ClosingLemmas.{told_closing, told_soon}
 use Rattle.mmc_bus.proofs.WorkLemmas.{command_worked}

@@ -1,4 +1,4 @@
-use Rattle.std.proofs.Common.{◌+◌, ◌≡◌, ◌≤◌, arith, subst}
+use Rattle.std.proofs.Common.{arith, subst}
 use Rattle.std.specs.Prelude.{Ok}
 use Rattle.mmc_bus.proofs.ClosingLemmas.{Asks, asked_in_vain, asking_on}
 use Rattle.mmc_bus.proofs.status.confirm_within.Goals as goal

@@ -1,5 +1,5 @@
 use Rattle.std.proofs.Common.{refl}
-use Rattle.mmc_bus.proofs.ClosingLemmas.{ended, wait_fails}
+use Rattle.mmc_bus.proofs.ClosingLemmas.{ended}
 use Rattle.mmc_bus.proofs.status.wait_and_confirm.Goals as goal
 
 pub returns-clause-works : goal.returns-clause-works

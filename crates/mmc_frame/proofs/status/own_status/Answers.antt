@@ -1,4 +1,4 @@
-use Rattle.std.proofs.Common.{◌≡◌, arith}
+use Rattle.std.proofs.Common.{arith}
 use Rattle.mmc_frame.proofs.StatusLemmas.{own_where_clear}
 use Rattle.mmc_frame.proofs.status.own_status.Goals as goal
 

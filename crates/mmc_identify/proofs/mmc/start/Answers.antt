@@ -1,4 +1,4 @@
-use Rattle.std.proofs.Common.{◌∙◌, arith, false, refl, true}
+use Rattle.std.proofs.Common.{◌∙◌, arith, false, refl}
 use Rattle.std.specs.Prelude.{Err, None, Ok, Some}
 use Rattle.mmc_frame.specs.declared.kind.Kind.TheVariants.{Mmc}
 use Rattle.mmc_identify.proofs.LoopLemmas.{asked_on, asks_mmc, start_fails, start_in_vain, started, starts_mmc}

@@ -1,4 +1,4 @@
-use Rattle.std.proofs.Common.{◌≡◌, eqb, drop, length, sym, ◌∙◌, take, Bool, true, false, w8, lit≤}
+use Rattle.std.proofs.Common.{◌≡◌, eqb, drop, sym, ◌∙◌, take, Bool, true, false, w8, lit≤}
 use Rattle.std.specs.Prelude.{not, map}
 use Rattle.std.proofs.lemmas.Bool.{eqb-true}
 use Rattle.std.proofs.lemmas.Simd.{bitmask_splat, length-chunk, none_from_empty_mask}

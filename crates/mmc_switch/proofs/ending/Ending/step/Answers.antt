@@ -1,5 +1,5 @@
 use Rattle.std.proofs.Common.{◌+◌, ◌≡◌, refl, subst, sym, ℕ}
-use Rattle.std.specs.Prelude.{Ok, Option, Some}
+use Rattle.std.specs.Prelude.{Ok, Some}
 use Rattle.mmc_frame.specs.declared.kind.Kind.{Kind}
 use Rattle.mmc_card.specs.BusView.{BusView}
 use Rattle.mmc_bus.specs.declared.status.Closing.{Closing}
