@@ -1,9 +1,12 @@
-// A controller, as a driver would see one. Behind this one is a card in memory; yours has registers.
+// A controller, as a driver would see one: it takes commands, judges the checks of responses and blocks, and strips them. Behind
+// this one is a card in memory; yours has registers.
+ghost use Rattle.std.specs.Prelude.{◌<◌};
 
 use anyhow::{Result, anyhow};
 use mmc_bus::{Bus, DataIn, DataOut, Reply, Timing, Want, Width};
 use mmc_card_sim::SimCard;
 use mmc_card_sim::example_cards::sdsc;
+use mmc_frame::{encode, read_r1, read_r2, read_r3};
 use std::alloc::Global;
 
 /// A controller with a card.
@@ -21,9 +24,44 @@ impl Controller {
         }
     }
 
-    /// Sends a command frame, and receives the response that is wanted.
-    pub fn send(&mut self, frame: [u8; 6], want: Want) -> Reply {
-        self.card.command(frame, want)
+    /// Sends a command without a response.
+    pub fn send(&mut self, index: u8, argument: u32)
+        requires { index < 64 }
+    {
+        let _silence = self.card.command(encode(index, argument), Want::Nothing);
+    }
+
+    /// Sends a command with a response of 48 bits, whose check and index it judges. It tells the 32 bits between them.
+    pub fn send_checked(&mut self, index: u8, argument: u32) -> Option<u32>
+        requires { index < 64 }
+    {
+        match self.card.command(encode(index, argument), Want::Short) {
+            Reply::Short(frame) => read_r1(&frame, index).ok(),
+            _ => None,
+        }
+    }
+
+    /// Sends a command with a response of 48 bits without a check, an OCR.
+    pub fn send_unchecked(&mut self, index: u8, argument: u32) -> Option<u32>
+        requires { index < 64 }
+    {
+        match self.card.command(encode(index, argument), Want::Short) {
+            Reply::Short(frame) => read_r3(&frame).ok(),
+            _ => None,
+        }
+    }
+
+    /// Sends a command with a response of 136 bits, whose check it judges. It tells bits 127 to 8.
+    pub fn send_long(&mut self, index: u8, argument: u32) -> Option<[u8; 15]>
+        requires { index < 64 }
+    {
+        let Reply::Long(frame) = self.card.command(encode(index, argument), Want::Long) else {
+            return None;
+        };
+        let register = read_r2(&frame).ok()?;
+        let mut bytes = [0; 15];
+        bytes.copy_from_slice(&register[..15]);
+        Some(bytes)
     }
 
     /// Receives a block of the buffer's length.
@@ -41,8 +79,14 @@ impl Controller {
         self.card.busy()
     }
 
-    /// Sets width and clock.
+    /// Sets how many lines are in use, and whether they are sampled as at high speed.
     pub fn set_lines(&mut self, width: Width, timing: Timing) {
         self.card.set_lines(width, timing);
     }
+
+    /// Sets the clock in hertz. The card in memory has none.
+    pub fn set_clock(&mut self, _hertz: u32) {}
+
+    /// Waits for so many microseconds. The card in memory needs none.
+    pub fn wait(&mut self, _micros: u32) {}
 }

@@ -1,16 +1,17 @@
-//! An example of a user of the device: over a bus of its own, a sector is written and read back.
+//! An example of a user of the device: over a host controller of its own, a sector is written and read back.
 #![tactic(auto)]
 
 mod controller;
-mod controller_bus;
+mod driver;
 
 use anyhow::{Result, anyhow};
 use controller::Controller;
-use controller_bus::ControllerBus;
+use driver::Driver;
 use mmc_block::{Answer, BlockDev, Bytes, Completion, Part, Request};
+use mmc_host::HostBus;
 
 // Sector 1, filled with 5Ah, and then a read of it. The numbers in front are those of the clients, which the answers name.
-fn submit(rt: &impl AllocGlobal, device: &mut BlockDev<ControllerBus>) -> Result<()> {
+fn submit(rt: &impl AllocGlobal, device: &mut BlockDev<HostBus<Driver>>) -> Result<()> {
     let bytes = Bytes::new(vec![in rt.alloc(); 0x5a; 512]?);
     let write = Request::Write {
         part: Part::User,
@@ -44,7 +45,8 @@ fn print(rt: &impl Print, completion: &Completion) -> Result<()> {
 }
 
 fn main(rt: HostRuntime) -> Result<()> {
-    let bus = ControllerBus::new(Controller::new(rt.alloc())?);
+    let controller = Controller::new(rt.alloc())?;
+    let bus = HostBus::new(Driver { controller });
     let Ok(mut device) = BlockDev::open(rt.alloc(), bus) else {
         return Err(anyhow!("the card isn't opened"));
     };

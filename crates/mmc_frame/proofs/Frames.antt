@@ -2,7 +2,7 @@
 use Rattle.std.proofs.Common.{◌≡◌, ℕ, ◌+◌, ◌*◌, ◌/◌, ◌%◌, ◌<◌, List, [], ◌∷◌, ◌++◌, length, take, Bool, true, refl, sym}
 use Rattle.std.proofs.Common.{◌∙◌, ap, arith, append_assoc, length-append, length-take-le, cond, Ok, Err, false}
 use Rattle.std.specs.Prelude.{nat_eq, slice_index, slice_set, ◌==◌}
-use Rattle.std.proofs.lemmas.List.{take_more, take_all, take_at, set-get_or}
+use Rattle.std.proofs.lemmas.List.{get_or_at, take_more, take_all, take_at, set-get_or}
 use Rattle.std.proofs.lemmas.Bool.{eq-eqb, eqb-true}
 use Rattle.mmc_frame.specs.Check.{remainder, bits_of}
 use Rattle.mmc_frame.specs.Frame.{is_sound}
@@ -49,15 +49,29 @@ pub register_test : (r : List ℕ) → length r ≡ 16 → slice_index r 15 < 25
 unfolding is_sound_register
 register_test r size fits = sound_test 15 r size fits
 
+-- bytes with their check behind them are sound
+with_check_sound : (n : ℕ) (xs : List ℕ) (check : ℕ) → length xs ≡ n → check < 128
+    → check ≡ remainder (bits_of xs ++ zeros)
+    → (remainder (take (8 * n + 7) (bits_of (xs ++ (check * 2 + 1) ∷ []))) == 0) ≡ true
+with_check_sound n xs check size small is =
+    let bytes = xs ++ (check * 2 + 1) ∷ [] in
+    let whole : length bytes ≡ n + 1 = omega (arith, size, length-append xs ((check * 2 + 1) ∷ [])) in
+    let first : take n bytes ≡ xs = take_at xs ((check * 2 + 1) ∷ []) n size in
+    let last : slice_index bytes n ≡ check * 2 + 1 = get_or_at xs (check * 2 + 1) [] 0 n size in
+    sym (sound_test n bytes whole (omega (arith, last)))
+    ∙ eq-eqb _ _ (ap (λ ys. remainder (bits_of ys ++ zeros)) first ∙ (sym is ∙ omega (arith, last)))
+
 -- a frame that is made of a first byte, an argument and their check is sound
 pub made_sound : (a b c d e check : ℕ) → check < 128 → check ≡ remainder (bits_of (a ∷ b ∷ c ∷ d ∷ e ∷ []) ++ zeros)
     → is_sound (a ∷ b ∷ c ∷ d ∷ e ∷ (check * 2 + 1) ∷ []) ≡ true
-made_sound a b c d e check small is =
-    let f = a ∷ b ∷ c ∷ d ∷ e ∷ (check * 2 + 1) ∷ [] in
-    let half : (check * 2 + 1) / 2 ≡ check = omega arith in
-    let test : nat_eq (remainder (bits_of (a ∷ b ∷ c ∷ d ∷ e ∷ []) ++ zeros)) ((check * 2 + 1) / 2) ≡ is_sound f =
-    frame_test f refl (omega arith) in
-    sym test ∙ eq-eqb _ _ (sym is ∙ sym half)
+unfolding is_sound
+made_sound a b c d e check small is = with_check_sound 5 (a ∷ b ∷ c ∷ d ∷ e ∷ []) check refl small is
+
+-- a register with its check behind it is sound
+pub register_with_check : (bytes : List ℕ) (check : ℕ) → length bytes ≡ 15 → check < 128
+    → check ≡ remainder (bits_of bytes ++ zeros) → is_sound_register (bytes ++ (check * 2 + 1) ∷ []) ≡ true
+unfolding is_sound_register
+register_with_check bytes check size small is = with_check_sound 15 bytes check size small is
 
 ok_where : (end sound : Bool) (x y : List ℕ) → end ≡ true → sound ≡ true → x ≡ y
     → cond end (cond sound (Ok x) (Err Check)) (Err FixedBits) ≡ Ok y

@@ -1,6 +1,6 @@
 -- The two responses without an index: R2, the 136 bits that carry a CID or a CSD, and R3, the 48 bits that carry the
 -- OCR (SD Physical Layer 6.00, sections 4.9.3 and 4.9.4; JESD84-B51, section 6.12). A register is its sixteen bytes.
-use Rattle.std.specs.Prelude.{ℕ, ◌≡◌, ◌*◌, ◌+◌, ◌/◌, ◌%◌, ◌^◌, ◌==◌, ◌&&◌, List, [], ◌∷◌, length, take, Bool, true}
+use Rattle.std.specs.Prelude.{ℕ, ◌≡◌, ◌*◌, ◌+◌, ◌/◌, ◌%◌, ◌^◌, ◌==◌, ◌&&◌, List, [], ◌∷◌, ◌++◌, length, replicate, take, Bool, false, true}
 use Rattle.std.specs.Prelude.{if◌then◌else◌, slice_index, slice_range, slice_set, Result, Ok, Err}
 use Rattle.mmc_frame.specs.Check.{remainder, bits_of}
 use Rattle.mmc_frame.specs.Field.{field}
@@ -15,6 +15,10 @@ is_sound_register register = remainder (take 127 (bits_of register)) == 0
 -- bit 0 is 1
 abbrev pub has_end_bit : List ℕ → Bool
 has_end_bit register = slice_index register 15 % 2 == 1
+
+-- a register's bits 127 to 8, and behind them its check and the end bit
+abbrev pub with_check : List ℕ → List ℕ
+with_check bytes = bytes ++ (2 * remainder (bits_of bytes ++ replicate 7 false) + 1) ∷ []
 
 -- the register in an R2: the sixteen bytes behind 00111111, of which the last ends with a 1, otherwise the first fault
 abbrev pub register_in : List ℕ → Result (List ℕ) FrameFault

@@ -22,7 +22,7 @@ pub use card_state::State;
 pub use command::{encode, read_command};
 pub use fault::FrameFault;
 pub use kind::Kind;
-pub use register_response::{check_fits, encode_r2, encode_r3, read_r2, read_r3};
+pub use register_response::{check_fits, encode_r2, encode_r3, read_r2, read_r3, with_check};
 pub use response::{R6, R7, encode_response, read_r1, read_r6, read_r7};
 pub use status::{Status, errors, is_at_work, is_clean, own_status, state};
 

@@ -1,6 +1,7 @@
 // The two responses without an index: R2 with a CID or a CSD, R3 with the OCR.
 ghost use Rattle.std.specs.Prelude.{◌≡◌, slice_range, true, Ok};
 ghost use Rattle.mmc_frame.specs.RegisterFrame.{has_end_bit, is_sound_register, ocr_frame, ocr_in, register_frame, register_in};
+ghost use Rattle.mmc_frame.specs.RegisterFrame.{with_check};
 
 use crate::check::check_of;
 use crate::fault::FrameFault;
@@ -17,6 +18,17 @@ pub fn check_fits(register: &[u8; 16]) -> bool
     ensures { result ≡ is_sound_register register.now }
 {
     check_of(&register[..15]) == register[15] / 2
+}
+
+/// The CID or CSD with these bits 127 to 8, the highest byte first: its check and the end bit stand behind them.
+pub fn with_check(bytes: &[u8; 15]) -> [u8; 16]
+    ensures value { result ≡ with_check bytes.now }
+    ensures sound { is_sound_register result ≡ true }
+    ensures end_bit { has_end_bit result ≡ true }
+{
+    let mut register = [check_of(bytes) * 2 + 1; 16];
+    register[..15].copy_from_slice(bytes);
+    register
 }
 
 // The sixteen bytes behind the first.

@@ -1,1 +1,2 @@
+pub mod BusLemmas
 pub mod TableLemmas

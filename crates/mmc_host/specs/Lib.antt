@@ -1,3 +1,5 @@
 pub mod Fits
+pub mod Hosts
+pub mod HostStates
 pub mod Meaning
 pub mod Table

@@ -1,5 +1,6 @@
 // The data behind commands.
 ghost use Rattle.std.specs.Prelude.{◌≡◌};
+ghost use Rattle.mmc_host.specs.HostStates.{less_one};
 ghost use Rattle.mmc_host.specs.Table.{blocks_of, data_of};
 
 use mmc_card::Command;
@@ -30,6 +31,37 @@ pub enum Data {
         /// How many it sends.
         blocks: Blocks,
     },
+}
+
+impl Data {
+    /// What is left of it behind one block.
+    pub fn less_one(self) -> Data
+        ensures { result ≡ less_one self }
+    {
+        match self {
+            Data::Read {
+                length,
+                blocks: Blocks::Counted(count),
+            } if count > 1 => Data::Read {
+                length,
+                blocks: Blocks::Counted(count - 1),
+            },
+            Data::Write {
+                blocks: Blocks::Counted(count),
+            } if count > 1 => Data::Write {
+                blocks: Blocks::Counted(count - 1),
+            },
+            Data::Nothing
+            | Data::Read {
+                blocks: Blocks::Counted(_),
+                ..
+            }
+            | Data::Write {
+                blocks: Blocks::Counted(_),
+            } => Data::Nothing,
+            endless => endless,
+        }
+    }
 }
 
 // How many blocks a transfer of several has, by the count that CMD23 has preset, if it has one.

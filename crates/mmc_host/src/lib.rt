@@ -5,13 +5,21 @@
 #![tactic(auto)]
 
 mod data;
+mod host;
+mod host_bus;
 pub mod laws;
 mod meaning;
 mod response;
+mod told;
+mod work;
 
 pub use data::{Blocks, Data, data_of};
+pub use host::Host;
+pub use host_bus::HostBus;
 pub use meaning::meant;
 pub use response::{Response, response_of};
+pub use told::{Heard, HostCommand, HostState, Ios, ResponseFault};
+pub use work::{Work, work_of};
 
 #[cfg(test)]
 mod tests;

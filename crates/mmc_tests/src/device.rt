@@ -53,56 +53,6 @@ fn read_of_sector_3() -> Request {
 }
 
 #[test]
-fn serves_requests_in_order(rt: HostRuntime) -> Result<(), Fail> {
-    let card = built(rt.alloc(), sdsc())?;
-    let bus = TraceBus::new(rt.alloc(), card, 64).ok().ok_or("no trace")?;
-    let mut device = BlockDev::open(rt.alloc(), bus).ok().ok_or("no device")?;
-    assert_eq!(rt; device.info().sectors(Part::User), Some(4));
-    assert_eq!(rt; device.info().sectors(Part::Boot1), None);
-    assert!(rt; !device.info().read_only);
-
-    assert!(rt; device.turn().is_empty(), "nothing waits");
-    assert_eq!(rt; device.work_left(), 0);
-
-    let write = write_of_sector_3(rt.alloc())?;
-    assert_eq!(rt; device.submit(rt.alloc(), 7, write).ok(), Some(0));
-    assert_eq!(rt;
-        device.submit(rt.alloc(), 8, read_of_sector_3()).ok(),
-        Some(1)
-    );
-    assert_eq!(rt; device.waiting(), 2);
-
-    let mut answers = answered(&mut device);
-    match answers.pop() {
-        Some(
-            Completion {
-                ticket: 0,
-                client: 7,
-                answer: Answer::Done,
-            },
-        ) => {}
-        _ => assert!(rt; false),
-    }
-    let mut answers = answered(&mut device);
-    match answers.pop() {
-        Some(
-            Completion {
-                ticket: 1,
-                client: 8,
-                answer: Answer::Data(bytes),
-            },
-        ) => {
-            assert!(rt; bytes.as_slice().len() == 512);
-            assert!(rt; bytes.as_slice().iter().all(|byte| *byte == 0x5a));
-        }
-        _ => assert!(rt; false),
-    }
-    // 17 exchanges open the card; CMD24, the block, a poll and CMD13; CMD17 and the block
-    assert_eq!(rt; device.close().len(), 17 + 4 + 2);
-    Ok(())
-}
-
-#[test]
 fn runs_until_all_are_answered(rt: HostRuntime) -> Result<(), Fail> {
     let card = built(rt.alloc(), sdsc())?;
     let bus = TraceBus::new(rt.alloc(), card, 64).ok().ok_or("no trace")?;

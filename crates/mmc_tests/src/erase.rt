@@ -5,6 +5,7 @@ ghost use Rattle.mmc_switch.specs.UnderWay.{part_of, room_of};
 ghost use Rattle.mmc_erase.specs.Job.{suits};
 
 use crate::cards::*;
+use crate::transfer::is_all;
 use mmc_bus::{Bus, Bytes, Part, ScriptedBus, TraceBus};
 use mmc_card_sim::{CardSpec, SimCard};
 use mmc_erase::{How, erase_run};
@@ -73,7 +74,7 @@ fn are_erased(card: &SimCard, start: usize, end: usize) -> bool {
             } else {
                 0x5a
             };
-            bytes.iter().all(|each| *each == byte)
+            is_all(bytes, byte)
         })
 }
 
@@ -116,7 +117,7 @@ fn erases_and_trims_an_emmc_device(rt: HostRuntime) -> Result<(), Fail> {
         let count = u64::saturating_sub(end, start);
         assert!(rt; given_up(&mut card, session, start, count, how)?.is_ok());
         assert!(rt; are_erased(&card, start as usize, end as usize));
-        assert!(rt; card.contents(Part::Boot1).iter().all(|byte| *byte == 0x5a));
+        assert!(rt; is_all(card.contents(Part::Boot1), 0x5a));
         assert_eq!(rt; card.exchanges(), 22 + 5);
     }
     Ok(())

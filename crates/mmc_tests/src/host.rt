@@ -221,17 +221,6 @@ fn ignores_what_nobody_wanted(rt: HostRuntime) -> Result<(), Fail> {
 }
 
 #[test]
-fn polls(rt: HostRuntime) -> Result<(), Fail> {
-    let mut bus = answering(rt.alloc(), BusAnswer::Busy(true), BusAnswer::Busy(false))?;
-    assert!(rt; poll(&mut bus));
-    assert!(rt; !poll(&mut bus));
-    assert_eq!(rt; bus.len(), 2);
-    assert_eq!(rt; bus.exchange(0), Some(Exchange::Busy { yes: true }));
-    assert_eq!(rt; bus.exchange(1), Some(Exchange::Busy { yes: false }));
-    Ok(())
-}
-
-#[test]
 fn moves_blocks(rt: HostRuntime) -> Result<(), Fail> {
     for got in [DataIn::Good, DataIn::Bad, DataIn::Nothing] {
         let bytes = Bytes::new(vec![in rt.alloc(); 1, 2, 3, 4]?);

@@ -12,6 +12,8 @@ mod erase;
 #[cfg(test)]
 mod host;
 #[cfg(test)]
+mod host_bus;
+#[cfg(test)]
 mod identify;
 #[cfg(test)]
 mod queue;

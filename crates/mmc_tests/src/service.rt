@@ -1,7 +1,7 @@
 // How the device serves: turns, groups, attempts and cancellation, over cards in memory.
 use crate::cards::*;
 use crate::device::answered;
-use crate::transfer::filled;
+use crate::transfer::{filled, is_all};
 use mmc_block::*;
 use mmc_bus::Part;
 use mmc_card_sim::{Fault, SimCard};
@@ -80,7 +80,7 @@ fn closes_in_service(rt: HostRuntime) -> Result<(), Fail> {
     assert!(rt; device.turn().is_empty());
     let card = device.close();
     assert_eq!(rt; card.exchanges(), 17 + 1);
-    assert!(rt; card.contents(Part::User).iter().all(|byte| *byte == 0));
+    assert!(rt; is_all(card.contents(Part::User), 0));
     Ok(())
 }
 
@@ -173,7 +173,7 @@ fn fails_one_of_a_group(rt: HostRuntime) -> Result<(), Fail> {
     assert_eq!(rt; card.exchanges(), 17 + 2 * (4 + 6) + 4 + 4 * 2 + 3 * 4);
     for (sector, bytes) in card.contents(Part::User).chunks_exact(512).enumerate() {
         let byte = if sector == 0 { 0x11 } else { 0 };
-        assert!(rt; bytes.iter().all(|each| *each == byte));
+        assert!(rt; is_all(bytes, byte));
     }
     Ok(())
 }

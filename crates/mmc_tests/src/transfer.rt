@@ -61,7 +61,8 @@ pub fn filled(alloc: Global, byte: u8, count: usize) -> Result<Bytes, Fail>
     Ok(Bytes::new(vec![in alloc; byte; 512 * count]?))
 }
 
-fn is_all(bytes: &[u8], byte: u8) -> bool {
+/// Whether each byte is this one.
+pub fn is_all(bytes: &[u8], byte: u8) -> bool {
     bytes.iter().all(|each| *each == byte)
 }
 

@@ -1,0 +1,60 @@
+-- What a host controller has been told so far, command by command.
+use Rattle.std.specs.Prelude.{◌&&◌, ◌-◌, ◌==◌, ◌||◌, ◌≡◌, Bool, false, if◌then◌else◌, nat_lt, not, true, ℕ}
+use Rattle.mmc_frame.specs.Field.{field}
+use Rattle.mmc_frame.specs.declared.commands.TheConstants as Index
+use Rattle.mmc_card.specs.declared.exchange.Lines.{Lines}
+use Rattle.mmc_card.specs.declared.exchange.Timing.TheVariants.{Default}
+use Rattle.mmc_card.specs.declared.exchange.Width.TheVariants.{One}
+use Rattle.mmc_host.specs.declared.data.Blocks.{Blocks}
+use Rattle.mmc_host.specs.declared.data.Blocks.TheVariants.{Counted, UntilStopped}
+use Rattle.mmc_host.specs.declared.data.Data.{Data}
+use Rattle.mmc_host.specs.declared.told.HostCommand.{HostCommand}
+use Rattle.mmc_host.specs.declared.told.HostState.{HostState}
+use Rattle.mmc_host.specs.declared.told.Ios.{Ios}
+
+abbrev pub lines_of : Ios → Lines
+lines_of ios = record { width = ios.width; timing = ios.timing }
+
+-- before the first command
+abbrev pub begun : HostState
+begun =
+    record {
+      ios = record { width = One; timing = Default; is_identifying = true };
+      is_identifying = true;
+      is_app = false;
+      count = 0;
+      transfer = Data.Nothing;
+    }
+
+-- behind a command: identification begins with CMD0, and ends when CMD7 is answered
+abbrev pub sent : HostState → HostCommand → Bool → HostState
+sent state command is_answered =
+    record {
+      ios = state.ios;
+      is_identifying = (command.index == Index.GO_IDLE_STATE)
+          || (state.is_identifying && not ((command.index == Index.SELECT_CARD) && is_answered));
+      is_app = (command.index == Index.APP_CMD) && is_answered;
+      count = if (command.index == Index.SET_BLOCK_COUNT) && is_answered then field 15 0 command.argument else 0;
+      transfer = if is_answered then command.transfer else Data.Nothing;
+    }
+
+-- one block fewer to come
+abbrev pub fewer : ℕ → (Blocks → Data) → Data
+fewer count rest = if nat_lt 1 count then rest (Counted (count - 1)) else Data.Nothing
+
+abbrev pub less_one : Data → Data
+less_one Data.Nothing = Data.Nothing
+less_one (Data.Read size (Counted count)) = fewer count (λ blocks. Data.Read size blocks)
+less_one (Data.Read size UntilStopped) = Data.Read size UntilStopped
+less_one (Data.Write (Counted count)) = fewer count (λ blocks. Data.Write blocks)
+less_one (Data.Write UntilStopped) = Data.Write UntilStopped
+
+abbrev pub block_passed : HostState → HostState
+block_passed state = record state { transfer = less_one state.transfer }
+
+-- a block of this length is to come, or one of 512 bytes is to go
+abbrev pub IsToCome : HostState → ℕ → Type 0
+IsToCome state size = (blocks : Blocks) × (state.transfer ≡ Data.Read size blocks)
+
+abbrev pub IsToGo : HostState → Type 0
+IsToGo state = (blocks : Blocks) × (state.transfer ≡ Data.Write blocks)

@@ -1,0 +1,57 @@
+// The trait that a driver of a host controller implements.
+ghost use Rattle.std.specs.Prelude.{◌<◌, ◌≡◌, length};
+ghost use Rattle.mmc_host.specs.Hosts.{HostView, IsSlowEnough, IsTold, IsWithin, Looks, ReadsBlock, Sends};
+ghost use Rattle.mmc_host.specs.Hosts.{SetsIos, Waits, Where, WritesBlock};
+ghost use Rattle.mmc_host.specs.HostStates.{IsToCome, IsToGo, lines_of};
+
+use crate::told::{Heard, HostCommand, Ios, ResponseFault};
+use crate::work::Work;
+use mmc_card::{DataIn, DataOut, Lines};
+
+/// A host controller with one card.
+///
+/// It is told of each command with its response and its data, as controllers want it, and answers without checks, which it
+/// has judged itself. `HostBus` makes a bus of it.
+///
+/// Contracts see its view: a card, what it was told so far, its limits, how many faults there were, and whether it has been kept
+/// so far. While it is kept, each call but `set_ios`, `pause` and `limits` is a step of the card. A driver without a proof has
+/// the view `unkept_host`, of which nothing is said and nothing has to be shown.
+pub trait Host {
+    // What contracts see of a host.
+    ghost view: { Self → HostView };
+
+    /// The most data lines that are wired, and the fastest timing.
+    fn limits(&self) -> Lines
+        ensures { Where (view self.now) (result ≡ (view self.now).limits) };
+
+    /// Sets how many data lines are in use, the timing, and the clock, which `Ios::max_clock` tells in hertz.
+    fn set_ios(&mut self, ios: Ios)
+        requires { Where (view self.old) (IsWithin (lines_of ios) (view self.old).limits) }
+        ensures { SetsIos (view self.old) ios (view self.new) };
+
+    /// Sends a command and waits for its response, for 64 clocks at least. Where data is behind it, blocks of that length will
+    /// be asked for or offered, or the next command ends them. It doesn't wait until the card is no longer busy.
+    fn send(&mut self, command: HostCommand) -> Result<Heard, ResponseFault>
+        requires index { command.index < 64 }
+        requires told { Where (view self.old) (IsTold (view self.old).state command) }
+        requires clock { Where (view self.old) (IsSlowEnough (view self.old).state command) }
+        ensures { Sends (view self.old) command result (view self.new) };
+
+    /// Reads the next block of the data behind the last command. It waits for 100 ms at least before it answers `Nothing`.
+    fn read_block(&mut self, block: &mut [u8]) -> DataIn
+        requires { Where (view self.old) (IsToCome (view self.old).state (length block.old)) }
+        ensures { ReadsBlock (view self.old) (length block.old) result block.new (view self.new) };
+
+    /// Writes the next block of the data behind the last command, once the card takes one.
+    fn write_block(&mut self, block: &[u8; 512]) -> DataOut
+        requires { Where (view self.old) (IsToGo (view self.old).state) }
+        ensures { WritesBlock (view self.old) block.now result (view self.new) };
+
+    /// Whether the card is still busy after `work.micros()` microseconds. The answer comes at once where it isn't.
+    fn is_busy(&mut self, work: Work) -> bool
+        ensures { Looks (view self.old) result (view self.new) };
+
+    /// Waits for so many microseconds.
+    fn pause(&mut self, micros: u32)
+        ensures { Waits (view self.old) (view self.new) };
+}

@@ -1,0 +1,310 @@
+ghost use Rattle.std.specs.Prelude.{◌<◌, ◌≡◌, ◌≤◌, length, true};
+ghost use Rattle.mmc_bus.specs.Exchanges.{Commanded, DataRead, DataWritten, Polled, SetsLines};
+ghost use Rattle.mmc_card.specs.Faults.{CommandStep, PollStep, ReadStep, Spells, WriteStep};
+ghost use Rattle.mmc_bus.specs.Wires.{bus_view_with};
+ghost use Rattle.mmc_host.specs.Hosts.{Does, IsUnused, IsWithin, OnlySets, ReadsBlock, Replies, Waits};
+ghost use Rattle.mmc_host.specs.Hosts.{Where, WritesBlock, answer_heard, bus_over, lines_number};
+ghost use Rattle.mmc_host.specs.HostStates.{IsToCome, IsToGo, lines_of};
+
+use crate::data::data_of;
+use crate::host::Host;
+use crate::meaning::meant;
+use crate::response::{Response, response_of};
+use crate::told::{Heard, HostCommand, HostState, Ios, ResponseFault};
+use crate::work::{Work, work_of};
+use mmc_bus::{Bus, Wire};
+use mmc_card::{Command, DataIn, DataOut, Exchange, Lines, Reply, Timing, Want, Width};
+use mmc_frame::commands::GO_IDLE_STATE;
+use mmc_frame::{
+    Kind, encode_r2, encode_r3, encode_response, is_at_work, read_command, with_check,
+};
+
+/// The bus over a host controller.
+///
+/// It decodes each command, tells the host of its response and its data, sets the clock of identification, keeps the pace of
+/// `docs/STANDARD.md`, and spells responses again with their checks.
+#[derive(Drop)]
+pub struct HostBus<H: Host> {
+    host: H,
+    wire: Wire,
+    // what the host has been told, and what it can
+    state: HostState,
+    limits: Lines,
+    // what a busy card is at
+    work: Work,
+    is_misused: bool,
+    ghost told: { Where (H.view host) ((H.view host).state ≡ state) },
+    ghost within: { Where (H.view host) ((H.view host).limits ≡ limits) },
+}
+
+// The reply to a command, with its checks.
+fn spelled(command: HostCommand, heard: Result<Heard, ResponseFault>) -> Reply
+    requires { command.index < 64 }
+    ensures { Spells (answer_heard command.response command.index heard) result }
+{
+    let Ok(heard) = heard else {
+        return Reply::Silent;
+    };
+    match (command.response, heard) {
+        (Response::R2, Heard::Register(bytes)) => Reply::Long(encode_r2(&with_check(&bytes))),
+        (Response::R3, Heard::Word(ocr)) => Reply::Short(encode_r3(ocr)),
+        (Response::R1 | Response::R1b | Response::R6 | Response::R7, Heard::Word(argument)) =>
+            Reply::Short(encode_response(command.index, argument)),
+        _ => Reply::Silent,
+    }
+}
+
+// The fewer lines of the two.
+fn fewer_lines(a: Width, b: Width) -> Width
+    ensures fits { lines_number result ≤ lines_number b }
+    ensures same { lines_number a ≤ lines_number b → result ≡ a }
+{
+    match (a, b) {
+        (Width::One, _) | (_, Width::One) => Width::One,
+        (Width::Four, _) | (_, Width::Four) => Width::Four,
+        (Width::Eight, Width::Eight) => Width::Eight,
+    }
+}
+
+// As many of these lines and as fast as the limits allow.
+fn limited(lines: Lines, limits: Lines) -> Lines
+    ensures within { IsWithin result limits }
+    ensures same { IsWithin lines limits → result ≡ lines }
+{
+    Lines {
+        width: fewer_lines(lines.width, limits.width),
+        timing: match limits.timing {
+            Timing::Default => Timing::Default,
+            Timing::High => lines.timing,
+        },
+    }
+}
+
+impl<H: Host> HostBus<H> {
+    /// The bus over a host that has been sent no command so far.
+    pub fn new(host: H) -> HostBus<H>
+        requires { IsUnused (H.view host) }
+        ensures { bus_over (H.view result.host) result.wire result.is_misused
+            ≡ bus_view_with (H.view host).card (H.view host).faults (H.view host).may_fall (H.view host).is_kept result.wire }
+    {
+        let limits = host.limits();
+        HostBus {
+            host,
+            wire: Wire::new(),
+            state: HostState::new(),
+            limits,
+            work: Work::Settling,
+            is_misused: false,
+        }
+    }
+
+    /// The host.
+    pub fn host(&self) -> &H
+        ensures { result.now ≡ self.now.host }
+    {
+        &self.host
+    }
+
+    /// How many exchanges there were; the number stays at 2^64 - 1.
+    pub fn exchanges(&self) -> u64
+        ensures { result ≡ self.now.wire.exchanges }
+    {
+        self.wire.exchanges
+    }
+
+    /// Whether something was asked of the bus that no controller can do: to send a frame that is no command, or to move a block
+    /// that isn't behind the last command or on more lines or faster than the limits.
+    pub fn is_misused(&self) -> bool
+        ensures { result ≡ self.now.is_misused }
+    {
+        self.is_misused
+    }
+
+    // Sets lines and clock as they are wanted next.
+    fn set_ios(&mut self, is_identifying: bool)
+        ensures wire { self.new.wire ≡ self.old.wire }
+        ensures misused { self.new.is_misused ≡ self.old.is_misused }
+        ensures clock { self.new.state.ios.is_identifying ≡ is_identifying }
+        ensures state { self.new.state ≡ record self.old.state { ios = self.new.state.ios } }
+        ensures only { OnlySets (H.view self.old.host) (H.view self.new.host) }
+    {
+        let Lines { width, timing } = limited(self.wire.lines, self.limits);
+        let ios = Ios {
+            width,
+            timing,
+            is_identifying,
+        };
+        if ios != self.state.ios {
+            self.host.set_ios(ios);
+            self.state.ios = ios;
+        }
+    }
+
+    // Gives the card the time that it may take before it is asked again.
+    fn keep_pace(&mut self, command: Command, heard: Result<Heard, ResponseFault>)
+        ensures wire { self.new.wire ≡ self.old.wire }
+        ensures misused { self.new.is_misused ≡ self.old.is_misused }
+        ensures state { self.new.state ≡ self.old.state }
+        ensures waits { Waits (H.view self.old.host) (H.view self.new.host) }
+    {
+        let Ok(Heard::Word(word)) = heard else {
+            return;
+        };
+        match command {
+            Command::SendOpCond | Command::SdSendOpCond if word < READY => self
+                .host
+                .pause(BETWEEN_INQUIRIES),
+            Command::SendStatus if is_at_work(Kind::Mmc, word) => self.host.pause(BETWEEN_STATUSES),
+            _ => {}
+        }
+    }
+
+    // Sends a command, and tells the reply.
+    fn send(&mut self, index: u8, argument: u32) -> Reply
+        requires { index < 64 }
+        ensures wire { self.new.wire ≡ self.old.wire }
+        ensures misused { self.new.is_misused ≡ self.old.is_misused }
+        ensures sent { Replies (H.view self.old.host) index argument result (H.view self.new.host) }
+    {
+        self.set_ios(self.state.is_identifying || index == GO_IDLE_STATE);
+        let meaning = meant(index, argument, self.state.is_app);
+        let command = HostCommand {
+            index,
+            argument,
+            response: response_of(meaning),
+            transfer: data_of(meaning, self.state.count),
+        };
+        let heard = self.host.send(command);
+        self.state = self.state.sent(command, heard.is_ok());
+        self.work = work_of(meaning).unwrap_or(self.work);
+        self.keep_pace(meaning, heard);
+        spelled(command, heard)
+    }
+
+    // A frame that holds no command can't be sent by a controller.
+    fn carry(&mut self, frame: &[u8; 6]) -> Reply
+        ensures wire { self.new.wire ≡ self.old.wire }
+        ensures sent { Does (H.view self.old.host) self.old.wire self.old.is_misused
+            (λ old new. CommandStep old frame.now result new) (H.view self.new.host) self.new.is_misused }
+    {
+        match read_command(frame) {
+            Some((index, argument)) if index < 64 => self.send(index, argument),
+            _ => {
+                self.is_misused = true;
+                Reply::Silent
+            }
+        }
+    }
+
+    // Sets the lines as they were asked for last. It tells whether the host can.
+    fn set_lines_asked(&mut self) -> bool
+        ensures wire { self.new.wire ≡ self.old.wire }
+        ensures misused { self.new.is_misused ≡ self.old.is_misused }
+        ensures state { self.new.state ≡ record self.old.state { ios = self.new.state.ios } }
+        ensures only { OnlySets (H.view self.old.host) (H.view self.new.host) }
+        ensures set { result ≡ true → lines_of self.new.state.ios ≡ self.old.wire.lines }
+    {
+        self.set_ios(self.state.is_identifying);
+        self.state.ios.lines() == self.wire.lines
+    }
+
+    // Whether a block of this length is to come, on lines that the host can set.
+    fn can_read(&mut self, len: usize) -> bool
+        ensures wire { self.new.wire ≡ self.old.wire }
+        ensures misused { self.new.is_misused ≡ self.old.is_misused }
+        ensures only { OnlySets (H.view self.old.host) (H.view self.new.host) }
+        ensures set { result ≡ true → lines_of self.new.state.ios ≡ self.old.wire.lines }
+        ensures to_come { result ≡ true → IsToCome self.new.state len }
+    {
+        self.set_lines_asked() && self.state.is_to_come(len)
+    }
+
+    // Whether a block is to go, on lines that the host can set.
+    fn can_write(&mut self) -> bool
+        ensures wire { self.new.wire ≡ self.old.wire }
+        ensures misused { self.new.is_misused ≡ self.old.is_misused }
+        ensures only { OnlySets (H.view self.old.host) (H.view self.new.host) }
+        ensures set { result ≡ true → lines_of self.new.state.ios ≡ self.old.wire.lines }
+        ensures to_go { result ≡ true → IsToGo self.new.state }
+    {
+        self.set_lines_asked() && self.state.is_to_go()
+    }
+
+    // Reads the next block of the data that is to come.
+    fn read_next(&mut self, block: &mut [u8]) -> DataIn
+        ensures wire { self.new.wire ≡ self.old.wire }
+        ensures read { Does (H.view self.old.host) self.old.wire self.old.is_misused
+            (λ old new. ReadStep old (length block.old) result block.new new) (H.view self.new.host) self.new.is_misused }
+    {
+        if !self.can_read(block.len()) {
+            self.is_misused = true;
+            return DataIn::Nothing;
+        }
+        let got = self.host.read_block(block);
+        self.state = self.state.block_passed();
+        got
+    }
+
+    // Writes the next block of the data that is to go.
+    fn write_next(&mut self, block: &[u8; 512]) -> DataOut
+        ensures wire { self.new.wire ≡ self.old.wire }
+        ensures written { Does (H.view self.old.host) self.old.wire self.old.is_misused
+            (λ old new. WriteStep old block.now result new) (H.view self.new.host) self.new.is_misused }
+    {
+        if !self.can_write() {
+            self.is_misused = true;
+            return DataOut::Nothing;
+        }
+        let got = self.host.write_block(block);
+        self.state = self.state.block_passed();
+        got
+    }
+
+    // Whether the card is still busy.
+    fn look(&mut self) -> bool
+        ensures wire { self.new.wire ≡ self.old.wire }
+        ensures looked { Does (H.view self.old.host) self.old.wire self.old.is_misused
+            (λ old new. PollStep old result new) (H.view self.new.host) self.new.is_misused }
+    {
+        self.host.is_busy(self.work)
+    }
+}
+
+const READY: u32 = 0x8000_0000;
+
+const BETWEEN_INQUIRIES: u32 = 64_000;
+
+const BETWEEN_STATUSES: u32 = 32_000;
+
+impl<H: Host> Bus for HostBus<H> {
+    ghost view = { λ s. bus_over (H.view s.host) s.wire s.is_misused };
+
+    fn command(&mut self, frame: [u8; 6], want: Want) -> Reply {
+        let reply = self.carry(&frame);
+        self.wire.note(Exchange::Command { frame, want, reply });
+        reply
+    }
+
+    fn read_data(&mut self, buffer: &mut [u8]) -> DataIn {
+        let len = buffer.len();
+        let got = self.read_next(buffer);
+        self.wire.note(Exchange::In { len, got });
+        got
+    }
+
+    fn write_data(&mut self, block: &[u8; 512]) -> DataOut {
+        let got = self.write_next(block);
+        self.wire.note(Exchange::Out { got });
+        got
+    }
+
+    fn busy(&mut self) -> bool {
+        let yes = self.look();
+        self.wire.note(Exchange::Busy { yes });
+        yes
+    }
+
+    fn set_lines(&mut self, width: Width, timing: Timing) {
+        self.wire.set_lines(width, timing);
+    }
+}

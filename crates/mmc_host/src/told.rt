@@ -1,0 +1,174 @@
+// What a host controller is told, and what it says.
+ghost use Rattle.std.specs.Prelude.{◌≡◌, true};
+ghost use Rattle.mmc_host.specs.HostStates.{IsToCome, IsToGo, begun, block_passed, lines_of, sent};
+
+use crate::data::{Blocks, Data};
+use crate::response::Response;
+use mmc_card::{Lines, Timing, Width};
+use mmc_frame::commands::{APP_CMD, GO_IDLE_STATE, SELECT_CARD, SET_BLOCK_COUNT};
+use thiserror::Error;
+
+/// A command, as a host controller is told of it.
+#[derive(Clone, Copy, Debug, PartialEq, Eq)]
+pub struct HostCommand {
+    /// The index, 0 to 63.
+    pub index: u8,
+    /// The argument.
+    pub argument: u32,
+    /// The response to it: its length, which checks there are, and whether the card may be busy behind it.
+    pub response: Response,
+    /// The data behind it.
+    pub transfer: Data,
+}
+
+/// What came in response to a command.
+#[derive(Clone, Copy, Debug, PartialEq, Eq)]
+pub enum Heard {
+    /// Nothing, where no response was wanted.
+    Nothing,
+    /// Bits 39 to 8 of a response of 48 bits: card status, OCR, RCA or echo.
+    Word(u32),
+    /// Bits 127 to 8 of a response of 136 bits: a CID or a CSD without its check, the highest byte first.
+    Register([u8; 15]),
+}
+
+/// Why no response was heard.
+#[derive(Clone, Copy, Debug, PartialEq, Eq, Error)]
+pub enum ResponseFault {
+    /// No response began within 64 clocks.
+    #[error("no response came")]
+    Timeout,
+    /// Its CRC7 doesn't fit.
+    #[error("the response's check doesn't fit")]
+    Check,
+    /// Its end bit is 0.
+    #[error("the response's end bit is 0")]
+    EndBit,
+    /// It answers a command with another index.
+    #[error("the response answers another command")]
+    Index,
+}
+
+/// How the lines of a host are set.
+#[derive(Clone, Copy, Debug, PartialEq, Eq)]
+pub struct Ios {
+    /// How many data lines are in use.
+    pub width: Width,
+    /// The timing.
+    pub timing: Timing,
+    /// Whether the clock is that of identification: at most 400 kHz, whatever the timing.
+    pub is_identifying: bool,
+}
+
+impl Ios {
+    /// The lines without the clock.
+    pub fn lines(self) -> Lines
+        ensures { result ≡ lines_of self }
+    {
+        Lines {
+            width: self.width,
+            timing: self.timing,
+        }
+    }
+
+    /// The fastest clock in hertz that both kinds of card allow (SD Physical Layer 6.00, section 6.6; JESD84-B51, section
+    /// 10.5): 400 kHz, 25 MHz at default speed and 50 MHz at high speed. An eMMC device allows 26 and 52 MHz.
+    pub fn max_clock(self) -> u32 {
+        match self {
+            Ios {
+                is_identifying: true,
+                ..
+            } => 400_000,
+            Ios {
+                timing: Timing::Default,
+                ..
+            } => 25_000_000,
+            Ios {
+                timing: Timing::High,
+                ..
+            } => 50_000_000,
+        }
+    }
+}
+
+/// What a host controller has been told so far, as far as it bears on what comes next.
+#[derive(Clone, Copy, Debug, PartialEq, Eq)]
+pub struct HostState {
+    /// How its lines are set.
+    pub ios: Ios,
+    /// The card is being identified: since CMD0, and until CMD7 is answered.
+    pub is_identifying: bool,
+    /// CMD55 was answered just now.
+    pub is_app: bool,
+    /// The count that CMD23 preset just now, 0 where none is.
+    pub count: u16,
+    /// The data that is still to come behind the last command.
+    pub transfer: Data,
+}
+
+impl HostState {
+    /// Before the first command: one line, the clock of identification.
+    pub fn new() -> HostState
+        ensures { result ≡ begun }
+    {
+        HostState {
+            ios: Ios {
+                width: Width::One,
+                timing: Timing::Default,
+                is_identifying: true,
+            },
+            is_identifying: true,
+            is_app: false,
+            count: 0,
+            transfer: Data::Nothing,
+        }
+    }
+
+    /// Behind a command that was answered as it was wanted, or not.
+    pub fn sent(self, command: HostCommand, is_answered: bool) -> HostState
+        ensures { result ≡ sent self command is_answered }
+    {
+        let HostCommand {
+            index,
+            argument,
+            response: _,
+            transfer,
+        } = command;
+        HostState {
+            ios: self.ios,
+            is_identifying: index == GO_IDLE_STATE
+                || self.is_identifying && !(index == SELECT_CARD && is_answered),
+            is_app: index == APP_CMD && is_answered,
+            count: if index == SET_BLOCK_COUNT && is_answered {
+                (argument % 0x1_0000) as u16
+            } else {
+                0
+            },
+            transfer: if is_answered { transfer } else { Data::Nothing },
+        }
+    }
+
+    /// Whether a block of this many bytes is to come.
+    pub fn is_to_come(self, len: usize) -> bool
+        ensures { result ≡ true → IsToCome self len }
+    {
+        matches!(self.transfer, Data::Read { length, .. } if length as usize == len)
+    }
+
+    /// Whether a block is to go.
+    pub fn is_to_go(self) -> bool
+        ensures { result ≡ true → IsToGo self }
+    {
+        matches!(self.transfer, Data::Write { .. })
+    }
+
+    /// Behind a block, whatever became of it.
+    pub fn block_passed(self) -> HostState
+        ensures { result ≡ block_passed self }
+    {
+        HostState {
+            transfer: self.transfer.less_one(),
+            ..self
+        }
+    }
+}

@@ -1,0 +1,138 @@
+// The device over a host controller, behind which is a card in memory.
+ghost use Rattle.std.specs.Prelude.{◌<◌};
+
+use crate::cards::{Which, built, spec_of};
+use crate::transfer::{filled, is_all};
+use mmc_block::*;
+use mmc_bus::{Bus, Part};
+use mmc_card::{DataIn, DataOut, Lines, Reply, Timing, Want, Width};
+use mmc_card_sim::SimCard;
+use mmc_frame::commands::SEND_RELATIVE_ADDR;
+use mmc_frame::{encode, read_r1, read_r2, read_r3};
+use mmc_host::*;
+use std::alloc::Global;
+use std::test::Fail;
+
+// A controller that notes whether a command of identification came at more than 400 kHz.
+#[derive(Drop)]
+struct Controller {
+    card: SimCard,
+    ios: Option<Ios>,
+    was_too_fast: bool,
+}
+
+// Bits 127 to 8 of a register.
+fn without_check(register: [u8; 16]) -> [u8; 15] {
+    let mut bytes = [0; 15];
+    bytes.copy_from_slice(&register[..15]);
+    bytes
+}
+
+impl Host for Controller {
+    ghost use Rattle.mmc_host.specs.Hosts.{unkept_host};
+
+    ghost view = { λ _. unkept_host };
+
+    fn limits(&self) -> Lines {
+        Lines {
+            width: Width::Eight,
+            timing: Timing::High,
+        }
+    }
+
+    fn set_ios(&mut self, ios: Ios) {
+        self.card.set_lines(ios.width, ios.timing);
+        self.ios = Some(ios);
+    }
+
+    fn send(&mut self, command: HostCommand) -> Result<Heard, ResponseFault> {
+        let is_slow = matches!(
+            self.ios,
+            None | Some(Ios {
+                is_identifying: true,
+                ..
+            })
+        );
+        self.was_too_fast |= command.index <= SEND_RELATIVE_ADDR && !is_slow;
+        let frame = encode(command.index, command.argument);
+        match (command.response, self.card.command(frame, Want::Short)) {
+            (Response::Nothing, _) => Ok(Heard::Nothing),
+            (Response::R2, Reply::Long(frame)) => match read_r2(&frame) {
+                Ok(register) => Ok(Heard::Register(without_check(register))),
+                Err(_) => Err(ResponseFault::Check),
+            },
+            (Response::R3, Reply::Short(frame)) => match read_r3(&frame) {
+                Ok(ocr) => Ok(Heard::Word(ocr)),
+                Err(_) => Err(ResponseFault::EndBit),
+            },
+            (_, Reply::Short(frame)) => match read_r1(&frame, command.index) {
+                Ok(word) => Ok(Heard::Word(word)),
+                Err(_) => Err(ResponseFault::Check),
+            },
+            _ => Err(ResponseFault::Timeout),
+        }
+    }
+
+    fn read_block(&mut self, block: &mut [u8]) -> DataIn {
+        self.card.read_data(block)
+    }
+
+    fn write_block(&mut self, block: &[u8; 512]) -> DataOut {
+        self.card.write_data(block)
+    }
+
+    fn is_busy(&mut self, _work: Work) -> bool {
+        self.card.busy()
+    }
+
+    fn pause(&mut self, micros: u32) {
+        let _ = micros;
+    }
+}
+
+// A request of two sectors, from sector 1 on.
+fn requests(alloc: Global) -> Result<[Request; 2], Fail> {
+    let write = Request::Write {
+        part: Part::User,
+        start: 1,
+        count: 2,
+        bytes: filled(alloc, 0x5a, 2)?,
+    };
+    let read = Request::Read {
+        part: Part::User,
+        start: 1,
+        count: 2,
+    };
+    Ok([write, read])
+}
+
+#[test]
+fn serves_over_a_controller(rt: HostRuntime) -> Result<(), Fail> {
+    for which in [Which::Sdsc, Which::SdscCmd23, Which::Sdhc, Which::Emmc] {
+        let host = Controller {
+            card: built(rt.alloc(), spec_of(which))?,
+            ios: None,
+            was_too_fast: false,
+        };
+        let bus = HostBus::new(host);
+        let mut device = BlockDev::open(rt.alloc(), bus).ok().ok_or("no device")?;
+        for request in requests(rt.alloc())? {
+            assert!(rt; device.submit(rt.alloc(), 1, request).is_ok());
+        }
+        let answers = device.run(rt.alloc())?;
+        assert_eq!(rt; answers.len(), 2);
+        match answers.last() {
+            Some(
+                Completion {
+                    answer: Answer::Data(bytes),
+                    ..
+                },
+            ) => assert!(rt; is_all(bytes.as_slice(), 0x5a)),
+            _ => assert!(rt; false),
+        }
+        let bus = device.close();
+        assert!(rt; !bus.is_misused());
+        assert!(rt; !bus.host().was_too_fast);
+    }
+    Ok(())
+}
