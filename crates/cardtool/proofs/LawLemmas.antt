@@ -1,5 +1,5 @@
 -- What few planned faults can't do to a card in profile.
-use Rattle.std.proofs.Common.{◌≡◌, ◌<◌, ℕ, List, Option, Err, Ok, Bool, ap, arith, false, length, refl, subst, sym, true}
+use Rattle.std.proofs.Common.{◌≡◌, ◌<◌, ℕ, List, Option, Err, Ok, ap, arith, false, length, refl, subst, sym, true}
 use Rattle.mmc_block.specs.Answers.{failures}
 use Rattle.mmc_block.specs.InOrder.{answers}
 use Rattle.mmc_card.specs.Card.{Card}

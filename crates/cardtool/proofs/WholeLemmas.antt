@@ -9,7 +9,7 @@ use Rattle.mmc_bus.specs.Learned.{Stays}
 use Rattle.mmc_bus.specs.Work.{Narrows}
 use Rattle.mmc_card.specs.BusView.{BusView}
 use Rattle.mmc_card.specs.Faults.{FallAtMost, FallNoMore}
-use Rattle.mmc_card.specs.Card.{Card, holds}
+use Rattle.mmc_card.specs.Card.{holds}
 use Rattle.mmc_card.specs.Made.{Made}
 use Rattle.mmc_card.specs.Profile.{InProfile}
 use Rattle.mmc_card.specs.declared.part.Part.{Part}
