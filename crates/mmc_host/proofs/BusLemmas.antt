@@ -15,7 +15,7 @@ use Rattle.mmc_bus.specs.Exchanges.{Exchanged, Kept}
 use Rattle.mmc_bus.specs.Wires.{Notes}
 use Rattle.mmc_bus.specs.declared.wire.Wire.{Wire}
 use Rattle.std.specs.Prelude.{None, Result}
-use Rattle.mmc_host.specs.HostStates.{block_passed, lines_of}
+use Rattle.mmc_host.specs.HostStates.{block_passed, is_accepted, is_good, lines_of}
 use Rattle.mmc_host.specs.Hosts.{Does, HostView, OnlySets, ReadsBlock, Replies, Sends, Steps, Waits, Where, WritesBlock, answer_heard, bus_of, bus_over}
 use Rattle.mmc_host.specs.declared.told.Heard.{Heard}
 use Rattle.mmc_host.specs.declared.told.HostCommand.{HostCommand}
@@ -136,14 +136,14 @@ pub does_read : (v0 v1 v2 : HostView) (w : Wire) (misused : Bool) (size : ℕ) (
     → Where v1 (lines_of v1.state.ios ≡ w.lines) → OnlySets v0 v1 → ReadsBlock v1 size got block v2
     → Does v0 w misused (λ before after. ReadStep before size got block after) v2 misused
 does_read v0 v1 v2 w misused size got block lines sets reads =
-    set_and_done v0 v1 v2 w misused (block_passed v1.state) (λ old new. ReadStep old size got block new) lines sets reads
+    set_and_done v0 v1 v2 w misused (block_passed v1.state (is_good got)) (λ old new. ReadStep old size got block new) lines sets reads
     (λ l a b. moved_read (bus_of v1) (bus_of v2) l a b size got block)
 
 pub does_write : (v0 v1 v2 : HostView) (w : Wire) (misused : Bool) (block : List ℕ) (got : DataOut)
     → Where v1 (lines_of v1.state.ios ≡ w.lines) → OnlySets v0 v1 → WritesBlock v1 block got v2
     → Does v0 w misused (λ before after. WriteStep before block got after) v2 misused
 does_write v0 v1 v2 w misused block got lines sets writes =
-    set_and_done v0 v1 v2 w misused (block_passed v1.state) (λ old new. WriteStep old block got new) lines sets writes
+    set_and_done v0 v1 v2 w misused (block_passed v1.state (is_accepted got)) (λ old new. WriteStep old block got new) lines sets writes
     (λ l a b. moved_write (bus_of v1) (bus_of v2) l a b block got)
 
 -- the wire notes what was done

@@ -1,2 +1,3 @@
 pub mod BusLemmas
 pub mod TableLemmas
+pub mod WireLemmas

@@ -1,7 +1,15 @@
 -- What a host controller has been told so far, command by command.
-use Rattle.std.specs.Prelude.{◌&&◌, ◌-◌, ◌==◌, ◌||◌, ◌≡◌, Bool, false, if◌then◌else◌, nat_lt, not, true, ℕ}
+use Rattle.std.specs.Prelude.{◌&&◌, ◌-◌, ◌==◌, ◌||◌, ◌≡◌, ◌≤◌, ◌⊎◌, Bool, false, if◌then◌else◌, nat_lt, not, true, ℕ}
 use Rattle.mmc_frame.specs.Field.{field}
 use Rattle.mmc_frame.specs.declared.commands.TheConstants as Index
+use Rattle.mmc_frame.specs.declared.kind.Kind.{Kind}
+use Rattle.mmc_card.specs.Rows.{command_of}
+use Rattle.mmc_host.specs.Meaning.{IsSentTo}
+use Rattle.mmc_host.specs.Table.{data_of, response_of}
+use Rattle.mmc_card.specs.declared.exchange.DataIn.{DataIn}
+use Rattle.mmc_card.specs.declared.exchange.DataIn.TheVariants as Received
+use Rattle.mmc_card.specs.declared.exchange.DataOut.{DataOut}
+use Rattle.mmc_card.specs.declared.exchange.DataOut.TheVariants as Sent
 use Rattle.mmc_card.specs.declared.exchange.Lines.{Lines}
 use Rattle.mmc_card.specs.declared.exchange.Timing.TheVariants.{Default}
 use Rattle.mmc_card.specs.declared.exchange.Width.TheVariants.{One}
@@ -49,8 +57,25 @@ less_one (Data.Read size UntilStopped) = Data.Read size UntilStopped
 less_one (Data.Write (Counted count)) = fewer count (λ blocks. Data.Write blocks)
 less_one (Data.Write UntilStopped) = Data.Write UntilStopped
 
-abbrev pub block_passed : HostState → HostState
-block_passed state = record state { transfer = less_one state.transfer }
+-- blocks that a controller can move: one at least, of 512 bytes at most
+abbrev pub AreMovable : Data → Type 0
+AreMovable Data.Nothing = Unit {0}
+AreMovable (Data.Read size (Counted count)) = (size ≤ 512) × (1 ≤ count)
+AreMovable (Data.Read size UntilStopped) = size ≤ 512
+AreMovable (Data.Write (Counted count)) = 1 ≤ count
+AreMovable (Data.Write UntilStopped) = Unit {0}
+
+-- behind a block; one that failed ends the data
+abbrev pub block_passed : HostState → Bool → HostState
+block_passed state is_good = record state { transfer = if is_good then less_one state.transfer else Data.Nothing }
+
+abbrev pub is_good : DataIn → Bool
+is_good Received.Good = true
+is_good _ = false
+
+abbrev pub is_accepted : DataOut → Bool
+is_accepted Sent.Accepted = true
+is_accepted _ = false
 
 -- a block of this length is to come, or one of 512 bytes is to go
 abbrev pub IsToCome : HostState → ℕ → Type 0
@@ -58,3 +83,14 @@ IsToCome state size = (blocks : Blocks) × (state.transfer ≡ Data.Read size bl
 
 abbrev pub IsToGo : HostState → Type 0
 IsToGo state = (blocks : Blocks) × (state.transfer ≡ Data.Write blocks)
+
+-- response and data are those of the table, whichever kind the card is
+abbrev pub IsTold : HostState → HostCommand → Type 0
+IsTold state command =
+    (kind : Kind) → IsSentTo kind state.is_app command.index command.argument
+    → (command.response ≡ response_of (command_of kind state.is_app command.index))
+    × (command.transfer ≡ data_of (command_of kind state.is_app command.index) state.count)
+
+-- a command with data is sent only where none is under way
+abbrev pub IsFree : HostState → HostCommand → Type 0
+IsFree state command = (command.transfer ≡ Data.Nothing) ⊎ (state.transfer ≡ Data.Nothing)

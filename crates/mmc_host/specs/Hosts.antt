@@ -3,12 +3,10 @@ use Rattle.std.specs.Prelude.{◌&&◌, ◌==◌, ◌||◌, ◌≡◌, ◌≤◌
 use Rattle.mmc_frame.specs.Frame.{command_in}
 use Rattle.mmc_frame.specs.RegisterFrame.{with_check}
 use Rattle.mmc_frame.specs.declared.commands.TheConstants as Index
-use Rattle.mmc_frame.specs.declared.kind.Kind.{Kind}
 use Rattle.mmc_card.specs.BusView.{BusView}
 use Rattle.mmc_card.specs.Card.{Card, powered_on}
 use Rattle.mmc_card.specs.CardAnswer.{CardAnswer, Checked, R2, R3, Silent}
 use Rattle.mmc_card.specs.Faults.{CommandStep, PollStep, ReadStep, Spells, WriteStep}
-use Rattle.mmc_card.specs.Rows.{command_of}
 use Rattle.mmc_card.specs.declared.exchange.DataIn.{DataIn}
 use Rattle.mmc_card.specs.declared.exchange.DataOut.{DataOut}
 use Rattle.mmc_card.specs.declared.exchange.Lines.{Lines}
@@ -19,9 +17,7 @@ use Rattle.mmc_card.specs.declared.exchange.Width.TheVariants.{Eight, Four, One}
 use Rattle.mmc_bus.specs.Exchanges.{Kept}
 use Rattle.mmc_bus.specs.Wires.{bus_view_with, nothing_made}
 use Rattle.mmc_bus.specs.declared.wire.Wire.{Wire}
-use Rattle.mmc_host.specs.HostStates.{begun, block_passed, lines_of, sent}
-use Rattle.mmc_host.specs.Meaning.{IsSentTo}
-use Rattle.mmc_host.specs.Table.{data_of, response_of}
+use Rattle.mmc_host.specs.HostStates.{begun, block_passed, is_accepted, is_good, lines_of, sent}
 use Rattle.mmc_host.specs.declared.response.Response.{Response}
 use Rattle.mmc_host.specs.declared.response.Response.TheVariants as To
 use Rattle.mmc_host.specs.declared.told.Heard.{Heard}
@@ -72,13 +68,6 @@ abbrev pub IsWithin : Lines → Lines → Type 0
 IsWithin lines limits =
     (lines_number lines.width ≤ lines_number limits.width) × (lines.timing ≡ High → limits.timing ≡ High)
 
--- response and data are those of the table, whichever kind the card is
-abbrev pub IsTold : HostState → HostCommand → Type 0
-IsTold state command =
-    (kind : Kind) → IsSentTo kind state.is_app command.index command.argument
-    → (command.response ≡ response_of (command_of kind state.is_app command.index))
-    × (command.transfer ≡ data_of (command_of kind state.is_app command.index) state.count)
-
 -- a card that is being identified hears at most 400 kHz
 abbrev pub IsSlowEnough : HostState → HostCommand → Type 0
 IsSlowEnough state command =
@@ -119,11 +108,11 @@ Sends old command heard new =
 
 abbrev pub ReadsBlock : HostView → ℕ → DataIn → List ℕ → HostView → Type 0
 ReadsBlock old size got block new =
-    Where new (Steps old (block_passed old.state) (ReadStep (bus_of old) size got block (bus_of new)) new)
+    Where new (Steps old (block_passed old.state (is_good got)) (ReadStep (bus_of old) size got block (bus_of new)) new)
 
 abbrev pub WritesBlock : HostView → List ℕ → DataOut → HostView → Type 0
 WritesBlock old block got new =
-    Where new (Steps old (block_passed old.state) (WriteStep (bus_of old) block got (bus_of new)) new)
+    Where new (Steps old (block_passed old.state (is_accepted got)) (WriteStep (bus_of old) block got (bus_of new)) new)
 
 abbrev pub Looks : HostView → Bool → HostView → Type 0
 Looks old said new = Where new (Steps old old.state (PollStep (bus_of old) said (bus_of new)) new)

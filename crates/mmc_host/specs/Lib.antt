@@ -3,3 +3,4 @@ pub mod Hosts
 pub mod HostStates
 pub mod Meaning
 pub mod Table
+pub mod WireLaws

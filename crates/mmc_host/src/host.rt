@@ -1,8 +1,8 @@
 // The trait that a driver of a host controller implements.
 ghost use Rattle.std.specs.Prelude.{◌<◌, ◌≡◌, length};
-ghost use Rattle.mmc_host.specs.Hosts.{HostView, IsSlowEnough, IsTold, IsWithin, Looks, ReadsBlock, Sends};
+ghost use Rattle.mmc_host.specs.Hosts.{HostView, IsSlowEnough, IsWithin, Looks, ReadsBlock, Sends};
 ghost use Rattle.mmc_host.specs.Hosts.{SetsIos, Waits, Where, WritesBlock};
-ghost use Rattle.mmc_host.specs.HostStates.{IsToCome, IsToGo, lines_of};
+ghost use Rattle.mmc_host.specs.HostStates.{AreMovable, IsFree, IsTold, IsToCome, IsToGo, lines_of};
 
 use crate::told::{Heard, HostCommand, Ios, ResponseFault};
 use crate::work::Work;
@@ -33,16 +33,20 @@ pub trait Host {
     /// be asked for or offered, or the next command ends them. It doesn't wait until the card is no longer busy.
     fn send(&mut self, command: HostCommand) -> Result<Heard, ResponseFault>
         requires index { command.index < 64 }
+        requires movable { AreMovable command.transfer }
+        requires free { Where (view self.old) (IsFree (view self.old).state command) }
         requires told { Where (view self.old) (IsTold (view self.old).state command) }
         requires clock { Where (view self.old) (IsSlowEnough (view self.old).state command) }
         ensures { Sends (view self.old) command result (view self.new) };
 
-    /// Reads the next block of the data behind the last command. It waits for 100 ms at least before it answers `Nothing`.
+    /// Reads the next block of the data behind the last command. It waits for 100 ms at least before it answers `Nothing`. A block
+    /// that isn't good ends the data.
     fn read_block(&mut self, block: &mut [u8]) -> DataIn
         requires { Where (view self.old) (IsToCome (view self.old).state (length block.old)) }
         ensures { ReadsBlock (view self.old) (length block.old) result block.new (view self.new) };
 
-    /// Writes the next block of the data behind the last command, once the card takes one.
+    /// Writes the next block of the data behind the last command, once the card takes one. A block that isn't accepted ends
+    /// the data.
     fn write_block(&mut self, block: &[u8; 512]) -> DataOut
         requires { Where (view self.old) (IsToGo (view self.old).state) }
         ensures { WritesBlock (view self.old) block.now result (view self.new) };

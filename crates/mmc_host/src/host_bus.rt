@@ -1,15 +1,16 @@
-ghost use Rattle.std.specs.Prelude.{◌<◌, ◌≡◌, ◌≤◌, length, true};
+ghost use Rattle.std.specs.Prelude.{◌<◌, ◌≡◌, ◌≤◌, IsSome, length, true};
+ghost use Rattle.mmc_frame.specs.Frame.{command_in};
+ghost use Rattle.mmc_host.specs.declared.data.Data.TheVariants as Data;
 ghost use Rattle.mmc_bus.specs.Exchanges.{Commanded, DataRead, DataWritten, Polled, SetsLines};
 ghost use Rattle.mmc_card.specs.Faults.{CommandStep, PollStep, ReadStep, Spells, WriteStep};
 ghost use Rattle.mmc_bus.specs.Wires.{bus_view_with};
 ghost use Rattle.mmc_host.specs.Hosts.{Does, IsUnused, IsWithin, OnlySets, ReadsBlock, Replies, Waits};
 ghost use Rattle.mmc_host.specs.Hosts.{Where, WritesBlock, answer_heard, bus_over, lines_number};
-ghost use Rattle.mmc_host.specs.HostStates.{IsToCome, IsToGo, lines_of};
+ghost use Rattle.mmc_host.specs.HostStates.{AreMovable, IsFree, IsTold, IsToCome, IsToGo, lines_of};
 
-use crate::data::data_of;
 use crate::host::Host;
 use crate::meaning::meant;
-use crate::response::{Response, response_of};
+use crate::response::Response;
 use crate::told::{Heard, HostCommand, HostState, Ios, ResponseFault};
 use crate::work::{Work, work_of};
 use mmc_bus::{Bus, Wire};
@@ -125,6 +126,7 @@ impl<H: Host> HostBus<H> {
         ensures wire { self.new.wire ≡ self.old.wire }
         ensures misused { self.new.is_misused ≡ self.old.is_misused }
         ensures clock { self.new.state.ios.is_identifying ≡ is_identifying }
+        ensures lines { IsWithin self.old.wire.lines self.old.limits → lines_of self.new.state.ios ≡ self.old.wire.lines }
         ensures state { self.new.state ≡ record self.old.state { ios = self.new.state.ios } }
         ensures only { OnlySets (H.view self.old.host) (H.view self.new.host) }
     {
@@ -160,20 +162,17 @@ impl<H: Host> HostBus<H> {
     }
 
     // Sends a command, and tells the reply.
-    fn send(&mut self, index: u8, argument: u32) -> Reply
-        requires { index < 64 }
+    fn send(&mut self, command: HostCommand) -> Reply
+        requires index { command.index < 64 }
+        requires movable { AreMovable command.transfer }
+        requires told { IsTold self.old.state command }
+        requires free { IsFree self.old.state command }
         ensures wire { self.new.wire ≡ self.old.wire }
         ensures misused { self.new.is_misused ≡ self.old.is_misused }
-        ensures sent { Replies (H.view self.old.host) index argument result (H.view self.new.host) }
+        ensures sent { Replies (H.view self.old.host) command.index command.argument result (H.view self.new.host) }
     {
-        self.set_ios(self.state.is_identifying || index == GO_IDLE_STATE);
-        let meaning = meant(index, argument, self.state.is_app);
-        let command = HostCommand {
-            index,
-            argument,
-            response: response_of(meaning),
-            transfer: data_of(meaning, self.state.count),
-        };
+        self.set_ios(self.state.is_identifying || command.index == GO_IDLE_STATE);
+        let meaning = meant(command.index, command.argument, self.state.is_app);
         let heard = self.host.send(command);
         self.state = self.state.sent(command, heard.is_ok());
         self.work = work_of(meaning).unwrap_or(self.work);
@@ -181,19 +180,25 @@ impl<H: Host> HostBus<H> {
         spelled(command, heard)
     }
 
-    // A frame that holds no command can't be sent by a controller.
+    // Sends the command of a frame. A controller can't send a frame that holds none, nor a command with data where data is under
+    // way.
     fn carry(&mut self, frame: &[u8; 6]) -> Reply
         ensures wire { self.new.wire ≡ self.old.wire }
         ensures sent { Does (H.view self.old.host) self.old.wire self.old.is_misused
             (λ old new. CommandStep old frame.now result new) (H.view self.new.host) self.new.is_misused }
+        ensures fits { IsSome (command_in frame.now) → self.old.state.transfer ≡ Data.Nothing
+            → self.new.is_misused ≡ self.old.is_misused }
     {
-        match read_command(frame) {
-            Some((index, argument)) if index < 64 => self.send(index, argument),
-            _ => {
-                self.is_misused = true;
-                Reply::Silent
-            }
+        let Some((index, argument)) = read_command(frame) else {
+            self.is_misused = true;
+            return Reply::Silent;
+        };
+        let command = self.state.command(index, argument);
+        if index >= 64 || !self.state.is_free(command) {
+            self.is_misused = true;
+            return Reply::Silent;
         }
+        self.send(command)
     }
 
     // Sets the lines as they were asked for last. It tells whether the host can.
@@ -203,6 +208,7 @@ impl<H: Host> HostBus<H> {
         ensures state { self.new.state ≡ record self.old.state { ios = self.new.state.ios } }
         ensures only { OnlySets (H.view self.old.host) (H.view self.new.host) }
         ensures set { result ≡ true → lines_of self.new.state.ios ≡ self.old.wire.lines }
+        ensures can { IsWithin self.old.wire.lines self.old.limits → result ≡ true }
     {
         self.set_ios(self.state.is_identifying);
         self.state.ios.lines() == self.wire.lines
@@ -215,6 +221,7 @@ impl<H: Host> HostBus<H> {
         ensures only { OnlySets (H.view self.old.host) (H.view self.new.host) }
         ensures set { result ≡ true → lines_of self.new.state.ios ≡ self.old.wire.lines }
         ensures to_come { result ≡ true → IsToCome self.new.state len }
+        ensures can { IsWithin self.old.wire.lines self.old.limits → IsToCome self.old.state len → result ≡ true }
     {
         self.set_lines_asked() && self.state.is_to_come(len)
     }
@@ -226,6 +233,7 @@ impl<H: Host> HostBus<H> {
         ensures only { OnlySets (H.view self.old.host) (H.view self.new.host) }
         ensures set { result ≡ true → lines_of self.new.state.ios ≡ self.old.wire.lines }
         ensures to_go { result ≡ true → IsToGo self.new.state }
+        ensures can { IsWithin self.old.wire.lines self.old.limits → IsToGo self.old.state → result ≡ true }
     {
         self.set_lines_asked() && self.state.is_to_go()
     }
@@ -235,13 +243,15 @@ impl<H: Host> HostBus<H> {
         ensures wire { self.new.wire ≡ self.old.wire }
         ensures read { Does (H.view self.old.host) self.old.wire self.old.is_misused
             (λ old new. ReadStep old (length block.old) result block.new new) (H.view self.new.host) self.new.is_misused }
+        ensures fits { IsWithin self.old.wire.lines self.old.limits → IsToCome self.old.state (length block.old)
+            → self.new.is_misused ≡ self.old.is_misused }
     {
         if !self.can_read(block.len()) {
             self.is_misused = true;
             return DataIn::Nothing;
         }
         let got = self.host.read_block(block);
-        self.state = self.state.block_passed();
+        self.state = self.state.block_passed(got == DataIn::Good);
         got
     }
 
@@ -250,13 +260,15 @@ impl<H: Host> HostBus<H> {
         ensures wire { self.new.wire ≡ self.old.wire }
         ensures written { Does (H.view self.old.host) self.old.wire self.old.is_misused
             (λ old new. WriteStep old block.now result new) (H.view self.new.host) self.new.is_misused }
+        ensures fits { IsWithin self.old.wire.lines self.old.limits → IsToGo self.old.state
+            → self.new.is_misused ≡ self.old.is_misused }
     {
         if !self.can_write() {
             self.is_misused = true;
             return DataOut::Nothing;
         }
         let got = self.host.write_block(block);
-        self.state = self.state.block_passed();
+        self.state = self.state.block_passed(got == DataOut::Accepted);
         got
     }
 

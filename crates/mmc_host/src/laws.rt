@@ -6,6 +6,7 @@ ghost use Rattle.mmc_card.specs.CardAnswer.{Choice};
 ghost use Rattle.mmc_card.specs.Rows.{command_of, respond};
 ghost use Rattle.mmc_host.specs.Fits.{HasDataBehind, IsAnswered, IsBusyBehind};
 ghost use Rattle.mmc_host.specs.Table.{data_of, response_of};
+ghost use Rattle.mmc_host.specs.WireLaws.{FaithfulIsHeard, UnsoundIsLost};
 
 /// Whatever a card does with a command, by its kind, its state and behind CMD55 or not: its answer is the response of the
 /// table to this index, or none; it is busy only where it was, or behind an R1b; and where it begins to send or to accept
@@ -18,4 +19,11 @@ pub fn a_card_does_as_the_table_says()
     ensures blocks { (choice : Choice) (card : Card) (index argument : ℕ) → index < 64 → IsCard card
         → HasDataBehind (data_of (command_of card.made.kind card.app index) card.count) card
         (respond choice card index argument).0 }
+{}
+
+/// What a wire carries, a host can tell: a faithful answer as it is, and one of which bits were flipped, so that its check fails,
+/// as a lost one, with the same card and as many faults.
+pub fn a_host_can_tell_what_a_wire_carries()
+    ensures faithful { FaithfulIsHeard }
+    ensures unsound { UnsoundIsLost }
 {}

@@ -1,9 +1,11 @@
 // What a host controller is told, and what it says.
-ghost use Rattle.std.specs.Prelude.{◌≡◌, true};
-ghost use Rattle.mmc_host.specs.HostStates.{IsToCome, IsToGo, begun, block_passed, lines_of, sent};
+ghost use Rattle.std.specs.Prelude.{◌≡◌, ◌↔◌, IsTrue, false, true};
+ghost use Rattle.mmc_card.specs.declared.exchange.Timing.TheVariants.{Default, High};
+ghost use Rattle.mmc_host.specs.HostStates.{AreMovable, IsFree, IsTold, IsToCome, IsToGo, begun, block_passed, lines_of, sent};
 
-use crate::data::{Blocks, Data};
-use crate::response::Response;
+use crate::data::{Data, data_of};
+use crate::meaning::meant;
+use crate::response::{Response, response_of};
 use mmc_card::{Lines, Timing, Width};
 use mmc_frame::commands::{APP_CMD, GO_IDLE_STATE, SELECT_CARD, SET_BLOCK_COUNT};
 use thiserror::Error;
@@ -73,7 +75,11 @@ impl Ios {
 
     /// The fastest clock in hertz that both kinds of card allow (SD Physical Layer 6.00, section 6.6; JESD84-B51, section
     /// 10.5): 400 kHz, 25 MHz at default speed and 50 MHz at high speed. An eMMC device allows 26 and 52 MHz.
-    pub fn max_clock(self) -> u32 {
+    pub fn max_clock(self) -> u32
+        ensures identification { self.is_identifying ≡ true → result ≡ 400000 }
+        ensures default { self.is_identifying ≡ false → self.timing ≡ Default → result ≡ 25000000 }
+        ensures high { self.is_identifying ≡ false → self.timing ≡ High → result ≡ 50000000 }
+    {
         match self {
             Ios {
                 is_identifying: true,
@@ -124,6 +130,29 @@ impl HostState {
         }
     }
 
+    /// The command with this index and argument, as a host is told of it now.
+    pub fn command(self, index: u8, argument: u32) -> HostCommand
+        ensures index { result.index ≡ index }
+        ensures argument { result.argument ≡ argument }
+        ensures told { IsTold self result }
+        ensures movable { AreMovable result.transfer }
+    {
+        let meaning = meant(index, argument, self.is_app);
+        HostCommand {
+            index,
+            argument,
+            response: response_of(meaning),
+            transfer: data_of(meaning, self.count),
+        }
+    }
+
+    /// Whether a command can be sent now: it has no data, or none is under way.
+    pub fn is_free(self, command: HostCommand) -> bool
+        ensures { IsTrue result ↔ IsFree self command }
+    {
+        command.transfer == Data::Nothing || self.transfer == Data::Nothing
+    }
+
     /// Behind a command that was answered as it was wanted, or not.
     pub fn sent(self, command: HostCommand, is_answered: bool) -> HostState
         ensures { result ≡ sent self command is_answered }
@@ -150,24 +179,28 @@ impl HostState {
 
     /// Whether a block of this many bytes is to come.
     pub fn is_to_come(self, len: usize) -> bool
-        ensures { result ≡ true → IsToCome self len }
+        ensures { IsTrue result ↔ IsToCome self len }
     {
         matches!(self.transfer, Data::Read { length, .. } if length as usize == len)
     }
 
     /// Whether a block is to go.
     pub fn is_to_go(self) -> bool
-        ensures { result ≡ true → IsToGo self }
+        ensures { IsTrue result ↔ IsToGo self }
     {
         matches!(self.transfer, Data::Write { .. })
     }
 
-    /// Behind a block, whatever became of it.
-    pub fn block_passed(self) -> HostState
-        ensures { result ≡ block_passed self }
+    /// Behind a block, a good one or one that failed, which ends the data.
+    pub fn block_passed(self, is_good: bool) -> HostState
+        ensures { result ≡ block_passed self is_good }
     {
         HostState {
-            transfer: self.transfer.less_one(),
+            transfer: if is_good {
+                self.transfer.less_one()
+            } else {
+                Data::Nothing
+            },
             ..self
         }
     }

@@ -1,4 +1,10 @@
 // What a busy card is at.
+ghost use Rattle.std.specs.Prelude.{◌*◌, ◌≡◌, ◌≤◌, IsSome, Some};
+ghost use Rattle.mmc_card.specs.declared.command.Command.TheVariants as Command;
+ghost use Rattle.mmc_host.specs.Table.{response_of};
+ghost use Rattle.mmc_host.specs.declared.response.Response.TheVariants.{R1b};
+ghost use Rattle.mmc_host.specs.declared.work.Work.TheVariants.{Erase, Switch};
+
 use mmc_card::Command;
 
 /// What a card is at that says busy.
@@ -18,7 +24,11 @@ impl Work {
     /// For how many microseconds a host looks before it says that the card is still busy: sixteen looks are as long as the work
     /// may take (`docs/STANDARD.md`, "Pace"). They are 500 ms for a write, which serves SDXC too, 2.6 s for a switch and a
     /// minute for an erase. A host that finds the card no longer busy says so at once.
-    pub fn micros(self) -> u32 {
+    pub fn micros(self) -> u32
+        ensures write { 500000 ≤ 16 * result }
+        ensures switch { self ≡ Switch → 2550000 ≤ 16 * result }
+        ensures erase { self ≡ Erase → 60000000 ≤ 16 * result }
+    {
         match self {
             Work::Settling | Work::Write => 32_000,
             Work::Switch => 160_000,
@@ -28,7 +38,11 @@ impl Work {
 }
 
 /// What a command sets a card to, if anything.
-pub fn work_of(command: Command) -> Option<Work> {
+pub fn work_of(command: Command) -> Option<Work>
+    ensures busy { response_of command ≡ R1b → IsSome result }
+    ensures switch { command ≡ Command.Switch → result ≡ Some Switch }
+    ensures erase { command ≡ Command.Erase → result ≡ Some Erase }
+{
     match command {
         Command::SelectCard => Some(Work::Settling),
         Command::WriteBlock | Command::WriteMultipleBlock | Command::StopTransmission => Some(

@@ -6,7 +6,7 @@ use crate::transfer::{filled, is_all};
 use mmc_block::*;
 use mmc_bus::{Bus, Part};
 use mmc_card::{DataIn, DataOut, Lines, Reply, Timing, Want, Width};
-use mmc_card_sim::SimCard;
+use mmc_card_sim::{Fault, SimCard};
 use mmc_frame::commands::SEND_RELATIVE_ADDR;
 use mmc_frame::{encode, read_r1, read_r2, read_r3};
 use mmc_host::*;
@@ -109,8 +109,16 @@ fn requests(alloc: Global) -> Result<[Request; 2], Fail> {
 #[test]
 fn serves_over_a_controller(rt: HostRuntime) -> Result<(), Fail> {
     for which in [Which::Sdsc, Which::SdscCmd23, Which::Sdhc, Which::Emmc] {
+        let mut card = built(rt.alloc(), spec_of(which))?;
+        for (exchange, fault) in [
+            (19, Fault::Reject),
+            (25, Fault::LoseReply),
+            (31, Fault::BadBlock),
+        ] {
+            card.plan(exchange, fault).ok().ok_or("not planned")?;
+        }
         let host = Controller {
-            card: built(rt.alloc(), spec_of(which))?,
+            card,
             ios: None,
             was_too_fast: false,
         };

@@ -1,14 +1,17 @@
-use Rattle.std.proofs.Common.{◌∙◌, sym, subst, Bool}
+use Rattle.std.proofs.Common.{◌∙◌, ◌≡◌, Bool, Some, refl, subst, sym}
 use Rattle.mmc_host.specs.Hosts.{Does}
 use Rattle.mmc_card.specs.Faults.{CommandStep}
 use Rattle.mmc_host.proofs.BusLemmas.{does_command}
 use Rattle.mmc_host.proofs.host_bus.HostBus.carry.Goals as goal
 
-pub returns-in-Some-clause-sent : goal.returns-in-Some-clause-sent
-returns-in-Some-clause-sent g c =
+pub returns-clause-sent : goal.returns-clause-sent
+returns-clause-sent g c =
     let v0 = g.H.Host.view c.args.self.now.host in
     let v1 = g.H.Host.view c.send.new.self.host in
+    let told = c.command-command.result in
+    let same : Some (c.in-Some.index, c.in-Some.argument) ≡ Some (told.index, told.argument) =
+    rw (c.command-command.ensures.index, c.command-command.ensures.argument) refl in
     subst (λ (misused : Bool). Does v0 c.args.self.now.wire c.args.self.now.is_misused
     (λ old new. CommandStep old c.args.frame.now c.send.result new) v1 misused) (sym c.send.ensures.misused)
-    (does_command v0 v1 c.args.self.now.wire c.args.self.now.is_misused c.in-Some.index c.in-Some.argument c.args.frame.now
-    c.send.result (sym c.read_command.ensures ∙ c.in-Some.is) c.send.ensures.sent)
+    (does_command v0 v1 c.args.self.now.wire c.args.self.now.is_misused told.index told.argument c.args.frame.now
+    c.send.result (sym c.read_command.ensures ∙ (c.in-Some.is ∙ same)) c.send.ensures.sent)

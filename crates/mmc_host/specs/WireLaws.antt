@@ -1,0 +1,23 @@
+-- What a wire carries, a host can tell.
+use Rattle.std.specs.Prelude.{◌≡◌, List, Some, ℕ}
+use Rattle.mmc_frame.specs.Frame.{command_in}
+use Rattle.mmc_card.specs.BusView.{BusView}
+use Rattle.mmc_card.specs.CardAnswer.{CardAnswer, Choice, Silent}
+use Rattle.mmc_card.specs.Faults.{CommandStep, IsFaultless, NoFault, Spells}
+use Rattle.mmc_card.specs.Rows.{respond}
+use Rattle.mmc_card.specs.declared.exchange.Reply.{Reply}
+use Rattle.mmc_host.specs.Hosts.{Answers}
+
+-- a faithful answer
+abbrev pub FaithfulIsHeard : Type 0
+FaithfulIsHeard =
+    (choice : Choice) (old new : BusView) (index argument : ℕ) → IsFaultless choice old.card → NoFault old new
+    → new.card ≡ (respond choice old.card index argument).0
+    → Answers old index argument (respond choice old.card index argument).1 new
+
+-- A step whose reply spells no answer, of which a bit was flipped, is the same step with its reply lost.
+abbrev pub UnsoundIsLost : Type 0
+UnsoundIsLost =
+    (old new : BusView) (index argument : ℕ) (frame : List ℕ) (reply : Reply) → command_in frame ≡ Some (index, argument)
+    → CommandStep old frame reply new → ((answer : CardAnswer) → Spells answer reply → ⊥)
+    → Answers old index argument Silent new
