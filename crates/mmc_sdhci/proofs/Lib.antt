@@ -1,0 +1,4 @@
+pub mod Beginning
+pub mod Looking
+pub mod Sending
+pub mod Telling

@@ -1,0 +1,147 @@
+-- A command that is sent.
+use Rattle.std.proofs.Common.{◌%◌, ◌/◌, ◌∙◌, ◌≡◌, ◌⊎◌, Option, ap, arith, false, inl, inr, refl, subst, sym, true, ℕ}
+use Rattle.std.specs.Prelude.{Err, None, Ok}
+use Rattle.mmc_card.specs.BusView.{BusView}
+use Rattle.mmc_card.specs.CardAnswer.{CardAnswer, Silent}
+use Rattle.mmc_bus.specs.Exchanges.{Kept}
+use Rattle.mmc_host.specs.Hosts.{Answers, answer_heard}
+use Rattle.mmc_host.specs.declared.data.Data.{Data}
+use Rattle.mmc_host.specs.declared.response.Response.{Response}
+use Rattle.mmc_host.specs.declared.response.Response.TheVariants as To
+use Rattle.mmc_host.specs.declared.told.Heard.{Heard}
+use Rattle.mmc_host.specs.declared.told.HostCommand.{HostCommand}
+use Rattle.mmc_host.specs.declared.told.ResponseFault.{ResponseFault}
+use Rattle.mmc_sdhci.proofs.Beginning.{flags}
+use Rattle.mmc_sdhci.specs.Commands.{Begins, Ends, IsFree, IsSent, ResetsData, ResetsLine, Sends, Tells, begun, response_flags, run_of}
+use Rattle.mmc_sdhci.specs.Controller.{ControllerView, Dropped, IsShown, Look, Running, Settled, complete, failed, has_data, runs}
+use Rattle.mmc_sdhci.specs.Controller.{seen}
+
+-- the command is over, or still runs
+ended : (v0 v1 v2 : ControllerView) (command : HostCommand) (bits : ℕ) → Begins v0 command v1 → Ends v1 bits v2
+    → Settled v0 (Look (begun v0 command) (run_of command) bits v2) v2
+ended v0 v1 v2 command bits begins ends kept =
+    let e = ends kept in
+    let b = begins e.0 in (
+      b.0,
+      subst (λ (v : ControllerView). Look v (run_of command) bits v2) b.1
+          (e.1 (run_of command) (ap (λ (v : ControllerView). v.running) b.1)),
+    )
+
+-- one exchange, with this answer
+abbrev Exchange : ControllerView → HostCommand → CardAnswer → ControllerView → Type 0
+Exchange old command answer new =
+    Kept (seen old) (Answers (seen old) command.index command.argument answer (seen new)) (seen new)
+
+silent : (response : Response) (index : ℕ) (fault : ResponseFault) → answer_heard response index (Err fault) ≡ Silent
+silent To.Nothing index fault = refl
+silent To.R1 index fault = refl
+silent To.R1b index fault = refl
+silent To.R2 index fault = refl
+silent To.R3 index fault = refl
+silent To.R6 index fault = refl
+silent To.R7 index fault = refl
+
+-- What the reset of the command line leaves of a command that failed or still ran.
+record IsLost (old : ControllerView) (command : HostCommand) (new : ControllerView) : Type 0 where
+  exchange : Exchange old command Silent new
+  running : new.running ≡ None
+  stuck : new.is_stuck ≡ false
+  ios : new.ios ≡ old.ios
+  limits : new.limits ≡ old.limits
+
+lost_by : (v0 v2 v3 : ControllerView) (command : HostCommand) (bits : ℕ) → (bits % 2 ≡ 0) ⊎ (bits / 0x8000 % 2 ≡ 1)
+    → Look (begun v0 command) (run_of command) bits v2 → Dropped v2 v2.running v3 → IsLost v0 command v3
+lost_by v0 v2 v3 command bits why (runs zero fine view) dropped =
+    let d = subst (λ (v : ControllerView). Dropped v v.running v3) view dropped in
+    record {
+      exchange = d.0;
+      running = ap (λ (v : ControllerView). v.running) d.1;
+      stuck = ap (λ (v : ControllerView). v.is_stuck) d.1;
+      ios = ap (λ (v : ControllerView). v.ios) d.1;
+      limits = ap (λ (v : ControllerView). v.limits) d.1;
+    }
+lost_by v0 v2 v3 command bits (inl none) (complete answer one fine heard shown view) dropped = absurd (omega (arith, none, one))
+lost_by v0 v2 v3 command bits (inr error) (complete answer one fine heard shown view) dropped = absurd (omega (arith, error, fine))
+lost_by v0 v2 v3 command bits why (failed error heard view) dropped =
+    let d : v3 ≡ record v2 { is_stuck = false } =
+    subst (λ (o : Option Running). Dropped v2 o v3) (ap (λ (v : ControllerView). v.running) view) dropped in
+    record {
+      exchange = subst (λ (b : BusView). Kept (seen v0) (Answers (seen v0) command.index command.argument Silent b) b)
+          (sym (ap (λ (v : ControllerView). seen v) d)) heard;
+      running = ap (λ (v : ControllerView). v.running) d ∙ ap (λ (v : ControllerView). v.running) view;
+      stuck = ap (λ (v : ControllerView). v.is_stuck) d;
+      ios = ap (λ (v : ControllerView). v.ios) d ∙ ap (λ (v : ControllerView). v.ios) view;
+      limits = ap (λ (v : ControllerView). v.limits) d ∙ ap (λ (v : ControllerView). v.limits) view;
+    }
+
+-- a command that wasn't heard
+pub lost : (v0 v1 v2 v3 v4 : ControllerView) (command : HostCommand) (bits : ℕ) (fault : ResponseFault)
+    → (bits % 2 ≡ 0) ⊎ (bits / 0x8000 % 2 ≡ 1) → Begins v0 command v1 → Ends v1 bits v2 → ResetsLine v2 v3
+    → ResetsData v3 v4 → Sends v0 command (Err fault) v4
+lost v0 v1 v2 v3 v4 command bits fault why begins ends resets clears kept =
+    let c = clears kept in
+    let r = resets c.0 in
+    let e = ended v0 v1 v2 command bits begins ends r.0 in
+    let l = lost_by v0 v2 v3 command bits why e.1 r.1 in (
+      e.0,
+      record {
+        answer = subst (λ (a : CardAnswer). Exchange v0 command a v4) (sym (silent command.response command.index fault))
+            (subst (λ (b : BusView). Kept (seen v0) (Answers (seen v0) command.index command.argument Silent b) b)
+            (sym (ap (λ (v : ControllerView). seen v) c.1)) l.exchange);
+        transfer = ap (λ (v : ControllerView). v.transfer) c.1;
+        ios = ap (λ (v : ControllerView). v.ios) c.1 ∙ l.ios;
+        limits = ap (λ (v : ControllerView). v.limits) c.1 ∙ l.limits;
+      },
+    )
+
+-- A command that is over without an error.
+heard_by : (v0 v2 v3 : ControllerView) (command : HostCommand) (bits : ℕ) (heard : Heard) → (bits % 2 ≡ 0 → ⊥)
+    → (bits / 0x8000 % 2 ≡ 1 → ⊥) → Look (begun v0 command) (run_of command) bits v2 → v3 ≡ v2
+    → ((index byte : ℕ) (answer : CardAnswer) → byte % 32 ≡ response_flags command.response
+    → IsShown byte index v2.response answer → answer ≡ answer_heard command.response index (Ok heard))
+    → IsSent v0 command (Ok heard) v3
+heard_by v0 v2 v3 command bits heard over fine (runs zero none view) same tells = absurd (over (omega (arith, zero)))
+heard_by v0 v2 v3 command bits heard over fine (failed error lost view) same tells = absurd (fine (omega (arith, error)))
+heard_by v0 v2 v3 command bits heard over fine (complete answer one none exchange shown view) same tells =
+    let is = tells command.index (run_of command).flags answer (flags command).1.1 shown in
+    record {
+      answer = subst (λ (b : BusView). Kept (seen v0) (Answers (seen v0) command.index command.argument
+          (answer_heard command.response command.index (Ok heard)) b) b) (sym (ap (λ (v : ControllerView). seen v) same))
+          (subst (λ (a : CardAnswer). Exchange v0 command a v2) is exchange);
+      transfer = ap (λ (v : ControllerView). v.transfer) same ∙ ap (λ (v : ControllerView). v.transfer) view;
+      ios = ap (λ (v : ControllerView). v.ios) same ∙ ap (λ (v : ControllerView). v.ios) view;
+      limits = ap (λ (v : ControllerView). v.limits) same ∙ ap (λ (v : ControllerView). v.limits) view;
+    }
+
+pub sent : (v0 v1 v2 v3 : ControllerView) (command : HostCommand) (bits : ℕ) (heard : Heard) → (bits % 2 ≡ 0 → ⊥)
+    → (bits / 0x8000 % 2 ≡ 1 → ⊥) → Begins v0 command v1 → Ends v1 bits v2 → Tells v2 command.response heard v3
+    → Sends v0 command (Ok heard) v3
+sent v0 v1 v2 v3 command bits heard over fine begins ends tells kept =
+    let t = tells kept in
+    let e = ended v0 v1 v2 command bits begins ends t.0 in
+    (e.0, heard_by v0 v2 v3 command bits heard over fine e.1 t.1.0 t.1.1)
+
+-- no data is asked for while some is under way
+none_asked : (under_way : Data) (command : HostCommand) → has_data under_way ≡ true → IsFree under_way command
+    → command.transfer ≡ Data.Nothing
+none_asked under_way command some (inl none) = none
+none_asked under_way command some (inr free) = cc (some, ap (λ (t : Data). has_data t) free)
+
+-- and what was under way is dropped
+pub sent_and_dropped : (v0 v1 v2 v3 v4 : ControllerView) (under_way : Data) (command : HostCommand) (bits : ℕ) (heard : Heard)
+    → (bits % 2 ≡ 0 → ⊥) → (bits / 0x8000 % 2 ≡ 1 → ⊥) → has_data under_way ≡ true → IsFree under_way command
+    → Begins v0 command v1 → Ends v1 bits v2 → Tells v2 command.response heard v3 → ResetsData v3 v4
+    → Sends v0 command (Ok heard) v4
+sent_and_dropped v0 v1 v2 v3 v4 under_way command bits heard over fine some free begins ends tells clears kept =
+    let c = clears kept in
+    let s = sent v0 v1 v2 v3 command bits heard over fine begins ends tells c.0 in (
+      s.0,
+      record {
+        answer = subst (λ (b : BusView). Kept (seen v0) (Answers (seen v0) command.index command.argument
+            (answer_heard command.response command.index (Ok heard)) b) b) (sym (ap (λ (v : ControllerView). seen v) c.1))
+            s.1.answer;
+        transfer = ap (λ (v : ControllerView). v.transfer) c.1 ∙ sym (none_asked under_way command some free);
+        ios = ap (λ (v : ControllerView). v.ios) c.1 ∙ s.1.ios;
+        limits = ap (λ (v : ControllerView). v.limits) c.1 ∙ s.1.limits;
+      },
+    )

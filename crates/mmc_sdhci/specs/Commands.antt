@@ -1,0 +1,126 @@
+-- What the driver's functions leave.
+use Rattle.std.specs.Prelude.{◌%◌, ◌*◌, ◌+◌, ◌==◌, ◌||◌, ◌≡◌, ◌⊎◌, [], Ok, Result, Some, false, if◌then◌else◌, is_ok, true, ℕ}
+use Rattle.mmc_card.specs.CardAnswer.{CardAnswer}
+use Rattle.mmc_frame.specs.Field.{field}
+use Rattle.mmc_frame.specs.declared.commands.TheConstants as Index
+use Rattle.mmc_bus.specs.Exchanges.{Kept}
+use Rattle.mmc_host.specs.Hosts.{Answers, answer_heard}
+use Rattle.mmc_host.specs.declared.data.Blocks.{Blocks}
+use Rattle.mmc_host.specs.declared.data.Blocks.TheVariants.{Counted, UntilStopped}
+use Rattle.mmc_host.specs.declared.data.Data.{Data}
+use Rattle.mmc_host.specs.declared.response.Response.{Response}
+use Rattle.mmc_host.specs.declared.response.Response.TheVariants as To
+use Rattle.mmc_host.specs.declared.told.Heard.{Heard}
+use Rattle.mmc_host.specs.declared.told.HostCommand.{HostCommand}
+use Rattle.mmc_host.specs.declared.told.ResponseFault.{ResponseFault}
+use Rattle.mmc_host.specs.declared.told.ResponseFault.TheVariants as Fault
+use Rattle.mmc_sdhci.specs.Controller.{ControllerView, Dropped, IsShown, Look, Running, Settled, has_data, seen, word}
+
+-- the type of response, with the checks that it has
+abbrev pub response_flags : Response → ℕ
+response_flags To.Nothing = 0x00
+response_flags To.R2 = 0x09
+response_flags To.R3 = 0x02
+response_flags _ = 0x1a
+
+-- the lower byte of Command: bit 5 is data present, bits 7 and 6 are 11b for CMD12
+abbrev pub flags_of : HostCommand → ℕ
+flags_of command =
+    response_flags command.response + (if has_data command.transfer then 0x20 else 0)
+    + (if command.index == Index.STOP_TRANSMISSION then 0xc0 else 0)
+
+abbrev pub run_of : HostCommand → Running
+run_of command =
+    record {
+      index = command.index;
+      argument = command.argument;
+      flags = flags_of command;
+      transfer = command.transfer;
+    }
+
+-- Transfer Mode: bit 5 several blocks, bit 1 counted, bit 4 read
+abbrev pub several : Blocks → ℕ
+several (Counted count) = if count == 1 then 0 else 0x22
+several UntilStopped = 0x20
+
+abbrev pub mode_of : Data → ℕ
+mode_of Data.Nothing = 0
+mode_of (Data.Read size blocks) = 0x10 + several blocks
+mode_of (Data.Write blocks) = several blocks
+
+-- Block Size, and Block Count above it
+abbrev pub count_of : Blocks → ℕ
+count_of (Counted count) = count
+count_of UntilStopped = 0
+
+abbrev pub sizes_of : Data → ℕ
+sizes_of Data.Nothing = 0
+sizes_of (Data.Read size blocks) = size + 0x10000 * count_of blocks
+sizes_of (Data.Write blocks) = 512 + 0x10000 * count_of blocks
+
+-- Transfer Mode and Command, in one word
+abbrev pub command_word : HostCommand → ℕ
+command_word command = 0x1000000 * command.index + 0x10000 * flags_of command + mode_of command.transfer
+
+-- the command runs, and no interrupt is left
+abbrev pub begun : ControllerView → HostCommand → ControllerView
+begun view command =
+    record view {
+      status = 0;
+      sizes = sizes_of command.transfer;
+      argument = command.argument;
+      running = Some (run_of command);
+      is_stale = view.is_stale || has_data view.transfer;
+    }
+
+abbrev pub Begins : ControllerView → HostCommand → ControllerView → Type 0
+Begins old command new = Settled old (new ≡ begun old command) new
+
+-- Looks until a command is over: the last of them, unless none found it over.
+abbrev pub Ends : ControllerView → ℕ → ControllerView → Type 0
+Ends old bits new = Settled old ((run : Running) → old.running ≡ Some run → Look old run bits new) new
+
+-- a word of Response is read; nothing changes
+abbrev pub ReadsWord : ControllerView → ℕ → ℕ → ControllerView → Type 0
+ReadsWord old i value new = Settled old ((value ≡ word old.response i) × (new ≡ old)) new
+
+-- What is read of Response is told, whatever it shows; nothing changes.
+abbrev pub Tells : ControllerView → Response → Heard → ControllerView → Type 0
+Tells old response heard new =
+    Settled old
+    ((new ≡ old) × ((index : ℕ) (flags : ℕ) (answer : CardAnswer) → flags % 32 ≡ response_flags response
+    → IsShown flags index old.response answer → answer ≡ answer_heard response index (Ok heard))) new
+
+-- One command: what the host heard is the card's answer, and its data is to come where it was heard.
+pub record IsSent (old : ControllerView) (command : HostCommand) (heard : Result Heard ResponseFault) (new : ControllerView) : Type 0 where
+  pub answer : Kept (seen old)
+      (Answers (seen old) command.index command.argument (answer_heard command.response command.index heard) (seen new))
+      (seen new)
+  pub transfer : new.transfer ≡ (if is_ok heard then command.transfer else Data.Nothing)
+  pub ios : new.ios ≡ old.ios
+  pub limits : new.limits ≡ old.limits
+
+abbrev pub Sends : ControllerView → HostCommand → Result Heard ResponseFault → ControllerView → Type 0
+Sends old command heard new = Settled old (IsSent old command heard new) new
+
+-- this data is under way
+abbrev pub IsUnderWay : ControllerView → Data → Type 0
+IsUnderWay view transfer = view.is_kept ≡ true → view.transfer ≡ transfer
+
+-- data can be sent for only where none is under way
+abbrev pub IsFree : Data → HostCommand → Type 0
+IsFree transfer command = (command.transfer ≡ Data.Nothing) ⊎ (transfer ≡ Data.Nothing)
+
+-- the command line and the data line are reset
+abbrev pub ResetsLine : ControllerView → ControllerView → Type 0
+ResetsLine old new = Settled old (Dropped old old.running new) new
+
+abbrev pub ResetsData : ControllerView → ControllerView → Type 0
+ResetsData old new =
+    Settled old (new ≡ record old { transfer = Data.Nothing; is_stale = false; buffer = [] }) new
+
+-- why no response was heard: bits 17, 18 and 19 of the interrupts
+abbrev pub fault_in : ℕ → ResponseFault
+fault_in bits =
+    if field 17 17 bits == 1 then Fault.Check
+    else (if field 18 18 bits == 1 then Fault.EndBit else (if field 19 19 bits == 1 then Fault.Index else Fault.Timeout))

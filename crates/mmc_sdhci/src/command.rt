@@ -1,0 +1,250 @@
+// Commands and their responses.
+ghost use Rattle.std.specs.Prelude.{◌≡◌, ◌<◌};
+ghost use Rattle.mmc_host.specs.HostStates.{AreMovable};
+ghost use Rattle.mmc_sdhci.specs.Commands.{Begins, Ends, ReadsWord, ResetsData, ResetsLine, Tells, count_of, flags_of, mode_of};
+ghost use Rattle.mmc_sdhci.specs.Commands.{IsFree, IsUnderWay, Sends, fault_in, response_flags, several, sizes_of};
+ghost use Rattle.mmc_host.specs.declared.response.Response.TheVariants.{R2};
+ghost use Rattle.mmc_sdhci.specs.Controller.{IsAtRest, Stays, bytes_shown, has_data};
+
+use crate::offsets::{ARGUMENT, COMMAND, INTERRUPTS, RESET, RESPONSE, SIZES};
+use crate::registers::Registers;
+use mmc_frame::commands::STOP_TRANSMISSION;
+use mmc_host::{Blocks, Data, Heard, HostCommand, Response, ResponseFault};
+
+const ALL: u32 = 0xffff_ffff;
+
+const LOOKS: u32 = 1000;
+
+const BETWEEN_LOOKS: u32 = 10;
+
+const COMMAND_LINE: u8 = 2;
+
+const DATA_LINE: u8 = 4;
+
+// The type of response.
+fn response_flags(response: Response) -> u32
+    ensures { result ≡ response_flags response }
+{
+    match response {
+        Response::Nothing => 0x00,
+        Response::R2 => 0x09,
+        Response::R3 => 0x02,
+        Response::R1 | Response::R1b | Response::R6 | Response::R7 => 0x1a,
+    }
+}
+
+// Whether there is any.
+fn has_data(transfer: Data) -> bool
+    ensures { result ≡ has_data transfer }
+{
+    match transfer {
+        Data::Nothing => false,
+        Data::Read { .. } | Data::Write { .. } => true,
+    }
+}
+
+// The lower byte of Command.
+fn flags_of(command: HostCommand) -> u32
+    ensures { result ≡ flags_of command }
+{
+    let data = if has_data(command.transfer) { 0x20 } else { 0 };
+    let abort = if command.index == STOP_TRANSMISSION {
+        0xc0
+    } else {
+        0
+    };
+    response_flags(command.response) + data + abort
+}
+
+// Transfer Mode of a number of blocks.
+fn several(blocks: Blocks) -> u32
+    ensures { result ≡ several blocks }
+{
+    match blocks {
+        Blocks::Counted(1) => 0,
+        Blocks::Counted(_) => 0x22,
+        Blocks::UntilStopped => 0x20,
+    }
+}
+
+// Transfer Mode.
+fn mode_of(transfer: Data) -> u32
+    ensures { result ≡ mode_of transfer }
+{
+    match transfer {
+        Data::Nothing => 0,
+        Data::Read { length: _, blocks } => 0x10 + several(blocks),
+        Data::Write { blocks } => several(blocks),
+    }
+}
+
+// Block Count.
+fn count_of(blocks: Blocks) -> u32
+    ensures value { result ≡ count_of blocks }
+    ensures small { result < 0x10000 }
+{
+    match blocks {
+        Blocks::Counted(count) => count as u32,
+        Blocks::UntilStopped => 0,
+    }
+}
+
+// Block Size and Block Count.
+fn sizes_of(transfer: Data) -> u32
+    ensures { result ≡ sizes_of transfer }
+{
+    match transfer {
+        Data::Nothing => 0,
+        Data::Read { length, blocks } => length as u32 + 0x1_0000 * count_of(blocks),
+        Data::Write { blocks } => 512 + 0x1_0000 * count_of(blocks),
+    }
+}
+
+// Begins a command.
+fn begin<R: Registers>(registers: &mut R, command: HostCommand)
+    requires rest { IsAtRest (R.view registers.old) }
+    requires index { command.index < 64 }
+    requires movable { AreMovable command.transfer }
+    ensures { Begins (R.view registers.old) command (R.view registers.new) }
+{
+    registers.write32(INTERRUPTS, ALL);
+    registers.write32(SIZES, sizes_of(command.transfer));
+    registers.write32(ARGUMENT, command.argument);
+    let word = command.index as u32 * 0x100_0000
+        + flags_of(command) * 0x1_0000
+        + mode_of(command.transfer);
+    registers.write32(COMMAND, word);
+}
+
+// Looks at the interrupt status until the command is over, and tells it; 0 where it still runs.
+fn wait<R: Registers>(registers: &mut R) -> u32
+    ensures { Ends (R.view registers.old) result (R.view registers.new) }
+{
+    for _ in 0..LOOKS {
+        let bits = registers.read32(INTERRUPTS);
+        if bits % 2 == 1 || bits / 0x8000 % 2 == 1 {
+            return bits;
+        }
+        registers.pause(BETWEEN_LOOKS);
+    }
+    0
+}
+
+// A word of Response.
+fn word<R: Registers>(registers: &mut R, i: u8) -> u32
+    requires { i < 4 }
+    ensures { ReadsWord (R.view registers.old) i result (R.view registers.new) }
+{
+    registers.read32(RESPONSE + 4 * i)
+}
+
+// Bits 127 to 8 of the register in these words of Response, the lowest first.
+fn register_in(words: [u32; 4]) -> [u8; 15]
+    ensures { result ≡ bytes_shown words }
+{
+    let [lowest, low, high, highest] = words;
+    let [_, a, b, c] = highest.to_be_bytes();
+    let [d, e, f, g] = high.to_be_bytes();
+    let [h, i, j, k] = low.to_be_bytes();
+    let [l, m, n, o] = lowest.to_be_bytes();
+    [a, b, c, d, e, f, g, h, i, j, k, l, m, n, o]
+}
+
+// The register in Response, without its check.
+fn register<R: Registers>(registers: &mut R) -> Heard
+    ensures { Tells (R.view registers.old) R2 result (R.view registers.new) }
+{
+    let highest = word(registers, 3);
+    let high = word(registers, 2);
+    let low = word(registers, 1);
+    let lowest = word(registers, 0);
+    Heard::Register(register_in([lowest, low, high, highest]))
+}
+
+// What is in Response.
+fn hear<R: Registers>(registers: &mut R, response: Response) -> Heard
+    ensures { Tells (R.view registers.old) response result (R.view registers.new) }
+{
+    match response {
+        Response::Nothing => Heard::Nothing,
+        Response::R2 => register(registers),
+        _ => Heard::Word(word(registers, 0)),
+    }
+}
+
+// Waits until a reset is over.
+fn settle<R: Registers>(registers: &mut R, lines: u8)
+    ensures { Stays (R.view registers.old) (R.view registers.new) }
+{
+    for _ in 0..LOOKS {
+        if registers.read8(RESET) & lines == 0 {
+            return;
+        }
+        registers.pause(BETWEEN_LOOKS);
+    }
+}
+
+// Resets the command line, by which a command that still runs is lost.
+fn reset_command<R: Registers>(registers: &mut R)
+    ensures { ResetsLine (R.view registers.old) (R.view registers.new) }
+{
+    registers.write8(RESET, COMMAND_LINE);
+    settle(registers, COMMAND_LINE);
+}
+
+// Resets the data line, which drops what was read ahead.
+fn reset_data<R: Registers>(registers: &mut R)
+    ensures { ResetsData (R.view registers.old) (R.view registers.new) }
+{
+    registers.write8(RESET, DATA_LINE);
+    settle(registers, DATA_LINE);
+}
+
+// Why no response was heard, by the error interrupts.
+fn fault_in(bits: u32) -> ResponseFault
+    ensures { result ≡ fault_in bits }
+{
+    if bits / 0x2_0000 % 2 == 1 {
+        ResponseFault::Check
+    } else if bits / 0x4_0000 % 2 == 1 {
+        ResponseFault::EndBit
+    } else if bits / 0x8_0000 % 2 == 1 {
+        ResponseFault::Index
+    } else {
+        ResponseFault::Timeout
+    }
+}
+
+/// Sends a command while this data is under way, and hears its response. Behind it the controller is at rest, also where the command
+/// failed, and what was read ahead of the data is dropped.
+///
+/// # Errors
+/// By the error interrupts, in this order: `Check`, `EndBit`, `Index`, and otherwise `Timeout`, also where the controller doesn't say
+/// in 10 ms that the command is over.
+pub fn send<R: Registers>(
+    registers: &mut R,
+    under_way: Data,
+    command: HostCommand,
+) -> Result<Heard, ResponseFault>
+    requires rest { IsAtRest (R.view registers.old) }
+    requires index { command.index < 64 }
+    requires movable { AreMovable command.transfer }
+    requires under_way { IsUnderWay (R.view registers.old) under_way }
+    requires free { IsFree under_way command }
+    ensures rest { IsAtRest (R.view registers.new) }
+    ensures sent { Sends (R.view registers.old) command result (R.view registers.new) }
+{
+    begin(registers, command);
+    let bits = wait(registers);
+    if bits % 2 == 0 || bits / 0x8000 % 2 == 1 {
+        reset_command(registers);
+        reset_data(registers);
+        return Err(fault_in(bits));
+    }
+    let heard = hear(registers, command.response);
+    if !has_data(under_way) {
+        return Ok(heard);
+    }
+    reset_data(registers);
+    Ok(heard)
+}

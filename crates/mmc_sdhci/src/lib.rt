@@ -1,0 +1,9 @@
+//! A driver of an SD host controller, by programmed I/O over a trait of register accesses (SD Host Controller Simplified
+//! Specification 3.00).
+#![tactic(auto)]
+
+mod command;
+mod offsets;
+mod registers;
+
+pub use registers::Registers;

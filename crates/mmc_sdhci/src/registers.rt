@@ -1,0 +1,28 @@
+ghost use Rattle.mmc_sdhci.specs.Controller.{ControllerView, IsAllowed, Reads, Stays, Writes, Writes8};
+
+/// The registers of an SD host controller.
+pub trait Registers {
+    // What contracts see of a controller and its card.
+    ghost view: { Self → ControllerView };
+
+    /// Reads 32 bits.
+    fn read32(&mut self, offset: u8) -> u32
+        ensures { Reads (view self.old) offset result (view self.new) };
+
+    /// Writes 32 bits.
+    fn write32(&mut self, offset: u8, value: u32)
+        requires { IsAllowed (view self.old) offset }
+        ensures { Writes (view self.old) offset value (view self.new) };
+
+    /// Reads 8 bits. What they say isn't said here.
+    fn read8(&mut self, offset: u8) -> u8
+        ensures { Stays (view self.old) (view self.new) };
+
+    /// Writes 8 bits.
+    fn write8(&mut self, offset: u8, value: u8)
+        ensures { Writes8 (view self.old) offset value (view self.new) };
+
+    /// Waits for so many microseconds.
+    fn pause(&mut self, micros: u32)
+        ensures { Stays (view self.old) (view self.new) };
+}
