@@ -15,6 +15,8 @@ const ALL: u32 = 0xffff_ffff;
 
 const LOOKS: u32 = 1000;
 
+const RESET_LOOKS: u32 = 1000;
+
 const BETWEEN_LOOKS: u32 = 10;
 
 const COMMAND_LINE: u8 = 2;
@@ -176,7 +178,7 @@ fn hear<R: Registers>(registers: &mut R, response: Response) -> Heard
 fn settle<R: Registers>(registers: &mut R, lines: u8)
     ensures { Stays (R.view registers.old) (R.view registers.new) }
 {
-    for _ in 0..LOOKS {
+    for _ in 0..RESET_LOOKS {
         if registers.read8(RESET) & lines == 0 {
             return;
         }

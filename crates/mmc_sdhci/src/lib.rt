@@ -6,4 +6,5 @@ mod command;
 mod offsets;
 mod registers;
 
+pub use command::send;
 pub use registers::Registers;

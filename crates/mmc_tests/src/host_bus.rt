@@ -21,11 +21,39 @@ struct Controller {
     was_too_fast: bool,
 }
 
-// Bits 127 to 8 of a register.
-fn without_check(register: [u8; 16]) -> [u8; 15] {
+// The register in a reply, without its check.
+fn register_in(reply: Reply) -> Result<Heard, ResponseFault> {
+    let Reply::Long(frame) = reply else {
+        return Err(ResponseFault::Timeout);
+    };
+    let Ok(register) = read_r2(&frame) else {
+        return Err(ResponseFault::Check);
+    };
     let mut bytes = [0; 15];
     bytes.copy_from_slice(&register[..15]);
-    bytes
+    Ok(Heard::Register(bytes))
+}
+
+// The OCR in a reply.
+fn ocr_in(reply: Reply) -> Result<Heard, ResponseFault> {
+    let Reply::Short(frame) = reply else {
+        return Err(ResponseFault::Timeout);
+    };
+    match read_r3(&frame) {
+        Ok(ocr) => Ok(Heard::Word(ocr)),
+        Err(_) => Err(ResponseFault::EndBit),
+    }
+}
+
+// The 32 bits of the response to this command.
+fn word_in(reply: Reply, index: u8) -> Result<Heard, ResponseFault> {
+    let Reply::Short(frame) = reply else {
+        return Err(ResponseFault::Timeout);
+    };
+    match read_r1(&frame, index) {
+        Ok(word) => Ok(Heard::Word(word)),
+        Err(_) => Err(ResponseFault::Check),
+    }
 }
 
 impl Host for Controller {
@@ -46,30 +74,19 @@ impl Host for Controller {
     }
 
     fn send(&mut self, command: HostCommand) -> Result<Heard, ResponseFault> {
-        let is_slow = matches!(
-            self.ios,
-            None | Some(Ios {
-                is_identifying: true,
-                ..
-            })
-        );
+        let is_slow = match self.ios {
+            None => true,
+            Some(ios) => ios.is_identifying,
+        };
         self.was_too_fast |= command.index <= SEND_RELATIVE_ADDR && !is_slow;
-        let frame = encode(command.index, command.argument);
-        match (command.response, self.card.command(frame, Want::Short)) {
-            (Response::Nothing, _) => Ok(Heard::Nothing),
-            (Response::R2, Reply::Long(frame)) => match read_r2(&frame) {
-                Ok(register) => Ok(Heard::Register(without_check(register))),
-                Err(_) => Err(ResponseFault::Check),
-            },
-            (Response::R3, Reply::Short(frame)) => match read_r3(&frame) {
-                Ok(ocr) => Ok(Heard::Word(ocr)),
-                Err(_) => Err(ResponseFault::EndBit),
-            },
-            (_, Reply::Short(frame)) => match read_r1(&frame, command.index) {
-                Ok(word) => Ok(Heard::Word(word)),
-                Err(_) => Err(ResponseFault::Check),
-            },
-            _ => Err(ResponseFault::Timeout),
+        let reply = self
+            .card
+            .command(encode(command.index, command.argument), Want::Short);
+        match command.response {
+            Response::Nothing => Ok(Heard::Nothing),
+            Response::R2 => register_in(reply),
+            Response::R3 => ocr_in(reply),
+            _ => word_in(reply, command.index),
         }
     }
 
