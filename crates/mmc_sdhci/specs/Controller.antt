@@ -11,6 +11,7 @@ use Rattle.mmc_card.specs.BusView.{BusView}
 use Rattle.mmc_card.specs.Card.{Card}
 use Rattle.mmc_card.specs.CardAnswer.{CardAnswer, Checked, R2, R3, Silent}
 use Rattle.mmc_card.specs.declared.exchange.Lines.{Lines}
+use Rattle.mmc_card.specs.Faults.{PollStep}
 use Rattle.mmc_bus.specs.Exchanges.{Kept}
 use Rattle.mmc_host.specs.HostStates.{lines_of}
 use Rattle.mmc_host.specs.Hosts.{Answers}
@@ -180,11 +181,20 @@ Looked old (Some run) bits new = Look old run bits new
 
 abbrev pub Shows : ControllerView → ℕ → ℕ → ControllerView → Type 0
 Shows old offset value new =
-    (offset ≡ 0x30 → Looked old old.running value new)
+    (offset ≡ 0x30 → Looked old old.running value new) × (offset ≡ 0x24 → new ≡ old)
     × ((i : ℕ) → i < 4 → offset ≡ 0x10 + 4 * i → (value ≡ word old.response i) × (new ≡ old))
 
 abbrev pub Reads : ControllerView → ℕ → ℕ → ControllerView → Type 0
 Reads old offset value new = Settled old (Shows old offset value new) new
+
+-- A look at the byte 26h, DAT0 in its bit 4, is a poll of the card; one at Software Reset changes nothing.
+abbrev pub Polls : ControllerView → Bool → ControllerView → Type 0
+Polls old said new =
+    Kept (seen old) (PollStep (seen old) said (seen new)) (seen new) × (new ≡ moved old new)
+
+abbrev pub Reads8 : ControllerView → ℕ → ℕ → ControllerView → Type 0
+Reads8 old offset value new =
+    Settled old ((offset ≡ 0x26 → Polls old (field 4 4 value == 0) new) × (offset ≡ 0x2f → new ≡ old)) new
 
 -- nothing happens
 abbrev pub Stays : ControllerView → ControllerView → Type 0

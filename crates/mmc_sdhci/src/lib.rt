@@ -2,9 +2,11 @@
 //! Specification 3.00).
 #![tactic(auto)]
 
+mod busy;
 mod command;
 mod offsets;
 mod registers;
 
+pub use busy::is_busy;
 pub use command::send;
 pub use registers::Registers;

@@ -8,6 +8,10 @@ pub const ARGUMENT: u8 = 0x08;
 pub const COMMAND: u8 = 0x0c;
 /// Response, four words.
 pub const RESPONSE: u8 = 0x10;
+/// Present State.
+pub const PRESENT: u8 = 0x24;
+/// Its third byte, with the levels of DAT0 to DAT3 in bits 4 to 7.
+pub const DATA_LEVELS: u8 = 0x26;
 /// Software Reset.
 pub const RESET: u8 = 0x2f;
 /// Normal and Error Interrupt Status.

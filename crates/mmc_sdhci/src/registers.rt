@@ -1,4 +1,4 @@
-ghost use Rattle.mmc_sdhci.specs.Controller.{ControllerView, IsAllowed, Reads, Stays, Writes, Writes8};
+ghost use Rattle.mmc_sdhci.specs.Controller.{ControllerView, IsAllowed, Reads, Reads8, Stays, Writes, Writes8};
 
 /// The registers of an SD host controller.
 pub trait Registers {
@@ -14,9 +14,9 @@ pub trait Registers {
         requires { IsAllowed (view self.old) offset }
         ensures { Writes (view self.old) offset value (view self.new) };
 
-    /// Reads 8 bits. What they say isn't said here.
+    /// Reads 8 bits.
     fn read8(&mut self, offset: u8) -> u8
-        ensures { Stays (view self.old) (view self.new) };
+        ensures { Reads8 (view self.old) offset result (view self.new) };
 
     /// Writes 8 bits.
     fn write8(&mut self, offset: u8, value: u8)
