@@ -24,13 +24,8 @@ fn expect_bytes(rt: &impl Abort, card: &mut SimCard, wanted: &[u8; 8]) {
     assert_eq!(rt; block, *wanted);
 }
 
-// The 17 exchanges of an SD card with byte addresses and without CMD8, whose SCR this is.
-fn opened_sd(
-    rt: &impl Abort,
-    alloc: Global,
-    spec: CardSpec,
-    scr: [u8; 8],
-) -> Result<SimCard, Fail> {
+// An SD card with byte addresses and without CMD8 is identified and selected, in eight commands and a poll.
+fn identified_sd(rt: &impl Abort, alloc: Global, spec: CardSpec) -> Result<SimCard, Fail> {
     let mut card = built(alloc, spec)?;
     expect_silence(rt, &mut card, [0x40, 0, 0, 0, 0, 0x95]);
     expect_silence(rt, &mut card, [0x48, 0, 0, 1, 0xaa, 0x87]);
@@ -59,6 +54,17 @@ fn opened_sd(
         [7, 0, 0, 7, 0, 0x75],
     );
     expect_polls(rt, &mut card, 0);
+    Ok(card)
+}
+
+// The 17 exchanges of an SD card with byte addresses and without CMD8, whose SCR this is.
+fn opened_sd(
+    rt: &impl Abort,
+    alloc: Global,
+    spec: CardSpec,
+    scr: [u8; 8],
+) -> Result<SimCard, Fail> {
+    let mut card = identified_sd(rt, alloc, spec)?;
     for (frame, answer) in [
         ([0x4d, 0, 1, 0, 0, 0x53], [0x0d, 0, 0, 9, 0, 0x3f]),
         ([0x50, 0, 0, 2, 0, 0x15], [0x10, 0, 0, 9, 0, 0x0b]),

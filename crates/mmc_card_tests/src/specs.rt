@@ -4,6 +4,7 @@ use mmc_bus::{Bytes, Part};
 use mmc_card_sim::example_cards::{emmc, emmc_with, ext_csd_of_emmc, sdsc};
 use mmc_card_sim::{BuildFault, CardSpec, KindRegisters, Registers, SdRegisters, SimCard};
 use std::alloc::Global;
+use std::process::Abort;
 use std::test::Fail;
 
 // A CSD that says nothing, with a sound check.
@@ -70,89 +71,69 @@ fn good_specs(rt: HostRuntime) -> Result<(), Fail> {
     Ok(())
 }
 
+// An SD card with this OCR.
+fn sd_with_ocr(ocr: u32) -> Registers {
+    Registers { ocr, ..sd() }
+}
+
+// An eMMC device with this OCR.
+fn emmc_with_ocr(ocr: u32) -> Registers {
+    Registers {
+        ocr,
+        ..emmc().registers
+    }
+}
+
+// A card of so many sectors with these registers is refused for them.
+fn expect_refused(rt: &impl Abort, alloc: Global, registers: Registers, sectors: u64, fault: &str) {
+    assert_eq!(rt;
+        refusal(alloc, spec(registers, sectors)),
+        Some(BuildFault::Register),
+        "{fault}"
+    );
+}
+
 #[test]
-fn refused_registers(rt: HostRuntime) {
+fn refused_registers_of_an_sd_card(rt: HostRuntime) {
+    let cid = Registers {
+        cid: [0; 16],
+        ..sd()
+    };
+    let csd = Registers {
+        csd: [0; 16],
+        ..sd()
+    };
+    let empty = Registers {
+        csd: EMPTY_CSD.to_be_bytes(),
+        ..sd()
+    };
+    let no_rca = Registers {
+        kind: sd_with_rca(0),
+        ..sd()
+    };
+    for (registers, fault) in [
+        (cid, "the CID's check"),
+        (csd, "the CSD's check"),
+        (empty, "block lengths of 1 byte"),
+        (sd_with_ocr(0x00ef_8000), "not from 3.2 to 3.3 V"),
+        (sd_with_ocr(0x00df_8000), "not from 3.3 to 3.4 V"),
+        (sd_with_ocr(0x80ff_8000), "bit 31"),
+        (no_rca, "RCA 0"),
+    ] {
+        expect_refused(&rt, rt.alloc(), registers, 4, fault);
+    }
+}
+
+#[test]
+fn refused_registers_of_an_emmc_device(rt: HostRuntime) {
     let mut no_erase_unit = ext_csd_of_emmc();
     no_erase_unit[224] = 0x00;
     for (registers, fault) in [
-        (
-            Registers {
-                cid: [0; 16],
-                ..sd()
-            },
-            "the CID's check",
-        ),
-        (
-            Registers {
-                csd: [0; 16],
-                ..sd()
-            },
-            "the CSD's check",
-        ),
-        (
-            Registers {
-                csd: EMPTY_CSD.to_be_bytes(),
-                ..sd()
-            },
-            "block lengths of 1 byte",
-        ),
-        (
-            Registers {
-                ocr: 0x00ef_8000,
-                ..sd()
-            },
-            "not from 3.2 to 3.3 V",
-        ),
-        (
-            Registers {
-                ocr: 0x00df_8000,
-                ..sd()
-            },
-            "not from 3.3 to 3.4 V",
-        ),
-        (
-            Registers {
-                ocr: 0x80ff_8000,
-                ..sd()
-            },
-            "bit 31",
-        ),
-        (
-            Registers {
-                kind: sd_with_rca(0),
-                ..sd()
-            },
-            "RCA 0",
-        ),
-    ] {
-        assert_eq!(rt;
-            refusal(rt.alloc(), spec(registers, 4)),
-            Some(BuildFault::Register),
-            "{fault}"
-        );
-    }
-    for (registers, fault) in [
-        (
-            Registers {
-                ocr: 0x20ff_8080,
-                ..emmc().registers
-            },
-            "access mode 1",
-        ),
-        (
-            Registers {
-                ocr: 0x60ff_8080,
-                ..emmc().registers
-            },
-            "access mode 3",
-        ),
+        (emmc_with_ocr(0x20ff_8080), "access mode 1"),
+        (emmc_with_ocr(0x60ff_8080), "access mode 3"),
         (emmc_with(no_erase_unit, 2048).registers, "no erase unit"),
     ] {
-        assert_eq!(rt;
-            refusal(rt.alloc(), spec(registers, 2048)),
-            Some(BuildFault::Register),
-            "{fault}"
-        );
+        expect_refused(&rt, rt.alloc(), registers, 2048, fault);
     }
 }
 
