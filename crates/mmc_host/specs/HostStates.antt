@@ -92,5 +92,5 @@ IsTold state command =
     × (command.transfer ≡ data_of (command_of kind state.is_app command.index) state.count)
 
 -- a command with data is sent only where none is under way
-abbrev pub IsFree : HostState → HostCommand → Type 0
-IsFree state command = (command.transfer ≡ Data.Nothing) ⊎ (state.transfer ≡ Data.Nothing)
+abbrev pub IsFree : Data → HostCommand → Type 0
+IsFree under_way command = (command.transfer ≡ Data.Nothing) ⊎ (under_way ≡ Data.Nothing)

@@ -34,7 +34,7 @@ pub trait Host {
     fn send(&mut self, command: HostCommand) -> Result<Heard, ResponseFault>
         requires index { command.index < 64 }
         requires movable { AreMovable command.transfer }
-        requires free { Where (view self.old) (IsFree (view self.old).state command) }
+        requires free { Where (view self.old) (IsFree (view self.old).state.transfer command) }
         requires told { Where (view self.old) (IsTold (view self.old).state command) }
         requires clock { Where (view self.old) (IsSlowEnough (view self.old).state command) }
         ensures { Sends (view self.old) command result (view self.new) };

@@ -166,7 +166,7 @@ impl<H: Host> HostBus<H> {
         requires index { command.index < 64 }
         requires movable { AreMovable command.transfer }
         requires told { IsTold self.old.state command }
-        requires free { IsFree self.old.state command }
+        requires free { IsFree self.old.state.transfer command }
         ensures wire { self.new.wire ≡ self.old.wire }
         ensures misused { self.new.is_misused ≡ self.old.is_misused }
         ensures sent { Replies (H.view self.old.host) command.index command.argument result (H.view self.new.host) }

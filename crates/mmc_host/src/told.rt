@@ -148,7 +148,7 @@ impl HostState {
 
     /// Whether a command can be sent now: it has no data, or none is under way.
     pub fn is_free(self, command: HostCommand) -> bool
-        ensures { IsTrue result ↔ IsFree self command }
+        ensures { IsTrue result ↔ IsFree self.transfer command }
     {
         command.transfer == Data::Nothing || self.transfer == Data::Nothing
     }

@@ -4,6 +4,7 @@ use Rattle.std.specs.Prelude.{Err, None, Ok}
 use Rattle.mmc_card.specs.BusView.{BusView}
 use Rattle.mmc_card.specs.CardAnswer.{CardAnswer, Silent}
 use Rattle.mmc_bus.specs.Exchanges.{Kept}
+use Rattle.mmc_host.specs.HostStates.{IsFree}
 use Rattle.mmc_host.specs.Hosts.{Answers, answer_heard}
 use Rattle.mmc_host.specs.declared.data.Data.{Data}
 use Rattle.mmc_host.specs.declared.response.Response.{Response}
@@ -12,7 +13,7 @@ use Rattle.mmc_host.specs.declared.told.Heard.{Heard}
 use Rattle.mmc_host.specs.declared.told.HostCommand.{HostCommand}
 use Rattle.mmc_host.specs.declared.told.ResponseFault.{ResponseFault}
 use Rattle.mmc_sdhci.proofs.Beginning.{flags}
-use Rattle.mmc_sdhci.specs.Commands.{Begins, Ends, IsFree, IsSent, ResetsData, ResetsLine, Sends, Tells, begun, response_flags, run_of}
+use Rattle.mmc_sdhci.specs.Commands.{Begins, Ends, IsSent, ResetsData, ResetsLine, Sends, Tells, begun, response_flags, run_of}
 use Rattle.mmc_sdhci.specs.Controller.{ControllerView, Dropped, IsShown, Look, Running, Settled, complete, failed, has_data, runs}
 use Rattle.mmc_sdhci.specs.Controller.{seen}
 

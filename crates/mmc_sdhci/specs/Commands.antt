@@ -107,10 +107,6 @@ Sends old command heard new = Settled old (IsSent old command heard new) new
 abbrev pub IsUnderWay : ControllerView → Data → Type 0
 IsUnderWay view transfer = view.is_kept ≡ true → view.transfer ≡ transfer
 
--- data can be sent for only where none is under way
-abbrev pub IsFree : Data → HostCommand → Type 0
-IsFree transfer command = (command.transfer ≡ Data.Nothing) ⊎ (transfer ≡ Data.Nothing)
-
 -- the command line and the data line are reset
 abbrev pub ResetsLine : ControllerView → ControllerView → Type 0
 ResetsLine old new = Settled old (Dropped old old.running new) new

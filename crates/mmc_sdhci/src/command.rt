@@ -1,8 +1,8 @@
 // Commands and their responses.
 ghost use Rattle.std.specs.Prelude.{◌≡◌, ◌<◌};
-ghost use Rattle.mmc_host.specs.HostStates.{AreMovable};
+ghost use Rattle.mmc_host.specs.HostStates.{AreMovable, IsFree};
 ghost use Rattle.mmc_sdhci.specs.Commands.{Begins, Ends, ReadsWord, ResetsData, ResetsLine, Tells, count_of, flags_of, mode_of};
-ghost use Rattle.mmc_sdhci.specs.Commands.{IsFree, IsUnderWay, Sends, fault_in, response_flags, several, sizes_of};
+ghost use Rattle.mmc_sdhci.specs.Commands.{IsUnderWay, Sends, fault_in, response_flags, several, sizes_of};
 ghost use Rattle.mmc_host.specs.declared.response.Response.TheVariants.{R2};
 ghost use Rattle.mmc_sdhci.specs.Controller.{IsAtRest, Stays, bytes_shown, has_data};
 
