@@ -32,7 +32,8 @@ use Rattle.mmc_frame.specs.declared.card_state.State.TheVariants as In
 use Rattle.mmc_host.specs.declared.data.Blocks.TheVariants.{Counted, UntilStopped}
 use Rattle.mmc_host.specs.declared.data.Data.{Data}
 use Rattle.mmc_host.specs.Fits.{AreSent, AreToCome, Begins, HasDataBehind, IsAnswered, IsBusyBehind}
-use Rattle.mmc_host.specs.Table.{data_of, response_of}
+use Rattle.mmc_card.specs.Wanted.{response_to}
+use Rattle.mmc_host.specs.Table.{data_of, response_of, want_of}
 
 -- the card that a command reaches has other errors and erase addresses alone
 record Likeness (old now : Card) : Type 0 where
@@ -396,3 +397,34 @@ pub blocks_told : (choice : Choice) (kind : Kind) (app : Bool) (card : Card) (in
 blocks_told choice kind app card index argument below is registers =
     data_behind choice (command_of kind app index) card index argument
     (sized_of kind (command_of kind app index) card is registers (means_its_own kind app index below))
+
+-- Lengths.
+
+pub as_long : (command : Command) → want_of (response_of command) ≡ response_to command
+as_long GoIdleState = refl
+as_long SendOpCond = refl
+as_long SdSendOpCond = refl
+as_long AllSendCid = refl
+as_long SendRelativeAddr = refl
+as_long SetRelativeAddr = refl
+as_long SelectCard = refl
+as_long SendIfCond = refl
+as_long SendExtCsd = refl
+as_long SendCsd = refl
+as_long StopTransmission = refl
+as_long SendStatus = refl
+as_long SetBlocklen = refl
+as_long ReadSingleBlock = refl
+as_long ReadMultipleBlock = refl
+as_long SetBlockCount = refl
+as_long WriteBlock = refl
+as_long WriteMultipleBlock = refl
+as_long EraseStart = refl
+as_long EraseEnd = refl
+as_long Erase = refl
+as_long Switch = refl
+as_long SwitchFunc = refl
+as_long SetBusWidth = refl
+as_long SendScr = refl
+as_long AppCmd = refl
+as_long Unknown = refl

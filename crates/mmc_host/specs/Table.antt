@@ -7,6 +7,8 @@ use Rattle.mmc_card.specs.declared.command.Command.TheVariants.{ReadSingleBlock,
 use Rattle.mmc_card.specs.declared.command.Command.TheVariants.{SendExtCsd, SendIfCond, SendOpCond, SendRelativeAddr}
 use Rattle.mmc_card.specs.declared.command.Command.TheVariants.{SendScr, StopTransmission, Switch, SwitchFunc}
 use Rattle.mmc_card.specs.declared.command.Command.TheVariants.{WriteBlock, WriteMultipleBlock}
+use Rattle.mmc_card.specs.declared.exchange.Want.{Want}
+use Rattle.mmc_card.specs.declared.exchange.Want.TheVariants.{Long, Nothing, Short}
 use Rattle.mmc_host.specs.declared.data.Blocks.{Blocks}
 use Rattle.mmc_host.specs.declared.data.Blocks.TheVariants.{Counted, UntilStopped}
 use Rattle.mmc_host.specs.declared.data.Data.{Data}
@@ -25,6 +27,12 @@ response_of StopTransmission = Response.R1b
 response_of Erase = Response.R1b
 response_of Switch = Response.R1b
 response_of _ = Response.R1
+
+-- its length
+abbrev pub want_of : Response → Want
+want_of Response.Nothing = Nothing
+want_of Response.R2 = Long
+want_of _ = Short
 
 -- a count of 0 is none
 abbrev pub blocks_of : ℕ → Blocks

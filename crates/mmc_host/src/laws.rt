@@ -1,19 +1,22 @@
 //! Laws of the table: what it says of a command is what a card does. Each function does nothing; its contract is the law, which
 //! a caller then knows.
-ghost use Rattle.std.specs.Prelude.{◌<◌, ℕ};
+ghost use Rattle.std.specs.Prelude.{◌<◌, ◌≡◌, ℕ};
 ghost use Rattle.mmc_card.specs.Card.{Card, IsCard};
 ghost use Rattle.mmc_card.specs.CardAnswer.{Choice};
 ghost use Rattle.mmc_card.specs.Rows.{command_of, respond};
+ghost use Rattle.mmc_card.specs.Wanted.{response_to};
+ghost use Rattle.mmc_card.specs.declared.command.Command.{Command};
 ghost use Rattle.mmc_host.specs.Fits.{HasDataBehind, IsAnswered, IsBusyBehind};
-ghost use Rattle.mmc_host.specs.Table.{data_of, response_of};
+ghost use Rattle.mmc_host.specs.Table.{data_of, response_of, want_of};
 ghost use Rattle.mmc_host.specs.WireLaws.{FaithfulIsHeard, UnsoundIsLost};
 
 /// Whatever a card does with a command, by its kind, its state and behind CMD55 or not: its answer is the response of the
-/// table to this index, or none; it is busy only where it was, or behind an R1b; and where it begins to send or to accept
+/// table to this index, or none, and as long as a host wants; it is busy only where it was, or behind an R1b; and where it begins to send or to accept
 /// blocks, they are the data of the table, by the count that it holds preset.
 pub fn a_card_does_as_the_table_says()
     ensures answer { (choice : Choice) (card : Card) (index argument : ℕ) → index < 64
         → IsAnswered (response_of (command_of card.made.kind card.app index)) index (respond choice card index argument).1 }
+    ensures length { (command : Command) → want_of (response_of command) ≡ response_to command }
     ensures busy { (choice : Choice) (card : Card) (index argument : ℕ)
         → IsBusyBehind (response_of (command_of card.made.kind card.app index)) card (respond choice card index argument).0 }
     ensures blocks { (choice : Choice) (card : Card) (index argument : ℕ) → index < 64 → IsCard card
