@@ -1,5 +1,5 @@
 -- What a host controller has been told so far, command by command.
-use Rattle.std.specs.Prelude.{◌&&◌, ◌-◌, ◌<◌, ◌==◌, ◌||◌, ◌≡◌, ◌≤◌, ◌⊎◌, Bool, false, if◌then◌else◌, nat_lt, not, true, ℕ}
+use Rattle.std.specs.Prelude.{◌%◌, ◌&&◌, ◌-◌, ◌<◌, ◌==◌, ◌||◌, ◌≡◌, ◌≤◌, ◌⊎◌, Bool, false, if◌then◌else◌, nat_lt, not, true, ℕ}
 use Rattle.mmc_frame.specs.Field.{field}
 use Rattle.mmc_frame.specs.declared.commands.TheConstants as Index
 use Rattle.mmc_frame.specs.declared.kind.Kind.{Kind}
@@ -57,11 +57,15 @@ less_one (Data.Read size UntilStopped) = Data.Read size UntilStopped
 less_one (Data.Write (Counted count)) = fewer count (λ blocks. Data.Write blocks)
 less_one (Data.Write UntilStopped) = Data.Write UntilStopped
 
--- blocks that a controller can move: 1 to 65,535, of 512 bytes at most
+-- a controller moves blocks of whole words of 32 bits, of 512 bytes at most
+abbrev pub AreWords : ℕ → Type 0
+AreWords size = (size ≤ 512) × (size % 4 ≡ 0)
+
+-- blocks that a controller can move: 1 to 65,535
 abbrev pub AreMovable : Data → Type 0
 AreMovable Data.Nothing = Unit {0}
-AreMovable (Data.Read size (Counted count)) = (size ≤ 512) × ((1 ≤ count) × (count < 0x10000))
-AreMovable (Data.Read size UntilStopped) = size ≤ 512
+AreMovable (Data.Read size (Counted count)) = AreWords size × ((1 ≤ count) × (count < 0x10000))
+AreMovable (Data.Read size UntilStopped) = AreWords size
 AreMovable (Data.Write (Counted count)) = (1 ≤ count) × (count < 0x10000)
 AreMovable (Data.Write UntilStopped) = Unit {0}
 

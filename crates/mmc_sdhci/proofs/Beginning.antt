@@ -97,10 +97,10 @@ asked : (t : Data) (i f : ℕ) → AreMovable t → f / 32 % 2 ≡ (if has_data 
     → data_asked (sizes_of t) (word i f (mode_of t)) ≡ t
 asked Data.Nothing i f movable is = by_bits Data.Nothing i f 0 0 0 0 0 0 0 0 is refl refl refl refl refl (omega arith) refl
 asked (Data.Read size UntilStopped) i f movable is =
-    by_bits _ i f 0x30 (size + 0x10000 * 0) 1 1 1 0 size 0 is refl refl refl (omega (arith, movable))
-    (omega (arith, movable)) (omega arith) refl
+    by_bits _ i f 0x30 (size + 0x10000 * 0) 1 1 1 0 size 0 is refl refl refl (omega (arith, movable.0))
+    (omega (arith, movable.0)) (omega arith) refl
 asked (Data.Read size (Counted count)) i f movable is =
-    asked_to_read size count i f (count == 1) refl movable.0 movable.1.1 is
+    asked_to_read size count i f (count == 1) refl movable.0.0 movable.1.1 is
 asked (Data.Write UntilStopped) i f movable is =
     by_bits _ i f 0x20 (512 + 0x10000 * 0) 1 0 1 0 512 0 is refl refl refl refl refl (omega arith) refl
 asked (Data.Write (Counted count)) i f movable is = asked_to_write count i f (count == 1) refl movable.1 is

@@ -1,11 +1,12 @@
 -- Looks until a command is over.
-use Rattle.std.proofs.Common.{◌%◌, ◌/◌, ◌≡◌, ◌∙◌, None, Option, Some, ap, arith, refl, subst, sym, ℕ}
+use Rattle.std.proofs.Common.{◌%◌, ◌/◌, ◌≡◌, Option, Some, arith, refl, subst, ℕ}
 use Rattle.mmc_sdhci.specs.Commands.{Ends}
 use Rattle.mmc_sdhci.specs.Controller.{ControllerView, Look, Looked, Reads, Running, Settled, complete, failed, runs}
 
--- nothing but what was looked at has changed
+-- a command that runs still does, and nothing but what was looked at has changed
 abbrev pub OnlyLooked : ControllerView → ControllerView → Type 0
-OnlyLooked old new = Settled old (new ≡ record old { status = new.status }) new
+OnlyLooked old new =
+    Settled old ((run : Running) → old.running ≡ Some run → new ≡ record old { status = new.status }) new
 
 -- what an earlier look showed doesn't matter
 from_first : (first after : ControllerView) (run : Running) (status bits : ℕ)
@@ -15,6 +16,13 @@ from_first first after run status bits (complete answer one fine heard shown vie
     complete answer one fine heard shown view
 from_first first after run status bits (failed error heard view) = failed error heard view
 
+looked_from : (first before after : ControllerView) (run : Running) (bits : ℕ) → first.running ≡ Some run
+    → before ≡ record first { status = before.status } → Looked before before.running bits after
+    → Look (record first { status = before.status }) run bits after
+looked_from first before after run bits is only looked =
+    subst (λ (o : Option Running). Looked (record first { status = before.status }) o bits after) is
+    (subst (λ (v : ControllerView). Looked v v.running bits after) only looked)
+
 -- the looks before found it running
 pub look_after : (first before after : ControllerView) (bits : ℕ) → OnlyLooked first before
     → Reads before 0x30 bits after → Ends first bits after
@@ -23,22 +31,22 @@ look_after first before after bits same read kept =
     let only = same shows.0 in (
       only.0,
       λ run is. from_first first after run before.status bits
-          (subst (λ (o : Option Running). Looked (record first { status = before.status }) o bits after) is
-          (subst (λ (v : ControllerView). Looked v v.running bits after) only.1 (shows.1.0 refl))),
+          (looked_from first before after run bits is (only.1 run is) (shows.1.interrupts refl)),
     )
 
-still : (old new : ControllerView) (running : Option Running) (bits : ℕ) → (bits % 2 ≡ 1 → ⊥) → (bits / 0x8000 % 2 ≡ 1 → ⊥)
-    → Looked old running bits new → new ≡ record old { status = new.status }
-still old new None bits one error looked = looked ∙ ap (λ (v : ControllerView). record old { status = v.status }) (sym looked)
-still old new (Some run) bits one error (runs zero fine view) = view
-still old new (Some run) bits one error (complete answer is fine heard shown view) = absurd (one (omega (arith, is)))
-still old new (Some run) bits one error (failed is heard view) = absurd (error (omega (arith, is)))
+still : (first after : ControllerView) (run : Running) (bits : ℕ) → (bits % 2 ≡ 1 → ⊥) → (bits / 0x8000 % 2 ≡ 1 → ⊥)
+    → Look first run bits after → after ≡ record first { status = after.status }
+still first after run bits one error (runs zero fine view) = view
+still first after run bits one error (complete answer is fine heard shown view) = absurd (one (omega (arith, is)))
+still first after run bits one error (failed is heard view) = absurd (error (omega (arith, is)))
 
 -- a look that finds it neither over nor failed
 pub look_again : (first before after : ControllerView) (bits : ℕ) → (bits % 2 ≡ 1 → ⊥) → (bits / 0x8000 % 2 ≡ 1 → ⊥)
     → OnlyLooked first before → Reads before 0x30 bits after → OnlyLooked first after
 look_again first before after bits one error same read kept =
     let shows = read kept in
-    let only = same shows.0 in
-    let now = still before after before.running bits one error (shows.1.0 refl) in
-    (only.0, now ∙ ap (λ (v : ControllerView). record v { status = after.status }) only.1)
+    let only = same shows.0 in (
+      only.0,
+      λ run is. still first after run bits one error (from_first first after run before.status bits
+          (looked_from first before after run bits is (only.1 run is) (shows.1.interrupts refl))),
+    )

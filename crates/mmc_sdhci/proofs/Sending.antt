@@ -13,9 +13,9 @@ use Rattle.mmc_host.specs.declared.told.Heard.{Heard}
 use Rattle.mmc_host.specs.declared.told.HostCommand.{HostCommand}
 use Rattle.mmc_host.specs.declared.told.ResponseFault.{ResponseFault}
 use Rattle.mmc_sdhci.proofs.Beginning.{flags}
-use Rattle.mmc_sdhci.specs.Commands.{Begins, Ends, IsSent, ResetsData, ResetsLine, Sends, Tells, begun, response_flags, run_of}
-use Rattle.mmc_sdhci.specs.Controller.{ControllerView, Dropped, IsShown, Look, Running, Settled, complete, failed, has_data, runs}
-use Rattle.mmc_sdhci.specs.Controller.{seen}
+use Rattle.mmc_sdhci.specs.Commands.{Begins, Ends, Moves, ResetsData, ResetsLine, Sends, Tells, begun, response_flags, run_of}
+use Rattle.mmc_sdhci.specs.Controller.{Built, ControllerView, DataDropped, Dropped, IsShown, Look, Running, Settings, Settled, cleared}
+use Rattle.mmc_sdhci.specs.Controller.{complete, failed, has_data, runs, seen}
 
 -- the command is over, or still runs
 ended : (v0 v1 v2 : ControllerView) (command : HostCommand) (bits : ℕ) → Begins v0 command v1 → Ends v1 bits v2
@@ -47,8 +47,9 @@ record IsLost (old : ControllerView) (command : HostCommand) (new : ControllerVi
   exchange : Exchange old command Silent new
   running : new.running ≡ None
   stuck : new.is_stuck ≡ false
-  ios : new.ios ≡ old.ios
-  limits : new.limits ≡ old.limits
+  transfer : new.transfer ≡ Data.Nothing
+  settings : new.settings ≡ old.settings
+  built : new.built ≡ old.built
 
 lost_by : (v0 v2 v3 : ControllerView) (command : HostCommand) (bits : ℕ) → (bits % 2 ≡ 0) ⊎ (bits / 0x8000 % 2 ≡ 1)
     → Look (begun v0 command) (run_of command) bits v2 → Dropped v2 v2.running v3 → IsLost v0 command v3
@@ -58,8 +59,9 @@ lost_by v0 v2 v3 command bits why (runs zero fine view) dropped =
       exchange = d.0;
       running = ap (λ (v : ControllerView). v.running) d.1;
       stuck = ap (λ (v : ControllerView). v.is_stuck) d.1;
-      ios = ap (λ (v : ControllerView). v.ios) d.1;
-      limits = ap (λ (v : ControllerView). v.limits) d.1;
+      transfer = ap (λ (v : ControllerView). v.transfer) d.1;
+      settings = ap (λ (v : ControllerView). v.settings) d.1;
+      built = ap (λ (v : ControllerView). v.built) d.1;
     }
 lost_by v0 v2 v3 command bits (inl none) (complete answer one fine heard shown view) dropped = absurd (omega (arith, none, one))
 lost_by v0 v2 v3 command bits (inr error) (complete answer one fine heard shown view) dropped = absurd (omega (arith, error, fine))
@@ -71,8 +73,9 @@ lost_by v0 v2 v3 command bits why (failed error heard view) dropped =
           (sym (ap (λ (v : ControllerView). seen v) d)) heard;
       running = ap (λ (v : ControllerView). v.running) d ∙ ap (λ (v : ControllerView). v.running) view;
       stuck = ap (λ (v : ControllerView). v.is_stuck) d;
-      ios = ap (λ (v : ControllerView). v.ios) d ∙ ap (λ (v : ControllerView). v.ios) view;
-      limits = ap (λ (v : ControllerView). v.limits) d ∙ ap (λ (v : ControllerView). v.limits) view;
+      transfer = ap (λ (v : ControllerView). v.transfer) d ∙ ap (λ (v : ControllerView). v.transfer) view;
+      settings = ap (λ (v : ControllerView). v.settings) d ∙ ap (λ (v : ControllerView). v.settings) view;
+      built = ap (λ (v : ControllerView). v.built) d ∙ ap (λ (v : ControllerView). v.built) view;
     }
 
 -- a command that wasn't heard
@@ -83,35 +86,41 @@ lost v0 v1 v2 v3 v4 command bits fault why begins ends resets clears kept =
     let c = clears kept in
     let r = resets c.0 in
     let e = ended v0 v1 v2 command bits begins ends r.0 in
-    let l = lost_by v0 v2 v3 command bits why e.1 r.1 in (
+    let l = lost_by v0 v2 v3 command bits why e.1 r.1 in
+    let d : v4 ≡ cleared v3 = subst (λ (t : Data). DataDropped v3 t v4) l.transfer c.1 in (
       e.0,
       record {
-        answer = subst (λ (a : CardAnswer). Exchange v0 command a v4) (sym (silent command.response command.index fault))
+        step = subst (λ (a : CardAnswer). Exchange v0 command a v4) (sym (silent command.response command.index fault))
             (subst (λ (b : BusView). Kept (seen v0) (Answers (seen v0) command.index command.argument Silent b) b)
-            (sym (ap (λ (v : ControllerView). seen v) c.1)) l.exchange);
-        transfer = ap (λ (v : ControllerView). v.transfer) c.1;
-        ios = ap (λ (v : ControllerView). v.ios) c.1 ∙ l.ios;
-        limits = ap (λ (v : ControllerView). v.limits) c.1 ∙ l.limits;
+            (sym (ap (λ (v : ControllerView). seen v) d)) l.exchange);
+        transfer = ap (λ (v : ControllerView). v.transfer) d;
+        settings = ap (λ (v : ControllerView). v.settings) d ∙ l.settings;
+        built = ap (λ (v : ControllerView). v.built) d ∙ l.built;
       },
     )
 
 -- A command that is over without an error.
+abbrev Moved : ControllerView → HostCommand → Heard → ControllerView → Type 0
+Moved old command heard new =
+    Moves old (Answers (seen old) command.index command.argument (answer_heard command.response command.index (Ok heard)) (seen new))
+    command.transfer new
+
 heard_by : (v0 v2 v3 : ControllerView) (command : HostCommand) (bits : ℕ) (heard : Heard) → (bits % 2 ≡ 0 → ⊥)
     → (bits / 0x8000 % 2 ≡ 1 → ⊥) → Look (begun v0 command) (run_of command) bits v2 → v3 ≡ v2
     → ((index byte : ℕ) (answer : CardAnswer) → byte % 32 ≡ response_flags command.response
     → IsShown byte index v2.response answer → answer ≡ answer_heard command.response index (Ok heard))
-    → IsSent v0 command (Ok heard) v3
+    → Moved v0 command heard v3
 heard_by v0 v2 v3 command bits heard over fine (runs zero none view) same tells = absurd (over (omega (arith, zero)))
 heard_by v0 v2 v3 command bits heard over fine (failed error lost view) same tells = absurd (fine (omega (arith, error)))
 heard_by v0 v2 v3 command bits heard over fine (complete answer one none exchange shown view) same tells =
     let is = tells command.index (run_of command).flags answer (flags command).1.1 shown in
     record {
-      answer = subst (λ (b : BusView). Kept (seen v0) (Answers (seen v0) command.index command.argument
+      step = subst (λ (b : BusView). Kept (seen v0) (Answers (seen v0) command.index command.argument
           (answer_heard command.response command.index (Ok heard)) b) b) (sym (ap (λ (v : ControllerView). seen v) same))
           (subst (λ (a : CardAnswer). Exchange v0 command a v2) is exchange);
       transfer = ap (λ (v : ControllerView). v.transfer) same ∙ ap (λ (v : ControllerView). v.transfer) view;
-      ios = ap (λ (v : ControllerView). v.ios) same ∙ ap (λ (v : ControllerView). v.ios) view;
-      limits = ap (λ (v : ControllerView). v.limits) same ∙ ap (λ (v : ControllerView). v.limits) view;
+      settings = ap (λ (v : ControllerView). v.settings) same ∙ ap (λ (v : ControllerView). v.settings) view;
+      built = ap (λ (v : ControllerView). v.built) same ∙ ap (λ (v : ControllerView). v.built) view;
     }
 
 pub sent : (v0 v1 v2 v3 : ControllerView) (command : HostCommand) (bits : ℕ) (heard : Heard) → (bits % 2 ≡ 0 → ⊥)
@@ -135,14 +144,16 @@ pub sent_and_dropped : (v0 v1 v2 v3 v4 : ControllerView) (under_way : Data) (com
     → Sends v0 command (Ok heard) v4
 sent_and_dropped v0 v1 v2 v3 v4 under_way command bits heard over fine some free begins ends tells clears kept =
     let c = clears kept in
-    let s = sent v0 v1 v2 v3 command bits heard over fine begins ends tells c.0 in (
+    let s = sent v0 v1 v2 v3 command bits heard over fine begins ends tells c.0 in
+    let none = none_asked under_way command some free in
+    let d : v4 ≡ cleared v3 = subst (λ (t : Data). DataDropped v3 t v4) (s.1.transfer ∙ none) c.1 in (
       s.0,
       record {
-        answer = subst (λ (b : BusView). Kept (seen v0) (Answers (seen v0) command.index command.argument
-            (answer_heard command.response command.index (Ok heard)) b) b) (sym (ap (λ (v : ControllerView). seen v) c.1))
-            s.1.answer;
-        transfer = ap (λ (v : ControllerView). v.transfer) c.1 ∙ sym (none_asked under_way command some free);
-        ios = ap (λ (v : ControllerView). v.ios) c.1 ∙ s.1.ios;
-        limits = ap (λ (v : ControllerView). v.limits) c.1 ∙ s.1.limits;
+        step = subst (λ (b : BusView). Kept (seen v0) (Answers (seen v0) command.index command.argument
+            (answer_heard command.response command.index (Ok heard)) b) b) (sym (ap (λ (v : ControllerView). seen v) d))
+            s.1.step;
+        transfer = ap (λ (v : ControllerView). v.transfer) d ∙ sym none;
+        settings = ap (λ (v : ControllerView). v.settings) d ∙ s.1.settings;
+        built = ap (λ (v : ControllerView). v.built) d ∙ s.1.built;
       },
     )

@@ -1,9 +1,8 @@
 -- What the driver's functions leave.
-use Rattle.std.specs.Prelude.{◌%◌, ◌*◌, ◌+◌, ◌==◌, ◌||◌, ◌≡◌, ◌⊎◌, [], Ok, Result, Some, false, if◌then◌else◌, is_ok, true, ℕ}
+use Rattle.std.specs.Prelude.{◌%◌, ◌*◌, ◌+◌, ◌==◌, ◌||◌, ◌≡◌, Ok, Result, Some, false, if◌then◌else◌, is_ok, true, ℕ}
 use Rattle.mmc_card.specs.CardAnswer.{CardAnswer}
 use Rattle.mmc_frame.specs.Field.{field}
 use Rattle.mmc_frame.specs.declared.commands.TheConstants as Index
-use Rattle.mmc_bus.specs.Exchanges.{Kept}
 use Rattle.mmc_host.specs.Hosts.{Answers, answer_heard}
 use Rattle.mmc_host.specs.declared.data.Blocks.{Blocks}
 use Rattle.mmc_host.specs.declared.data.Blocks.TheVariants.{Counted, UntilStopped}
@@ -14,7 +13,8 @@ use Rattle.mmc_host.specs.declared.told.Heard.{Heard}
 use Rattle.mmc_host.specs.declared.told.HostCommand.{HostCommand}
 use Rattle.mmc_host.specs.declared.told.ResponseFault.{ResponseFault}
 use Rattle.mmc_host.specs.declared.told.ResponseFault.TheVariants as Fault
-use Rattle.mmc_sdhci.specs.Controller.{ControllerView, Dropped, IsShown, Look, Running, Settled, has_data, seen, word}
+use Rattle.mmc_sdhci.specs.Controller.{Built, ControllerView, DataDropped, Dropped, IsShown, Look, Running, Settings, Settled, Steps}
+use Rattle.mmc_sdhci.specs.Controller.{has_data, seen, word}
 
 -- the type of response, with the checks that it has
 abbrev pub response_flags : Response → ℕ
@@ -91,17 +91,20 @@ Tells old response heard new =
     ((new ≡ old) × ((index : ℕ) (flags : ℕ) (answer : CardAnswer) → flags % 32 ≡ response_flags response
     → IsShown flags index old.response answer → answer ≡ answer_heard response index (Ok heard))) new
 
--- One command: what the host heard is the card's answer, and its data is to come where it was heard.
-pub record IsSent (old : ControllerView) (command : HostCommand) (heard : Result Heard ResponseFault) (new : ControllerView) : Type 0 where
-  pub answer : Kept (seen old)
-      (Answers (seen old) command.index command.argument (answer_heard command.response command.index heard) (seen new))
-      (seen new)
-  pub transfer : new.transfer ≡ (if is_ok heard then command.transfer else Data.Nothing)
-  pub ios : new.ios ≡ old.ios
-  pub limits : new.limits ≡ old.limits
+-- A step of the card, behind which this data is under way; what is set and built in is as before.
+pub record Moves (old : ControllerView) (Step : Type 0) (left : Data) (new : ControllerView) : Type 0 where
+  pub step : Steps old Step new
+  pub transfer : new.transfer ≡ left
+  pub settings : new.settings ≡ old.settings
+  pub built : new.built ≡ old.built
 
+-- One command: what the host heard is the card's answer, and its data is to come where it was heard.
 abbrev pub Sends : ControllerView → HostCommand → Result Heard ResponseFault → ControllerView → Type 0
-Sends old command heard new = Settled old (IsSent old command heard new) new
+Sends old command heard new =
+    Settled old
+    (Moves old
+    (Answers (seen old) command.index command.argument (answer_heard command.response command.index heard) (seen new))
+    (if is_ok heard then command.transfer else Data.Nothing) new) new
 
 -- this data is under way
 abbrev pub IsUnderWay : ControllerView → Data → Type 0
@@ -112,8 +115,7 @@ abbrev pub ResetsLine : ControllerView → ControllerView → Type 0
 ResetsLine old new = Settled old (Dropped old old.running new) new
 
 abbrev pub ResetsData : ControllerView → ControllerView → Type 0
-ResetsData old new =
-    Settled old (new ≡ record old { transfer = Data.Nothing; is_stale = false; buffer = [] }) new
+ResetsData old new = Settled old (DataDropped old old.transfer new) new
 
 -- why no response was heard: bits 17, 18 and 19 of the interrupts
 abbrev pub fault_in : ℕ → ResponseFault

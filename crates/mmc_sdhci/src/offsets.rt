@@ -8,11 +8,31 @@ pub const ARGUMENT: u8 = 0x08;
 pub const COMMAND: u8 = 0x0c;
 /// Response, four words.
 pub const RESPONSE: u8 = 0x10;
+/// Buffer Data Port.
+pub const PORT: u8 = 0x20;
 /// Present State.
 pub const PRESENT: u8 = 0x24;
+/// Its second byte: in bit 2 Buffer Write Enable, in bit 3 Buffer Read Enable.
+pub const BUFFERS: u8 = 0x25;
 /// Its third byte, with the levels of DAT0 to DAT3 in bits 4 to 7.
 pub const DATA_LEVELS: u8 = 0x26;
+/// Host Control 1.
+pub const CONTROL: u8 = 0x28;
+/// Power Control.
+pub const POWER: u8 = 0x29;
+/// Block Gap Control: in bit 0 Stop At Block Gap Request, in bit 1 Continue Request.
+pub const BLOCK_GAP: u8 = 0x2a;
+/// Clock Control, and above it Timeout Control and Software Reset.
+pub const CLOCK: u8 = 0x2c;
 /// Software Reset.
 pub const RESET: u8 = 0x2f;
 /// Normal and Error Interrupt Status.
 pub const INTERRUPTS: u8 = 0x30;
+/// Normal and Error Interrupt Status Enable: what is shown in the status.
+pub const SHOWN_INTERRUPTS: u8 = 0x34;
+/// Normal and Error Interrupt Signal Enable: what raises an interrupt of the processor.
+pub const SIGNALS: u8 = 0x38;
+/// Capabilities, its first word.
+pub const CAPABILITIES: u8 = 0x40;
+/// The version of the specification, in the lower byte of Host Controller Version.
+pub const VERSION: u8 = 0xfe;

@@ -1,6 +1,6 @@
 ghost use Rattle.mmc_sdhci.specs.Controller.{ControllerView, IsAllowed, Reads, Reads8, Stays, Writes, Writes8};
 
-/// The registers of an SD host controller.
+/// The registers of an SD host controller, by their offsets in bytes. Each access reaches the controller, in order.
 pub trait Registers {
     // What contracts see of a controller and its card.
     ghost view: { Self → ControllerView };
@@ -11,7 +11,7 @@ pub trait Registers {
 
     /// Writes 32 bits.
     fn write32(&mut self, offset: u8, value: u32)
-        requires { IsAllowed (view self.old) offset }
+        requires { IsAllowed (view self.old) offset value }
         ensures { Writes (view self.old) offset value (view self.new) };
 
     /// Reads 8 bits.
