@@ -14,7 +14,7 @@ use Rattle.mmc_host.specs.declared.told.HostCommand.{HostCommand}
 use Rattle.mmc_host.specs.declared.told.ResponseFault.{ResponseFault}
 use Rattle.mmc_sdhci.proofs.Beginning.{flags}
 use Rattle.mmc_sdhci.specs.Commands.{Begins, Ends, Moves, ResetsData, ResetsLine, Sends, Tells, begun, response_flags, run_of}
-use Rattle.mmc_sdhci.specs.Controller.{Built, ControllerView, DataDropped, Dropped, IsShown, Look, Running, Settings, Settled, cleared}
+use Rattle.mmc_sdhci.specs.Controller.{ControllerView, DataDropped, Dropped, IsShown, Look, Running, Settled, cleared}
 use Rattle.mmc_sdhci.specs.Controller.{complete, failed, has_data, runs, seen}
 
 -- the command is over, or still runs

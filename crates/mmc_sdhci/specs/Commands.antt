@@ -1,5 +1,5 @@
 -- What the driver's functions leave.
-use Rattle.std.specs.Prelude.{◌%◌, ◌*◌, ◌+◌, ◌==◌, ◌||◌, ◌≡◌, Ok, Result, Some, false, if◌then◌else◌, is_ok, true, ℕ}
+use Rattle.std.specs.Prelude.{◌%◌, ◌*◌, ◌+◌, ◌==◌, ◌||◌, ◌≡◌, Ok, Result, Some, if◌then◌else◌, is_ok, true, ℕ}
 use Rattle.mmc_card.specs.CardAnswer.{CardAnswer}
 use Rattle.mmc_frame.specs.Field.{field}
 use Rattle.mmc_frame.specs.declared.commands.TheConstants as Index
@@ -13,7 +13,7 @@ use Rattle.mmc_host.specs.declared.told.Heard.{Heard}
 use Rattle.mmc_host.specs.declared.told.HostCommand.{HostCommand}
 use Rattle.mmc_host.specs.declared.told.ResponseFault.{ResponseFault}
 use Rattle.mmc_host.specs.declared.told.ResponseFault.TheVariants as Fault
-use Rattle.mmc_sdhci.specs.Controller.{Built, ControllerView, DataDropped, Dropped, IsShown, Look, Running, Settings, Settled, Steps}
+use Rattle.mmc_sdhci.specs.Controller.{ControllerView, DataDropped, Dropped, IsShown, Look, Running, Settled, Steps}
 use Rattle.mmc_sdhci.specs.Controller.{has_data, seen, word}
 
 -- the type of response, with the checks that it has

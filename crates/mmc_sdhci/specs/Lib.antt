@@ -1,3 +1,4 @@
 pub mod Busy
 pub mod Commands
 pub mod Controller
+pub mod Moving

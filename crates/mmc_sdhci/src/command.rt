@@ -36,7 +36,7 @@ fn response_flags(response: Response) -> u32
 }
 
 // Whether there is any.
-fn has_data(transfer: Data) -> bool
+pub fn has_data(transfer: Data) -> bool
     ensures { result ≡ has_data transfer }
 {
     match transfer {
@@ -195,7 +195,7 @@ fn reset_command<R: Registers>(registers: &mut R)
 }
 
 // Resets the data line, which drops what was read ahead.
-fn reset_data<R: Registers>(registers: &mut R)
+pub fn reset_data<R: Registers>(registers: &mut R)
     ensures { ResetsData (R.view registers.old) (R.view registers.new) }
 {
     registers.write8(RESET, DATA_LINE);

@@ -5,10 +5,13 @@
 mod buffer;
 mod busy;
 mod command;
+mod data;
 mod offsets;
 mod registers;
+mod watching;
 
 pub use buffer::Buffer;
 pub use busy::is_busy;
 pub use command::send;
+pub use data::{read_block, write_block};
 pub use registers::Registers;

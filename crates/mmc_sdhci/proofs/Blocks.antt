@@ -1,0 +1,261 @@
+-- Blocks that are read and written.
+use Rattle.std.proofs.Common.{◌∙◌, ◌≡◌, arith, bit_and, rules, Bool, List, None, Option, Some, ap, false, refl, subst, sym, true, ℕ}
+use Rattle.std.specs.Prelude.{[], ◌&&◌, ◌∷◌, is_none, not}
+use Rattle.std.proofs.lemmas.Bool.{eqb-true, false≢true}
+use Rattle.mmc_frame.specs.Field.{field}
+use Rattle.mmc_card.specs.BusView.{BusView}
+use Rattle.mmc_card.specs.Faults.{WriteStep}
+use Rattle.mmc_bus.specs.Exchanges.{Kept}
+use Rattle.mmc_card.specs.declared.exchange.DataOut.TheVariants as Went
+use Rattle.mmc_host.specs.declared.data.Blocks.{Blocks}
+use Rattle.mmc_host.specs.declared.data.Data.{Data}
+use Rattle.mmc_sdhci.specs.Commands.{ResetsData}
+use Rattle.mmc_sdhci.specs.Controller.{ControllerView, DataDropped, DataLooked, Running, Settled}
+use Rattle.mmc_sdhci.specs.Controller.{IsAtRest, Writes}
+use Rattle.mmc_sdhci.specs.Controller.{IsUntold, Stays, WriteLook, cleared, is_at_rest, is_empty, moved, seen}
+use Rattle.mmc_sdhci.specs.Controller.WriteLook.{accepted as write_accepted, failed as write_failed, waits as write_waits}
+use Rattle.mmc_sdhci.specs.declared.buffer.Buffer.{Buffer}
+use Rattle.mmc_sdhci.specs.Moving.{HasRoom, IsGoing, Puts, WritesBlock}
+use Rattle.mmc_sdhci.specs.Moving.{FindsRoom, SeesGone, IsClear, OnlyWatched, Watches, WhereKept, is_error, looking}
+use Rattle.mmc_sdhci.specs.declared.watching.Sought.{Sought}
+use Rattle.mmc_sdhci.specs.declared.watching.Glance.{Glance}
+
+-- At rest.
+
+both : (a b : Bool) → (a && b) ≡ true → (a ≡ true) × (b ≡ true)
+both true b is = (refl, is)
+both false b is = absurd (false≢true is)
+
+unset : (b : Bool) → not b ≡ true → b ≡ false
+unset false is = refl
+unset true is = absurd (false≢true is)
+
+none_runs : (o : Option Running) → is_none o ≡ true → o ≡ None
+none_runs None is = refl
+none_runs (Some run) is = absurd (false≢true is)
+
+nothing_in : (bytes : List ℕ) → is_empty bytes ≡ true → bytes ≡ []
+nothing_in [] is = refl
+nothing_in (byte ∷ bytes) is = absurd (false≢true is)
+
+pub clear_at_rest : (view : ControllerView) → is_at_rest view ≡ true → IsClear view × (view.outgoing ≡ [])
+clear_at_rest view rests =
+    let a = both (is_none view.running) _ rests in
+    let b = both (not view.is_stuck) _ a.1 in
+    let c = both (not view.is_stale) _ b.1 in
+    let d = both (not view.is_open) (is_empty view.outgoing) c.1 in (
+      record {
+        running = none_runs view.running a.0;
+        stuck = unset view.is_stuck b.0;
+        stale = unset view.is_stale c.0;
+        open_data = unset view.is_open d.0;
+      },
+      nothing_in view.outgoing d.1,
+    )
+
+abbrev rest_with : Option Running → Bool → Bool → Bool → List ℕ → Bool
+rest_with running stuck stale still_open outgoing =
+    is_none running && (not stuck && (not stale && (not still_open && is_empty outgoing)))
+
+pub rests_clear : (view : ControllerView) → IsClear view → view.outgoing ≡ [] → is_at_rest view ≡ true
+rests_clear view clear out =
+    ap (λ (r : Option Running). rest_with r view.is_stuck view.is_stale view.is_open view.outgoing) clear.running
+    ∙ (ap (λ (b : Bool). rest_with None b view.is_stale view.is_open view.outgoing) clear.stuck
+    ∙ (ap (λ (b : Bool). rest_with None false b view.is_open view.outgoing) clear.stale
+    ∙ (ap (λ (b : Bool). rest_with None false false b view.outgoing) clear.open_data
+    ∙ ap (λ (l : List ℕ). rest_with None false false false l) out)))
+
+-- so is a controller whose data line was reset
+pub rests_cleared : (view new : ControllerView) → view.running ≡ None → view.is_stuck ≡ false → new ≡ cleared view
+    → is_at_rest new ≡ true
+rests_cleared view new runs stuck is =
+    ap (λ (v : ControllerView). is_at_rest v) is
+    ∙ (ap (λ (r : Option Running). rest_with r view.is_stuck false false []) runs
+    ∙ ap (λ (b : Bool). rest_with None b false false []) stuck)
+
+-- Looks until all data has come.
+
+abbrev pub OnlyEnds : ControllerView → ControllerView → Type 0
+OnlyEnds old new = new ≡ record old { status = new.status; is_open = new.is_open }
+
+pub zero-is-not-one : (n : ℕ) → n ≡ 0 → n ≡ 1 → ⊥
+zero-is-not-one n zero one = omega (arith, zero, one)
+
+-- Looks that found nothing.
+pub none_found : (s : Sought) (v0 v1 : ControllerView) (result : Option Glance)
+    → ((x : Glance) → result ≡ Some x → ⊥) → Watches v0 s result v1 → Settled v0 (OnlyWatched v0 v1) v1
+none_found s v0 v1 None not watched = watched
+none_found s v0 v1 (Some x) not watched = absurd (not x refl)
+
+pub one_found : (s : Sought) (v0 v1 : ControllerView) (result : Option Glance) (x : Glance) → result ≡ Some x
+    → Watches v0 s result v1 → Watches v0 s (Some x) v1
+one_found s v0 v1 result x is watched = subst (λ (o : Option Glance). Watches v0 s o v1) is watched
+
+abbrev pub looked_so : ControllerView → ℕ → Bool → ControllerView
+looked_so view status is_ready = record view { status = status; is_ready = is_ready }
+
+-- The card's status of a block didn't come, and the controller is at rest.
+pub record IsLostWrite (old new : ControllerView) : Type 0 where
+  pub step : IsUntold old new
+  pub transfer : new.transfer ≡ Data.Nothing
+  pub settings : new.settings ≡ old.settings
+  pub built : new.built ≡ old.built
+  pub rest : is_at_rest new ≡ true
+
+-- as IsUntold, over what was looked at
+untold_from : (view after last : ControllerView) (status : ℕ) (ready : Bool) → seen last ≡ seen after
+    → IsUntold (looked_so view status ready) after → IsUntold view last
+untold_from view after last status ready same untold block offered =
+    subst (λ (b : BusView). Kept (seen view) (WriteStep (seen view) block Went.Nothing b) b) (sym same) (untold block offered)
+
+-- where nothing was found the data line's reset drops it
+write_dropped : (v0 v2 : ControllerView) (status : ℕ) (ready : Bool) (blocks : Blocks) → IsClear v0
+    → v0.transfer ≡ Data.Write blocks → DataDropped (looked_so v0 status ready) v0.transfer v2 → IsLostWrite v0 v2
+write_dropped v0 v2 status ready blocks clear is dropped =
+    let d : IsUntold (looked_so v0 status ready) v2 × (v2 ≡ cleared (moved (looked_so v0 status ready) v2)) =
+    subst (λ (t : Data). DataDropped (looked_so v0 status ready) t v2) is dropped in
+    record {
+      step = untold_from v0 v2 v2 status ready refl d.0;
+      transfer = ap (λ (v : ControllerView). v.transfer) d.1;
+      settings = ap (λ (v : ControllerView). v.settings) d.1;
+      built = ap (λ (v : ControllerView). v.built) d.1;
+      rest = rests_cleared (moved (looked_so v0 status ready) v2) v2 clear.running clear.stuck d.1;
+    }
+
+-- where a block is to go
+abbrev pub IsWriting : ControllerView → Type 0
+IsWriting view = WhereKept view (IsClear view × ((blocks : Blocks) × (view.transfer ≡ Data.Write blocks)))
+
+pub write_lost : (s : Sought) (v0 v1 v2 : ControllerView) (result : Option Glance)
+    → ((x : Glance) → result ≡ Some x → ⊥) → IsWriting v0
+    → Watches v0 s result v1 → ResetsData v1 v2 → Settled v0 (IsLostWrite v0 v2) v2
+write_lost s v0 v1 v2 result not there watched resets kept =
+    let r = resets kept in
+    let w = none_found s v0 v1 result not watched r.0 in
+    let t = there w.0 in (
+      w.0,
+      write_dropped v0 v2 v1.status v1.is_ready t.1.0 t.0 t.1.1
+          (subst (λ (v : ControllerView). DataDropped v v.transfer v2) w.1 r.1),
+    )
+
+-- an error
+write_broken : (v0 v1 v2 : ControllerView) (ready : Bool) (bits : ℕ) → IsClear v0 → field 15 15 bits ≡ 1
+    → WriteLook (record v0 { is_ready = ready }) bits v1 → DataDropped v1 v1.transfer v2 → IsLostWrite v0 v2
+write_broken v0 v1 v2 ready bits clear error (write_waits fine not same) dropped = absurd (zero-is-not-one _ fine error)
+write_broken v0 v1 v2 ready bits clear error (write_accepted fine is step same) dropped = absurd (zero-is-not-one _ fine error)
+write_broken v0 v1 v2 ready bits clear error (write_failed e untold same) dropped =
+    let d : v2 ≡ cleared v1 =
+    subst (λ (t : Data). DataDropped v1 t v2) (ap (λ (v : ControllerView). v.transfer) same) dropped in
+    record {
+      step = untold_from v0 v1 v2 v0.status ready (ap (λ (v : ControllerView). seen v) d) untold;
+      transfer = ap (λ (v : ControllerView). v.transfer) d;
+      settings = ap (λ (v : ControllerView). v.settings) d ∙ ap (λ (v : ControllerView). v.settings) same;
+      built = ap (λ (v : ControllerView). v.built) d ∙ ap (λ (v : ControllerView). v.built) same;
+      rest = rests_cleared v1 v2 (ap (λ (v : ControllerView). v.running) same ∙ clear.running)
+          (ap (λ (v : ControllerView). v.is_stuck) same ∙ clear.stuck) d;
+    }
+
+pub write_failed_by : (s : Sought) (v0 v1 v2 : ControllerView) (result : Option Glance) (x : Glance)
+    → result ≡ Some x → is_error x.bits ≡ true → IsWriting v0
+    → Watches v0 s result v1 → ResetsData v1 v2 → Settled v0 (IsLostWrite v0 v2) v2
+write_failed_by s v0 v1 v2 result x is error there watched resets kept =
+    let r = resets kept in
+    let w = one_found s v0 v1 result x is watched r.0 in
+    let t = there w.0 in (
+      w.0,
+      write_broken v0 v1 v2 x.is_ready x.bits t.0 (eqb-true _ 1 error)
+          (subst (λ (d : Data). DataLooked (looking v0 x) d x.bits v1) t.1.1 w.1.1) r.1,
+    )
+
+-- there is no room
+pub no_room : (v0 v2 : ControllerView) → (v0.is_kept ≡ true → v0.outgoing ≡ []) → Settled v0 (IsLostWrite v0 v2) v2
+    → FindsRoom v0 false v2
+no_room v0 v2 empty lost kept =
+    let l = lost kept in
+    let e = empty l.0 in (
+      l.0,
+      (
+        record {
+          step = λ block. l.1.step block (λ some. absurd (false≢true (sym some ∙ ap (λ (b : List ℕ). is_empty b) e)));
+          transfer = l.1.transfer;
+          settings = l.1.settings;
+          built = l.1.built;
+        },
+        l.1.rest,
+      ),
+    )
+
+-- the block didn't go
+pub not_gone : (v0 v2 : ControllerView) → Settled v0 (IsLostWrite v0 v2) v2 → SeesGone v0 Went.Nothing v2
+not_gone v0 v2 lost kept =
+    let l = lost kept in (
+      l.0,
+      (
+        record {
+          step = l.1.step v0.outgoing (λ some. refl);
+          transfer = l.1.transfer;
+          settings = l.1.settings;
+          built = l.1.built;
+        },
+        l.1.rest,
+      ),
+    )
+
+-- A write of one block.
+
+pub unsent : (v0 v1 v2 : ControllerView) (block : List ℕ) (found : Bool) → Stays v0 v1 → FindsRoom v1 found v2
+    → found ≡ false → WritesBlock v0 block Went.Nothing v2
+unsent v0 v1 v2 block found stays finds none kept =
+    let u = subst (λ (b : Bool). FindsRoom v1 b v2) none finds kept in
+    let s = stays u.0 in
+    let l = u.1.0 in
+    let same : seen v1 ≡ seen v0 = ap (λ (v : ControllerView). seen v) s.1 in (
+      s.0,
+      record {
+        step = subst (λ (b : BusView). Kept b (WriteStep b block Went.Nothing (seen v2)) (seen v2)) same (l.step block);
+        transfer = l.transfer;
+        settings = l.settings ∙ ap (λ (v : ControllerView). v.settings) s.1;
+        built = l.built ∙ ap (λ (v : ControllerView). v.built) s.1;
+      },
+    )
+
+-- there is room, and the old interrupts are cleared
+roomy : (v0 v1 v2 v3 : ControllerView) (found : Bool) → Stays v0 v1 → FindsRoom v1 found v2 → found ≡ true
+    → Writes v2 0x30 0xffffffff v3 → Settled v0 (v3 ≡ record v0 { status = 0; is_ready = true }) v3
+roomy v0 v1 v2 v3 false stays finds is writes kept = absurd (false≢true is)
+roomy v0 v1 v2 v3 true stays finds is writes kept =
+    let w = writes kept in
+    let f = finds w.0 in
+    let s = stays f.0 in
+    let clear : bit_and v2.status 0 ≡ 0 = search rules in (
+      s.0,
+      w.1 ∙ (ap (λ n. record v2 { status = n }) clear
+          ∙ (ap (λ (v : ControllerView). record v { status = 0 }) f.1
+          ∙ ap (λ (v : ControllerView). record v { status = 0; is_ready = true }) s.1)),
+    )
+
+pub has_room : (v0 v1 v2 v3 : ControllerView) (under_way : Data) (buffer : Buffer) (found : Bool) → IsAtRest v0
+    → IsGoing under_way buffer v0 → Stays v0 v1 → FindsRoom v1 found v2 → found ≡ true → Writes v2 0x30 0xffffffff v3
+    → HasRoom v3
+has_room v0 v1 v2 v3 under_way buffer found rests going stays finds is writes kept =
+    let r = roomy v0 v1 v2 v3 found stays finds is writes kept in
+    let g = going r.0 in
+    let c = clear_at_rest v0 (rests r.0) in (
+      (g.1.0.0, ap (λ (v : ControllerView). v.transfer) r.1 ∙ (g.0 ∙ g.1.0.1)),
+      (
+        ap (λ (v : ControllerView). v.is_ready) r.1,
+        (ap (λ (v : ControllerView). v.outgoing) r.1 ∙ c.1, ap (λ (v : ControllerView). v.status) r.1),
+      ),
+    )
+
+-- the block is in the buffer
+loaded : (v0 v1 v2 v3 v4 v5 : ControllerView) (block : List ℕ) (found : Bool) → Stays v0 v1 → FindsRoom v1 found v2
+    → found ≡ true → Writes v2 0x30 0xffffffff v3 → Puts v3 block v4 → Stays v4 v5
+    → Settled v0 (v5 ≡ record v0 { status = 0; is_ready = false; outgoing = block }) v5
+loaded v0 v1 v2 v3 v4 v5 block found stays finds is writes puts stops kept =
+    let t = stops kept in
+    let p = puts t.0 in
+    let r = roomy v0 v1 v2 v3 found stays finds is writes p.0 in (
+      r.0,
+      t.1 ∙ (p.1 ∙ ap (λ (v : ControllerView). record v { outgoing = block; is_ready = false }) r.1),
+    )

@@ -1,0 +1,131 @@
+-- Looks at the data.
+use Rattle.std.proofs.Common.{◌∙◌, ◌≡◌, Bool, List, None, Some, ap, false, refl, subst, sym, true, ℕ}
+use Rattle.std.specs.Prelude.{◌&&◌, ◌==◌, ◌||◌, if◌then◌else◌}
+use Rattle.std.proofs.lemmas.Bool.{false≢true}
+use Rattle.mmc_frame.specs.Field.{field}
+use Rattle.mmc_host.specs.declared.data.Data.{Data}
+use Rattle.mmc_sdhci.specs.Controller.{ControllerView, DataLooked, ReadLook, Settled, Stays, WriteLook, has_one, is_gone, is_whole}
+use Rattle.mmc_sdhci.specs.Controller.ReadLook.{failed as read_failed, ready as read_ready, waits as read_waits}
+use Rattle.mmc_sdhci.specs.Controller.WriteLook.{accepted as write_accepted, failed as write_failed, waits as write_waits}
+use Rattle.mmc_sdhci.specs.Moving.{Glances, IsSeeking, OnlyWatched, Seeks, Watches, is_error, is_found, looking}
+use Rattle.mmc_sdhci.specs.declared.buffer.Buffer.{Buffer}
+use Rattle.mmc_sdhci.specs.declared.watching.Glance.{Glance}
+use Rattle.mmc_sdhci.specs.declared.watching.Sought.{Sought}
+use Rattle.mmc_sdhci.specs.declared.watching.Sought.TheVariants as sought
+
+-- what was looked at before
+abbrev after_looks : ControllerView → ℕ → Bool → ControllerView
+after_looks view status is_ready = record view { status = status; is_ready = is_ready }
+
+-- where the driver looks doesn't hang on it
+seeks_still : (s : Sought) (view : ControllerView) (status : ℕ) (is_ready : Bool) → Seeks s view
+    → Seeks s (after_looks view status is_ready)
+seeks_still sought.Block view status is_ready seeks = seeks
+seeks_still sought.Room view status is_ready seeks = seeks
+seeks_still (sought.Gone buffer) view status is_ready seeks = seeks
+
+read_from : (view after : ControllerView) (status size bits : ℕ) (ready : Bool)
+    → ReadLook (after_looks view status ready) size bits after → ReadLook (record view { is_ready = ready }) size bits after
+read_from view after status size bits ready (read_waits fine not same) = read_waits fine not same
+read_from view after status size bits ready (read_ready block fine is len step same) = read_ready block fine is len step same
+read_from view after status size bits ready (read_failed error step same) = read_failed error step same
+
+write_from : (view after : ControllerView) (status bits : ℕ) (ready : Bool)
+    → WriteLook (after_looks view status ready) bits after → WriteLook (record view { is_ready = ready }) bits after
+write_from view after status bits ready (write_waits fine not same) = write_waits fine not same
+write_from view after status bits ready (write_accepted fine is step same) = write_accepted fine is step same
+write_from view after status bits ready (write_failed error step same) = write_failed error step same
+
+data_from : (transfer : Data) (view after : ControllerView) (status bits : ℕ) (ready : Bool)
+    → DataLooked (after_looks view status ready) transfer bits after
+    → DataLooked (record view { is_ready = ready }) transfer bits after
+data_from Data.Nothing view after status bits ready same = same
+data_from (Data.Read size blocks) view after status bits ready looked = read_from view after status size bits ready looked
+data_from (Data.Write blocks) view after status bits ready looked = write_from view after status bits ready looked
+
+-- the last look, from where the first one began
+looked : (s : Sought) (v0 v1 v2 : ControllerView) (seen : Glance) → IsSeeking s v0
+    → Settled v0 (OnlyWatched v0 v1) v1 → Glances v1 s seen v2
+    → Settled v0 (Seeks s v0 × DataLooked (looking v0 seen) v0.transfer seen.bits v2) v2
+looked s v0 v1 v2 seen seeks before look kept =
+    let l = look kept in
+    let b = before l.0 in
+    let at = seeks b.0 in
+    let running : v1.running ≡ None = ap (λ (v : ControllerView). v.running) b.1 ∙ at.0.running in
+    let there : Seeks s v1 =
+    subst (λ (v : ControllerView). Seeks s v) (sym b.1) (seeks_still s v0 v1.status v1.is_ready at.1) in
+    let now : DataLooked (looking v1 seen) v1.transfer seen.bits v2 = l.1 running there in
+    let from : DataLooked (after_looks v0 v1.status seen.is_ready) v0.transfer seen.bits v2 =
+    subst (λ (v : ControllerView). DataLooked (looking v seen) v.transfer seen.bits v2) b.1 now in
+    (b.0, (at.1, data_from v0.transfer v0 v2 v1.status seen.bits seen.is_ready from))
+
+pub watch_over : (s : Sought) (v0 v1 v2 : ControllerView) (seen : Glance) → IsSeeking s v0
+    → Settled v0 (OnlyWatched v0 v1) v1 → Glances v1 s seen v2 → (is_error seen.bits || is_found s seen) ≡ true
+    → Watches v0 s (Some seen) v2
+watch_over s v0 v1 v2 seen seeks before look over kept =
+    let l = looked s v0 v1 v2 seen seeks before look kept in
+    (l.0, (over, l.1.1))
+
+-- a look that finds neither changes nothing else
+read_again : (view after : ControllerView) (size bits : ℕ) (ready : Bool) → ready ≡ false → (field 15 15 bits ≡ 1 → ⊥)
+    → ReadLook (record view { is_ready = ready }) size bits after → OnlyWatched view after
+read_again view after size bits ready none fine (read_waits zero not same) =
+    let e : after ≡ record view { status = bits; is_ready = ready } = same in
+    e ∙ sym (ap (λ (v : ControllerView). record view { status = v.status; is_ready = v.is_ready }) e)
+read_again view after size bits ready none fine (read_ready block zero is len step same) =
+    absurd (false≢true (sym none ∙ is))
+read_again view after size bits ready none fine (read_failed error step same) = absurd (fine error)
+
+write_again : (view after : ControllerView) (bits : ℕ) (ready : Bool) → is_gone (record view { is_ready = ready }) bits ≡ false
+    → (field 15 15 bits ≡ 1 → ⊥) → WriteLook (record view { is_ready = ready }) bits after → OnlyWatched view after
+write_again view after bits ready none fine (write_waits zero not same) =
+    let e : after ≡ record view { status = bits; is_ready = ready } = same in
+    e ∙ sym (ap (λ (v : ControllerView). record view { status = v.status; is_ready = v.is_ready }) e)
+write_again view after bits ready none fine (write_accepted zero is step same) = absurd (false≢true (sym none ∙ is))
+write_again view after bits ready none fine (write_failed error step same) = absurd (fine error)
+
+-- what isn't found isn't gone
+and_false : (a : Bool) → (a && false) ≡ false
+and_false true = refl
+and_false false = refl
+
+choose_and : (one ready : Bool) → (if one then ready else false) ≡ (ready && one)
+choose_and true true = refl
+choose_and true false = refl
+choose_and false true = refl
+choose_and false false = refl
+
+still_there : (s : Sought) (view after : ControllerView) (seen : Glance) → Seeks s view → is_found s seen ≡ false
+    → (field 15 15 seen.bits ≡ 1 → ⊥) → DataLooked (looking view seen) view.transfer seen.bits after → OnlyWatched view after
+still_there sought.Block view after seen seeks none fine look =
+    read_again view after seeks.0 seen.bits seen.is_ready none fine
+    (subst (λ (t : Data). DataLooked (looking view seen) t seen.bits after) seeks.2 look)
+still_there sought.Room view after seen seeks none fine look =
+    write_again view after seen.bits seen.is_ready
+    (ap (λ (bytes : List ℕ). is_whole bytes && ((field 1 1 seen.bits == 1) || (seen.is_ready && has_one view.built.buffer))) seeks.1)
+    fine (subst (λ (t : Data). DataLooked (looking view seen) t seen.bits after) seeks.0.1 look)
+still_there (sought.Gone buffer) view after seen seeks none fine look =
+    let one : (if has_one buffer then seen.is_ready else false) ≡ (seen.is_ready && has_one view.built.buffer) =
+    choose_and (has_one buffer) seen.is_ready
+    ∙ ap (λ (b : Buffer). seen.is_ready && has_one b) (sym seeks.1.1) in
+    let not : ((field 1 1 seen.bits == 1) || (seen.is_ready && has_one view.built.buffer)) ≡ false =
+    ap (λ (b : Bool). (field 1 1 seen.bits == 1) || b) (sym one) ∙ none in
+    write_again view after seen.bits seen.is_ready
+    (ap (λ (b : Bool). is_whole view.outgoing && b) not ∙ and_false (is_whole view.outgoing))
+    fine (subst (λ (t : Data). DataLooked (looking view seen) t seen.bits after) seeks.0.1 look)
+
+or_false : (a b : Bool) → (a || b) ≡ false → (a ≡ false) × (b ≡ false)
+or_false false b none = (refl, none)
+or_false true b none = absurd (false≢true (sym none))
+
+pub watch_again : (s : Sought) (v0 v1 v2 v3 : ControllerView) (seen : Glance) → IsSeeking s v0
+    → Settled v0 (OnlyWatched v0 v1) v1 → Glances v1 s seen v2 → (is_error seen.bits || is_found s seen) ≡ false → Stays v2 v3
+    → Settled v0 (OnlyWatched v0 v3) v3
+watch_again s v0 v1 v2 v3 seen seeks before look neither waits kept =
+    let w = waits kept in
+    let l = looked s v0 v1 v2 seen seeks before look w.0 in
+    let parts = or_false (is_error seen.bits) (is_found s seen) neither in
+    let fine : field 15 15 seen.bits ≡ 1 → ⊥ =
+    λ (one : field 15 15 seen.bits ≡ 1). false≢true (sym parts.0 ∙ ap (λ (n : ℕ). n == 1) one) in
+    let only = still_there s v0 v2 seen l.1.0 parts.1 fine l.1.1 in
+    (l.0, subst (λ (v : ControllerView). OnlyWatched v0 v) (sym w.1) only)

@@ -1,0 +1,146 @@
+-- What the driver's functions leave, where they move blocks.
+use Rattle.std.specs.Prelude.{◌%◌, ◌==◌, ◌||◌, ◌≡◌, [], Bool, List, None, Option, Some, false, if◌then◌else◌, length, true, ℕ}
+use Rattle.mmc_frame.specs.Field.{field}
+use Rattle.mmc_card.specs.Faults.{ReadStep, WriteStep}
+use Rattle.mmc_card.specs.declared.exchange.DataIn.{DataIn}
+use Rattle.mmc_card.specs.declared.exchange.DataOut.{DataOut}
+use Rattle.mmc_card.specs.declared.exchange.DataOut.TheVariants as Went
+use Rattle.mmc_host.specs.HostStates.{is_accepted, is_good, less_one}
+use Rattle.mmc_host.specs.declared.data.Blocks.{Blocks}
+use Rattle.mmc_host.specs.declared.data.Data.{Data}
+use Rattle.mmc_sdhci.specs.Commands.{Moves}
+use Rattle.mmc_sdhci.specs.Controller.{ControllerView, DataLooked, Settled, Steps, has_one, is_at_rest, is_whole, seen}
+use Rattle.mmc_sdhci.specs.declared.buffer.Buffer.{Buffer}
+use Rattle.mmc_sdhci.specs.declared.watching.Glance.{Glance}
+use Rattle.mmc_sdhci.specs.declared.watching.Sought.{Sought}
+use Rattle.mmc_sdhci.specs.declared.watching.Sought.TheVariants as sought
+
+-- a rule for a controller that is kept
+abbrev pub WhereKept : ControllerView → Type 0 → Type 0
+WhereKept view Rule = view.is_kept ≡ true → Rule
+
+-- where the driver looks for this: blocks are read, or there is to be room for one, or one was written to the buffer
+abbrev pub Seeks : Sought → ControllerView → Type 0
+Seeks sought.Block view = (size : ℕ) × (blocks : Blocks) × (view.transfer ≡ Data.Read size blocks)
+Seeks sought.Room view = ((blocks : Blocks) × (view.transfer ≡ Data.Write blocks)) × (view.outgoing ≡ [])
+Seeks (sought.Gone buffer) view =
+    ((blocks : Blocks) × (view.transfer ≡ Data.Write blocks))
+    × ((is_whole view.outgoing ≡ true) × (view.built.buffer ≡ buffer))
+
+-- no command runs, and nothing is left of one that failed or of other data
+pub record IsClear (view : ControllerView) : Type 0 where
+  pub running : view.running ≡ None
+  pub stuck : view.is_stuck ≡ false
+  pub stale : view.is_stale ≡ false
+  pub open_data : view.is_open ≡ false
+
+abbrev pub IsSeeking : Sought → ControllerView → Type 0
+IsSeeking sought view = WhereKept view (IsClear view × Seeks sought view)
+
+abbrev pub is_error : ℕ → Bool
+is_error bits = field 15 15 bits == 1
+
+abbrev pub is_found : Sought → Glance → Bool
+is_found sought.Block seen = seen.is_ready
+is_found sought.Room seen = seen.is_ready
+is_found (sought.Gone buffer) seen = (field 1 1 seen.bits == 1) || (if has_one buffer then seen.is_ready else false)
+
+-- a look at the buffer, and then at the interrupt status
+abbrev pub looking : ControllerView → Glance → ControllerView
+looking view seen = record view { is_ready = seen.is_ready }
+
+abbrev pub Glances : ControllerView → Sought → Glance → ControllerView → Type 0
+Glances old sought seen new =
+    Settled old (old.running ≡ None → Seeks sought old → DataLooked (looking old seen) old.transfer seen.bits new) new
+
+-- Looks until it is found or there is an error; without either nothing but what was looked at has changed.
+abbrev pub OnlyWatched : ControllerView → ControllerView → Type 0
+OnlyWatched old new = new ≡ record old { status = new.status; is_ready = new.is_ready }
+
+abbrev pub Watched : ControllerView → Sought → Option Glance → ControllerView → Type 0
+Watched old sought None new = OnlyWatched old new
+Watched old sought (Some seen) new =
+    ((is_error seen.bits || is_found sought seen) ≡ true) × DataLooked (looking old seen) old.transfer seen.bits new
+
+abbrev pub Watches : ControllerView → Sought → Option Glance → ControllerView → Type 0
+Watches old sought result new = Settled old (Watched old sought result new) new
+
+-- the buffer is emptied into this block
+abbrev pub Takes : ControllerView → List ℕ → ControllerView → Type 0
+Takes old block new =
+    Settled old
+    (length old.incoming ≡ length block → length block % 4 ≡ 0
+    → (old.incoming ≡ block) × (new ≡ record old { incoming = [] })) new
+
+-- this block is in the buffer, to go
+abbrev pub Puts : ControllerView → List ℕ → ControllerView → Type 0
+Puts old block new = Settled old (new ≡ record old { outgoing = block; is_ready = false }) new
+
+-- there is room for a block, and no interrupt is left
+abbrev pub HasRoom : ControllerView → Type 0
+HasRoom view =
+    WhereKept view
+    (((blocks : Blocks) × (view.transfer ≡ Data.Write blocks))
+    × ((view.is_ready ≡ true) × ((view.outgoing ≡ []) × (view.status ≡ 0))))
+
+-- No step: the bus is as before, and the controller at rest.
+pub record Rests (old new : ControllerView) : Type 0 where
+  pub same : seen new ≡ seen old
+  pub transfer : new.transfer ≡ Data.Nothing
+  pub settings : new.settings ≡ old.settings
+  pub built : new.built ≡ old.built
+  pub rest : is_at_rest new ≡ true
+
+-- all data has come, but Transfer Complete wasn't seen
+pub record HasCome (view : ControllerView) : Type 0 where
+  pub running : view.running ≡ None
+  pub stuck : view.is_stuck ≡ false
+  pub stale : view.is_stale ≡ false
+  pub outgoing : view.outgoing ≡ []
+  pub transfer : view.transfer ≡ Data.Nothing
+
+abbrev pub Finishes : ControllerView → ControllerView → Type 0
+Finishes old new = Settled old (Rests old new) new
+
+-- a block is to come, of this length, or to go
+abbrev pub IsComing : Data → ℕ → ControllerView → Type 0
+IsComing under_way size view =
+    WhereKept view
+    ((view.transfer ≡ under_way) × ((blocks : Blocks) × (under_way ≡ Data.Read size blocks) × (size % 4 ≡ 0)))
+
+abbrev pub IsGoing : Data → Buffer → ControllerView → Type 0
+IsGoing under_way buffer view =
+    WhereKept view
+    ((view.transfer ≡ under_way)
+    × (((blocks : Blocks) × (under_way ≡ Data.Write blocks)) × (view.built.buffer ≡ buffer)))
+
+-- One block: what the host learns is a step of the card. One that failed ends the data.
+abbrev pub ReadsBlock : ControllerView → ℕ → DataIn → List ℕ → ControllerView → Type 0
+ReadsBlock old size got block new =
+    Settled old
+    (Moves old (ReadStep (seen old) size got block (seen new)) (if is_good got then less_one old.transfer else Data.Nothing) new)
+    new
+
+abbrev pub WritesBlock : ControllerView → List ℕ → DataOut → ControllerView → Type 0
+WritesBlock old block got new =
+    Settled old
+    (Moves old (WriteStep (seen old) block got (seen new)) (if is_accepted got then less_one old.transfer else Data.Nothing) new)
+    new
+
+-- room for a block was found; where not, the card's status of it didn't come, and the controller is at rest
+pub record IsUnsent (old new : ControllerView) : Type 0 where
+  pub step : (block : List ℕ) → Steps old (WriteStep (seen old) block Went.Nothing (seen new)) new
+  pub transfer : new.transfer ≡ Data.Nothing
+  pub settings : new.settings ≡ old.settings
+  pub built : new.built ≡ old.built
+
+abbrev pub FindsRoom : ControllerView → Bool → ControllerView → Type 0
+FindsRoom old true new = Settled old (new ≡ record old { status = new.status; is_ready = true }) new
+FindsRoom old false new = Settled old (IsUnsent old new × (is_at_rest new ≡ true)) new
+
+-- the block in the buffer has gone, and was accepted, or its status didn't come
+abbrev pub SeesGone : ControllerView → DataOut → ControllerView → Type 0
+SeesGone old got new =
+    Settled old
+    (Moves old (WriteStep (seen old) old.outgoing got (seen new)) (if is_accepted got then less_one old.transfer else Data.Nothing) new
+    × (is_at_rest new ≡ true)) new

@@ -1,0 +1,98 @@
+// Looks at the buffer and at the interrupts, while data is under way.
+ghost use Rattle.std.specs.Prelude.{◌≡◌, ◌||◌};
+ghost use Rattle.mmc_sdhci.specs.Moving.{Glances, IsSeeking, Watches, is_error, is_found};
+
+use crate::buffer::Buffer;
+use crate::offsets::{BUFFERS, INTERRUPTS};
+use crate::registers::Registers;
+
+// 100 ms for a block of a read, half a second for one of a write.
+const LOOKS_FOR_A_BLOCK: u32 = 100_000;
+
+const LOOKS_FOR_A_WRITE: u32 = 500_000;
+
+const BETWEEN_LOOKS: u32 = 1;
+
+// What is looked for.
+#[derive(Clone, Copy, Debug, PartialEq, Eq)]
+pub enum Sought {
+    // a block in the buffer
+    Block,
+    // room for one
+    Room,
+    // that the block in the buffer has gone
+    Gone(Buffer),
+}
+
+// What a look showed: whether the buffer is ready, and the interrupts.
+#[derive(Clone, Copy, Debug, PartialEq, Eq)]
+pub struct Glance {
+    pub is_ready: bool,
+    pub bits: u32,
+}
+
+impl Glance {
+    // Whether there is an error.
+    pub fn is_error(self) -> bool
+        ensures { result ≡ is_error self.bits }
+    {
+        self.bits / 0x8000 % 2 == 1
+    }
+}
+
+impl Sought {
+    // Whether this shows it.
+    pub fn is_found(self, seen: Glance) -> bool
+        ensures { result ≡ is_found self seen }
+    {
+        match self {
+            Sought::Block | Sought::Room => seen.is_ready,
+            Sought::Gone(Buffer::OneBlock) => seen.bits / 2 % 2 == 1 || seen.is_ready,
+            Sought::Gone(Buffer::SeveralBlocks) => seen.bits / 2 % 2 == 1,
+        }
+    }
+
+    // Whether there is an error, or it is found.
+    fn is_over(self, seen: Glance) -> bool
+        ensures { result ≡ (is_error seen.bits || is_found self seen) }
+    {
+        seen.is_error() || self.is_found(seen)
+    }
+
+    fn looks(self) -> u32 {
+        match self {
+            Sought::Block => LOOKS_FOR_A_BLOCK,
+            Sought::Room | Sought::Gone(_) => LOOKS_FOR_A_WRITE,
+        }
+    }
+}
+
+// One look: first at the buffer, so that an error that came with a block is seen with it.
+fn look<R: Registers>(registers: &mut R, sought: Sought) -> Glance
+    ensures { Glances (R.view registers.old) sought result (R.view registers.new) }
+{
+    let buffers = registers.read8(BUFFERS);
+    let is_ready = match sought {
+        Sought::Block => buffers / 8 % 2 == 1,
+        Sought::Room | Sought::Gone(_) => buffers / 4 % 2 == 1,
+    };
+    Glance {
+        is_ready,
+        bits: registers.read32(INTERRUPTS),
+    }
+}
+
+// Looks until it is found or there is an error.
+pub fn watch<R: Registers>(registers: &mut R, sought: Sought) -> Option<Glance>
+    requires { IsSeeking sought (R.view registers.old) }
+    ensures { Watches (R.view registers.old) sought result (R.view registers.new) }
+{
+    for _ in 0..sought.looks() {
+        let seen = look(registers, sought);
+        if sought.is_over(seen) {
+            return Some(seen);
+        }
+        registers.pause(BETWEEN_LOOKS);
+    }
+    None
+}
