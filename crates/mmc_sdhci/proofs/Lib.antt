@@ -1,6 +1,7 @@
 pub mod Beginning
 pub mod Blocks
 pub mod Glancing
+pub mod Hosting
 pub mod Looking
 pub mod Putting
 pub mod Reading

@@ -15,6 +15,7 @@ use Rattle.mmc_host.specs.declared.told.ResponseFault.{ResponseFault}
 use Rattle.mmc_sdhci.proofs.Beginning.{flags}
 use Rattle.mmc_sdhci.specs.Commands.{Begins, Ends, Moves, ResetsData, ResetsLine, Sends, Tells, begun, response_flags, run_of}
 use Rattle.mmc_sdhci.specs.Controller.{ControllerView, DataDropped, Dropped, IsShown, Look, Running, Settled, cleared}
+use Rattle.mmc_sdhci.specs.Moving.{WhereKept}
 use Rattle.mmc_sdhci.specs.Controller.{complete, failed, has_data, runs, seen}
 
 -- the command is over, or still runs
@@ -139,13 +140,13 @@ none_asked under_way command some (inr free) = cc (some, ap (λ (t : Data). has_
 
 -- and what was under way is dropped
 pub sent_and_dropped : (v0 v1 v2 v3 v4 : ControllerView) (under_way : Data) (command : HostCommand) (bits : ℕ) (heard : Heard)
-    → (bits % 2 ≡ 0 → ⊥) → (bits / 0x8000 % 2 ≡ 1 → ⊥) → has_data under_way ≡ true → IsFree under_way command
-    → Begins v0 command v1 → Ends v1 bits v2 → Tells v2 command.response heard v3 → ResetsData v3 v4
+    → (bits % 2 ≡ 0 → ⊥) → (bits / 0x8000 % 2 ≡ 1 → ⊥) → has_data under_way ≡ true
+    → WhereKept v0 (IsFree under_way command) → Begins v0 command v1 → Ends v1 bits v2 → Tells v2 command.response heard v3 → ResetsData v3 v4
     → Sends v0 command (Ok heard) v4
 sent_and_dropped v0 v1 v2 v3 v4 under_way command bits heard over fine some free begins ends tells clears kept =
     let c = clears kept in
     let s = sent v0 v1 v2 v3 command bits heard over fine begins ends tells c.0 in
-    let none = none_asked under_way command some free in
+    let none = none_asked under_way command some (free s.0) in
     let d : v4 ≡ cleared v3 = subst (λ (t : Data). DataDropped v3 t v4) (s.1.transfer ∙ none) c.1 in (
       s.0,
       record {

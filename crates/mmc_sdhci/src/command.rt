@@ -5,6 +5,7 @@ ghost use Rattle.mmc_sdhci.specs.Commands.{Begins, Ends, ReadsWord, ResetsData, 
 ghost use Rattle.mmc_sdhci.specs.Commands.{IsUnderWay, Sends, fault_in, response_flags, several, sizes_of};
 ghost use Rattle.mmc_host.specs.declared.response.Response.TheVariants.{R2};
 ghost use Rattle.mmc_sdhci.specs.Controller.{IsAtRest, Stays, bytes_shown, has_data};
+ghost use Rattle.mmc_sdhci.specs.Moving.{WhereKept};
 
 use crate::offsets::{ARGUMENT, COMMAND, INTERRUPTS, RESET, RESPONSE, SIZES};
 use crate::registers::Registers;
@@ -232,7 +233,7 @@ pub fn send<R: Registers>(
     requires index { command.index < 64 }
     requires movable { AreMovable command.transfer }
     requires under_way { IsUnderWay (R.view registers.old) under_way }
-    requires free { IsFree under_way command }
+    requires free { WhereKept (R.view registers.old) (IsFree under_way command) }
     ensures rest { IsAtRest (R.view registers.new) }
     ensures sent { Sends (R.view registers.old) command result (R.view registers.new) }
 {

@@ -4,14 +4,16 @@
 
 mod buffer;
 mod busy;
+mod clock;
 mod command;
 mod data;
 mod offsets;
 mod registers;
+mod sdhci;
+mod start;
 mod watching;
 
 pub use buffer::Buffer;
-pub use busy::is_busy;
-pub use command::send;
-pub use data::{read_block, write_block};
 pub use registers::Registers;
+pub use sdhci::Sdhci;
+pub use start::StartFault;

@@ -1,0 +1,5 @@
+use Rattle.mmc_sdhci.specs.Controller.{Stays}
+use Rattle.mmc_sdhci.proofs.start.has_card.Given as goal
+
+abbrev pub invariant-loop : goal.invariant-loop
+invariant-loop g l = Stays (g.R.Registers.view l.initial.registers) (g.R.Registers.view l.registers)

@@ -1,0 +1,56 @@
+-- The driver as a host, and what it knows of its controller.
+use Rattle.std.specs.Prelude.{◌%◌, ◌==◌, ◌≡◌, Bool, if◌then◌else◌, true, ℕ}
+use Rattle.mmc_card.specs.declared.exchange.Lines.{Lines}
+use Rattle.mmc_card.specs.declared.exchange.Timing.{Timing}
+use Rattle.mmc_card.specs.declared.exchange.Timing.TheVariants.{Default, High}
+use Rattle.mmc_host.specs.Hosts.{HostView}
+use Rattle.mmc_host.specs.declared.data.Data.{Data}
+use Rattle.mmc_host.specs.declared.told.HostState.{HostState}
+use Rattle.mmc_host.specs.declared.told.Ios.{Ios}
+use Rattle.mmc_sdhci.specs.Controller.{ControllerView, IsAtMost, Settled, base_clock, is_at_rest, restarted}
+use Rattle.mmc_sdhci.specs.Moving.{WhereKept}
+
+-- a host with this controller: its card, what it was told so far, and its limits
+abbrev pub host_over : ControllerView → HostState → Lines → HostView
+host_over view state limits =
+    record {
+      card = view.card;
+      state = state;
+      limits = limits;
+      faults = view.faults;
+      may_fall = view.may_fall;
+      is_kept = view.is_kept;
+    }
+
+-- the fastest clock in hertz: while the card is identified, at default speed, and at high speed
+abbrev pub speed_limit : Timing → ℕ
+speed_limit Default = 25000000
+speed_limit High = 50000000
+
+abbrev pub clock_limit : Ios → ℕ
+clock_limit ios = if ios.is_identifying then 400000 else speed_limit ios.timing
+
+-- the base clock in MHz is known
+abbrev pub IsBaseClock : ℕ → ℕ → ControllerView → Type 0
+IsBaseClock base version view =
+    WhereKept view ((view.built.version ≡ version) × (base_clock view.built.capabilities version ≡ base))
+
+-- the clock is set, to so many hertz at most, and nothing else
+abbrev pub SetsClock : ControllerView → ℕ → ControllerView → Type 0
+SetsClock old most new =
+    Settled old
+    (IsAtMost most new × (new ≡ record old { settings = record old.settings { clock = new.settings.clock } })) new
+
+-- no command was sent so far
+abbrev pub IsNew : ControllerView → Type 0
+IsNew view = WhereKept view ((is_at_rest view ≡ true) × (view.transfer ≡ Data.Nothing))
+
+-- a reset: one line at default speed, and no data under way
+abbrev pub Restarts : ControllerView → ControllerView → Type 0
+Restarts old new = Settled old (new ≡ restarted old) new
+
+-- blocks of whole words
+abbrev pub are_words : Data → Bool
+are_words Data.Nothing = true
+are_words (Data.Read size blocks) = size % 4 == 0
+are_words (Data.Write blocks) = true

@@ -1,0 +1,149 @@
+ghost use Rattle.std.specs.Prelude.{◌<◌, ◌≡◌, IfOk, true};
+ghost use Rattle.mmc_host.specs.HostStates.{lines_of};
+ghost use Rattle.mmc_host.specs.Hosts.{IsUnused};
+ghost use Rattle.mmc_sdhci.specs.Controller.{IsAtMost, IsAtRest, limits_in, lines_in};
+ghost use Rattle.mmc_sdhci.specs.Driver.{IsBaseClock, IsNew, are_words, clock_limit, host_over};
+ghost use Rattle.mmc_sdhci.specs.Moving.{WhereKept};
+
+use crate::buffer::Buffer;
+use crate::busy::is_busy;
+use crate::clock::{base_clock, set_clock};
+use crate::command::send;
+use crate::data::{read_block, write_block};
+use crate::offsets::{CAPABILITIES, CONTROL, POWER, PRESENT, VERSION};
+use crate::registers::Registers;
+use crate::start::{StartFault, control_of, has_card, limits_in, restart};
+use mmc_card::{DataIn, DataOut, Lines};
+use mmc_host::{Heard, Host, HostCommand, HostState, Ios, ResponseFault, Work};
+
+/// A driver of an SD host controller.
+#[derive(Drop)]
+pub struct Sdhci<R: Registers> {
+    registers: R,
+    // what it was told so far
+    state: HostState,
+    limits: Lines,
+    buffer: Buffer,
+    // in MHz
+    base: u32,
+    version: u8,
+    ghost rest: { IsAtRest (R.view registers) },
+    ghost transfer: { WhereKept (R.view registers) ((R.view registers).transfer ≡ state.transfer) },
+    ghost words: { are_words state.transfer ≡ true },
+    ghost lines: { WhereKept (R.view registers) (lines_in (R.view registers).settings.control ≡ lines_of state.ios) },
+    ghost clock: { WhereKept (R.view registers) (IsAtMost (clock_limit state.ios) (R.view registers)) },
+    ghost buffers: { WhereKept (R.view registers) ((R.view registers).built.buffer ≡ buffer) },
+    ghost base_clock: { IsBaseClock base version (R.view registers) },
+    ghost small: { base < 256 },
+}
+
+// 3.3 V, on.
+const POWER_ON: u8 = 0x0f;
+
+const IDENTIFICATION: u32 = 400_000;
+
+// For power and clock to be there before the first command: a millisecond, and 74 clocks.
+const POWER_UP: u32 = 2000;
+
+impl<R: Registers> Sdhci<R> {
+    /// Begins with a controller: resets it, and gives the card power and the clock of identification.
+    ///
+    /// # Errors
+    /// `NoVoltage` where the controller has no 3.3 V, `NoBaseClock` where it doesn't say how fast its clock is, `NoCard` where no
+    /// card is inserted. The registers are given back.
+    pub fn new(registers: R, buffer: Buffer) -> Result<Sdhci<R>, (R, StartFault)>
+        requires new { IsNew (R.view registers) }
+        requires buffer { WhereKept (R.view registers) ((R.view registers).built.buffer ≡ buffer) }
+        ensures unused { IfOk result (λ host. IsUnused (host_over (R.view host.registers) host.state host.limits)) }
+    {
+        let mut registers = registers;
+        restart(&mut registers);
+        let capabilities = registers.read32(CAPABILITIES);
+        let version = registers.read8(VERSION);
+        let base = base_clock(capabilities, version);
+        if capabilities / 0x100_0000 % 2 == 0 {
+            return Err((registers, StartFault::NoVoltage));
+        }
+        if base == 0 {
+            return Err((registers, StartFault::NoBaseClock));
+        }
+        if !has_card(&mut registers) {
+            return Err((registers, StartFault::NoCard));
+        }
+        registers.write8(POWER, POWER_ON);
+        registers.write8(CONTROL, 0);
+        set_clock(&mut registers, base, version, IDENTIFICATION);
+        registers.pause(POWER_UP);
+        Ok(Sdhci {
+            registers,
+            state: HostState::new(),
+            limits: limits_in(capabilities),
+            buffer,
+            base,
+            version,
+        })
+    }
+
+    /// Whether a card is inserted now.
+    pub fn has_card(&mut self) -> bool {
+        has_card(&mut self.registers)
+    }
+
+    /// Whether the switch of the slot protects the card against writes. This is the slot's, not the card's: the device doesn't know
+    /// it.
+    pub fn is_write_protected(&mut self) -> bool {
+        self.registers.read32(PRESENT) / 0x8_0000 % 2 == 0
+    }
+
+    /// The registers.
+    pub fn registers(&self) -> &R
+        ensures { result.now ≡ self.now.registers }
+    {
+        &self.registers
+    }
+}
+
+impl<R: Registers> Host for Sdhci<R> {
+    ghost view = { λ s. host_over (R.view s.registers) s.state s.limits };
+
+    fn limits(&self) -> Lines {
+        self.limits
+    }
+
+    fn set_ios(&mut self, ios: Ios) {
+        self.registers.write8(CONTROL, control_of(ios.lines()));
+        set_clock(
+            &mut self.registers,
+            self.base,
+            self.version,
+            ios.max_clock(),
+        );
+        self.state.ios = ios;
+    }
+
+    fn send(&mut self, command: HostCommand) -> Result<Heard, ResponseFault> {
+        let heard = send(&mut self.registers, self.state.transfer, command);
+        self.state = self.state.sent(command, heard.is_ok());
+        heard
+    }
+
+    fn read_block(&mut self, block: &mut [u8]) -> DataIn {
+        let got = read_block(&mut self.registers, self.state.transfer, block);
+        self.state = self.state.block_passed(got == DataIn::Good);
+        got
+    }
+
+    fn write_block(&mut self, block: &[u8; 512]) -> DataOut {
+        let got = write_block(&mut self.registers, self.buffer, self.state.transfer, block);
+        self.state = self.state.block_passed(got == DataOut::Accepted);
+        got
+    }
+
+    fn is_busy(&mut self, work: Work) -> bool {
+        is_busy(&mut self.registers, work.micros())
+    }
+
+    fn pause(&mut self, micros: u32) {
+        self.registers.pause(micros);
+    }
+}

@@ -1,0 +1,101 @@
+// How a controller begins.
+ghost use Rattle.std.specs.Prelude.{◌≡◌};
+ghost use Rattle.mmc_card.specs.declared.exchange.Width.TheVariants as Width;
+ghost use Rattle.mmc_sdhci.specs.Controller.{Stays, limits_in, lines_in};
+ghost use Rattle.mmc_sdhci.specs.Driver.{IsNew, Restarts};
+
+use crate::offsets::{PRESENT, RESET, SHOWN_INTERRUPTS, SIGNALS};
+use crate::registers::Registers;
+use mmc_card::{Lines, Timing, Width};
+use thiserror::Error;
+
+/// Why a controller isn't ready for use.
+#[derive(Clone, Copy, Debug, PartialEq, Eq, Error)]
+pub enum StartFault {
+    /// No card is inserted.
+    #[error("no card is inserted")]
+    NoCard,
+    /// The controller can't give the card 3.3 V.
+    #[error("the controller has no 3.3 V")]
+    NoVoltage,
+    /// The controller doesn't say how fast its base clock is.
+    #[error("the controller doesn't tell its base clock")]
+    NoBaseClock,
+}
+
+const LOOKS: u32 = 1000;
+
+const BETWEEN_LOOKS: u32 = 100;
+
+// Command Complete, Transfer Complete, Buffer Write Ready and Buffer Read Ready, and all errors of command and data.
+const SHOWN: u32 = 0x007f_0033;
+
+/// The limits of a controller, by Capabilities. It always has four lines.
+pub fn limits_in(capabilities: u32) -> Lines
+    ensures { result ≡ limits_in capabilities }
+{
+    let width = if capabilities / 0x4_0000 % 2 == 1 {
+        Width::Eight
+    } else {
+        Width::Four
+    };
+    let timing = if capabilities / 0x20_0000 % 2 == 1 {
+        Timing::High
+    } else {
+        Timing::Default
+    };
+    Lines { width, timing }
+}
+
+/// Host Control 1 for these lines.
+pub fn control_of(lines: Lines) -> u8
+    ensures { lines_in result ≡ lines }
+{
+    let width = match lines.width {
+        Width::One => 0,
+        Width::Four => 0x02,
+        Width::Eight => 0x20,
+    };
+    let timing = match lines.timing {
+        Timing::Default => 0,
+        Timing::High => 0x04,
+    };
+    width + timing
+}
+
+// Waits until the reset is over.
+fn settle<R: Registers>(registers: &mut R)
+    ensures { Stays (R.view registers.old) (R.view registers.new) }
+{
+    for _ in 0..LOOKS {
+        if registers.read8(RESET) % 2 == 0 {
+            return;
+        }
+        registers.pause(BETWEEN_LOOKS);
+    }
+}
+
+/// Resets the controller, and has it show the interrupts that the driver looks at. None reaches the processor.
+pub fn restart<R: Registers>(registers: &mut R)
+    requires { IsNew (R.view registers.old) }
+    ensures { Restarts (R.view registers.old) (R.view registers.new) }
+{
+    registers.write8(RESET, 1);
+    settle(registers);
+    registers.write32(SHOWN_INTERRUPTS, SHOWN);
+    registers.write32(SIGNALS, 0);
+}
+
+/// Whether a card is inserted, once the controller is sure of it, or after 100 ms.
+pub fn has_card<R: Registers>(registers: &mut R) -> bool
+    ensures { Stays (R.view registers.old) (R.view registers.new) }
+{
+    for _ in 0..LOOKS {
+        let state = registers.read32(PRESENT);
+        if state / 0x2_0000 % 2 == 1 {
+            return state / 0x1_0000 % 2 == 1;
+        }
+        registers.pause(BETWEEN_LOOKS);
+    }
+    false
+}
