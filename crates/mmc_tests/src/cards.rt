@@ -1,10 +1,9 @@
-// What tests do with the cards of `mmc_card_sim::example_cards`.
+// What tests do with the cards of `mmc_card_sim::example_cards`, and buses that answer like one of them.
 ghost use Rattle.std.specs.Prelude.{◌<◌};
 
-use mmc_bus::{Bus, BusAnswer, Bytes, DataIn, Reply, ScriptedBus};
-pub use mmc_card_sim::example_cards::{
-    emmc, emmc_with, ext_csd_of_emmc, sdhc, sdsc, sdsc_cmd23, sdsc_with_scr,
-};
+use mmc_bus::{BusAnswer, Bytes, DataIn, Reply, ScriptedBus};
+pub use mmc_card_sim::example_cards::ext_csd_of_emmc;
+use mmc_card_sim::example_cards::{emmc, sdhc, sdsc, sdsc_cmd23};
 use mmc_card_sim::{CardSpec, SimCard};
 use mmc_frame::{encode_r2, encode_r3, encode_response};
 use mmc_switch::{Session, initialize};
@@ -36,8 +35,8 @@ pub fn built(alloc: Global, spec: CardSpec) -> Result<SimCard, Fail> {
     Ok(SimCard::build(alloc, spec).ok().ok_or("not built")?)
 }
 
-/// Initializes a card, if that succeeds.
-pub fn opened<B: Bus>(bus: &mut B) -> Option<Session> {
+/// Initializes the card of a bus, if that succeeds.
+pub fn opened(bus: &mut ScriptedBus) -> Option<Session> {
     initialize(bus).ok()
 }
 

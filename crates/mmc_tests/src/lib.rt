@@ -1,6 +1,6 @@
-//! Tests of the driver's layers over cards in memory and over buses that lie: what a host hears, the trace, identification,
-//! width and speed, partitions, runs of blocks, erases and trims, settling, the queue, and the device. Nothing else stands
-//! here: a crate that has tests is proved twice, and so are these alone.
+//! Tests of the driver's layers over buses that lie: what a host hears, the trace, identification, width and speed, runs of
+//! blocks, erases, settling and the device; and over a host controller. What a card in memory shows, `tests/cases` has.
+//! Nothing else stands here: a crate that has tests is proved twice, and so are these alone.
 #![tactic(auto)]
 
 #[cfg(test)]
@@ -15,12 +15,6 @@ mod host;
 mod host_bus;
 #[cfg(test)]
 mod identify;
-#[cfg(test)]
-mod queue;
-#[cfg(test)]
-mod select;
-#[cfg(test)]
-mod service;
 #[cfg(test)]
 mod settle;
 #[cfg(test)]
