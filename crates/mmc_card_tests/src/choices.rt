@@ -1,10 +1,9 @@
-// What a card does where it is free: the RCA that it publishes, its OCR before it is ready, its block length after CMD0.
+// What a card does where it is free: the RCA that it publishes, its block length after CMD0.
 use crate::cards::*;
 use mmc_bus::DataIn;
-use mmc_card_sim::example_cards::{emmc, sdhc, sdsc};
+use mmc_card_sim::example_cards::sdsc;
 use mmc_card_sim::{CardSpec, Fault, KindRegisters, Outcome, Registers, SdRegisters, SimCard};
 use mmc_frame::encode;
-use std::process::Abort;
 use std::test::Fail;
 
 // Card `sdsc`, which publishes another RCA at each CMD3, FFFEh first.
@@ -52,38 +51,6 @@ fn publishes_another_rca(rt: HostRuntime) -> Result<(), Fail> {
     expect_silence(&rt, &mut card, encode(3, 0));
     expect_r1(&rt, &mut card, 13, 0x0002_0000, 0x700);
     expect_r1(&rt, &mut card, 3, 0, 0x0003_0700);
-    Ok(())
-}
-
-// The OCR of a card that isn't ready yet, then of one that is.
-fn expect_ocrs(rt: &impl Abort, card: &mut SimCard, inquiry: [u8; 6], ocrs: [u32; 2]) {
-    for ocr in ocrs {
-        let [a, b, c, d] = ocr.to_be_bytes();
-        send(card, encode(55, 0));
-        expect_frame(rt, card, inquiry, [0x3f, a, b, c, d, 0xff]);
-    }
-}
-
-// Bits 30 and 29 of the OCR are other ones until the card is ready.
-#[test]
-fn says_other_bits_before_it_is_ready(rt: HostRuntime) -> Result<(), Fail> {
-    let sd = CardSpec {
-        ready: 1,
-        early: Some(0),
-        ..sdhc()
-    };
-    let mut card = built(rt.alloc(), sd)?;
-    send(&mut card, encode(8, 0x1aa));
-    let inquiry = encode(41, 0x4030_0000);
-    expect_ocrs(&rt, &mut card, inquiry, [0x00ff_8000, 0xc0ff_8000]);
-    let mmc = CardSpec {
-        ready: 1,
-        early: Some(3),
-        ..emmc()
-    };
-    let mut card = built(rt.alloc(), mmc)?;
-    let inquiry = encode(1, 0x4030_0000);
-    expect_ocrs(&rt, &mut card, inquiry, [0x60ff_8080, 0xc0ff_8080]);
     Ok(())
 }
 

@@ -113,43 +113,6 @@ fn has_seven_partitions(rt: HostRuntime) -> Result<(), Fail> {
     Ok(())
 }
 
-// With `ready` 2 the first two inquiries since CMD0 find the card not ready; its OCR comes without bit 31.
-#[test]
-fn is_ready_at_the_third_inquiry(rt: HostRuntime) -> Result<(), Fail> {
-    let mut spec = sdsc();
-    spec.ready = 2;
-    let mut card = built(rt.alloc(), spec)?;
-    for _times in 0..2 {
-        expect_silence(&rt, &mut card, encode(0, 0));
-        for first in [0x00, 0x00, 0x80] {
-            let ocr = [0x3f, first, 0xff, 0x80, 0x00, 0xff];
-            expect_r1(&rt, &mut card, 55, 0, 0x120);
-            expect_frame(&rt, &mut card, encode(41, 0x0030_0000), ocr);
-        }
-    }
-    Ok(())
-}
-
-// A card with sector addresses is never ready for a host without them (HCS 0). These inquiries count among the first
-// `ready` ones, and are no faults.
-#[test]
-fn waits_for_sector_addresses(rt: HostRuntime) -> Result<(), Fail> {
-    let mut spec = sdhc();
-    spec.ready = 8;
-    let mut card = built(rt.alloc(), spec)?;
-    send(&mut card, encode(8, 0x1aa));
-    for _inquiry in 0..10 {
-        expect_r1(&rt, &mut card, 55, 0, 0x120);
-        let not_ready = [0x3f, 0x40, 0xff, 0x80, 0x00, 0xff];
-        expect_frame(&rt, &mut card, encode(41, 0x0030_0000), not_ready);
-    }
-    expect_r1(&rt, &mut card, 55, 0, 0x120);
-    let ready = [0x3f, 0xc0, 0xff, 0x80, 0x00, 0xff];
-    expect_frame(&rt, &mut card, encode(41, 0x4030_0000), ready);
-    assert_eq!(rt; card.faults(), 0);
-    Ok(())
-}
-
 // With `busy` 3 three polls of each busy time are answered yes. The card isn't ready for data in that time.
 #[test]
 fn is_busy_for_three_polls(rt: HostRuntime) -> Result<(), Fail> {
@@ -282,28 +245,14 @@ fn erases_in_sequence(rt: HostRuntime) -> Result<(), Fail> {
     Ok(())
 }
 
-// With an erase unit of 1, an erase of SD takes the sectors from the first address to the last.
-#[test]
-fn erases_sectors_of_sd(rt: HostRuntime) -> Result<(), Fail> {
-    let mut spec = sdsc();
-    spec.image = numbered_image(rt.alloc(), 4)?;
-    let mut card = selected_sd(rt.alloc(), spec)?;
-    for (index, argument) in [(32, 512), (33, 1024), (38, 0)] {
-        expect_r1(&rt, &mut card, index, argument, 0x900);
-    }
-    expect_filled(&rt, &card, Part::User, 0, &[0, 1, 2, 3]);
-    expect_polls(&rt, &mut card, 0);
-    expect_filled(&rt, &card, Part::User, 0, &[0, 0, 0, 3]);
-    Ok(())
-}
-
-// A wrong check and an unknown command show in the next status alone, another card's RCA nowhere, and an address that
-// the card hasn't in the response to its own command.
+// A wrong check, an unknown command and CMD23, which this card hasn't, show in the next status alone, another card's RCA
+// nowhere, and an address that the card hasn't in the response to its own command.
 #[test]
 fn shows_errors_once(rt: HostRuntime) -> Result<(), Fail> {
     let mut card = selected_sd(rt.alloc(), sdsc())?;
     expect_silence(&rt, &mut card, [0x4d, 0, 1, 0, 0, 0x51]);
     expect_silence(&rt, &mut card, encode(58, 0));
+    expect_silence(&rt, &mut card, encode(23, 2));
     expect_silence(&rt, &mut card, encode(13, 0x0002_0000));
     for (index, argument, status) in [
         (13, RCA, 0x00c0_0900),

@@ -1,9 +1,7 @@
-//! Tests of the card in memory by its public calls: building, commands, opening, plans and faults. Nothing else stands here: a crate
-//! that has tests is proved twice, and so are these alone.
+//! Tests of the card in memory by its public calls: commands that the driver doesn't send, and faults, plans and specs that no
+//! card file has. Nothing else stands here: a crate that has tests is proved twice, and so are these alone.
 #![tactic(auto)]
 
-#[cfg(test)]
-mod building;
 #[cfg(test)]
 mod cards;
 #[cfg(test)]
