@@ -1,7 +1,7 @@
 // What tests do with the cards of `mmc_card_sim::example_cards`, and buses that answer like one of them.
 ghost use Rattle.std.specs.Prelude.{◌<◌};
 
-use mmc_bus::{BusAnswer, Bytes, DataIn, Reply, ScriptedBus};
+use mmc_bus::{Bus, BusAnswer, Bytes, DataIn, Reply, ScriptedBus};
 pub use mmc_card_sim::example_cards::ext_csd_of_emmc;
 use mmc_card_sim::example_cards::{emmc, sdhc, sdsc, sdsc_cmd23};
 use mmc_card_sim::{CardSpec, SimCard};
@@ -36,7 +36,7 @@ pub fn built(alloc: Global, spec: CardSpec) -> Result<SimCard, Fail> {
 }
 
 /// Initializes the card of a bus, if that succeeds.
-pub fn opened(bus: &mut ScriptedBus) -> Option<Session> {
+pub fn opened<B: Bus>(bus: &mut B) -> Option<Session> {
     initialize(bus).ok()
 }
 

@@ -1,13 +1,21 @@
 // Identification over buses that lie.
-use mmc_bus::{BusAnswer, Reply, ScriptedBus};
+use mmc_bus::{Bus, BusAnswer, Reply, ScriptedBus};
 use mmc_frame::{encode_r2, encode_r3, encode_response};
 use mmc_identify::{IdentFault, identify};
 use std::alloc::Global;
 use std::collections::VecDeque;
 use std::test::Fail;
 
-// Why a bus with these replies to commands has no card, if it has none.
-fn refusal(alloc: Global, replies: &[Reply]) -> Result<Option<IdentFault>, Fail> {
+// Why a card isn't found, if it isn't.
+fn refusal<B: Bus>(bus: &mut B) -> Option<IdentFault> {
+    match identify(bus) {
+        Ok(_) => None,
+        Err(why) => Some(why),
+    }
+}
+
+// A bus with these replies to commands.
+fn replying(alloc: Global, replies: &[Reply]) -> Result<ScriptedBus, Fail> {
     let mut answers = VecDeque::new(alloc);
     for reply in replies.iter() {
         answers
@@ -15,7 +23,7 @@ fn refusal(alloc: Global, replies: &[Reply]) -> Result<Option<IdentFault>, Fail>
             .ok()
             .ok_or("no room")?;
     }
-    Ok(identify(&mut ScriptedBus::new(answers)).err())
+    Ok(ScriptedBus::new(answers))
 }
 
 // Which refusal is named: nothing answers; another pattern than that of CMD8; and RCA 0, to CMD3 behind CMD0, CMD8, CMD55,
@@ -41,7 +49,8 @@ fn names_what_is_wrong(rt: HostRuntime) -> Result<(), Fail> {
         (&other_pattern[..], IdentFault::Voltage),
         (&rca_0[..], IdentFault::Register),
     ] {
-        assert_eq!(rt; refusal(rt.alloc(), replies)?, Some(why));
+        let mut bus = replying(rt.alloc(), replies)?;
+        assert_eq!(rt; refusal(&mut bus), Some(why));
     }
     Ok(())
 }

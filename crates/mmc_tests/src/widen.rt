@@ -1,9 +1,8 @@
 // Width and speed, and what is known of a card, over buses that lie.
 use crate::cards::*;
-use mmc_bus::{BusAnswer, Part, ScriptedBus};
-use mmc_identify::identify;
+use mmc_bus::{Bus, Part, ScriptedBus};
+use mmc_identify::{Found, identify};
 use mmc_switch::{SwitchFault, widen};
-use std::collections::VecDeque;
 use std::test::Fail;
 
 // A general purpose partition that commands can't address as a whole counts as none.
@@ -18,11 +17,12 @@ fn leaves_out_what_cannot_be_addressed(rt: HostRuntime) -> Result<(), Fail> {
     Ok(())
 }
 
-// Why a card with these answers isn't widened, if it isn't.
-fn refusal(answers: VecDeque<BusAnswer>) -> Result<Option<SwitchFault>, Fail> {
-    let mut bus = ScriptedBus::new(answers);
-    let found = identify(&mut bus).ok().ok_or("not found")?;
-    Ok(widen(&mut bus, found).err())
+// Why a card isn't widened, if it isn't.
+fn refusal<B: Bus>(bus: &mut B, found: Found) -> Option<SwitchFault> {
+    match widen(bus, found) {
+        Ok(_) => None,
+        Err(why) => Some(why),
+    }
 }
 
 // An EXT_CSD of an old revision, without an erase unit, or without a size is refused.
@@ -31,8 +31,9 @@ fn refuses_an_ext_csd(rt: HostRuntime) -> Result<(), Fail> {
     for (index, value) in [(192, 4), (224, 0), (213, 0)] {
         let mut ext_csd = ext_csd_of_emmc();
         ext_csd[index] = value;
-        let answers = answers_of_emmc(rt.alloc(), ext_csd)?;
-        assert_eq!(rt; refusal(answers)?, Some(SwitchFault::Register));
+        let mut bus = ScriptedBus::new(answers_of_emmc(rt.alloc(), ext_csd)?);
+        let found = identify(&mut bus).ok().ok_or("not found")?;
+        assert_eq!(rt; refusal(&mut bus, found), Some(SwitchFault::Register));
     }
     Ok(())
 }
@@ -42,6 +43,8 @@ fn refuses_an_ext_csd(rt: HostRuntime) -> Result<(), Fail> {
 fn names_an_exchange_that_failed(rt: HostRuntime) -> Result<(), Fail> {
     let mut answers = answers_of_emmc(rt.alloc(), ext_csd_of_emmc())?;
     answers.pop_back();
-    assert_eq!(rt; refusal(answers)?, Some(SwitchFault::Exchange));
+    let mut bus = ScriptedBus::new(answers);
+    let found = identify(&mut bus).ok().ok_or("not found")?;
+    assert_eq!(rt; refusal(&mut bus, found), Some(SwitchFault::Exchange));
     Ok(())
 }
