@@ -1,14 +1,17 @@
 -- The driver as a host, and what it knows of its controller.
-use Rattle.std.specs.Prelude.{◌%◌, ◌==◌, ◌≡◌, Bool, if◌then◌else◌, true, ℕ}
+use Rattle.std.specs.Prelude.{[], ◌%◌, ◌==◌, ◌≡◌, Bool, None, false, if◌then◌else◌, true, ℕ}
+use Rattle.mmc_card.specs.Card.{powered_on}
 use Rattle.mmc_card.specs.declared.exchange.Lines.{Lines}
 use Rattle.mmc_card.specs.declared.exchange.Timing.{Timing}
 use Rattle.mmc_card.specs.declared.exchange.Timing.TheVariants.{Default, High}
+use Rattle.mmc_bus.specs.Wires.{nothing_made}
 use Rattle.mmc_host.specs.Hosts.{HostView}
 use Rattle.mmc_host.specs.declared.data.Data.{Data}
 use Rattle.mmc_host.specs.declared.told.HostState.{HostState}
 use Rattle.mmc_host.specs.declared.told.Ios.{Ios}
 use Rattle.mmc_sdhci.specs.Controller.{ControllerView, IsAtMost, Settled, base_clock, is_at_rest, restarted}
 use Rattle.mmc_sdhci.specs.Moving.{WhereKept}
+use Rattle.mmc_sdhci.specs.declared.buffer.Buffer.TheVariants.{OneBlock}
 
 -- a host with this controller: its card, what it was told so far, and its limits
 abbrev pub host_over : ControllerView → HostState → Lines → HostView
@@ -49,8 +52,39 @@ IsNew view = WhereKept view ((is_at_rest view ≡ true) × (view.transfer ≡ Da
 abbrev pub Restarts : ControllerView → ControllerView → Type 0
 Restarts old new = Settled old (new ≡ restarted old) new
 
+-- the card is as before, and so is what is built in
+pub record IsSameCard (old new : ControllerView) : Type 0 where
+  pub card : new.card ≡ old.card
+  pub faults : new.faults ≡ old.faults
+  pub may_fall : new.may_fall ≡ old.may_fall
+  pub built : new.built ≡ old.built
+
 -- blocks of whole words
 abbrev pub are_words : Data → Bool
 are_words Data.Nothing = true
 are_words (Data.Read size blocks) = size % 4 == 0
 are_words (Data.Write blocks) = true
+
+-- a view that never is kept
+abbrev pub unkept_controller : ControllerView
+unkept_controller =
+    record {
+      card = powered_on nothing_made [];
+      faults = 0;
+      may_fall = None;
+      is_kept = false;
+      built = record { capabilities = 0; version = 0; buffer = OneBlock };
+      settings = record { control = 0; clock = 0 };
+      sizes = 0;
+      argument = 0;
+      running = None;
+      response = [];
+      status = 0;
+      is_stuck = false;
+      transfer = Data.Nothing;
+      is_stale = false;
+      is_open = false;
+      is_ready = false;
+      incoming = [];
+      outgoing = [];
+    }

@@ -1,8 +1,8 @@
 ghost use Rattle.std.specs.Prelude.{◌<◌, ◌≡◌, IfOk, true};
 ghost use Rattle.mmc_host.specs.HostStates.{lines_of};
 ghost use Rattle.mmc_host.specs.Hosts.{IsUnused};
-ghost use Rattle.mmc_sdhci.specs.Controller.{IsAtMost, IsAtRest, limits_in, lines_in};
-ghost use Rattle.mmc_sdhci.specs.Driver.{IsBaseClock, IsNew, are_words, clock_limit, host_over};
+ghost use Rattle.mmc_sdhci.specs.Controller.{IsAtMost, IsAtRest, Settled, limits_in, lines_in};
+ghost use Rattle.mmc_sdhci.specs.Driver.{IsBaseClock, IsNew, IsSameCard, are_words, clock_limit, host_over};
 ghost use Rattle.mmc_sdhci.specs.Moving.{WhereKept};
 
 use crate::buffer::Buffer;
@@ -54,6 +54,10 @@ impl<R: Registers> Sdhci<R> {
     pub fn new(registers: R, buffer: Buffer) -> Result<Sdhci<R>, (R, StartFault)>
         requires new { IsNew (R.view registers) }
         requires buffer { WhereKept (R.view registers) ((R.view registers).built.buffer ≡ buffer) }
+        ensures same { IfOk result (λ host. Settled (R.view registers)
+            (IsSameCard (R.view registers) (R.view host.registers)) (R.view host.registers)) }
+        ensures limits { IfOk result (λ host. WhereKept (R.view host.registers)
+            (host.limits ≡ limits_in (R.view host.registers).built.capabilities)) }
         ensures unused { IfOk result (λ host. IsUnused (host_over (R.view host.registers) host.state host.limits)) }
     {
         let mut registers = registers;

@@ -1,0 +1,57 @@
+//! Opens QEMU's SD card through the registers of QEMU's SD host controller, and writes and reads random runs of sectors, each
+//! compared with a copy of what the card should hold. `tests/qemu/run` starts QEMU and this program.
+#![tactic(auto)]
+
+mod copy;
+mod protocol;
+mod registers;
+mod runs;
+
+use crate::protocol::Conversation;
+use crate::registers::QemuRegisters;
+use crate::runs::Card;
+use anyhow::{Result, anyhow};
+use mmc_block::{BlockDev, Part};
+use mmc_host::HostBus;
+use mmc_sdhci::{Buffer, Sdhci};
+use std::env;
+
+const USAGE: &str = "usage: qemu_sdhci RUNS SEED";
+
+// Opens the card.
+fn open(rt: &impl AllocGlobal) -> Result<Card> {
+    let registers = QemuRegisters {
+        conversation: Conversation::new(),
+    };
+    match Sdhci::new(registers, Buffer::OneBlock) {
+        Err((_, fault)) => Err(fault.into()),
+        Ok(host) => match BlockDev::open(rt.alloc(), HostBus::new(host)) {
+            Err((_, fault)) => Err(fault.into()),
+            Ok(device) => Ok(device),
+        },
+    }
+}
+
+// Serves so many rounds of runs.
+fn serve(rt: &(impl Eprint + AllocGlobal), rounds: u64, seed: u64) -> Result<()> {
+    let mut card = open(rt)?;
+    let sectors = card.info().sectors(Part::User).unwrap_or(0);
+    let _ = eprintln!(rt;
+        "opened {sectors} sectors, {} exchanges",
+        card.bus().exchanges()
+    );
+    runs::serve(rt, &mut card, sectors, rounds, seed)?;
+    if card.bus().is_misused() {
+        return Err(anyhow!("the controller was asked for what none can do"));
+    }
+    let _ = eprintln!(rt; "served, {} exchanges", card.bus().exchanges());
+    Ok(())
+}
+
+fn main(rt: HostRuntime) -> Result<()> {
+    let words = env::args(&rt)?.collect::<Vec<String>>(rt.alloc())?;
+    match words.as_slice() {
+        [_, rounds, seed] => serve(&rt, rounds.parse::<u64>()?, seed.parse::<u64>()?),
+        _ => Ok(println!(rt; "{USAGE}")?),
+    }
+}
