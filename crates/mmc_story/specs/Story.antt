@@ -1,0 +1,77 @@
+-- THE ASSUMPTION about a host controller and its card. It stands here and nowhere else: controller and card conform. There is
+-- a story of what became of the card, and all that the host did and was answered is a step of it: what a faithful card does,
+-- or one fault of the list in `mmc_card`, `Faults`.
+use Rattle.std.specs.Prelude.{◌≡◌, ◌∷◌, [], Bool, List, None, false, true, ℕ}
+use Rattle.std.proofs.lemmas.Bool.{false≢true}
+use Rattle.mmc_card.specs.BusView.{BusView}
+use Rattle.mmc_card.specs.Card.{Card, powered_on}
+use Rattle.mmc_card.specs.Faults.{PollStep, ReadStep, WriteStep}
+use Rattle.mmc_card.specs.declared.exchange.Lines.{Lines}
+use Rattle.mmc_bus.specs.Exchanges.{Kept}
+use Rattle.mmc_bus.specs.Wires.{nothing_made}
+use Rattle.mmc_host.specs.Hosts.{Answers, HostView, answer_heard}
+use Rattle.mmc_host.specs.declared.told.HostState.{HostState}
+use Rattle.mmc_story.specs.Entry.{Entry, Event}
+use Rattle.mmc_story.specs.Entry.Event.{Looked, Read, Sent, Written}
+
+-- What became of a card.
+pub record Outcome : Type 0 where
+  pub card : Card
+  -- how many faults have fallen on it
+  pub faults : ℕ
+  -- controller and card have conformed so far
+  pub conformed : Bool
+
+-- what contracts see of it, on these lines
+abbrev pub seen : Outcome → Lines → BusView
+seen outcome lines =
+    record {
+      card = outcome.card;
+      lines = lines;
+      last = None;
+      exchanges = 0;
+      faults = outcome.faults;
+      may_fall = None;
+      is_kept = outcome.conformed;
+    }
+
+-- the card relation allows what was answered
+abbrev pub Allows : BusView → Event → BusView → Type 0
+Allows old (Sent command heard) new =
+    Answers old command.index command.argument (answer_heard command.response command.index heard) new
+Allows old (Read size got block) new = ReadStep old size got block new
+Allows old (Written block got) new = WriteStep old block got new
+Allows old (Looked is_busy) new = PollStep old is_busy new
+
+-- An entry is one step of the card.
+abbrev pub IsStep : Outcome → Entry → Outcome → Type 0
+IsStep old entry new =
+    Kept (seen old entry.lines) (Allows (seen old entry.lines) entry.event (seen new entry.lines)) (seen new entry.lines)
+
+-- The assumption.
+pub record Story : Type 0 where
+  -- what became of the card after these entries, the last one first
+  pub outcome : List Entry → Outcome
+  -- where controller and card have conformed, each entry is a step
+  pub explains : (entry : Entry) (past : List Entry) → (outcome (entry ∷ past)).conformed ≡ true
+      → IsStep (outcome past) entry (outcome (entry ∷ past))
+
+-- the story that is never true
+abbrev pub never_true : Story
+never_true =
+    record {
+      outcome = λ past. record { card = powered_on nothing_made []; faults = 0; conformed = false };
+      explains = λ entry past said. absurd (false≢true said);
+    }
+
+-- what contracts see of a host whose card has this story, when it was told this and has these limits
+abbrev pub host_of : Story → List Entry → HostState → Lines → HostView
+host_of story past state limits =
+    record {
+      card = (story.outcome past).card;
+      state = state;
+      limits = limits;
+      faults = (story.outcome past).faults;
+      may_fall = None;
+      is_kept = (story.outcome past).conformed;
+    }

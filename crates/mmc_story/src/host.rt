@@ -1,0 +1,113 @@
+ghost use Rattle.std.specs.Prelude.{◌≡◌, ◌∷◌, [], false, true};
+ghost use Rattle.mmc_host.specs.HostStates.{begun, lines_of};
+
+use crate::diary::{Call, Diary, Note};
+use crate::story::HasStory;
+use mmc_card::{DataIn, DataOut, Lines};
+use mmc_host::{Heard, Host, HostCommand, HostState, Ios, ResponseFault, Work};
+use std::marker::PhantomData;
+
+/// A driver with a diary of what it did, which exists only in proofs.
+///
+/// It is kept as long as the story is true of the diary. Each call makes the driver's own once, notes the very answer, and gives
+/// it back.
+#[derive(Drop)]
+pub struct StoryHost<H: Host, S: HasStory> {
+    host: H,
+    // what it has been told, and what it can
+    state: HostState,
+    limits: Lines,
+    diary: Diary,
+    of: PhantomData<S>,
+    // nothing is known of the driver itself
+    ghost unkept: { (H.view host).is_kept ≡ true → ⊥ },
+}
+
+impl<H: Host, S: HasStory> StoryHost<H, S> {
+    ghost use Rattle.mmc_story.specs.Noted.{event_of};
+
+    /// A host over a driver of which nothing is known, as of one with the view `unkept_host`. It has done nothing so far.
+    pub fn new(host: H) -> StoryHost<H, S>
+        requires { (H.view host).is_kept ≡ false }
+        ensures past { result.diary.past ≡ [] }
+        ensures state { result.state ≡ begun }
+    {
+        let limits = host.limits();
+        StoryHost {
+            host,
+            state: HostState::new(),
+            limits,
+            diary: Diary::new(),
+            of: PhantomData,
+        }
+    }
+
+    /// The driver.
+    pub fn host(&self) -> &H
+        ensures { result.now ≡ self.now.host }
+    {
+        &self.host
+    }
+
+    // Notes a call with its answer.
+    fn note(&mut self, call: Call<'_>)
+        ensures past { self.new.diary.past ≡ record {
+          lines = lines_of self.old.state.ios;
+          event = event_of call.entry;
+        } ∷ self.old.diary.past }
+        ensures state { self.new.state ≡ self.old.state }
+        ensures limits { self.new.limits ≡ self.old.limits }
+    {
+        self.diary = self.diary.then(&Note {
+            lines: self.state.ios.lines(),
+            call,
+        });
+    }
+}
+
+impl<H: Host, S: HasStory> Host for StoryHost<H, S> {
+    ghost use Rattle.mmc_story.specs.Story.{host_of};
+
+    ghost view = { λ s. host_of S.story s.diary.past s.state s.limits };
+
+    fn limits(&self) -> Lines {
+        self.limits
+    }
+
+    fn set_ios(&mut self, ios: Ios) {
+        self.host.set_ios(ios);
+        self.state.ios = ios;
+    }
+
+    fn send(&mut self, command: HostCommand) -> Result<Heard, ResponseFault> {
+        let heard = self.host.send(command);
+        self.note(Call::Send { command, heard });
+        self.state = self.state.sent(command, heard.is_ok());
+        heard
+    }
+
+    fn read_block(&mut self, block: &mut [u8]) -> DataIn {
+        let length = block.len();
+        let got = self.host.read_block(block);
+        self.note(Call::ReadBlock { length, got, block });
+        self.state = self.state.block_passed(got == DataIn::Good);
+        got
+    }
+
+    fn write_block(&mut self, block: &[u8; 512]) -> DataOut {
+        let got = self.host.write_block(block);
+        self.note(Call::WriteBlock { block, got });
+        self.state = self.state.block_passed(got == DataOut::Accepted);
+        got
+    }
+
+    fn is_busy(&mut self, work: Work) -> bool {
+        let is_busy = self.host.is_busy(work);
+        self.note(Call::Look { is_busy });
+        is_busy
+    }
+
+    fn pause(&mut self, micros: u32) {
+        self.host.pause(micros);
+    }
+}

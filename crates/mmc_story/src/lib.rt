@@ -1,0 +1,14 @@
+//! What is assumed of a host controller and its card, stated once: a story, which tells what became of the card.
+//!
+//! No proof can know the hardware. A `StoryHost` is a driver with a diary of what it did, which exists only in proofs, and it is
+//! kept as long as the story is true of the diary. Code that is generic over the story has every contract of the crates above
+//! as "where controller and card have conformed, so that a story is true, ..".
+#![tactic(auto)]
+
+mod diary;
+mod host;
+mod story;
+
+pub use diary::{Call, Diary, Note};
+pub use host::StoryHost;
+pub use story::HasStory;
