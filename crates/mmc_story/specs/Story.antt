@@ -56,6 +56,10 @@ pub record Story : Type 0 where
   pub explains : (entry : Entry) (past : List Entry) → (outcome (entry ∷ past)).conformed ≡ true
       → IsStep (outcome past) entry (outcome (entry ∷ past))
 
+-- the story is true of all that a host did
+abbrev pub IsTrueOf : Story → List Entry → Type 0
+IsTrueOf story past = (story.outcome past).conformed ≡ true
+
 -- the story that is never true
 abbrev pub never_true : Story
 never_true =

@@ -4,7 +4,7 @@ ghost use Rattle.mmc_host.specs.HostStates.{begun, lines_of};
 use crate::diary::{Call, Diary, Note};
 use crate::story::HasStory;
 use mmc_card::{DataIn, DataOut, Lines};
-use mmc_host::{Heard, Host, HostCommand, HostState, Ios, ResponseFault, Work};
+use mmc_host::{Heard, Host, HostBus, HostCommand, HostState, Ios, ResponseFault, Work};
 use std::marker::PhantomData;
 
 /// A driver with a diary of what it did, which exists only in proofs.
@@ -22,6 +22,9 @@ pub struct StoryHost<H: Host, S: HasStory> {
     // nothing is known of the driver itself
     ghost unkept: { (H.view host).is_kept ≡ true → ⊥ },
 }
+
+/// The bus over such a host.
+pub type StoryBus<H, S> = HostBus<StoryHost<H, S>>;
 
 impl<H: Host, S: HasStory> StoryHost<H, S> {
     ghost use Rattle.mmc_story.specs.Noted.{event_of};

@@ -10,5 +10,5 @@ mod host;
 mod story;
 
 pub use diary::{Call, Diary, Note};
-pub use host::StoryHost;
+pub use host::{StoryBus, StoryHost};
 pub use story::HasStory;
