@@ -62,3 +62,6 @@ pub fn turn<H: Host, S: HasStory>(device: &mut BlockDev<StoryBus<H, S>>) -> Comp
 {
     device.turn()
 }
+
+#[cfg(test)]
+mod tests;

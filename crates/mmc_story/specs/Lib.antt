@@ -1,3 +1,4 @@
 pub mod Entry
 pub mod Noted
 pub mod Story
+pub mod Conforming

@@ -9,8 +9,8 @@ use std::marker::PhantomData;
 
 /// A driver with a diary of what it did, which exists only in proofs.
 ///
-/// It is kept as long as the story is true of the diary. Each call makes the driver's own once, notes the very answer, and gives
-/// it back.
+/// It is kept as long as the story is true of the diary. Nothing can bind the diary to the wire, so its calls are to be read:
+/// each makes the driver's own once, notes the very answer, and gives it back.
 #[derive(Drop)]
 pub struct StoryHost<H: Host, S: HasStory> {
     host: H,
@@ -19,7 +19,7 @@ pub struct StoryHost<H: Host, S: HasStory> {
     limits: Lines,
     diary: Diary,
     of: PhantomData<S>,
-    // nothing is known of the driver itself
+    // nothing is proved of the driver itself
     ghost unkept: { (H.view host).is_kept ≡ true → ⊥ },
 }
 
@@ -29,9 +29,11 @@ pub type StoryBus<H, S> = HostBus<StoryHost<H, S>>;
 impl<H: Host, S: HasStory> StoryHost<H, S> {
     ghost use Rattle.mmc_story.specs.Noted.{event_of};
 
-    /// A host over a driver of which nothing is known, as of one with the view `unkept_host`. It has done nothing so far.
+    /// A host over a driver of which nothing is proved, as of one with the view `unkept_host`. It was sent no command so far, and
+    /// its lines and clock are as before the first one: one line, at most 400 kHz.
     pub fn new(host: H) -> StoryHost<H, S>
         requires { (H.view host).is_kept ≡ false }
+        ensures host { result.host ≡ host }
         ensures past { result.diary.past ≡ [] }
         ensures state { result.state ≡ begun }
     {

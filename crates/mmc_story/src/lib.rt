@@ -7,6 +7,7 @@
 
 mod diary;
 mod host;
+pub mod laws;
 mod story;
 
 pub use diary::{Call, Diary, Note};
