@@ -246,15 +246,16 @@ pub command_facts : {X : Type 0} (Fits : CardAnswer → Type 0) (hears : Reply �
     (answers : CardAnswer → Result X Unheard)
     (old : BusView) (frame : List ℕ) (index argument : ℕ) (reply : Reply) (new : BusView)
     → Reads Fits hears answers → ((errors : ℕ) (choice : Choice) → Fits (respond choice (with_errors errors old.card) index argument).1)
-    → command_in frame ≡ Some (index, argument) → FallNoMore old new → CommandStep old frame reply new
-    → CommandFacts answers old index argument (hears reply) new
-command_facts Fits hears answers old frame index argument reply new reads fits command bounded step =
+    → command_in frame ≡ Some (index, argument) → new.limits ≡ old.limits → FallNoMore old new
+    → CommandStep old frame reply new → CommandFacts answers old index argument (hears reply) new
+command_facts Fits hears answers old frame index argument reply new reads fits command limits bounded step =
     let widens = command_widens old frame reply new step in
     record {
       stays = record {
         carried = widens.carried;
         later = later old new (command_counts old frame reply new step);
         bounded = bounded;
+        limits = limits;
       };
       narrows = subst (λ s. Within (holds new.card) (maybe_erased (erased_by old.card s) (holds old.card))) command
           widens.widens;
@@ -355,9 +356,10 @@ poll_ways old said new (brownout choice lands keeps_length after patient count c
       fine = λ same h. fell old new count same;
     }
 
-pub poll_facts : (old : BusView) (said : Bool) (new : BusView) → FallNoMore old new → PollStep old said new
+pub poll_facts : (old : BusView) (said : Bool) (new : BusView) → new.limits ≡ old.limits → FallNoMore old new
+    → PollStep old said new
     → PollFacts old said new
-poll_facts old said new bounded step =
+poll_facts old said new limits bounded step =
     let keeps = poll_keeps old said new step in
     let ways = poll_ways old said new step in
     record {
@@ -365,6 +367,7 @@ poll_facts old said new bounded step =
         carried = keeps.carried;
         later = later old new (poll_counts old said new step);
         bounded = bounded;
+        limits = limits;
       };
       narrows = keeps.narrows;
       stands = poll_stands old said new step;
@@ -445,9 +448,10 @@ write_ways old block got new (brownout lands keeps_length after count card answe
     unaccepted old block got new count
     (not_nothing got answer)
 
-pub write_facts : (old : BusView) (block : Sector) (got : DataOut) (new : BusView) → FallNoMore old new
+pub write_facts : (old : BusView) (block : Sector) (got : DataOut) (new : BusView) → new.limits ≡ old.limits
+    → FallNoMore old new
     → WriteStep old block got new → WriteFacts old block got new
-write_facts old block got new bounded step =
+write_facts old block got new limits bounded step =
     let adds = write_adds old block got new step in
     let ways = write_ways old block got new step in
     record {
@@ -455,6 +459,7 @@ write_facts old block got new bounded step =
         carried = adds.carried;
         later = later old new (write_counts old block got new step);
         bounded = bounded;
+        limits = limits;
       };
       widens = adds.adds;
       stands = write_stands old block got new step;
@@ -520,8 +525,8 @@ read_ways old size got block new (brownout choice lands keeps_length after count
     (bad_or_nothing false got answer)
 
 pub read_facts : (old : BusView) (size : ℕ) (got : DataIn) (block : List ℕ) (new : BusView)
-    → FallNoMore old new → ReadStep old size got block new → ReadFacts old size got block new
-read_facts old size got block new bounded step =
+    → new.limits ≡ old.limits → FallNoMore old new → ReadStep old size got block new → ReadFacts old size got block new
+read_facts old size got block new limits bounded step =
     let keeps = read_keeps old size got block new step in
     let ways = read_ways old size got block new step in
     record {
@@ -529,6 +534,7 @@ read_facts old size got block new bounded step =
         carried = keeps.carried;
         later = later old new (read_counts old size got block new step);
         bounded = bounded;
+        limits = limits;
       };
       narrows = keeps.narrows;
       stands = read_stands old size got block new step;
@@ -541,16 +547,17 @@ read_facts old size got block new bounded step =
 
 -- what is known of a step is known of the exchange
 pub with_facts : {Step Facts : Type 0} (old : BusView) (exchange : Exchange) (new : BusView)
-    → Exchanged old exchange Step new → (IsCard old.card → FallNoMore old new → Step → Facts)
+    → Exchanged old exchange Step new → (IsCard old.card → new.limits ≡ old.limits → FallNoMore old new → Step → Facts)
     → Exchanged old exchange Facts new
 with_facts old exchange new e facts = record {
   lines = e.lines;
+  limits = e.limits;
   last = e.last;
   exchanges = e.exchanges;
   kept = λ k. let s = e.kept k in record {
     was_kept = s.was_kept;
     was_card = s.was_card;
-    step = facts s.was_card s.bounded s.step;
+    step = facts s.was_card e.limits s.bounded s.step;
     is_card = s.is_card;
     bounded = s.bounded;
   };
@@ -574,6 +581,6 @@ asked Fits hears answers old frame index argument want reply heard new reads fit
   hearing = hearing;
   cause = ap cause_of e.last ∙ ap (λ s. Some (cause_of_command s reply)) command;
   exchanged = with_facts old (Command frame want reply) new e
-      (λ k bounded step. subst (λ x. CommandFacts answers old index argument x new) (sym hearing)
-      (command_facts Fits hears answers old frame index argument reply new reads (fits k) command bounded step));
+      (λ k limits bounded step. subst (λ x. CommandFacts answers old index argument x new) (sym hearing)
+      (command_facts Fits hears answers old frame index argument reply new reads (fits k) command limits bounded step));
 }

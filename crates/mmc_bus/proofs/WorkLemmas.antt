@@ -23,6 +23,7 @@ stays_then a b c p q =
       carried = record { made = q.carried.made ∙ p.carried.made; sizes = λ i. q.carried.sizes i ∙ p.carried.sizes i };
       later = omega (arith, l, m);
       bounded = λ most h. q.bounded most (p.bounded most h);
+      limits = q.limits ∙ p.limits;
     }
 
 -- a bus that stays as it is, but for the lines of the host
@@ -31,6 +32,7 @@ stays_same a lines = record {
   carried = record { made = refl; sizes = λ part. refl };
   later = omega arith;
   bounded = λ most h. h;
+  limits = refl;
 }
 
 pub set_then : (a b c : BusView) → StaysSet a b → StaysSet b c → StaysSet a c

@@ -28,12 +28,13 @@ use Rattle.mmc_card.specs.declared.exchange.DataIn.TheVariants as Received
 use Rattle.mmc_card.specs.declared.exchange.DataOut.TheVariants as Sent
 use Rattle.mmc_card.specs.declared.exchange.Exchange.TheVariants as Did
 
--- What the card is made with stays, and the sizes of its partitions; the count of faults doesn't fall, and no more are
--- to fall than before.
+-- What the card is made with stays, and the sizes of its partitions, and what the host can; the count of faults doesn't
+-- fall, and no more are to fall than before.
 pub record Stays (old new : BusView) : Type 0 where
   pub carried : Carried old.card new.card
   pub later : old.faults ≤ new.faults
   pub bounded : FallNoMore old new
+  pub limits : new.limits ≡ old.limits
 
 -- Commands.
 

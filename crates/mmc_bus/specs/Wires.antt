@@ -8,10 +8,12 @@ use Rattle.mmc_bus.specs.declared.wire.Wire.{Wire}
 use Rattle.mmc_card.specs.Card.{Card, powered_on}
 use Rattle.mmc_card.specs.Made.{Made}
 use Rattle.mmc_card.specs.BusView.{BusView}
+use Rattle.mmc_card.specs.Limits.{all_lines}
 
 -- an exchange is noted
 pub record Notes (old : Wire) (exchange : Exchange) (new : Wire) : Type 0 where
   pub lines : new.lines ≡ old.lines
+  pub limits : new.limits ≡ old.limits
   pub last : new.last ≡ Some exchange
   pub exchanges : new.exchanges ≡ min (old.exchanges + 1) (2 ^ 64 - 1)
 
@@ -21,6 +23,7 @@ bus_view_with card faults may_fall is_kept wire =
     record {
       card = card;
       lines = wire.lines;
+      limits = wire.limits;
       last = wire.last;
       exchanges = wire.exchanges;
       faults = faults;
@@ -43,9 +46,10 @@ nothing_made =
       answers_cmd8 = false;
     }
 
--- no exchange so far, and no fault, on one line at default speed
+-- no exchange so far, and no fault, on one line at default speed, of a host that limits nothing
 pub record IsUnused (view : BusView) : Type 0 where
   pub lines : view.lines ≡ record { width = One; timing = Default }
+  pub limits : view.limits ≡ all_lines
   pub last : view.last ≡ None
   pub exchanges : view.exchanges ≡ 0
   pub faults : view.faults ≡ 0

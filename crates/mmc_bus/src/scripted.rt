@@ -6,7 +6,7 @@ ghost use Rattle.mmc_bus.specs.Wires.{unkept};
 use crate::bus::Bus;
 use crate::bytes::Bytes;
 use crate::wire::Wire;
-use mmc_card::{DataIn, DataOut, Exchange, Reply, Timing, Want, Width};
+use mmc_card::{DataIn, DataOut, Exchange, Lines, Reply, Timing, Want, Width};
 use std::collections::VecDeque;
 
 /// An answer that a `ScriptedBus` has ready, for one kind of exchange.
@@ -94,7 +94,7 @@ impl ScriptedBus {
     ghost use Rattle.mmc_bus.specs.ScriptedBus.{answers_of, scripted_bus_view};
     ghost use Rattle.mmc_bus.specs.Wires.{IsUnused};
 
-    /// A bus that gives these answers, with one line at default speed.
+    /// A bus that gives these answers, with one line at default speed, of a host that limits nothing.
     pub fn new(answers: VecDeque<BusAnswer>) -> ScriptedBus
         ensures answers { answers_of result ≡ answers.items }
         ensures unused { IsUnused (scripted_bus_view result) }
@@ -110,6 +110,10 @@ impl Bus for ScriptedBus {
     ghost use Rattle.mmc_bus.specs.ScriptedBus.{answers_of, scripted_bus_view};
 
     ghost view = { scripted_bus_view };
+
+    fn limits(&self) -> Lines {
+        self.wire.limits
+    }
 
     fn command(&mut self, frame: [u8; 6], want: Want) -> Reply
         ensures exchanged { Commanded (scripted_bus_view self.old) frame want result (scripted_bus_view self.new) }

@@ -8,7 +8,7 @@ use crate::bus::Bus;
 use crate::exchange_text::write_exchange;
 use crate::memory::NoMemory;
 use circular_buffer::HeapCircularBuffer;
-use mmc_card::{DataIn, DataOut, Exchange, Reply, Timing, Want, Width};
+use mmc_card::{DataIn, DataOut, Exchange, Lines, Reply, Timing, Want, Width};
 use std::alloc::Global;
 use std::io::{self, Write};
 use std::marker::Model;
@@ -109,6 +109,10 @@ impl<B: Bus> Bus for TraceBus<B> {
     ghost use Rattle.mmc_bus.specs.Trace.{Traces, TracesNothing};
 
     ghost view = { λ t. B.view t.bus };
+
+    fn limits(&self) -> Lines {
+        self.bus.limits()
+    }
 
     fn command(&mut self, frame: [u8; 6], want: Want) -> Reply
         ensures exchanged { Commanded (B.view self.old.bus) frame want result (B.view self.new.bus) }

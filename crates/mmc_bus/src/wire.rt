@@ -1,4 +1,5 @@
 ghost use Rattle.std.specs.Prelude.{◌≡◌, None};
+ghost use Rattle.mmc_card.specs.Limits.{all_lines};
 ghost use Rattle.mmc_bus.specs.Wires.{Notes};
 
 use mmc_card::{Exchange, Lines, Timing, Width};
@@ -8,6 +9,8 @@ use mmc_card::{Exchange, Lines, Timing, Width};
 pub struct Wire {
     /// The lines, as last set.
     pub lines: Lines,
+    /// The most lines that are wired, and the fastest timing of the host.
+    pub limits: Lines,
     /// The last exchange with its answer, if there was one.
     pub last: Option<Exchange>,
     /// How many exchanges there were; the number stays at 2^64 - 1.
@@ -15,10 +18,23 @@ pub struct Wire {
 }
 
 impl Wire {
-    /// One line, default speed, and no exchange so far.
+    /// One line, default speed, and no exchange so far, of a host that limits nothing.
     pub fn new() -> Wire
         ensures { result ≡ record {
           lines = record { width = Width.One; timing = Timing.Default };
+          limits = all_lines;
+          last = None;
+          exchanges = 0;
+        } }
+    {
+        Wire::within(Lines::all())
+    }
+
+    /// The same of a host with these limits: its most lines, and its fastest timing.
+    pub fn within(limits: Lines) -> Wire
+        ensures { result ≡ record {
+          lines = record { width = Width.One; timing = Timing.Default };
+          limits = limits;
           last = None;
           exchanges = 0;
         } }
@@ -28,6 +44,7 @@ impl Wire {
                 width: Width::One,
                 timing: Timing::Default,
             },
+            limits,
             last: None,
             exchanges: 0,
         }

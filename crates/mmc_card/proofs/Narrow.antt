@@ -258,9 +258,11 @@ is_switched c argument =
     (λ _. same _ refl refl refl refl refl refl refl (λ h. omega arith))
     (λ _. by_cond (AreSwitched c) (argument == write_byte 183 2)
     (λ _. same _ refl refl refl refl refl refl refl (λ h. h))
+    (λ _. by_cond (AreSwitched c) (argument == write_byte 183 1)
+    (λ _. same _ refl refl refl refl refl refl refl (λ h. h))
     (λ _. by_cond (AreSwitched c)
     ((argument == write_byte 185 1) && (high_speed_at_52_mhz c.made.ext_csd == 1))
-    (λ _. same _ refl refl refl refl refl refl refl (λ h. h)) (λ _. access_is_switched c argument)))
+    (λ _. same _ refl refl refl refl refl refl refl (λ h. h)) (λ _. access_is_switched c argument))))
 
 -- one that fails differs in nothing
 pub may_switch : (fails : Bool) (c : Card) (argument : ℕ) → AreSwitched c (if fails then None else switched c argument)

@@ -75,6 +75,8 @@ is_switch part c argument is =
     (λ t. absurd (other_byte 175 1 argument 0 (partition_config_for c.made part) is t (omega arith)))
     (λ _. by_cond (IsAccess part c) (argument == write_byte 183 2)
     (λ t. absurd (past_byte 183 2 argument (partition_config_for c.made part) is is_byte t (omega arith)))
+    (λ _. by_cond (IsAccess part c) (argument == write_byte 183 1)
+    (λ t. absurd (past_byte 183 1 argument (partition_config_for c.made part) is is_byte t (omega arith)))
     (λ _. by_cond (IsAccess part c)
     ((argument == write_byte 185 1) && (high_speed_at_52_mhz c.made.ext_csd == 1))
     (λ t. absurd (past_byte 185 1 argument (partition_config_for c.made part) is is_byte
@@ -84,7 +86,7 @@ is_switch part c argument is =
     (λ _. is_accessed part c (part_accessed (field 10 8 argument))
     (ap part_accessed (low_field high (access_number part) argument (access_below part) is small)
     ∙ part_back part))
-    (λ _. tt))))
+    (λ _. tt)))))
 
 may_fail : (part : Part) (c : Card) (argument : ℕ) (fails : Bool)
     → argument ≡ write_byte 179 (partition_config_for c.made part)

@@ -10,6 +10,8 @@ pub record BusView : Type 0 where
   pub card : Card
   -- as last set by the host
   pub lines : Lines
+  -- what the host can: the most lines that are wired, and the fastest timing
+  pub limits : Lines
   -- the last exchange with its answer, if there was one
   pub last : Option Exchange
   -- how many exchanges there were; at 2^64 - 1 it stays

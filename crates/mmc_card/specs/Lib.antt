@@ -6,6 +6,7 @@ pub mod CardLaws
 pub mod ErrorBits
 pub mod Faults
 pub mod Laws
+pub mod Limits
 pub mod Made
 pub mod Profile
 pub mod Rows

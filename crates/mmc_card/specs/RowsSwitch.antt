@@ -111,12 +111,13 @@ access_switched card argument =
     then accessed card (part_accessed (field 10 8 argument))
     else None
 
--- The switches that the card knows: ERASE_GROUP_DEF 1, eight lines, high speed at 52 MHz where it has it, and a
+-- The switches that the card knows: ERASE_GROUP_DEF 1, eight lines or four, high speed at 52 MHz where it has it, and a
 -- partition. Others change no byte (the project's own: the host sends no others).
 abbrev pub switched : Card → ℕ → Option Card
 switched card argument =
     if argument == write_byte 175 1 then Some (record card { erase_group_def = 1 })
     else if argument == write_byte 183 2 then Some (record card { width = Eight })
+    else if argument == write_byte 183 1 then Some (record card { width = Four })
     else if (argument == write_byte 185 1) && (high_speed_at_52_mhz card.made.ext_csd == 1)
     then Some (record card { timing = High })
     else access_switched card argument

@@ -1,4 +1,6 @@
 // The plain types of an exchange between a host and a card.
+ghost use Rattle.std.specs.Prelude.{◌≡◌};
+ghost use Rattle.mmc_card.specs.Limits.{all_lines, fewer, slower};
 
 /// The response that a command is to have (SD Physical Layer 6.00, section 4.9; JESD84-B51, section 6.12).
 #[derive(Clone, Copy, Debug, PartialEq, Eq)]
@@ -55,6 +57,19 @@ pub enum Width {
     Eight,
 }
 
+impl Width {
+    /// The fewer lines of the two.
+    pub fn fewer(self, other: Width) -> Width
+        ensures { result ≡ fewer self other }
+    {
+        match (self, other) {
+            (Width::One, _) | (_, Width::One) => Width::One,
+            (Width::Four, _) | (_, Width::Four) => Width::Four,
+            (Width::Eight, Width::Eight) => Width::Eight,
+        }
+    }
+}
+
 /// The timing of the bus.
 #[derive(Clone, Copy, Debug, PartialEq, Eq)]
 pub enum Timing {
@@ -64,13 +79,37 @@ pub enum Timing {
     High,
 }
 
-/// The lines of the host, as last set.
+impl Timing {
+    /// The slower timing of the two.
+    pub fn slower(self, other: Timing) -> Timing
+        ensures { result ≡ slower self other }
+    {
+        match self {
+            Timing::Default => Timing::Default,
+            Timing::High => other,
+        }
+    }
+}
+
+/// The lines of a host, as last set, or the most that it can.
 #[derive(Clone, Copy, Debug, PartialEq, Eq)]
 pub struct Lines {
     /// How many data lines are in use.
     pub width: Width,
     /// The timing in use.
     pub timing: Timing,
+}
+
+impl Lines {
+    /// Eight lines and high speed, of a host that limits nothing.
+    pub fn all() -> Lines
+        ensures { result ≡ all_lines }
+    {
+        Lines {
+            width: Width::Eight,
+            timing: Timing::High,
+        }
+    }
 }
 
 /// An exchange with the card, and how it was answered.
