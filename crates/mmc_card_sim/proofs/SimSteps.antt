@@ -62,6 +62,7 @@ exchanged : {Step : Type 0} (plan : List Planned) (old new : Card) (faults later
     → Exchanged (kept_with plan old faults before) exchange Step (kept_with plan new later after)
 exchanged plan old new faults later before after exchange notes in_bounds was is step = record {
   lines = notes.lines;
+  limits = notes.limits;
   last = notes.last;
   exchanges = notes.exchanges;
   kept = λ kept.

@@ -14,7 +14,7 @@ use crate::plan::{Plan, PlanFault};
 use crate::spec::{BuildFault, CardSpec};
 use crate::store::Store;
 use mmc_bus::{Bus, Wire};
-use mmc_card::{DataIn, DataOut, Exchange, Part, Reply, Timing, Want, Width, laws};
+use mmc_card::{DataIn, DataOut, Exchange, Lines, Part, Reply, Timing, Want, Width, laws};
 use std::alloc::Global;
 use std::marker::Model;
 
@@ -264,6 +264,10 @@ impl Bus for SimCard {
     ghost use Rattle.mmc_bus.specs.Exchanges.{Commanded, DataRead, DataWritten, Polled, SetsLines};
 
     ghost view = { sim_bus_view };
+
+    fn limits(&self) -> Lines {
+        self.wire.limits
+    }
 
     fn command(&mut self, frame: [u8; 6], want: Want) -> Reply
         ensures { Commanded (sim_bus_view self.old) frame want result (sim_bus_view self.new) }

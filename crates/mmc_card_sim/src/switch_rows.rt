@@ -18,6 +18,8 @@ use mmc_frame::commands::{SEND_IF_COND, SEND_SCR, SET_BUS_WIDTH, SWITCH_FUNC};
 // The arguments of CMD6 of eMMC that write a byte: access 3, then the index of the byte and its value.
 const SET_ERASE_GROUP_DEF: u32 = 0x03af_0100;
 
+const SET_FOUR_LINES: u32 = 0x03b7_0100;
+
 const SET_EIGHT_LINES: u32 = 0x03b7_0200;
 
 const SET_HIGH_SPEED: u32 = 0x03b9_0100;
@@ -29,6 +31,8 @@ const SET_PARTITION_CONFIG: u32 = 0x03b3_0000;
 pub enum SwitchTo {
     /// ERASE_GROUP_DEF 1.
     EraseGroupDef,
+    /// Four lines.
+    FourLines,
     /// Eight lines.
     EightLines,
     /// High speed.
@@ -253,6 +257,7 @@ impl Chip {
         match argument {
             SET_ERASE_GROUP_DEF => Some(SwitchTo::EraseGroupDef),
             SET_EIGHT_LINES => Some(SwitchTo::EightLines),
+            SET_FOUR_LINES => Some(SwitchTo::FourLines),
             SET_HIGH_SPEED if self.registers.high_speed_at_52_mhz() => Some(SwitchTo::HighSpeed),
             _ => self.access_switched(argument),
         }
@@ -265,6 +270,7 @@ impl Chip {
         match to {
             SwitchTo::EraseGroupDef => self.erase_group_def = 1,
             SwitchTo::EightLines => self.width = Width::Eight,
+            SwitchTo::FourLines => self.width = Width::Four,
             SwitchTo::HighSpeed => self.timing = Timing::High,
             SwitchTo::Access(part) => self.part = part,
         }

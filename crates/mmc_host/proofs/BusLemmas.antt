@@ -26,13 +26,20 @@ use Rattle.mmc_card.specs.Faults.{Spells}
 
 -- what else a view has than a card, lines and faults
 record Beside : Type 0 where
+  limits : Lines
   last : Option Exchange
   exchanges : ℕ
   is_kept : Bool
 
 abbrev seen : BusView → Lines → Beside → BusView
 seen view lines beside =
-    record view { lines = lines; last = beside.last; exchanges = beside.exchanges; is_kept = beside.is_kept }
+    record view {
+      lines = lines;
+      limits = beside.limits;
+      last = beside.last;
+      exchanges = beside.exchanges;
+      is_kept = beside.is_kept;
+    }
 
 moved_command : (old new : BusView) (l m : Lines) (a b : Beside) (frame : List ℕ) (reply : Reply)
     → CommandStep old frame reply new → CommandStep (seen old l a) frame reply (seen new m b)
@@ -96,7 +103,7 @@ lifted old new w v misused Step Other kept fine becomes =
     }
 
 abbrev beside : Wire → Bool → Beside
-beside wire is_kept = record { last = wire.last; exchanges = wire.exchanges; is_kept = is_kept }
+beside wire is_kept = record { limits = wire.limits; last = wire.last; exchanges = wire.exchanges; is_kept = is_kept }
 
 pub does_poll : (old new : HostView) (w : Wire) (misused said : Bool)
     → Where new (Steps old old.state (PollStep (bus_of old) said (bus_of new)) new)
@@ -154,6 +161,7 @@ exchanged old new w mid v was is exchange Step does same notes =
     let lines : v.lines ≡ w.lines = notes.lines ∙ ap (λ (x : Wire). x.lines) same in
     record {
       lines = lines;
+      limits = notes.limits ∙ ap (λ (x : Wire). x.limits) same;
       last = notes.last;
       exchanges = notes.exchanges ∙ ap (λ (x : Wire). min (x.exchanges + 1) (2 ^ 64 - 1)) same;
       kept = does v lines;
@@ -170,8 +178,8 @@ set_before old new ios index argument reply replies kept =
       was_card = k.was_card;
       step = λ frame command. moved_command (bus_of (record old { state = record old.state { ios = ios } })) (bus_of new)
           (lines_of old.state.ios) (lines_of new.state.ios)
-          (record { last = None; exchanges = 0; is_kept = old.is_kept }) (record { last = None; exchanges = 0; is_kept = new.is_kept }) frame
-          reply (k.step frame command);
+          (record { limits = old.limits; last = None; exchanges = 0; is_kept = old.is_kept })
+          (record { limits = new.limits; last = None; exchanges = 0; is_kept = new.is_kept }) frame reply (k.step frame command);
       is_card = k.is_card;
       bounded = k.bounded;
     }

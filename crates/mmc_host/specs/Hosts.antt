@@ -47,6 +47,7 @@ bus_of host =
     record {
       card = host.card;
       lines = lines_of host.state.ios;
+      limits = host.limits;
       last = None;
       exchanges = 0;
       faults = host.faults;

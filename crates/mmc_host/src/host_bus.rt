@@ -1,11 +1,11 @@
-ghost use Rattle.std.specs.Prelude.{◌<◌, ◌≡◌, ◌≤◌, IsSome, length, true};
+ghost use Rattle.std.specs.Prelude.{◌<◌, ◌≡◌, IsSome, length, true};
 ghost use Rattle.mmc_frame.specs.Frame.{command_in};
 ghost use Rattle.mmc_host.specs.declared.data.Data.TheVariants as Data;
 ghost use Rattle.mmc_bus.specs.Exchanges.{Commanded, DataRead, DataWritten, Polled, SetsLines};
 ghost use Rattle.mmc_card.specs.Faults.{CommandStep, PollStep, ReadStep, Spells, WriteStep};
 ghost use Rattle.mmc_bus.specs.Wires.{bus_view_with};
 ghost use Rattle.mmc_host.specs.Hosts.{Does, IsUnused, IsWithin, OnlySets, ReadsBlock, Replies, Waits};
-ghost use Rattle.mmc_host.specs.Hosts.{Where, WritesBlock, answer_heard, bus_over, lines_number};
+ghost use Rattle.mmc_host.specs.Hosts.{Where, WritesBlock, answer_heard, bus_over};
 ghost use Rattle.mmc_host.specs.HostStates.{AreMovable, IsFree, IsTold, IsToCome, IsToGo, lines_of};
 
 use crate::host::Host;
@@ -27,15 +27,15 @@ use mmc_frame::{
 #[derive(Drop)]
 pub struct HostBus<H: Host> {
     host: H,
+    // with what the host can
     wire: Wire,
-    // what the host has been told, and what it can
+    // what the host has been told
     state: HostState,
-    limits: Lines,
     // what a busy card is at
     work: Work,
     is_misused: bool,
     ghost told: { Where (H.view host) ((H.view host).state ≡ state) },
-    ghost within: { Where (H.view host) ((H.view host).limits ≡ limits) },
+    ghost within: { Where (H.view host) ((H.view host).limits ≡ wire.limits) },
 }
 
 // The reply to a command, with its checks.
@@ -55,29 +55,14 @@ fn spelled(command: HostCommand, heard: Result<Heard, ResponseFault>) -> Reply
     }
 }
 
-// The fewer lines of the two.
-fn fewer_lines(a: Width, b: Width) -> Width
-    ensures fits { lines_number result ≤ lines_number b }
-    ensures same { lines_number a ≤ lines_number b → result ≡ a }
-{
-    match (a, b) {
-        (Width::One, _) | (_, Width::One) => Width::One,
-        (Width::Four, _) | (_, Width::Four) => Width::Four,
-        (Width::Eight, Width::Eight) => Width::Eight,
-    }
-}
-
 // As many of these lines and as fast as the limits allow.
 fn limited(lines: Lines, limits: Lines) -> Lines
     ensures within { IsWithin result limits }
     ensures same { IsWithin lines limits → result ≡ lines }
 {
     Lines {
-        width: fewer_lines(lines.width, limits.width),
-        timing: match limits.timing {
-            Timing::Default => Timing::Default,
-            Timing::High => lines.timing,
-        },
+        width: lines.width.fewer(limits.width),
+        timing: lines.timing.slower(limits.timing),
     }
 }
 
@@ -85,15 +70,15 @@ impl<H: Host> HostBus<H> {
     /// The bus over a host that has been sent no command so far.
     pub fn new(host: H) -> HostBus<H>
         requires { IsUnused (H.view host) }
-        ensures { bus_over (H.view result.host) result.wire result.is_misused
+        ensures view { bus_over (H.view result.host) result.wire result.is_misused
             ≡ bus_view_with (H.view host).card (H.view host).faults (H.view host).may_fall (H.view host).is_kept result.wire }
+        ensures limits { Where (H.view host) (result.wire.limits ≡ (H.view host).limits) }
     {
         let limits = host.limits();
         HostBus {
             host,
-            wire: Wire::new(),
+            wire: Wire::within(limits),
             state: HostState::new(),
-            limits,
             work: Work::Settling,
             is_misused: false,
         }
@@ -126,11 +111,11 @@ impl<H: Host> HostBus<H> {
         ensures wire { self.new.wire ≡ self.old.wire }
         ensures misused { self.new.is_misused ≡ self.old.is_misused }
         ensures clock { self.new.state.ios.is_identifying ≡ is_identifying }
-        ensures lines { IsWithin self.old.wire.lines self.old.limits → lines_of self.new.state.ios ≡ self.old.wire.lines }
+        ensures lines { IsWithin self.old.wire.lines self.old.wire.limits → lines_of self.new.state.ios ≡ self.old.wire.lines }
         ensures state { self.new.state ≡ record self.old.state { ios = self.new.state.ios } }
         ensures only { OnlySets (H.view self.old.host) (H.view self.new.host) }
     {
-        let Lines { width, timing } = limited(self.wire.lines, self.limits);
+        let Lines { width, timing } = limited(self.wire.lines, self.wire.limits);
         let ios = Ios {
             width,
             timing,
@@ -208,7 +193,7 @@ impl<H: Host> HostBus<H> {
         ensures state { self.new.state ≡ record self.old.state { ios = self.new.state.ios } }
         ensures only { OnlySets (H.view self.old.host) (H.view self.new.host) }
         ensures set { result ≡ true → lines_of self.new.state.ios ≡ self.old.wire.lines }
-        ensures can { IsWithin self.old.wire.lines self.old.limits → result ≡ true }
+        ensures can { IsWithin self.old.wire.lines self.old.wire.limits → result ≡ true }
     {
         self.set_ios(self.state.is_identifying);
         self.state.ios.lines() == self.wire.lines
@@ -221,7 +206,7 @@ impl<H: Host> HostBus<H> {
         ensures only { OnlySets (H.view self.old.host) (H.view self.new.host) }
         ensures set { result ≡ true → lines_of self.new.state.ios ≡ self.old.wire.lines }
         ensures to_come { result ≡ true → IsToCome self.new.state len }
-        ensures can { IsWithin self.old.wire.lines self.old.limits → IsToCome self.old.state len → result ≡ true }
+        ensures can { IsWithin self.old.wire.lines self.old.wire.limits → IsToCome self.old.state len → result ≡ true }
     {
         self.set_lines_asked() && self.state.is_to_come(len)
     }
@@ -233,7 +218,7 @@ impl<H: Host> HostBus<H> {
         ensures only { OnlySets (H.view self.old.host) (H.view self.new.host) }
         ensures set { result ≡ true → lines_of self.new.state.ios ≡ self.old.wire.lines }
         ensures to_go { result ≡ true → IsToGo self.new.state }
-        ensures can { IsWithin self.old.wire.lines self.old.limits → IsToGo self.old.state → result ≡ true }
+        ensures can { IsWithin self.old.wire.lines self.old.wire.limits → IsToGo self.old.state → result ≡ true }
     {
         self.set_lines_asked() && self.state.is_to_go()
     }
@@ -243,7 +228,7 @@ impl<H: Host> HostBus<H> {
         ensures wire { self.new.wire ≡ self.old.wire }
         ensures read { Does (H.view self.old.host) self.old.wire self.old.is_misused
             (λ old new. ReadStep old (length block.old) result block.new new) (H.view self.new.host) self.new.is_misused }
-        ensures fits { IsWithin self.old.wire.lines self.old.limits → IsToCome self.old.state (length block.old)
+        ensures fits { IsWithin self.old.wire.lines self.old.wire.limits → IsToCome self.old.state (length block.old)
             → self.new.is_misused ≡ self.old.is_misused }
     {
         if !self.can_read(block.len()) {
@@ -260,7 +245,7 @@ impl<H: Host> HostBus<H> {
         ensures wire { self.new.wire ≡ self.old.wire }
         ensures written { Does (H.view self.old.host) self.old.wire self.old.is_misused
             (λ old new. WriteStep old block.now result new) (H.view self.new.host) self.new.is_misused }
-        ensures fits { IsWithin self.old.wire.lines self.old.limits → IsToGo self.old.state
+        ensures fits { IsWithin self.old.wire.lines self.old.wire.limits → IsToGo self.old.state
             → self.new.is_misused ≡ self.old.is_misused }
     {
         if !self.can_write() {
@@ -290,6 +275,10 @@ const BETWEEN_STATUSES: u32 = 32_000;
 
 impl<H: Host> Bus for HostBus<H> {
     ghost view = { λ s. bus_over (H.view s.host) s.wire s.is_misused };
+
+    fn limits(&self) -> Lines {
+        self.wire.limits
+    }
 
     fn command(&mut self, frame: [u8; 6], want: Want) -> Reply {
         let reply = self.carry(&frame);

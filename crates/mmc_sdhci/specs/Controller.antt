@@ -117,6 +117,7 @@ seen view =
     record {
       card = view.card;
       lines = lines_in view.settings.control;
+      limits = limits_in view.built.capabilities;
       last = None;
       exchanges = 0;
       faults = view.faults;
