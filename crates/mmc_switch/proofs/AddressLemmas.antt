@@ -3,7 +3,8 @@ use Rattle.std.proofs.Common.{◌%◌, ◌&&◌, ◌*◌, ◌/◌, ◌≡◌, Bo
 use Rattle.std.specs.Prelude.{◌==◌, if◌then◌else◌}
 use Rattle.mmc_frame.specs.declared.addressing.Addressing.{Addressing}
 use Rattle.mmc_frame.specs.declared.addressing.Addressing.TheVariants.{Bytes, Sectors}
-use Rattle.mmc_card.specs.Made.{Made, has_sector_addresses, is_misaligned, sector_at}
+use Rattle.mmc_card.specs.BusView.{BusView}
+use Rattle.mmc_card.specs.Made.{has_sector_addresses, is_misaligned, sector_at}
 use Rattle.mmc_switch.specs.Address.{address_of}
 use Rattle.mmc_switch.specs.Place.{Knows}
 use Rattle.mmc_switch.specs.declared.session.Session.{Session}
@@ -19,12 +20,12 @@ aligned_by true addressing start is = refl
 aligned_by false addressing start is =
     let whole : 512 * start % 512 ≡ 0 = omega arith in rw is (rw whole refl)
 
-pub sector_named : (session : Session) (made : Made) → Knows session made → (sector : ℕ)
-    → sector_at made (address_of session.info.addressing sector) ≡ sector
-sector_named session made knows sector =
-    sector_by (has_sector_addresses made) session.info.addressing sector knows.info.addressing
+pub sector_named : (session : Session) (view : BusView) → Knows session view → (sector : ℕ)
+    → sector_at view.card.made (address_of session.info.addressing sector) ≡ sector
+sector_named session view knows sector =
+    sector_by (has_sector_addresses view.card.made) session.info.addressing sector knows.info.addressing
 
-pub address_aligned : (session : Session) (made : Made) → Knows session made → (sector : ℕ)
-    → is_misaligned made (address_of session.info.addressing sector) ≡ false
-address_aligned session made knows sector =
-    aligned_by (has_sector_addresses made) session.info.addressing sector knows.info.addressing
+pub address_aligned : (session : Session) (view : BusView) → Knows session view → (sector : ℕ)
+    → is_misaligned view.card.made (address_of session.info.addressing sector) ≡ false
+address_aligned session view knows sector =
+    aligned_by (has_sector_addresses view.card.made) session.info.addressing sector knows.info.addressing

@@ -257,7 +257,7 @@ module _ (session : Session) (change : Change) (Exact : Ending → Card → Type
         let rests = at.shown (ap is_selected own.0.tran, own.0.no_error.errors) in
         let stays : Exact (Confirm 0) b.card = subst (Exact (Confirm 0)) (sym own.1) (ends.shows waits a.card rests) in
         let idle = ends.idle 0 b.card stays in (
-          ready_again session b work.is_card (knows_then session a.card b.card work.stays.carried at.knows)
+          ready_again session b work.is_card (knows_then session a b work.stays at.knows)
               (stands_then session a b work.set at.stands) idle.quiet idle.rests (ap (λ (c : Card). c.lags) own.1),
           stays,
         )

@@ -22,10 +22,11 @@ use Rattle.mmc_card.specs.Made.{Made}
 use Rattle.mmc_card.specs.contracts.exchange.Timing.{the_type as timing_type}
 use Rattle.mmc_card.specs.contracts.exchange.Width.{the_type as width_type}
 use Rattle.mmc_card.specs.contracts.exchange.WidthPartialEq.TheImpl as width_by
+use Rattle.mmc_card.specs.declared.exchange.Lines.{Lines}
 use Rattle.mmc_card.specs.declared.exchange.Timing.{Timing}
 use Rattle.mmc_card.specs.declared.part.Part.{Part}
 use Rattle.mmc_card.specs.declared.part.Part.TheVariants.{Boot1, Gp1, Gp2, Gp3, Gp4, User}
-use Rattle.mmc_switch.specs.Info.{IsInfo, IsTimingOf, lasting, lasting_timing}
+use Rattle.mmc_switch.specs.Info.{IsInfo, IsTimingOver, lasting, lasting_timing}
 use Rattle.mmc_switch.specs.Sizes.{size_of}
 use Rattle.mmc_switch.specs.contracts.info.InfoPartialEq.TheImpl as by
 use Rattle.mmc_switch.specs.contracts.sizes.SizesPartialEq.TheImpl as sizes_by
@@ -120,18 +121,19 @@ same_info a b e =
 one_csd : (r : Result Csd RegFault) (a b : Csd) → r ≡ Ok a → r ≡ Ok b → a ≡ b
 one_csd r a b e f = cc (e, f)
 
--- of an SD card default speed lasts, and of an eMMC device the timing that its registers name
-same_timing : (made : Made) (kind other : Kind) (a b : Timing) → made.kind ≡ kind → kind ≡ other → IsTimingOf made a
-    → IsTimingOf made b → lasting_timing kind a ≡ lasting_timing other b
-same_timing made Is.Sd Is.Sd a b is same one two = refl
-same_timing made Is.Mmc Is.Mmc a b is same (inl one) (inl two) = one ∙ sym two
-same_timing made Is.Mmc Is.Mmc a b is same (inr one) two = cc (is, one.0)
-same_timing made Is.Mmc Is.Mmc a b is same one (inr two) = cc (is, two.0)
-same_timing made Is.Sd Is.Mmc a b is same one two = cc same
-same_timing made Is.Mmc Is.Sd a b is same one two = cc same
+-- of an SD card default speed lasts, and of an eMMC device the timing that its registers name and the host can
+same_timing : (limits : Lines) (made : Made) (kind other : Kind) (a b : Timing) → made.kind ≡ kind → kind ≡ other → IsTimingOver limits made a
+    → IsTimingOver limits made b → lasting_timing kind a ≡ lasting_timing other b
+same_timing limits made Is.Sd Is.Sd a b is same one two = refl
+same_timing limits made Is.Mmc Is.Mmc a b is same (inl one) (inl two) = one ∙ sym two
+same_timing limits made Is.Mmc Is.Mmc a b is same (inr one) two = cc (is, one.0)
+same_timing limits made Is.Mmc Is.Mmc a b is same one (inr two) = cc (is, two.0)
+same_timing limits made Is.Sd Is.Mmc a b is same one two = cc same
+same_timing limits made Is.Mmc Is.Sd a b is same one two = cc same
 
-pub known_info : (made : Made) (a b : Info) → IsInfo made a → IsInfo made b → lasting a ≡ lasting b
-known_info made a b one other =
+pub known_info : (limits : Lines) (made : Made) (a b : Info) → IsInfo limits made a → IsInfo limits made b
+    → lasting a ≡ lasting b
+known_info limits made a b one other =
     same_fields (lasting a) (lasting b) (one.kind ∙ sym other.kind) (one.addressing ∙ sym other.addressing) refl
     (one.cid ∙ sym other.cid) (one_csd _ a.csd b.csd one.csd other.csd)
     (all_sizes a.sizes b.sizes (one.sizes User ∙ sym (other.sizes User)) (one.sizes Boot1 ∙ sym (other.sizes Boot1))
@@ -140,7 +142,7 @@ known_info made a b one other =
     (one.read_only ∙ sym other.read_only) (one.erase_unit ∙ sym other.erase_unit)
     (one.erased_byte ∙ sym other.erased_byte) (one.trims ∙ sym other.trims) (one.cmd23 ∙ sym other.cmd23)
     (one.width ∙ sym other.width)
-    (same_timing made a.kind b.kind a.timing b.timing (sym one.kind) (one.kind ∙ sym other.kind) one.timing
+    (same_timing limits made a.kind b.kind a.timing b.timing (sym one.kind) (one.kind ∙ sym other.kind) one.timing
     other.timing)
 
 -- What is the same is told to be.

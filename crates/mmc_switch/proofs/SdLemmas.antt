@@ -1,4 +1,5 @@
 -- How the exchanges of widening an SD card join.
+use denote.Enum.Bare.{sameb}
 use Rattle.std.proofs.Common.{◌∙◌, ◌≡◌, Bool, List, ap, false, inl, inr, refl, subst, sym, true, ℕ}
 use Rattle.std.proofs.lemmas.Bool.{eq-eqb, ne_eqb}
 use Rattle.std.proofs.lemmas.Result.{IfOk-from_err}
@@ -6,12 +7,16 @@ use Rattle.std.specs.Prelude.{◌&&◌, ◌==◌, Err, IfOk, IsErr, IsOk, Ok, Re
 use Rattle.mmc_frame.specs.declared.kind.Kind.{Kind}
 use Rattle.mmc_frame.specs.declared.kind.Kind.TheVariants.{Sd}
 use Rattle.mmc_regs.specs.Csd.{may_switch}
-use Rattle.mmc_regs.specs.Scr.{scr_number, sd_spec}
+use Rattle.mmc_regs.specs.Scr.{four_lines, scr_number, sd_spec}
 use Rattle.mmc_regs.specs.SwitchStatus.{access_mode_selected, high_speed_support}
+use Rattle.mmc_card.specs.Limits.{fewer, slower}
+use Rattle.mmc_card.specs.contracts.exchange.Timing.{the_type as timing_type}
+use Rattle.mmc_card.specs.contracts.exchange.Width.{the_type as width_type}
+use Rattle.mmc_card.specs.declared.exchange.Lines.{Lines}
 use Rattle.mmc_card.specs.declared.exchange.Timing.{Timing}
 use Rattle.mmc_card.specs.declared.exchange.Timing.TheVariants.{Default, High}
 use Rattle.mmc_card.specs.declared.exchange.Width.{Width}
-use Rattle.mmc_card.specs.declared.exchange.Width.TheVariants.{Four, One}
+use Rattle.mmc_card.specs.declared.exchange.Width.TheVariants.{Eight, Four, One}
 use Rattle.mmc_card.specs.BusView.{BusView}
 use Rattle.mmc_card.specs.Card.{Card, FromBytes, IsCard, Source}
 use Rattle.mmc_card.specs.Faults.{NoFault}
@@ -24,13 +29,14 @@ use Rattle.mmc_bus.specs.Learned.{Stays}
 use Rattle.mmc_bus.specs.Work.{Moved}
 use Rattle.mmc_bus.proofs.ClosingLemmas.{ConfirmsOnce}
 use Rattle.mmc_bus.proofs.WorkLemmas.{moved_as, moved_then, quiet_parts, refuted}
-use Rattle.mmc_switch.specs.Info.{IsTimingOf, timing_of, width_of}
+use Rattle.mmc_switch.specs.Info.{IsTimingOver, timing_of, timing_over, width_of, width_over}
 use Rattle.mmc_switch.specs.Stages.{HasSwitched, IsSet, IsSetOver, IsToldOf, first_setting, lines_of, user_setting}
 use Rattle.mmc_switch.specs.declared.sd.TheConstants as Argument
 use Rattle.mmc_switch.specs.declared.sd.Told.{Told}
 use Rattle.mmc_switch.proofs.FetchLemmas.{Fetches}
 use Rattle.mmc_switch.proofs.SwitchStatusLemmas.{checks_only, same_support, says_timing}
 use Rattle.mmc_switch.proofs.RestLemmas.{moved_on_lines, set_on_lines, set_shown}
+use Rattle.mmc_switch.proofs.UnderWayLemmas.{said_before}
 
 -- the card stays of its kind
 sd_then : (a b : BusView) → Stays a b → a.card.made.kind ≡ Sd → b.card.made.kind ≡ Sd
@@ -220,16 +226,16 @@ not_switched width status a b not p =
 abbrev pub SpeedsUp : Width → Result Timing Cause → BusView → BusView → Type 0
 SpeedsUp width r a b =
     Moved
-    (λ old new. (rca : ℕ) → old.card.made.kind ≡ Sd → has_switch_function old.card.made ≡ true
-    → IsSet false (user_setting rca width Default 0) old
-    → IfOk r (λ timing. IsTimingOf old.card.made timing × IsSet false (user_setting rca width timing 0) new))
+    (λ old new. (rca : ℕ) → old.limits.timing ≡ High → old.card.made.kind ≡ Sd
+    → has_switch_function old.card.made ≡ true → IsSet false (user_setting rca width Default 0) old
+    → IfOk r (λ timing. IsTimingOver old.limits old.card.made timing × IsSet false (user_setting rca width timing 0) new))
     (λ old new. (rca : ℕ) → old.card.made.kind ≡ Sd → has_switch_function old.card.made ≡ true
     → IsSet false (user_setting rca width Default 0) old → IsOk r) a b
 
 pub check_fails : (width : Width) (cause : Cause) (r : Result Timing Cause) (a b : BusView) → IsErr r
     → Switches Argument.CHECK_HIGH_SPEED (Err cause) a b → SpeedsUp width r a b
 check_fails width cause r a b err p =
-    moved_as a b p (λ rca sd has set. IfOk-from_err r _ err)
+    moved_as a b p (λ rca fast sd has set. IfOk-from_err r _ err)
     (λ same rca sd has set.
     refuted {X = List ℕ} (Err cause) refl (p.fine same (user_setting rca width Default 0) sd has set))
 
@@ -257,19 +263,22 @@ sd_timing made has high sd x y =
 pub not_supported : (width : Width) (status : List ℕ) (a b : BusView)
     → Switches Argument.CHECK_HIGH_SPEED (Ok status) a b → SpeedsUp width (Ok Default) a b
 not_supported width status a b p =
-    moved_as a b p (λ rca sd has set. (inr (sd, refl), checked_set rca width status a b p sd set))
+    moved_as a b p (λ rca fast sd has set. (inr (sd, refl), checked_set rca width status a b p sd set))
     (λ same rca sd has set. refl)
 
--- of a card with high speed each timing is one that it may have
-either_timing : (made : Made) (timing : Timing) → made.kind ≡ Sd → timing_of made ≡ High → IsTimingOf made timing
-either_timing made High sd is = inl (sym is)
-either_timing made Default sd is = inr (sd, refl)
+-- of a card with high speed, over a host with it, each timing is one that it may have
+either_timing : (limits : Lines) (made : Made) (timing : Timing) → made.kind ≡ Sd → timing_over limits made ≡ High
+    → IsTimingOver limits made timing
+either_timing limits made High sd is = inl (sym is)
+either_timing limits made Default sd is = inr (sd, refl)
 
-timing_known : (rca : ℕ) (width : Width) (made : Made) (r : Result Timing Cause) (c : BusView) → made.kind ≡ Sd
-    → timing_of made ≡ High → IfOk r (λ t. IsSet false (user_setting rca width t 0) c)
-    → IfOk r (λ t. IsTimingOf made t × IsSet false (user_setting rca width t 0) c)
-timing_known rca width made (Ok t) c sd is own = (either_timing made t sd is, own)
-timing_known rca width made (Err cause) c sd is own = tt
+timing_known : (rca : ℕ) (width : Width) (limits : Lines) (made : Made) (r : Result Timing Cause) (c : BusView)
+    → made.kind ≡ Sd → limits.timing ≡ High → timing_of made ≡ High
+    → IfOk r (λ t. IsSet false (user_setting rca width t 0) c)
+    → IfOk r (λ t. IsTimingOver limits made t × IsSet false (user_setting rca width t 0) c)
+timing_known rca width limits made (Ok t) c sd fast is own =
+    (either_timing limits made t sd (ap (λ t. slower t limits.timing) is ∙ fast), own)
+timing_known rca width limits made (Err cause) c sd fast is own = tt
 
 pub supported : (width : Width) (status : List ℕ) (r : Result Timing Cause) (a b c : BusView)
     → high_speed_support status ≡ 1 → Switches Argument.CHECK_HIGH_SPEED (Ok status) a b → SwitchesToHigh width r b c
@@ -277,12 +286,12 @@ pub supported : (width : Width) (status : List ℕ) (r : Result Timing Cause) (a
 supported width status r a b c is p q =
     let back = sym p.stays.carried.made in
     moved_then a b c p q
-    (λ rca sd has set.
+    (λ rca over sd has set.
     let now = p.own (user_setting rca width Default 0) sd set in
     let told = same_support a.card Argument.CHECK_HIGH_SPEED status now.timing now.sent in
     let fast : has_high_speed a.card.made ≡ true =
     eq-eqb (high_speed_support a.card.made.switch_status) 1 (sym told ∙ is) in
-    timing_known rca width a.card.made r c sd (sd_timing a.card.made true true sd has fast)
+    timing_known rca width a.limits a.card.made r c sd over (sd_timing a.card.made true true sd has fast)
     (q.own rca (sd_then a b p.stays sd) (checked_set rca width status a b p sd set)))
     (λ same rca sd has set.
     q.fine (quiet_parts a b c p.stays q.stays same).1 rca (sd_then a b p.stays sd)
@@ -293,10 +302,14 @@ SetsTiming width switches scr r a b =
     Moved
     (λ old new. (rca : ℕ) → old.card.made.kind ≡ Sd → switches ≡ may_switch (csd_number_of old.card.made)
     → scr ≡ scr_number old.card.made.scr → IsSet false (user_setting rca width Default 0) old
-    → IfOk r (λ timing. IsTimingOf old.card.made timing × IsSet false (user_setting rca width timing 0) new))
+    → IfOk r (λ timing. IsTimingOver old.limits old.card.made timing × IsSet false (user_setting rca width timing 0) new))
     (λ old new. (rca : ℕ) → old.card.made.kind ≡ Sd → switches ≡ may_switch (csd_number_of old.card.made)
     → scr ≡ scr_number old.card.made.scr → IsSet false (user_setting rca width Default 0) old → IsOk r)
     a b
+
+pub is_high : (timing : Timing) → sameb timing_type timing High ≡ true → timing ≡ High
+is_high High same = refl
+is_high Default same = cc same
 
 knows_switch : (switches old : Bool) → switches ≡ true → old ≡ false → (switches && not old) ≡ true
 knows_switch true false e f = refl
@@ -304,13 +317,14 @@ knows_switch true true e f = cc f
 knows_switch false old e f = cc e
 
 pub timing_set : (width : Width) (switches : Bool) (scr : ℕ) (r : Result Timing Cause) (a b : BusView)
-    → switches ≡ true → (sd_spec scr ≡ 0 → ⊥) → SpeedsUp width r a b → SetsTiming width switches scr r a b
-timing_set width switches scr r a b known not_old p =
+    → switches ≡ true → (sd_spec scr ≡ 0 → ⊥) → a.limits.timing ≡ High → SpeedsUp width r a b
+    → SetsTiming width switches scr r a b
+timing_set width switches scr r a b known not_old fast p =
     let has : switches ≡ may_switch (csd_number_of a.card.made) → scr ≡ scr_number a.card.made.scr
     → has_switch_function a.card.made ≡ true =
     λ class is. knows_switch (may_switch (csd_number_of a.card.made)) (sd_spec (scr_number a.card.made.scr) == 0)
     (sym class ∙ known) (ne_eqb (sd_spec (scr_number a.card.made.scr)) 0 (λ e. not_old (ap sd_spec is ∙ e))) in
-    moved_as a b p (λ rca sd class is set. p.own rca sd (has class is) set)
+    moved_as a b p (λ rca sd class is set. p.own rca fast sd (has class is) set)
     (λ same rca sd class is set. p.fine same rca sd (has class is) set)
 
 -- The exchanges of widening.
@@ -319,8 +333,33 @@ abbrev pub SetsWidth : ℕ → ℕ → Result Width Cause → BusView → BusVie
 SetsWidth rca scr r a b =
     Moved
     (λ old new. old.card.made.kind ≡ Sd → scr ≡ scr_number old.card.made.scr → IsSet false (first_setting rca) old
-    → IfOk r (λ width. (width ≡ width_of old.card.made) × IsSet false (user_setting rca width Default 0) new))
+    → IfOk r (λ width. (width ≡ width_over old.limits old.card.made) × IsSet false (user_setting rca width Default 0) new))
     (λ old new. old.card.made.kind ≡ Sd → IsSet false (first_setting rca) old → IsOk r) a b
+
+-- the width of an SD card
+sd_width : (limits : Lines) (made : Made) → made.kind ≡ Sd
+    → fewer (if four_lines (scr_number made.scr) == 1 then Four else One) limits.width ≡ width_over limits made
+sd_width limits made sd = rw sd refl
+
+-- over a host of several lines a card uses its four
+four_fits : (width : Width) → not (sameb width_type width One) ≡ true → Four ≡ fewer Four width
+four_fits One several = cc several
+four_fits Four several = refl
+four_fits Eight several = refl
+
+pub four_set : (rca scr : ℕ) (limits : Lines) (a b : BusView) → limits ≡ a.limits → four_lines scr ≡ 1
+    → not (sameb width_type limits.width One) ≡ true → UsesFourLines rca (Ok tt) a b → SetsWidth rca scr (Ok Four) a b
+four_set rca scr limits a b host four several p =
+    let fits : Four ≡ fewer Four a.limits.width = subst (λ (l : Lines). Four ≡ fewer Four l.width) host
+    (four_fits limits.width several) in
+    moved_as a b p
+    (λ sd is set. (
+      fits
+          ∙ ap (λ n. fewer (if n == 1 then Four else One) a.limits.width) (sym four ∙ ap four_lines is)
+          ∙ sd_width a.limits a.card.made sd,
+      p.own sd set refl,
+    ))
+    p.fine
 
 -- the SCR is read, and the width is set or not
 abbrev pub HasWidth : ℕ → ℕ → Result Width Cause → BusView → BusView → Type 0
@@ -328,7 +367,7 @@ HasWidth rca scr r a b =
     Moved
     (λ old new. old.card.made.kind ≡ Sd → IsSet false (first_setting rca) old
     → (scr ≡ scr_number old.card.made.scr)
-    × IfOk r (λ width. (width ≡ width_of old.card.made) × IsSet false (user_setting rca width Default 0) new))
+    × IfOk r (λ width. (width ≡ width_over old.limits old.card.made) × IsSet false (user_setting rca width Default 0) new))
     (λ old new. old.card.made.kind ≡ Sd → IsSet false (first_setting rca) old → IsOk r) a b
 
 -- and the timing is set or not
@@ -337,8 +376,8 @@ HasTiming rca switches scr width r a b =
     Moved
     (λ old new. old.card.made.kind ≡ Sd → switches ≡ may_switch (csd_number_of old.card.made)
     → IsSet false (first_setting rca) old
-    → (scr ≡ scr_number old.card.made.scr) × (width ≡ width_of old.card.made)
-    × IfOk r (λ timing. IsTimingOf old.card.made timing × IsSet false (user_setting rca width timing 0) new))
+    → (scr ≡ scr_number old.card.made.scr) × (width ≡ width_over old.limits old.card.made)
+    × IfOk r (λ timing. IsTimingOver old.limits old.card.made timing × IsSet false (user_setting rca width timing 0) new))
     (λ old new. old.card.made.kind ≡ Sd → switches ≡ may_switch (csd_number_of old.card.made)
     → IsSet false (first_setting rca) old → IsOk r) a b
 
@@ -347,7 +386,7 @@ SetsUp rca switches r a b =
     Moved
     (λ old new. old.card.made.kind ≡ Sd → switches ≡ may_switch (csd_number_of old.card.made)
     → IsSet false (first_setting rca) old
-    → IfOk r (λ told. IsToldOf old.card.made told × IsSet false (user_setting rca told.width told.timing 0) new))
+    → IfOk r (λ told. IsToldOf old.limits old.card.made told × IsSet false (user_setting rca told.width told.timing 0) new))
     (λ old new. old.card.made.kind ≡ Sd → switches ≡ may_switch (csd_number_of old.card.made)
     → IsSet false (first_setting rca) old → IsOk r) a b
 
@@ -360,9 +399,9 @@ width_after rca scr r a b c p q =
     let read = p.own (first_setting rca) refl set in
     let here : scr ≡ scr_number b.card.made.scr = read.0 ∙ ap (λ (m : Made). scr_number m.scr) (sym made) in (
       read.0,
-      subst
-          (λ m. IfOk r (λ width. (width ≡ width_of m) × IsSet false (user_setting rca width Default 0) c))
-          made (q.own (sd_then a b p.stays sd) here read.1),
+      said_before
+          (λ l m. IfOk r (λ width. (width ≡ width_over l m) × IsSet false (user_setting rca width Default 0) c))
+          a b p.stays (q.own (sd_then a b p.stays sd) here read.1),
     ))
     (λ same sd set.
     q.fine (quiet_parts a b c p.stays q.stays same).1 (sd_then a b p.stays sd)
@@ -381,8 +420,8 @@ timing_then rca switches scr width r a b c p q =
     let got = p.own sd set in (
       got.0,
       got.1.0,
-      subst (λ m. IfOk r (λ timing. IsTimingOf m timing × IsSet false (user_setting rca width timing 0) c))
-          made (q.own rca (sd_then a b p.stays sd) (still class) (here got.0) got.1.1),
+      said_before (λ l m. IfOk r (λ timing. IsTimingOver l m timing × IsSet false (user_setting rca width timing 0) c))
+          a b p.stays (q.own rca (sd_then a b p.stays sd) (still class) (here got.0) got.1.1),
     ))
     (λ same sd class set.
     let got = p.own sd set in

@@ -11,8 +11,9 @@ use Rattle.mmc_frame.specs.declared.kind.Kind.{Kind}
 use Rattle.mmc_frame.specs.declared.kind.Kind.TheVariants.{Mmc, Sd}
 use Rattle.mmc_ext_csd.specs.ExtCsd.{high_speed_at_52_mhz, partition_config}
 use Rattle.mmc_card.specs.contracts.part.Part.{the_type as part_type}
+use Rattle.mmc_card.specs.declared.exchange.Lines.{Lines}
 use Rattle.mmc_card.specs.declared.exchange.Timing.TheVariants.{High}
-use Rattle.mmc_card.specs.declared.exchange.Width.TheVariants.{Eight}
+use Rattle.mmc_card.specs.declared.exchange.Width.TheVariants.{Eight, Four}
 use Rattle.mmc_card.specs.declared.part.Part.{Part}
 use Rattle.mmc_card.specs.declared.part.Part.TheVariants.{Boot1, Boot2, Gp1, Gp2, Gp3, Gp4, User}
 use Rattle.mmc_card.specs.BusView.{BusView}
@@ -32,7 +33,7 @@ use Rattle.mmc_switch.specs.Place.{IsLoose, IsPartOf, IsReady, Knows, StandsAs, 
 use Rattle.mmc_switch.specs.Sizes.{some_size}
 use Rattle.mmc_switch.specs.Stages.{lines_of}
 use Rattle.mmc_switch.proofs.SwitchLemmas.{Switches}
-use Rattle.mmc_switch.proofs.UnderWayLemmas.{ready_stands}
+use Rattle.mmc_switch.proofs.UnderWayLemmas.{knows_then, ready_stands}
 
 -- A partition that exists.
 
@@ -41,9 +42,9 @@ no_size true size none some = cc (rw none at some)
 no_size false size none some = cc some
 
 -- it has a sector
-has_sectors : (info : Info) (part : Part) (made : Made) → IsInfo made info → IsSome (sectors_of info part)
-    → sectors_in made part ≡ 0 → ⊥
-has_sectors info part made is some none =
+has_sectors : (info : Info) (part : Part) (limits : Lines) (made : Made) → IsInfo limits made info
+    → IsSome (sectors_of info part) → sectors_in made part ≡ 0 → ⊥
+has_sectors info part limits made is some none =
     no_size _ (sectors_in made part) none (subst (λ n. IsSome (some_size n)) (is.sizes part) some)
 
 only_user : (made : Made) (part : Part) → made.kind ≡ Sd → (sectors_in made part ≡ 0 → ⊥) → part ≡ User
@@ -60,11 +61,10 @@ only_user made Gp4 sd some = absurd (some (rw sd refl))
 abbrev pub chosen : Session → Part → Session
 chosen session part = record session { selected = Some part }
 
-knows_still : (session : Session) (selected : Option Part) (was made : Made) → made ≡ was → Knows session was
-    → Knows (record session { selected = selected }) made
-knows_still session selected was made e k =
-    subst (Knows (record session { selected = selected })) (sym e)
-    (record { info = k.info; partition_config = k.partition_config })
+-- which partition is selected is no matter
+knows_still : (session : Session) (selected : Option Part) (view : BusView) → Knows session view
+    → Knows (record session { selected = selected }) view
+knows_still session selected view k = record { info = k.info; partition_config = k.partition_config }
 
 is_chosen : (session : Session) (is part : Part) → is ≡ part → (session.info.kind ≡ Sd → is ≡ User)
     → IsPartOf (chosen session part) is
@@ -74,7 +74,7 @@ there : (session : Session) (part : Part) (view : BusView) → view.card.part �
     → IsReady (chosen session part) view
 there session part view e r = record {
   is_card = r.is_card;
-  knows = knows_still session (Some part) view.card.made view.card.made refl r.knows;
+  knows = knows_still session (Some part) view r.knows;
   set = r.set;
   part = is_chosen session view.card.part part e r.part.sd;
 }
@@ -89,7 +89,7 @@ pub selected_alone : (session : Session) (part : Part) (view : BusView) → sess
 selected_alone session part view sd some r =
     let made = view.card.made in
     let info = r.knows.info in
-    let user = only_user made part (sym info.kind ∙ sd) (has_sectors session.info part made info some) in
+    let user = only_user made part (sym info.kind ∙ sd) (has_sectors session.info part view.limits made info some) in
     there session part view (r.part.sd sd ∙ sym user) r
 
 -- what its tests say
@@ -141,10 +141,11 @@ not_other high access index value below small bits e = omega arith
 not_groups : (high access : ℕ) → accesses high access ≡ write_byte 175 1 → ⊥
 not_groups high access e = omega arith
 
--- the switch that is left once the three others are not meant
-left : (first second third : Bool) (x y z rest : Option Card) → first ≡ false → second ≡ false → third ≡ false
-    → (if first then x else if second then y else if third then z else rest) ≡ rest
-left first second third x y z rest p q r = rw (p, q, r) refl
+-- the switch that is left once the four others are not meant
+left : (first second third fourth : Bool) (w x y z rest : Option Card) → first ≡ false → second ≡ false
+    → third ≡ false → fourth ≡ false
+    → (if first then w else if second then x else if third then y else if fourth then z else rest) ≡ rest
+left first second third fourth w x y z rest p q r s = rw (p, q, r, s) refl
 
 and_not : (a b : Bool) → a ≡ false → (a && b) ≡ false
 and_not a b none = rw none refl
@@ -172,12 +173,13 @@ switches_part card part argument e some =
     let is = accesses high access in
     let number : field 10 8 is ≡ access = access_in high access small in
     ap (switched card) e
-    ∙ left (is == write_byte 175 1) (is == write_byte 183 2)
+    ∙ left (is == write_byte 175 1) (is == write_byte 183 2) (is == write_byte 183 1)
     ((is == write_byte 185 1) && (high_speed_at_52_mhz card.made.ext_csd == 1))
     (Some (record card { erase_group_def = 1 })) (Some (record card { width = Eight }))
-    (Some (record card { timing = High }))
+    (Some (record card { width = Four })) (Some (record card { timing = High }))
     (access_switched card is) (ne_eqb is (write_byte 175 1) (not_groups high access))
     (ne_eqb is (write_byte 183 2) (not_other high access 183 2 (omega arith) small bits))
+    (ne_eqb is (write_byte 183 1) (not_other high access 183 1 (omega arith) small bits))
     (and_not _ _ (ne_eqb is (write_byte 185 1) (not_other high access 185 1 (omega arith) small bits)))
     ∙ ap (access_by card is) number
     ∙ ap (λ b. if b then accessed card (part_accessed access) else None) (eq-eqb is is refl)
@@ -189,9 +191,10 @@ abbrev pub Asks : Session → Part → ℕ → Type 0
 Asks session part argument =
     argument ≡ write_byte 179 (8 * field 7 3 session.partition_config + access_number part)
 
-writes_part : (session : Session) (part : Part) (argument : ℕ) (made : Made) → Knows session made → made.kind ≡ Mmc
-    → Asks session part argument → argument ≡ write_byte 179 (partition_config_for made part)
-writes_part session part argument made k mmc e =
+writes_part : (session : Session) (part : Part) (argument : ℕ) (view : BusView) → Knows session view
+    → view.card.made.kind ≡ Mmc → Asks session part argument
+    → argument ≡ write_byte 179 (partition_config_for view.card.made part)
+writes_part session part argument view k mmc e =
     e ∙ ap (λ n. write_byte 179 (8 * n + access_number part)) (k.partition_config mmc)
 
 known_switch : (session : Session) (part : Part) (argument : ℕ) (view : BusView) → IsReady session view
@@ -199,8 +202,8 @@ known_switch : (session : Session) (part : Part) (argument : ℕ) (view : BusVie
     → switched view.card argument ≡ Some (record view.card { part = part })
 known_switch session part argument view r mmc e some =
     let made = view.card.made in
-    switches_part view.card part argument (writes_part session part argument made r.knows mmc e)
-    (λ none. has_sectors session.info part made r.knows.info some (sym (r.is_card.sizes part) ∙ none))
+    switches_part view.card part argument (writes_part session part argument view r.knows mmc e)
+    (λ none. has_sectors session.info part view.limits made r.knows.info some (sym (r.is_card.sizes part) ∙ none))
 
 -- It succeeds.
 
@@ -218,7 +221,7 @@ selected_now session part argument a b mmc e some p r =
     own.1 ∙ ap (λ (s : Setting). record s { part = part }) r.set.is_set in
     record {
       is_card = p.is_card;
-      knows = knows_still session (Some part) a.card.made b.card.made made r.knows;
+      knows = knows_still session (Some part) b (knows_then session a b p.stays r.knows);
       set = record {
         rest = own.0;
         is_set = setting ∙ ap (setting_in session.info) (sym to);
@@ -255,7 +258,7 @@ select_fails session part argument fault broken a b mmc e some is p r =
     let may = p.set.stands part (record {
       mmc = kind;
       switch = refl;
-      access = writes_part session part argument a.card.made r.knows kind e;
+      access = writes_part session part argument a r.knows kind e;
     }) (setting_in session.info a.card.part) (ready_stands session a r) in
     let stands : StandsAs (unknown session) b = elim may [
       | inl old ↦ stands_as session a.card.part b mmc old lines
@@ -263,7 +266,7 @@ select_fails session part argument fault broken a b mmc e some is p r =
     ] in
     let loose : IsLoose (record { session = unknown session; cause = fault; must_reset = false }) b = record {
       is_card = p.is_card;
-      knows = knows_still session None a.card.made b.card.made made r.knows;
+      knows = knows_still session None b (knows_then session a b p.stays r.knows);
       stands = λ kept. stands;
     } in
     let fine : NoFault a b → ⊥ =

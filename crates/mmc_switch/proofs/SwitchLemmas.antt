@@ -10,7 +10,9 @@ use Rattle.mmc_frame.specs.declared.kind.Kind.TheVariants.{Mmc}
 use Rattle.mmc_ext_csd.specs.ExtCsd.{high_speed_at_52_mhz, partition_config}
 use Rattle.mmc_card.specs.declared.exchange.Timing.{Timing}
 use Rattle.mmc_card.specs.declared.exchange.Timing.TheVariants.{Default, High}
-use Rattle.mmc_card.specs.declared.exchange.Width.TheVariants.{Eight, One}
+use Rattle.mmc_card.specs.declared.exchange.Lines.{Lines}
+use Rattle.mmc_card.specs.declared.exchange.Width.{Width}
+use Rattle.mmc_card.specs.declared.exchange.Width.TheVariants.{Eight, Four, One}
 use Rattle.mmc_card.specs.declared.part.Part.{Part}
 use Rattle.mmc_card.proofs.Conditions.{by_cond}
 use Rattle.mmc_card.specs.Blocks.{rested}
@@ -22,7 +24,8 @@ use Rattle.mmc_card.specs.Faults.{NoFault}
 use Rattle.mmc_card.specs.Laws.{Setting, StandsIn, StillStands, erased_by, setting_of}
 use Rattle.mmc_card.specs.Made.{Made}
 use Rattle.mmc_card.specs.Rows.{without_addresses}
-use Rattle.mmc_card.specs.RowsSwitch.{access_switched, accessed, part_accessed, programs_switch, switched, write_byte}
+use Rattle.mmc_card.specs.RowsSwitch.{access_switched, accessed, part_accessed, programs_switch, switched, width_number}
+use Rattle.mmc_card.specs.RowsSwitch.{write_byte}
 use Rattle.mmc_bus.specs.declared.cause.Cause.{Cause}
 use Rattle.mmc_bus.specs.declared.host.Unheard.{Unheard}
 use Rattle.mmc_bus.specs.CommandLaws.{Switches as Written}
@@ -32,7 +35,7 @@ use Rattle.mmc_bus.specs.Learned.{CommandFacts}
 use Rattle.mmc_bus.specs.Work.{Done, Moved, Narrows}
 use Rattle.mmc_bus.proofs.ClosingLemmas.{Ended}
 use Rattle.mmc_bus.proofs.WorkLemmas.{done_as, done_by, done_then, moved_as, moved_on, moved_then, narrows_then, quiet_parts, refuted}
-use Rattle.mmc_switch.specs.Info.{has_high_timing, timing_of}
+use Rattle.mmc_switch.specs.Info.{has_high_timing}
 use Rattle.mmc_switch.proofs.RestLemmas.{no_error, nothing_dropped, set_on_lines}
 use Rattle.mmc_switch.specs.Stages.{IsAtRest, IsSet, IsSetOver, MayStandIn, first_setting, lines_of, user_setting}
 
@@ -76,13 +79,10 @@ abbrev pub Keeps : Card → Card → Type 0
 Keeps card after = (after.erase ≡ card.erase) × (after.rca ≡ card.rca)
 
 -- the outcome of tests, one behind the other
-one_of : (card x y z : Card) (first second third : Bool) (rest : Option Card) → Keeps card x → Keeps card y
-    → Keeps card z → IfSome rest (Keeps card)
-    → IfSome (if first then Some x else if second then Some y else if third then Some z else rest) (Keeps card)
-one_of card x y z true second third rest p q r other = p
-one_of card x y z false true third rest p q r other = q
-one_of card x y z false false true rest p q r other = r
-one_of card x y z false false false rest p q r other = other
+one_of : (card x : Card) (first : Bool) (rest : Option Card) → Keeps card x → IfSome rest (Keeps card)
+    → IfSome (if first then Some x else rest) (Keeps card)
+one_of card x true rest p other = p
+one_of card x false rest p other = other
 
 accessed_by : (card : Card) (part : Part) (empty : Bool)
     → IfSome (if empty then None else Some (record card { part = part })) (Keeps card)
@@ -100,12 +100,13 @@ access_keeps card part false = tt
 
 switched_keeps : (card : Card) (argument : ℕ) → IfSome (switched card argument) (Keeps card)
 switched_keeps card argument =
-    one_of card (record card { erase_group_def = 1 }) (record card { width = Eight }) (record card { timing = High })
-    (argument == write_byte 175 1) (argument == write_byte 183 2)
-    ((argument == write_byte 185 1) && (high_speed_at_52_mhz card.made.ext_csd == 1)) (access_switched card argument)
-    (refl, refl) (refl, refl) (refl, refl)
+    one_of card (record card { erase_group_def = 1 }) (argument == write_byte 175 1) _ (refl, refl)
+    (one_of card (record card { width = Eight }) (argument == write_byte 183 2) _ (refl, refl)
+    (one_of card (record card { width = Four }) (argument == write_byte 183 1) _ (refl, refl)
+    (one_of card (record card { timing = High })
+    ((argument == write_byte 185 1) && (high_speed_at_52_mhz card.made.ext_csd == 1)) _ (refl, refl)
     (access_keeps card (part_accessed (field 10 8 argument))
-    (argument == write_byte 179 (8 * field 7 3 (partition_config card.made.ext_csd) + field 10 8 argument)))
+    (argument == write_byte 179 (8 * field 7 3 (partition_config card.made.ext_csd) + field 10 8 argument))))))
 
 keeps : (card after : Card) (argument : ℕ) → switched card argument ≡ Some after → Keeps card after
 keeps card after argument e = subst (λ (o : Option Card). IfSome o (Keeps card)) e (switched_keeps card argument)
@@ -195,13 +196,13 @@ Sets was is r =
     Moved (λ old new. old.card.made.kind ≡ Mmc → IsSet false was old → IsOk r → IsSet false is new)
     (λ old new. old.card.made.kind ≡ Mmc → IsSet false was old → IsOk r)
 
-abbrev pub Speeds : ℕ → Result Unit Cause → BusView → BusView → Type 0
-Speeds rca r =
+abbrev pub Speeds : ℕ → Width → Result Unit Cause → BusView → BusView → Type 0
+Speeds rca width r =
     Moved
     (λ old new. old.card.made.kind ≡ Mmc → has_high_timing old.card.made ≡ true
-    → IsSet false (user_setting rca Eight Default 1) old → IsOk r → IsSet false (user_setting rca Eight High 1) new)
+    → IsSet false (user_setting rca width Default 1) old → IsOk r → IsSet false (user_setting rca width High 1) new)
     (λ old new. old.card.made.kind ≡ Mmc → has_high_timing old.card.made ≡ true
-    → IsSet false (user_setting rca Eight Default 1) old → IsOk r)
+    → IsSet false (user_setting rca width Default 1) old → IsOk r)
 
 -- the device has the new setting, and the host's lines are as before
 set_over : (argument : ℕ) (was is : Setting) (r : Result Unit Cause) (a b : BusView) (after : Card)
@@ -222,9 +223,11 @@ to_groups : (card : Card) (argument : ℕ) → argument ≡ write_byte 175 1
     → switched card argument ≡ Some (record card { erase_group_def = 1 })
 to_groups card argument e = ap (switched card) e
 
-to_eight : (card : Card) (argument : ℕ) → argument ≡ write_byte 183 2
-    → switched card argument ≡ Some (record card { width = Eight })
-to_eight card argument e = ap (switched card) e
+to_several : (card : Card) (width : Width) (argument : ℕ) → (width ≡ One → ⊥)
+    → argument ≡ write_byte 183 (width_number width) → switched card argument ≡ Some (record card { width = width })
+to_several card One argument several e = absurd (several refl)
+to_several card Four argument several e = ap (switched card) e
+to_several card Eight argument several e = ap (switched card) e
 
 high_by : (made : Made) → made.kind ≡ Mmc → has_high_timing made ≡ true
     → (high_speed_at_52_mhz made.ext_csd == 1) ≡ true
@@ -250,33 +253,34 @@ set_groups rca argument r a b e p =
     mmc at ok)
     (λ same mmc at. switch_fine argument was r a b after p to same mmc at)
 
-pub set_eight : (rca argument : ℕ) (a b c : BusView) → argument ≡ write_byte 183 2
-    → (b.is_kept ≡ true → Switches rca argument (Ok tt) a b)
-    → c ≡ record b { lines = record { width = Eight; timing = Default } } → c.is_kept ≡ true
-    → Sets (user_setting rca One Default 1) (user_setting rca Eight Default 1) (Ok tt) a c
-set_eight rca argument a b c e works lines kept =
+pub set_several : (rca argument : ℕ) (width : Width) (a b c : BusView) → (width ≡ One → ⊥)
+    → argument ≡ write_byte 183 (width_number width) → (b.is_kept ≡ true → Switches rca argument (Ok tt) a b)
+    → c ≡ record b { lines = record { width = width; timing = Default } } → c.is_kept ≡ true
+    → Sets (user_setting rca One Default 1) (user_setting rca width Default 1) (Ok tt) a c
+set_several rca argument width a b c several e works lines kept =
     let was = user_setting rca One Default 1 in
-    let is = user_setting rca Eight Default 1 in
-    let after = record a.card { width = Eight } in
-    let to = to_eight a.card argument e in
+    let is = user_setting rca width Default 1 in
+    let after = record a.card { width = width } in
+    let to = to_several a.card width argument several e in
     let p = works (ap (λ (v : BusView). v.is_kept) (sym lines) ∙ kept) in
     subst (Sets was is (Ok tt) a) (sym lines)
     (moved_on a b (lines_of is) p
     (λ mmc at ok.
     set_on_lines false (lines_of was) is b (record b { lines = lines_of is }) refl
-    (set_over argument was is (Ok tt) a b after p to (ap (λ (s : Setting). record s { width = Eight }) at.is_set)
+    (set_over argument was is (Ok tt) a b after p to (ap (λ (s : Setting). record s { width = width }) at.is_set)
     mmc at refl))
     (λ same mmc at. refl))
 
-pub set_high : (rca argument : ℕ) (a b c : BusView) → argument ≡ write_byte 185 1
+pub set_high : (rca argument : ℕ) (width : Width) (a b c : BusView) → argument ≡ write_byte 185 1
     → (b.is_kept ≡ true → Switches rca argument (Ok tt) a b)
-    → c ≡ record b { lines = record { width = Eight; timing = High } } → c.is_kept ≡ true → Speeds rca (Ok tt) a c
-set_high rca argument a b c e works lines kept =
-    let was = user_setting rca Eight Default 1 in
-    let is = user_setting rca Eight High 1 in
+    → c ≡ record b { lines = record { width = width; timing = High } } → c.is_kept ≡ true
+    → Speeds rca width (Ok tt) a c
+set_high rca argument width a b c e works lines kept =
+    let was = user_setting rca width Default 1 in
+    let is = user_setting rca width High 1 in
     let after = record a.card { timing = High } in
     let p = works (ap (λ (v : BusView). v.is_kept) (sym lines) ∙ kept) in
-    subst (Speeds rca (Ok tt) a) (sym lines)
+    subst (Speeds rca width (Ok tt) a) (sym lines)
     (moved_on a b (lines_of is) p
     (λ mmc high at ok.
     set_on_lines false (lines_of was) is b (record b { lines = lines_of is }) refl
@@ -284,37 +288,37 @@ set_high rca argument a b c e works lines kept =
     (ap (λ (s : Setting). record s { timing = High }) at.is_set) mmc at refl))
     (λ same mmc high at. refl))
 
-pub eight_fails : (rca argument : ℕ) (fault : Cause) (r : Result Unit Cause) (a b : BusView) → IsErr r
-    → argument ≡ write_byte 183 2 → Switches rca argument (Err fault) a b
-    → Sets (user_setting rca One Default 1) (user_setting rca Eight Default 1) r a b
-eight_fails rca argument fault r a b err e p =
+pub several_fail : (rca argument : ℕ) (width : Width) (fault : Cause) (r : Result Unit Cause) (a b : BusView) → IsErr r
+    → (width ≡ One → ⊥) → argument ≡ write_byte 183 (width_number width) → Switches rca argument (Err fault) a b
+    → Sets (user_setting rca One Default 1) (user_setting rca width Default 1) r a b
+several_fail rca argument width fault r a b err several e p =
     moved_as a b p (λ mmc at ok. refuted r err ok)
     (λ same mmc at.
-    cc (switch_fine argument (user_setting rca One Default 1) (Err fault) a b (record a.card { width = Eight }) p
-    (to_eight a.card argument e) same mmc at))
+    cc (switch_fine argument (user_setting rca One Default 1) (Err fault) a b (record a.card { width = width }) p
+    (to_several a.card width argument several e) same mmc at))
 
-pub high_fails : (rca argument : ℕ) (fault : Cause) (r : Result Unit Cause) (a b : BusView) → IsErr r
-    → argument ≡ write_byte 185 1 → Switches rca argument (Err fault) a b → Speeds rca r a b
-high_fails rca argument fault r a b err e p =
+pub high_fails : (rca argument : ℕ) (width : Width) (fault : Cause) (r : Result Unit Cause) (a b : BusView) → IsErr r
+    → argument ≡ write_byte 185 1 → Switches rca argument (Err fault) a b → Speeds rca width r a b
+high_fails rca argument width fault r a b err e p =
     moved_as a b p (λ mmc high at ok. refuted r err ok)
     (λ same mmc high at.
-    cc (switch_fine argument (user_setting rca Eight Default 1) (Err fault) a b (record a.card { timing = High }) p
+    cc (switch_fine argument (user_setting rca width Default 1) (Err fault) a b (record a.card { timing = High }) p
     (to_high a.card argument e mmc high) same mmc at))
 
 -- All of them.
 
-abbrev pub SetsUp : ℕ → Bool → Result Timing Cause → BusView → BusView → Type 0
-SetsUp rca high r =
+abbrev pub SetsUp : ℕ → Lines → Result Unit Cause → BusView → BusView → Type 0
+SetsUp rca lines r =
     Moved
-    (λ old new. old.card.made.kind ≡ Mmc → high ≡ has_high_timing old.card.made → IsSet false (first_setting rca) old
-    → IfOk r (λ timing. (timing ≡ timing_of old.card.made) × IsSet false (user_setting rca Eight timing 1) new))
-    (λ old new. old.card.made.kind ≡ Mmc → high ≡ has_high_timing old.card.made → IsSet false (first_setting rca) old
-    → IsOk r)
+    (λ old new. old.card.made.kind ≡ Mmc → (lines.timing ≡ High → has_high_timing old.card.made ≡ true)
+    → IsSet false (first_setting rca) old → IsOk r → IsSet false (user_setting rca lines.width lines.timing 1) new)
+    (λ old new. old.card.made.kind ≡ Mmc → (lines.timing ≡ High → has_high_timing old.card.made ≡ true)
+    → IsSet false (first_setting rca) old → IsOk r)
 
-pub groups_fail : (rca : ℕ) (high : Bool) (fault : Cause) (r : Result Timing Cause) (a b : BusView) → IsErr r
-    → Sets (first_setting rca) (user_setting rca One Default 1) (Err fault) a b → SetsUp rca high r a b
-groups_fail rca high fault r a b err p =
-    moved_as a b p (λ mmc is at. IfOk-from_err r _ err) (λ same mmc is at. cc (p.fine same mmc at))
+pub groups_fail : (rca : ℕ) (lines : Lines) (fault : Cause) (r : Result Unit Cause) (a b : BusView) → IsErr r
+    → Sets (first_setting rca) (user_setting rca One Default 1) (Err fault) a b → SetsUp rca lines r a b
+groups_fail rca lines fault r a b err p =
+    moved_as a b p (λ mmc may at ok. refuted r err ok) (λ same mmc may at. cc (p.fine same mmc at))
 
 -- two switches, one behind the other
 sets_then : (was is more : Setting) (r : Result Unit Cause) (a b c : BusView) → Sets was is (Ok tt) a b
@@ -326,68 +330,47 @@ sets_then was is more r a b c p q =
     (λ same mmc at. q.fine (quiet_parts a b c p.stays q.stays same).1 (kind mmc) (p.own mmc at refl))
 
 -- all but the speed
-to_width : (rca : ℕ) (r : Result Unit Cause) (a b c : BusView)
+to_width : (rca : ℕ) (width : Width) (r : Result Unit Cause) (a b c : BusView)
     → Sets (first_setting rca) (user_setting rca One Default 1) (Ok tt) a b
-    → Sets (user_setting rca One Default 1) (user_setting rca Eight Default 1) r b c
-    → Sets (first_setting rca) (user_setting rca Eight Default 1) r a c
-to_width rca r a b c p q =
-    sets_then (first_setting rca) (user_setting rca One Default 1) (user_setting rca Eight Default 1) r a b c p q
+    → Sets (user_setting rca One Default 1) (user_setting rca width Default 1) r b c
+    → Sets (first_setting rca) (user_setting rca width Default 1) r a c
+to_width rca width r a b c p q =
+    sets_then (first_setting rca) (user_setting rca One Default 1) (user_setting rca width Default 1) r a b c p q
 
-pub width_fails : (rca : ℕ) (high : Bool) (fault : Cause) (r : Result Timing Cause) (a b c : BusView) → IsErr r
+pub width_fails : (rca : ℕ) (lines : Lines) (fault : Cause) (r : Result Unit Cause) (a b c : BusView) → IsErr r
     → Sets (first_setting rca) (user_setting rca One Default 1) (Ok tt) a b
-    → Sets (user_setting rca One Default 1) (user_setting rca Eight Default 1) (Err fault) b c → SetsUp rca high r a c
-width_fails rca high fault r a b c err p q =
-    let all = to_width rca (Err fault) a b c p q in
-    moved_as a c all (λ mmc is at. IfOk-from_err r _ err) (λ same mmc is at. cc (all.fine same mmc at))
+    → Sets (user_setting rca One Default 1) (user_setting rca lines.width Default 1) (Err fault) b c
+    → SetsUp rca lines r a c
+width_fails rca lines fault r a b c err p q =
+    let all = to_width rca lines.width (Err fault) a b c p q in
+    moved_as a c all (λ mmc may at ok. refuted r err ok) (λ same mmc may at. cc (all.fine same mmc at))
+
+-- at default speed nothing more is done
+pub set_up_plain : (rca : ℕ) (lines : Lines) (a b c : BusView) → lines.timing ≡ Default
+    → Sets (first_setting rca) (user_setting rca One Default 1) (Ok tt) a b
+    → Sets (user_setting rca One Default 1) (user_setting rca lines.width Default 1) (Ok tt) b c
+    → SetsUp rca lines (Ok tt) a c
+set_up_plain rca lines a b c slow p q =
+    let all = to_width rca lines.width (Ok tt) a b c p q in
+    moved_as a c all
+    (λ mmc may at ok.
+    subst (λ t. IsSet false (user_setting rca lines.width t 1) c) (sym slow) (all.own mmc at refl))
+    (λ same mmc may at. refl)
 
 -- and the speed
-with_speed : (rca : ℕ) (r : Result Unit Cause) (a b c d : BusView)
+pub set_up_fast : (rca : ℕ) (lines : Lines) (r : Result Unit Cause) (a b c d : BusView) → lines.timing ≡ High
     → Sets (first_setting rca) (user_setting rca One Default 1) (Ok tt) a b
-    → Sets (user_setting rca One Default 1) (user_setting rca Eight Default 1) (Ok tt) b c → Speeds rca r c d
-    → Moved
-    (λ old new. old.card.made.kind ≡ Mmc → has_high_timing old.card.made ≡ true → IsSet false (first_setting rca) old
-    → IsOk r → IsSet false (user_setting rca Eight High 1) new)
-    (λ old new. old.card.made.kind ≡ Mmc → has_high_timing old.card.made ≡ true → IsSet false (first_setting rca) old
-    → IsOk r) a d
-with_speed rca r a b c d p q s =
-    let pair = to_width rca (Ok tt) a b c p q in
+    → Sets (user_setting rca One Default 1) (user_setting rca lines.width Default 1) (Ok tt) b c
+    → Speeds rca lines.width r c d → SetsUp rca lines r a d
+set_up_fast rca lines r a b c d fast p q s =
+    let pair = to_width rca lines.width (Ok tt) a b c p q in
     let back = sym pair.stays.carried.made in
     let kind : a.card.made.kind ≡ Mmc → c.card.made.kind ≡ Mmc = subst (λ (m : Made). m.kind ≡ Mmc) back in
-    let fast : has_high_timing a.card.made ≡ true → has_high_timing c.card.made ≡ true =
-    subst (λ m. has_high_timing m ≡ true) back in
-    moved_then a c d pair s (λ mmc high at. s.own (kind mmc) (fast high) (pair.own mmc at refl))
-    (λ same mmc high at.
-    s.fine (quiet_parts a c d pair.stays s.stays same).1 (kind mmc) (fast high) (pair.own mmc at refl))
-
-pub speed_fails : (rca : ℕ) (high : Bool) (fault : Cause) (r : Result Timing Cause) (a b c d : BusView) → IsErr r
-    → high ≡ true → Sets (first_setting rca) (user_setting rca One Default 1) (Ok tt) a b
-    → Sets (user_setting rca One Default 1) (user_setting rca Eight Default 1) (Ok tt) b c → Speeds rca (Err fault) c d
-    → SetsUp rca high r a d
-speed_fails rca high fault r a b c d err fast p q s =
-    let all = with_speed rca (Err fault) a b c d p q s in
-    moved_as a d all (λ mmc is at. IfOk-from_err r _ err)
-    (λ same mmc is at. cc (all.fine same mmc (sym is ∙ fast) at))
-
--- the timing by what the device has
-timing_by : (made : Made) (high : Bool) → high ≡ has_high_timing made
-    → (if high then High else Default) ≡ timing_of made
-timing_by made high is = ap (λ b. if b then High else Default) is
-
-pub set_up_fast : (rca : ℕ) (high : Bool) (a b c d : BusView) → high ≡ true
-    → Sets (first_setting rca) (user_setting rca One Default 1) (Ok tt) a b
-    → Sets (user_setting rca One Default 1) (user_setting rca Eight Default 1) (Ok tt) b c → Speeds rca (Ok tt) c d
-    → SetsUp rca high (Ok High) a d
-set_up_fast rca high a b c d fast p q s =
-    let all = with_speed rca (Ok tt) a b c d p q s in
-    moved_as a d all
-    (λ mmc is at. (timing_by a.card.made true (sym fast ∙ is), all.own mmc (sym is ∙ fast) at refl))
-    (λ same mmc is at. refl)
-
-pub set_up_plain : (rca : ℕ) (high : Bool) (a b c : BusView) → high ≡ false
-    → Sets (first_setting rca) (user_setting rca One Default 1) (Ok tt) a b
-    → Sets (user_setting rca One Default 1) (user_setting rca Eight Default 1) (Ok tt) b c
-    → SetsUp rca high (Ok Default) a c
-set_up_plain rca high a b c slow p q =
-    let all = to_width rca (Ok tt) a b c p q in
-    moved_as a c all (λ mmc is at. (timing_by a.card.made false (sym slow ∙ is), all.own mmc at refl))
-    (λ same mmc is at. refl)
+    let has : (lines.timing ≡ High → has_high_timing a.card.made ≡ true) → has_high_timing c.card.made ≡ true =
+    λ may. subst (λ m. has_high_timing m ≡ true) back (may fast) in
+    moved_then a c d pair s
+    (λ mmc may at ok.
+    subst (λ t. IsSet false (user_setting rca lines.width t 1) d) (sym fast)
+    (s.own (kind mmc) (has may) (pair.own mmc at refl) ok))
+    (λ same mmc may at.
+    s.fine (quiet_parts a c d pair.stays s.stays same).1 (kind mmc) (has may) (pair.own mmc at refl))

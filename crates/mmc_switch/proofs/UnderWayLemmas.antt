@@ -3,17 +3,23 @@ use Rattle.std.proofs.Common.{◌+◌, ◌-◌, ◌<◌, ◌∙◌, ◌≡◌, �
 use Rattle.std.specs.Prelude.{IsSome, None, Option, Some, if◌then◌else◌, length}
 use Rattle.mmc_frame.specs.declared.card_state.State.{State}
 use Rattle.mmc_frame.specs.declared.card_state.State.TheVariants.{Data, Tran}
+use Rattle.mmc_frame.specs.Field.{field}
 use Rattle.mmc_frame.specs.declared.kind.Kind.{Kind}
+use Rattle.mmc_frame.specs.declared.kind.Kind.TheVariants.{Mmc}
+use Rattle.mmc_ext_csd.specs.ExtCsd.{partition_config}
+use Rattle.mmc_card.specs.declared.exchange.Lines.{Lines}
 use Rattle.mmc_card.specs.declared.part.Part.{Part}
 use Rattle.mmc_card.specs.BusView.{BusView}
 use Rattle.mmc_card.specs.Blocks.{lines_fit}
 use Rattle.mmc_card.specs.Card.{Card, HasItsSizes, IsCard, NoAddress, is_in, is_selected, stored}
 use Rattle.mmc_card.specs.CardLaws.{HasNoError}
 use Rattle.mmc_card.specs.Faults.{NoFault}
-use Rattle.mmc_card.specs.Laws.{Carried, Setting, Stands, setting_of}
-use Rattle.mmc_card.specs.Made.{sectors_in}
+use Rattle.mmc_card.specs.Laws.{Setting, Stands, setting_of}
+use Rattle.mmc_card.specs.Made.{Made, sectors_in}
 use Rattle.mmc_card.specs.RowsSwitch.{timing_number, width_number}
+use Rattle.mmc_bus.specs.Learned.{Stays}
 use Rattle.mmc_bus.specs.Work.{StaysSet, Worked}
+use Rattle.mmc_switch.specs.Info.{IsInfo}
 use Rattle.mmc_switch.specs.Place.{IsLoose, IsPartOf, IsReady, Knows, StandsAs, setting_in}
 use Rattle.mmc_switch.specs.Stages.{lines_of}
 use Rattle.mmc_switch.specs.UnderWay.{HasFailed, IsQuiet, IsUnderWay, faults_then, known_part, part_of, room_of}
@@ -69,8 +75,25 @@ begins session Shown Exact view r exact = record {
 
 -- What an exchange leaves as it was.
 
-pub knows_then : (session : Session) (a b : Card) → Carried a b → Knows session a.made → Knows session b.made
-knows_then session a b carried knows = subst (Knows session) (sym carried.made) knows
+-- what is said of card and host before is said of them after, and the other way round
+pub said_after : (Says : Lines → Made → Type 0) (a b : BusView) → Stays a b → Says a.limits a.card.made
+    → Says b.limits b.card.made
+said_after Says a b stays says =
+    subst (λ l. Says l b.card.made) (sym stays.limits) (subst (Says a.limits) (sym stays.carried.made) says)
+
+pub said_before : (Says : Lines → Made → Type 0) (a b : BusView) → Stays a b → Says b.limits b.card.made
+    → Says a.limits a.card.made
+said_before Says a b stays says =
+    subst (λ l. Says l a.card.made) stays.limits (subst (Says b.limits) stays.carried.made says)
+
+pub knows_then : (session : Session) (a b : BusView) → Stays a b → Knows session a → Knows session b
+knows_then session a b stays knows = record {
+  info = said_after (λ limits made. IsInfo limits made session.info) a b stays knows.info;
+  partition_config =
+      subst (λ (made : Made). made.kind ≡ Mmc
+      → field 7 3 session.partition_config ≡ field 7 3 (partition_config made.ext_csd)) (sym stays.carried.made)
+      knows.partition_config;
+}
 
 pub stands_then : (session : Session) (a b : BusView) → StaysSet a b → StandsAs session a → StandsAs session b
 stands_then session a b set stands = record {
@@ -88,7 +111,7 @@ module _ {Holds Own Fine : BusView → BusView → Type 0} (session : Session) (
       → IsUnderWay session Shows Comes (faults_then faults a b) b
   goes_on Shows Comes shows comes calm = record {
     is_card = work.is_card;
-    knows = knows_then session a.card b.card work.stays.carried at.knows;
+    knows = knows_then session a b work.stays at.knows;
     stands = stands_then session a b work.set at.stands;
     shown = λ s. comes (at.shown (shows s)) s;
     fine = λ none. let both = none_so_far a.faults b.faults faults work.stays.later none in
@@ -105,11 +128,11 @@ module _ {Holds Own Fine : BusView → BusView → Type 0} (session : Session) (
       → HasFailed broken (faults_then faults a b) b
   has_failed broken same calm =
       record {
-        loose = (subst (λ s. Knows s b.card.made → StandsAs s b → IsLoose broken b) same (λ knows stands. record {
+        loose = (subst (λ s. Knows s b → StandsAs s b → IsLoose broken b) same (λ knows stands. record {
           is_card = work.is_card;
           knows = knows;
           stands = λ no_reset. stands;
-        })) (knows_then session a.card b.card work.stays.carried at.knows) (stands_then session a b work.set at.stands);
+        })) (knows_then session a b work.stays at.knows) (stands_then session a b work.set at.stands);
         fell = some_of (faults_then faults a b) (λ none.
             let both = none_so_far a.faults b.faults faults work.stays.later none in calm (at.fine both.0) both.1);
       }
@@ -135,11 +158,11 @@ exists_as true size room e some = sym e
 exists_as false size room e some = absurd (omega (arith, e, some))
 
 -- a partition with a sector has its size by the session
-pub room_is : (session : Session) (card : Card) → HasItsSizes card → Knows session card.made → 1 ≤ room_of session
-    → length (stored card (part_of session)) ≡ room_of session
-room_is session card sizes knows some =
+pub room_is : (session : Session) (view : BusView) → HasItsSizes view.card → Knows session view → 1 ≤ room_of session
+    → length (stored view.card (part_of session)) ≡ room_of session
+room_is session view sizes knows some =
     sizes (part_of session)
-    ∙ exists_as _ (sectors_in card.made (part_of session)) (room_of session) (knows.info.sizes (part_of session)) some
+    ∙ exists_as _ (sectors_in view.card.made (part_of session)) (room_of session) (knows.info.sizes (part_of session)) some
 
 -- A card that is selected is set as the session says, and the host's lines are its own.
 module _ (session : Session) (view : BusView) (some : IsSome session.selected) (stands : StandsAs session view)
@@ -164,7 +187,7 @@ no_error kind count card quiet =
     record { command_errors = quiet.command_errors; errors = quiet.errors; switch_error = λ mmc. quiet.switch_error }
 
 -- A card in tran with nothing to do is ready.
-pub ready_again : (session : Session) (view : BusView) → IsCard view.card → Knows session view.card.made
+pub ready_again : (session : Session) (view : BusView) → IsCard view.card → Knows session view
     → StandsAs session view → IsQuiet Tran 0 view.card → view.card.is_busy ≡ false → view.card.lags ≡ false
     → IsReady session view
 ready_again session view card knows stands quiet rests up_to_date =

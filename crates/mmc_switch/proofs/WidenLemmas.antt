@@ -5,7 +5,7 @@ use Rattle.std.proofs.lemmas.Bool.{eqb-true, le-ltb, ne_eqb}
 use Rattle.std.proofs.lemmas.List.{get_or-set_other, get_or-set_same, length-set}
 use Rattle.std.proofs.lemmas.Result.{IfOk-at_ok, IfOk-from_err}
 use Rattle.std.specs.Prelude.{◌*◌, ◌==◌, Err, IfOk, IfSome, IsErr, IsOk, IsSome, IsTrue, MatchResult, Ok, Option}
-use Rattle.std.specs.Prelude.{Result, Some, is_ok, is_some, slice_set}
+use Rattle.std.specs.Prelude.{Result, Some, if◌then◌else◌, is_ok, is_some, slice_set}
 use Rattle.mmc_frame.specs.Field.{field}
 use Rattle.mmc_frame.specs.declared.addressing.Addressing.TheVariants.{Bytes, Sectors}
 use Rattle.mmc_frame.specs.declared.kind.Kind.{Kind}
@@ -21,9 +21,11 @@ use Rattle.mmc_card.specs.Made.{HasRegisters, Made, addressing_of, csd_number_of
 use Rattle.mmc_card.specs.Made.{named_block_length}
 use Rattle.mmc_card.specs.Profile.{InProfile}
 use Rattle.mmc_card.specs.RowsSwitch.{ext_csd_now, partition_config_for, timing_number, width_number}
+use Rattle.mmc_card.specs.Limits.{slower}
+use Rattle.mmc_card.specs.declared.exchange.Lines.{Lines}
 use Rattle.mmc_card.specs.declared.exchange.Timing.{Timing}
+use Rattle.mmc_card.specs.declared.exchange.Timing.TheVariants.{Default, High}
 use Rattle.mmc_card.specs.declared.exchange.Width.{Width}
-use Rattle.mmc_card.specs.declared.exchange.Width.TheVariants as Over
 use Rattle.mmc_card.specs.declared.part.Part.{Part}
 use Rattle.mmc_card.specs.declared.part.Part.TheVariants.{User}
 use Rattle.mmc_bus.specs.declared.cause.Cause.{Cause}
@@ -32,11 +34,12 @@ use Rattle.mmc_bus.specs.Work.{Moved}
 use Rattle.mmc_switch.proofs.FetchLemmas.{SendsExtCsd}
 use Rattle.mmc_switch.proofs.SdLemmas.{SetsUp as SetsUpSd}
 use Rattle.mmc_switch.proofs.SwitchLemmas.{SetsUp as SetsUpMmc}
+use Rattle.mmc_switch.proofs.UnderWayLemmas.{knows_then}
 use Rattle.mmc_bus.proofs.WorkLemmas.{both, fell, moved_as, refuted}
 use Rattle.mmc_identify.specs.Stages.{IsFound, IsLeft}
 use Rattle.mmc_identify.specs.declared.found.Found.{Found}
 use Rattle.mmc_switch.proofs.InfoLemmas.{byte_kept, count_kept, mmc_speed, number_is, tested}
-use Rattle.mmc_switch.specs.Info.{IsInfo, erase_group_def_of, has_high_timing, timing_of}
+use Rattle.mmc_switch.specs.Info.{IsInfo, erase_group_def_of, has_high_timing, timing_over, width_over}
 use Rattle.mmc_switch.specs.Place.{IsReady, Knows, setting_in}
 use Rattle.mmc_switch.specs.Stages.{IsSet, IsToldOf, first_lines, first_setting, user_setting}
 use Rattle.mmc_switch.specs.declared.fault.SwitchFault.{SwitchFault}
@@ -73,7 +76,7 @@ ready_set session rca width timing group view r w t e set =
 
 -- what is known of the card before is known of it after
 ready : (session : Session) (rca : ℕ) (width : Width) (timing : Timing) (group : ℕ) (a b : BusView) → IsCard b.card
-    → Stays a b → Knows session a.card.made → session.selected ≡ Some User
+    → Stays a b → Knows session a → session.selected ≡ Some User
     → session.info.rca ≡ rca → session.info.width ≡ width → session.info.timing ≡ timing
     → erase_group_def_of a.card.made.kind ≡ group → IsSet false (user_setting rca width timing group) b
     → IsReady session b
@@ -81,7 +84,7 @@ ready session rca width timing group a b card stays knows selected r w t e set =
     let user : b.card.part ≡ User = ap (λ (s : Setting). s.part) set.is_set in
     record {
       is_card = card;
-      knows = subst (Knows session) (sym stays.carried.made) knows;
+      knows = knows_then session a b stays knows;
       set =
           ready_set session rca width timing group b r w t (ap erase_group_def_of knows.info.kind ∙ e) set;
       part = record { known = λ known is. user ∙ cc (selected, is); sd = λ sd. user };
@@ -123,8 +126,8 @@ sd_register_fails found switches told info r a b err none taken p =
 pub sd_widened : (found : Found) (switches : Bool) (told : Told) (up : Result Told Cause) (said : Option Info)
     (info : Info) (session : Session) (a b : BusView) → up ≡ Ok told → said ≡ Some info → session ≡ first_session info 0
     → switches ≡ may_switch (csd_number found.csd)
-    → ((made : Made) → HasRegisters made → made.kind ≡ Sd → IsFound made found → IsToldOf made told
-    → IfSome said (IsInfo made))
+    → ((limits : Lines) (made : Made) → HasRegisters made → made.kind ≡ Sd → IsFound made found
+    → IsToldOf limits made told → IfSome said (IsInfo limits made))
     → IfSome said (λ info. info.rca ≡ found.rca)
     → IfSome said (λ info. (info.width ≡ told.width) × (info.timing ≡ told.timing))
     → SetsUpSd found.rca switches up a b → WidensKind Sd found (Ok session) a b
@@ -137,8 +140,8 @@ sd_widened found switches told up said info session a b e some opened class says
     (λ is own set.
     let done = IfOk-at_ok _ e
     (p.own is (class_found found switches made p.was_card.registers own class) set) in
-    let knows : Knows (first_session info 0) made = record {
-      info = subst (λ o. IfSome o (IsInfo made)) some (says made p.was_card.registers is own done.0);
+    let knows : Knows (first_session info 0) a = record {
+      info = subst (λ o. IfSome o (IsInfo a.limits made)) some (says a.limits made p.was_card.registers is own done.0);
       partition_config = λ mmc. cc (is, mmc);
     } in (
       ready (first_session info 0) found.rca told.width told.timing 0 a b p.is_card p.stays knows refl
@@ -197,38 +200,50 @@ mmc_judge_fails found block sent judged r a b err refused e all p =
     (λ sectors none. counted a.card.made profile is (sym own.addressing ∙ sectors)
     (sym (count_kept a.card) ∙ ap sec_count (sym told) ∙ none))))
 
+-- high speed is used where the device has it
+fast_by : (has : Bool) (limit timing : Timing) → timing ≡ slower (if has then High else Default) limit → timing ≡ High
+    → has ≡ true
+fast_by true limit timing is fast = refl
+fast_by false limit timing is fast = cc (is, fast)
+
+-- the timing that a device with this EXT_CSD has over a host with these limits
+abbrev IsTimingBy : List ℕ → Lines → Lines → Type 0
+IsTimingBy block lines limits =
+    lines.timing ≡ slower (if high_speed_at_52_mhz block == 1 then High else Default) limits.timing
+
 -- what is sent and judged, and what is set up then
-mmc_set : (found : Found) (block : List ℕ) (high : Bool) (sent : Result (List ℕ) Cause) (up : Result Timing Cause)
-    (a b c : BusView) → sent ≡ Ok block → (IsTrue high ↔ (high_speed_at_52_mhz block ≡ 1))
-    → SendsExtCsd sent a b → SetsUpMmc found.rca high up b c
+mmc_set : (found : Found) (block : List ℕ) (lines : Lines) (sent : Result (List ℕ) Cause) (up : Result Unit Cause)
+    (a b c : BusView) → sent ≡ Ok block → IsTimingBy block lines a.limits → SendsExtCsd sent a b
+    → SetsUpMmc found.rca lines up b c
     → Moved (λ old new. old.card.made.kind ≡ Mmc → IsSet false (first_setting found.rca) old
-    → (block ≡ ext_csd_now old.card) × IfOk up (λ timing. (timing ≡ timing_of old.card.made)
-    × IsSet false (user_setting found.rca Over.Eight timing 1) new))
+    → (block ≡ ext_csd_now old.card) × (lines.timing ≡ timing_over old.limits old.card.made)
+    × (IsOk up → IsSet false (user_setting found.rca lines.width lines.timing 1) new))
     (λ old new. old.card.made.kind ≡ Mmc → IsSet false (first_setting found.rca) old → IsOk up) a c
-mmc_set found block high sent up a b c e tests p q =
+mmc_set found block lines sent up a b c e timing p q =
     let pair = both a b c p q in
     let made = p.stays.carried.made in
     let told = λ (is : a.card.made.kind ≡ Mmc) (set : IsSet false (first_setting found.rca) a).
     IfOk-at_ok _ e (p.own (first_setting found.rca) is set) in
     let still : a.card.made.kind ≡ Mmc → b.card.made.kind ≡ Mmc = λ is. ap (λ (m : Made). m.kind) made ∙ is in
-    let speed : a.card.made.kind ≡ Mmc → block ≡ ext_csd_now a.card → high ≡ has_high_timing b.card.made =
-    λ is by. tested high (high_speed_at_52_mhz block) tests ∙ mmc_speed a.card block is by
-    ∙ ap has_high_timing (sym made) in
+    let speed : a.card.made.kind ≡ Mmc → block ≡ ext_csd_now a.card
+    → (high_speed_at_52_mhz block == 1) ≡ has_high_timing a.card.made = λ is by. mmc_speed a.card block is by in
+    let may : a.card.made.kind ≡ Mmc → block ≡ ext_csd_now a.card → lines.timing ≡ High
+    → has_high_timing b.card.made ≡ true =
+    λ is by fast. ap has_high_timing made ∙ sym (speed is by) ∙ fast_by _ a.limits.timing lines.timing timing fast in
     moved_as a c pair
     (λ is set.
     let t = told is set in (
       t.0,
-      subst (λ (m : Made). IfOk up (λ timing. (timing ≡ timing_of m)
-          × IsSet false (user_setting found.rca Over.Eight timing 1) c)) made (q.own (still is) (speed is t.0) t.1),
+      timing ∙ ap (λ has. slower (if has then High else Default) a.limits.timing) (speed is t.0),
+      q.own (still is) (may is t.0) t.1,
     ))
-    (λ same is set. let t = told is set in (pair.fine same).1 (still is) (speed is t.0) t.1)
+    (λ same is set. let t = told is set in (pair.fine same).1 (still is) (may is t.0) t.1)
 
-pub mmc_setting_fails : (found : Found) (block : List ℕ) (high : Bool) (sent : Result (List ℕ) Cause)
-    (up : Result Timing Cause) (r : Result Session SwitchFault) (a b c : BusView) → IsErr r → sent ≡ Ok block
-    → (IsTrue high ↔ (high_speed_at_52_mhz block ≡ 1)) → false ≡ is_ok up
-    → SendsExtCsd sent a b → SetsUpMmc found.rca high up b c → WidensKind Mmc found r a c
-mmc_setting_fails found block high sent up r a b c err e tests fails p q =
-    let all = mmc_set found block high sent up a b c e tests p q in
+pub mmc_setting_fails : (found : Found) (block : List ℕ) (lines : Lines) (sent : Result (List ℕ) Cause)
+    (up : Result Unit Cause) (r : Result Session SwitchFault) (limits : Lines) (a b c : BusView) → IsErr r
+    → sent ≡ Ok block → limits ≡ a.limits → IsTimingBy block lines limits → false ≡ is_ok up → SendsExtCsd sent a b → SetsUpMmc found.rca lines up b c → WidensKind Mmc found r a c
+mmc_setting_fails found block lines sent up r limits a b c err e host timing fails p q =
+    let all = mmc_set found block lines sent up a b c e (subst (IsTimingBy block lines) host timing) p q in
     moved_as a c all (λ is own set. IfOk-from_err r _ err)
     (λ same is profile own set. failed up fails (all.fine same is set))
 
@@ -255,30 +270,34 @@ config_kept card block registers is user told =
     (ap partition_config told ∙ config_sent card (registers.ext_csd is)
     ∙ ap (λ (part : Part). partition_config_for card.made part) user)
 
-pub mmc_widened : (found : Found) (block : List ℕ) (high : Bool) (sent : Result (List ℕ) Cause) (timing : Timing)
-    (up : Result Timing Cause) (info : Info) (config : ℕ) (session : Session) (a b c : BusView) → sent ≡ Ok block
-    → (IsTrue high ↔ (high_speed_at_52_mhz block ≡ 1)) → up ≡ Ok timing → config ≡ partition_config block
-    → session ≡ first_session info config
-    → ((card : Card) → HasRegisters card.made → card.made.kind ≡ Mmc → IsFound card.made found
-    → block ≡ ext_csd_now card → timing ≡ timing_of card.made → IsInfo card.made info) → info.rca ≡ found.rca
-    → (info.width ≡ Over.Eight) × (info.timing ≡ timing)
-    → SendsExtCsd sent a b → SetsUpMmc found.rca high up b c → WidensKind Mmc found (Ok session) a c
-mmc_widened found block high sent timing up info config session a b c e tests done by opened says named lines p q =
-    let all = mmc_set found block high sent up a b c e tests p q in
+-- a device has eight lines, so that it uses those of the host
+width_is : (limits : Lines) (made : Made) → made.kind ≡ Mmc → width_over limits made ≡ limits.width
+width_is limits made mmc = rw mmc refl
+
+pub mmc_widened : (found : Found) (block : List ℕ) (lines : Lines) (sent : Result (List ℕ) Cause)
+    (up : Result Unit Cause) (info : Info) (config : ℕ) (session : Session) (limits : Lines) (a b c : BusView)
+    → sent ≡ Ok block → limits ≡ a.limits → lines.width ≡ limits.width → IsTimingBy block lines limits → true ≡ is_ok up → config ≡ partition_config block → session ≡ first_session info config
+    → ((limits : Lines) (card : Card) → HasRegisters card.made → card.made.kind ≡ Mmc → IsFound card.made found
+    → block ≡ ext_csd_now card → lines.width ≡ width_over limits card.made
+    → lines.timing ≡ timing_over limits card.made → IsInfo limits card.made info) → info.rca ≡ found.rca
+    → (info.width ≡ lines.width) × (info.timing ≡ lines.timing)
+    → SendsExtCsd sent a b → SetsUpMmc found.rca lines up b c → WidensKind Mmc found (Ok session) a c
+mmc_widened found block lines sent up info config session limits a b c e host width timing done by opened says named shown p q =
+    let all = mmc_set found block lines sent up a b c e (subst (IsTimingBy block lines) host timing) p q in
     let made = a.card.made in
     let registers = all.was_card.registers in
     subst (λ (s : Session). WidensKind Mmc found (Ok s) a c) (sym opened)
     (moved_as a c all
     (λ is own set.
     let o = all.own is set in
-    let t = IfOk-at_ok _ done o.1 in
     let user : a.card.part ≡ User = ap (λ (s : Setting). s.part) set.is_set in
-    let knows : Knows (first_session info config) made = record {
-      info = says a.card registers is own o.0 t.0;
+    let knows : Knows (first_session info config) a = record {
+      info = says a.limits a.card registers is own o.0
+          (width ∙ ap (λ (l : Lines). l.width) host ∙ sym (width_is a.limits made is)) o.1;
       partition_config = λ mmc. ap (field 7 3) by ∙ config_kept a.card block registers is user o.0;
     } in (
-      ready (first_session info config) found.rca Over.Eight timing 1 a c all.is_card all.stays knows refl named
-          lines.0 lines.1 (rw is refl) t.1,
+      ready (first_session info config) found.rca lines.width lines.timing 1 a c all.is_card all.stays knows refl named
+          shown.0 shown.1 (rw is refl) (o.2 (sym done)),
       refl,
     ))
     (λ same is profile own set. refl))

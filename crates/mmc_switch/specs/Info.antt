@@ -1,4 +1,4 @@
--- What a host knows of a card, and what the card's registers say of it.
+-- What a host knows of a card, and what the card's registers say of it; of width and timing, what card and host can together.
 use Rattle.std.specs.Prelude.{◌&&◌, ◌==◌, ◌≡◌, ◌⊎◌, Bool, Ok, Option, false, if◌then◌else◌, ℕ}
 use Rattle.mmc_frame.specs.declared.kind.Kind.{Kind}
 use Rattle.mmc_frame.specs.declared.kind.Kind.TheVariants.{Mmc, Sd}
@@ -7,6 +7,8 @@ use Rattle.mmc_regs.specs.Register.{register_number}
 use Rattle.mmc_regs.specs.Scr.{four_lines, scr_number}
 use Rattle.mmc_ext_csd.specs.ExtCsd.{high_speed_at_52_mhz, trim_support}
 use Rattle.mmc_ext_csd.specs.Partition.{existing_sectors}
+use Rattle.mmc_card.specs.Limits.{fewer, slower}
+use Rattle.mmc_card.specs.declared.exchange.Lines.{Lines}
 use Rattle.mmc_card.specs.declared.exchange.Timing.{Timing}
 use Rattle.mmc_card.specs.declared.exchange.Timing.TheVariants.{Default, High}
 use Rattle.mmc_card.specs.declared.exchange.Width.{Width}
@@ -22,9 +24,13 @@ use Rattle.mmc_switch.specs.declared.info.Info.{Info}
 abbrev pub sectors_of : Info → Part → Option ℕ
 sectors_of info part = some_size (size_of info.sizes part)
 
--- The lines that the stack uses: of SD four where the SCR names them, of eMMC eight.
+-- The most lines that a card has: of SD four where the SCR names them, of eMMC eight.
 abbrev pub width_of : Made → Width
 width_of made = if is_sd made.kind then (if four_lines (scr_number made.scr) == 1 then Four else One) else Eight
+
+-- The lines that the stack uses: no more than the host has wired.
+abbrev pub width_over : Lines → Made → Width
+width_over limits made = fewer (width_of made) limits.width
 
 -- The card has high speed: an SD card by its switch status, an eMMC device by DEVICE_TYPE.
 abbrev pub has_high_timing : Made → Bool
@@ -35,10 +41,14 @@ has_high_timing made =
 abbrev pub timing_of : Made → Timing
 timing_of made = if has_high_timing made then High else Default
 
--- The timing of a card: high speed where it has it, but that an SD card may be left at default speed, since it may
--- refuse to switch.
-abbrev pub IsTimingOf : Made → Timing → Type 0
-IsTimingOf made timing = (timing ≡ timing_of made) ⊎ ((made.kind ≡ Sd) × (timing ≡ Default))
+-- no faster than the host can
+abbrev pub timing_over : Lines → Made → Timing
+timing_over limits made = slower (timing_of made) limits.timing
+
+-- The timing of a card over a host: high speed where both have it, but that an SD card may be left at default speed, since
+-- it may refuse to switch.
+abbrev pub IsTimingOver : Lines → Made → Timing → Type 0
+IsTimingOver limits made timing = (timing ≡ timing_over limits made) ⊎ ((made.kind ≡ Sd) × (timing ≡ Default))
 
 -- only eMMC devices trim
 abbrev pub trims_of : Made → Bool
@@ -59,8 +69,8 @@ lasting_timing Mmc timing = timing
 abbrev pub lasting : Info → Info
 lasting info = record info { rca = 1; timing = lasting_timing info.kind info.timing }
 
--- what the host knows of the card is what its registers say
-pub record IsInfo (made : Made) (info : Info) : Type 0 where
+-- what the host knows of the card is what its registers say; its width and timing are those that a host with these limits has too
+pub record IsInfo (limits : Lines) (made : Made) (info : Info) : Type 0 where
   pub kind : info.kind ≡ made.kind
   pub addressing : info.addressing ≡ addressing_of made
   pub rca : IsRcaOf made info.rca
@@ -73,5 +83,5 @@ pub record IsInfo (made : Made) (info : Info) : Type 0 where
   pub erased_byte : info.erased_byte ≡ erased_byte_of_card made
   pub trims : info.trims ≡ trims_of made
   pub cmd23 : info.cmd23 ≡ has_cmd23 made
-  pub width : info.width ≡ width_of made
-  pub timing : IsTimingOf made info.timing
+  pub width : info.width ≡ width_over limits made
+  pub timing : IsTimingOver limits made info.timing

@@ -8,7 +8,6 @@ use Rattle.mmc_card.specs.declared.part.Part.TheVariants.{User}
 use Rattle.mmc_card.specs.BusView.{BusView}
 use Rattle.mmc_card.specs.Card.{IsCard}
 use Rattle.mmc_card.specs.Laws.{Setting, Stands}
-use Rattle.mmc_card.specs.Made.{Made}
 use Rattle.mmc_switch.specs.Info.{IsInfo, erase_group_def_of}
 use Rattle.mmc_switch.specs.Stages.{IsSet, lines_of}
 use Rattle.mmc_switch.specs.declared.broken.Broken.{Broken}
@@ -27,11 +26,11 @@ setting_in info part =
       block_length = 512;
     }
 
--- the session knows what the card's registers say, and bits 7 to 3 of PARTITION_CONFIG
-pub record Knows (session : Session) (made : Made) : Type 0 where
-  pub info : IsInfo made session.info
-  pub partition_config : made.kind ≡ Mmc
-      → field 7 3 session.partition_config ≡ field 7 3 (partition_config made.ext_csd)
+-- the session knows what the card's registers say and what the host can, and bits 7 to 3 of PARTITION_CONFIG
+pub record Knows (session : Session) (view : BusView) : Type 0 where
+  pub info : IsInfo view.limits view.card.made session.info
+  pub partition_config : view.card.made.kind ≡ Mmc
+      → field 7 3 session.partition_config ≡ field 7 3 (partition_config view.card.made.ext_csd)
 
 -- it is the session's partition, where that is known; an SD card has the user partition alone
 pub record IsPartOf (session : Session) (part : Part) : Type 0 where
@@ -41,7 +40,7 @@ pub record IsPartOf (session : Session) (part : Part) : Type 0 where
 -- Ready for a transfer: the card is as the session says.
 pub record IsReady (session : Session) (view : BusView) : Type 0 where
   pub is_card : IsCard view.card
-  pub knows : Knows session view.card.made
+  pub knows : Knows session view
   pub set : IsSet false (setting_in session.info view.card.part) view
   pub part : IsPartOf session view.card.part
 
@@ -55,5 +54,5 @@ pub record StandsAs (session : Session) (view : BusView) : Type 0 where
 -- Loose, after a failure: the session knows the card, and unless it has to be reset, it stands so.
 pub record IsLoose (broken : Broken) (view : BusView) : Type 0 where
   pub is_card : IsCard view.card
-  pub knows : Knows broken.session view.card.made
+  pub knows : Knows broken.session view
   pub stands : broken.must_reset ≡ false → StandsAs broken.session view

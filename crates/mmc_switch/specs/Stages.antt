@@ -15,7 +15,7 @@ use Rattle.mmc_card.specs.Card.{Card, FromBytes, NoAddress}
 use Rattle.mmc_card.specs.Laws.{Setting, StandsIn, SwitchesTo, setting_of}
 use Rattle.mmc_card.specs.Made.{Made}
 use Rattle.mmc_bus.specs.CommandLaws.{IsSwitchSource}
-use Rattle.mmc_switch.specs.Info.{IsTimingOf, width_of}
+use Rattle.mmc_switch.specs.Info.{IsTimingOver, width_over}
 use Rattle.mmc_switch.specs.declared.sd.Told.{Told}
 
 -- In tran, with nothing to show, nothing preset and nothing unfinished; an application command is announced or not.
@@ -65,11 +65,11 @@ first_lines = record { width = One; timing = Default }
 abbrev pub first_setting : ℕ → Setting
 first_setting rca = user_setting rca One Default 0
 
--- what an SD card tells while it is widened
-pub record IsToldOf (made : Made) (told : Told) : Type 0 where
+-- what an SD card tells while it is widened over a host with these limits
+pub record IsToldOf (limits : Lines) (made : Made) (told : Told) : Type 0 where
   pub scr : told.scr ≡ scr_number made.scr
-  pub width : told.width ≡ width_of made
-  pub timing : IsTimingOf made told.timing
+  pub width : told.width ≡ width_over limits made
+  pub timing : IsTimingOver limits made told.timing
 
 -- After CMD6 with this argument the card has sent this status, and is at rest with the timing that follows it.
 pub record HasSwitched (argument : ℕ) (setting : Setting) (old : Card) (status : List ℕ) (new : BusView) : Type 0 where

@@ -63,7 +63,7 @@ IsCarriedOut change card = Within (holds card) (changed change (holds card))
 -- fell. The card is exactly where the work has come to if it shows itself sound, and so it is if no fault fell.
 pub record IsUnderWay (session : Session) (Shown Exact : Card → Type 0) (faults : ℕ) (view : BusView) : Type 0 where
   pub is_card : IsCard view.card
-  pub knows : Knows session view.card.made
+  pub knows : Knows session view
   pub stands : StandsAs session view
   pub shown : Shown view.card → Exact view.card
   pub fine : faults ≡ 0 → Exact view.card

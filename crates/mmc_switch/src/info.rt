@@ -33,7 +33,7 @@ pub struct Info {
     pub trims: bool,
     /// Whether it takes CMD23, SET_BLOCK_COUNT.
     pub cmd23: bool,
-    /// How many lines are used.
+    /// How many lines are used: the most that card and host have.
     pub width: Width,
     /// The speed that is used.
     pub timing: Timing,
@@ -44,6 +44,7 @@ pub struct Info {
 impl Info {
     ghost use Rattle.std.specs.Prelude.{◌≡◌, true};
     ghost use Rattle.mmc_card.specs.Made.{Made};
+    ghost use Rattle.mmc_card.specs.declared.exchange.Lines.{Lines};
     ghost use Rattle.mmc_switch.specs.Info.{IsInfo, lasting, sectors_of};
 
     /// The size of a partition in sectors of 512 bytes, or `None` where the card has no such partition, or one without a
@@ -68,10 +69,11 @@ impl Info {
         lasting
     }
 
-    /// Whether this and what else is known of a card are the same for good. What is known of one card always is.
+    /// Whether this and what else is known of a card are the same for good. What is known of one card over one host always is.
     pub fn is_same(&self, other: &Info) -> bool
         ensures same { result ≡ true → lasting self.now ≡ lasting other.now }
-        ensures known { (made : Made) → IsInfo made self.now → IsInfo made other.now → result ≡ true }
+        ensures known { (limits : Lines) → (made : Made) → IsInfo limits made self.now → IsInfo limits made other.now
+            → result ≡ true }
     {
         self.lasting() == other.lasting()
     }

@@ -2,17 +2,18 @@
 ghost use Rattle.std.specs.Prelude.{◌≡◌, ◌⊎◌, ◌*◌, ◌+◌, ◌==◌, ◌≤◌, IfOk, IsErr, IsOk, Ok, Some, false, if◌then◌else◌, true, ℕ};
 ghost use Rattle.mmc_frame.specs.declared.addressing.Addressing.TheVariants.{Sectors};
 ghost use Rattle.mmc_frame.specs.declared.kind.Kind.TheVariants.{Mmc};
-ghost use Rattle.mmc_ext_csd.specs.ExtCsd.{ext_csd_in, sec_count};
+ghost use Rattle.mmc_ext_csd.specs.ExtCsd.{ext_csd_in, high_speed_at_52_mhz, sec_count};
 ghost use Rattle.mmc_card.specs.Card.{Card};
 ghost use Rattle.mmc_card.specs.Laws.{Setting, setting_of};
+ghost use Rattle.mmc_card.specs.Limits.{slower};
 ghost use Rattle.mmc_card.specs.Profile.{InProfile};
-ghost use Rattle.mmc_card.specs.RowsSwitch.{ext_csd_now, programs_switch, switched, write_byte};
+ghost use Rattle.mmc_card.specs.RowsSwitch.{ext_csd_now, programs_switch, switched, width_number, write_byte};
 ghost use Rattle.mmc_card.specs.declared.exchange.Timing.TheVariants as At;
 ghost use Rattle.mmc_card.specs.declared.exchange.Width.TheVariants as Over;
 ghost use Rattle.mmc_card.specs.declared.part.Part.TheVariants.{User};
-ghost use Rattle.mmc_bus.specs.Work.{Done, Ends, Moves, Narrows};
+ghost use Rattle.mmc_bus.specs.Work.{Done, Ends, Moves, MovesFrom, Narrows};
 ghost use Rattle.mmc_identify.specs.Stages.{IsFound};
-ghost use Rattle.mmc_switch.specs.Info.{has_high_timing, timing_of};
+ghost use Rattle.mmc_switch.specs.Info.{has_high_timing};
 ghost use Rattle.mmc_switch.specs.Place.{IsReady};
 ghost use Rattle.mmc_switch.specs.Stages.{IsAtRest, IsSet, MayStandIn, first_setting, user_setting};
 
@@ -21,7 +22,8 @@ use crate::fault::SwitchFault;
 use crate::registers::mmc_info;
 use crate::session::Session;
 use mmc_bus::{
-    Bus, Cause, Timing, Width, ask, card_laws, check_own, receive, switch_laws, wait_and_confirm,
+    Bus, Cause, Lines, Timing, Width, ask, card_laws, check_own, receive, switch_laws,
+    wait_and_confirm,
 };
 use mmc_card::laws;
 use mmc_ext_csd::ExtCsd;
@@ -125,57 +127,98 @@ fn use_erase_groups<B: Bus>(bus: &mut B, rca: u16) -> Result<(), Cause>
     switch(bus, rca, write_byte(ERASE_GROUP_DEF, 1))
 }
 
-// Eight lines, of the device and then of the host.
-fn use_eight_lines<B: Bus>(bus: &mut B, rca: u16) -> Result<(), Cause>
+// The number of several lines in BUS_WIDTH.
+fn bus_width(width: Width) -> u8
+    ensures { result ≡ width_number width }
+{
+    match width {
+        Width::One => 0,
+        Width::Four => 1,
+        Width::Eight => 2,
+    }
+}
+
+// Several lines, of the device and then of the host.
+fn use_several_lines<B: Bus>(bus: &mut B, rca: u16, width: Width) -> Result<(), Cause>
+    requires several { width ≡ Over.One → ⊥ }
     ensures bounded { (B.view bus.new).exchanges ≤ (B.view bus.old).exchanges + EXCHANGES_OF_A_SWITCH }
     ensures lines { (B.view bus.new).is_kept ≡ true → IsErr result → (B.view bus.new).lines ≡ (B.view bus.old).lines }
     ensures moves { Moves
         (λ old new. old.card.made.kind ≡ Mmc → IsSet false (user_setting rca Over.One At.Default 1) old → IsOk result
-        → IsSet false (user_setting rca Over.Eight At.Default 1) new)
+        → IsSet false (user_setting rca width At.Default 1) new)
         (λ old new. old.card.made.kind ≡ Mmc → IsSet false (user_setting rca Over.One At.Default 1) old → IsOk result)
         (B.view bus.old) (B.view bus.new) }
 {
-    switch(bus, rca, write_byte(BUS_WIDTH, 2))?;
-    bus.set_lines(Width::Eight, Timing::Default);
+    switch(bus, rca, write_byte(BUS_WIDTH, bus_width(width)))?;
+    bus.set_lines(width, Timing::Default);
     Ok(())
 }
 
+// So many lines. A device that was reset has one, so that nothing is sent for one.
+fn use_lines<B: Bus>(bus: &mut B, rca: u16, width: Width) -> Result<(), Cause>
+    ensures bounded { (B.view bus.new).exchanges ≤ (B.view bus.old).exchanges + EXCHANGES_OF_A_SWITCH }
+    ensures kept { (B.view bus.new).is_kept ≡ true → (B.view bus.old).is_kept ≡ true }
+    ensures moves { MovesFrom
+        (λ old new. old.card.made.kind ≡ Mmc → IsSet false (user_setting rca Over.One At.Default 1) old → IsOk result
+        → IsSet false (user_setting rca width At.Default 1) new)
+        (λ old new. old.card.made.kind ≡ Mmc → IsSet false (user_setting rca Over.One At.Default 1) old → IsOk result)
+        (B.view bus.old) (B.view bus.new) }
+{
+    match width {
+        Width::One => Ok(()),
+        Width::Four | Width::Eight => use_several_lines(bus, rca, width),
+    }
+}
+
 // High speed, of the device and then of the host.
-fn speed_up<B: Bus>(bus: &mut B, rca: u16) -> Result<(), Cause>
+fn speed_up<B: Bus>(bus: &mut B, rca: u16, width: Width) -> Result<(), Cause>
     ensures bounded { (B.view bus.new).exchanges ≤ (B.view bus.old).exchanges + EXCHANGES_OF_A_SWITCH }
     ensures lines { (B.view bus.new).is_kept ≡ true → IsErr result → (B.view bus.new).lines ≡ (B.view bus.old).lines }
     ensures moves { Moves
         (λ old new. old.card.made.kind ≡ Mmc → has_high_timing old.card.made ≡ true
-        → IsSet false (user_setting rca Over.Eight At.Default 1) old → IsOk result
-        → IsSet false (user_setting rca Over.Eight At.High 1) new)
+        → IsSet false (user_setting rca width At.Default 1) old → IsOk result
+        → IsSet false (user_setting rca width At.High 1) new)
         (λ old new. old.card.made.kind ≡ Mmc → has_high_timing old.card.made ≡ true
-        → IsSet false (user_setting rca Over.Eight At.Default 1) old → IsOk result)
+        → IsSet false (user_setting rca width At.Default 1) old → IsOk result)
         (B.view bus.old) (B.view bus.new) }
 {
     switch(bus, rca, write_byte(HS_TIMING, 1))?;
-    bus.set_lines(Width::Eight, Timing::High);
+    bus.set_lines(width, Timing::High);
     Ok(())
 }
 
-// The switches of widening.
-fn set_up<B: Bus>(bus: &mut B, rca: u16, has_high_speed: bool) -> Result<Timing, Cause>
+// The most lines that device and host have, and the fastest timing: a device has eight, and high speed where DEVICE_TYPE names it.
+fn lines_over(limits: Lines, ext_csd: &ExtCsd) -> Lines
+    ensures width { result.width ≡ limits.width }
+    ensures timing { result.timing ≡ slower (if high_speed_at_52_mhz ext_csd.now == 1 then At.High else At.Default) limits.timing }
+{
+    let timing = if ext_csd.high_speed() {
+        Timing::High
+    } else {
+        Timing::Default
+    };
+    Lines {
+        width: limits.width,
+        timing: timing.slower(limits.timing),
+    }
+}
+
+// The switches of widening, to these lines.
+fn set_up<B: Bus>(bus: &mut B, rca: u16, lines: Lines) -> Result<(), Cause>
     ensures bounded { (B.view bus.new).exchanges ≤ (B.view bus.old).exchanges + 3 * EXCHANGES_OF_A_SWITCH }
     ensures moves { Moves
-        (λ old new. old.card.made.kind ≡ Mmc → has_high_speed ≡ has_high_timing old.card.made
-        → IsSet false (first_setting rca) old
-        → IfOk result (λ timing. (timing ≡ timing_of old.card.made)
-        × IsSet false (user_setting rca Over.Eight timing 1) new))
-        (λ old new. old.card.made.kind ≡ Mmc → has_high_speed ≡ has_high_timing old.card.made
+        (λ old new. old.card.made.kind ≡ Mmc → (lines.timing ≡ At.High → has_high_timing old.card.made ≡ true)
+        → IsSet false (first_setting rca) old → IsOk result
+        → IsSet false (user_setting rca lines.width lines.timing 1) new)
+        (λ old new. old.card.made.kind ≡ Mmc → (lines.timing ≡ At.High → has_high_timing old.card.made ≡ true)
         → IsSet false (first_setting rca) old → IsOk result)
         (B.view bus.old) (B.view bus.new) }
 {
     use_erase_groups(bus, rca)?;
-    use_eight_lines(bus, rca)?;
-    if has_high_speed {
-        speed_up(bus, rca)?;
-        Ok(Timing::High)
-    } else {
-        Ok(Timing::Default)
+    use_lines(bus, rca, lines.width)?;
+    match lines.timing {
+        Timing::Default => Ok(()),
+        Timing::High => speed_up(bus, rca, lines.width),
     }
 }
 
@@ -191,9 +234,11 @@ pub fn widen<B: Bus>(bus: &mut B, found: &Found) -> Result<Session, SwitchFault>
         → IsSet false (first_setting found.now.rca) old → IsOk result)
         (B.view bus.old) (B.view bus.new) }
 {
+    let limits = bus.limits();
     let block = send_ext_csd(bus).map_err(|_| SwitchFault::Exchange)?;
     let ext_csd = judge(&block, found.addressing)?;
-    let timing = set_up(bus, found.rca, ext_csd.high_speed()).map_err(|_| SwitchFault::Exchange)?;
-    let info = mmc_info(found, &ext_csd, timing);
+    let lines = lines_over(limits, &ext_csd);
+    set_up(bus, found.rca, lines).map_err(|_| SwitchFault::Exchange)?;
+    let info = mmc_info(found, &ext_csd, lines);
     Ok(Session::opened(info, ext_csd.partition_config()))
 }

@@ -6,16 +6,16 @@ ghost use Rattle.mmc_ext_csd.specs.ExtCsd.{erase_unit};
 ghost use Rattle.mmc_card.specs.Card.{Card};
 ghost use Rattle.mmc_card.specs.Made.{HasRegisters, Made};
 ghost use Rattle.mmc_card.specs.RowsSwitch.{ext_csd_now};
-ghost use Rattle.mmc_card.specs.declared.exchange.Width.TheVariants as Over;
+ghost use Rattle.mmc_card.specs.declared.exchange.Lines.{Lines};
 ghost use Rattle.mmc_identify.specs.Stages.{IsFound};
-ghost use Rattle.mmc_switch.specs.Info.{IsInfo, timing_of};
+ghost use Rattle.mmc_switch.specs.Info.{IsInfo, timing_over, width_over};
 ghost use Rattle.mmc_switch.specs.Sizes.{mmc_sizes, sd_sizes, user_size};
 ghost use Rattle.mmc_switch.specs.Stages.{IsToldOf};
 
 use crate::info::Info;
 use crate::sd::Told;
 use crate::sizes::Sizes;
-use mmc_bus::{Timing, Width};
+use mmc_bus::Lines;
 use mmc_ext_csd::{ExtCsd, existing_sectors};
 use mmc_frame::{Addressing, Kind};
 use mmc_identify::Found;
@@ -74,8 +74,8 @@ fn mmc_sizes(found: &Found, ext_csd: &ExtCsd) -> Sizes
 
 /// What is known of an SD card, or none where it was found with the CSD of an eMMC device.
 pub fn sd_info(found: &Found, told: &Told) -> Option<Info>
-    ensures info { (made : Made) → HasRegisters made → made.kind ≡ Is.Sd → IsFound made found.now → IsToldOf made told.now
-        → IfSome result (IsInfo made) }
+    ensures info { (limits : Lines) → (made : Made) → HasRegisters made → made.kind ≡ Is.Sd → IsFound made found.now
+        → IsToldOf limits made told.now → IfSome result (IsInfo limits made) }
     ensures taken { (made : Made) → HasRegisters made → made.kind ≡ Is.Sd → IsFound made found.now → IsSome result }
     ensures rca { IfSome result (λ info. info.rca ≡ found.now.rca) }
     ensures lines { IfSome result (λ info. (info.width ≡ told.now.width) × (info.timing ≡ told.now.timing)) }
@@ -98,13 +98,14 @@ pub fn sd_info(found: &Found, told: &Told) -> Option<Info>
     })
 }
 
-/// What is known of an eMMC device.
-pub fn mmc_info(found: &Found, ext_csd: &ExtCsd, timing: Timing) -> Info
+/// What is known of an eMMC device that uses these lines.
+pub fn mmc_info(found: &Found, ext_csd: &ExtCsd, lines: Lines) -> Info
     requires some_unit { 1 ≤ erase_unit ext_csd.now }
-    ensures info { (card : Card) → HasRegisters card.made → card.made.kind ≡ Is.Mmc → IsFound card.made found.now
-        → ext_csd.now ≡ ext_csd_now card → timing ≡ timing_of card.made → IsInfo card.made result }
+    ensures info { (limits : Lines) → (card : Card) → HasRegisters card.made → card.made.kind ≡ Is.Mmc
+        → IsFound card.made found.now → ext_csd.now ≡ ext_csd_now card → lines.width ≡ width_over limits card.made
+        → lines.timing ≡ timing_over limits card.made → IsInfo limits card.made result }
     ensures rca { result.rca ≡ found.now.rca }
-    ensures lines { (result.width ≡ Over.Eight) × (result.timing ≡ timing) }
+    ensures lines { (result.width ≡ lines.width) × (result.timing ≡ lines.timing) }
 {
     Info {
         kind: Kind::Mmc,
@@ -118,7 +119,7 @@ pub fn mmc_info(found: &Found, ext_csd: &ExtCsd, timing: Timing) -> Info
         erased_byte: ext_csd.erased_byte(),
         trims: ext_csd.trims(),
         cmd23: true,
-        width: Width::Eight,
-        timing,
+        width: lines.width,
+        timing: lines.timing,
     }
 }

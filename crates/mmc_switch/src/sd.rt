@@ -11,7 +11,7 @@ ghost use Rattle.mmc_card.specs.declared.exchange.Width.TheVariants as Over;
 ghost use Rattle.mmc_card.specs.declared.part.Part.TheVariants.{User};
 ghost use Rattle.mmc_bus.specs.Work.{Moves, MovesFrom};
 ghost use Rattle.mmc_identify.specs.Stages.{IsFound};
-ghost use Rattle.mmc_switch.specs.Info.{IsTimingOf, width_of};
+ghost use Rattle.mmc_switch.specs.Info.{IsTimingOver, width_over};
 ghost use Rattle.mmc_switch.specs.Place.{IsReady};
 ghost use Rattle.mmc_switch.specs.Stages.{HasSwitched, IsSet, IsSetOver, IsToldOf, first_setting, lines_of, user_setting};
 
@@ -120,17 +120,17 @@ fn use_four_lines<B: Bus>(bus: &mut B, rca: u16) -> Result<(), Cause>
     Ok(())
 }
 
-// Four lines where the SCR names them.
+// Four lines where the SCR names them and the host has them.
 fn set_width<B: Bus>(bus: &mut B, rca: u16, scr: Scr) -> Result<Width, Cause>
     ensures bounded { (B.view bus.new).exchanges ≤ (B.view bus.old).exchanges + 2 }
     ensures kept { (B.view bus.new).is_kept ≡ true → (B.view bus.old).is_kept ≡ true }
     ensures moves { MovesFrom
         (λ old new. old.card.made.kind ≡ Sd → scr ≡ scr_number old.card.made.scr → IsSet false (first_setting rca) old
-        → IfOk result (λ width. (width ≡ width_of old.card.made) × IsSet false (user_setting rca width At.Default 0) new))
+        → IfOk result (λ width. (width ≡ width_over old.limits old.card.made) × IsSet false (user_setting rca width At.Default 0) new))
         (λ old new. old.card.made.kind ≡ Sd → IsSet false (first_setting rca) old → IsOk result)
         (B.view bus.old) (B.view bus.new) }
 {
-    if scr.has_four_lines() {
+    if scr.has_four_lines() && bus.limits().width != Width::One {
         use_four_lines(bus, rca)?;
         Ok(Width::Four)
     } else {
@@ -175,13 +175,14 @@ fn switch_to_high_speed<B: Bus>(bus: &mut B, width: Width) -> Result<Timing, Cau
     }
 }
 
-// High speed where the switch status names it, of a card that has CMD6.
+// High speed where the switch status names it, of a card that has CMD6, over a host that has high speed.
 fn speed_up<B: Bus>(bus: &mut B, width: Width) -> Result<Timing, Cause>
     ensures bounded { (B.view bus.new).exchanges ≤ (B.view bus.old).exchanges + 4 }
     ensures moves { Moves
-        (λ old new. (rca : ℕ) → old.card.made.kind ≡ Sd → has_switch_function old.card.made ≡ true
-        → IsSet false (user_setting rca width At.Default 0) old
-        → IfOk result (λ timing. IsTimingOf old.card.made timing × IsSet false (user_setting rca width timing 0) new))
+        (λ old new. (rca : ℕ) → old.limits.timing ≡ At.High → old.card.made.kind ≡ Sd
+        → has_switch_function old.card.made ≡ true → IsSet false (user_setting rca width At.Default 0) old
+        → IfOk result (λ timing. IsTimingOver old.limits old.card.made timing
+        × IsSet false (user_setting rca width timing 0) new))
         (λ old new. (rca : ℕ) → old.card.made.kind ≡ Sd → has_switch_function old.card.made ≡ true
         → IsSet false (user_setting rca width At.Default 0) old → IsOk result)
         (B.view bus.old) (B.view bus.new) }
@@ -193,19 +194,20 @@ fn speed_up<B: Bus>(bus: &mut B, width: Width) -> Result<Timing, Cause>
     }
 }
 
-// High speed where the card takes it. CCC decides whether it has CMD6, and then SD_SPEC.
+// High speed where the host has it and the card takes it. CCC decides whether it has CMD6, and then SD_SPEC.
 fn set_timing<B: Bus>(bus: &mut B, width: Width, switches: bool, scr: Scr) -> Result<Timing, Cause>
     ensures bounded { (B.view bus.new).exchanges ≤ (B.view bus.old).exchanges + 4 }
     ensures kept { (B.view bus.new).is_kept ≡ true → (B.view bus.old).is_kept ≡ true }
     ensures moves { MovesFrom
         (λ old new. (rca : ℕ) → old.card.made.kind ≡ Sd → switches ≡ may_switch (csd_number_of old.card.made)
         → scr ≡ scr_number old.card.made.scr → IsSet false (user_setting rca width At.Default 0) old
-        → IfOk result (λ timing. IsTimingOf old.card.made timing × IsSet false (user_setting rca width timing 0) new))
+        → IfOk result (λ timing. IsTimingOver old.limits old.card.made timing
+        × IsSet false (user_setting rca width timing 0) new))
         (λ old new. (rca : ℕ) → old.card.made.kind ≡ Sd → switches ≡ may_switch (csd_number_of old.card.made)
         → scr ≡ scr_number old.card.made.scr → IsSet false (user_setting rca width At.Default 0) old → IsOk result)
         (B.view bus.old) (B.view bus.new) }
 {
-    if switches && scr.sd_spec() != 0 {
+    if switches && scr.sd_spec() != 0 && bus.limits().timing == Timing::High {
         speed_up(bus, width)
     } else {
         Ok(Timing::Default)
@@ -218,7 +220,8 @@ fn set_up<B: Bus>(bus: &mut B, rca: u16, switches: bool) -> Result<Told, Cause>
     ensures moves { Moves
         (λ old new. old.card.made.kind ≡ Sd → switches ≡ may_switch (csd_number_of old.card.made)
         → IsSet false (first_setting rca) old
-        → IfOk result (λ told. IsToldOf old.card.made told × IsSet false (user_setting rca told.width told.timing 0) new))
+        → IfOk result (λ told. IsToldOf old.limits old.card.made told
+        × IsSet false (user_setting rca told.width told.timing 0) new))
         (λ old new. old.card.made.kind ≡ Sd → switches ≡ may_switch (csd_number_of old.card.made)
         → IsSet false (first_setting rca) old → IsOk result)
         (B.view bus.old) (B.view bus.new) }

@@ -5,7 +5,9 @@
 //    second one selects it; and a clean status.
 // 3. eMMC: the EXT_CSD, which is judged at once; erase groups by HC_ERASE_GRP_SIZE, eight lines, and high speed where
 //    DEVICE_TYPE names it: each is one switch, which has to be confirmed before the host's lines follow.
-// 4. Each response has to be sound and without an error. Anything else ends it.
+// 4. No more lines than the host has wired, and no high speed where it hasn't it: then the device has four lines or one, the
+//    card one, and what would ask for more isn't sent.
+// 5. Each response has to be sound and without an error. Anything else ends it.
 ghost use Rattle.std.specs.Prelude.{◌≡◌, ◌*◌, ◌+◌, ◌<◌, ◌≤◌, IfOk, IsErr, IsOk, Some, false, true, ℕ};
 ghost use Rattle.mmc_frame.specs.declared.kind.Kind.TheVariants.{Sd};
 ghost use Rattle.mmc_card.specs.Profile.{InProfile};

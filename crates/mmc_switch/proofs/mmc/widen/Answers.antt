@@ -17,26 +17,28 @@ returns-in_err-ext_csd-clause-moves g c kept =
     (ok_is c.send_ext_csd.result c.in_ok-block.block c.in_ok-block.ensures.cases)
     c.in_err-ext_csd.ensures.all (c.send_ext_csd.ensures.moves kept)
 
-pub returns-in_err-timing-clause-moves : goal.returns-in_err-timing-clause-moves
-returns-in_err-timing-clause-moves g c kept =
+pub returns-in_err-map_err-clause-moves : goal.returns-in_err-map_err-clause-moves
+returns-in_err-map_err-clause-moves g c kept =
     let q = c.set_up.ensures.moves kept in
-    mmc_setting_fails c.args.found.now c.in_ok-ext_csd.ext_csd c.high_speed.result c.send_ext_csd.result c.set_up.result
-    c.from_residual-in_err-timing.result (g.B.Bus.view c.args.bus.now) (g.B.Bus.view c.send_ext_csd.new.bus)
-    (g.B.Bus.view c.set_up.new.bus) c.from_residual-in_err-timing.ensures.0
+    mmc_setting_fails c.args.found.now c.in_ok-ext_csd.ext_csd c.lines_over-lines.result c.send_ext_csd.result c.set_up.result
+    c.from_residual-in_err-map_err.result c.limits-limits.result (g.B.Bus.view c.args.bus.now) (g.B.Bus.view c.send_ext_csd.new.bus)
+    (g.B.Bus.view c.set_up.new.bus) c.from_residual-in_err-map_err.ensures.0
     (ok_is c.send_ext_csd.result c.in_ok-block.block c.in_ok-block.ensures.cases
     ∙ ap (λ block. Ok block) (sym c.in_ok-ext_csd.ensures.ok.0))
-    c.high_speed.ensures c.in_err-timing.ensures.variant (c.send_ext_csd.ensures.moves q.was_kept) q
+    c.limits-limits.ensures c.lines_over-lines.ensures.timing
+    c.in_err-map_err.ensures.variant (c.send_ext_csd.ensures.moves q.was_kept) q
 
 pub returns-clause-moves : goal.returns-clause-moves
 returns-clause-moves g c kept =
     let q = c.set_up.ensures.moves kept in
-    mmc_widened c.args.found.now c.in_ok-ext_csd.ext_csd c.high_speed.result c.send_ext_csd.result c.in_ok-timing.timing
-    c.set_up.result c.mmc_info-info.result c.partition_config.result c.opened.result (g.B.Bus.view c.args.bus.now)
+    mmc_widened c.args.found.now c.in_ok-ext_csd.ext_csd c.lines_over-lines.result c.send_ext_csd.result
+    c.set_up.result c.mmc_info-info.result c.partition_config.result c.opened.result c.limits-limits.result
+    (g.B.Bus.view c.args.bus.now)
     (g.B.Bus.view c.send_ext_csd.new.bus) (g.B.Bus.view c.set_up.new.bus)
     (ok_is c.send_ext_csd.result c.in_ok-block.block c.in_ok-block.ensures.cases
     ∙ ap (λ block. Ok block) (sym c.in_ok-ext_csd.ensures.ok.0))
-    c.high_speed.ensures
-    (ok_is c.set_up.result c.in_ok-timing.timing c.in_ok-timing.ensures.cases)
+    c.limits-limits.ensures c.lines_over-lines.ensures.width c.lines_over-lines.ensures.timing
+    c.in_ok-map_err.ensures.variant
     c.partition_config.ensures c.opened.ensures c.mmc_info-info.ensures.info c.mmc_info-info.ensures.rca
     c.mmc_info-info.ensures.lines
     (c.send_ext_csd.ensures.moves q.was_kept) q

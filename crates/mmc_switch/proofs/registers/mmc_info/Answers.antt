@@ -12,7 +12,7 @@ invariant_of-result c = record {
 
 pub returns : goal.returns
 returns c = record {
-  info = λ card registers is found told at. record {
+  info = λ limits card registers is found told width timing. record {
     kind = sym is;
     addressing = found.addressing;
     rca = found.rca;
@@ -29,8 +29,8 @@ returns c = record {
         tested c.trims.result (trim_support c.args.ext_csd.now) c.trims.ensures
         ∙ mmc_trims card c.args.ext_csd.now is told;
     cmd23 = rw is refl;
-    width = rw is refl;
-    timing = inl at;
+    width = width;
+    timing = inl timing;
   };
   rca = refl;
   lines = (refl, refl);

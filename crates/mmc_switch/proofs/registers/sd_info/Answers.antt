@@ -16,7 +16,7 @@ invariant_of-result c = record {
 }
 
 pub returns-clause-info : goal.returns-clause-info
-returns-clause-info c made registers is found told = record {
+returns-clause-info c limits made registers is found told = record {
   kind = sym is;
   addressing = found.addressing;
   rca = found.rca;

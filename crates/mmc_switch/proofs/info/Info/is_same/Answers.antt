@@ -7,7 +7,7 @@ returns-clause-same c is =
     sym c.lasting.ensures ∙ same_info c.lasting.result c.lasting-2.result (sym c.eq.ensures ∙ is) ∙ c.lasting-2.ensures
 
 pub returns-clause-known : goal.returns-clause-known
-returns-clause-known c made one other =
+returns-clause-known c limits made one other =
     c.eq.ensures
     ∙ equal_info c.lasting.result c.lasting-2.result
-    (c.lasting.ensures ∙ known_info made c.args.self.now c.args.other.now one other ∙ sym c.lasting-2.ensures)
+    (c.lasting.ensures ∙ known_info limits made c.args.self.now c.args.other.now one other ∙ sym c.lasting-2.ensures)
