@@ -7,7 +7,8 @@ use Rattle.std.proofs.lemmas.Nat.{div-mul-add}
 use Rattle.std.proofs.Math.Nat.{lt-div-mul-add, mod-add-div'}
 use Rattle.mmc_frame.specs.declared.kind.Kind.{Kind}
 use Rattle.mmc_frame.specs.declared.kind.Kind.TheVariants.{Mmc, Sd}
-use Rattle.mmc_card.specs.Card.{Card, stored}
+use Rattle.mmc_card.specs.BusView.{BusView}
+use Rattle.mmc_card.specs.Card.{stored}
 use Rattle.mmc_card.specs.Made.{Made, erase_unit_of_card, is_mmc, is_sd, sector_at}
 use Rattle.mmc_card.specs.declared.part.Part.{Part}
 use Rattle.mmc_card.specs.RowsErase.{erased_from, erased_to, erasing, is_trim}
@@ -117,16 +118,17 @@ same_change : (part other : Part) (start begin n count : ℕ) (byte given : ℕ)
 same_change part other start begin n count byte given p s m b =
     ap₂ (λ part start. change_to part start n byte) p s ∙ ap₂ (λ n byte. change_to other begin n byte) m b
 
-pub erasing_is : (job : Job) (card : Card) → Knows job.session card.made → card.part ≡ part_of job.session
-    → length (stored card card.part) ≡ room_of job.session
-    → erasing card (is_trim card (argument_of job.how)) (first_of job) (last_of job) ≡ change_of job
-erasing_is job card knows part size =
+pub erasing_is : (job : Job) (view : BusView) → Knows job.session view → view.card.part ≡ part_of job.session
+    → length (stored view.card view.card.part) ≡ room_of job.session
+    → erasing view.card (is_trim view.card (argument_of job.how)) (first_of job) (last_of job) ≡ change_of job
+erasing_is job view knows part size =
+    let card = view.card in
     let info = job.session.info in
     let some = job.some in
     let more = job.inside in
-    let first : sector_at card.made (first_of job) ≡ job.start = sector_named job.session card.made knows job.start in
+    let first : sector_at card.made (first_of job) ≡ job.start = sector_named job.session view knows job.start in
     let last : sector_at card.made (last_of job) ≡ job.start + job.count - 1 =
-    sector_named job.session card.made knows (job.start + job.count - 1) in
+    sector_named job.session view knows (job.start + job.count - 1) in
     let r = range job.how card.made info (is_trim card (argument_of job.how)) (length (stored card card.part))
     (sector_at card.made (first_of job)) job.count (sector_at card.made (last_of job)) refl knows.info.trims
     knows.info.erase_unit info.some_unit some (omega (arith, first, more, size)) (omega (arith, first, last, some))

@@ -139,14 +139,14 @@ module _ (job : Job) (faults : ℕ) (kind : Kind) (argument : ℕ) (a b : BusVie
       let some = job.some in
       let fits = job.inside in
       ap (λ p. length (stored a.card p)) part
-      ∙ room_is job.session a.card at.is_card.sizes at.knows (omega (arith, some, fits))
+      ∙ room_is job.session a at.is_card.sizes at.knows (omega (arith, some, fits))
 
   is_range : is_no_range a.card (first_of job) (last_of job) ≡ false
   is_range =
       let some = job.some in
       let fits = job.inside in
-      let first = sector_named job.session a.card.made at.knows job.start in
-      let last = sector_named job.session a.card.made at.knows (job.start + job.count - 1) in
+      let first = sector_named job.session a at.knows job.start in
+      let last = sector_named job.session a at.knows (job.start + job.count - 1) in
       in_order (sector_at a.card.made (first_of job)) (sector_at a.card.made (last_of job))
       (length (stored a.card a.card.part)) (is_boot a.card.part) (ap is_boot part ∙ job.erasable)
       (omega (arith, first, last, some)) (omega (arith, last, room, some, fits))
@@ -154,7 +154,7 @@ module _ (job : Job) (faults : ℕ) (kind : Kind) (argument : ℕ) (a b : BusVie
   change_is : erasing a.card (is_trim a.card argument) (first_of job) (last_of job) ≡ change_of job
   change_is =
       ap (λ n. erasing a.card (is_trim a.card n) (first_of job) (last_of job)) given
-      ∙ erasing_is job a.card at.knows part room
+      ∙ erasing_is job a at.knows part room
 
   -- no other sector may hold more
   erased_within : Within (holds b.card) (maybe_erased (erased_by a.card (Some (38, argument))) (holds a.card))

@@ -71,7 +71,7 @@ fits_in job view r =
     let some = job.some in
     let inside = job.inside in
     let size = length-replicate job.count (replicate 512 job.session.info.erased_byte) in
-    let room = room_is job.session view.card r.is_card.sizes r.knows (omega (arith, some, inside)) in
+    let room = room_is job.session view r.is_card.sizes r.knows (omega (arith, some, inside)) in
     omega (arith, inside, size, room)
 
 module _ (begun run : EraseRun) (first now new : BusView) (session : Session) (start count : ℕ)

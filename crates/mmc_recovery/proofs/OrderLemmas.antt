@@ -80,7 +80,7 @@ stands_with_blocks session a b lines tran e stands =
 
 -- the card after CMD16 and two CMD13, of which the last one finds it in order
 in_order_again : (kind : Kind) (session : Session) (c d : BusView) → c.card.erase ≡ NoAddress
-    → d.card ≡ shown c.card → IsInOrder kind c.card → IsCard d.card → Knows session d.card.made → StandsAs session d
+    → d.card ≡ shown c.card → IsInOrder kind c.card → IsCard d.card → Knows session d → StandsAs session d
     → IsReady session d
 in_order_again kind session c d erase f order is knows stands =
     ready_again session d is knows stands
@@ -105,7 +105,7 @@ puts_in_order info kind first second last a b c d one two lines p q r =
     let still = stands_then session b d rest.set with in
     in_order_again kind session c d (ap (λ (x : Card). x.erase) showed ∙ ap (λ (x : Card). x.erase) blocks.1) final.1
     final.0 r.is_card
-    (knows_then session a.card d.card all.stays.carried knows) still)
+    (knows_then session a d all.stays knows) still)
     (λ same. tt)
 
 -- The card's work is ended, and then it is put in order.
@@ -115,5 +115,5 @@ pub restores : {Own Fine : BusView → BusView → Type 0} (info : Info) (r : Re
 restores info r a b c p q =
     moved_then a b c p q
     (λ session same knows stands ok.
-    q.own session same (knows_then session a.card b.card p.stays.carried knows) (stands_then session a b p.set stands) ok)
+    q.own session same (knows_then session a b p.stays knows) (stands_then session a b p.set stands) ok)
     (λ same. tt)

@@ -4,6 +4,7 @@ use Rattle.std.specs.Prelude.{Err, IfOk, IsOk, None, Ok, Result}
 use Rattle.mmc_card.specs.BusView.{BusView}
 use Rattle.mmc_card.specs.Card.{IsCard}
 use Rattle.mmc_card.specs.Made.{Made}
+use Rattle.mmc_card.specs.declared.exchange.Lines.{Lines}
 use Rattle.mmc_card.specs.Profile.{InProfile}
 use Rattle.mmc_bus.proofs.WorkLemmas.{moved_as}
 use Rattle.mmc_bus.specs.Learned.{Stays}
@@ -14,6 +15,7 @@ use Rattle.mmc_switch.specs.declared.broken.Broken.{Broken}
 use Rattle.mmc_switch.specs.declared.info.Info.{Info}
 use Rattle.mmc_switch.specs.declared.initialization.InitializationFault.{InitializationFault}
 use Rattle.mmc_switch.specs.declared.session.Session.{Session}
+use Rattle.mmc_switch.proofs.UnderWayLemmas.{knows_then}
 use Rattle.mmc_recovery.specs.Settled.{Leaves, given_up}
 
 -- what initializing the card does
@@ -26,25 +28,24 @@ Initializes r =
 
 abbrev pub Resets : Broken → Result Session Broken → BusView → BusView → Type 0
 Resets broken r =
-    Moved (λ old new. Knows broken.session old.card.made → Leaves r new)
-    (λ old new. InProfile old.card.made → Knows broken.session old.card.made → IsOk r)
+    Moved (λ old new. Knows broken.session old → Leaves r new)
+    (λ old new. InProfile old.card.made → Knows broken.session old → IsOk r)
 
 -- the card is the one that it was
 pub resets_so : (broken : Broken) (session : Session) (a b : BusView) → Initializes (Ok session) a b
     → Resets broken (Ok session) a b
 resets_so broken session a b p = moved_as a b p (λ knows. p.own) (λ same profile knows. refl)
 
-knows_no_part : (session : Session) (made : Made) → Knows session made
-    → Knows (record session { selected = None }) made
-knows_no_part session made knows = record { info = knows.info; partition_config = knows.partition_config }
+knows_no_part : (session : Session) (view : BusView) → Knows session view
+    → Knows (record session { selected = None }) view
+knows_no_part session view knows = record { info = knows.info; partition_config = knows.partition_config }
 
 left_loose : (broken left : Broken) (a b : BusView) → left ≡ given_up broken → IsCard b.card → Stays a b
-    → Knows broken.session a.card.made → IsLoose left b
+    → Knows broken.session a → IsLoose left b
 left_loose broken left a b e is stays knows =
     let loose : IsLoose (given_up broken) b = record {
       is_card = is;
-      knows = knows_no_part broken.session b.card.made
-          (subst (Knows broken.session) (sym stays.carried.made) knows);
+      knows = knows_no_part broken.session b (knows_then broken.session a b stays knows);
       stands = λ no_reset. cc (no_reset);
     } in
     subst (λ x. IsLoose x b) (sym e) loose
@@ -59,13 +60,13 @@ resets_none broken left fault a b e p =
 -- it is another one
 pub resets_other : (broken left : Broken) (session : Session) (one other : Info) (is_same : Bool) (a b : BusView)
     → left ≡ given_up broken → one ≡ session.info → other ≡ broken.session.info → is_same ≡ false
-    → ((made : Made) → IsInfo made one → IsInfo made other → is_same ≡ true)
+    → ((limits : Lines) (made : Made) → IsInfo limits made one → IsInfo limits made other → is_same ≡ true)
     → Initializes (Ok session) a b → Resets broken (Err left) a b
 resets_other broken left session one other is_same a b e now was differs known p =
     moved_as a b p (λ knows. left_loose broken left a b e p.is_card p.stays knows)
     (λ same profile knows.
     let made = b.card.made in
-    let still = subst (Knows broken.session) (sym p.stays.carried.made) knows in
-    let is = known made (subst (IsInfo made) (sym now) p.own.knows.info)
-    (subst (IsInfo made) (sym was) still.info) in
+    let still = knows_then broken.session a b p.stays knows in
+    let is = known b.limits made (subst (IsInfo b.limits made) (sym now) p.own.knows.info)
+    (subst (IsInfo b.limits made) (sym was) still.info) in
     cc (is, differs))

@@ -10,6 +10,7 @@ use Rattle.mmc_switch.specs.Place.{IsLoose, IsReady, Knows}
 use Rattle.mmc_switch.specs.declared.broken.Broken.{Broken}
 use Rattle.mmc_switch.specs.declared.info.Info.{Info}
 use Rattle.mmc_switch.specs.declared.session.Session.{Session}
+use Rattle.mmc_switch.proofs.UnderWayLemmas.{knows_then}
 use Rattle.mmc_recovery.proofs.OrderLemmas.{Restored}
 use Rattle.mmc_recovery.proofs.ReopenLemmas.{Resets}
 
@@ -22,15 +23,14 @@ resets_stays broken r a b p = (p.stays, p.sectors)
 pub resets_then : {Own Fine : BusView → BusView → Type 0} (broken : Broken) (r : Result Session Broken)
     (a b c : BusView) → Moved Own Fine a b → Resets broken r b c → Resets broken r a c
 resets_then broken r a b c p q =
-    let still = λ (knows : Knows broken.session a.card.made).
-    subst (Knows broken.session) (sym p.stays.carried.made) knows in
+    let still = knows_then broken.session a b p.stays in
     moved_then a b c p q (λ knows. q.own (still knows))
     (λ same profile knows. q.fine (quiet_parts a b c p.stays q.stays same).1
     (subst InProfile (sym p.stays.carried.made) profile) (still knows))
 
 -- a fault fell in a reset that failed
 pub resets_fell : (broken : Broken) (r : Result Session Broken) (a b : BusView) → Resets broken r a b
-    → Knows broken.session a.card.made → InProfile a.card.made → IsErr r → a.faults < b.faults
+    → Knows broken.session a → InProfile a.card.made → IsErr r → a.faults < b.faults
 resets_fell broken r a b p knows profile err =
     fell a b p.stays (λ same. refuted r err (p.fine same profile knows))
 

@@ -11,7 +11,7 @@ use Rattle.mmc_switch.specs.declared.session.Session.{Session}
 -- A card that stood as its session says, with this known of it, is ready for that session if this is a success.
 abbrev pub Restores : Info → Result Unit Cause → BusView → BusView → Type 0
 Restores info result old new =
-    (session : Session) → session.info ≡ info → Knows session old.card.made → StandsAs session old → IsOk result
+    (session : Session) → session.info ≡ info → Knows session old → StandsAs session old → IsOk result
     → IsReady session new
 
 -- a card that is ready for its session, or one that is left loose

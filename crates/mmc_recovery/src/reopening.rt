@@ -22,8 +22,8 @@ pub fn reset<B: Bus>(bus: &mut B, broken: Broken) -> Result<Session, Broken>
         × (session.selected ≡ Some User)) }
     ensures err { IfErr result (λ left. left ≡ given_up broken) }
     ensures moves { Moves
-        (λ old new. Knows broken.session old.card.made → Leaves result new)
-        (λ old new. InProfile old.card.made → Knows broken.session old.card.made → IsOk result)
+        (λ old new. Knows broken.session old → Leaves result new)
+        (λ old new. InProfile old.card.made → Knows broken.session old → IsOk result)
         (B.view bus.old) (B.view bus.new) }
 {
     let Ok(session) = initialize(bus) else {

@@ -67,7 +67,7 @@ module _ (job : Job) (blocks : List Sector) (faults : ℕ) (kind : Kind) (addres
     (addressed : address ≡ address_of job.session.info.addressing job.start)
     (at : IsIn job blocks (Other Command) faults a) where
   sector_is : sector_at a.card.made address ≡ job.start
-  sector_is = rw addressed (sector_named job.session a.card.made at.under_way.knows job.start)
+  sector_is = rw addressed (sector_named job.session a at.under_way.knows job.start)
 
   -- the exact card can start
   can_start : Exact job blocks (Other Command) a.card → CanStart kind job.way a.card address
@@ -77,14 +77,14 @@ module _ (job : Job) (blocks : List Sector) (faults : ℕ) (kind : Kind) (addres
       let some = job.some in
       let fits = job.inside in
       let part = part_in job.session a job.selected at.under_way.stands selected in
-      let room = room_is job.session a.card at.under_way.is_card.sizes at.under_way.knows (omega (arith, some, fits)) in
+      let room = room_is job.session a at.under_way.is_card.sizes at.under_way.knows (omega (arith, some, fits)) in
       let size : length (stored a.card a.card.part) ≡ room_of job.session =
       ap (λ p. length (stored a.card p)) part ∙ room in
       let at_start = sector_is in
       let inside : nat_le (length (stored a.card a.card.part)) (sector_at a.card.made address) ≡ false =
       below_end _ _ (omega (arith, some, fits, size, at_start)) in
       let whole : is_misaligned a.card.made address ≡ false =
-      rw addressed (address_aligned job.session a.card.made at.under_way.knows job.start) in
+      rw addressed (address_aligned job.session a at.under_way.knows job.start) in
       let block : a.card.block_length ≡ 512 =
       ap (λ (s : Setting). s.block_length) (set_in job.session a job.selected at.under_way.stands selected) in
       let unprotected : (is_write job.way && is_read_only a.card.made) ≡ false =

@@ -96,7 +96,7 @@ module _ (job : Job) (blocks : List Sector) (all : length blocks ≡ job.count) 
       let part = part_of job.session in
       let some = job.some in
       let fits = job.inside in
-      let room = room_is job.session b.card ready.is_card.sizes ready.knows (omega (arith, some, fits)) in
+      let room = room_is job.session b ready.is_card.sizes ready.knows (omega (arith, some, fits)) in
       cond_in_old (touches (unfinished b.card) part (job.start + i)) (value_of (unfinished b.card) (job.start + i))
       (known b.card part (job.start + i)) (slice_index_or blocks i [])
       (at_in (stored b.card part) (job.start + i) (slice_index_or blocks i [])

@@ -138,7 +138,7 @@ module _ (job : Job) (blocks : List Sector) (done faults : ℕ) (block : Sector)
         let part = part_in job.session a job.selected at.under_way.stands selected in
         let size : length (stored a.card a.card.part) ≡ room_of job.session =
         ap (λ p. length (stored a.card p)) part
-        ∙ room_is job.session a.card at.under_way.is_card.sizes at.under_way.knows (omega (arith, inside, more)) in
+        ∙ room_is job.session a at.under_way.is_card.sizes at.under_way.knows (omega (arith, inside, more)) in
         let long = taken_length a.card x.0 in
         let start = x.0.start in
         let room : nat_lt (a.card.start + length a.card.values) (length (stored a.card a.card.part)) ≡ true =

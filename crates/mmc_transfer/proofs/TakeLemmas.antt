@@ -207,7 +207,7 @@ module _ (job : Job) (blocks news : List Sector) (done faults : ℕ) (bytes : Se
 
     size_in : length (stored a.card (part_of job.session)) ≡ room_of job.session
     size_in =
-        let inside = job.inside in room_is job.session a.card at.under_way.is_card.sizes at.under_way.knows (omega (arith, inside, more))
+        let inside = job.inside in room_is job.session a at.under_way.is_card.sizes at.under_way.knows (omega (arith, inside, more))
 
     module _ (selected : is_selected a.card.state ≡ true) (x : IsSending done job blocks a.card) where
       here : a.card.part ≡ part_of job.session
@@ -306,14 +306,14 @@ module _ (job : Job) (blocks news : List Sector) (done faults : ℕ) (bytes : Se
           let sent_all = has_sent a.card (work.own refl).2.0 sending size_here came
           (last_as true (at_last (done + 1) job.count (is_counted job) all counted)) counted in
           let is = (work.own refl).2.1 in
-          let knows = knows_then job.session a.card b.card work.stays.carried at.under_way.knows in
+          let knows = knows_then job.session a b work.stays at.under_way.knows in
           let inside = job.inside in (
             ready_again job.session b work.is_card knows (stands_then job.session a b work.set at.under_way.stands)
                 (subst (IsQuiet Tran 0) (sym is) sent_all.0) (ap (λ (c : Card). c.is_busy) is ∙ sent_all.1)
                 (ap (λ (c : Card). c.lags) is ∙ sent_all.2),
             to_read job.way (AreRead (holds b.card) (part_of job.session) job.start news) (IsCarriedOut (change_of job news) b.card)
                 way
-                (are_read b.card (room_is job.session b.card work.is_card.sizes knows (omega (arith, inside, more)))
+                (are_read b.card (room_is job.session b work.is_card.sizes knows (omega (arith, inside, more)))
                 (subst (λ n. AreStored n job news b.card) all
                 (subst (AreStored (done + 1) job news) (sym is) sent_all.3))),
           )

@@ -113,7 +113,7 @@ fits_in job blocks view count r =
     let few = few_enough job.way blocks in
     let some = job.some in
     let inside = job.inside in
-    let room = room_is job.session view.card r.is_card.sizes r.knows (omega (arith, some, inside)) in
+    let room = room_is job.session view r.is_card.sizes r.knows (omega (arith, some, inside)) in
     omega (arith, few, inside, count, room)
 
 -- by the session, the start and the way that it began with
