@@ -4,13 +4,15 @@ use Rattle.std.specs.Prelude.{Err, IfOk, IsErr, IsOk, MatchResult, Ok, Result, i
 use Rattle.mmc_frame.specs.declared.kind.Kind.{Kind}
 use Rattle.mmc_frame.specs.declared.kind.Kind.TheVariants.{Mmc, Sd}
 use Rattle.mmc_card.specs.BusView.{BusView}
+use Rattle.mmc_card.specs.declared.exchange.Lines.{Lines}
 use Rattle.mmc_card.specs.declared.exchange.Timing.{Timing}
 use Rattle.mmc_card.specs.Profile.{InProfile}
 use Rattle.mmc_bus.proofs.WorkLemmas.{fell, moved_as, moved_then, quiet_parts, stays_same}
 use Rattle.mmc_bus.specs.Learned.{Stays}
 use Rattle.mmc_bus.specs.Work.{Moved, Narrows}
 use Rattle.mmc_card.specs.Made.{Made}
-use Rattle.mmc_switch.specs.Info.{IsInfo, IsTimingOf, lasting, lasting_timing}
+use Rattle.mmc_switch.proofs.UnderWayLemmas.{said_before}
+use Rattle.mmc_switch.specs.Info.{IsInfo, IsTimingOver, lasting, lasting_timing}
 use Rattle.mmc_switch.specs.Place.{IsReady}
 use Rattle.mmc_switch.specs.declared.session.Session.{Session}
 use Rattle.mmc_switch.specs.declared.info.Info.{Info}
@@ -39,14 +41,15 @@ opens_as Q (Ok session) r a b is same p =
 opens_as Q (Err fault) (Ok session) a b is same p = cc same
 opens_as Q (Err fault) (Err other) a b is same p = moved_as a b p tt (λ quiet profile. same ∙ p.fine quiet profile)
 
--- What is known for good is what the registers say.
-timing_lasts : (made : Made) (kind : Kind) (timing : Timing) → made.kind ≡ kind → IsTimingOf made timing
-    → IsTimingOf made (lasting_timing kind timing)
-timing_lasts made Sd timing is known = inr (is, refl)
-timing_lasts made Mmc timing is known = known
+-- What is known for good is what the registers say and the host can.
+timing_lasts : (limits : Lines) (made : Made) (kind : Kind) (timing : Timing) → made.kind ≡ kind
+    → IsTimingOver limits made timing → IsTimingOver limits made (lasting_timing kind timing)
+timing_lasts limits made Sd timing is known = inr (is, refl)
+timing_lasts limits made Mmc timing is known = known
 
-lasting_info : (made : Made) (info : Info) → IsInfo made info → IsInfo made (lasting info)
-lasting_info made info k = record {
+lasting_info : (limits : Lines) (made : Made) (info : Info) → IsInfo limits made info
+    → IsInfo limits made (lasting info)
+lasting_info limits made info k = record {
   kind = k.kind;
   addressing = k.addressing;
   rca = λ mmc. refl;
@@ -59,15 +62,15 @@ lasting_info made info k = record {
   trims = k.trims;
   cmd23 = k.cmd23;
   width = k.width;
-  timing = timing_lasts made info.kind info.timing (sym k.kind) k.timing;
+  timing = timing_lasts limits made info.kind info.timing (sym k.kind) k.timing;
 }
 
 pub opens_known : (session : Session) (info now : Info) (a b : BusView) → info ≡ lasting now → now ≡ session.info
-    → Opens (Ok session) a b → IsInfo a.card.made info
+    → Opens (Ok session) a b → IsInfo a.limits a.card.made info
 opens_known session info now a b is from p =
-    subst (IsInfo a.card.made) (sym (is ∙ ap lasting from))
-    (lasting_info a.card.made session.info
-    (subst (λ m. IsInfo m session.info) p.stays.carried.made p.own.knows.info))
+    subst (IsInfo a.limits a.card.made) (sym (is ∙ ap lasting from))
+    (lasting_info a.limits a.card.made session.info
+    (said_before (λ limits made. IsInfo limits made session.info) a b p.stays p.own.knows.info))
 
 -- Rounds.
 
