@@ -9,6 +9,7 @@ use Rattle.text_out.specs.Writing.{AppendsFront, Writes}
 use Rattle.text_out.proofs.WritingLemmas.{appends_more, front_after, front_before}
 use Rattle.mmc_card.specs.declared.exchange.Exchange.{Exchange}
 use Rattle.mmc_card.specs.Made.{Made}
+use Rattle.mmc_card.specs.declared.exchange.Lines.{Lines}
 use Rattle.mmc_card.specs.Sectors.{Sets}
 use Rattle.mmc_bus.specs.Trace.{HasItsFrame, last_of}
 use Rattle.card_text.specs.declared.event.ScriptEvent.{ScriptEvent}
@@ -24,12 +25,12 @@ bare old new text behind none wrote =
     subst (Appends old new) (append-nil text) (subst (λ t. Appends old new (text ++ t)) none wrote)
 
 -- the trace went out behind the answers, or the writer failed within it
-pub with_trace : {E : Type 0} (made : Made) (before later : Sets) (fell : ℕ) (script : List ScriptEvent) (n : ℕ)
+pub with_trace : {E : Type 0} (limits : Lines) (made : Made) (before later : Sets) (fell : ℕ) (script : List ScriptEvent) (n : ℕ)
     (exchanges : List Exchange) (start old new : Option (List ℕ)) (status : ℕ) (r : Result Unit E)
     → length exchanges ≤ n → All HasItsFrame exchanges
-    → IsServed made before later fell script None start old (Ok status) → Writes old new r (trace_text exchanges)
-    → IsServed made before later fell script (Some n) start new (ended_by status r)
-with_trace made before later fell script n exchanges start old new status (Ok x) few framed s wrote =
+    → IsServed limits made before later fell script None start old (Ok status) → Writes old new r (trace_text exchanges)
+    → IsServed limits made before later fell script (Some n) start new (ended_by status r)
+with_trace limits made before later fell script n exchanges start old new status (Ok x) few framed s wrote =
     let text = texts s.events s.replies in
     record {
       info = s.info;
@@ -43,7 +44,7 @@ with_trace made before later fell script n exchanges start old new status (Ok x)
           (bare start old text s.text_behind s.traced s.printed) wrote;
       status_is = s.status_is;
     }
-with_trace made before later fell script n exchanges start old new status (Err e) few framed s wrote =
+with_trace limits made before later fell script n exchanges start old new status (Err e) few framed s wrote =
     let text = texts s.events s.replies in
     record {
       info = s.info;
@@ -84,12 +85,12 @@ front_with_trace n [] old new text behind none front =
 front_with_trace n (e ∷ left) old new text behind none front =
     record { text_behind = behind; traced = none; printed = front }
 
-fault_with_trace : (made : Made) (before later : Sets) (fell : ℕ) (script : List ScriptEvent) (n : ℕ)
+fault_with_trace : (limits : Lines) (made : Made) (before later : Sets) (fell : ℕ) (script : List ScriptEvent) (n : ℕ)
     (old new : Option (List ℕ)) (fault : ServeFault)
-    → IsServed made before later fell script None old new (Err fault)
-    → IsServed made before later fell script (Some n) old new (Err fault)
-fault_with_trace made before later fell script n old new NoMemory served = served
-fault_with_trace made before later fell script n old new Write s =
+    → IsServed limits made before later fell script None old new (Err fault)
+    → IsServed limits made before later fell script (Some n) old new (Err fault)
+fault_with_trace limits made before later fell script n old new NoMemory served = served
+fault_with_trace limits made before later fell script n old new Write s =
     let front = front_with_trace n s.left old new (texts s.events s.replies) s.text_behind s.traced s.printed in
     record {
       info = s.info;
@@ -102,18 +103,18 @@ fault_with_trace made before later fell script n old new Write s =
       traced = front.traced;
       printed = front.printed;
     }
-fault_with_trace made before later fell script n old new NoCard unopened = unopened
-fault_with_trace made before later fell script n old new Voltage unopened = unopened
-fault_with_trace made before later fell script n old new Unsupported unopened = unopened
-fault_with_trace made before later fell script n old new Locked unopened = unopened
-fault_with_trace made before later fell script n old new fault served = absurd served
+fault_with_trace limits made before later fell script n old new NoCard unopened = unopened
+fault_with_trace limits made before later fell script n old new Voltage unopened = unopened
+fault_with_trace limits made before later fell script n old new Unsupported unopened = unopened
+fault_with_trace limits made before later fell script n old new Locked unopened = unopened
+fault_with_trace limits made before later fell script n old new fault served = absurd served
 
 -- the fault is handed on
-pub handed_on : (made : Made) (before later : Sets) (fell : ℕ) (script : List ScriptEvent) (n : ℕ)
+pub handed_on : (limits : Lines) (made : Made) (before later : Sets) (fell : ℕ) (script : List ScriptEvent) (n : ℕ)
     (old new : Option (List ℕ)) (fault : ServeFault) (r : Result ℕ ServeFault) → IsErrAnd r (λ e. e ≡ fault)
-    → IsServed made before later fell script None old new (Err fault)
-    → IsServed made before later fell script (Some n) old new r
-handed_on made before later fell script n old new fault (Ok status) same served = absurd same
-handed_on made before later fell script n old new fault (Err e) same served =
-    subst (λ f. IsServed made before later fell script (Some n) old new (Err f)) (sym same)
-    (fault_with_trace made before later fell script n old new fault served)
+    → IsServed limits made before later fell script None old new (Err fault)
+    → IsServed limits made before later fell script (Some n) old new r
+handed_on limits made before later fell script n old new fault (Ok status) same served = absurd same
+handed_on limits made before later fell script n old new fault (Err e) same served =
+    subst (λ f. IsServed limits made before later fell script (Some n) old new (Err f)) (sym same)
+    (fault_with_trace limits made before later fell script n old new fault served)

@@ -11,6 +11,7 @@ use Rattle.mmc_card.specs.BusView.{BusView}
 use Rattle.mmc_card.specs.Faults.{FallAtMost, FallNoMore}
 use Rattle.mmc_card.specs.Card.{holds}
 use Rattle.mmc_card.specs.Made.{Made}
+use Rattle.mmc_card.specs.declared.exchange.Lines.{Lines}
 use Rattle.mmc_card.specs.Profile.{InProfile}
 use Rattle.mmc_card.specs.declared.part.Part.{Part}
 use Rattle.mmc_card.specs.Sectors.{Sector, Sets, Within}
@@ -78,9 +79,9 @@ pub record Laws : Type 0 where
   pub ends : EndLaw
 
 -- What is known of a device that was opened, and of what was served on it.
-pub record Served {B : Type 0} (view : B → BusView) (start now : DeviceView B) (made : Made) (before later : Sets)
-    (fell : ℕ) : Type 0 where
-  pub of_card : IsInfo made start.info
+pub record Served {B : Type 0} (view : B → BusView) (start now : DeviceView B) (limits : Lines) (made : Made)
+    (before later : Sets) (fell : ℕ) : Type 0 where
+  pub of_card : IsInfo limits made start.info
   pub idle : unanswered_of start ≡ 0
   pub agrees : (in_profile : Bool) → (in_profile ≡ true → InProfile made)
       → AgreesCounted view start (opened_after (view start.bus).faults in_profile before)
@@ -107,8 +108,9 @@ none_to_change : (info : Info) (later : Sets) (m : Machine) → m.in_service ≡
     → Within later (all_failed info m.in_service m.sets) → Within later m.sets
 none_to_change info later m idle within = subst (λ ws. Within later (all_failed info ws m.sets)) idle within
 
-module _ {B : Type 0} (view : B → BusView) (start now : DeviceView B) (made : Made) (before later : Sets)
-    (fell : ℕ) (laws : Laws) (decided : AreDecided before) (device : Served view start now made before later fell)
+module _ {B : Type 0} (view : B → BusView) (start now : DeviceView B) (limits : Lines) (made : Made)
+    (before later : Sets)
+    (fell : ℕ) (laws : Laws) (decided : AreDecided before) (device : Served view start now limits made before later fell)
     (script : List ScriptEvent) where
   -- an execution from the machine that holds what the card held, over the sectors that the device has then
   executed_over_sectors : (left : List ScriptEvent) (events : List MachineEvent) (replies : List Reply)
@@ -153,7 +155,7 @@ module _ {B : Type 0} (view : B → BusView) (start now : DeviceView B) (made : 
 
   pub is_served : {E : Type 0} (old new : Option (List ℕ)) (r : Result Bool E)
       → ServesScript view start now (script ++ Run ∷ []) old new r
-      → IsServed made before later fell (script ++ Run ∷ []) None old new (outcome_of r)
+      → IsServed limits made before later fell (script ++ Run ∷ []) None old new (outcome_of r)
   is_served old new (Ok bad) served = record {
     info = start.info;
     of_card = device.of_card;
@@ -208,7 +210,7 @@ pub kept_at_end : {B : Type 0} (view : B → BusView) (last now : B) → last �
 kept_at_end view last now same kept = subst (λ b. (view b).is_kept ≡ true) same kept
 
 module _ {B : Type 0} (view : B → BusView) (start now : DeviceView B) (first last : B)
-    (info : (view start.bus).is_kept ≡ true → IsInfo (view first).card.made start.info)
+    (info : (view start.bus).is_kept ≡ true → IsInfo (view first).limits (view first).card.made start.info)
     (waits : start.waits ≡ []) (idle : in_service_of start.service ≡ [])
     (opens : (view start.bus).is_kept ≡ true → Stays (view first) (view start.bus) × Narrows (view first) (view start.bus))
     (machine : (view start.bus).is_kept ≡ true → (c : Counted) → IsOpened (view start.bus) c → AgreesCounted view start c)
@@ -220,7 +222,7 @@ module _ {B : Type 0} (view : B → BusView) (start now : DeviceView B) (first l
   was_kept = later.kept (kept_at_end view last now.bus ends kept)
 
   -- a device that was opened on a bus, and served, and closed
-  pub served_device : Served view start now (view first).card.made (holds (view first).card) (holds (view last).card)
+  pub served_device : Served view start now (view first).limits (view first).card.made (holds (view first).card) (holds (view last).card)
       ((view last).faults - (view first).faults)
   served_device =
       let (stays, narrows) = opens was_kept in record {
@@ -273,7 +275,7 @@ pub unopened : {B : Type 0} (view : B → BusView) (first last : B) (script : Li
     (fault : OpenFault) → (fault ≡ Unopened.NoMemory → ⊥)
     → Narrows (view first) (view last)
     → (InProfile (view first).card.made → (view first).faults + 3 ≤ (view last).faults)
-    → IsServed (view first).card.made (holds (view first).card) (holds (view last).card)
+    → IsServed (view first).limits (view first).card.made (holds (view first).card) (holds (view last).card)
     ((view last).faults - (view first).faults) script None old old (Err (opening_fault fault))
 unopened view first last script old Unopened.NoMemory never within three = absurd (never refl)
 unopened view first last script old Unopened.NoCard never within three = left_alone view first last old within three
@@ -307,8 +309,8 @@ module _ (spec : CardSpec) (plan : List PlannedFault) (unrefused : refusal_of sp
       omega (arith, fell)
 
   on_new_card : (r : Result ℕ ServeFault)
-      → IsServed sim.card.made (holds sim.card) (holds later.card) (later.faults - sim.faults) (script ++ Run ∷ []) trace
-      old new r
+      → IsServed sim.wire.limits sim.card.made (holds sim.card) (holds later.card) (later.faults - sim.faults)
+      (script ++ Run ∷ []) trace old new r
       → (refusal_of spec ≡ None) × IsServedOnNewCard spec plan script trace old new r
   on_new_card r served = (
     unrefused,
@@ -318,13 +320,15 @@ module _ (spec : CardSpec) (plan : List PlannedFault) (unrefused : refusal_of sp
       later = holds later.card;
       fell = later.faults - sim.faults;
       few = few_fell;
-      served = served;
+      served =
+          subst (λ l. IsServed l sim.card.made (holds sim.card) (holds later.card) (later.faults - sim.faults)
+          (script ++ Run ∷ []) trace old new r) is_new.unused.limits served;
     },
   )
 
   pub on_spec : (r : Result ℕ ServeFault)
-      → IsServed sim.card.made (holds sim.card) (holds later.card) (later.faults - sim.faults) (script ++ Run ∷ []) trace
-      old new r
+      → IsServed sim.wire.limits sim.card.made (holds sim.card) (holds later.card) (later.faults - sim.faults)
+      (script ++ Run ∷ []) trace old new r
       → IsServedOnSpec spec plan script trace old new r
   on_spec (Ok status) served = on_new_card (Ok status) served
   on_spec (Err Write) served = on_new_card (Err Write) served

@@ -5,7 +5,9 @@ use Rattle.std.specs.Fmt.{decimal}
 use Rattle.std.specs.List.{All}
 use Rattle.std.specs.Io.KnownBytes.{Appends}
 use Rattle.text_out.specs.Writing.{AppendsFront}
+use Rattle.mmc_card.specs.Limits.{all_lines}
 use Rattle.mmc_card.specs.declared.exchange.Exchange.{Exchange}
+use Rattle.mmc_card.specs.declared.exchange.Lines.{Lines}
 use Rattle.mmc_bus.specs.ExchangeText.{lines_text}
 use Rattle.mmc_bus.specs.Trace.{HasItsFrame}
 use Rattle.mmc_bus.specs.Wires.{IsUnused}
@@ -137,11 +139,11 @@ ExecutedInAnyProfile made info before later fell script left events replies =
     → ExecutionOverSectors info in_profile before later fell script left events replies
 
 -- The script was served and its text went out, with the trace behind it, and the status tells how its requests fared.
-pub record IsServedToItsEnd (made : Made) (before later : Sets) (fell : ℕ) (script : List ScriptEvent)
+pub record IsServedToItsEnd (limits : Lines) (made : Made) (before later : Sets) (fell : ℕ) (script : List ScriptEvent)
     (trace : Option ℕ)
     (old new : Option (List ℕ)) (status : ℕ) : Type 0 where
   pub info : Info
-  pub of_card : IsInfo made info
+  pub of_card : IsInfo limits made info
   pub events : List MachineEvent
   pub replies : List Reply
   pub execution : ExecutedInAnyProfile made info before later fell script [] events replies
@@ -152,10 +154,10 @@ pub record IsServedToItsEnd (made : Made) (before later : Sets) (fell : ℕ) (sc
   pub status_is : status ≡ status_of (any_bad replies)
 
 -- After a write fault a prefix of the script was served, and a prefix of what is printed of it went out.
-pub record IsServedInPart (made : Made) (before later : Sets) (fell : ℕ) (script : List ScriptEvent) (trace : Option ℕ)
+pub record IsServedInPart (limits : Lines) (made : Made) (before later : Sets) (fell : ℕ) (script : List ScriptEvent) (trace : Option ℕ)
     (old new : Option (List ℕ)) : Type 0 where
   pub info : Info
-  pub of_card : IsInfo made info
+  pub of_card : IsInfo limits made info
   pub events : List MachineEvent
   pub replies : List Reply
   -- what of the script wasn't served
@@ -172,20 +174,20 @@ pub record IsUnopened (made : Made) (before later : Sets) (fell : ℕ) (old new 
   pub within : Within later before
   pub three_fell : InProfile made → 3 ≤ fell
 
--- What became of a script on a card that is made so, whose sectors held `before` and then `later`, while so many faults
--- fell. Where memory was refused nothing was served or printed.
-abbrev pub IsServed : Made → Sets → Sets → ℕ → List ScriptEvent → Option ℕ → Option (List ℕ) → Option (List ℕ)
+-- What became of a script on a card that is made so, over a host with these limits. The card's sectors held `before` and then
+-- `later`, while so many faults fell. Where memory was refused nothing was served or printed.
+abbrev pub IsServed : Lines → Made → Sets → Sets → ℕ → List ScriptEvent → Option ℕ → Option (List ℕ) → Option (List ℕ)
     → Result ℕ ServeFault → Type 0
-IsServed made before later fell script trace old new (Ok status) =
-    IsServedToItsEnd made before later fell script trace old new status
-IsServed made before later fell script trace old new (Err Write) =
-    IsServedInPart made before later fell script trace old new
-IsServed made before later fell script trace old new (Err NoMemory) = (later ≡ before) × (new ≡ old)
-IsServed made before later fell script trace old new (Err NoCard) = IsUnopened made before later fell old new
-IsServed made before later fell script trace old new (Err Voltage) = IsUnopened made before later fell old new
-IsServed made before later fell script trace old new (Err Unsupported) = IsUnopened made before later fell old new
-IsServed made before later fell script trace old new (Err Locked) = IsUnopened made before later fell old new
-IsServed made before later fell script trace old new (Err fault) = ⊥
+IsServed limits made before later fell script trace old new (Ok status) =
+    IsServedToItsEnd limits made before later fell script trace old new status
+IsServed limits made before later fell script trace old new (Err Write) =
+    IsServedInPart limits made before later fell script trace old new
+IsServed limits made before later fell script trace old new (Err NoMemory) = (later ≡ before) × (new ≡ old)
+IsServed limits made before later fell script trace old new (Err NoCard) = IsUnopened made before later fell old new
+IsServed limits made before later fell script trace old new (Err Voltage) = IsUnopened made before later fell old new
+IsServed limits made before later fell script trace old new (Err Unsupported) = IsUnopened made before later fell old new
+IsServed limits made before later fell script trace old new (Err Locked) = IsUnopened made before later fell old new
+IsServed limits made before later fell script trace old new (Err fault) = ⊥
 
 -- So over a bus that is kept to the end, if the sectors of its card were decided; no more faults are to fall than before.
 -- At the script's end turns are taken until each request has its answer.
@@ -194,7 +196,7 @@ abbrev pub IsServedOver : BusView → BusView → List ScriptEvent → Option �
 IsServedOver before later script trace old new result =
     later.is_kept ≡ true → AreDecided (holds before.card)
     → FallNoMore before later
-    × IsServed before.card.made (holds before.card) (holds later.card) (later.faults - before.faults)
+    × IsServed before.limits before.card.made (holds before.card) (holds later.card) (later.faults - before.faults)
     (script ++ Run ∷ []) trace old new result
 
 -- nothing went out, unless the writer failed
@@ -214,7 +216,7 @@ pub record IsNew (spec : CardSpec) (plan : List PlannedFault) (sim : SimView) : 
   pub planned : All (λ p. fault_at sim.plan p.0 ≡ Some p.1) plan
   pub no_others : length sim.plan ≤ length plan
 
--- A script was served on such a card. So many faults fell, no more than were planned.
+-- A script was served on such a card, over its bus, which limits nothing. So many faults fell, no more than were planned.
 pub record IsServedOnNewCard (spec : CardSpec) (plan : List PlannedFault) (script : List ScriptEvent) (trace : Option ℕ)
     (old new : Option (List ℕ)) (result : Result ℕ ServeFault) : Type 0 where
   pub sim : SimView
@@ -223,7 +225,7 @@ pub record IsServedOnNewCard (spec : CardSpec) (plan : List PlannedFault) (scrip
   pub later : Sets
   pub fell : ℕ
   pub few : fell ≤ length plan
-  pub served : IsServed sim.card.made (holds sim.card) later fell (script ++ Run ∷ []) trace old new result
+  pub served : IsServed all_lines sim.card.made (holds sim.card) later fell (script ++ Run ∷ []) trace old new result
 
 -- why a card isn't built: what its spec is refused for, or want of memory where it isn't refused
 abbrev pub IsWhyUnbuilt : CardSpec → ServeFault → Type 0

@@ -3,6 +3,7 @@ ghost use Rattle.std.specs.Prelude.{◌≡◌, ◌≤◌, IfErr, IfOk, List, Non
 ghost use Rattle.std.specs.List.{All};
 ghost use Rattle.text_out.specs.Writing.{Writes};
 ghost use Rattle.mmc_card.specs.Made.{Made};
+ghost use Rattle.mmc_card.specs.declared.exchange.Lines.{Lines};
 ghost use Rattle.mmc_card.specs.Sectors.{Sets};
 ghost use Rattle.mmc_bus.specs.Trace.{HasItsFrame, last_of};
 ghost use Rattle.mmc_bus.specs.declared.trace.TheConstants.{MAX_KEPT};
@@ -71,9 +72,10 @@ pub fn end_with_trace<B: Bus, W: Write>(
     served: Result<u8, ServeFault>,
     out: &mut W,
 ) -> Result<u8, ServeFault>
-    ensures served { (made : Made) → (before later : Sets) → (fell : ℕ) → (script : List ScriptEvent) → (start : Option (List ℕ))
-        → IsServed made before later fell script None start (W.contents out.old) served
-        → IsServed made before later fell script (Some n) start (W.contents out.new) result }
+    ensures served { (limits : Lines) → (made : Made) → (before later : Sets) → (fell : ℕ) → (script : List ScriptEvent)
+        → (start : Option (List ℕ))
+        → IsServed limits made before later fell script None start (W.contents out.old) served
+        → IsServed limits made before later fell script (Some n) start (W.contents out.new) result }
     ensures unwritten { (start : Option (List ℕ)) → IfErr served (λ fault. IsUnwritten start (W.contents out.old) fault)
         → IfErr result (λ fault. IsUnwritten start (W.contents out.new) fault) }
 {

@@ -19,7 +19,7 @@ returns-clause-served g c = λ kept decided.
       bounded_device g.B.Bus.view c.in-Ok.device c.play-served.new.device c.args.bus c.close-bus.result o.info o.ok.0
           o.ok.1 o.stays o.machine c.play-served.ensures.later_device c.close-bus.ensures.bus
           c.close-bus.ensures.agrees kept _ _ _ c.play-served.result serves,
-      is_served g.B.Bus.view c.in-Ok.device c.play-served.new.device first.card.made (holds first.card) (holds last.card)
+      is_served g.B.Bus.view c.in-Ok.device c.play-served.new.device first.limits first.card.made (holds first.card) (holds last.card)
           (last.faults - first.faults) laws decided
           (served_device g.B.Bus.view c.in-Ok.device c.play-served.new.device c.args.bus c.close-bus.result o.info o.ok.0
           o.ok.1 o.stays o.machine c.play-served.ensures.later_device c.close-bus.ensures.bus
