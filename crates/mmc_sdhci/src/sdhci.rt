@@ -31,6 +31,7 @@ pub struct Sdhci<R: Registers> {
     ghost transfer: { WhereKept (R.view registers) ((R.view registers).transfer ≡ state.transfer) },
     ghost words: { are_words state.transfer ≡ true },
     ghost lines: { WhereKept (R.view registers) (lines_in (R.view registers).settings.control ≡ lines_of state.ios) },
+    ghost most: { WhereKept (R.view registers) (limits_in (R.view registers).built.capabilities ≡ limits) },
     ghost clock: { WhereKept (R.view registers) (IsAtMost (clock_limit state.ios) (R.view registers)) },
     ghost buffers: { WhereKept (R.view registers) ((R.view registers).built.buffer ≡ buffer) },
     ghost base_clock: { IsBaseClock base version (R.view registers) },

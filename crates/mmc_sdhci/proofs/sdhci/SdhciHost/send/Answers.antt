@@ -7,6 +7,6 @@ pub returns : goal.returns
 returns g c =
     sent_over (g.R.Registers.view c.args.self.now.registers) (g.R.Registers.view c.send-heard.new.registers)
     c.args.self.now.state c.sent-self.result c.args.self.now.limits c.args.command c.send-heard.result
-    c.args.self.now.lines
+    c.args.self.now.lines c.args.self.now.most
     (c.sent-self.ensures ∙ ap (λ (b : Bool). sent c.args.self.now.state c.args.command b) c.is_ok.ensures.value)
     c.send-heard.ensures.sent
