@@ -34,6 +34,17 @@ begun =
       transfer = Data.Nothing;
     }
 
+-- between two commands to a card that CMD7 has selected, on these lines
+abbrev pub resting : Lines → HostState
+resting lines =
+    record {
+      ios = record { width = lines.width; timing = lines.timing; is_identifying = false };
+      is_identifying = false;
+      is_app = false;
+      count = 0;
+      transfer = Data.Nothing;
+    }
+
 -- behind a command: identification begins with CMD0, and ends when CMD7 is answered
 abbrev pub sent : HostState → HostCommand → Bool → HostState
 sent state command is_answered =

@@ -6,7 +6,7 @@ ghost use Rattle.mmc_card.specs.Faults.{CommandStep, PollStep, ReadStep, Spells,
 ghost use Rattle.mmc_bus.specs.Wires.{bus_view_with};
 ghost use Rattle.mmc_host.specs.Hosts.{Does, IsUnused, IsWithin, OnlySets, ReadsBlock, Replies, Waits};
 ghost use Rattle.mmc_host.specs.Hosts.{Where, WritesBlock, answer_heard, bus_over};
-ghost use Rattle.mmc_host.specs.HostStates.{AreMovable, IsFree, IsTold, IsToCome, IsToGo, lines_of};
+ghost use Rattle.mmc_host.specs.HostStates.{AreMovable, IsFree, IsTold, IsToCome, IsToGo, lines_of, resting};
 
 use crate::host::Host;
 use crate::meaning::meant;
@@ -79,6 +79,27 @@ impl<H: Host> HostBus<H> {
             host,
             wire: Wire::within(limits),
             state: HostState::new(),
+            work: Work::Settling,
+            is_misused: false,
+        }
+    }
+
+    /// The bus over a host that is between two commands to a card that is selected, on these lines: how one goes on that has
+    /// kept what it knows elsewhere.
+    pub fn resume(host: H, lines: Lines) -> HostBus<H>
+        requires { Where (H.view host) ((H.view host).state ≡ resting lines) }
+        ensures view { bus_over (H.view result.host) result.wire result.is_misused
+            ≡ bus_view_with (H.view host).card (H.view host).faults (H.view host).may_fall (H.view host).is_kept result.wire }
+        ensures lines { result.wire.lines ≡ lines }
+        ensures limits { Where (H.view host) (result.wire.limits ≡ (H.view host).limits) }
+    {
+        let limits = host.limits();
+        let mut wire = Wire::within(limits);
+        wire.set_lines(lines.width, lines.timing);
+        HostBus {
+            host,
+            wire,
+            state: HostState::resting(lines),
             work: Work::Settling,
             is_misused: false,
         }

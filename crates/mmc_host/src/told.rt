@@ -1,7 +1,7 @@
 // What a host controller is told, and what it says.
 ghost use Rattle.std.specs.Prelude.{◌≡◌, ◌↔◌, IsTrue, false, true};
 ghost use Rattle.mmc_card.specs.declared.exchange.Timing.TheVariants.{Default, High};
-ghost use Rattle.mmc_host.specs.HostStates.{AreMovable, IsFree, IsTold, IsToCome, IsToGo, begun, block_passed, lines_of, sent};
+ghost use Rattle.mmc_host.specs.HostStates.{AreMovable, IsFree, IsTold, IsToCome, IsToGo, begun, block_passed, lines_of, resting, sent};
 
 use crate::data::{Data, data_of};
 use crate::meaning::meant;
@@ -124,6 +124,23 @@ impl HostState {
                 is_identifying: true,
             },
             is_identifying: true,
+            is_app: false,
+            count: 0,
+            transfer: Data::Nothing,
+        }
+    }
+
+    /// Between two commands to a card that is selected, on these lines.
+    pub fn resting(lines: Lines) -> HostState
+        ensures { result ≡ resting lines }
+    {
+        HostState {
+            ios: Ios {
+                width: lines.width,
+                timing: lines.timing,
+                is_identifying: false,
+            },
+            is_identifying: false,
             is_app: false,
             count: 0,
             transfer: Data::Nothing,

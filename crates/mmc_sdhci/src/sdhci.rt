@@ -1,8 +1,8 @@
 ghost use Rattle.std.specs.Prelude.{◌<◌, ◌≡◌, IfOk, true};
-ghost use Rattle.mmc_host.specs.HostStates.{lines_of};
+ghost use Rattle.mmc_host.specs.HostStates.{lines_of, resting};
 ghost use Rattle.mmc_host.specs.Hosts.{IsUnused};
 ghost use Rattle.mmc_sdhci.specs.Controller.{IsAtMost, IsAtRest, Settled, limits_in, lines_in};
-ghost use Rattle.mmc_sdhci.specs.Driver.{IsBaseClock, IsNew, IsSameCard, are_words, clock_limit, host_over};
+ghost use Rattle.mmc_sdhci.specs.Driver.{IsBaseClock, IsNew, IsSameCard, are_words, clock_limit, host_over, speed_limit};
 ghost use Rattle.mmc_sdhci.specs.Moving.{WhereKept};
 
 use crate::buffer::Buffer;
@@ -82,6 +82,37 @@ impl<R: Registers> Sdhci<R> {
         Ok(Sdhci {
             registers,
             state: HostState::new(),
+            limits: limits_in(capabilities),
+            buffer,
+            base,
+            version,
+        })
+    }
+
+    /// Goes on with a controller that is between two commands to a card that is selected, on these lines, as a driver left it that is
+    /// there no more. Nothing is set anew.
+    ///
+    /// # Errors
+    /// `NoBaseClock` where the controller doesn't say how fast its clock is. The registers are given back.
+    pub fn resume(registers: R, buffer: Buffer, lines: Lines) -> Result<Sdhci<R>, (R, StartFault)>
+        requires new { IsNew (R.view registers) }
+        requires buffer { WhereKept (R.view registers) ((R.view registers).built.buffer ≡ buffer) }
+        requires lines { WhereKept (R.view registers) (lines_in (R.view registers).settings.control ≡ lines) }
+        requires clock { WhereKept (R.view registers) (IsAtMost (speed_limit lines.timing) (R.view registers)) }
+        ensures same { IfOk result (λ host. Settled (R.view registers)
+            (IsSameCard (R.view registers) (R.view host.registers)) (R.view host.registers)) }
+        ensures resting { IfOk result (λ host. host.state ≡ resting lines) }
+    {
+        let mut registers = registers;
+        let capabilities = registers.read32(CAPABILITIES);
+        let version = registers.read8(VERSION);
+        let base = base_clock(capabilities, version);
+        if base == 0 {
+            return Err((registers, StartFault::NoBaseClock));
+        }
+        Ok(Sdhci {
+            registers,
+            state: HostState::resting(lines),
             limits: limits_in(capabilities),
             buffer,
             base,

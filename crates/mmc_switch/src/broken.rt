@@ -45,6 +45,13 @@ impl Broken {
         self.must_reset
     }
 
+    /// The session as it was when something failed.
+    pub fn session(&self) -> &Session
+        ensures { result.now ≡ self.now.session }
+    {
+        &self.session
+    }
+
     /// The session as it was, once the card was brought back in order: ready wherever the card is as that session says.
     /// Nothing here brings it in order; what does, says so in its own contract.
     pub fn into_session(self) -> Session

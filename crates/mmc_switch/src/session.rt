@@ -29,6 +29,25 @@ impl Session {
         }
     }
 
+    /// The session of which this is known, as a host that has kept it elsewhere goes on. Whether the card is so is for the caller's
+    /// contract to say.
+    pub fn of(info: Info, partition_config: u8, selected: Option<Part>) -> Session
+        ensures { result ≡ record { info = info; partition_config = partition_config; selected = selected } }
+    {
+        Session {
+            info,
+            partition_config,
+            selected,
+        }
+    }
+
+    /// PARTITION_CONFIG of an eMMC device, as it was read when the card was opened; 0 of an SD card.
+    pub fn partition_config(&self) -> u8
+        ensures { result ≡ self.now.partition_config }
+    {
+        self.partition_config
+    }
+
     /// What the host knows of the card.
     pub fn info(&self) -> &Info
         ensures { result.now ≡ self.now.info }
