@@ -32,6 +32,10 @@ impl Bus for DeafBus {
 
     ghost view = { λ bus. unkept bus.wire };
 
+    fn limits(&self) -> Lines {
+        self.wire.limits
+    }
+
     fn command(&mut self, frame: [u8; 6], want: Want) -> Reply {
         let reply = Reply::Silent;
         self.wire.note(Exchange::Command { frame, want, reply });
@@ -251,6 +255,10 @@ impl Bus for Wanting {
     ghost use Rattle.mmc_bus.specs.ScriptedBus.{scripted_bus_view};
 
     ghost view = { λ b. scripted_bus_view b.bus };
+
+    fn limits(&self) -> Lines {
+        self.bus.limits()
+    }
 
     fn command(&mut self, frame: [u8; 6], want: Want) -> Reply {
         self.want = want;

@@ -13,10 +13,11 @@ use mmc_host::*;
 use std::alloc::Global;
 use std::test::Fail;
 
-// A controller that notes whether a command of identification came at more than 400 kHz.
+// A controller with these limits. It notes whether a command of identification came at more than 400 kHz.
 #[derive(Drop)]
 struct Controller {
     card: SimCard,
+    limits: Lines,
     ios: Option<Ios>,
     was_too_fast: bool,
 }
@@ -62,10 +63,7 @@ impl Host for Controller {
     ghost view = { λ _. unkept_host };
 
     fn limits(&self) -> Lines {
-        Lines {
-            width: Width::Eight,
-            timing: Timing::High,
-        }
+        self.limits
     }
 
     fn set_ios(&mut self, ios: Ios) {
@@ -107,6 +105,16 @@ impl Host for Controller {
     }
 }
 
+// The bus over a controller with these limits.
+fn bus_over(card: SimCard, limits: Lines) -> HostBus<Controller> {
+    HostBus::new(Controller {
+        card,
+        limits,
+        ios: None,
+        was_too_fast: false,
+    })
+}
+
 // A request of two sectors, from sector 1 on.
 fn requests(alloc: Global) -> Result<[Request; 2], Fail> {
     let write = Request::Write {
@@ -134,12 +142,7 @@ fn serves_over_a_controller(rt: HostRuntime) -> Result<(), Fail> {
         ] {
             card.plan(exchange, fault).ok().ok_or("not planned")?;
         }
-        let host = Controller {
-            card,
-            ios: None,
-            was_too_fast: false,
-        };
-        let bus = HostBus::new(host);
+        let bus = bus_over(card, Lines::all());
         let mut device = BlockDev::open(rt.alloc(), bus).ok().ok_or("no device")?;
         for request in requests(rt.alloc())? {
             assert!(rt; device.submit(rt.alloc(), 1, request).is_ok());
@@ -158,6 +161,52 @@ fn serves_over_a_controller(rt: HostRuntime) -> Result<(), Fail> {
         let bus = device.close();
         assert!(rt; !bus.is_misused());
         assert!(rt; !bus.host().was_too_fast);
+    }
+    Ok(())
+}
+
+// The lines that a card uses over a host with these limits, once it was opened and gave back what was written.
+fn lines_used(alloc: Global, which: Which, limits: Lines) -> Result<Lines, Fail> {
+    let bus = bus_over(built(alloc, spec_of(which))?, limits);
+    let mut device = BlockDev::open(alloc, bus).ok().ok_or("no device")?;
+    for request in requests(alloc)? {
+        device.submit(alloc, 1, request).ok().ok_or("refused")?;
+    }
+    let answers = device.run(alloc)?;
+    let is_read = match answers.last() {
+        Some(
+            Completion {
+                answer: Answer::Data(bytes),
+                ..
+            },
+        ) => is_all(bytes.as_slice(), 0x5a),
+        _ => false,
+    };
+    let lines = Lines {
+        width: device.info().width,
+        timing: device.info().timing,
+    };
+    if !is_read || device.close().is_misused() {
+        return Err("not served".into());
+    }
+    Ok(lines)
+}
+
+// Both cards have four lines at least, and high speed.
+#[test]
+fn uses_no_more_lines_than_the_host_has(rt: HostRuntime) -> Result<(), Fail> {
+    let four = Lines {
+        width: Width::Four,
+        timing: Timing::High,
+    };
+    let one = Lines {
+        width: Width::One,
+        timing: Timing::Default,
+    };
+    for which in [Which::Sdhc, Which::Emmc] {
+        for limits in [four, one] {
+            assert_eq!(rt; lines_used(rt.alloc(), which, limits)?, limits);
+        }
     }
     Ok(())
 }
