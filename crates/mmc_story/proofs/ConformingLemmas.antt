@@ -1,27 +1,30 @@
 -- To steps that follow each other there is a story: after each beginning of them the card that they led to, and after anything else
 -- controller and card have not conformed.
-use Rattle.std.proofs.Common.{◌≡◌, ◌≤◌, ◌∷◌, [], List, ap, arith, cond, length, refl, subst, sym, true, ℕ}
+use Rattle.std.proofs.Common.{◌≡◌, ◌≤◌, ◌∷◌, [], Err, List, ap, arith, cond, length, refl, subst, sym, true, ℕ}
 use Rattle.std.proofs.lemmas.Bool.{cond_both, false≢true}
 use Rattle.mmc_card.specs.Card.{Card}
+use Rattle.mmc_card.specs.CardAnswer.{Silent}
+use Rattle.mmc_card.specs.Faults.CommandStep.{lose_command}
+use Rattle.mmc_host.specs.Hosts.{answer_heard}
+use Rattle.mmc_host.specs.declared.response.Response.{Response}
+use Rattle.mmc_host.specs.declared.told.ResponseFault.TheVariants.{Timeout}
 use Rattle.mmc_story.proofs.Telling.{are_alike, are_same, are_themselves}
-use Rattle.mmc_story.specs.Conforming.{AreSteps, conforming}
+use Rattle.mmc_story.specs.Conforming.{AreSteps, StepsGoOn, conforming}
 use Rattle.mmc_story.specs.Entry.{Entry}
-use Rattle.mmc_story.specs.Story.{IsStep, IsTrueOf, Outcome, Story, never_true}
-
-lost : Outcome
-lost = never_true.outcome []
+use Rattle.mmc_story.specs.Story.{IsStep, IsTrueOf, Outcome, Story}
+use Rattle.mmc_story.specs.Untrue.{unknown}
 
 outcome_of : (past : List Entry) (card : Card) (faults : ℕ) → AreSteps past card faults → List Entry → Outcome
-outcome_of [] card faults steps es = cond (are_same es []) (conforming card faults) lost
+outcome_of [] card faults steps es = cond (are_same es []) (conforming card faults) unknown
 outcome_of (e ∷ past) card faults s es =
     cond (are_same es (e ∷ past)) (conforming card faults) (outcome_of past s.0 s.1 s.2 es)
 
 -- only a beginning
 shorter : (past : List Entry) (card : Card) (faults : ℕ) (s : AreSteps past card faults) (es : List Entry)
     → (outcome_of past card faults s es).conformed ≡ true → length es ≤ length past
-unfolding outcome_of lost
+unfolding outcome_of
 shorter [] card faults s es =
-    cond_both (are_same es []) (conforming card faults) lost (λ o. o.conformed ≡ true → length es ≤ 0)
+    cond_both (are_same es []) (conforming card faults) unknown (λ o. o.conformed ≡ true → length es ≤ 0)
     (λ p said. rw (are_alike es [] p) (omega arith)) (λ p said. absurd (false≢true said))
 shorter (e ∷ past) card faults s es =
     cond_both (are_same es (e ∷ past)) (conforming card faults) (outcome_of past s.0 s.1 s.2 es)
@@ -91,3 +94,26 @@ steps_of story (entry ∷ past) said =
           (is_conforming (story.outcome past) step.was_kept)
           (subst (λ o. IsStep (story.outcome past) entry o) (is_conforming (story.outcome (entry ∷ past)) said) step),
     )
+
+unheard : (response : Response) (index : ℕ) → answer_heard response index (Err Timeout) ≡ Silent
+unheard Response.Nothing index = refl
+unheard Response.R1 index = refl
+unheard Response.R1b index = refl
+unheard Response.R2 index = refl
+unheard Response.R3 index = refl
+unheard Response.R6 index = refl
+unheard Response.R7 index = refl
+
+pub goes_on : StepsGoOn
+goes_on past card faults ok steps told limits command = (
+  card,
+  faults,
+  steps,
+  record {
+    was_kept = refl;
+    was_card = ok;
+    step = rw (unheard command.response command.index) (λ frame reply is silent. lose_command refl refl silent);
+    is_card = ok;
+    bounded = λ most none. none;
+  },
+)

@@ -1,7 +1,12 @@
 -- Controller and card conform: what the host did and was answered is a list of steps that the card relation allows.
-use Rattle.std.specs.Prelude.{◌≡◌, ◌∷◌, [], List, true, ℕ}
-use Rattle.mmc_card.specs.Card.{Card}
+use Rattle.std.specs.Prelude.{◌+◌, ◌≡◌, ◌∷◌, [], Err, List, true, ℕ}
+use Rattle.mmc_card.specs.Card.{Card, IsCard}
+use Rattle.mmc_card.specs.declared.exchange.Lines.{Lines}
+use Rattle.mmc_host.specs.declared.told.HostCommand.{HostCommand}
+use Rattle.mmc_host.specs.declared.told.HostState.{HostState}
+use Rattle.mmc_host.specs.declared.told.ResponseFault.TheVariants.{Timeout}
 use Rattle.mmc_story.specs.Entry.{Entry}
+use Rattle.mmc_story.specs.Entry.Event.{Sent}
 use Rattle.mmc_story.specs.Story.{IsStep, IsTrueOf, Outcome, Story}
 
 abbrev pub conforming : Card → ℕ → Outcome
@@ -25,3 +30,10 @@ abbrev pub StepsHaveAStory : Type 0
 StepsHaveAStory =
     (past : List Entry) (card : Card) (faults : ℕ) → AreSteps past card faults
     → (story : Story) × (story.outcome past ≡ conforming card faults)
+
+-- There is always a next step, whatever is sent: a command may be lost, which is a fault.
+abbrev pub StepsGoOn : Type 0
+StepsGoOn =
+    (past : List Entry) (card : Card) (faults : ℕ) → IsCard card → AreSteps past card faults
+    → (told : HostState) (limits : Lines) (command : HostCommand)
+    → AreSteps (record { told = told; limits = limits; event = Sent command (Err Timeout) } ∷ past) card (faults + 1)

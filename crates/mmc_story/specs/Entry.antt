@@ -5,6 +5,7 @@ use Rattle.mmc_card.specs.declared.exchange.DataOut.{DataOut}
 use Rattle.mmc_card.specs.declared.exchange.Lines.{Lines}
 use Rattle.mmc_host.specs.declared.told.Heard.{Heard}
 use Rattle.mmc_host.specs.declared.told.HostCommand.{HostCommand}
+use Rattle.mmc_host.specs.declared.told.HostState.{HostState}
 use Rattle.mmc_host.specs.declared.told.ResponseFault.{ResponseFault}
 
 pub data Event : Type 0 where
@@ -18,6 +19,8 @@ pub data Event : Type 0 where
   Looked : Bool → Event
 
 pub record Entry : Type 0 where
-  -- the lines, as they were set
-  pub lines : Lines
+  -- what the host had been told before, its lines among it
+  pub told : HostState
+  -- the most lines and the fastest timing that it can
+  pub limits : Lines
   pub event : Event

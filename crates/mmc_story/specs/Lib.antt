@@ -1,4 +1,5 @@
 pub mod Entry
 pub mod Noted
 pub mod Story
+pub mod Untrue
 pub mod Conforming

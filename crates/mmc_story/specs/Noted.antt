@@ -12,4 +12,4 @@ event_of (WriteBlock block got) = Written block.now got
 event_of (Look is_busy) = Looked is_busy
 
 abbrev pub entry_of : Note → Entry
-entry_of note = record { lines = note.lines; event = event_of note.call }
+entry_of note = record { told = note.told; limits = note.limits; event = event_of note.call }

@@ -1,15 +1,13 @@
 -- THE ASSUMPTION about a host controller and its card. It stands here and nowhere else: controller and card conform. There is
 -- a story of what became of the card, and all that the host did and was answered is a step of it: what a faithful card does,
 -- or one fault of the list in `mmc_card`, `Faults`.
-use Rattle.std.specs.Prelude.{◌≡◌, ◌∷◌, [], Bool, List, None, false, true, ℕ}
-use Rattle.std.proofs.lemmas.Bool.{false≢true}
+use Rattle.std.specs.Prelude.{◌≡◌, ◌∷◌, Bool, List, None, true, ℕ}
 use Rattle.mmc_card.specs.BusView.{BusView}
-use Rattle.mmc_card.specs.Card.{Card, powered_on}
+use Rattle.mmc_card.specs.Card.{Card}
 use Rattle.mmc_card.specs.Faults.{PollStep, ReadStep, WriteStep}
 use Rattle.mmc_card.specs.declared.exchange.Lines.{Lines}
 use Rattle.mmc_bus.specs.Exchanges.{Kept}
-use Rattle.mmc_bus.specs.Wires.{nothing_made}
-use Rattle.mmc_host.specs.Hosts.{Answers, HostView, answer_heard}
+use Rattle.mmc_host.specs.Hosts.{Answers, HostView, answer_heard, bus_of}
 use Rattle.mmc_host.specs.declared.told.HostState.{HostState}
 use Rattle.mmc_story.specs.Entry.{Entry, Event}
 use Rattle.mmc_story.specs.Entry.Event.{Looked, Read, Sent, Written}
@@ -22,18 +20,21 @@ pub record Outcome : Type 0 where
   -- controller and card have conformed so far
   pub conformed : Bool
 
--- what contracts see of it, on these lines
-abbrev pub seen : Outcome → Lines → BusView
-seen outcome lines =
+-- what contracts see of a host with this card, when it was told this and has these limits
+abbrev pub host_with : Outcome → HostState → Lines → HostView
+host_with outcome told limits =
     record {
       card = outcome.card;
-      lines = lines;
-      last = None;
-      exchanges = 0;
+      state = told;
+      limits = limits;
       faults = outcome.faults;
       may_fall = None;
       is_kept = outcome.conformed;
     }
+
+-- and of its bus
+abbrev pub bus_at : Outcome → Entry → BusView
+bus_at outcome entry = bus_of (host_with outcome entry.told entry.limits)
 
 -- the card relation allows what was answered
 abbrev pub Allows : BusView → Event → BusView → Type 0
@@ -46,7 +47,7 @@ Allows old (Looked is_busy) new = PollStep old is_busy new
 -- An entry is one step of the card.
 abbrev pub IsStep : Outcome → Entry → Outcome → Type 0
 IsStep old entry new =
-    Kept (seen old entry.lines) (Allows (seen old entry.lines) entry.event (seen new entry.lines)) (seen new entry.lines)
+    Kept (bus_at old entry) (Allows (bus_at old entry) entry.event (bus_at new entry)) (bus_at new entry)
 
 -- The assumption.
 pub record Story : Type 0 where
@@ -59,23 +60,3 @@ pub record Story : Type 0 where
 -- the story is true of all that a host did
 abbrev pub IsTrueOf : Story → List Entry → Type 0
 IsTrueOf story past = (story.outcome past).conformed ≡ true
-
--- the story that is never true
-abbrev pub never_true : Story
-never_true =
-    record {
-      outcome = λ past. record { card = powered_on nothing_made []; faults = 0; conformed = false };
-      explains = λ entry past said. absurd (false≢true said);
-    }
-
--- what contracts see of a host whose card has this story, when it was told this and has these limits
-abbrev pub host_of : Story → List Entry → HostState → Lines → HostView
-host_of story past state limits =
-    record {
-      card = (story.outcome past).card;
-      state = state;
-      limits = limits;
-      faults = (story.outcome past).faults;
-      may_fall = None;
-      is_kept = (story.outcome past).conformed;
-    }

@@ -4,7 +4,7 @@ ghost use Rattle.std.specs.Borrow.{ftrue};
 ghost use Rattle.mmc_story.specs.Entry.{Entry};
 
 use mmc_card::{DataIn, DataOut, Lines};
-use mmc_host::{Heard, HostCommand, ResponseFault};
+use mmc_host::{Heard, HostCommand, HostState, ResponseFault};
 use std::marker::Model;
 
 /// What a host did so far. Only proofs read it.
@@ -51,11 +51,13 @@ pub enum Call<'a> {
     },
 }
 
-/// What is noted: a call, and the lines at that time.
+/// What is noted.
 #[derive(Clone, Copy, Drop)]
 pub struct Note<'a> {
-    /// The lines.
-    pub lines: Lines,
+    /// What the host had been told before.
+    pub told: HostState,
+    /// The most lines and the fastest timing that it can.
+    pub limits: Lines,
     /// The call.
     pub call: Call<'a>,
 }

@@ -1,5 +1,5 @@
 ghost use Rattle.std.specs.Prelude.{◌≡◌, ◌∷◌, [], false, true};
-ghost use Rattle.mmc_host.specs.HostStates.{begun, lines_of};
+ghost use Rattle.mmc_host.specs.HostStates.{begun};
 
 use crate::diary::{Call, Diary, Note};
 use crate::story::HasStory;
@@ -57,23 +57,25 @@ impl<H: Host, S: HasStory> StoryHost<H, S> {
     // Notes a call with its answer.
     fn note(&mut self, call: Call<'_>)
         ensures past { self.new.diary.past ≡ record {
-          lines = lines_of self.old.state.ios;
+          told = self.old.state;
+          limits = self.old.limits;
           event = event_of call.entry;
         } ∷ self.old.diary.past }
         ensures state { self.new.state ≡ self.old.state }
         ensures limits { self.new.limits ≡ self.old.limits }
     {
         self.diary = self.diary.then(&Note {
-            lines: self.state.ios.lines(),
+            told: self.state,
+            limits: self.limits,
             call,
         });
     }
 }
 
 impl<H: Host, S: HasStory> Host for StoryHost<H, S> {
-    ghost use Rattle.mmc_story.specs.Story.{host_of};
+    ghost use Rattle.mmc_story.specs.Story.{host_with};
 
-    ghost view = { λ s. host_of S.story s.diary.past s.state s.limits };
+    ghost view = { λ s. host_with (S.story.outcome s.diary.past) s.state s.limits };
 
     fn limits(&self) -> Lines {
         self.limits

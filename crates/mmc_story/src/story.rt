@@ -1,4 +1,5 @@
-ghost use Rattle.mmc_story.specs.Story.{Story, never_true};
+ghost use Rattle.mmc_story.specs.Story.{Story};
+ghost use Rattle.mmc_story.specs.Untrue.{never_true};
 
 use std::marker::Brand;
 
