@@ -1,0 +1,11 @@
+//! Hosts that C implements: a controller told of decoded commands, or the registers of an SD host controller.
+//!
+//! Each operation is a record that is written to a numbered stream, and what comes of it is read from there. Who links the
+//! library gives the two functions that stand behind writing and reading code of his own (`c/kelifandro.c`): no file is opened.
+#![tactic(auto)]
+
+mod registers;
+mod stream;
+mod way;
+
+pub use way::{Given, Way};
