@@ -12,7 +12,9 @@ use Rattle.mmc_host.specs.declared.response.Response.{Response}
 use Rattle.mmc_host.specs.declared.response.Response.TheVariants as To
 use Rattle.mmc_host.specs.declared.told.HostCommand.{HostCommand}
 use Rattle.mmc_sdhci.specs.Commands.{Begins, flags_of, mode_of, response_flags, sizes_of}
-use Rattle.mmc_sdhci.specs.Controller.{ControllerView, Writes, data_asked, has_data, written}
+use Rattle.mmc_sdhci.specs.Controller.{ControllerView, has_data}
+use Rattle.mmc_sdhci.specs.CommandLooks.{data_asked}
+use Rattle.mmc_sdhci.specs.Accesses.{Writes, written}
 
 small_response : (response : Response) → response_flags response < 32
 small_response To.Nothing = omega arith

@@ -10,10 +10,13 @@ use Rattle.mmc_card.specs.declared.exchange.DataOut.TheVariants as Went
 use Rattle.mmc_host.specs.declared.data.Blocks.{Blocks}
 use Rattle.mmc_host.specs.declared.data.Data.{Data}
 use Rattle.mmc_sdhci.specs.Commands.{ResetsData}
-use Rattle.mmc_sdhci.specs.Controller.{ControllerView, DataDropped, DataLooked, Running, Settled}
-use Rattle.mmc_sdhci.specs.Controller.{IsAtRest, Writes}
-use Rattle.mmc_sdhci.specs.Controller.{IsUntold, Stays, WriteLook, cleared, is_at_rest, is_empty, moved, seen}
-use Rattle.mmc_sdhci.specs.Controller.WriteLook.{accepted as write_accepted, failed as write_failed, waits as write_waits}
+use Rattle.mmc_sdhci.specs.Controller.{ControllerView, Running, Settled}
+use Rattle.mmc_sdhci.specs.DataLooks.{DataDropped, DataLooked}
+use Rattle.mmc_sdhci.specs.Accesses.{IsAtRest, Writes}
+use Rattle.mmc_sdhci.specs.Controller.{moved, seen}
+use Rattle.mmc_sdhci.specs.DataLooks.{IsUntold, WriteLook, cleared, is_empty}
+use Rattle.mmc_sdhci.specs.Accesses.{Stays, is_at_rest}
+use Rattle.mmc_sdhci.specs.DataLooks.WriteLook.{accepted as write_accepted, failed as write_failed, waits as write_waits}
 use Rattle.mmc_sdhci.specs.declared.buffer.Buffer.{Buffer}
 use Rattle.mmc_sdhci.specs.Moving.{HasRoom, IsGoing, Puts, WritesBlock}
 use Rattle.mmc_sdhci.specs.Moving.{FindsRoom, SeesGone, IsClear, OnlyWatched, Watches, WhereKept, is_error, looking}

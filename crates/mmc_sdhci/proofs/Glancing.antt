@@ -4,9 +4,11 @@ use Rattle.std.specs.Prelude.{◌&&◌, ◌==◌, ◌||◌, if◌then◌else◌}
 use Rattle.std.proofs.lemmas.Bool.{false≢true}
 use Rattle.mmc_frame.specs.Field.{field}
 use Rattle.mmc_host.specs.declared.data.Data.{Data}
-use Rattle.mmc_sdhci.specs.Controller.{ControllerView, DataLooked, ReadLook, Settled, Stays, WriteLook, has_one, is_gone, is_whole}
-use Rattle.mmc_sdhci.specs.Controller.ReadLook.{failed as read_failed, ready as read_ready, waits as read_waits}
-use Rattle.mmc_sdhci.specs.Controller.WriteLook.{accepted as write_accepted, failed as write_failed, waits as write_waits}
+use Rattle.mmc_sdhci.specs.Controller.{ControllerView, Settled}
+use Rattle.mmc_sdhci.specs.DataLooks.{DataLooked, ReadLook, WriteLook, has_one, is_gone, is_whole}
+use Rattle.mmc_sdhci.specs.Accesses.{Stays}
+use Rattle.mmc_sdhci.specs.DataLooks.ReadLook.{failed as read_failed, ready as read_ready, waits as read_waits}
+use Rattle.mmc_sdhci.specs.DataLooks.WriteLook.{accepted as write_accepted, failed as write_failed, waits as write_waits}
 use Rattle.mmc_sdhci.specs.Moving.{Glances, IsSeeking, OnlyWatched, Seeks, Watches, is_error, is_found, looking}
 use Rattle.mmc_sdhci.specs.declared.buffer.Buffer.{Buffer}
 use Rattle.mmc_sdhci.specs.declared.watching.Glance.{Glance}

@@ -1,7 +1,9 @@
 -- Looks until a command is over.
 use Rattle.std.proofs.Common.{◌%◌, ◌/◌, ◌≡◌, Option, Some, arith, refl, subst, ℕ}
 use Rattle.mmc_sdhci.specs.Commands.{Ends}
-use Rattle.mmc_sdhci.specs.Controller.{ControllerView, Look, Looked, Reads, Running, Settled, complete, failed, runs}
+use Rattle.mmc_sdhci.specs.Controller.{ControllerView, Running, Settled}
+use Rattle.mmc_sdhci.specs.CommandLooks.{Look, complete, failed, runs}
+use Rattle.mmc_sdhci.specs.Accesses.{Looked, Reads}
 
 -- a command that runs still does, and nothing but what was looked at has changed
 abbrev pub OnlyLooked : ControllerView → ControllerView → Type 0

@@ -12,9 +12,13 @@ use Rattle.mmc_host.specs.HostStates.{is_good, less_one}
 use Rattle.mmc_host.specs.declared.data.Blocks.{Blocks}
 use Rattle.mmc_host.specs.declared.data.Data.{Data}
 use Rattle.mmc_sdhci.specs.Commands.{ResetsData}
-use Rattle.mmc_sdhci.specs.Controller.{ControllerView, DataDropped, DataLooked, IsAtRest, ReadLook, Settled, Steps, came}
-use Rattle.mmc_sdhci.specs.Controller.{cleared, has_data, is_at_rest, moved, seen}
-use Rattle.mmc_sdhci.specs.Controller.ReadLook.{failed as read_failed, ready as read_ready, waits as read_waits}
+use Rattle.mmc_sdhci.specs.Controller.{ControllerView, Settled, Steps}
+use Rattle.mmc_sdhci.specs.DataLooks.{DataDropped, DataLooked, ReadLook, came}
+use Rattle.mmc_sdhci.specs.Accesses.{IsAtRest}
+use Rattle.mmc_sdhci.specs.Controller.{has_data, moved, seen}
+use Rattle.mmc_sdhci.specs.DataLooks.{cleared}
+use Rattle.mmc_sdhci.specs.Accesses.{is_at_rest}
+use Rattle.mmc_sdhci.specs.DataLooks.ReadLook.{failed as read_failed, ready as read_ready, waits as read_waits}
 use Rattle.mmc_sdhci.specs.Moving.{HasCome, IsClear, IsComing, ReadsBlock, Takes, Watches, is_error, looking}
 use Rattle.mmc_sdhci.specs.declared.watching.Glance.{Glance}
 use Rattle.mmc_sdhci.specs.declared.watching.Sought.TheVariants.{Block}

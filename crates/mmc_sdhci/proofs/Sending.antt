@@ -14,9 +14,12 @@ use Rattle.mmc_host.specs.declared.told.HostCommand.{HostCommand}
 use Rattle.mmc_host.specs.declared.told.ResponseFault.{ResponseFault}
 use Rattle.mmc_sdhci.proofs.Beginning.{flags}
 use Rattle.mmc_sdhci.specs.Commands.{Begins, Ends, Moves, ResetsData, ResetsLine, Sends, Tells, begun, response_flags, run_of}
-use Rattle.mmc_sdhci.specs.Controller.{ControllerView, DataDropped, Dropped, IsShown, Look, Running, Settled, cleared}
+use Rattle.mmc_sdhci.specs.Controller.{ControllerView, Running, Settled}
+use Rattle.mmc_sdhci.specs.CommandLooks.{Dropped, IsShown, Look}
+use Rattle.mmc_sdhci.specs.DataLooks.{DataDropped, cleared}
 use Rattle.mmc_sdhci.specs.Moving.{WhereKept}
-use Rattle.mmc_sdhci.specs.Controller.{complete, failed, has_data, runs, seen}
+use Rattle.mmc_sdhci.specs.Controller.{has_data, seen}
+use Rattle.mmc_sdhci.specs.CommandLooks.{complete, failed, runs}
 
 -- the command is over, or still runs
 ended : (v0 v1 v2 : ControllerView) (command : HostCommand) (bits : ℕ) → Begins v0 command v1 → Ends v1 bits v2

@@ -3,7 +3,8 @@ use Rattle.std.proofs.Common.{◌∙◌, ◌∷◌, ◌≡◌, [], List, ap, ref
 use Rattle.mmc_host.specs.declared.response.Response.TheVariants as To
 use Rattle.mmc_host.specs.declared.told.Heard.TheVariants.{Register}
 use Rattle.mmc_sdhci.specs.Commands.{ReadsWord, Tells}
-use Rattle.mmc_sdhci.specs.Controller.{ControllerView, bytes_shown, word}
+use Rattle.mmc_sdhci.specs.Controller.{ControllerView}
+use Rattle.mmc_sdhci.specs.CommandLooks.{bytes_shown, word}
 
 pub register_told : (v0 v1 v2 v3 v4 : ControllerView) (a b c d : ℕ) (bytes : List ℕ) → ReadsWord v0 3 d v1
     → ReadsWord v1 2 c v2 → ReadsWord v2 1 b v3 → ReadsWord v3 0 a v4 → bytes ≡ bytes_shown (a ∷ b ∷ c ∷ d ∷ [])

@@ -13,8 +13,11 @@ use Rattle.mmc_host.specs.declared.told.Heard.{Heard}
 use Rattle.mmc_host.specs.declared.told.HostCommand.{HostCommand}
 use Rattle.mmc_host.specs.declared.told.ResponseFault.{ResponseFault}
 use Rattle.mmc_host.specs.declared.told.ResponseFault.TheVariants as Fault
-use Rattle.mmc_sdhci.specs.Controller.{ControllerView, DataDropped, Dropped, IsShown, Look, Running, Settled, Steps}
-use Rattle.mmc_sdhci.specs.Controller.{has_data, seen, word}
+use Rattle.mmc_sdhci.specs.Controller.{ControllerView, Running, Settled, Steps}
+use Rattle.mmc_sdhci.specs.CommandLooks.{Dropped, IsShown, Look}
+use Rattle.mmc_sdhci.specs.DataLooks.{DataDropped}
+use Rattle.mmc_sdhci.specs.Controller.{has_data, seen}
+use Rattle.mmc_sdhci.specs.CommandLooks.{word}
 
 -- the type of response, with the checks that it has
 abbrev pub response_flags : Response → ℕ

@@ -9,7 +9,8 @@ use Rattle.mmc_host.specs.Hosts.{HostView}
 use Rattle.mmc_host.specs.declared.data.Data.{Data}
 use Rattle.mmc_host.specs.declared.told.HostState.{HostState}
 use Rattle.mmc_host.specs.declared.told.Ios.{Ios}
-use Rattle.mmc_sdhci.specs.Controller.{ControllerView, IsAtMost, Settled, base_clock, is_at_rest, restarted}
+use Rattle.mmc_sdhci.specs.Controller.{ControllerView, IsAtMost, Settled, base_clock}
+use Rattle.mmc_sdhci.specs.Accesses.{is_at_rest, restarted}
 use Rattle.mmc_sdhci.specs.Moving.{WhereKept}
 use Rattle.mmc_sdhci.specs.declared.buffer.Buffer.TheVariants.{OneBlock}
 

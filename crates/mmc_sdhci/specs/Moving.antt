@@ -9,7 +9,9 @@ use Rattle.mmc_host.specs.HostStates.{is_accepted, is_good, less_one}
 use Rattle.mmc_host.specs.declared.data.Blocks.{Blocks}
 use Rattle.mmc_host.specs.declared.data.Data.{Data}
 use Rattle.mmc_sdhci.specs.Commands.{Moves}
-use Rattle.mmc_sdhci.specs.Controller.{ControllerView, DataLooked, Settled, Steps, has_one, is_at_rest, is_whole, seen}
+use Rattle.mmc_sdhci.specs.Controller.{ControllerView, Settled, Steps, seen}
+use Rattle.mmc_sdhci.specs.DataLooks.{DataLooked, has_one, is_whole}
+use Rattle.mmc_sdhci.specs.Accesses.{is_at_rest}
 use Rattle.mmc_sdhci.specs.declared.buffer.Buffer.{Buffer}
 use Rattle.mmc_sdhci.specs.declared.watching.Glance.{Glance}
 use Rattle.mmc_sdhci.specs.declared.watching.Sought.{Sought}

@@ -1,6 +1,6 @@
 // The card's busy signal: it holds DAT0 low.
 ghost use Rattle.mmc_sdhci.specs.Busy.{IsPolled};
-ghost use Rattle.mmc_sdhci.specs.Controller.{IsAtRest, Stays};
+ghost use Rattle.mmc_sdhci.specs.Accesses.{IsAtRest, Stays};
 
 use crate::offsets::{DATA_LEVELS, PRESENT};
 use crate::registers::Registers;

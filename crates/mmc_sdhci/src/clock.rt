@@ -1,6 +1,7 @@
 // The clock of the card (SD Host Controller Simplified Specification 3.00, sections 2.2.14 and 3.2).
 ghost use Rattle.std.specs.Prelude.{◌*◌, ◌+◌, ◌-◌, ◌<◌, ◌≡◌, ◌≤◌, ◌^◌};
-ghost use Rattle.mmc_sdhci.specs.Controller.{Stays, base_clock, divider_in, divisor};
+ghost use Rattle.mmc_sdhci.specs.Controller.{base_clock, divider_in, divisor};
+ghost use Rattle.mmc_sdhci.specs.Accesses.{Stays};
 ghost use Rattle.mmc_sdhci.specs.Driver.{IsBaseClock, SetsClock};
 
 use crate::offsets::CLOCK;

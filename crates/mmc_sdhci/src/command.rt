@@ -4,7 +4,9 @@ ghost use Rattle.mmc_host.specs.HostStates.{AreMovable, IsFree};
 ghost use Rattle.mmc_sdhci.specs.Commands.{Begins, Ends, ReadsWord, ResetsData, ResetsLine, Tells, count_of, flags_of, mode_of};
 ghost use Rattle.mmc_sdhci.specs.Commands.{IsUnderWay, Sends, fault_in, response_flags, several, sizes_of};
 ghost use Rattle.mmc_host.specs.declared.response.Response.TheVariants.{R2};
-ghost use Rattle.mmc_sdhci.specs.Controller.{IsAtRest, Stays, bytes_shown, has_data};
+ghost use Rattle.mmc_sdhci.specs.Controller.{has_data};
+ghost use Rattle.mmc_sdhci.specs.CommandLooks.{bytes_shown};
+ghost use Rattle.mmc_sdhci.specs.Accesses.{IsAtRest, Stays};
 ghost use Rattle.mmc_sdhci.specs.Moving.{WhereKept};
 
 use crate::offsets::{ARGUMENT, COMMAND, INTERRUPTS, RESET, RESPONSE, SIZES};
@@ -36,7 +38,7 @@ fn response_flags(response: Response) -> u32
     }
 }
 
-// Whether there is any.
+/// Whether there is any.
 pub fn has_data(transfer: Data) -> bool
     ensures { result ≡ has_data transfer }
 {
@@ -195,7 +197,7 @@ fn reset_command<R: Registers>(registers: &mut R)
     settle(registers, COMMAND_LINE);
 }
 
-// Resets the data line, which drops what was read ahead.
+/// Resets the data line, which drops what was read ahead.
 pub fn reset_data<R: Registers>(registers: &mut R)
     ensures { ResetsData (R.view registers.old) (R.view registers.new) }
 {

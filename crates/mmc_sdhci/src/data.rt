@@ -1,7 +1,8 @@
 // Blocks, by programmed I/O through the Buffer Data Port.
 ghost use Rattle.std.specs.Prelude.{◌≡◌, length};
 ghost use Rattle.mmc_sdhci.specs.declared.watching.Sought.TheVariants as Sought;
-ghost use Rattle.mmc_sdhci.specs.Controller.{IsAtRest, Stays, came};
+ghost use Rattle.mmc_sdhci.specs.DataLooks.{came};
+ghost use Rattle.mmc_sdhci.specs.Accesses.{IsAtRest, Stays};
 ghost use Rattle.mmc_sdhci.specs.Moving.{FindsRoom, Finishes, HasCome, HasRoom, IsComing, IsGoing, IsSeeking, Puts};
 ghost use Rattle.mmc_sdhci.specs.Moving.{ReadsBlock, SeesGone, Takes, WhereKept, WritesBlock};
 

@@ -1,4 +1,5 @@
-ghost use Rattle.mmc_sdhci.specs.Controller.{ControllerView, IsAllowed, Reads, Reads8, Stays, Writes, Writes8};
+ghost use Rattle.mmc_sdhci.specs.Controller.{ControllerView};
+ghost use Rattle.mmc_sdhci.specs.Accesses.{IsAllowed, Reads, Reads8, Stays, Writes, Writes8};
 
 /// The registers of an SD host controller, by their offsets in bytes. Each access reaches the controller, in order.
 pub trait Registers {

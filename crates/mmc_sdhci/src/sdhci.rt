@@ -1,7 +1,8 @@
 ghost use Rattle.std.specs.Prelude.{◌<◌, ◌≡◌, IfOk, true};
 ghost use Rattle.mmc_host.specs.HostStates.{lines_of, resting};
 ghost use Rattle.mmc_host.specs.Hosts.{IsUnused};
-ghost use Rattle.mmc_sdhci.specs.Controller.{IsAtMost, IsAtRest, Settled, limits_in, lines_in};
+ghost use Rattle.mmc_sdhci.specs.Controller.{IsAtMost, Settled, limits_in, lines_in};
+ghost use Rattle.mmc_sdhci.specs.Accesses.{IsAtRest};
 ghost use Rattle.mmc_sdhci.specs.Driver.{IsBaseClock, IsNew, IsSameCard, are_words, clock_limit, host_over, speed_limit};
 ghost use Rattle.mmc_sdhci.specs.Moving.{WhereKept};
 

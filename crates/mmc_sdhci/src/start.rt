@@ -1,7 +1,8 @@
 // How a controller begins.
 ghost use Rattle.std.specs.Prelude.{◌≡◌};
 ghost use Rattle.mmc_card.specs.declared.exchange.Width.TheVariants as Width;
-ghost use Rattle.mmc_sdhci.specs.Controller.{Stays, limits_in, lines_in};
+ghost use Rattle.mmc_sdhci.specs.Controller.{limits_in, lines_in};
+ghost use Rattle.mmc_sdhci.specs.Accesses.{Stays};
 ghost use Rattle.mmc_sdhci.specs.Driver.{IsNew, Restarts};
 
 use crate::offsets::{PRESENT, RESET, SHOWN_INTERRUPTS, SIGNALS};

@@ -13,26 +13,28 @@ const LOOKS_FOR_A_WRITE: u32 = 500_000;
 
 const BETWEEN_LOOKS: u32 = 1;
 
-// What is looked for.
+/// What is looked for.
 #[derive(Clone, Copy, Debug, PartialEq, Eq)]
 pub enum Sought {
-    // a block in the buffer
+    /// A block in the buffer.
     Block,
-    // room for one
+    /// Room for one.
     Room,
-    // that the block in the buffer has gone
+    /// That the block in the buffer has gone.
     Gone(Buffer),
 }
 
-// What a look showed: whether the buffer is ready, and the interrupts.
+/// What a look showed.
 #[derive(Clone, Copy, Debug, PartialEq, Eq)]
 pub struct Glance {
+    /// Whether the buffer is ready: a block is in it, or there is room for one.
     pub is_ready: bool,
+    /// The interrupts.
     pub bits: u32,
 }
 
 impl Glance {
-    // Whether there is an error.
+    /// Whether there is an error.
     pub fn is_error(self) -> bool
         ensures { result ≡ is_error self.bits }
     {
@@ -41,7 +43,7 @@ impl Glance {
 }
 
 impl Sought {
-    // Whether this shows it.
+    /// Whether this shows it.
     pub fn is_found(self, seen: Glance) -> bool
         ensures { result ≡ is_found self seen }
     {
@@ -82,7 +84,7 @@ fn look<R: Registers>(registers: &mut R, sought: Sought) -> Glance
     }
 }
 
-// Looks until it is found or there is an error.
+/// Looks until it is found or there is an error; `None` where there is neither for too long.
 pub fn watch<R: Registers>(registers: &mut R, sought: Sought) -> Option<Glance>
     requires { IsSeeking sought (R.view registers.old) }
     ensures { Watches (R.view registers.old) sought result (R.view registers.new) }

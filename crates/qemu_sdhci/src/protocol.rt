@@ -59,6 +59,7 @@ fn number_in(answer: &[u8; 22]) -> Option<u32> {
 }
 
 impl Conversation {
+    /// One that begins.
     pub fn new() -> Conversation {
         Conversation { is_broken: false }
     }

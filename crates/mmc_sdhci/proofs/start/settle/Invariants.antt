@@ -1,4 +1,4 @@
-use Rattle.mmc_sdhci.specs.Controller.{Stays}
+use Rattle.mmc_sdhci.specs.Accesses.{Stays}
 use Rattle.mmc_sdhci.proofs.start.settle.Given as goal
 
 abbrev pub invariant-loop : goal.invariant-loop
