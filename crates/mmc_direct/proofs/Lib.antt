@@ -1,0 +1,2 @@
+pub mod AttemptLemmas
+pub mod ServeLemmas

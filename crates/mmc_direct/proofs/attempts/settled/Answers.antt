@@ -1,0 +1,12 @@
+use Rattle.std.proofs.Common.{subst}
+use Rattle.mmc_direct.proofs.AttemptLemmas.{settled_prepared}
+use Rattle.mmc_direct.specs.Stands.{StandsIn}
+use Rattle.mmc_direct.proofs.attempts.settled.Goals as goal
+
+pub returns-in-Loose-clause-prepared : goal.returns-in-Loose-clause-prepared
+returns-in-Loose-clause-prepared g c kept at =
+    let done = c.settle.ensures in
+    let a = g.B.Bus.view c.args.bus.now in
+    let loose = subst (λ s. StandsIn s a) c.in-Loose.is at in
+    settled_prepared a c.in-Loose.broken c.settle.result (g.B.Bus.view c.settle.new.bus) (done.stays kept)
+    (done.settled kept loose) (done.refused kept loose)

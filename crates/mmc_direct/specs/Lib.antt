@@ -1,0 +1,4 @@
+pub mod Attempts
+pub mod Changes
+pub mod Refusal
+pub mod Stands

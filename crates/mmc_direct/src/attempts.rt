@@ -1,0 +1,124 @@
+// Attempts at a request. Each settles the card where something has failed, selects the partition where another one is selected,
+// and makes the run. A request has four.
+ghost use Rattle.std.specs.Prelude.{◌≡◌, ◌*◌, ◌+◌, ◌≤◌, [], IfErr, IfOk, IsSome, None, Some, length, true};
+ghost use Rattle.mmc_card.specs.Card.{holds};
+ghost use Rattle.mmc_card.specs.Sectors.{AreRead};
+ghost use Rattle.mmc_bus.specs.Lending.{IsRewritten};
+ghost use Rattle.mmc_erase.specs.declared.how.How.{How};
+ghost use Rattle.mmc_erase.specs.declared.turns.TheConstants.{EXCHANGES_OF_AN_ERASE};
+ghost use Rattle.mmc_switch.specs.Info.{lasting, sectors_of};
+ghost use Rattle.mmc_transfer.specs.declared.turns.TheConstants.{EXCHANGES_BESIDE_BLOCKS, EXCHANGES_OF_A_BLOCK};
+ghost use Rattle.mmc_direct.specs.Attempts.{HasPrepared, HasTried};
+ghost use Rattle.mmc_direct.specs.Changes.{erased_at, written_at};
+ghost use Rattle.mmc_direct.specs.Refusal.{action_of, refusal};
+ghost use Rattle.mmc_direct.specs.Stands.{IsCausedIn, StandsIn, info_of, stands_of};
+ghost use Rattle.mmc_direct.specs.declared.action.Action.TheVariants.{Read, Write};
+ghost use Rattle.mmc_direct.specs.declared.attempts.TheConstants.{ATTEMPTS, EXCHANGES_BESIDE_A_RUN};
+
+use crate::stands::Stands;
+use mmc_bus::{Blocks, BlocksMut, Bus, Part};
+use mmc_erase::{How, erase_run};
+use mmc_recovery::{EXCHANGES_OF_A_SETTLE, settle};
+use mmc_switch::{Broken, EXCHANGES_OF_A_SWITCH, Session, select};
+use mmc_transfer::{read_run, write_run};
+
+/// How many attempts a request has.
+pub const ATTEMPTS: u64 = 4;
+
+/// The most exchanges of an attempt beside those of its run: a settle and a select.
+pub const EXCHANGES_BESIDE_A_RUN: u64 = EXCHANGES_OF_A_SETTLE + EXCHANGES_OF_A_SWITCH;
+
+// Settles the card where something has failed.
+fn settled<B: Bus>(bus: &mut B, stands: Stands) -> Result<Session, Broken>
+    ensures info { lasting (info_of (stands_of result)) ≡ lasting (info_of stands) }
+    ensures bounded { (B.view bus.new).exchanges ≤ (B.view bus.old).exchanges + EXCHANGES_OF_A_SETTLE }
+    ensures kept { (B.view bus.new).is_kept ≡ true → (B.view bus.old).is_kept ≡ true }
+    ensures cause { IfErr result (λ broken. IsCausedIn broken.cause (B.view bus.new)) }
+    ensures prepared { (B.view bus.new).is_kept ≡ true → StandsIn stands (B.view bus.old)
+        → HasPrepared (B.view bus.old) result (B.view bus.new) }
+{
+    match stands {
+        Stands::Ready(session) => Ok(session),
+        Stands::Loose(broken) => settle(bus, broken),
+    }
+}
+
+// The same, and then selects the partition.
+fn prepared<B: Bus>(bus: &mut B, stands: Stands, part: Part) -> Result<Session, Broken>
+    requires exists { IsSome (sectors_of (info_of stands) part) }
+    ensures info { lasting (info_of (stands_of result)) ≡ lasting (info_of stands) }
+    ensures selected { IfOk result (λ session. session.selected ≡ Some part) }
+    ensures bounded { (B.view bus.new).exchanges ≤ (B.view bus.old).exchanges + EXCHANGES_BESIDE_A_RUN }
+    ensures kept { (B.view bus.new).is_kept ≡ true → (B.view bus.old).is_kept ≡ true }
+    ensures cause { IfErr result (λ broken. IsCausedIn broken.cause (B.view bus.new)) }
+    ensures prepared { (B.view bus.new).is_kept ≡ true → StandsIn stands (B.view bus.old)
+        → HasPrepared (B.view bus.old) result (B.view bus.new) }
+{
+    let session = settled(bus, stands)?;
+    select(bus, session, part)
+}
+
+// One attempt at a read.
+fn try_read<B: Bus, D: BlocksMut>(
+    bus: &mut B,
+    stands: Stands,
+    part: Part,
+    start: u64,
+    blocks: &mut D,
+) -> Result<Session, Broken>
+    requires served { refusal Read (info_of stands) part start (length (D.blocks blocks.old)) ≡ None }
+    ensures info { lasting (info_of (stands_of result)) ≡ lasting (info_of stands) }
+    ensures bounded { (B.view bus.new).exchanges ≤ (B.view bus.old).exchanges + (EXCHANGES_OF_A_BLOCK * length (D.blocks blocks.old) + EXCHANGES_BESIDE_BLOCKS + EXCHANGES_BESIDE_A_RUN) }
+    ensures count { length (D.blocks blocks.new) ≡ length (D.blocks blocks.old) }
+    ensures lent { IsRewritten D.blocks D.with blocks.old blocks.new }
+    ensures kept { (B.view bus.new).is_kept ≡ true → (B.view bus.old).is_kept ≡ true }
+    ensures cause { IfErr result (λ broken. IsCausedIn broken.cause (B.view bus.new)) }
+    ensures tried { (B.view bus.new).is_kept ≡ true → StandsIn stands (B.view bus.old)
+        → HasTried 1 (written_at part start []) (B.view bus.old) result (B.view bus.new) }
+    ensures read { (B.view bus.new).is_kept ≡ true → StandsIn stands (B.view bus.old)
+        → IfOk result (λ session. AreRead (holds (B.view bus.new).card) part start (D.blocks blocks.new)) }
+{
+    let session = prepared(bus, stands, part)?;
+    read_run(bus, session, start, blocks)
+}
+
+// One attempt at a write.
+fn try_write<B: Bus, D: Blocks>(
+    bus: &mut B,
+    stands: Stands,
+    part: Part,
+    start: u64,
+    blocks: &D,
+) -> Result<Session, Broken>
+    requires served { refusal Write (info_of stands) part start (length (D.blocks blocks.now)) ≡ None }
+    ensures info { lasting (info_of (stands_of result)) ≡ lasting (info_of stands) }
+    ensures bounded { (B.view bus.new).exchanges ≤ (B.view bus.old).exchanges + (EXCHANGES_OF_A_BLOCK * length (D.blocks blocks.now) + EXCHANGES_BESIDE_BLOCKS + EXCHANGES_BESIDE_A_RUN) }
+    ensures kept { (B.view bus.new).is_kept ≡ true → (B.view bus.old).is_kept ≡ true }
+    ensures cause { IfErr result (λ broken. IsCausedIn broken.cause (B.view bus.new)) }
+    ensures tried { (B.view bus.new).is_kept ≡ true → StandsIn stands (B.view bus.old)
+        → HasTried 1 (written_at part start (D.blocks blocks.now)) (B.view bus.old) result (B.view bus.new) }
+{
+    let session = prepared(bus, stands, part)?;
+    write_run(bus, session, start, blocks)
+}
+
+// One attempt at an erase or a trim.
+fn try_erase<B: Bus>(
+    bus: &mut B,
+    stands: Stands,
+    part: Part,
+    start: u64,
+    count: u64,
+    how: How,
+) -> Result<Session, Broken>
+    requires served { refusal (action_of how) (info_of stands) part start count ≡ None }
+    ensures info { lasting (info_of (stands_of result)) ≡ lasting (info_of stands) }
+    ensures bounded { (B.view bus.new).exchanges ≤ (B.view bus.old).exchanges + (EXCHANGES_OF_AN_ERASE + EXCHANGES_BESIDE_A_RUN) }
+    ensures kept { (B.view bus.new).is_kept ≡ true → (B.view bus.old).is_kept ≡ true }
+    ensures cause { IfErr result (λ broken. IsCausedIn broken.cause (B.view bus.new)) }
+    ensures tried { (B.view bus.new).is_kept ≡ true → StandsIn stands (B.view bus.old)
+        → HasTried 1 (erased_at (info_of stands) part start count) (B.view bus.old) result (B.view bus.new) }
+{
+    let session = prepared(bus, stands, part)?;
+    erase_run(bus, session, start, count, how)
+}

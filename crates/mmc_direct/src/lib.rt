@@ -1,0 +1,16 @@
+//! Requests of one client, one at a time, without a queue and without a heap.
+#![tactic(auto)]
+
+mod action;
+mod attempts;
+
+mod refused;
+mod rules;
+mod stands;
+
+pub use action::Action;
+pub use attempts::{ATTEMPTS, EXCHANGES_BESIDE_A_RUN};
+
+pub use refused::{NotDone, Refused};
+pub use rules::refusal;
+pub use stands::{Served, Stands};
