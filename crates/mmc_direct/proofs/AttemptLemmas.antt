@@ -1,5 +1,5 @@
 -- What an attempt does, from its parts, and several attempts together.
-use Rattle.std.proofs.Common.{◌+◌, ◌-◌, ◌<◌, ◌∙◌, ◌∷◌, ◌≡◌, ◌≤◌, ◌⊎◌, Bool, List, [], ap, arith, cond, false, inl, inr, refl, subst, sym, true, ℕ}
+use Rattle.std.proofs.Common.{◌+◌, ◌-◌, ◌<◌, ◌∙◌, ◌∷◌, ◌≡◌, Bool, List, [], ap, arith, cond, false, inl, inr, refl, subst, sym, true, ℕ}
 use Rattle.std.specs.Prelude.{Err, IfErr, IfOk, IsErr, IsErrAnd, Ok, Result, Some}
 use Rattle.mmc_bus.proofs.WorkLemmas.{narrows_then, stays_same, stays_then}
 use Rattle.mmc_bus.specs.Learned.{Stays}
@@ -15,7 +15,7 @@ use Rattle.mmc_erase.specs.Whole.{HasErased}
 use Rattle.mmc_recovery.specs.Settled.{Leaves}
 use Rattle.mmc_switch.specs.Info.{lasting}
 use Rattle.mmc_switch.specs.Place.{IsLoose, IsReady}
-use Rattle.mmc_switch.specs.UnderWay.{HasFailed, known_part}
+use Rattle.mmc_switch.specs.UnderWay.{known_part}
 use Rattle.mmc_switch.specs.declared.broken.Broken.{Broken}
 use Rattle.mmc_switch.specs.declared.info.Info.{Info}
 use Rattle.mmc_switch.specs.declared.session.Session.{Session}

@@ -1,2 +1,5 @@
 pub mod AttemptLemmas
+pub mod LentLemmas
+pub mod RequestLemmas
 pub mod ServeLemmas
+pub mod TriesLemmas

@@ -1,14 +1,14 @@
 -- What a request that isn't refused may count on.
 use Rattle.std.proofs.Common.{◌+◌, ◌≡◌, ◌≤◌, Bool, arith, cond, false, refl, subst, sym, true, ℕ}
-use Rattle.std.specs.Prelude.{◌&&◌, ◌==◌, IsSome, None, Option, Some, nat_lt, not}
+use Rattle.std.specs.Prelude.{◌&&◌, ◌==◌, None, Option, Some, nat_lt, not}
 use Rattle.std.proofs.lemmas.Bool.Decides.{nat_tests}
 use Rattle.mmc_card.specs.RowsErase.{is_boot}
 use Rattle.mmc_card.specs.declared.part.Part.{Part}
 use Rattle.mmc_erase.specs.Job.{suits}
 use Rattle.mmc_erase.specs.declared.how.How.{How}
 use Rattle.mmc_erase.specs.declared.how.How.TheVariants as how
-use Rattle.mmc_switch.specs.Info.{lasting, sectors_of}
-use Rattle.mmc_switch.specs.Sizes.{size_of, some_size}
+use Rattle.mmc_switch.specs.Info.{lasting}
+use Rattle.mmc_switch.specs.Sizes.{size_of}
 use Rattle.mmc_switch.specs.UnderWay.{known_part, room_of}
 use Rattle.mmc_switch.specs.declared.info.Info.{Info}
 use Rattle.mmc_switch.specs.declared.session.Session.{Session}

@@ -1,4 +1,5 @@
 pub mod Attempts
 pub mod Changes
 pub mod Refusal
+pub mod Requests
 pub mod Stands

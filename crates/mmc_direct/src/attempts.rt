@@ -1,19 +1,17 @@
 // Attempts at a request. Each settles the card where something has failed, selects the partition where another one is selected,
 // and makes the run. A request has four.
-ghost use Rattle.std.specs.Prelude.{◌≡◌, ◌*◌, ◌+◌, ◌≤◌, [], IfErr, IfOk, IsSome, None, Some, length, true};
+ghost use Rattle.std.specs.Prelude.{◌≡◌, ◌+◌, ◌≤◌, [], IfErr, IfOk, IsSome, None, Some, length, true};
 ghost use Rattle.mmc_card.specs.Card.{holds};
 ghost use Rattle.mmc_card.specs.Sectors.{AreRead};
 ghost use Rattle.mmc_bus.specs.Lending.{IsRewritten};
 ghost use Rattle.mmc_erase.specs.declared.how.How.{How};
-ghost use Rattle.mmc_erase.specs.declared.turns.TheConstants.{EXCHANGES_OF_AN_ERASE};
 ghost use Rattle.mmc_switch.specs.Info.{lasting, sectors_of};
-ghost use Rattle.mmc_transfer.specs.declared.turns.TheConstants.{EXCHANGES_BESIDE_BLOCKS, EXCHANGES_OF_A_BLOCK};
-ghost use Rattle.mmc_direct.specs.Attempts.{HasPrepared, HasTried};
+ghost use Rattle.mmc_direct.specs.Attempts.{HasPrepared, HasTried, erasing, moving};
 ghost use Rattle.mmc_direct.specs.Changes.{erased_at, written_at};
 ghost use Rattle.mmc_direct.specs.Refusal.{action_of, refusal};
 ghost use Rattle.mmc_direct.specs.Stands.{IsCausedIn, StandsIn, info_of, stands_of};
 ghost use Rattle.mmc_direct.specs.declared.action.Action.TheVariants.{Read, Write};
-ghost use Rattle.mmc_direct.specs.declared.attempts.TheConstants.{ATTEMPTS, EXCHANGES_BESIDE_A_RUN};
+ghost use Rattle.mmc_direct.specs.declared.attempts.TheConstants.{EXCHANGES_BESIDE_A_RUN};
 
 use crate::stands::Stands;
 use mmc_bus::{Blocks, BlocksMut, Bus, Part};
@@ -59,7 +57,7 @@ fn prepared<B: Bus>(bus: &mut B, stands: Stands, part: Part) -> Result<Session, 
 }
 
 // One attempt at a read.
-fn try_read<B: Bus, D: BlocksMut>(
+pub fn try_read<B: Bus, D: BlocksMut>(
     bus: &mut B,
     stands: Stands,
     part: Part,
@@ -68,7 +66,7 @@ fn try_read<B: Bus, D: BlocksMut>(
 ) -> Result<Session, Broken>
     requires served { refusal Read (info_of stands) part start (length (D.blocks blocks.old)) ≡ None }
     ensures info { lasting (info_of (stands_of result)) ≡ lasting (info_of stands) }
-    ensures bounded { (B.view bus.new).exchanges ≤ (B.view bus.old).exchanges + (EXCHANGES_OF_A_BLOCK * length (D.blocks blocks.old) + EXCHANGES_BESIDE_BLOCKS + EXCHANGES_BESIDE_A_RUN) }
+    ensures bounded { (B.view bus.new).exchanges ≤ (B.view bus.old).exchanges + moving (length (D.blocks blocks.old)) }
     ensures count { length (D.blocks blocks.new) ≡ length (D.blocks blocks.old) }
     ensures lent { IsRewritten D.blocks D.with blocks.old blocks.new }
     ensures kept { (B.view bus.new).is_kept ≡ true → (B.view bus.old).is_kept ≡ true }
@@ -83,7 +81,7 @@ fn try_read<B: Bus, D: BlocksMut>(
 }
 
 // One attempt at a write.
-fn try_write<B: Bus, D: Blocks>(
+pub fn try_write<B: Bus, D: Blocks>(
     bus: &mut B,
     stands: Stands,
     part: Part,
@@ -92,7 +90,7 @@ fn try_write<B: Bus, D: Blocks>(
 ) -> Result<Session, Broken>
     requires served { refusal Write (info_of stands) part start (length (D.blocks blocks.now)) ≡ None }
     ensures info { lasting (info_of (stands_of result)) ≡ lasting (info_of stands) }
-    ensures bounded { (B.view bus.new).exchanges ≤ (B.view bus.old).exchanges + (EXCHANGES_OF_A_BLOCK * length (D.blocks blocks.now) + EXCHANGES_BESIDE_BLOCKS + EXCHANGES_BESIDE_A_RUN) }
+    ensures bounded { (B.view bus.new).exchanges ≤ (B.view bus.old).exchanges + moving (length (D.blocks blocks.now)) }
     ensures kept { (B.view bus.new).is_kept ≡ true → (B.view bus.old).is_kept ≡ true }
     ensures cause { IfErr result (λ broken. IsCausedIn broken.cause (B.view bus.new)) }
     ensures tried { (B.view bus.new).is_kept ≡ true → StandsIn stands (B.view bus.old)
@@ -103,7 +101,7 @@ fn try_write<B: Bus, D: Blocks>(
 }
 
 // One attempt at an erase or a trim.
-fn try_erase<B: Bus>(
+pub fn try_erase<B: Bus>(
     bus: &mut B,
     stands: Stands,
     part: Part,
@@ -113,7 +111,7 @@ fn try_erase<B: Bus>(
 ) -> Result<Session, Broken>
     requires served { refusal (action_of how) (info_of stands) part start count ≡ None }
     ensures info { lasting (info_of (stands_of result)) ≡ lasting (info_of stands) }
-    ensures bounded { (B.view bus.new).exchanges ≤ (B.view bus.old).exchanges + (EXCHANGES_OF_AN_ERASE + EXCHANGES_BESIDE_A_RUN) }
+    ensures bounded { (B.view bus.new).exchanges ≤ (B.view bus.old).exchanges + erasing }
     ensures kept { (B.view bus.new).is_kept ≡ true → (B.view bus.old).is_kept ≡ true }
     ensures cause { IfErr result (λ broken. IsCausedIn broken.cause (B.view bus.new)) }
     ensures tried { (B.view bus.new).is_kept ≡ true → StandsIn stands (B.view bus.old)

@@ -3,14 +3,15 @@
 
 mod action;
 mod attempts;
-
 mod refused;
+mod requests;
+mod retries;
 mod rules;
 mod stands;
 
 pub use action::Action;
 pub use attempts::{ATTEMPTS, EXCHANGES_BESIDE_A_RUN};
-
 pub use refused::{NotDone, Refused};
+pub use requests::{erase, read, trim, write};
 pub use rules::refusal;
 pub use stands::{Served, Stands};

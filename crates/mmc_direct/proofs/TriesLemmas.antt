@@ -1,0 +1,84 @@
+-- Attempts one behind the other, over any bus.
+use Rattle.std.proofs.Common.{◌*◌, ◌+◌, ◌∙◌, ◌≡◌, ◌≤◌, [], arith, subst, true, ℕ}
+use Rattle.std.specs.Prelude.{Err, IfErr, Ok, Result}
+use Rattle.mmc_card.specs.BusView.{BusView}
+use Rattle.mmc_card.specs.Sectors.{Change}
+use Rattle.mmc_card.specs.declared.part.Part.{Part}
+use Rattle.mmc_switch.specs.Info.{lasting}
+use Rattle.mmc_switch.specs.Place.{IsLoose}
+use Rattle.mmc_switch.specs.declared.info.Info.{Info}
+use Rattle.mmc_switch.specs.declared.broken.Broken.{Broken}
+use Rattle.mmc_switch.specs.declared.session.Session.{Session}
+use Rattle.mmc_direct.specs.Attempts.{HasTried, Tries, erasing, moving}
+use Rattle.mmc_direct.specs.Changes.{erased_at, written_at}
+use Rattle.mmc_direct.specs.Stands.{IsCausedIn, StandsIn, info_of, stands_of}
+use Rattle.mmc_direct.specs.declared.stands.Stands.{Stands}
+use Rattle.mmc_direct.specs.declared.stands.Stands.TheVariants.{Loose}
+use Rattle.mmc_direct.proofs.AttemptLemmas.{tried_again, tried_enough}
+
+-- what one attempt does
+pub one_try : (each : ℕ) (change : Change) (stands : Stands) (a : BusView) (result : Result Session Broken) (b : BusView)
+    → lasting (info_of (stands_of result)) ≡ lasting (info_of stands) → b.exchanges ≤ a.exchanges + each
+    → (b.is_kept ≡ true → a.is_kept ≡ true) → IfErr result (λ broken. IsCausedIn broken.cause b)
+    → (b.is_kept ≡ true → StandsIn stands a → HasTried 1 change a result b) → Tries 1 each change stands a result b
+one_try each change stands a result b info bounded kept cause tried =
+    record { info = info; bounded = omega (arith, bounded); kept = kept; cause = cause; tried = tried }
+
+-- the same of an erase or a trim, in terms of what was known of the card before
+pub one_erase : (info : Info) (broken : Broken) (part : Part) (start count : ℕ) (a : BusView) (result : Result Session Broken)
+    (b : BusView) → lasting broken.session.info ≡ lasting info
+    → lasting (info_of (stands_of result)) ≡ lasting broken.session.info → b.exchanges ≤ a.exchanges + erasing
+    → (b.is_kept ≡ true → a.is_kept ≡ true) → IfErr result (λ left. IsCausedIn left.cause b)
+    → (b.is_kept ≡ true → IsLoose broken a → HasTried 1 (erased_at broken.session.info part start count) a result b)
+    → Tries 1 erasing (erased_at info part start count) (Loose broken) a result b
+one_erase info broken part start count a result b same now bounded kept cause tried =
+    subst (λ (i : Info). Tries 1 erasing (erased_at i part start count) (Loose broken) a result b) same
+    (one_try erasing (erased_at broken.session.info part start count) (Loose broken) a result b now bounded kept cause tried)
+
+-- and of a read, in terms of the blocks as they were lent
+pub one_read : (was now : ℕ) (broken : Broken) (part : Part) (start : ℕ) (a : BusView) (result : Result Session Broken)
+    (b : BusView) → now ≡ was
+    → lasting (info_of (stands_of result)) ≡ lasting broken.session.info → b.exchanges ≤ a.exchanges + moving now
+    → (b.is_kept ≡ true → a.is_kept ≡ true) → IfErr result (λ left. IsCausedIn left.cause b)
+    → (b.is_kept ≡ true → IsLoose broken a → HasTried 1 (written_at part start []) a result b)
+    → Tries 1 (moving was) (written_at part start []) (Loose broken) a result b
+one_read was now broken part start a result b count info bounded kept cause tried =
+    subst (λ n. Tries 1 (moving n) (written_at part start []) (Loose broken) a result b) count
+    (one_try (moving now) (written_at part start []) (Loose broken) a result b info bounded kept cause tried)
+
+-- one more, where all before it have failed
+pub tries_again : (attempts most : ℕ) (change : Change) (stands : Stands) (broken : Broken) (a b : BusView)
+    (result : Result Session Broken) (c : BusView)
+    → Tries attempts most change stands a (Err broken) b → Tries 1 most change (Loose broken) b result c
+    → Tries (attempts + 1) most change stands a result c
+tries_again attempts most change stands broken a b result c p q = record {
+  info = q.info ∙ p.info;
+  bounded = let l = p.bounded in let m = q.bounded in omega (arith, l, m);
+  kept = λ kept. p.kept (q.kept kept);
+  cause = q.cause;
+  tried = λ kept at.
+      let was = p.tried (q.kept kept) at in
+      tried_again attempts change broken a b result c was (q.tried kept was.stands);
+}
+
+-- done, before all were used up
+pub tries_enough : (attempts most each : ℕ) (change : Change) (stands : Stands) (session : Session) (a b : BusView)
+    → attempts ≤ most → Tries attempts each change stands a (Ok session) b → Tries most each change stands a (Ok session) b
+tries_enough attempts most each change stands session a b few p = record {
+  info = p.info;
+  bounded =
+      let l = p.bounded in
+      let m : attempts * each ≤ most * each = grind (arith, few) in
+      omega (arith, l, m);
+  kept = p.kept;
+  cause = p.cause;
+  tried = λ kept at. tried_enough attempts most change session a b (p.tried kept at);
+}
+
+-- failed, once all were used up
+pub tries_all : (attempts most each : ℕ) (change : Change) (stands : Stands) (result : Result Session Broken) (a b : BusView)
+    → most ≤ attempts → attempts ≤ most → Tries attempts each change stands a result b
+    → Tries most each change stands a result b
+tries_all attempts most each change stands result a b least few p =
+    let all : attempts ≡ most = omega (arith, least, few) in
+    subst (λ n. Tries n each change stands a result b) all p

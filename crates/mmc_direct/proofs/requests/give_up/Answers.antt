@@ -1,0 +1,10 @@
+use Rattle.mmc_direct.specs.Changes.{erased_at}
+use Rattle.mmc_direct.specs.Stands.{info_of}
+use Rattle.mmc_direct.proofs.RequestLemmas.{has_changed}
+use Rattle.mmc_direct.proofs.requests.give_up.Goals as goal
+
+pub returns-in-None-clause-served : goal.returns-in-None-clause-served
+returns-in-None-clause-served g c kept at =
+    has_changed (erased_at (info_of c.args.stands) c.args.part c.args.start c.args.count) (g.B.Bus.view c.args.bus.now)
+    c.of.result c.keep_erasing.result (g.B.Bus.view c.keep_erasing.new.bus) c.of.ensures.stands c.of.ensures.answer
+    (c.keep_erasing.ensures.tries.tried kept at)

@@ -1,0 +1,13 @@
+use Rattle.mmc_bus.specs.Lending.IsRewritten.{nothing}
+use Rattle.mmc_direct.proofs.RequestLemmas.{has_read}
+use Rattle.mmc_direct.proofs.requests.read.Goals as goal
+
+pub returns-in-Some-clause-lent : goal.returns-in-Some-clause-lent
+returns-in-Some-clause-lent g c = nothing
+
+pub returns-in-None-clause-served : goal.returns-in-None-clause-served
+returns-in-None-clause-served g c kept at =
+    let done = c.keep_reading.ensures in
+    has_read c.args.part c.args.start (g.D.Blocks.blocks c.keep_reading.new.blocks) (g.B.Bus.view c.args.bus.now)
+    c.of.result c.keep_reading.result (g.B.Bus.view c.keep_reading.new.bus) c.of.ensures.stands c.of.ensures.answer
+    (done.tries.tried kept at) (done.read kept at)

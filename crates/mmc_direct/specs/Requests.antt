@@ -1,0 +1,37 @@
+-- What a request does with the card.
+use Rattle.std.specs.Prelude.{◌+◌, ◌≤◌, IfOk, List, ℕ}
+use Rattle.mmc_bus.specs.Learned.{Stays}
+use Rattle.mmc_bus.specs.Work.{Narrows}
+use Rattle.mmc_card.specs.BusView.{BusView}
+use Rattle.mmc_card.specs.Card.{holds}
+use Rattle.mmc_card.specs.Profile.{InProfile}
+use Rattle.mmc_card.specs.Sectors.{AreRead, Change, Sector, Within, maybe_changed}
+use Rattle.mmc_card.specs.declared.part.Part.{Part}
+use Rattle.mmc_direct.specs.Changes.{IsCarriedOut}
+use Rattle.mmc_direct.specs.Stands.{IfFailed, StandsIn}
+use Rattle.mmc_direct.specs.declared.stands.Served.{Served}
+
+-- A write, an erase or a trim.
+pub record HasChanged (change : Change) (old : BusView) (served : Served) (new : BusView) : Type 0 where
+  -- the same card, with no fewer faults
+  pub stays : Stays old new
+  -- it stands as is known of it
+  pub stands : StandsIn served.stands new
+  -- whatever the answer, each sector that is named is old or new, and no other may hold more
+  pub within : Within (holds new.card) (maybe_changed change (holds old.card))
+  -- done: each sector that is named holds its new value alone
+  pub done : IfOk served.answer (λ _. IsCarriedOut change (holds old.card) (holds new.card))
+  -- failed: on a card in profile four faults fell
+  pub failed : InProfile old.card.made → IfFailed served.answer (λ _. old.faults + 4 ≤ new.faults)
+
+-- A read into these blocks.
+pub record HasRead (part : Part) (start : ℕ) (blocks : List Sector) (old : BusView) (served : Served)
+    (new : BusView) : Type 0 where
+  pub stays : Stays old new
+  pub stands : StandsIn served.stands new
+  -- whatever the answer, no sector may hold more
+  pub narrows : Narrows old new
+  -- done: the blocks are what the sectors may hold
+  pub done : IfOk served.answer (λ _. AreRead (holds new.card) part start blocks)
+  -- failed: on a card in profile four faults fell
+  pub failed : InProfile old.card.made → IfFailed served.answer (λ _. old.faults + 4 ≤ new.faults)

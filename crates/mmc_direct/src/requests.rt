@@ -1,0 +1,154 @@
+// Requests, one at a time.
+ghost use Rattle.std.specs.Prelude.{◌≡◌, ◌*◌, ◌+◌, ◌≤◌, length, true};
+ghost use Rattle.mmc_bus.specs.Lending.{IsRewritten};
+ghost use Rattle.mmc_erase.specs.declared.how.How.{How};
+ghost use Rattle.mmc_switch.specs.Info.{lasting};
+ghost use Rattle.mmc_direct.specs.Attempts.{erasing, moving};
+ghost use Rattle.mmc_direct.specs.Changes.{erased_at, written_at};
+ghost use Rattle.mmc_direct.specs.Refusal.{action_of, refusal};
+ghost use Rattle.mmc_direct.specs.Requests.{HasChanged, HasRead};
+ghost use Rattle.mmc_direct.specs.Stands.{AnswersBy, IfFailed, IfRefused, IsCausedIn, StandsIn, info_of, refusal_in};
+ghost use Rattle.mmc_direct.specs.declared.action.Action.TheVariants.{Erase, Read, Trim, Write};
+ghost use Rattle.mmc_direct.specs.declared.attempts.TheConstants.{ATTEMPTS};
+
+use crate::action::Action;
+use crate::retries::{keep_erasing, keep_reading, keep_writing};
+use crate::rules::refusal;
+use crate::stands::{Served, Stands};
+use mmc_bus::{Blocks, BlocksMut, Bus, Part};
+use mmc_erase::How;
+
+/// Reads these blocks, 1 to 1,024, from this sector of a partition on, in at most four attempts: each settles the card where
+/// something has failed, selects the partition where another one is selected, and makes the run. What the blocks hold is open
+/// unless it is done.
+pub fn read<B: Bus, D: BlocksMut>(
+    bus: &mut B,
+    stands: Stands,
+    part: Part,
+    start: u64,
+    blocks: &mut D,
+) -> Served
+    ensures refused { refusal_in result.answer ≡ refusal Read (info_of stands) part start (length (D.blocks blocks.old)) }
+    ensures untouched { IfRefused result.answer ((bus.new ≡ bus.old) × (result.stands ≡ stands) × (blocks.new ≡ blocks.old)) }
+    ensures answer { AnswersBy result.answer result.stands }
+    ensures info { lasting (info_of result.stands) ≡ lasting (info_of stands) }
+    ensures count { length (D.blocks blocks.new) ≡ length (D.blocks blocks.old) }
+    ensures lent { IsRewritten D.blocks D.with blocks.old blocks.new }
+    ensures bounded { (B.view bus.new).exchanges ≤ (B.view bus.old).exchanges + ATTEMPTS * moving (length (D.blocks blocks.old)) }
+    ensures cause { IfFailed result.answer (λ cause. IsCausedIn cause (B.view bus.new)) }
+
+    ensures kept { (B.view bus.new).is_kept ≡ true → (B.view bus.old).is_kept ≡ true }
+    ensures served { (B.view bus.new).is_kept ≡ true → StandsIn stands (B.view bus.old)
+        → HasRead part start (D.blocks blocks.new) (B.view bus.old) result (B.view bus.new) }
+{
+    match refusal(
+        stands.info(),
+        Action::Read,
+        part,
+        start,
+        blocks.len() as u64,
+    ) {
+        Some(refused) => Served::refused(stands, refused),
+        None => Served::of(keep_reading(bus, stands, part, start, blocks)),
+    }
+}
+
+/// Writes these blocks, 1 to 1,024, from this sector of a partition on, in attempts as `read`. Where it has failed each sector
+/// that is named is old or new, and no other has changed.
+pub fn write<B: Bus, D: Blocks>(
+    bus: &mut B,
+    stands: Stands,
+    part: Part,
+    start: u64,
+    blocks: &D,
+) -> Served
+    ensures refused { refusal_in result.answer ≡ refusal Write (info_of stands) part start (length (D.blocks blocks.now)) }
+    ensures untouched { IfRefused result.answer ((bus.new ≡ bus.old) × (result.stands ≡ stands)) }
+    ensures answer { AnswersBy result.answer result.stands }
+    ensures info { lasting (info_of result.stands) ≡ lasting (info_of stands) }
+    ensures bounded { (B.view bus.new).exchanges ≤ (B.view bus.old).exchanges + ATTEMPTS * moving (length (D.blocks blocks.now)) }
+    ensures cause { IfFailed result.answer (λ cause. IsCausedIn cause (B.view bus.new)) }
+
+    ensures kept { (B.view bus.new).is_kept ≡ true → (B.view bus.old).is_kept ≡ true }
+    ensures served { (B.view bus.new).is_kept ≡ true → StandsIn stands (B.view bus.old)
+        → HasChanged (written_at part start (D.blocks blocks.now)) (B.view bus.old) result (B.view bus.new) }
+{
+    match refusal(
+        stands.info(),
+        Action::Write,
+        part,
+        start,
+        blocks.len() as u64,
+    ) {
+        Some(refused) => Served::refused(stands, refused),
+        None => Served::of(keep_writing(bus, stands, part, start, blocks)),
+    }
+}
+
+// What a request does that erases or trims.
+fn action_of(how: How) -> Action
+    ensures { result ≡ action_of how }
+{
+    match how {
+        How::Erase => Action::Erase,
+        How::Trim => Action::Trim,
+    }
+}
+
+// Erases or trims so many sectors.
+fn give_up<B: Bus>(
+    bus: &mut B,
+    stands: Stands,
+    part: Part,
+    start: u64,
+    count: u64,
+    how: How,
+) -> Served
+    ensures refused { refusal_in result.answer ≡ refusal (action_of how) (info_of stands) part start count }
+    ensures untouched { IfRefused result.answer ((bus.new ≡ bus.old) × (result.stands ≡ stands)) }
+    ensures answer { AnswersBy result.answer result.stands }
+    ensures info { lasting (info_of result.stands) ≡ lasting (info_of stands) }
+    ensures bounded { (B.view bus.new).exchanges ≤ (B.view bus.old).exchanges + ATTEMPTS * erasing }
+    ensures cause { IfFailed result.answer (λ cause. IsCausedIn cause (B.view bus.new)) }
+    ensures kept { (B.view bus.new).is_kept ≡ true → (B.view bus.old).is_kept ≡ true }
+    ensures served { (B.view bus.new).is_kept ≡ true → StandsIn stands (B.view bus.old)
+        → HasChanged (erased_at (info_of stands) part start count) (B.view bus.old) result (B.view bus.new) }
+{
+    match refusal(stands.info(), action_of(how), part, start, count) {
+        Some(refused) => Served::refused(stands, refused),
+        None => Served::of(keep_erasing(bus, stands, part, start, count, how)),
+    }
+}
+
+/// Erases so many sectors, 1 or more, by whole erase units, the last of which may end with the partition; in attempts as `read`.
+/// They hold the card's erased byte then. Where it has failed each of them is as before or erased, and no other has changed.
+pub fn erase<B: Bus>(bus: &mut B, stands: Stands, part: Part, start: u64, count: u64) -> Served
+    ensures refused { refusal_in result.answer ≡ refusal Erase (info_of stands) part start count }
+    ensures untouched { IfRefused result.answer ((bus.new ≡ bus.old) × (result.stands ≡ stands)) }
+    ensures answer { AnswersBy result.answer result.stands }
+    ensures info { lasting (info_of result.stands) ≡ lasting (info_of stands) }
+    ensures bounded { (B.view bus.new).exchanges ≤ (B.view bus.old).exchanges + ATTEMPTS * erasing }
+    ensures cause { IfFailed result.answer (λ cause. IsCausedIn cause (B.view bus.new)) }
+
+    ensures kept { (B.view bus.new).is_kept ≡ true → (B.view bus.old).is_kept ≡ true }
+    ensures served { (B.view bus.new).is_kept ≡ true → StandsIn stands (B.view bus.old)
+        → HasChanged (erased_at (info_of stands) part start count) (B.view bus.old) result (B.view bus.new) }
+{
+    give_up(bus, stands, part, start, count, How::Erase)
+}
+
+/// Trims so many sectors, 1 or more, each by itself, of a card that trims; otherwise as `erase`.
+pub fn trim<B: Bus>(bus: &mut B, stands: Stands, part: Part, start: u64, count: u64) -> Served
+    ensures refused { refusal_in result.answer ≡ refusal Trim (info_of stands) part start count }
+    ensures untouched { IfRefused result.answer ((bus.new ≡ bus.old) × (result.stands ≡ stands)) }
+    ensures answer { AnswersBy result.answer result.stands }
+    ensures info { lasting (info_of result.stands) ≡ lasting (info_of stands) }
+    ensures bounded { (B.view bus.new).exchanges ≤ (B.view bus.old).exchanges + ATTEMPTS * erasing }
+    ensures cause { IfFailed result.answer (λ cause. IsCausedIn cause (B.view bus.new)) }
+
+    ensures kept { (B.view bus.new).is_kept ≡ true → (B.view bus.old).is_kept ≡ true }
+    ensures served { (B.view bus.new).is_kept ≡ true → StandsIn stands (B.view bus.old)
+        → HasChanged (erased_at (info_of stands) part start count) (B.view bus.old) result (B.view bus.new) }
+{
+    give_up(bus, stands, part, start, count, How::Trim)
+}
