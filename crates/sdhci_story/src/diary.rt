@@ -1,0 +1,69 @@
+// What was read and written. It exists only in proofs: a diary has no bytes, and its functions do nothing at run time.
+ghost use Rattle.std.specs.Prelude.{◌≡◌, ◌∷◌, [], List};
+ghost use Rattle.std.specs.Borrow.{ftrue};
+ghost use Rattle.sdhci_story.specs.Access.{Access};
+
+use std::marker::Model;
+
+/// The accesses so far. Only proofs read it.
+#[derive(Drop)]
+pub struct Diary {
+    // the last one first
+    pub ghost past: { List Access },
+}
+
+impl Model for Diary {
+    ghost also_owns = { λ _. ftrue };
+}
+
+/// What is noted: an access, with what was read.
+#[derive(Clone, Copy, Drop)]
+pub enum Note {
+    /// 32 bits were read.
+    Read32 {
+        /// Where, in bytes.
+        offset: u8,
+        /// What was read.
+        value: u32,
+    },
+    /// 32 bits were written.
+    Write32 {
+        /// Where, in bytes.
+        offset: u8,
+        /// What was written.
+        value: u32,
+    },
+    /// 8 bits were read.
+    Read8 {
+        /// Where, in bytes.
+        offset: u8,
+        /// What was read.
+        value: u8,
+    },
+    /// 8 bits were written.
+    Write8 {
+        /// Where, in bytes.
+        offset: u8,
+        /// What was written.
+        value: u8,
+    },
+}
+
+impl Diary {
+    ghost use Rattle.sdhci_story.specs.Noted.{access_of};
+
+    /// Nothing so far.
+    pub fn new() -> Diary
+        ensures { result.past ≡ [] }
+    {
+        Diary {}
+    }
+
+    /// One access more.
+    #[inline(always)]
+    pub fn then(&self, _note: &Note) -> Diary
+        ensures { result.past ≡ access_of _note.now ∷ self.now.past }
+    {
+        Diary {}
+    }
+}
