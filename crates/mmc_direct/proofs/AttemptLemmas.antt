@@ -24,7 +24,7 @@ use Rattle.mmc_transfer.specs.Whole.{HasRun}
 use Rattle.mmc_transfer.specs.declared.way.Way.{Way}
 use Rattle.mmc_transfer.specs.declared.way.Way.TheVariants.{Read, Write}
 use Rattle.mmc_direct.specs.Attempts.{HasPrepared, HasTried}
-use Rattle.mmc_direct.specs.Changes.{IsCarriedOut, erased_at, written_at}
+use Rattle.mmc_direct.specs.Changes.{TakesEffect, erased_at, written_at}
 use Rattle.mmc_direct.specs.Stands.{StandsIn, stands_of}
 
 -- Settling and selecting.
@@ -92,7 +92,7 @@ maybe_again true x v now old within (inr h) = within h
 maybe_again false x v now old within h = within h
 
 carried : (change : Change) (old mid new : Sets) → Within mid old → Same new (changed change mid)
-    → IsCarriedOut change old new
+    → TakesEffect change old new
 carried change old mid new within same = record {
   alone = λ part sector touched.
       same part sector ∙ ap (λ b. cond b (value_of change sector ∷ []) (mid part sector)) touched;
@@ -101,8 +101,8 @@ carried change old mid new within same = record {
       (within part sector value) (subst (λ xs. IsIn xs value) (same part sector) h);
 }
 
-carried_again : (change : Change) (old mid new : Sets) → Within mid (maybe_changed change old) → IsCarriedOut change mid new
-    → IsCarriedOut change old new
+carried_again : (change : Change) (old mid new : Sets) → Within mid (maybe_changed change old) → TakesEffect change mid new
+    → TakesEffect change old new
 carried_again change old mid new within done = record {
   alone = done.alone;
   within = λ part sector value h.

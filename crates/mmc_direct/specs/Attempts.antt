@@ -1,20 +1,20 @@
 -- What attempts at a request do with the card.
 use Rattle.std.specs.Prelude.{◌*◌, ◌+◌, ◌<◌, ◌≡◌, ◌≤◌, IfErr, IfOk, Result, true, ℕ}
-use Rattle.mmc_bus.specs.Learned.{Stays}
-use Rattle.mmc_bus.specs.Work.{Narrows}
 use Rattle.mmc_card.specs.BusView.{BusView}
 use Rattle.mmc_card.specs.Card.{holds}
 use Rattle.mmc_card.specs.Profile.{InProfile}
 use Rattle.mmc_card.specs.Sectors.{Change, Within, maybe_changed}
+use Rattle.mmc_bus.specs.Learned.{Stays}
+use Rattle.mmc_bus.specs.Work.{Narrows}
 use Rattle.mmc_switch.specs.Info.{lasting}
 use Rattle.mmc_switch.specs.declared.broken.Broken.{Broken}
 use Rattle.mmc_switch.specs.declared.session.Session.{Session}
-use Rattle.mmc_direct.specs.Changes.{IsCarriedOut}
 use Rattle.mmc_transfer.specs.declared.turns.TheConstants.{EXCHANGES_BESIDE_BLOCKS, EXCHANGES_OF_A_BLOCK}
 use Rattle.mmc_erase.specs.declared.turns.TheConstants.{EXCHANGES_OF_AN_ERASE}
+use Rattle.mmc_direct.specs.Changes.{TakesEffect}
+use Rattle.mmc_direct.specs.Stands.{IsCausedIn, StandsIn, info_of, stands_of}
 use Rattle.mmc_direct.specs.declared.attempts.TheConstants.{EXCHANGES_BESIDE_A_RUN}
 use Rattle.mmc_direct.specs.declared.stands.Stands.{Stands}
-use Rattle.mmc_direct.specs.Stands.{IsCausedIn, StandsIn, info_of, stands_of}
 
 -- the most exchanges of an attempt that moves so many blocks
 abbrev pub moving : ℕ → ℕ
@@ -37,7 +37,7 @@ pub record HasTried (attempts : ℕ) (change : Change) (old : BusView) (result :
   pub stays : Stays old new
   pub stands : StandsIn (stands_of result) new
   pub within : Within (holds new.card) (maybe_changed change (holds old.card))
-  pub done : IfOk result (λ session. IsCarriedOut change (holds old.card) (holds new.card))
+  pub done : IfOk result (λ session. TakesEffect change (holds old.card) (holds new.card))
   pub fell : IfErr result (λ broken. InProfile old.card.made → old.faults + attempts ≤ new.faults)
 
 -- The same over any bus, with at most so many exchanges each, on a card that stood so.

@@ -12,7 +12,7 @@ written_at part start values = record { part = part; start = start; values = val
 abbrev pub erased_at : Info → Part → ℕ → ℕ → Change
 erased_at info part start count = written_at part start (replicate count (replicate 512 info.erased_byte))
 
--- Carried out: each sector of the change holds its new value alone, and no other one may hold more than it might before.
-pub record IsCarriedOut (change : Change) (old new : Sets) : Type 0 where
+-- It takes effect: each sector of the change holds its new value alone, and no other one may hold more than it might before.
+pub record TakesEffect (change : Change) (old new : Sets) : Type 0 where
   pub alone : (part : Part) (sector : ℕ) → touches change part sector ≡ true → new part sector ≡ value_of change sector ∷ []
   pub within : Within new (changed change old)

@@ -7,7 +7,7 @@ use Rattle.mmc_card.specs.Card.{holds}
 use Rattle.mmc_card.specs.Profile.{InProfile}
 use Rattle.mmc_card.specs.Sectors.{AreRead, Change, Sector, Within, maybe_changed}
 use Rattle.mmc_card.specs.declared.part.Part.{Part}
-use Rattle.mmc_direct.specs.Changes.{IsCarriedOut}
+use Rattle.mmc_direct.specs.Changes.{TakesEffect}
 use Rattle.mmc_direct.specs.Stands.{IfFailed, StandsIn}
 use Rattle.mmc_direct.specs.declared.stands.Served.{Served}
 
@@ -20,7 +20,7 @@ pub record HasChanged (change : Change) (old : BusView) (served : Served) (new :
   -- whatever the answer, each sector that is named is old or new, and no other may hold more
   pub within : Within (holds new.card) (maybe_changed change (holds old.card))
   -- done: each sector that is named holds its new value alone
-  pub done : IfOk served.answer (λ _. IsCarriedOut change (holds old.card) (holds new.card))
+  pub done : IfOk served.answer (λ _. TakesEffect change (holds old.card) (holds new.card))
   -- failed: on a card in profile four faults fell
   pub failed : InProfile old.card.made → IfFailed served.answer (λ _. old.faults + 4 ≤ new.faults)
 

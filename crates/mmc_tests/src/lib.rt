@@ -8,6 +8,8 @@ mod cards;
 #[cfg(test)]
 mod device;
 #[cfg(test)]
+mod direct;
+#[cfg(test)]
 mod erase;
 #[cfg(test)]
 mod host;
