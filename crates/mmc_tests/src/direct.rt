@@ -1,79 +1,41 @@
 // Requests one at a time, on cards in memory.
 use crate::cards::*;
 use crate::transfer::{filled, is_all};
-use mmc_bus::{Cause, Part};
+use mmc_bus::{Bytes, Part};
 use mmc_card_sim::{Fault, SimCard};
-use mmc_direct::{NotDone, Refused, Served, Stands, erase, read, trim, write};
+use mmc_direct::{NotDone, Refused, Stands, erase, read, trim, write};
+use mmc_switch::{Cause, Session};
 use std::alloc::Global;
 use std::test::Fail;
 
-// How a card stands once it was opened.
-fn stands_of(card: &mut SimCard) -> Result<Stands, Fail> {
-    Ok(Stands::Ready(opened(card).ok_or("not opened")?))
-}
-
-// Whether two sectors that are read hold this byte alone.
-fn hold(
-    alloc: Global,
+// Erases these sectors of a card that was opened just now, and says why not.
+fn erased(
     card: &mut SimCard,
-    stands: Stands,
+    session: Session,
     part: Part,
     start: u64,
-    byte: u8,
-) -> Result<(Stands, bool), Fail> {
-    let mut blocks = filled(alloc, 0, 2)?;
-    let Served { stands, answer } = read(card, stands, part, start, &mut blocks);
-    Ok((stands, answer.is_ok() && is_all(blocks.as_slice(), byte)))
+    count: u64,
+) -> Option<NotDone> {
+    erase(card, Stands::Ready(session), part, start, count)
+        .answer
+        .err()
 }
 
-#[test]
-fn serves_one_request_after_another(rt: HostRuntime) -> Result<(), Fail> {
-    let mut card = built(rt.alloc(), spec_of(Which::Emmc))?;
-    let stands = stands_of(&mut card)?;
-    let blocks = filled(rt.alloc(), 0x5a, 2)?;
-    let Served { stands, answer } = write(&mut card, stands, Part::Boot2, 254, &blocks);
-    assert_eq!(rt; answer, Ok(()));
-    let (stands, is_read) = hold(rt.alloc(), &mut card, stands, Part::Boot2, 254, 0x5a)?;
-    assert!(rt; is_read);
-    let Served { stands, answer } = write(&mut card, stands, Part::User, 1023, &blocks);
-    assert_eq!(rt; answer, Ok(()));
-    let Served { stands, answer } = trim(&mut card, stands, Part::User, 1024, 1);
-    assert_eq!(rt; answer, Ok(()));
-    let contents = card.contents(Part::User);
-    assert!(rt; is_all(&contents[512 * 1023..512 * 1024], 0x5a));
-    assert!(rt; is_all(&contents[512 * 1024..512 * 1025], 0xff));
-    let Served { stands, answer } = erase(&mut card, stands, Part::User, 0, 1024);
-    assert_eq!(rt; answer, Ok(()));
-    let (_, is_read) = hold(rt.alloc(), &mut card, stands, Part::User, 1023, 0xff)?;
-    assert!(rt; is_read);
-    Ok(())
-}
-
-// Each attempt loses its CMD17. Settling takes four exchanges: CMD13, CMD16, and CMD13 twice.
-#[test]
-fn gives_up_after_four_attempts(rt: HostRuntime) -> Result<(), Fail> {
-    let mut card = built(rt.alloc(), spec_of(Which::Sdhc))?;
-    let mut stands = stands_of(&mut card)?;
-    let first = card.exchanges();
-    for attempt in 0..4 {
-        let exchange = first.checked_add(5 * attempt).ok_or("too many")?;
-        card.plan(exchange, Fault::LoseCommand).ok().ok_or("not planned")?;
+// Why these sectors of card `emmc` can't be erased, if nothing was sent.
+fn refusal_of(alloc: Global, part: Part, start: u64, count: u64) -> Result<Option<NotDone>, Fail> {
+    let mut card = built(alloc, spec_of(Which::Emmc))?;
+    let session = opened(&mut card).ok_or("not opened")?;
+    let before = card.exchanges();
+    let why = erased(&mut card, session, part, start, count);
+    if card.exchanges() == before {
+        Ok(why)
+    } else {
+        Err("something was sent".into())
     }
-    let mut blocks = filled(rt.alloc(), 0, 1)?;
-    let served = read(&mut card, stands, Part::User, 0, &mut blocks);
-    assert_eq!(rt; served.answer, Err(NotDone::Failed(Cause::Answer)));
-    assert_eq!(rt; Some(card.exchanges()), first.checked_add(16));
-    stands = served.stands;
-    let served = read(&mut card, stands, Part::User, 0, &mut blocks);
-    assert_eq!(rt; served.answer, Ok(()));
-    Ok(())
 }
 
 #[test]
 fn refuses_for_the_first_reason(rt: HostRuntime) -> Result<(), Fail> {
-    let mut card = built(rt.alloc(), spec_of(Which::Emmc))?;
-    let mut stands = stands_of(&mut card)?;
-    let first = card.exchanges();
     for (part, start, count, refused) in [
         (Part::Gp1, 0, 0, Refused::NoSuchPartition),
         (Part::User, 4096, 0, Refused::Empty),
@@ -82,13 +44,56 @@ fn refuses_for_the_first_reason(rt: HostRuntime) -> Result<(), Fail> {
         (Part::Boot1, 0, 1, Refused::NotInPartition),
         (Part::User, 1, 1024, Refused::Unaligned),
     ] {
-        let served = erase(&mut card, stands, part, start, count);
-        assert_eq!(rt; served.answer, Err(NotDone::Refused(refused)));
-        stands = served.stands;
+        let why = refusal_of(rt.alloc(), part, start, count)?;
+        assert_eq!(rt; why, Some(NotDone::Refused(refused)));
     }
-    let blocks = filled(rt.alloc(), 0, 0)?;
-    let served = write(&mut card, stands, Part::User, 0, &blocks);
-    assert_eq!(rt; served.answer, Err(NotDone::Refused(Refused::Empty)));
-    assert_eq!(rt; card.exchanges(), first);
+    Ok(())
+}
+
+// Writes two sectors across the end of an erase unit, trims the second and erases the first with its unit.
+fn changed(card: &mut SimCard, stands: Stands, blocks: &Bytes) -> Stands {
+    let written = write(card, stands, Part::User, 1023, blocks);
+    let trimmed = trim(card, written.stands, Part::User, 1024, 1);
+    erase(card, trimmed.stands, Part::User, 0, 1024).stands
+}
+
+#[test]
+fn serves_one_request_after_another(rt: HostRuntime) -> Result<(), Fail> {
+    let mut card = built(rt.alloc(), spec_of(Which::Emmc))?;
+    let session = opened(&mut card).ok_or("not opened")?;
+    let blocks = filled(rt.alloc(), 0x5a, 2)?;
+    let mut room = filled(rt.alloc(), 0, 2)?;
+    let written = write(&mut card, Stands::Ready(session), Part::Boot2, 254, &blocks);
+    let stands = changed(&mut card, written.stands, &blocks);
+    let served = read(&mut card, stands, Part::Boot2, 254, &mut room);
+    assert_eq!(rt; served.answer, Ok(()));
+    assert!(rt; is_all(room.as_slice(), 0x5a));
+    assert!(rt; is_all(card.contents(Part::User), 0xff));
+    Ok(())
+}
+
+// Plans that the first command of each of four attempts is lost. Settling takes four exchanges: CMD13, CMD16, and CMD13 twice.
+fn planned(card: &mut SimCard) -> Result<u64, Fail> {
+    let first = card.exchanges();
+    for attempt in 0..4 {
+        let exchange = first.checked_add(5 * attempt).ok_or("too many")?;
+        card.plan(exchange, Fault::LoseCommand)
+            .ok()
+            .ok_or("not planned")?;
+    }
+    Ok(first)
+}
+
+#[test]
+fn gives_up_after_four_attempts(rt: HostRuntime) -> Result<(), Fail> {
+    let mut card = built(rt.alloc(), spec_of(Which::Sdhc))?;
+    let session = opened(&mut card).ok_or("not opened")?;
+    let first = planned(&mut card)?;
+    let mut room = filled(rt.alloc(), 0, 1)?;
+    let served = read(&mut card, Stands::Ready(session), Part::User, 0, &mut room);
+    assert_eq!(rt; served.answer, Err(NotDone::Failed(Cause::Answer)));
+    assert_eq!(rt; Some(card.exchanges()), first.checked_add(16));
+    let again = read(&mut card, served.stands, Part::User, 0, &mut room);
+    assert_eq!(rt; again.answer, Ok(()));
     Ok(())
 }
