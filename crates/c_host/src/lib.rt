@@ -4,8 +4,10 @@
 //! library gives the two functions that stand behind writing and reading code of his own (`c/kelifandro.c`): no file is opened.
 #![tactic(auto)]
 
+mod lent;
 mod registers;
 mod stream;
 mod way;
 
+pub use lent::{Sectors, SectorsMut};
 pub use way::{Given, Way};
