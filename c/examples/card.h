@@ -1,0 +1,30 @@
+/* A card in memory, for the examples: an SD card of high capacity or an eMMC device, told of decoded commands. */
+#ifndef CARD_H
+#define CARD_H
+#include "../kelifandro.h"
+
+enum { USER_SECTORS = 1024, BOOT_SECTORS = 256 };
+
+struct card {
+    int is_emmc;
+    uint8_t user[USER_SECTORS][512], boot[2][BOOT_SECTORS][512];
+    unsigned state; /* SD Physical Layer 6.00, section 4.1 */
+    uint16_t rca;
+    int is_app;
+    uint32_t count;        /* preset by CMD23 */
+    uint32_t errors;       /* status bits to show once */
+    uint8_t part;          /* of an eMMC device: 0 user, 1 and 2 boot */
+    const uint8_t *source; /* bytes that are sent, or 0 where sectors are */
+    uint32_t next, left;   /* the next sector, and how many are left; 0xffffffff until CMD12 */
+    uint32_t first, last;  /* of an erase */
+    uint8_t register_block[512];
+    /* how many answers there were, and which of them is lost */
+    unsigned long answers, lost;
+};
+
+void card_begin(struct card *card, int is_emmc);
+
+/* The controller that it is behind; its context is the card. */
+extern const struct kelifandro_host card_host;
+
+#endif

@@ -1,0 +1,245 @@
+/* SD Host Controller Simplified Specification 3.00, section 2.2, as far as the library's driver goes. */
+#include "controller.h"
+
+enum { COMMAND_COMPLETE = 1, TRANSFER_COMPLETE = 2, BLOCK_GAP = 4, ERROR = 0x8000 };
+enum { COMMAND_TIMEOUT = 1 << 16, DATA_TIMEOUT = 1 << 20, DATA_CRC = 1 << 21 };
+enum { UNTIL_STOPPED = 0xffffffffu };
+
+void controller_begin(struct controller *controller, struct card *card, int one_block)
+{
+    uint8_t *bytes = (uint8_t *)controller;
+    for (size_t i = 0; i < sizeof *controller; i++)
+        bytes[i] = 0;
+    controller->card = card;
+    controller->one_block = one_block;
+}
+
+static void fail(struct controller *controller, uint32_t error)
+{
+    controller->status |= ERROR | error;
+    controller->direction = KELIFANDRO_NO_DATA;
+    controller->length = 0;
+}
+
+/* A block has passed. */
+static void passed(struct controller *controller)
+{
+    if (controller->left != UNTIL_STOPPED && --controller->left == 0) {
+        controller->status |= TRANSFER_COMPLETE;
+        controller->direction = KELIFANDRO_NO_DATA;
+    }
+}
+
+/* Reads ahead: the next block comes into the buffer. */
+static void receive(struct controller *controller)
+{
+    controller->at = 0;
+    controller->length = controller->sizes & 0xfff;
+    switch (card_host.read_block(controller->card, controller->buffer, controller->length)) {
+    case 0:
+        break;
+    case 1:
+        fail(controller, DATA_CRC);
+        break;
+    default:
+        fail(controller, DATA_TIMEOUT);
+    }
+}
+
+static void transmit(struct controller *controller)
+{
+    controller->is_waiting = 0;
+    switch (card_host.write_block(controller->card, controller->buffer)) {
+    case 0:
+        passed(controller);
+        break;
+    case 1:
+        fail(controller, DATA_CRC);
+        break;
+    default:
+        fail(controller, DATA_TIMEOUT);
+    }
+}
+
+static int response_of(unsigned flags)
+{
+    switch (flags & 0x1f) {
+    case 0x00:
+        return KELIFANDRO_NO_RESPONSE;
+    case 0x09:
+        return KELIFANDRO_R2;
+    case 0x02:
+        return KELIFANDRO_R3;
+    default:
+        return KELIFANDRO_R1;
+    }
+}
+
+static void show(struct controller *controller, int response, const uint32_t words[4])
+{
+    controller->response[0] = words[0];
+    if (response != KELIFANDRO_R2)
+        return;
+    controller->response[0] = words[3] >> 8 | words[2] << 24;
+    controller->response[1] = words[2] >> 8 | words[1] << 24;
+    controller->response[2] = words[1] >> 8 | words[0] << 24;
+    controller->response[3] = words[0] >> 8;
+}
+
+static void command(struct controller *controller, uint32_t word)
+{
+    unsigned flags = word >> 16 & 0xff;
+    int several = word & 0x20, counted = word & 2;
+    struct kelifandro_command command = {
+        .index = word >> 24 & 63,
+        .response = (uint8_t)response_of(flags),
+        .data = flags & 0x20 ? word & 0x10 ? KELIFANDRO_READ : KELIFANDRO_WRITE : KELIFANDRO_NO_DATA,
+        .argument = controller->argument,
+        .block_length = controller->sizes & 0xfff,
+        .blocks = (uint16_t)(several ? counted ? controller->sizes >> 16 : 0 : 1),
+    };
+    uint32_t words[4] = {0, 0, 0, 0};
+    if (card_host.send(controller->card, &command, words) != 0) {
+        controller->status |= ERROR | COMMAND_TIMEOUT;
+        return;
+    }
+    show(controller, command.response, words);
+    controller->status |= COMMAND_COMPLETE;
+    if (command.data == KELIFANDRO_NO_DATA)
+        return;
+    controller->direction = command.data;
+    controller->left = command.blocks ? command.blocks : UNTIL_STOPPED;
+    controller->at = controller->length = 0;
+    if (command.data == KELIFANDRO_READ)
+        receive(controller);
+}
+
+static uint32_t pop(struct controller *controller)
+{
+    uint32_t word = 0;
+    for (int i = 0; i < 4 && controller->at < controller->length; i++)
+        word |= (uint32_t)controller->buffer[controller->at++] << (8 * i);
+    if (controller->at == controller->length && controller->length) {
+        controller->length = 0;
+        passed(controller);
+        if (controller->direction == KELIFANDRO_READ)
+            receive(controller);
+    }
+    return word;
+}
+
+static void push(struct controller *controller, uint32_t word)
+{
+    if (controller->direction != KELIFANDRO_WRITE)
+        return;
+    if (controller->is_waiting)
+        transmit(controller);
+    for (int i = 0; i < 4 && controller->at < 512; i++)
+        controller->buffer[controller->at++] = (uint8_t)(word >> (8 * i));
+    if (controller->at < 512)
+        return;
+    controller->at = 0;
+    controller->is_waiting = 1;
+    if (controller->one_block || controller->left == 1)
+        transmit(controller);
+}
+
+static void reset(struct controller *controller, uint32_t lines)
+{
+    if (lines & 1)
+        controller_begin(controller, controller->card, controller->one_block);
+    if (lines & 4) {
+        controller->direction = KELIFANDRO_NO_DATA;
+        controller->at = controller->length = 0;
+        controller->is_waiting = 0;
+        controller->gap = 0;
+        controller->status &= ~(uint32_t)(TRANSFER_COMPLETE | BLOCK_GAP);
+    }
+}
+
+static uint32_t present(struct controller *controller)
+{
+    uint32_t state = 0x000f0000; /* inserted, stable, not write protected */
+    if (controller->direction == KELIFANDRO_READ && controller->length)
+        state |= 1 << 11;
+    if (controller->direction == KELIFANDRO_WRITE && (!controller->is_waiting || !controller->one_block))
+        state |= 1 << 10;
+    return state;
+}
+
+static uint32_t read(void *context, unsigned offset, unsigned size)
+{
+    struct controller *controller = context;
+    (void)size;
+    switch (offset) {
+    case 0x10:
+    case 0x14:
+    case 0x18:
+    case 0x1c:
+        return controller->response[(offset - 0x10) / 4];
+    case 0x20:
+        return pop(controller);
+    case 0x24:
+        return present(controller) | 1 << 20;
+    case 0x25:
+        return present(controller) >> 8 & 0xff;
+    case 0x26:
+        return card_host.is_busy(controller->card, 0) ? 0x0f : 0x1f;
+    case 0x2a:
+        return controller->gap;
+    case 0x2c:
+        return controller->clock & 1 ? controller->clock | 2 : controller->clock;
+    case 0x30:
+        return controller->status;
+    case 0x40:
+        return 1 << 24 | 1 << 21 | 1 << 18 | 50 << 8;
+    case 0xfe:
+        return 2;
+    default:
+        return 0;
+    }
+}
+
+static void write(void *context, unsigned offset, unsigned size, uint32_t value)
+{
+    struct controller *controller = context;
+    (void)size;
+    switch (offset) {
+    case 0x04:
+        controller->sizes = value;
+        break;
+    case 0x08:
+        controller->argument = value;
+        break;
+    case 0x0c:
+        command(controller, value);
+        break;
+    case 0x20:
+        push(controller, value);
+        break;
+    case 0x2a:
+        controller->gap = value & 1;
+        if (controller->gap && controller->is_waiting) {
+            transmit(controller);
+            if (controller->direction == KELIFANDRO_WRITE)
+                controller->status |= TRANSFER_COMPLETE | BLOCK_GAP;
+        }
+        break;
+    case 0x2c:
+        controller->clock = value & 0xffff;
+        break;
+    case 0x2f:
+        reset(controller, value);
+        break;
+    case 0x30:
+        controller->status &= ~value;
+        break;
+    }
+}
+
+static void pause(void *context, uint32_t microseconds)
+{
+    (void)context, (void)microseconds;
+}
+
+const struct kelifandro_registers controller_registers = {.read = read, .write = write, .pause = pause};

@@ -1,0 +1,131 @@
+/* Tries the library over a card in memory, by a host and by registers: an SD card and an eMMC device are opened, written, read, erased
+   and trimmed; each answer is lost in turn; and bytes of any kind are given for a card. Prints what it has tried, and ends with status 0 where nothing was wrong.
+
+       try             all of it
+       try runs N      writes and reads N runs of 16 sectors, for a profiler
+       try sectors N   the same with single sectors */
+#include <stdio.h>
+#include <stdlib.h>
+#include <string.h>
+#include "controller.h"
+
+enum { RUN = 16 };
+static struct card card;
+static struct controller controller;
+static struct kelifandro_host host;
+static struct kelifandro_registers registers;
+static struct kelifandro sd;
+static uint8_t data[RUN * 512], back[RUN * 512];
+static unsigned long wrong;
+
+static void expect(int is_so, const char *what, unsigned long n)
+{
+    if (!is_so && wrong++ < 20)
+        printf("wrong: %s (%lu)\n", what, n);
+}
+
+enum way { HOST, ONE_BLOCK, SEVERAL_BLOCKS };
+static const char *const ways[] = {"a host", "registers, room for one block", "registers, room for several"};
+
+static void begin(int is_emmc, enum way way)
+{
+    card_begin(&card, is_emmc);
+    controller_begin(&controller, &card, way == ONE_BLOCK);
+    host = card_host;
+    host.context = &card;
+    registers = controller_registers;
+    registers.context = &controller;
+    registers.one_block = way == ONE_BLOCK;
+    memset(&sd, 0, sizeof sd);
+    if (way == HOST)
+        sd.host = &host;
+    else
+        sd.registers = &registers;
+    for (size_t i = 0; i < sizeof data; i++)
+        data[i] = (uint8_t)(i * 5 + i / 512);
+}
+
+/* One of everything; answers how many answers the card gave. */
+static unsigned long whole(int is_emmc, enum way way, unsigned long lost)
+{
+    begin(is_emmc, way);
+    card.lost = lost;
+    expect(kelifandro_open(&sd) == KELIFANDRO_DONE, "open", lost);
+    expect(kelifandro_sectors(&sd, KELIFANDRO_USER) == USER_SECTORS, "size", lost);
+    expect(kelifandro_write(&sd, KELIFANDRO_USER, 7, RUN, data) == KELIFANDRO_DONE, "write", lost);
+    expect(memcmp(card.user[7], data, sizeof data) == 0, "what was written", lost);
+    expect(kelifandro_read(&sd, KELIFANDRO_USER, 7, RUN, back) == KELIFANDRO_DONE, "read", lost);
+    expect(memcmp(back, data, sizeof data) == 0, "what was read", lost);
+    if (is_emmc) {
+        expect(kelifandro_write(&sd, KELIFANDRO_BOOT2, 3, 2, data) == KELIFANDRO_DONE, "write to boot 2", lost);
+        expect(memcmp(card.boot[1][3], data, 1024) == 0, "what was written to boot 2", lost);
+        expect(kelifandro_read(&sd, KELIFANDRO_BOOT1, 3, 2, back) == KELIFANDRO_DONE, "read of boot 1", lost);
+        expect(back[0] == 0 && back[1023] == 0, "boot 1", lost);
+        expect(kelifandro_trim(&sd, KELIFANDRO_USER, 8, 2) == KELIFANDRO_DONE, "trim", lost);
+    } else {
+        expect(kelifandro_erase(&sd, KELIFANDRO_USER, 8, 2) == KELIFANDRO_DONE, "erase", lost);
+    }
+    expect(card.user[8][0] == 0 && card.user[9][511] == 0, "erased sectors", lost);
+    expect(memcmp(card.user[7], data, 512) == 0 && memcmp(card.user[10], data + 3 * 512, 512) == 0, "their neighbours", lost);
+    return card.answers;
+}
+
+static void refusals(void)
+{
+    begin(0, HOST);
+    expect(kelifandro_read(&sd, KELIFANDRO_USER, 0, 1, back) == KELIFANDRO_NOT_OPEN, "not open", 0);
+    kelifandro_open(&sd);
+    unsigned long before = card.answers;
+    expect(kelifandro_read(&sd, KELIFANDRO_BOOT1, 0, 1, back) == KELIFANDRO_NO_PARTITION, "no partition", 0);
+    expect(kelifandro_read(&sd, (enum kelifandro_part)77, 0, 1, back) == KELIFANDRO_NO_PARTITION, "no such number", 0);
+    expect(kelifandro_read(&sd, KELIFANDRO_USER, USER_SECTORS - 1, 2, back) == KELIFANDRO_OUT_OF_RANGE, "out of range", 0);
+    expect(kelifandro_write(&sd, KELIFANDRO_USER, 0, 0, data) == KELIFANDRO_COUNT, "no sector", 0);
+    expect(kelifandro_trim(&sd, KELIFANDRO_USER, 0, 1) == KELIFANDRO_NOT_ERASABLE, "no trim", 0);
+    expect(card.answers == before, "nothing is sent", 0);
+    card.state = 0;
+    expect(kelifandro_read(&sd, KELIFANDRO_USER, 0, 1, back) == KELIFANDRO_DONE, "a card that has lost its power is opened again", 0);
+}
+
+/* Bytes of any kind for a card: each call returns, and nothing outside of its room is touched (the card's own sectors apart). */
+static void junk(unsigned long rounds)
+{
+    begin(0, HOST);
+    kelifandro_open(&sd);
+    struct kelifandro_card good = sd.card;
+    for (unsigned long i = 0; i < rounds; i++) {
+        uint8_t *bytes = (uint8_t *)&sd.card;
+        sd.card = good;
+        for (int k = 0; k < 3; k++)
+            bytes[(size_t)rand() % sizeof sd.card] = (uint8_t)rand();
+        kelifandro_read(&sd, (enum kelifandro_part)(rand() % 8), (uint64_t)rand() % 2000, 1 + (size_t)rand() % RUN, back);
+    }
+}
+
+static void profile(unsigned long n, size_t count)
+{
+    begin(0, HOST);
+    kelifandro_open(&sd);
+    for (unsigned long i = 0; i < n; i++) {
+        kelifandro_write(&sd, KELIFANDRO_USER, i * count % (USER_SECTORS - RUN), count, data);
+        kelifandro_read(&sd, KELIFANDRO_USER, i * count % (USER_SECTORS - RUN), count, back);
+    }
+}
+
+int main(int words, char **word)
+{
+    if (words == 3) {
+        profile(strtoul(word[2], 0, 10), strcmp(word[1], "sectors") == 0 ? 1 : RUN);
+        return 0;
+    }
+    for (int way = HOST; way <= SEVERAL_BLOCKS; way++)
+        for (int is_emmc = 0; is_emmc < 2; is_emmc++) {
+            unsigned long answers = whole(is_emmc, way, ~0ul);
+            for (unsigned long lost = 0; lost < answers; lost++)
+                whole(is_emmc, way, lost);
+            printf("%s by %s: each of %lu answers lost in turn\n", is_emmc ? "eMMC" : "SD", ways[way], answers);
+        }
+    refusals();
+    junk(100000);
+    printf("junk for a card: 100000 calls\n%lu wrong\n", wrong);
+    return wrong != 0;
+}

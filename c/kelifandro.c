@@ -1,0 +1,251 @@
+/* What stands between C and the proved library.
+
+   The library writes a record of each operation to a stream with a number, and reads what came of it (crates/c_host). It does so by the
+   names `write` and `read` of the C library, which c/build gives the names kelifandro_put and kelifandro_get. Here they become calls of
+   the functions that the caller gave. No file is opened. */
+#include "kelifandro.h"
+
+enum { SEND = 1, READ_BLOCK, WRITE_BLOCK, LOOK, SET_IOS, PAUSE, LIMITS, READ_REGISTER, WRITE_REGISTER };
+
+/* The card of the call that is made, and what comes next of its operation. */
+static const struct kelifandro *now;
+static uint8_t operation;
+static uint8_t answer[20];
+static size_t answered, taken;
+
+static uint32_t number(const uint8_t *bytes, int n)
+{
+    uint32_t value = 0;
+    for (int i = n; i-- > 0;)
+        value = value << 8 | bytes[i];
+    return value;
+}
+
+static void answers(const uint8_t *bytes, size_t n)
+{
+    for (size_t i = 0; i < n; i++)
+        answer[i] = bytes[i];
+    answered = n;
+    taken = 0;
+}
+
+static void answers_byte(uint8_t byte)
+{
+    answers(&byte, 1);
+}
+
+static void answers_word(uint32_t word)
+{
+    uint8_t bytes[4] = {(uint8_t)word, (uint8_t)(word >> 8), (uint8_t)(word >> 16), (uint8_t)(word >> 24)};
+    answers(bytes, 4);
+}
+
+static void send_command(const struct kelifandro_host *host, const uint8_t *record)
+{
+    struct kelifandro_command command = {
+        .index = record[1],
+        .response = record[2],
+        .data = record[3],
+        .argument = number(record + 4, 4),
+        .block_length = (uint16_t)number(record + 8, 2),
+        .blocks = (uint16_t)number(record + 10, 2),
+    };
+    uint32_t response[4] = {0, 0, 0, 0};
+    uint8_t bytes[16] = {0};
+    bytes[0] = (uint8_t)host->send(host->context, &command, response);
+    if (command.response == KELIFANDRO_R2)
+        for (int i = 0; i < 15; i++)
+            bytes[1 + i] = (uint8_t)(response[i / 4] >> (24 - 8 * (i % 4)));
+    else
+        for (int i = 0; i < 4; i++)
+            bytes[1 + i] = (uint8_t)(response[0] >> (8 * i));
+    answers(bytes, 16);
+}
+
+static void of_host(const struct kelifandro_host *host, const uint8_t *record)
+{
+    uint8_t limits[2] = {host->lines, host->high_speed};
+    switch (record[0]) {
+    case SEND:
+        send_command(host, record);
+        break;
+    case LOOK:
+        answers_byte(host->is_busy(host->context, number(record + 1, 4)) != 0);
+        break;
+    case SET_IOS:
+        host->set_ios(host->context, record[1], record[2], number(record + 3, 4));
+        break;
+    case PAUSE:
+        host->pause(host->context, number(record + 1, 4));
+        break;
+    case LIMITS:
+        answers(limits, 2);
+        break;
+    }
+}
+
+static void of_registers(const struct kelifandro_registers *registers, const uint8_t *record)
+{
+    switch (record[0]) {
+    case READ_REGISTER:
+        answers_word(registers->read(registers->context, record[2], record[1]));
+        break;
+    case WRITE_REGISTER:
+        registers->write(registers->context, record[2], record[1], number(record + 3, 4));
+        break;
+    case PAUSE:
+        registers->pause(registers->context, number(record + 1, 4));
+        break;
+    }
+}
+
+long kelifandro_put(int stream, const uint8_t *bytes, size_t n);
+long kelifandro_get(int stream, uint8_t *bytes, size_t n);
+
+/* A record, or the block behind WRITE_BLOCK. */
+long kelifandro_put(int stream, const uint8_t *bytes, size_t n)
+{
+    (void)stream;
+    answered = taken = 0;
+    if (operation == WRITE_BLOCK && n == 512) {
+        int status = now->host->write_block(now->host->context, bytes);
+        operation = 0;
+        answers_byte(status == 0 ? 1 : status == 1 ? 2 : 0);
+        return (long)n;
+    }
+    operation = bytes[0];
+    if (now->host)
+        of_host(now->host, bytes);
+    else
+        of_registers(now->registers, bytes);
+    return (long)n;
+}
+
+/* What came of the last record: of READ_BLOCK a whole block, one byte of a bad one, or nothing. */
+long kelifandro_get(int stream, uint8_t *bytes, size_t n)
+{
+    (void)stream;
+    if (operation == READ_BLOCK && now->host) {
+        operation = 0;
+        switch (now->host->read_block(now->host->context, bytes, n)) {
+        case 0:
+            return (long)n;
+        case 1:
+            return 1;
+        default:
+            return 0;
+        }
+    }
+    size_t i = 0;
+    while (i < n && taken < answered)
+        bytes[i++] = answer[taken++];
+    return (long)i;
+}
+
+/* The proved library. `way` is 0 for a host, 1 for registers with room for one block, 2 for registers with room for several. */
+int32_t kelifandro_open_by(uint8_t way, struct kelifandro_card *card);
+int32_t kelifandro_read_by(uint8_t way, struct kelifandro_card *card, uint8_t part, uint64_t start, uint8_t (*blocks)[512],
+                           size_t count);
+int32_t kelifandro_write_by(uint8_t way, struct kelifandro_card *card, uint8_t part, uint64_t start,
+                            const uint8_t (*blocks)[512], size_t count);
+int32_t kelifandro_erase_by(uint8_t way, struct kelifandro_card *card, uint8_t part, uint64_t start, uint64_t count);
+int32_t kelifandro_trim_by(uint8_t way, struct kelifandro_card *card, uint8_t part, uint64_t start, uint64_t count);
+
+static uint8_t begin(const struct kelifandro *kelifandro)
+{
+    now = kelifandro;
+    operation = 0;
+    answered = taken = 0;
+    if (kelifandro->host)
+        return 0;
+    return kelifandro->registers->one_block ? 1 : 2;
+}
+
+int32_t kelifandro_open(struct kelifandro *kelifandro)
+{
+    return kelifandro_open_by(begin(kelifandro), &kelifandro->card);
+}
+
+int32_t kelifandro_read(struct kelifandro *kelifandro, enum kelifandro_part part, uint64_t start, size_t count, void *bytes)
+{
+    return kelifandro_read_by(begin(kelifandro), &kelifandro->card, (uint8_t)part, start, bytes, count);
+}
+
+int32_t kelifandro_write(struct kelifandro *kelifandro, enum kelifandro_part part, uint64_t start, size_t count,
+                         const void *bytes)
+{
+    return kelifandro_write_by(begin(kelifandro), &kelifandro->card, (uint8_t)part, start, bytes, count);
+}
+
+int32_t kelifandro_erase(struct kelifandro *kelifandro, enum kelifandro_part part, uint64_t start, uint64_t count)
+{
+    return kelifandro_erase_by(begin(kelifandro), &kelifandro->card, (uint8_t)part, start, count);
+}
+
+int32_t kelifandro_trim(struct kelifandro *kelifandro, enum kelifandro_part part, uint64_t start, uint64_t count)
+{
+    return kelifandro_trim_by(begin(kelifandro), &kelifandro->card, (uint8_t)part, start, count);
+}
+
+uint64_t kelifandro_sectors(const struct kelifandro *kelifandro, enum kelifandro_part part)
+{
+    const struct kelifandro_card *card = &kelifandro->card;
+    switch (part) {
+    case KELIFANDRO_USER:
+        return card->user;
+    case KELIFANDRO_BOOT1:
+    case KELIFANDRO_BOOT2:
+        return card->boot;
+    case KELIFANDRO_GP1:
+        return card->gp1;
+    case KELIFANDRO_GP2:
+        return card->gp2;
+    case KELIFANDRO_GP3:
+        return card->gp3;
+    case KELIFANDRO_GP4:
+        return card->gp4;
+    }
+    return 0;
+}
+
+const char *kelifandro_text(int32_t result)
+{
+    switch (result) {
+    case KELIFANDRO_DONE:
+        return "done";
+    case KELIFANDRO_NOT_OPEN:
+        return "the card isn't open";
+    case KELIFANDRO_NO_PARTITION:
+        return "the card has no such partition";
+    case KELIFANDRO_OUT_OF_RANGE:
+        return "sectors behind the partition's end";
+    case KELIFANDRO_COUNT:
+        return "no sector, or more than 1,024";
+    case KELIFANDRO_READ_ONLY:
+        return "the card is write protected";
+    case KELIFANDRO_NOT_ERASABLE:
+        return "the card can't erase these sectors so";
+    case KELIFANDRO_FAILED_ANSWER:
+        return "failed: a response";
+    case KELIFANDRO_FAILED_DATA:
+        return "failed: a block";
+    case KELIFANDRO_FAILED_STATUS:
+        return "failed: the card's status";
+    case KELIFANDRO_FAILED_BUSY:
+        return "failed: busy for too long";
+    case KELIFANDRO_FAILED_RECOVERY:
+        return "failed: recovery";
+    case KELIFANDRO_NO_CARD:
+        return "no card answers";
+    case KELIFANDRO_UNSUPPORTED:
+        return "the card isn't supported";
+    case KELIFANDRO_NO_VOLTAGE:
+        return "the controller has no 3.3 V";
+    case KELIFANDRO_NO_BASE_CLOCK:
+        return "the controller doesn't tell its base clock";
+    case KELIFANDRO_NOT_INSERTED:
+        return "no card is inserted";
+    default:
+        return "no such result";
+    }
+}

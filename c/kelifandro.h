@@ -1,0 +1,169 @@
+/* Kelifandro for C: one SD card or eMMC device, behind a host controller of yours. For x86-64 processors with SSE4.2.
+
+   A card is reached in one of two ways. `struct kelifandro_host` is a driver of a host controller, in decoded commands, as Linux's
+   mmc_host_ops or coreboot's and U-Boot's send_cmd and set_ios have them. `struct kelifandro_registers` is the registers of an SD host
+   controller (SD Host Controller Simplified Specification 3.00), whose driver is in the library.
+
+   What is proved: over any answers of your functions and any bytes of `struct kelifandro_card` each call returns, within a counted
+   number of operations, and nothing overflows or is indexed out of range. Where controller and card conform to the card relation
+   (docs/STANDARD.md, "The card"), a request that is done has exactly its effect, and one that failed leaves each sector that it names old
+   or new and all others unchanged. What is trusted: kelifandro.c, your functions, that each of them returns, and that pointers lead to room
+   which is there.
+
+   The library takes no memory, needs memcpy, memset and memmove alone, and less than 8 KiB of stack. Its calls must not overlap: not
+   from two threads, and not from a function that it calls. */
+#ifndef KELIFANDRO_H
+#define KELIFANDRO_H
+#include <stddef.h>
+#include <stdint.h>
+
+#ifdef __cplusplus
+extern "C" {
+#endif
+
+/* What a call answers. kelifandro_text has a text for each. */
+enum kelifandro_result {
+    KELIFANDRO_DONE = 0,
+    /* The card isn't open: kelifandro_open comes first. */
+    KELIFANDRO_NOT_OPEN = -1,
+    /* The card has no such partition. */
+    KELIFANDRO_NO_PARTITION = -2,
+    /* Sectors that are named lie behind the partition's end. */
+    KELIFANDRO_OUT_OF_RANGE = -3,
+    /* No sector is named, or more than 1,024 of a read or a write. */
+    KELIFANDRO_COUNT = -4,
+    /* The card is write protected. */
+    KELIFANDRO_READ_ONLY = -5,
+    /* The card can't erase, or trim, these sectors. */
+    KELIFANDRO_NOT_ERASABLE = -6,
+    /* Four attempts have failed, by the cause that is named. Each sector of a write, an erase or a trim is old or new. */
+    KELIFANDRO_FAILED_ANSWER = -10,
+    KELIFANDRO_FAILED_DATA = -11,
+    KELIFANDRO_FAILED_STATUS = -12,
+    KELIFANDRO_FAILED_BUSY = -13,
+    KELIFANDRO_FAILED_RECOVERY = -14,
+    /* There is no card, or it doesn't answer. */
+    KELIFANDRO_NO_CARD = -20,
+    /* The card says what no card that is served may say. */
+    KELIFANDRO_UNSUPPORTED = -21,
+    /* The controller has no 3.3 V, or doesn't tell its base clock, or has no card in it. */
+    KELIFANDRO_NO_VOLTAGE = -22,
+    KELIFANDRO_NO_BASE_CLOCK = -23,
+    KELIFANDRO_NOT_INSERTED = -24
+};
+
+const char *kelifandro_text(int32_t result);
+
+/* Responses (SD Physical Layer 6.00, section 4.9). */
+enum kelifandro_response {
+    KELIFANDRO_NO_RESPONSE,
+    KELIFANDRO_R1,
+    KELIFANDRO_R1B, /* the card may be busy behind it; is_busy asks for that */
+    KELIFANDRO_R2,  /* 136 bits */
+    KELIFANDRO_R3,  /* without a check and an index */
+    KELIFANDRO_R6,
+    KELIFANDRO_R7
+};
+
+enum kelifandro_data { KELIFANDRO_NO_DATA, KELIFANDRO_READ, KELIFANDRO_WRITE };
+
+struct kelifandro_command {
+    uint8_t index;    /* 0 to 63 */
+    uint8_t response; /* enum kelifandro_response */
+    /* The data behind the command. Its blocks are moved by read_block and write_block. */
+    uint8_t data;          /* enum kelifandro_data */
+    uint32_t argument;
+    uint16_t block_length; /* bytes: 8, 64 or 512 */
+    uint16_t blocks;       /* how many; 0: until CMD12 */
+};
+
+/* A host controller. Before the first call it has one data line in use, and a clock of at most 400 kHz. */
+struct kelifandro_host {
+    void *context;
+    /* The most data lines that are wired, 1, 4 or 8, and whether it has high speed. */
+    uint8_t lines;
+    uint8_t high_speed;
+    /* Sends a command and waits for its response, for 64 clocks at least: 0 where it was heard, otherwise why not. Bits 39 to 8 of a
+       short response go to response[0]; of R2 bits 127 to 96 to response[0], and so on. It judges checks and indexes. */
+    int (*send)(void *context, const struct kelifandro_command *command, uint32_t response[4]);
+    /* Reads the next block: 0 a good one, 1 a bad one, 2 none within 100 ms. */
+    int (*read_block)(void *context, void *block, size_t length);
+    /* Writes the next block of 512 bytes: 0 the card's status says accepted, 1 rejected, 2 it didn't come. */
+    int (*write_block)(void *context, const void *block);
+    /* Whether the card holds DAT0 low after so many microseconds; the answer comes at once where it doesn't. */
+    int (*is_busy)(void *context, uint32_t microseconds);
+    /* Sets how many data lines are in use, the timing, and the clock, to so many hertz at most. */
+    void (*set_ios)(void *context, int lines, int high_speed, uint32_t hertz);
+    void (*pause)(void *context, uint32_t microseconds);
+};
+
+/* Why `send` heard no response. */
+enum { KELIFANDRO_TIMEOUT = 1, KELIFANDRO_BAD_CHECK, KELIFANDRO_BAD_END_BIT, KELIFANDRO_OTHER_INDEX };
+
+/* The registers of an SD host controller. Accesses have 1 or 4 bytes, and reach the controller in order. */
+struct kelifandro_registers {
+    void *context;
+    /* Whether its buffer has room for one block alone. 0 is right for every controller; 1 saves it from stopping at each block gap. */
+    uint8_t one_block;
+    uint32_t (*read)(void *context, unsigned offset, unsigned size);
+    void (*write)(void *context, unsigned offset, unsigned size, uint32_t value);
+    void (*pause)(void *context, uint32_t microseconds);
+};
+
+/* What is known of a card between two calls. It may be copied, moved and stored. A call reads it with a check, so bytes of any kind do
+   no harm; all zero is a card that isn't open. */
+struct kelifandro_card {
+    uint8_t state; /* 1 ready, 2 to be settled, 3 to be reset; anything else: not open */
+    uint8_t kind;  /* 0 SD, 1 eMMC */
+    uint8_t addressing; /* 0 bytes, 1 sectors */
+    uint8_t selected;   /* the partition that is selected, 255 where that isn't known */
+    uint8_t partition_config;
+    uint8_t lines; /* 1, 4 or 8 */
+    uint8_t high_speed;
+    uint8_t read_only;
+    uint8_t trims;
+    uint8_t cmd23;
+    uint8_t erased_byte; /* what each byte of an erased sector holds */
+    uint8_t cause;
+    uint16_t rca;
+    uint8_t cid[16], csd[16];
+    uint64_t user, boot, gp1, gp2, gp3, gp4; /* sectors of 512 bytes; 0 where there is no such partition */
+    uint64_t erase_unit;                     /* sectors */
+};
+
+enum kelifandro_part {
+    KELIFANDRO_USER,
+    KELIFANDRO_BOOT1,
+    KELIFANDRO_BOOT2,
+    KELIFANDRO_GP1,
+    KELIFANDRO_GP2,
+    KELIFANDRO_GP3,
+    KELIFANDRO_GP4
+};
+
+/* A card and the way to it: one of the two pointers is set. */
+struct kelifandro {
+    const struct kelifandro_host *host;
+    const struct kelifandro_registers *registers;
+    struct kelifandro_card card;
+};
+
+/* Opens the card, whatever became of it before. At most 294 exchanges. */
+int32_t kelifandro_open(struct kelifandro *kelifandro);
+
+/* The size of a partition in sectors of 512 bytes, 0 where there is no such one. */
+uint64_t kelifandro_sectors(const struct kelifandro *kelifandro, enum kelifandro_part part);
+
+/* Reads or writes 1 to 1,024 sectors. */
+int32_t kelifandro_read(struct kelifandro *kelifandro, enum kelifandro_part part, uint64_t start, size_t count, void *bytes);
+int32_t kelifandro_write(struct kelifandro *kelifandro, enum kelifandro_part part, uint64_t start, size_t count,
+                         const void *bytes);
+
+/* Erases whole erase units, or trims sectors (eMMC). Each byte holds card.erased_byte then. */
+int32_t kelifandro_erase(struct kelifandro *kelifandro, enum kelifandro_part part, uint64_t start, uint64_t count);
+int32_t kelifandro_trim(struct kelifandro *kelifandro, enum kelifandro_part part, uint64_t start, uint64_t count);
+
+#ifdef __cplusplus
+}
+#endif
+#endif

@@ -1,0 +1,60 @@
+// The numbers that C knows of answers (`enum kelifandro_result`).
+use mmc_bus::Cause;
+use mmc_direct::{NotDone, Refused};
+use mmc_sdhci::StartFault;
+use mmc_switch::{InitializationFault, SwitchFault};
+
+pub const DONE: i32 = 0;
+
+pub const NOT_OPEN: i32 = -1;
+
+pub const NO_PARTITION: i32 = -2;
+
+// Why a request is refused.
+fn refused_number(refused: Refused) -> i32 {
+    match refused {
+        Refused::NoSuchPartition => NO_PARTITION,
+        Refused::OutOfRange => -3,
+        Refused::Empty | Refused::TooLong => -4,
+        Refused::ReadOnly => -5,
+        Refused::NotInPartition | Refused::NoTrim | Refused::Unaligned => -6,
+    }
+}
+
+// Why a request failed.
+fn cause_number(cause: Cause) -> i32 {
+    match cause {
+        Cause::Answer => -10,
+        Cause::Data => -11,
+        Cause::Status => -12,
+        Cause::Busy => -13,
+        Cause::Recovery => -14,
+    }
+}
+
+/// What became of a request.
+pub fn answer_number(answer: Result<(), NotDone>) -> i32 {
+    match answer {
+        Ok(()) => DONE,
+        Err(NotDone::Refused(refused)) => refused_number(refused),
+        Err(NotDone::Failed(cause)) => cause_number(cause),
+    }
+}
+
+/// Why a card isn't opened.
+pub fn unopened_number(fault: InitializationFault) -> i32 {
+    match fault {
+        InitializationFault::Identification(_)
+        | InitializationFault::Widening(SwitchFault::Exchange) => -20,
+        InitializationFault::Widening(SwitchFault::Register) => -21,
+    }
+}
+
+/// Why a controller isn't ready.
+pub fn start_number(fault: StartFault) -> i32 {
+    match fault {
+        StartFault::NoVoltage => -22,
+        StartFault::NoBaseClock => -23,
+        StartFault::NoCard => -24,
+    }
+}

@@ -1,0 +1,6 @@
+//! The stack for C: a card is opened, read, written, erased and trimmed by a call each (`c/kelifandro.h`). Without a heap.
+#![tactic(auto)]
+
+mod answers;
+mod calls;
+mod exports;
