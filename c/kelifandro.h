@@ -4,8 +4,8 @@
    mmc_host_ops or coreboot's and U-Boot's send_cmd and set_ios have them. `struct kelifandro_registers` is the registers of an SD host
    controller (SD Host Controller Simplified Specification 3.00), whose driver is in the library.
 
-   What is proved: over any answers of your functions and any bytes of `struct kelifandro_card` each call returns, within a counted
-   number of operations, and nothing overflows or is indexed out of range. Where controller and card conform to the card relation
+   What is proved: over any answers of your functions and any bytes of `struct kelifandro_card` each call returns, after a counted
+   number of exchanges, and nothing overflows or is indexed out of range. Where controller and card conform to the card relation
    (docs/STANDARD.md, "The card"), a request that is done has exactly its effect, and one that failed leaves each sector that it names old
    or new and all others unchanged. What is trusted: kelifandro.c, your functions, that each of them returns, and that pointers lead to room
    which is there.
