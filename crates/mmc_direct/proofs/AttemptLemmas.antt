@@ -1,5 +1,6 @@
 -- What an attempt does, from its parts, and several attempts together.
-use Rattle.std.proofs.Common.{◌+◌, ◌-◌, ◌<◌, ◌∙◌, ◌∷◌, ◌≡◌, Bool, List, [], ap, arith, cond, false, inl, inr, refl, subst, sym, true, ℕ}
+use Rattle.std.proofs.Common.{◌+◌, ◌-◌, ◌<◌, ◌∙◌, ◌∷◌, ◌≡◌, Bool, List, [], ap, arith, cond, false, inl, inr}
+use Rattle.std.proofs.Common.{refl, subst, sym, true, ℕ}
 use Rattle.std.specs.Prelude.{Err, IfErr, IfOk, IsErr, IsErrAnd, Ok, Result, Some}
 use Rattle.mmc_bus.proofs.WorkLemmas.{narrows_then, stays_same, stays_then}
 use Rattle.mmc_bus.specs.Learned.{Stays}
@@ -128,7 +129,12 @@ moved : (session : Session) (start : ℕ) (way : Way) (blocks : List Sector) (ol
 moved session start way blocks old (Ok ready) new run =
     record { stays = run.stays; within = run.within; done = (run.leaves.0, run.leaves.1); failed = tt }
 moved session start way blocks old (Err broken) new run =
-    record { stays = run.stays; within = run.within; done = tt; failed = (run.leaves.loose, fell_by old.faults new.faults run.leaves.fell) }
+    record {
+      stays = run.stays;
+      within = run.within;
+      done = tt;
+      failed = (run.leaves.loose, fell_by old.faults new.faults run.leaves.fell);
+    }
 
 pub made_write : (session : Session) (part : Part) (start : ℕ) (blocks : List Sector) (old : BusView)
     (result : Result Session Broken) (new : BusView) → session.selected ≡ Some part
@@ -157,7 +163,12 @@ made_erased : (session : Session) (start count : ℕ) (old : BusView) (result : 
 made_erased session start count old (Ok ready) new run =
     record { stays = run.stays; within = run.within; done = (run.leaves.0, run.leaves.1); failed = tt }
 made_erased session start count old (Err broken) new run =
-    record { stays = run.stays; within = run.within; done = tt; failed = (run.leaves.loose, fell_by old.faults new.faults run.leaves.fell) }
+    record {
+      stays = run.stays;
+      within = run.within;
+      done = tt;
+      failed = (run.leaves.loose, fell_by old.faults new.faults run.leaves.fell);
+    }
 
 pub made_erase : (session : Session) (info : Info) (part : Part) (start count : ℕ) (old : BusView)
     (result : Result Session Broken) (new : BusView) → session.selected ≡ Some part → lasting session.info ≡ lasting info

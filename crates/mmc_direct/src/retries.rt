@@ -27,7 +27,8 @@ pub fn keep_reading<B: Bus, D: BlocksMut>(
     requires served { refusal Read (info_of stands) part start (length (D.blocks blocks.old)) ≡ None }
     ensures count { length (D.blocks blocks.new) ≡ length (D.blocks blocks.old) }
     ensures lent { IsRewritten D.blocks D.with blocks.old blocks.new }
-    ensures tries { Tries ATTEMPTS (moving (length (D.blocks blocks.old))) (written_at part start []) stands (B.view bus.old) result (B.view bus.new) }
+    ensures tries { Tries ATTEMPTS (moving (length (D.blocks blocks.old))) (written_at part start []) stands
+        (B.view bus.old) result (B.view bus.new) }
     ensures read { (B.view bus.new).is_kept ≡ true → StandsIn stands (B.view bus.old)
         → IfOk result (λ session. AreRead (holds (B.view bus.new).card) part start (D.blocks blocks.new)) }
 {
@@ -53,7 +54,8 @@ pub fn keep_writing<B: Bus, D: Blocks>(
     blocks: &D,
 ) -> Result<Session, Broken>
     requires served { refusal Write (info_of stands) part start (length (D.blocks blocks.now)) ≡ None }
-    ensures tries { Tries ATTEMPTS (moving (length (D.blocks blocks.now))) (written_at part start (D.blocks blocks.now)) stands (B.view bus.old) result (B.view bus.new) }
+    ensures tries { Tries ATTEMPTS (moving (length (D.blocks blocks.now))) (written_at part start (D.blocks blocks.now)) stands
+        (B.view bus.old) result (B.view bus.new) }
 {
     let mut broken = match try_write(bus, stands, part, start, blocks) {
         Ok(session) => return Ok(session),
@@ -78,7 +80,8 @@ pub fn keep_erasing<B: Bus>(
     how: How,
 ) -> Result<Session, Broken>
     requires served { refusal (action_of how) (info_of stands) part start count ≡ None }
-    ensures tries { Tries ATTEMPTS erasing (erased_at (info_of stands) part start count) stands (B.view bus.old) result (B.view bus.new) }
+    ensures tries { Tries ATTEMPTS erasing (erased_at (info_of stands) part start count) stands
+        (B.view bus.old) result (B.view bus.new) }
 {
     let mut broken = match try_erase(bus, stands, part, start, count, how) {
         Ok(session) => return Ok(session),

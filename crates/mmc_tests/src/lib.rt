@@ -1,5 +1,6 @@
 //! Tests of the driver's layers over buses that lie: what a host hears, the trace, identification, width and speed, runs of
-//! blocks, erases, settling and the device; and over a host controller. What a card in memory shows, `tests/cases` has.
+//! blocks, erases, settling and the device; over a host controller; and of requests one at a time, which no program serves yet.
+//! What a card in memory shows else, `tests/cases` has.
 //! Nothing else stands here: a crate that has tests is proved twice, and so are these alone.
 #![tactic(auto)]
 

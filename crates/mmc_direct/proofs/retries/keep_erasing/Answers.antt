@@ -29,8 +29,8 @@ loop-failed-init g c =
 pub try_erase-requires-in-loop-failed : goal.try_erase-requires-in-loop-failed
 try_erase-requires-in-loop-failed g c =
     record {
-      served = still_served (action_of c.args.how) c.loop-failed.broken.session.info (info_of c.args.stands) c.args.part c.args.start
-          c.args.count c.loop-failed.invariant.info c.requires.served;
+      served = still_served (action_of c.args.how) c.loop-failed.broken.session.info (info_of c.args.stands) c.args.part
+          c.args.start c.args.count c.loop-failed.invariant.info c.requires.served;
     }
 
 pub returns-in-Ok-try_erase : goal.returns-in-Ok-try_erase

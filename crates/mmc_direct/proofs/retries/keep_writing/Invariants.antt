@@ -6,5 +6,6 @@ use Rattle.mmc_direct.proofs.retries.keep_writing.Given as goal
 
 abbrev pub invariant-loop-failed : goal.invariant-loop-failed
 invariant-loop-failed g l =
-    Tries l._failed (moving (length (g.D.Blocks.blocks l.fn.blocks))) (written_at l.fn.part l.fn.start (g.D.Blocks.blocks l.fn.blocks)) l.fn.stands
+    Tries l._failed (moving (length (g.D.Blocks.blocks l.fn.blocks)))
+    (written_at l.fn.part l.fn.start (g.D.Blocks.blocks l.fn.blocks)) l.fn.stands
     (g.B.Bus.view l.fn.bus) (Err l.broken) (g.B.Bus.view l.bus)
