@@ -1,1 +1,2 @@
+pub mod Note
 pub mod Numbers

@@ -1,4 +1,12 @@
 // How a card stands, noted.
+ghost use Rattle.std.specs.Prelude.{◌≡◌, Err, Ok};
+ghost use Rattle.mmc_bus.specs.declared.cause.Cause.TheVariants as Why;
+ghost use Rattle.mmc_card.specs.Made.{HasRegisters, Made};
+ghost use Rattle.mmc_card.specs.declared.exchange.Lines.{Lines};
+ghost use Rattle.mmc_switch.specs.Info.{IsInfo};
+ghost use Rattle.mmc_record.specs.Note.{HasChecks, IsNoteOf, SaysSession, what_is_left};
+ghost use Rattle.mmc_record.specs.Numbers.{cause_of};
+
 use crate::numbers::{
     addressing_number, cause_number, flag, kind_number, part_number, timing_number, width_number,
 };
@@ -7,7 +15,11 @@ use mmc_bus::Cause;
 use mmc_switch::{Broken, Session};
 
 // A session, with these numbers for how it stands.
-fn noted(session: &Session, state: u8, cause: Cause) -> CardRecord {
+fn noted(session: &Session, state: u8, cause: Cause) -> CardRecord
+    ensures state { result.state ≡ state }
+    ensures cause { cause_of result.cause ≡ cause }
+    ensures says { HasChecks session.now.info → SaysSession result session.now }
+{
     let info = session.info();
     CardRecord {
         state,
@@ -36,12 +48,20 @@ fn noted(session: &Session, state: u8, cause: Cause) -> CardRecord {
 }
 
 /// Notes a card that is ready.
-pub fn note(session: &Session) -> CardRecord {
+pub fn note(session: &Session) -> CardRecord
+    ensures of_a_card { (limits : Lines) → (made : Made) → HasRegisters made → IsInfo limits made session.now.info
+        → IsNoteOf (Ok session.now) result }
+    ensures checked { HasChecks session.now.info → IsNoteOf (Ok session.now) result }
+{
     noted(session, 1, Cause::Answer)
 }
 
-/// Notes a card that has to be settled or reset.
-pub fn note_broken(broken: &Broken) -> CardRecord {
+/// Notes a card that has to be settled or reset. What has to be reset is read back as `Broken::give_up` leaves it.
+pub fn note_broken(broken: &Broken) -> CardRecord
+    ensures of_a_card { (limits : Lines) → (made : Made) → HasRegisters made → IsInfo limits made broken.now.session.info
+        → IsNoteOf (Err (what_is_left broken.now)) result }
+    ensures checked { HasChecks broken.now.session.info → IsNoteOf (Err (what_is_left broken.now)) result }
+{
     let state = if broken.must_reset() { 3 } else { 2 };
     noted(broken.session(), state, broken.cause())
 }

@@ -1,8 +1,11 @@
 // A record that is read, with a check.
-ghost use Rattle.std.specs.Prelude.{◌≤◌};
-ghost use Rattle.mmc_ext_csd.specs.Partition.{addressable_sectors};
+ghost use Rattle.std.specs.Prelude.{◌≡◌, ◌≤◌, IfSome, Result, Some, is_some};
+ghost use Rattle.mmc_ext_csd.specs.Partition.{addressable_sectors, existing_sectors};
 ghost use Rattle.mmc_card.specs.declared.part.Part.{Part};
 ghost use Rattle.mmc_switch.specs.Sizes.{size_of};
+ghost use Rattle.mmc_switch.specs.declared.broken.Broken.{Broken};
+ghost use Rattle.mmc_switch.specs.declared.session.Session.{Session};
+ghost use Rattle.mmc_record.specs.Note.{IsNoteOf, SaysInfo, SaysSession, has_info, is_note, noted_size};
 
 use crate::numbers::{addressing_of, cause_of, is_set, kind_of, part_of, timing_of, width_of};
 use crate::record::CardRecord;
@@ -12,57 +15,71 @@ use mmc_regs::{read_cid, read_csd};
 use mmc_switch::{Broken, Info, Session, Sizes};
 
 // A partition that commands can't address as a whole counts as none.
-fn sizes_of(record: &CardRecord, addressing: Addressing) -> Sizes
-    ensures { (part : Part) → size_of result part ≤ addressable_sectors addressing }
+fn sizes_of(note: &CardRecord, addressing: Addressing) -> Sizes
+    ensures fit { (part : Part) → size_of result part ≤ addressable_sectors addressing }
+    ensures sizes { (part : Part) → existing_sectors (noted_size note.now part) addressing ≡ size_of result part }
 {
     Sizes {
-        user: existing_sectors(record.user, addressing),
-        boot: existing_sectors(record.boot, addressing),
-        gp1: existing_sectors(record.gp1, addressing),
-        gp2: existing_sectors(record.gp2, addressing),
-        gp3: existing_sectors(record.gp3, addressing),
-        gp4: existing_sectors(record.gp4, addressing),
+        user: existing_sectors(note.user, addressing),
+        boot: existing_sectors(note.boot, addressing),
+        gp1: existing_sectors(note.gp1, addressing),
+        gp2: existing_sectors(note.gp2, addressing),
+        gp3: existing_sectors(note.gp3, addressing),
+        gp4: existing_sectors(note.gp4, addressing),
     }
 }
 
 // What is known of the card.
-fn info_of(record: &CardRecord) -> Option<Info> {
-    let kind = kind_of(record.kind);
-    let addressing = addressing_of(record.addressing);
-    let Ok(cid) = read_cid(&record.cid) else {
-        return None;
-    };
-    let Ok(csd) = read_csd(kind, &record.csd) else {
-        return None;
-    };
-    let sizes = sizes_of(record, addressing);
-    let erase_unit = record.erase_unit;
+fn restored_info(note: &CardRecord) -> Option<Info>
+    ensures refused { is_some result ≡ has_info note.now }
+    ensures says { IfSome result (λ info. SaysInfo note.now info) }
+{
+    let kind = kind_of(note.kind);
+    let addressing = addressing_of(note.addressing);
+    let cid = read_cid(&note.cid).ok()?;
+    let csd = read_csd(kind, &note.csd).ok()?;
+    let sizes = sizes_of(note, addressing);
+    let erase_unit = note.erase_unit;
     if erase_unit == 0 {
         return None;
     }
     Some(Info {
         kind,
         addressing,
-        rca: record.rca,
+        rca: note.rca,
         cid,
         csd,
         sizes,
-        read_only: is_set(record.read_only),
+        read_only: is_set(note.read_only),
         erase_unit,
-        erased_byte: record.erased_byte,
-        trims: is_set(record.trims),
-        cmd23: is_set(record.cmd23),
-        width: width_of(record.lines),
-        timing: timing_of(record.high_speed),
+        erased_byte: note.erased_byte,
+        trims: is_set(note.trims),
+        cmd23: is_set(note.cmd23),
+        width: width_of(note.lines),
+        timing: timing_of(note.high_speed),
     })
 }
 
-/// How the card stands: ready, or to be settled or reset; or `None` where these numbers are no note of a card.
-pub fn restored(record: &CardRecord) -> Option<Result<Session, Broken>> {
-    let info = info_of(record)?;
-    let session = Session::of(info, record.partition_config, part_of(record.selected));
-    let cause = cause_of(record.cause);
-    match record.state {
+// The session, as if the card were ready.
+fn restored_session(note: &CardRecord) -> Option<Session>
+    ensures refused { is_some result ≡ has_info note.now }
+    ensures says { IfSome result (λ session. SaysSession note.now session) }
+{
+    let info = restored_info(note)?;
+    Some(Session::of(info, note.partition_config, part_of(note.selected)))
+}
+
+/// How the card stands: ready, or to be settled or reset. What `note` and `note_broken` have noted of a card comes back as it
+/// was. `None` where these numbers are no note of a card: the state is none of the three, the check of CID or CSD doesn't fit,
+/// the CSD is none that a card of this kind may have, or the erase unit is 0.
+pub fn restored(note: &CardRecord) -> Option<Result<Session, Broken>>
+    ensures refused { is_some result ≡ is_note note.now }
+    ensures says { IfSome result (λ stands. IsNoteOf stands note.now) }
+    ensures as_noted { (stands : Result Session Broken) → IsNoteOf stands note.now → result ≡ Some stands }
+{
+    let session = restored_session(note)?;
+    let cause = cause_of(note.cause);
+    match note.state {
         1 => Some(Ok(session)),
         2 => Some(Err(session.break_off(cause))),
         3 => Some(Err(session.break_off(cause).give_up())),
