@@ -54,7 +54,7 @@ pub fn read<B: Bus, D: BlocksMut>(
 }
 
 /// Writes these blocks, 1 to 1,024, from this sector of a partition on, in attempts as `read`. Where it has failed each sector
-/// that is named is old or new, and no other has changed.
+/// that is named is old or new. No other may hold more than it might before.
 pub fn write<B: Bus, D: Blocks>(
     bus: &mut B,
     stands: Stands,
@@ -121,7 +121,8 @@ fn give_up<B: Bus>(
 }
 
 /// Erases so many sectors, 1 or more, by whole erase units, the last of which may end with the partition; in attempts as `read`.
-/// They hold the card's erased byte then. Where it has failed each of them is as before or erased, and no other has changed.
+/// They hold the card's erased byte then. Where it has failed each of them is as before or erased. No other may hold
+/// more than it might before.
 pub fn erase<B: Bus>(bus: &mut B, stands: Stands, part: Part, start: u64, count: u64) -> Served
     ensures refused { refusal_in result.answer ≡ refusal Erase (info_of stands) part start count }
     ensures untouched { IfRefused result.answer ((bus.new ≡ bus.old) × (result.stands ≡ stands)) }
