@@ -1,3 +1,8 @@
+use std::mem::size_of;
+
+// As `struct kelifandro_card` of C.
+const _: () = prove!(size_of::<CardRecord>() == 104);
+
 /// What is known of a card, and how it stands. It is read with a check, so that a record which nobody has noted does no harm.
 #[repr(C)]
 #[derive(Clone, Copy, Debug, PartialEq, Eq)]
