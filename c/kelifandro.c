@@ -151,6 +151,17 @@ int32_t kelifandro_write_by(uint8_t way, struct kelifandro_card *card, uint8_t p
 int32_t kelifandro_erase_by(uint8_t way, struct kelifandro_card *card, uint8_t part, uint64_t start, uint64_t count);
 int32_t kelifandro_trim_by(uint8_t way, struct kelifandro_card *card, uint8_t part, uint64_t start, uint64_t count);
 
+static int has_way(const struct kelifandro *kelifandro)
+{
+    return kelifandro->host || kelifandro->registers;
+}
+
+/* More blocks than a request may name are one more: it is refused before any is touched. */
+static size_t at_most(size_t count)
+{
+    return count > 1024 ? 1025 : count;
+}
+
 static uint8_t begin(const struct kelifandro *kelifandro)
 {
     now = kelifandro;
@@ -163,27 +174,37 @@ static uint8_t begin(const struct kelifandro *kelifandro)
 
 int32_t kelifandro_open(struct kelifandro *kelifandro)
 {
+    if (!has_way(kelifandro))
+        return KELIFANDRO_NO_HOST;
     return kelifandro_open_by(begin(kelifandro), &kelifandro->card);
 }
 
 int32_t kelifandro_read(struct kelifandro *kelifandro, enum kelifandro_part part, uint64_t start, size_t count, void *bytes)
 {
-    return kelifandro_read_by(begin(kelifandro), &kelifandro->card, (uint8_t)part, start, bytes, count);
+    if (!has_way(kelifandro))
+        return KELIFANDRO_NO_HOST;
+    return kelifandro_read_by(begin(kelifandro), &kelifandro->card, (uint8_t)part, start, bytes, at_most(count));
 }
 
 int32_t kelifandro_write(struct kelifandro *kelifandro, enum kelifandro_part part, uint64_t start, size_t count,
                          const void *bytes)
 {
-    return kelifandro_write_by(begin(kelifandro), &kelifandro->card, (uint8_t)part, start, bytes, count);
+    if (!has_way(kelifandro))
+        return KELIFANDRO_NO_HOST;
+    return kelifandro_write_by(begin(kelifandro), &kelifandro->card, (uint8_t)part, start, bytes, at_most(count));
 }
 
 int32_t kelifandro_erase(struct kelifandro *kelifandro, enum kelifandro_part part, uint64_t start, uint64_t count)
 {
+    if (!has_way(kelifandro))
+        return KELIFANDRO_NO_HOST;
     return kelifandro_erase_by(begin(kelifandro), &kelifandro->card, (uint8_t)part, start, count);
 }
 
 int32_t kelifandro_trim(struct kelifandro *kelifandro, enum kelifandro_part part, uint64_t start, uint64_t count)
 {
+    if (!has_way(kelifandro))
+        return KELIFANDRO_NO_HOST;
     return kelifandro_trim_by(begin(kelifandro), &kelifandro->card, (uint8_t)part, start, count);
 }
 
@@ -225,6 +246,8 @@ const char *kelifandro_text(int32_t result)
         return "the card is write protected";
     case KELIFANDRO_NOT_ERASABLE:
         return "the card can't erase these sectors so";
+    case KELIFANDRO_NO_HOST:
+        return "neither a host nor registers are given";
     case KELIFANDRO_FAILED_ANSWER:
         return "failed: a response";
     case KELIFANDRO_FAILED_DATA:

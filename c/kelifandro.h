@@ -36,6 +36,8 @@ enum kelifandro_result {
     KELIFANDRO_READ_ONLY = -5,
     /* The card can't erase, or trim, these sectors. */
     KELIFANDRO_NOT_ERASABLE = -6,
+    /* Neither a host nor registers are given. */
+    KELIFANDRO_NO_HOST = -7,
     /* Four attempts have failed, by the cause that is named. Each sector of a write, an erase or a trim is old or new. */
     KELIFANDRO_FAILED_ANSWER = -10,
     KELIFANDRO_FAILED_DATA = -11,

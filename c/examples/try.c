@@ -80,8 +80,12 @@ static void refusals(void)
     expect(kelifandro_read(&sd, (enum kelifandro_part)77, 0, 1, back) == KELIFANDRO_NO_PARTITION, "no such number", 0);
     expect(kelifandro_read(&sd, KELIFANDRO_USER, USER_SECTORS - 1, 2, back) == KELIFANDRO_OUT_OF_RANGE, "out of range", 0);
     expect(kelifandro_write(&sd, KELIFANDRO_USER, 0, 0, data) == KELIFANDRO_COUNT, "no sector", 0);
+    expect(kelifandro_read(&sd, KELIFANDRO_USER, 0, (size_t)1 << 60, back) == KELIFANDRO_COUNT, "too many sectors", 0);
     expect(kelifandro_trim(&sd, KELIFANDRO_USER, 0, 1) == KELIFANDRO_NOT_ERASABLE, "no trim", 0);
     expect(card.answers == before, "nothing is sent", 0);
+    sd.host = 0;
+    expect(kelifandro_read(&sd, KELIFANDRO_USER, 0, 1, back) == KELIFANDRO_NO_HOST, "no host", 0);
+    sd.host = &host;
     card.state = 0;
     expect(kelifandro_read(&sd, KELIFANDRO_USER, 0, 1, back) == KELIFANDRO_DONE, "a card that has lost its power is opened again", 0);
 }
