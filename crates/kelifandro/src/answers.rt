@@ -4,10 +4,13 @@ use mmc_direct::{NotDone, Refused};
 use mmc_sdhci::StartFault;
 use mmc_switch::{InitializationFault, SwitchFault};
 
+/// The request is done.
 pub const DONE: i32 = 0;
 
+/// The card isn't open: `kelifandro_open` comes first.
 pub const NOT_OPEN: i32 = -1;
 
+/// The card has no such partition.
 pub const NO_PARTITION: i32 = -2;
 
 // Why a request is refused.

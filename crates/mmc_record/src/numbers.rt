@@ -21,7 +21,7 @@ pub fn part_of(number: u8) -> Option<Part>
     }
 }
 
-// The number of a partition that is selected, or of none.
+/// The number of a partition that is selected; 255 where none is.
 pub fn part_number(selected: Option<Part>) -> u8
     ensures { part_of result ≡ selected }
 {
@@ -37,12 +37,14 @@ pub fn part_number(selected: Option<Part>) -> u8
     }
 }
 
+/// The kind with this number: 0 is an SD card, every other an eMMC device.
 pub fn kind_of(number: u8) -> Kind
     ensures { result ≡ kind_of number }
 {
     if number == 0 { Kind::Sd } else { Kind::Mmc }
 }
 
+/// The number of a kind: 0 for an SD card, 1 for an eMMC device.
 pub fn kind_number(kind: Kind) -> u8
     ensures { kind_of result ≡ kind }
 {
@@ -52,6 +54,7 @@ pub fn kind_number(kind: Kind) -> u8
     }
 }
 
+/// The addressing with this number: 0 counts bytes, every other counts sectors.
 pub fn addressing_of(number: u8) -> Addressing
     ensures { result ≡ addressing_of number }
 {
@@ -62,6 +65,7 @@ pub fn addressing_of(number: u8) -> Addressing
     }
 }
 
+/// The number of an addressing: 0 for bytes, 1 for sectors.
 pub fn addressing_number(addressing: Addressing) -> u8
     ensures { addressing_of result ≡ addressing }
 {
@@ -71,6 +75,7 @@ pub fn addressing_number(addressing: Addressing) -> u8
     }
 }
 
+/// The bus width of so many data lines: 8, 4, and 1 for every other number.
 pub fn width_of(lines: u8) -> Width
     ensures { result ≡ width_of lines }
 {
@@ -81,6 +86,7 @@ pub fn width_of(lines: u8) -> Width
     }
 }
 
+/// How many data lines a bus width has.
 pub fn width_number(width: Width) -> u8
     ensures { width_of result ≡ width }
 {
@@ -91,6 +97,7 @@ pub fn width_number(width: Width) -> u8
     }
 }
 
+/// The timing with this number: 0 is the default speed, every other is high speed.
 pub fn timing_of(high_speed: u8) -> Timing
     ensures { result ≡ timing_of high_speed }
 {
@@ -101,6 +108,7 @@ pub fn timing_of(high_speed: u8) -> Timing
     }
 }
 
+/// The number of a timing: 0 for the default speed, 1 for high speed.
 pub fn timing_number(timing: Timing) -> u8
     ensures { timing_of result ≡ timing }
 {
@@ -110,6 +118,7 @@ pub fn timing_number(timing: Timing) -> u8
     }
 }
 
+/// What broke, by its number: 0 the answer, 1 the data, 2 the status, 3 busy, and every other the recovery.
 pub fn cause_of(number: u8) -> Cause
     ensures { result ≡ cause_of number }
 {
@@ -122,6 +131,7 @@ pub fn cause_of(number: u8) -> Cause
     }
 }
 
+/// The number of what broke, 0 to 4.
 pub fn cause_number(cause: Cause) -> u8
     ensures { cause_of result ≡ cause }
 {
@@ -134,12 +144,14 @@ pub fn cause_number(cause: Cause) -> u8
     }
 }
 
+/// Whether a flag is set: every number but 0 is.
 pub fn is_set(number: u8) -> bool
     ensures { result ≡ is_set number }
 {
     number != 0
 }
 
+/// The number of a flag: 1 where it is set, 0 where not.
 pub fn flag(is_set_now: bool) -> u8
     ensures { is_set result ≡ is_set_now }
 {
