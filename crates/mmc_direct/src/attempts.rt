@@ -56,7 +56,7 @@ fn prepared<B: Bus>(bus: &mut B, stands: Stands, part: Part) -> Result<Session, 
     select(bus, session, part)
 }
 
-/// One attempt at a read.
+// One attempt at a read.
 pub fn try_read<B: Bus, D: BlocksMut>(
     bus: &mut B,
     stands: Stands,
@@ -80,7 +80,7 @@ pub fn try_read<B: Bus, D: BlocksMut>(
     read_run(bus, session, start, blocks)
 }
 
-/// One attempt at a write.
+// One attempt at a write.
 pub fn try_write<B: Bus, D: Blocks>(
     bus: &mut B,
     stands: Stands,
@@ -100,7 +100,7 @@ pub fn try_write<B: Bus, D: Blocks>(
     write_run(bus, session, start, blocks)
 }
 
-/// One attempt at an erase or a trim.
+// One attempt at an erase or a trim.
 pub fn try_erase<B: Bus>(
     bus: &mut B,
     stands: Stands,
