@@ -1,0 +1,11 @@
+pub mod CheckedLemmas
+pub mod CountLemmas
+pub mod ExtLemmas
+pub mod FieldLemmas
+pub mod FileLemmas
+pub mod LineLemmas
+pub mod MadeLemmas
+pub mod MmcLemmas
+pub mod SdLemmas
+pub mod SizeLemmas
+pub mod TextLemmas

@@ -1,0 +1,14 @@
+use Rattle.std.proofs.Common.{refl, ◌/◌}
+use Rattle.card_maker.specs.declared.card.TheConstants.{MMC_CID}
+use Rattle.card_maker.proofs.CountLemmas.{byte_count_most}
+use Rattle.card_maker.proofs.MadeLemmas.{mmc_bytes_wanted}
+use Rattle.card_maker.proofs.card.mmc_by_bytes.Goals as goal
+
+pub returns-clause-wanted : goal.returns-clause-wanted
+returns-clause-wanted c =
+    let wanted = c.args.wanted.now in
+    let blocks = c.blocks_of-blocks.result in
+    mmc_bytes_wanted wanted c.mmc_registers.result blocks.read_bl_len blocks.c_size blocks.c_size_mult MMC_CID
+    (wanted.boot / 256) (wanted.gp / 1024) c.csd_mmc-csd.result c.ext_csd-block.result c.requires.beside
+    c.blocks_of-blocks.ensures (byte_count_most wanted.sectors c.requires.count) refl refl c.csd_mmc-csd.ensures
+    c.ext_csd-block.ensures c.mmc_registers.ensures

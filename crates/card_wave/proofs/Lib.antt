@@ -1,0 +1,5 @@
+pub mod BlockLaws
+pub mod CheckLemmas
+pub mod DrawLemmas
+pub mod Linear
+pub mod NoRemainder

@@ -1,0 +1,7 @@
+pub mod BlockSamples
+pub mod CommandSamples
+pub mod Header
+pub mod LineCheck
+pub mod Samples
+pub mod WaveText
+pub mod WaveView

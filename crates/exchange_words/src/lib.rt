@@ -1,0 +1,24 @@
+//! Exchanges between host and card in words: what a command asks for, what its response tells, what became of a block.
+#![tactic(auto)]
+
+mod argument;
+mod block;
+mod command;
+mod exchange;
+mod fault;
+mod frame;
+mod line;
+mod lines;
+mod named;
+mod response;
+mod status;
+mod words;
+
+pub use command::put_command;
+pub use exchange::{KnownCard, announces_application_command, put_exchange};
+pub use fault::put_fault;
+pub use frame::put_frame;
+pub use line::{Note, put_line};
+pub use lines::put_lines;
+pub use response::put_reply;
+pub use status::put_status;

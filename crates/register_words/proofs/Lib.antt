@@ -1,0 +1,5 @@
+pub mod ByteLemmas
+pub mod FieldLemmas
+pub mod ReadLemmas
+pub mod SummaryLemmas
+pub mod WordLemmas

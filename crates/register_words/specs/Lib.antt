@@ -1,0 +1,6 @@
+pub mod Fields
+pub mod Reading
+pub mod Registers
+pub mod Summaries
+pub mod Tables
+pub mod Words
