@@ -4,6 +4,7 @@ pub mod CardSpecs
 pub mod Data
 pub mod FaultTexts
 pub mod Hexadecimal
+pub mod Input
 pub mod Lines
 pub mod Numbers
 pub mod Output

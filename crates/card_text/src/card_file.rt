@@ -15,6 +15,9 @@ use mmc_card_sim::{CardSpec, Fault, MAX_PLANNED};
 use mmc_frame::Kind;
 use std::alloc::{AllocError, Global};
 
+/// The most bytes of a card file.
+pub const MAX_CARD_FILE: usize = 65_536;
+
 /// What a card file says.
 #[derive(Debug, Drop)]
 pub struct CardFile {
@@ -35,9 +38,9 @@ fn kind_said(line: &[u8]) -> Option<Kind>
     }
 }
 
-// The kind that the first well-formed line `kind` gives.
+/// The kind that the first well-formed line `kind` gives.
 #[tactic(auto, unfolding(crate::specs::CardFile::kind_in))]
-fn kind_given(text: &[u8]) -> Option<Kind>
+pub fn kind_given(text: &[u8]) -> Option<Kind>
     ensures { result ≡ kind_in (lines text.now) }
 {
     let mut rest = Some(text);
@@ -51,8 +54,8 @@ fn kind_given(text: &[u8]) -> Option<Kind>
     None
 }
 
-// Whether a card may have a line. Without a kind every line may stand.
-fn may_have(kind: Option<Kind>, line: &CardLine) -> bool
+/// Whether a card may have a line. Without a kind every line may stand.
+pub fn may_have(kind: Option<Kind>, line: &CardLine) -> bool
     ensures { result ≡ may_have kind line.now }
 {
     match kind {
@@ -61,8 +64,8 @@ fn may_have(kind: Option<Kind>, line: &CardLine) -> bool
     }
 }
 
-// Whether a line gives again what one of those above gives.
-fn is_repeated(above: &[CardLine], line: &CardLine) -> bool
+/// Whether a line gives again what one of those above gives.
+pub fn is_repeated(above: &[CardLine], line: &CardLine) -> bool
     ensures { result ≡ is_repeated above.now line.now }
 {
     above.iter().any(|other| line.repeats(other))
@@ -85,8 +88,8 @@ fn count_of_faults(lines: &[CardLine]) -> usize
     lines.iter().filter_map(planned).count()
 }
 
-// Whether one more fault may be planned, where the line plans one.
-fn has_room(above: &[CardLine], line: &CardLine) -> bool
+/// Whether one more fault may be planned, where the line plans one.
+pub fn has_room(above: &[CardLine], line: &CardLine) -> bool
     ensures { result ≡ has_room above.now line.now }
 {
     match *line {

@@ -4,19 +4,20 @@
 pub mod card_file;
 #[cfg(test)]
 mod card_file_tests;
-mod card_line;
+pub mod card_line;
 mod card_spec;
-mod cut;
+pub mod cut;
 mod data;
 pub mod event;
 pub mod fault;
 mod fault_text;
-mod hexadecimal;
+pub mod hexadecimal;
+pub mod input;
 pub mod laws;
-mod line;
+pub mod line;
 pub mod number;
 pub mod output;
 pub mod script;
 #[cfg(test)]
 mod script_tests;
-mod text_line;
+pub mod text_line;

@@ -12,6 +12,9 @@ use std::alloc::{AllocError, AllocFailed, Global};
 use std::collections::VecDeque;
 use std::marker::Model;
 
+/// The most bytes of a script.
+pub const MAX_SCRIPT: usize = 1_048_576;
+
 /// The events of a script, in order.
 #[derive(Drop)]
 pub struct Script {
@@ -34,9 +37,9 @@ impl Script {
     }
 }
 
-// What a line says.
+/// What a line of a script says.
 #[tactic(auto, unfolding(crate::specs::Script::line_of))]
-fn script_line(alloc: Global, line: &[u8]) -> Result<Line<ScriptEvent>, AllocError>
+pub fn script_line(alloc: Global, line: &[u8]) -> Result<Line<ScriptEvent>, AllocError>
     ensures { IfOk result (λ said. said ≡ line_of line.now) }
 {
     match line {

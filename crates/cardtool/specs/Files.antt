@@ -7,7 +7,8 @@ use Rattle.card_text.specs.declared.fault.CardFault.TheVariants as OfCard
 use Rattle.cardtool.specs.declared.fault.ServeFault.{ServeFault}
 use Rattle.cardtool.specs.declared.fault.ServeFault.TheVariants.{CardIncomplete, CardLine, NoMemory, ReadCard}
 use Rattle.cardtool.specs.declared.fault.ServeFault.TheVariants.{ReadImage, ReadScript, ScriptLine, TooLong}
-use Rattle.cardtool.specs.declared.files.TheConstants.{MAX_CARD_FILE, MAX_SCRIPT}
+use Rattle.card_text.specs.declared.card_file.TheConstants.{MAX_CARD_FILE}
+use Rattle.card_text.specs.declared.script.TheConstants.{MAX_SCRIPT}
 use Rattle.card_text.specs.CardFile.{IsBadCard, IsCardFile}
 use Rattle.card_text.specs.Planning.{PlannedFault}
 use Rattle.card_text.specs.Script.{IsFirstBadLine, events_in, lines}

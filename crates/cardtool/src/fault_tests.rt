@@ -18,6 +18,14 @@ fn shows_each_fault(rt: HostRuntime) -> Result<(), std::test::Fail> {
         (ServeFault::Unsupported, "unsupported"),
         (ServeFault::Locked, "locked"),
         (ServeFault::Write, "write"),
+        (
+            ServeFault::Vcd,
+            "the file of --vcd is there already, or can't be written",
+        ),
+        (
+            ServeFault::Save,
+            "the file of --save is there already, or can't be written",
+        ),
     ];
     for (fault, text) in rows {
         assert!(rt; format!(in rt.alloc(); "{fault}")?.as_str() == text);

@@ -5,18 +5,13 @@ ghost use Rattle.cardtool.specs.Files.{AreRead, AreRefused, IsImage, IsUnread};
 ghost use Rattle.card_text.specs.Planning.{CanBePlanned};
 
 use crate::fault::ServeFault;
-use crate::input::{ReadFault, read_bounded, read_front};
-use card_text::card_file::{CardFile, read_card};
-use card_text::script::{Script, read_script};
+use card_text::card_file::{CardFile, MAX_CARD_FILE, read_card};
+use card_text::input::{ReadFault, read_bounded, read_front};
+use card_text::script::{MAX_SCRIPT, Script, read_script};
 use mmc_bus::Bytes;
 use mmc_card_sim::{CardSpec, Fault, MAX_SECTORS};
 use std::alloc::Global;
 use std::io::Read;
-
-/// The most bytes of a card file.
-pub const MAX_CARD_FILE: usize = 65_536;
-/// The most bytes of a script.
-pub const MAX_SCRIPT: usize = 1_048_576;
 
 // The whole of an input, or its fault, `unread` where the reader failed.
 fn whole<R: Read>(

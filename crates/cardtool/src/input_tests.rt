@@ -1,4 +1,4 @@
-use crate::input::{ReadFault, read_bounded, read_front};
+use card_text::input::{ReadFault, read_bounded, read_front};
 use std::io::{self, ErrorKind, Read};
 
 // A reader of `left` bytes, a hundred a call at most, that fails at one of its calls, counts them all, and goes on.

@@ -51,8 +51,8 @@ fn of_opening(fault: OpenFault) -> ServeFault
     }
 }
 
-// Serves a script on the card of a bus, without a trace.
-fn serve_untraced<B: Bus + Drop, W: Write>(
+/// Serves a script on the card of a bus, without a trace.
+pub fn serve_untraced<B: Bus + Drop, W: Write>(
     alloc: Global,
     bus: B,
     script: Script,
@@ -74,8 +74,8 @@ fn serve_untraced<B: Bus + Drop, W: Write>(
     (bus, outcome(served))
 }
 
-// Serves a script, and writes the last `n` exchanges.
-fn serve_traced<B: Bus + Drop, W: Write>(
+/// Serves a script, and writes the last `n` exchanges.
+pub fn serve_traced<B: Bus + Drop, W: Write>(
     alloc: Global,
     bus: B,
     script: Script,

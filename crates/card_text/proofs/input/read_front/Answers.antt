@@ -2,7 +2,7 @@ use Rattle.std.proofs.Common.{◌++◌, ◌≤◌, ◌∙◌, List, Option, None
 use Rattle.std.proofs.lemmas.Grind.{common_steps}
 use Rattle.std.proofs.lemmas.List.{length-take}
 use Rattle.std.specs.Io.KnownBytes.{Consumes}
-use Rattle.cardtool.proofs.input.read_front.Goals as goal
+use Rattle.card_text.proofs.input.read_front.Goals as goal
 
 -- what was taken in two parts
 consumes_then : (old mid new : Option (List ℕ)) (bs cs : List ℕ) → Consumes old mid bs → Consumes mid new cs

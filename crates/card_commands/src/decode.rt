@@ -1,0 +1,129 @@
+// `decode`: a register or a frame, field by field.
+use crate::fault::CommandFault;
+use card_text::input::{ReadFault, read_bounded};
+use clap::{Arg, Command};
+use exchange_words::put_frame;
+use mmc_frame::Kind;
+use register_words::{Register, put_register, read_register};
+use std::alloc::Global;
+use std::io::{Read, Write};
+use text_out::put::put;
+
+// The most bytes of digits that are read from standard input.
+const MAX_DIGITS: usize = 65_536;
+
+// What is to be decoded.
+#[derive(Clone, Copy)]
+enum Subject {
+    // A register.
+    Register(Register),
+    // A frame of 48 bits.
+    Frame,
+}
+
+// The kind of card that a word names; without a word it is an SD card.
+pub(crate) fn kind_named(word: Option<&str>) -> Result<Kind, CommandFault> {
+    match word {
+        None | Some("sd") => Ok(Kind::Sd),
+        Some("mmc") => Ok(Kind::Mmc),
+        Some(_) => Err(CommandFault::Value {
+            option: "kind",
+            expected: "sd or mmc",
+        }),
+    }
+}
+
+// What a word names.
+fn subject_named(word: &str, kind: Kind) -> Result<Subject, CommandFault> {
+    match word {
+        "ocr" => Ok(Subject::Register(Register::Ocr(kind))),
+        "cid" => Ok(Subject::Register(Register::Cid(kind))),
+        "csd" => Ok(Subject::Register(Register::Csd(kind))),
+        "scr" => Ok(Subject::Register(Register::Scr)),
+        "ext_csd" => Ok(Subject::Register(Register::ExtCsd)),
+        "status" => Ok(Subject::Register(Register::CardStatus(kind))),
+        "switch" => Ok(Subject::Register(Register::SwitchStatus)),
+        "frame" => Ok(Subject::Frame),
+        _ => Err(CommandFault::NoRegister),
+    }
+}
+
+// The six bytes of a frame.
+fn frame_of(digits: &[u8]) -> Result<[u8; 6], CommandFault> {
+    match card_text::hexadecimal::bytes(digits) {
+        Some(frame) => Ok(frame),
+        None => Err(CommandFault::NoFrame),
+    }
+}
+
+// Writes what the digits say.
+fn put_subject<W: Write>(
+    alloc: Global,
+    subject: Subject,
+    kind: Kind,
+    digits: &[u8],
+    out: &mut W,
+) -> Result<(), CommandFault> {
+    match subject {
+        Subject::Frame => {
+            let frame = frame_of(digits.trim_ascii())?;
+            let mut lines = Vec::new(alloc);
+            put_frame(&mut lines, kind, &frame)?;
+            put(out, lines.as_slice())?;
+            Ok(())
+        }
+        Subject::Register(register) => match read_register(alloc, register, digits) {
+            Ok(bytes) => {
+                put_register(out, register, bytes.as_slice())?;
+                Ok(())
+            }
+            Err(fault) => Err(CommandFault::Hex(fault)),
+        },
+    }
+}
+
+// Writes what the digits of standard input say.
+fn put_input<R: Read, W: Write>(
+    alloc: Global,
+    subject: Subject,
+    kind: Kind,
+    input: &mut R,
+    out: &mut W,
+) -> Result<(), CommandFault> {
+    match read_bounded(alloc, input, MAX_DIGITS) {
+        Ok(digits) => put_subject(alloc, subject, kind, digits.as_slice(), out),
+        Err(ReadFault::Reader) => Err(CommandFault::ReadInput),
+        Err(ReadFault::TooLong) => Err(CommandFault::TooLong),
+        Err(ReadFault::NoMemory) => Err(CommandFault::NoMemory),
+    }
+}
+
+/// Decodes as the words say, of which `decode` is the first: a register or a frame, field by field. Without digits among the words
+/// they are read from `input`.
+///
+/// # Errors
+/// `Usage`, `Value` or `NoRegister` for other words; then `ReadInput` and `TooLong` of the input, `Hex` and `NoFrame` of the
+/// digits; `NoMemory`; `Write`, where a front of the lines went out.
+pub fn decode<R: Read, W: Write>(
+    alloc: Global,
+    words: &[&str],
+    input: &mut R,
+    out: &mut W,
+) -> Result<(), CommandFault> {
+    let command = Command::new(alloc, "decode")
+        .arg(Arg::new(alloc, "register").required(true))?
+        .arg(Arg::new(alloc, "digits"))?
+        .arg(Arg::new(alloc, "kind").long("kind"))?;
+    let Ok(matches) = command.try_get_matches_from(words) else {
+        return Err(CommandFault::Usage);
+    };
+    let Some(register) = matches.get_str("register") else {
+        return Err(CommandFault::Usage);
+    };
+    let kind = kind_named(matches.get_str("kind"))?;
+    let subject = subject_named(register, kind)?;
+    match matches.get_str("digits") {
+        Some(digits) => put_subject(alloc, subject, kind, digits.as_bytes(), out),
+        None => put_input(alloc, subject, kind, input, out),
+    }
+}

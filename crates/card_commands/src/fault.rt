@@ -1,0 +1,83 @@
+// Why a command prints nothing.
+ghost use Rattle.std.specs.Prelude.{◌≡◌};
+ghost use Rattle.card_commands.specs.declared.fault.CommandFault.TheVariants.{NoMemory, Usage, Write};
+
+use card_check::CheckFault;
+use card_maker::MakeFault;
+use register_words::HexFault;
+use std::alloc::{AllocError, AllocFailed};
+use std::io;
+use thiserror::Error;
+
+/// Why a command ends with status 2. Each shows as one line on standard error.
+#[derive(Clone, Copy, Debug, PartialEq, Eq, Error)]
+pub enum CommandFault {
+    /// The words aren't those of the command: a line with its usage shows in place of this one.
+    #[error("usage")]
+    Usage,
+    /// An option has another value than it may have.
+    #[error("--{option} is {expected}")]
+    Value {
+        /// The option.
+        option: &'static str,
+        /// What it may be.
+        expected: &'static str,
+    },
+    /// There is no such register.
+    #[error("the registers are ocr, cid, csd, scr, ext_csd, status, switch and frame")]
+    NoRegister,
+    /// The card file couldn't be read.
+    #[error("read card")]
+    ReadCard,
+    /// The script couldn't be read.
+    #[error("read script")]
+    ReadScript,
+    /// The image couldn't be read.
+    #[error("read image")]
+    ReadImage,
+    /// Standard input couldn't be read.
+    #[error("read input")]
+    ReadInput,
+    /// A file is longer than it may be.
+    #[error("too long")]
+    TooLong,
+    /// The digits aren't those of the register.
+    #[error("{0}")]
+    Hex(HexFault),
+    /// A frame has six bytes.
+    #[error("a frame is 12 hexadecimal digits")]
+    NoFrame,
+    /// No card is as it is wanted.
+    #[error("{0}")]
+    Make(MakeFault),
+    /// Memory was refused.
+    #[error("no memory")]
+    NoMemory,
+    /// The output couldn't be written.
+    #[error("write")]
+    Write,
+}
+
+impl From<AllocError> for CommandFault {
+    ghost from_gives = { λ _ e. e ≡ NoMemory };
+
+    fn from(_error: AllocError) -> CommandFault {
+        CommandFault::NoMemory
+    }
+}
+
+impl<T: Drop> From<AllocFailed<T>> for CommandFault {
+    ghost from_gives = { λ _ e. e ≡ NoMemory };
+
+    fn from(_error: AllocFailed<T>) -> CommandFault {
+        CommandFault::NoMemory
+    }
+}
+
+impl From<io::Error> for CommandFault {
+    ghost from_gives = { λ _ e. e ≡ Write };
+
+    fn from(_error: io::Error) -> CommandFault {
+        CommandFault::Write
+    }
+}

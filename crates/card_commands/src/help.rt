@@ -1,0 +1,42 @@
+// `help` and `version`.
+use crate::commands::CommandName;
+use crate::fault::CommandFault;
+use crate::texts;
+use std::io::Write;
+use text_out::put::put;
+
+// The text that the words ask for.
+fn help_text(words: &[&str]) -> Option<&'static str> {
+    match words {
+        ["help"] => Some(texts::OVERVIEW),
+        ["help", "serve"] => Some(texts::SERVE),
+        ["help", name] => CommandName::by(name).map(|command| command.text()),
+        _ => None,
+    }
+}
+
+/// Prints what the program does, or with the name of a command behind `help` what that does.
+///
+/// # Errors
+/// `Usage` where there is no such command; `Write`, where a front of the text went out.
+pub fn help<W: Write>(words: &[&str], out: &mut W) -> Result<(), CommandFault> {
+    match help_text(words) {
+        Some(text) => {
+            put(out, text.as_bytes())?;
+            Ok(())
+        }
+        None => Err(CommandFault::Usage),
+    }
+}
+
+/// Prints the version.
+///
+/// # Errors
+/// `Usage` for further words; `Write`, where a front of the text went out.
+pub fn version<W: Write>(words: &[&str], out: &mut W) -> Result<(), CommandFault> {
+    let ["version"] = words else {
+        return Err(CommandFault::Usage);
+    };
+    put(out, b"cardtool 1.0\n")?;
+    Ok(())
+}

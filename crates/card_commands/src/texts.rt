@@ -1,0 +1,95 @@
+// The texts of `help`.
+
+/// What the program is, and its commands.
+pub(crate) const OVERVIEW: &str =
+    "cardtool answers questions about SD cards and eMMC devices, and serves requests on a card in memory.
+
+    cardtool                 a demonstration: one sector written to a card of four and read back
+    cardtool serve ..        serves a script of requests on the card of a card file
+    cardtool new ..          prints a card file
+    cardtool check ..        says whatever is wrong with a card file, a script and an image
+    cardtool decode ..       prints the fields of a register or a frame
+    cardtool help [COMMAND]  this text, or that of a command
+    cardtool version         the version
+
+Status: 0 where all went well, 2 where words or files are refused, or something couldn't be read or written; a line on standard
+error says what. `serve` has 1 too, where a request failed or was refused. docs/FORMATS.md has the files.
+";
+
+/// That of `serve`.
+pub(crate) const SERVE: &str =
+    "usage: cardtool serve --card FILE --script FILE [--image FILE] [--trace N]
+                      [--explain] [--vcd FILE] [--save FILE]
+
+Serves the requests of a script on the card of a card file, with a line for each submission, cancellation and answer.
+
+    --card FILE    the card file: registers, delays and planned faults
+    --script FILE  the script: a request, a cancellation, `turn` or `run` a line
+    --image FILE   what the card holds at first, all partitions in order, 512 bytes a sector
+    --trace N      shows the last N exchanges with the card behind the answers, from 1 to 65536
+    --explain      puts words behind each exchange that is shown; without --trace it shows the last 65536
+    --vcd FILE     writes the exchanges as a waveform of CLK, CMD and DAT0 to DAT7; FILE must not be there yet
+    --save FILE    writes what the card holds at the end, as an image has it; FILE must not be there yet
+
+Status: 0 where every request was served, 1 where one failed or was refused, 2 where nothing was served or the output failed.
+
+    cardtool serve --card examples/sdsc.card --script examples/first.script --trace 6 --explain
+";
+
+/// That of `new`.
+pub(crate) const NEW: &str =
+    "usage: cardtool new --kind sd|mmc --sectors N [--lines 1|4|8] [--highspeed] [--cmd23] [--boot N] [--gp N] [--readonly]
+
+Prints a card file whose registers and checks fit, or says which sizes are next to N.
+
+    --kind KIND    sd: an SD card; mmc: an eMMC device
+    --sectors N    the size of the user partition in sectors of 512 bytes
+    --lines N      how many data lines the card has: of an SD card 1 or 4, and 4 where it is left out; of an eMMC device always
+                   1, 4 and 8
+    --highspeed    it switches to high speed
+    --cmd23        an SD card knows CMD23, SET_BLOCK_COUNT; an eMMC device always does
+    --boot N       each boot partition of an eMMC device has N sectors, a multiple of 256
+    --gp N         the first general purpose partition of an eMMC device has N sectors, a multiple of 1024
+    --readonly     the card is write protected for now
+
+Status: 0, or 2 where no card is like that.
+
+    cardtool new --kind sd --sectors 2048 > my.card
+";
+
+/// That of `check`.
+pub(crate) const CHECK: &str = "usage: cardtool check --card FILE [--script FILE] [--image FILE]
+
+Says whatever is wrong with a card file, a script and an image: each bad line with its number, what was found, and what was
+expected; and which register contradicts which.
+
+Status: 0 where nothing is wrong, otherwise 2.
+
+    cardtool check --card examples/sdsc.card --script examples/first.script
+";
+
+/// That of `decode`.
+pub(crate) const DECODE: &str = "usage: cardtool decode REGISTER [HEX] [--kind sd|mmc]
+
+Prints the fields of a register or a frame, a line each: name, bits, value, and what it means. Without HEX the digits are read
+from standard input.
+
+    REGISTER       ocr, cid, csd, scr, ext_csd, status (the card status), switch (the 64 bytes behind CMD6), or frame
+    HEX            its hexadecimal digits, the first byte first, with or without 0x in front; in quotes with spaces between; a CID or CSD may
+                   lack its last byte, or have 00 there, as Linux shows them
+    --kind KIND    sd where it is left out, or mmc; scr and switch are of SD cards, ext_csd of eMMC devices
+
+Status: 0, or 2 where the digits aren't those of such a register.
+
+    cardtool decode csd 0000000000090000000040000240009b
+    cat /sys/block/mmcblk0/device/cid | cardtool decode cid --kind mmc
+    cardtool decode frame 510000000055
+";
+
+/// That of `help`.
+pub(crate) const HELP: &str = "usage: cardtool help [serve|new|check|decode|help|version]
+";
+
+/// That of `version`.
+pub(crate) const VERSION: &str = "usage: cardtool version
+";

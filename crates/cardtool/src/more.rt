@@ -1,0 +1,140 @@
+// Serves a script, and shows or draws the exchanges.
+ghost use Rattle.std.specs.Prelude.{◌≡◌, ◌≤◌, None, Some};
+ghost use Rattle.mmc_bus.specs.declared.trace.TheConstants.{MAX_KEPT};
+ghost use Rattle.mmc_card_sim.specs.SimView.{sim_bus_view};
+ghost use Rattle.cardtool.specs.More.{IsShown, trace_of};
+ghost use Rattle.cardtool.specs.Whole.{IsServedOver};
+
+use crate::explained::kept_exchanges;
+use crate::fault::ServeFault;
+use crate::serve::{serve_traced, serve_untraced};
+use crate::trace::traced;
+use crate::watched::WatchedCard;
+use card_text::script::Script;
+use card_wave::WaveBus;
+use mmc_bus::{Bus, Exchange};
+use std::alloc::Global;
+use std::io::{self, Write};
+
+/// What is shown of the exchanges behind the answers.
+#[derive(Clone, Copy, Debug, PartialEq, Eq)]
+pub enum Shown {
+    /// Nothing.
+    Nothing,
+    /// The last so many, a line each.
+    Trace(u32),
+    /// The same, with words behind each line.
+    Explained(u32),
+}
+
+/// How a script was served.
+#[derive(Drop)]
+pub struct Served<B: Drop> {
+    /// The bus.
+    pub bus: B,
+    /// The exchanges that are to be explained, or nothing where memory was refused for them.
+    pub kept: Option<Vec<Exchange>>,
+    /// The exit status.
+    pub status: Result<u8, ServeFault>,
+}
+
+// Serves a script, and keeps the last `n` exchanges.
+fn serve_kept<B: Bus + Drop, W: Write>(
+    alloc: Global,
+    bus: B,
+    script: Script,
+    n: u32,
+    out: &mut W,
+) -> Served<B>
+    requires one { 1 ≤ n }
+    requires many { n ≤ MAX_KEPT }
+    ensures { IsServedOver (B.view bus) (B.view result.bus) script None (W.contents out.old) (W.contents out.new) result.status }
+{
+    let bus = match traced(alloc, bus, n) {
+        Ok(bus) => bus,
+        Err(bus) => {
+            return Served {
+                bus,
+                kept: None,
+                status: Err(ServeFault::NoMemory),
+            };
+        }
+    };
+    let (bus, status) = serve_untraced(alloc, bus, script, out);
+    let kept = kept_exchanges(alloc, &bus).ok();
+    let bus = bus.into_inner();
+    Served { bus, kept, status }
+}
+
+/// Serves a script on the card of a bus, as `serve_over` does; the exchanges that are to be explained come back in place of a
+/// trace.
+pub fn serve_shown<B: Bus + Drop, W: Write>(
+    alloc: Global,
+    bus: B,
+    script: Script,
+    shown: Shown,
+    out: &mut W,
+) -> Served<B>
+    requires { IsShown shown }
+    ensures { IsServedOver (B.view bus) (B.view result.bus) script (trace_of shown) (W.contents out.old) (W.contents out.new) result.status }
+{
+    match shown {
+        Shown::Explained(n) => serve_kept(alloc, bus, script, n, out),
+        Shown::Trace(n) => {
+            let (bus, status) = serve_traced(alloc, bus, script, n, out);
+            Served {
+                bus,
+                kept: None,
+                status,
+            }
+        }
+        Shown::Nothing => {
+            let (bus, status) = serve_untraced(alloc, bus, script, out);
+            Served {
+                bus,
+                kept: None,
+                status,
+            }
+        }
+    }
+}
+
+/// A waveform that was written, and the fault that ended it.
+#[derive(Drop)]
+pub struct Drawn<V: Write + Drop> {
+    /// Where it was written.
+    pub out: V,
+    /// Whether all of it was.
+    pub written: io::Result<()>,
+}
+
+/// The same, with a waveform of all exchanges where one is wanted: a fault in writing it changes nothing else.
+pub fn serve_drawn<W: Write, V: Write + Drop>(
+    alloc: Global,
+    card: WatchedCard,
+    script: Script,
+    shown: Shown,
+    wave: Option<V>,
+    out: &mut W,
+) -> (Served<WatchedCard>, Option<Drawn<V>>)
+    requires { IsShown shown }
+    ensures { IsServedOver (sim_bus_view card.card) (sim_bus_view result.0.bus.card) script (trace_of shown) (W.contents out.old) (W.contents out.new) result.0.status }
+{
+    let Some(wave) = wave else {
+        return (serve_shown(alloc, card, script, shown, out), None);
+    };
+    let Served { bus, kept, status } = serve_shown(
+        alloc,
+        WaveBus::new(card, wave),
+        script,
+        shown,
+        out,
+    );
+    let (card, wave, written) = bus.into_parts();
+    let served = Served {
+        bus: card,
+        kept,
+        status,
+    };
+    (served, Some(Drawn { out: wave, written }))
+}

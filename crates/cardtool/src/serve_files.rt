@@ -1,0 +1,182 @@
+// Serves the files that the options name.
+ghost use Rattle.std.specs.Prelude.{◌≤◌};
+ghost use Rattle.std.specs.Option.{ForSome};
+ghost use Rattle.mmc_bus.specs.declared.trace.TheConstants.{MAX_KEPT};
+ghost use Rattle.cardtool.specs.More.{IsShown};
+
+use crate::explained::{known_card, put_explained};
+use crate::fault::ServeFault;
+use crate::files::{FilesRead, read_files};
+use crate::more::{Drawn, Served, Shown, serve_drawn};
+use crate::new_card::built;
+use crate::options_given::Options;
+use crate::save::save;
+use crate::serve::serve;
+use crate::watched::WatchedCard;
+use mmc_bus::MAX_KEPT;
+use std::alloc::Global;
+use std::fs::{File, OpenOptions};
+use std::io::{self, BufWriter, Read, Write};
+use std::rt::Files;
+
+/// Serves on standard output, and writes out what a buffer holds back.
+pub fn serve_buffered<R: Print + AllocGlobal, C: Read, S: Read, I: Read>(
+    rt: &R,
+    card: &mut C,
+    script: &mut S,
+    image: &mut Option<I>,
+    trace: Option<u32>,
+) -> Result<u8, ServeFault>
+    requires { ForSome trace (λ n. (1 ≤ n) × (n ≤ MAX_KEPT)) }
+{
+    let Ok(mut out) = BufWriter::new(rt.alloc(), io::writer(rt)) else {
+        return Err(ServeFault::NoMemory);
+    };
+    let status = serve(rt.alloc(), card, script, image, trace, &mut out)?;
+    match out.flush() {
+        Ok(()) => Ok(status),
+        Err(_) => Err(ServeFault::Write),
+    }
+}
+
+// A file that wasn't there before, so that nothing that was there is lost.
+fn new_file<R: Files + AllocGlobal>(
+    rt: &R,
+    name: &str,
+    unmade: ServeFault,
+) -> Result<BufWriter<R::File>, ServeFault> {
+    let Ok(file) = OpenOptions::new()
+        .write(true)
+        .create_new(true)
+        .open(rt, name)
+    else {
+        return Err(unmade);
+    };
+    match BufWriter::new(rt.alloc(), file) {
+        Ok(file) => Ok(file),
+        Err(_) => Err(ServeFault::NoMemory),
+    }
+}
+
+// The same, where one is named.
+fn named_file<R: Files + AllocGlobal>(
+    rt: &R,
+    name: Option<&str>,
+    unmade: ServeFault,
+) -> Result<Option<BufWriter<R::File>>, ServeFault> {
+    match name {
+        None => Ok(None),
+        Some(name) => Ok(Some(new_file(rt, name, unmade)?)),
+    }
+}
+
+// What is shown behind the answers: without a number the most that a trace keeps, where it is to be explained.
+fn shown(options: &Options<'_>) -> Shown
+    ensures { IsShown result }
+{
+    match (options.explains, options.trace) {
+        (true, None) => Shown::Explained(MAX_KEPT as u32),
+        (true, Some(n)) => Shown::Explained(n),
+        (false, None) => Shown::Nothing,
+        (false, Some(n)) => Shown::Trace(n),
+    }
+}
+
+// Writes out what is left of a waveform, and says whether all of it was written.
+fn finish_wave<V: Write + Drop>(drawn: Option<Drawn<V>>) -> Result<(), ServeFault> {
+    let Some(Drawn { mut out, written }) = drawn else {
+        return Ok(());
+    };
+    match written.and_then(|_| out.flush()) {
+        Ok(()) => Ok(()),
+        Err(_) => Err(ServeFault::Vcd),
+    }
+}
+
+// Writes the image of a card, where it is to be saved.
+fn finish_save<V: Write + Drop>(
+    alloc: Global,
+    watched: &WatchedCard,
+    file: Option<V>,
+) -> Result<(), ServeFault> {
+    let Some(mut file) = file else {
+        return Ok(());
+    };
+    save(alloc, &watched.card, &mut file)?;
+    match file.flush() {
+        Ok(()) => Ok(()),
+        Err(_) => Err(ServeFault::Save),
+    }
+}
+
+// Serves, and explains, draws and saves as the options say.
+fn serve_more<R: Files + Print + AllocGlobal, C: Read, S: Read, I: Read>(
+    rt: &R,
+    card: &mut C,
+    script: &mut S,
+    image: &mut Option<I>,
+    options: &Options<'_>,
+) -> Result<u8, ServeFault> {
+    let alloc = rt.alloc();
+    let FilesRead { spec, plan, script } = read_files(alloc, card, script, image)?;
+    let known = known_card(&spec);
+    let card = built(alloc, spec, plan.as_slice())?;
+    let wave = named_file(rt, options.vcd, ServeFault::Vcd)?;
+    let image = named_file(rt, options.save, ServeFault::Save)?;
+    let Ok(mut out) = BufWriter::new(alloc, io::writer(rt)) else {
+        return Err(ServeFault::NoMemory);
+    };
+    let card = WatchedCard::new(card);
+    let (served, drawn) = serve_drawn(alloc, card, script, shown(options), wave, &mut out);
+    let Served { bus, kept, status } = served;
+    let explained = match (kept, &status) {
+        (Some(kept), Ok(_)) => put_explained(
+            alloc,
+            known,
+            kept.as_slice(),
+            &bus,
+            plan.as_slice(),
+            &mut out,
+        ),
+        _ => Ok(()),
+    };
+    let flushed = out.flush();
+    finish_wave(drawn)?;
+    finish_save(alloc, &bus, image)?;
+    let status = status?;
+    explained?;
+    match flushed {
+        Ok(()) => Ok(status),
+        Err(_) => Err(ServeFault::Write),
+    }
+}
+
+/// Opens the files that the options name, the card's first and the image last, and serves. Files that are written must not be
+/// there yet.
+///
+/// # Errors
+/// `ReadCard`, `ReadScript` or `ReadImage` of a file that can't be opened; then those of `serve`; `Vcd` and `Save` of the files
+/// that are written.
+pub fn serve_files(
+    rt: &(impl Files + Print + AllocGlobal),
+    options: &Options<'_>,
+) -> Result<u8, ServeFault> {
+    let Ok(mut card) = File::open(rt, options.card) else {
+        return Err(ServeFault::ReadCard);
+    };
+    let Ok(mut script) = File::open(rt, options.script) else {
+        return Err(ServeFault::ReadScript);
+    };
+    let mut image = match options.image {
+        None => None,
+        Some(name) => match File::open(rt, name) {
+            Ok(image) => Some(image),
+            Err(_) => return Err(ServeFault::ReadImage),
+        },
+    };
+    if options.explains || options.vcd.is_some() || options.save.is_some() {
+        serve_more(rt, &mut card, &mut script, &mut image, options)
+    } else {
+        serve_buffered(rt, &mut card, &mut script, &mut image, options.trace)
+    }
+}
