@@ -56,7 +56,11 @@ fn prepared<B: Bus>(bus: &mut B, stands: Stands, part: Part) -> Result<Session, 
     select(bus, session, part)
 }
 
-// One attempt at a read.
+/// One attempt at a read of a request that isn't refused, of so many sectors as there are blocks; each block that was read is left in
+/// its place.
+///
+/// # Errors
+/// `Broken` where the card couldn't be settled or selected, or the run failed; its cause is that of the exchange.
 pub fn try_read<B: Bus, D: BlocksMut>(
     bus: &mut B,
     stands: Stands,
@@ -80,7 +84,10 @@ pub fn try_read<B: Bus, D: BlocksMut>(
     read_run(bus, session, start, blocks)
 }
 
-// One attempt at a write.
+/// One attempt at a write of a request that isn't refused, of so many sectors as there are blocks.
+///
+/// # Errors
+/// As `try_read`; each of the sectors is old or new then.
 pub fn try_write<B: Bus, D: Blocks>(
     bus: &mut B,
     stands: Stands,
@@ -100,7 +107,10 @@ pub fn try_write<B: Bus, D: Blocks>(
     write_run(bus, session, start, blocks)
 }
 
-// One attempt at an erase or a trim.
+/// One attempt at an erase or a trim of so many sectors, by a request that isn't refused.
+///
+/// # Errors
+/// As `try_read`; each of the sectors is as before or erased then.
 pub fn try_erase<B: Bus>(
     bus: &mut B,
     stands: Stands,
