@@ -32,14 +32,14 @@ use Rattle.mmc_card.specs.declared.part.Part.{Part}
 use Rattle.mmc_card.specs.declared.part.Part.TheVariants.{Boot1, Boot2, Gp1, Gp2, Gp3, Gp4, User}
 use Rattle.mmc_card_sim.specs.CardSpec.{HasOwnWidths, HasWidths, each_register_is_taken, has_cid, has_csd}
 use Rattle.mmc_card_sim.specs.CardSpec.{has_no_ready_bit, has_ocr, image_fits, kind_is_taken, mmc_sizes}
-use Rattle.mmc_card_sim.specs.CardSpec.{sd_sizes, sizes_of, takes_image, works_at_3_3_volts}
+use Rattle.mmc_card_sim.specs.CardSpec.{sd_sizes, sizes_of, takes_image_within, works_at_3_3_volts}
 use Rattle.mmc_card_sim.specs.Registers.{ext_csd_of, kind_of, made_of, scr_of, switch_status_by}
 use Rattle.mmc_card_sim.specs.Registers.{switch_status_of}
 use Rattle.mmc_card_sim.specs.Sizes.{total}
 use Rattle.mmc_card_sim.specs.declared.registers.KindRegisters.{KindRegisters}
 use Rattle.mmc_card_sim.specs.declared.registers.KindRegisters.TheVariants.{Mmc, Sd}
 use Rattle.mmc_card_sim.specs.declared.registers.Registers.{Registers}
-use Rattle.mmc_card_sim.specs.declared.store.TheConstants.{MAX_SECTORS}
+use Rattle.mmc_card_sim.specs.declared.store.TheConstants.{MAX_LARGE}
 
 -- Registers that are taken.
 
@@ -163,33 +163,33 @@ sd_unit (MmcCsd csd) h = absurd h
 at_most : (n limit : ℕ) → nat_le n limit ≡ true → n ≤ limit
 at_most n limit h = grind (arith, nat_tests, h)
 
--- it has at most MAX_SECTORS sectors
-pub few_sectors : (sizes : List ℕ) (image : Option (List ℕ)) → takes_image sizes image ≡ true
-    → total sizes ≤ MAX_SECTORS
-few_sectors sizes image h =
-    at_most _ MAX_SECTORS (and_true (nat_le (total sizes) MAX_SECTORS) (image_fits image (total sizes)) h).0
+-- it has at most so many sectors as it may have
+pub few_sectors : (limit : ℕ) (sizes : List ℕ) (image : Option (List ℕ)) → takes_image_within limit sizes image ≡ true
+    → total sizes ≤ limit
+few_sectors limit sizes image h =
+    at_most _ limit (and_true (nat_le (total sizes) limit) (image_fits image (total sizes)) h).0
 
 length_of : (bytes : List ℕ) (size : ℕ) → (length bytes == size) ≡ true → length bytes ≡ size
 length_of bytes size h = grind (arith, nat_tests, h)
 
 -- an image has 512 bytes for each of them
-pub image_length : (sizes : List ℕ) (image : Option (List ℕ)) → takes_image sizes image ≡ true
+pub image_length : (limit : ℕ) (sizes : List ℕ) (image : Option (List ℕ)) → takes_image_within limit sizes image ≡ true
     → IfSome image (λ bytes. length bytes ≡ 512 * total sizes)
-image_length sizes None h = tt
-image_length sizes (Some bytes) h =
+image_length limit sizes None h = tt
+image_length limit sizes (Some bytes) h =
     length_of bytes (512 * total sizes)
-    (and_true (nat_le (total sizes) MAX_SECTORS) (image_fits (Some bytes) (total sizes)) h).1
+    (and_true (nat_le (total sizes) limit) (image_fits (Some bytes) (total sizes)) h).1
 
 size_within : (sizes : List ℕ) (i : ℕ) → slice_index_or sizes i 0 ≤ total sizes
 size_within [] i = omega arith
 size_within (size ∷ sizes) zero = omega arith
 size_within (size ∷ sizes) (suc i) = omega (arith, size_within sizes i)
 
-exists : (size : ℕ) (addressing : Addressing) → size ≤ MAX_SECTORS → size ≡ existing_sectors size addressing
+exists : (size : ℕ) (addressing : Addressing) → size ≤ MAX_LARGE → size ≡ existing_sectors size addressing
 exists size Bytes h = grind (arith, nat_tests, h)
 exists size Sectors h = grind (arith, nat_tests, h)
 
-mmc_size : (made : Made) → total (mmc_sizes (user_sectors made) made.ext_csd) ≤ MAX_SECTORS → (part : Part)
+mmc_size : (made : Made) → total (mmc_sizes (user_sectors made) made.ext_csd) ≤ MAX_LARGE → (part : Part)
     → slice_index_or (mmc_sizes (user_sectors made) made.ext_csd) (part_number part) 0 ≡ mmc_sectors made part
 mmc_size made few part =
     let sizes = mmc_sizes (user_sectors made) made.ext_csd in
@@ -216,7 +216,7 @@ sd_size made Gp3 = refl
 sd_size made Gp4 = refl
 
 size_by : (b : Bool) (made : Made)
-    → total (if b then sd_sizes (user_sectors made) else mmc_sizes (user_sectors made) made.ext_csd) ≤ MAX_SECTORS
+    → total (if b then sd_sizes (user_sectors made) else mmc_sizes (user_sectors made) made.ext_csd) ≤ MAX_LARGE
     → (part : Part)
     → slice_index_or
     (if b then sd_sizes (user_sectors made) else mmc_sizes (user_sectors made) made.ext_csd)
@@ -226,7 +226,7 @@ size_by true made few part = sd_size made part
 size_by false made few part = mmc_size made few part
 
 -- no general purpose partition is too large to exist
-pub sizes_exist : (registers : Registers) → total (sizes_of registers) ≤ MAX_SECTORS → (part : Part)
+pub sizes_exist : (registers : Registers) → total (sizes_of registers) ≤ MAX_LARGE → (part : Part)
     → slice_index_or (sizes_of registers) (part_number part) 0 ≡ sectors_in (made_of registers) part
 sizes_exist registers few part = size_by (is_sd (kind_of registers.kind)) (made_of registers) few part
 

@@ -13,8 +13,9 @@ use Rattle.mmc_card.specs.Card.{AreBlocks, landed_in}
 use Rattle.mmc_card.specs.Sectors.{Sector, part_number, pieces}
 use Rattle.mmc_card.specs.declared.part.Part.{Part}
 use Rattle.mmc_card.specs.declared.part.Part.TheVariants.{Boot1, Boot2, Gp1, Gp2, Gp3, Gp4, User}
+use Rattle.mmc_card_sim.specs.SectorLists.{first_sectors}
 use Rattle.mmc_card_sim.specs.Sizes.{total}
-use Rattle.mmc_card_sim.specs.Store.{first_sectors, split}
+use Rattle.mmc_card_sim.specs.Store.{split}
 
 -- Where a partition stands.
 

@@ -95,22 +95,37 @@ abbrev pub image_fits : Option (List ℕ) → ℕ → Bool
 image_fits None sectors = true
 image_fits (Some bytes) sectors = length bytes == 512 * sectors
 
--- partitions of these sizes aren't too large together, and the image is theirs
-abbrev pub takes_image : List ℕ → Option (List ℕ) → Bool
-takes_image sizes image = nat_le (total sizes) MAX_SECTORS && image_fits image (total sizes)
+-- partitions of these sizes have at most `limit` sectors together, and the image is theirs
+abbrev pub takes_image_within : ℕ → List ℕ → Option (List ℕ) → Bool
+takes_image_within limit sizes image = nat_le (total sizes) limit && image_fits image (total sizes)
 
-abbrev pub image_is_taken : CardSpec → Bool
-image_is_taken spec = takes_image (sizes_of spec.registers) spec.image
+abbrev pub image_is_taken_within : ℕ → CardSpec → Bool
+image_is_taken_within limit spec = takes_image_within limit (sizes_of spec.registers) spec.image
 
--- why a card isn't built by it, where it isn't
-abbrev pub refusal_of : CardSpec → Option BuildFault
-refusal_of spec =
-    if registers_are_taken spec then (if image_is_taken spec then None else Some ImageSize) else Some Register
+-- why no card of at most `limit` sectors is built by it, where none is
+abbrev pub refusal_within : ℕ → CardSpec → Option BuildFault
+refusal_within limit spec =
+    if registers_are_taken spec then (if image_is_taken_within limit spec then None else Some ImageSize)
+    else Some Register
 
 -- a fault of building names the first rule that refuses the spec, or want of memory where none does
+abbrev pub IsRefusalWithin : ℕ → CardSpec → BuildFault → Type 0
+IsRefusalWithin limit spec NoMemory = refusal_within limit spec ≡ None
+IsRefusalWithin limit spec why = refusal_within limit spec ≡ Some why
+
+-- The same of a card of the usual size, at most MAX_SECTORS sectors.
+
+abbrev pub takes_image : List ℕ → Option (List ℕ) → Bool
+takes_image sizes image = takes_image_within MAX_SECTORS sizes image
+
+abbrev pub image_is_taken : CardSpec → Bool
+image_is_taken spec = image_is_taken_within MAX_SECTORS spec
+
+abbrev pub refusal_of : CardSpec → Option BuildFault
+refusal_of spec = refusal_within MAX_SECTORS spec
+
 abbrev pub IsRefusal : CardSpec → BuildFault → Type 0
-IsRefusal spec NoMemory = refusal_of spec ≡ None
-IsRefusal spec why = refusal_of spec ≡ Some why
+IsRefusal spec why = IsRefusalWithin MAX_SECTORS spec why
 
 -- this is the CSD in these registers
 abbrev pub IsCsdOf : Registers → Csd → Type 0

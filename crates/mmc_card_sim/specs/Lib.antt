@@ -5,6 +5,7 @@ pub mod ExampleCards
 pub mod FaultyExchanges
 pub mod Plan
 pub mod Registers
+pub mod SectorLists
 pub mod SimView
 pub mod Sizes
 pub mod Store

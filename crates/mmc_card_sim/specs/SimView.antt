@@ -9,8 +9,9 @@ use Rattle.mmc_card.specs.Made.{erased_byte_of_card}
 use Rattle.mmc_card_sim.specs.CardSpec.{sizes_of}
 use Rattle.mmc_card_sim.specs.Plan.{fault_at, to_come}
 use Rattle.mmc_card_sim.specs.Registers.{last_rca_by, made_of, rca_changes_by}
+use Rattle.mmc_card_sim.specs.SectorLists.{first_sectors}
 use Rattle.mmc_card_sim.specs.Sizes.{total}
-use Rattle.mmc_card_sim.specs.Store.{first_sectors, split}
+use Rattle.mmc_card_sim.specs.Store.{split}
 use Rattle.mmc_card_sim.specs.declared.delays.Delays.{Delays}
 use Rattle.mmc_card_sim.specs.declared.fault.Fault.{Fault}
 use Rattle.mmc_card_sim.specs.declared.plan.Planned.{Planned}

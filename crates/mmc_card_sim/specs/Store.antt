@@ -1,9 +1,10 @@
 -- The sectors of a card in memory, and what is unfinished in them.
-use Rattle.std.specs.Prelude.{◌∷◌, Bool, List, None, Option, Some, [], drop, false, replicate, slice_index_or}
-use Rattle.std.specs.Prelude.{slice_set, take, true, ℕ}
+use Rattle.std.specs.Prelude.{◌++◌, ◌∷◌, Bool, List, [], drop, false, replicate, slice_index_or, slice_set, take}
+use Rattle.std.specs.Prelude.{true, ℕ}
 use Rattle.std.specs.List.{flat_map}
+use Rattle.mmc_bus.specs.Bytes.{blocks_in}
 use Rattle.mmc_card.specs.Card.{landed_in}
-use Rattle.mmc_card.specs.Sectors.{Sector, part_number, pieces}
+use Rattle.mmc_card.specs.Sectors.{Sector, part_number}
 use Rattle.mmc_card.specs.declared.part.Part.{Part}
 use Rattle.mmc_card_sim.specs.declared.fault.Outcome.{Outcome}
 use Rattle.mmc_card_sim.specs.declared.fault.Outcome.TheVariants.{New, Old}
@@ -18,13 +19,8 @@ abbrev pub split : List ℕ → List Sector → List (List Sector)
 split [] sectors = []
 split (n ∷ sizes) sectors = take n sectors ∷ split sizes (drop n sectors)
 
--- the sectors of a new card: those of an image, or all with this byte
-abbrev pub first_sectors : Option (List ℕ) → ℕ → ℕ → List Sector
-first_sectors (Some image) count erased = pieces count image
-first_sectors None count erased = replicate count (replicate 512 erased)
-
 abbrev pub parts_of : Store → List (List Sector)
-parts_of store = split store.sizes store.sectors.items
+parts_of store = split store.sizes (blocks_in store.bytes.items)
 
 abbrev pub part_of : Store → Part → List Sector
 part_of store part = slice_index_or (parts_of store) (part_number part) []
@@ -33,9 +29,9 @@ part_of store part = slice_index_or (parts_of store) (part_number part) []
 abbrev pub bytes_of : List Sector → List ℕ
 bytes_of sectors = flat_map (λ (sector : Sector). sector) sectors
 
--- the new values that the write or erase has so far
+-- the new values that the write or erase has so far: of an erase so many sectors that are all one byte, and the blocks of a write
 abbrev pub values_of : Store → List Sector
-values_of store = take store.count store.new_values.items
+values_of store = replicate store.erased_count (replicate 512 store.erased_byte) ++ store.blocks.items
 
 -- which new values land: none, or all
 abbrev pub lands_by : Outcome → ℕ → Bool

@@ -5,7 +5,7 @@ ghost use Rattle.mmc_frame.specs.declared.card_state.State.TheVariants.{Data};
 ghost use Rattle.mmc_card.specs.Blocks.{is_last, one_less};
 ghost use Rattle.mmc_card.specs.Card.{AreAmong, is_in};
 ghost use Rattle.mmc_card.specs.ErrorBits.{error_bits};
-ghost use Rattle.mmc_card_sim.specs.declared.store.TheConstants.{MAX_SECTORS};
+ghost use Rattle.mmc_card_sim.specs.declared.store.TheConstants.{MAX_LARGE};
 
 use crate::chip::{Chip, Source};
 use crate::switch_rows::{timing_number, width_number};
@@ -72,7 +72,7 @@ impl Chip {
         requires { self.now.next < length (stored (card_of self.now) self.now.part) }
         ensures errors { bits_in result ≡ 2 ^ 13 * end_errors true (card_of self.now) }
         ensures known { AreAmong (bits_in result) (2 ^ 13 * error_bits) }
-        ensures few { self.now.next < MAX_SECTORS }
+        ensures few { self.now.next < MAX_LARGE }
     {
         let size = self.store.size(self.part);
         if self.left.is_none() && self.next + 1 == size {

@@ -8,16 +8,15 @@ ghost use Rattle.mmc_regs.specs.Register.{register_number};
 ghost use Rattle.mmc_card.specs.Made.{HasRegisters, erase_unit_of_card, is_read_only, named_block_length, sectors_in};
 ghost use Rattle.mmc_card.specs.Sectors.{part_number};
 ghost use Rattle.mmc_card.specs.declared.part.Part.{Part};
-ghost use Rattle.mmc_card_sim.specs.CardSpec.{HasWidths, IsCsdOf, IsRefusal, each_register_is_taken, has_ocr};
-ghost use Rattle.mmc_card_sim.specs.CardSpec.{has_early_bits, has_short_waits, has_user_sectors, kind_is_taken, refusal_of, sizes_of};
-ghost use Rattle.mmc_card_sim.specs.CardSpec.{takes_image};
+ghost use Rattle.mmc_card_sim.specs.CardSpec.{HasWidths, IsCsdOf, IsRefusalWithin, each_register_is_taken, has_ocr};
+ghost use Rattle.mmc_card_sim.specs.CardSpec.{has_early_bits, has_short_waits, has_user_sectors, kind_is_taken};
+ghost use Rattle.mmc_card_sim.specs.CardSpec.{refusal_within, sizes_of, takes_image_within};
 ghost use Rattle.mmc_card_sim.specs.Registers.{made_of};
 ghost use Rattle.mmc_card_sim.specs.Sizes.{total};
-ghost use Rattle.mmc_card_sim.specs.declared.store.TheConstants.{MAX_SECTORS};
+ghost use Rattle.mmc_card_sim.specs.declared.store.TheConstants.{MAX_LARGE};
 
 use crate::registers::{KindRegisters, Registers};
 use crate::spec::{BuildFault, CardSpec};
-use crate::store::MAX_SECTORS;
 use byteorder::{BigEndian, ByteOrder};
 use mmc_bus::Bytes;
 use mmc_ext_csd::ExtCsd;
@@ -26,7 +25,7 @@ use mmc_regs::{Csd, Ocr, read_cid, read_csd};
 /// What the registers of a spec come to.
 #[derive(Clone, Copy, Debug, PartialEq, Eq)]
 pub struct Judged {
-    /// The seven partitions' sizes in sectors, in the order of `Part`, at most `MAX_SECTORS` together.
+    /// The seven partitions' sizes in sectors, in the order of `Part`, at most `MAX_LARGE` together.
     pub sizes: [usize; 7],
     /// The erase unit in sectors, 1 to 2^20.
     pub erase_unit: usize,
@@ -36,16 +35,17 @@ pub struct Judged {
     pub named_length: u32,
 }
 
-/// What the registers of a spec come to, where no rule refuses it.
+/// What the registers of a spec come to, where no rule refuses it, for a card of at most `limit` sectors.
 ///
 /// # Errors
 /// The first that holds: `Register` or `ImageSize`, as said there; never `NoMemory`.
-pub fn judge(spec: &CardSpec) -> Result<Judged, BuildFault>
-    ensures refused { IfErr result (λ why. IsRefusal spec.now why) }
-    ensures taken { OnOk result (refusal_of spec.now ≡ None) }
+pub fn judge(spec: &CardSpec, limit: usize) -> Result<Judged, BuildFault>
+    requires { limit ≤ MAX_LARGE }
+    ensures refused { IfErr result (λ why. IsRefusalWithin limit spec.now why) }
+    ensures taken { OnOk result (refusal_within limit spec.now ≡ None) }
     ensures soon_ready { OnOk result (spec.now.ready ≤ 8) }
     ensures soon_rested { OnOk result (spec.now.busy ≤ 8) }
-    ensures few { IfOk result (λ judged. total judged.sizes ≤ MAX_SECTORS) }
+    ensures few { IfOk result (λ judged. total judged.sizes ≤ MAX_LARGE) }
     ensures image { IfOk result (λ judged. IfSome spec.now.image (λ bytes. length bytes ≡ 512 * total judged.sizes)) }
     ensures image_bytes { OnOk result (IfSome spec.now.image AreBytes) }
     ensures exist { IfOk result (λ judged. (part : Part)
@@ -68,7 +68,7 @@ pub fn judge(spec: &CardSpec) -> Result<Judged, BuildFault>
     {
         return Err(BuildFault::Register);
     }
-    if !takes_image(&sizes, &spec.image) {
+    if !takes_image(&sizes, &spec.image, limit) {
         return Err(BuildFault::ImageSize);
     }
     tell_image(&spec.image);
@@ -192,15 +192,15 @@ fn sizes_by(registers: &Registers, csd: &Csd) -> [usize; 7]
     }
 }
 
-// The sum of these sizes, where it is at most `MAX_SECTORS`.
-fn total(sizes: &[usize; 7]) -> Option<usize>
-    ensures large { IfNone result (MAX_SECTORS < total sizes.now) }
+// The sum of these sizes, where it is at most `limit`.
+fn total(sizes: &[usize; 7], limit: usize) -> Option<usize>
+    ensures large { IfNone result (limit < total sizes.now) }
     ensures sum { IfSome result (λ sum. sum ≡ total sizes.now) }
-    ensures small { IfSome result (λ sum. sum ≤ MAX_SECTORS) }
+    ensures small { IfSome result (λ sum. sum ≤ limit) }
 {
     let mut sum = 0;
     for size in sizes {
-        if *size > MAX_SECTORS - sum {
+        if *size > limit - sum {
             return None;
         }
         sum += *size;
@@ -208,10 +208,11 @@ fn total(sizes: &[usize; 7]) -> Option<usize>
     Some(sum)
 }
 
-fn takes_image(sizes: &[usize; 7], image: &Option<Bytes>) -> bool
-    ensures { result ≡ takes_image sizes.now image.now }
+fn takes_image(sizes: &[usize; 7], image: &Option<Bytes>, limit: usize) -> bool
+    requires { limit ≤ MAX_LARGE }
+    ensures { result ≡ takes_image_within limit sizes.now image.now }
 {
-    let Some(sectors) = total(sizes) else {
+    let Some(sectors) = total(sizes, limit) else {
         return false;
     };
     match image {

@@ -28,4 +28,4 @@ pub use plan::{MAX_PLANNED, Plan, PlanFault, Planned};
 pub use registers::{KindRegisters, MmcRegisters, Registers, SdRegisters};
 pub use sim_card::SimCard;
 pub use spec::{BuildFault, CardSpec, Refusal};
-pub use store::MAX_SECTORS;
+pub use store::{MAX_LARGE, MAX_SECTORS};

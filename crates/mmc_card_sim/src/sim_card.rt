@@ -5,6 +5,7 @@ ghost use Rattle.mmc_card_sim.specs.Plan.{fault_at, refusal_of};
 ghost use Rattle.mmc_card_sim.specs.FaultyExchanges.{Commands, Polls, Reads, Writes, fits_command, fits_poll};
 ghost use Rattle.mmc_card_sim.specs.FaultyExchanges.{fits_read, fits_write};
 ghost use Rattle.mmc_card_sim.specs.SimView.{first_delays, planned_fault, sim_bus_view};
+ghost use Rattle.mmc_card_sim.specs.declared.store.TheConstants.{MAX_LARGE};
 
 use crate::chip::Chip;
 use crate::delays::Delays;
@@ -12,7 +13,7 @@ use crate::fault::Fault;
 use crate::judging::judge;
 use crate::plan::{Plan, PlanFault};
 use crate::spec::{BuildFault, CardSpec};
-use crate::store::Store;
+use crate::store::{MAX_LARGE, MAX_SECTORS, Store};
 use mmc_bus::{Bus, Wire};
 use mmc_card::{DataIn, DataOut, Exchange, Lines, Part, Reply, Timing, Want, Width, laws};
 use std::alloc::Global;
@@ -83,7 +84,8 @@ impl SimCard {
     ghost use Rattle.mmc_bus.specs.Wires.{IsUnused};
     ghost use Rattle.mmc_card.specs.Card.{HasItsSizes, IsCard, powered_on, stored};
     ghost use Rattle.mmc_card_sim.specs.Chip.{card_of, delays_after};
-    ghost use Rattle.mmc_card_sim.specs.CardSpec.{IsRefusal, refusal_of as spec_refusal};
+    ghost use Rattle.mmc_card_sim.specs.CardSpec.{IsRefusal, IsRefusalWithin, refusal_of as spec_refusal};
+    ghost use Rattle.mmc_card_sim.specs.CardSpec.{refusal_within};
     ghost use Rattle.mmc_card_sim.specs.Registers.{made_of};
     ghost use Rattle.mmc_card_sim.specs.SimView.{first_parts};
     ghost use Rattle.mmc_card_sim.specs.Store.{bytes_of};
@@ -107,7 +109,40 @@ impl SimCard {
         }
     }
 
-    /// The card of this spec, after power on, without a planned fault.
+    // The card of this spec, if all its partitions have at most `limit` sectors together.
+    fn build_within(alloc: Global, spec: CardSpec, limit: usize) -> Result<SimCard, BuildFault>
+        requires { limit ≤ MAX_LARGE }
+        ensures refused { IfErr result (λ why. IsRefusalWithin limit spec why) }
+        ensures taken { IsOk result → refusal_within limit spec ≡ None }
+        ensures card { IfOk result (λ sim. sim.card ≡ powered_on (made_of spec.registers) (first_parts spec)) }
+        ensures sizes { IfOk result (λ sim. HasItsSizes sim.card) }
+        ensures delays { IfOk result (λ sim. sim.delays ≡ first_delays spec) }
+        ensures unused { IfOk result (λ sim. IsUnused (sim_bus_view sim)) }
+        ensures plan { IfOk result (λ sim. sim.plan ≡ []) }
+    {
+        laws::a_card_after_power_on_is_one();
+        let judged = judge(&spec, limit)?;
+        let delays = first_delays(&spec);
+        let CardSpec {
+            registers,
+            image,
+            ..
+        } = spec;
+        let erased = registers.erased_byte();
+        let Ok(store) = Store::new(alloc, judged.sizes, image, erased) else {
+            return Err(BuildFault::NoMemory);
+        };
+        let chip = Chip::powered_on(
+            registers,
+            judged.erase_unit,
+            judged.is_read_only,
+            judged.named_length,
+            store,
+        );
+        Ok(SimCard::unused(chip, delays))
+    }
+
+    /// The card of this spec, of at most `MAX_SECTORS` sectors, after power on, without a planned fault.
     ///
     /// # Errors
     /// The first that holds: `Register` or `ImageSize`, as said there, and `NoMemory` where the room for the sectors is
@@ -121,26 +156,24 @@ impl SimCard {
         ensures unused { IfOk result (λ sim. IsUnused (sim_bus_view sim)) }
         ensures plan { IfOk result (λ sim. sim.plan ≡ []) }
     {
-        laws::a_card_after_power_on_is_one();
-        let judged = judge(&spec)?;
-        let delays = first_delays(&spec);
-        let CardSpec {
-            registers,
-            image,
-            ..
-        } = spec;
-        let erased = registers.erased_byte();
-        let Ok(store) = Store::new(alloc, judged.sizes, &image, erased) else {
-            return Err(BuildFault::NoMemory);
-        };
-        let chip = Chip::powered_on(
-            registers,
-            judged.erase_unit,
-            judged.is_read_only,
-            judged.named_length,
-            store,
-        );
-        Ok(SimCard::unused(chip, delays))
+        SimCard::build_within(alloc, spec, MAX_SECTORS)
+    }
+
+    /// As `build`, for a card of at most `MAX_LARGE` sectors. An image is taken over without a copy, and room for as
+    /// many bytes again is taken that is touched only as blocks are written.
+    ///
+    /// # Errors
+    /// Those of `build`, in their order.
+    pub fn build_large(alloc: Global, spec: CardSpec) -> Result<SimCard, BuildFault>
+        ensures refused { IfErr result (λ why. IsRefusalWithin MAX_LARGE spec why) }
+        ensures taken { IsOk result → refusal_within MAX_LARGE spec ≡ None }
+        ensures card { IfOk result (λ sim. sim.card ≡ powered_on (made_of spec.registers) (first_parts spec)) }
+        ensures sizes { IfOk result (λ sim. HasItsSizes sim.card) }
+        ensures delays { IfOk result (λ sim. sim.delays ≡ first_delays spec) }
+        ensures unused { IfOk result (λ sim. IsUnused (sim_bus_view sim)) }
+        ensures plan { IfOk result (λ sim. sim.plan ≡ []) }
+    {
+        SimCard::build_within(alloc, spec, MAX_LARGE)
     }
 
     /// How many exchanges were made; the number stays at 2^64 - 1.

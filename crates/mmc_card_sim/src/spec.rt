@@ -35,8 +35,8 @@ pub struct CardSpec {
     /// How many statuses lag behind each programming and still show prg: they and the polls that were answered yes are as many
     /// as this and the delay of busy say, 8 at most.
     pub lagging: u8,
-    /// The bytes of all sectors, 512 each, a partition behind the other in the order of `Part`. Without an image all
-    /// bytes are the erased byte.
+    /// The bytes of all sectors, 512 each, a partition behind the other in the order of `Part`; the card keeps its
+    /// sectors in them. Without an image all bytes are the erased byte.
     pub image: Option<Bytes>,
 }
 
@@ -48,7 +48,8 @@ pub enum BuildFault {
     /// `ready` or `busy` is above 8, or `early` above 3; the user partition has no sector, or not as many as `sectors` says.
     #[error("a register is refused")]
     Register,
-    /// All partitions together have more than `MAX_SECTORS` sectors, or the image hasn't 512 bytes for each of them.
+    /// All partitions together have more sectors than the card that is built may have, `MAX_SECTORS` by
+    /// `SimCard::build` and `MAX_LARGE` by `SimCard::build_large`, or the image hasn't 512 bytes for each of them.
     #[error("the image has another size")]
     ImageSize,
     /// The room for the sectors is refused.

@@ -1,32 +1,41 @@
 // The sectors of a card in memory, and the write or erase of them that is unfinished.
-ghost use Rattle.std.specs.Prelude.{◌*◌, ◌+◌, ◌++◌, ◌/◌, ◌<◌, ◌^◌, ◌∷◌, ◌≡◌, ◌≤◌, IfOk, IfSome, None, Some, []};
+ghost use Rattle.std.specs.Prelude.{◌*◌, ◌+◌, ◌++◌, ◌<◌, ◌^◌, ◌∷◌, ◌≡◌, ◌≤◌, IfOk, IfSome, None, Some, []};
 ghost use Rattle.std.specs.Prelude.{if◌then◌else◌, length, nat_le, nat_lt, replicate, slice_index_or, slice_set, take, true};
-ghost use Rattle.mmc_card.specs.Sectors.{part_number, pieces};
+ghost use Rattle.std.specs.Prelude.{vec_capacity, vec_len};
+ghost use Rattle.mmc_bus.specs.Bytes.{blocks_in};
+ghost use Rattle.mmc_card.specs.Sectors.{part_number};
+ghost use Rattle.mmc_card_sim.specs.SectorLists.{first_sectors, with_values};
 ghost use Rattle.mmc_card_sim.specs.Sizes.{total};
-ghost use Rattle.mmc_card_sim.specs.declared.store.TheConstants.{MAX_SECTORS};
+ghost use Rattle.mmc_card_sim.specs.declared.store.TheConstants.{MAX_LARGE};
 
 use crate::fault::Outcome;
-use mmc_bus::{Bytes, NoMemory};
+use mmc_bus::Bytes;
 use mmc_card::Part;
-use std::alloc::Global;
+use std::alloc::{AllocError, Global};
 
-/// The most sectors that a card in memory may have, in all its partitions together.
+/// The most sectors of a card that `SimCard::build` makes, in all its partitions together.
 pub const MAX_SECTORS: usize = 65_536;
+
+/// The most sectors that any card in memory may have, in all its partitions together.
+pub const MAX_LARGE: usize = 4_194_304;
 
 /// The sectors of a card, as they were before the write or erase that is unfinished, and its new values so far.
 #[derive(Debug, Drop)]
 pub struct Store {
-    // The partitions one behind the other, in the order of `Part`, and how many sectors each has.
-    sectors: Vec<[u8; 512]>,
+    // The bytes of the partitions one behind the other, in the order of `Part`, and how many sectors each has.
+    bytes: Vec<u8>,
     sizes: [usize; 7],
-    // The first sector of what is unfinished, counted in its partition, and its new values: the first `count` of these.
+    // The first sector of what is unfinished, counted in its partition, and its new values: so many sectors that an
+    // erase makes all one byte, which are kept as their number, and behind them the blocks of a write. The room for
+    // blocks is taken at once, so that no block is refused, and is touched only as they come.
     start: usize,
-    new_values: Vec<[u8; 512]>,
-    count: usize,
-    ghost few: { length sectors.items ≤ MAX_SECTORS },
-    ghost whole: { total sizes ≡ length sectors.items },
-    ghost room: { length new_values.items ≡ length sectors.items },
-    ghost counted: { count ≤ length new_values.items },
+    erased_count: usize,
+    erased_byte: u8,
+    blocks: Vec<[u8; 512]>,
+    ghost few: { total sizes ≤ MAX_LARGE },
+    ghost whole: { length bytes.items ≡ 512 * total sizes },
+    ghost room: { total sizes ≤ vec_capacity blocks },
+    ghost counted: { erased_count + vec_len blocks ≤ total sizes },
 }
 
 // The place of a partition among the seven.
@@ -57,89 +66,77 @@ pub(crate) fn total(sizes: &[usize]) -> usize
     sum
 }
 
-// So many sectors that are all this byte.
-fn erased_sectors(alloc: Global, count: usize, erased: u8) -> Result<Vec<[u8; 512]>, NoMemory>
-    ensures { IfOk result (λ sectors. sectors.items ≡ replicate count (replicate 512 erased)) }
+// The bytes of so many sectors of a new card: those of an image, taken over without a copy, or all this byte.
+fn first_bytes(
+    alloc: Global,
+    count: usize,
+    image: Option<Bytes>,
+    erased: u8,
+) -> Result<Vec<u8>, AllocError>
+    requires few { count ≤ MAX_LARGE }
+    requires image { IfSome image (λ bytes. length bytes ≡ 512 * count) }
+    ensures len { IfOk result (λ bytes. length bytes.items ≡ 512 * count) }
+    ensures sectors { IfOk result (λ bytes. blocks_in bytes.items ≡ first_sectors image count erased) }
 {
-    let mut sectors = Vec::new(alloc);
-    for _ in 0..count {
-        sectors.push([erased; 512])?;
+    match image {
+        Some(bytes) => Ok(bytes.into_vec()),
+        None => Ok(vec![in alloc; erased; 512 * count]?),
     }
-    Ok(sectors)
 }
 
-// The sectors of an image.
-fn image_sectors(alloc: Global, image: &[u8]) -> Result<Vec<[u8; 512]>, NoMemory>
-    ensures { IfOk result (λ sectors. sectors.items ≡ pieces (length image.now / 512) image.now) }
+// Makes so many sectors, from this one on, all this byte.
+fn erase_sectors(bytes: &mut [u8], first: usize, count: usize, erased: u8)
+    requires { 512 * (first + count) ≤ length bytes.old }
+    ensures sectors { blocks_in bytes.new
+        ≡ with_values (blocks_in bytes.old) first (replicate count (replicate 512 erased)) }
+    ensures len { length bytes.new ≡ length bytes.old }
 {
-    let (pieces, _) = image.as_chunks::<512>();
-    let mut sectors = Vec::new(alloc);
-    for piece in pieces {
-        sectors.push(*piece)?;
-    }
-    Ok(sectors)
+    bytes[512 * first..512 * (first + count)].fill(erased);
 }
 
-// Makes the first `count` sectors all this byte.
-fn erase_first(sectors: &mut Vec<[u8; 512]>, count: usize, erased: u8)
-    requires { count ≤ length sectors.old.items }
-    ensures front { take count sectors.new.items ≡ replicate count (replicate 512 erased) }
-    ensures len { length sectors.new.items ≡ length sectors.old.items }
+// Gives the sectors from this one on the values of these blocks.
+fn write_sectors(bytes: &mut [u8], first: usize, blocks: &[[u8; 512]])
+    requires { 512 * (first + length blocks.now) ≤ length bytes.old }
+    ensures sectors { blocks_in bytes.new ≡ with_values (blocks_in bytes.old) first blocks.now }
+    ensures len { length bytes.new ≡ length bytes.old }
 {
-    for i in 0..count {
-        sectors[i] = [erased; 512];
-    }
+    bytes[512 * first..512 * (first + blocks.len())].copy_from_slice(blocks.as_flattened());
 }
 
 impl Store {
     ghost use Rattle.mmc_card.specs.Card.{landed_in};
-    ghost use Rattle.mmc_card_sim.specs.Store.{bytes_of, first_sectors, landed_by, parts_of, part_of, split, values_of};
+    ghost use Rattle.mmc_card_sim.specs.Store.{bytes_of, landed_by, parts_of, part_of, split, values_of};
 
-    // So many sectors of a new card, with the bytes of an image or all with this byte.
-    fn first_sectors(
-        alloc: Global,
-        count: usize,
-        image: &Option<Bytes>,
-        erased: u8,
-    ) -> Result<Vec<[u8; 512]>, NoMemory>
-        requires { IfSome image.now (λ bytes. length bytes ≡ 512 * count) }
-        ensures { IfOk result (λ sectors. sectors.items ≡ first_sectors image.now count erased) }
-    {
-        match image {
-            Some(bytes) => image_sectors(alloc, bytes.as_slice()),
-            None => erased_sectors(alloc, count, erased),
-        }
-    }
-
-    /// Partitions of these sizes, at most `MAX_SECTORS` sectors together, with the bytes of an image or all with this
-    /// byte.
+    /// Partitions of these sizes, at most `MAX_LARGE` sectors together, with the bytes of an image, which is taken over
+    /// without a copy, or all with this byte.
     pub fn new(
         alloc: Global,
         sizes: [usize; 7],
-        image: &Option<Bytes>,
+        image: Option<Bytes>,
         erased: u8,
-    ) -> Result<Store, NoMemory>
-        requires few { total sizes ≤ MAX_SECTORS }
-        requires image { IfSome image.now (λ bytes. length bytes ≡ 512 * total sizes) }
+    ) -> Result<Store, AllocError>
+        requires few { total sizes ≤ MAX_LARGE }
+        requires image { IfSome image (λ bytes. length bytes ≡ 512 * total sizes) }
         ensures sectors { IfOk result (λ store.
-            parts_of store ≡ split sizes (first_sectors image.now (total sizes) erased)) }
+            parts_of store ≡ split sizes (first_sectors image (total sizes) erased)) }
         ensures start { IfOk result (λ store. store.start ≡ 0) }
         ensures values { IfOk result (λ store. values_of store ≡ []) }
     {
         let count = total(&sizes);
         Ok(Store {
-            sectors: Store::first_sectors(alloc, count, image, erased)?,
+            bytes: first_bytes(alloc, count, image, erased)?,
             sizes,
             start: 0,
-            new_values: erased_sectors(alloc, count, erased)?,
-            count: 0,
+            erased_count: 0,
+            erased_byte: erased,
+            blocks: Vec::with_capacity(alloc, count)?,
         })
     }
 
     // Where the first sector of a partition stands.
     fn first_of(&self, part: Part) -> usize
         ensures first { result ≡ total (take (part_number part) self.now.sizes) }
-        ensures within { result + length (part_of self.now part) ≤ length self.now.sectors.items }
+        ensures within { result + length (part_of self.now part) ≤ total self.now.sizes }
     {
         total(&self.sizes[..part_number(part)])
     }
@@ -149,13 +146,14 @@ impl Store {
         ensures { result.now ≡ part_of self.now part }
     {
         let first = self.first_of(part);
-        &self.sectors[first..first + self.size(part)]
+        let (sectors, _) = self.bytes.as_chunks::<512>();
+        &sectors[first..first + self.size(part)]
     }
 
     /// How many sectors a partition has.
     pub fn size(&self, part: Part) -> usize
         ensures size { result ≡ length (part_of self.now part) }
-        ensures few { result ≤ MAX_SECTORS }
+        ensures few { result ≤ MAX_LARGE }
     {
         self.sizes[part_number(part)]
     }
@@ -183,14 +181,22 @@ impl Store {
         ensures values { values_of self.new ≡ [] }
     {
         self.start = start;
-        self.count = 0;
+        self.drop_values();
+    }
+
+    // How many sectors what is unfinished has so far.
+    fn count(&self) -> usize
+        ensures count { result ≡ length (values_of self.now) }
+        ensures few { result ≤ MAX_LARGE }
+    {
+        self.erased_count + self.blocks.len()
     }
 
     /// Whether this partition has a sector for another block of the write.
     pub fn has_next(&self, part: Part) -> bool
         ensures { result ≡ nat_lt (self.now.start + length (values_of self.now)) (length (part_of self.now part)) }
     {
-        self.count < self.size(part).saturating_sub(self.start)
+        self.count() < self.size(part).saturating_sub(self.start)
     }
 
     /// Accepts the next block of the write to this partition.
@@ -200,8 +206,7 @@ impl Store {
         ensures start { self.new.start ≡ self.old.start }
         ensures values { values_of self.new ≡ values_of self.old ++ block.now ∷ [] }
     {
-        self.new_values[self.count] = *block;
-        self.count += 1;
+        self.blocks.push(*block).unwrap();
     }
 
     /// An erase of so many sectors from this one on, to this byte.
@@ -211,9 +216,9 @@ impl Store {
         ensures start { self.new.start ≡ start }
         ensures values { values_of self.new ≡ replicate count (replicate 512 erased) }
     {
-        erase_first(&mut self.new_values, count, erased);
-        self.start = start;
-        self.count = count;
+        self.begin(start);
+        self.erased_count = count;
+        self.erased_byte = erased;
     }
 
     /// What is unfinished is over, and nothing of it has landed.
@@ -222,7 +227,8 @@ impl Store {
         ensures start { self.new.start ≡ self.old.start }
         ensures values { values_of self.new ≡ [] }
     {
-        self.count = 0;
+        self.erased_count = 0;
+        self.blocks.clear();
     }
 
     /// What is unfinished in this partition is over, and all of it has landed or nothing.
@@ -242,7 +248,7 @@ impl Store {
         ensures { result ≡ nat_le (self.now.start + length (values_of self.now)) (length (part_of self.now part)) }
     {
         let size = self.size(part);
-        self.start <= size && self.count <= size - self.start
+        self.start <= size && self.count() <= size - self.start
     }
 
     /// What has come so far of a write to this partition has landed or nothing, and the write goes on behind it.
@@ -252,7 +258,7 @@ impl Store {
         ensures start { self.new.start ≡ self.old.start + length (values_of self.old) }
         ensures values { values_of self.new ≡ [] }
     {
-        let next = self.start + self.count;
+        let next = self.start + self.count();
         self.settle(part, outcome);
         self.start = next;
     }
@@ -267,9 +273,11 @@ impl Store {
     {
         let size = self.size(part);
         let start = self.start.min(size);
-        let count = self.count.min(size - start);
+        let count = self.count().min(size - start);
+        let erased = self.erased_count.min(count);
         let first = self.first_of(part) + start;
-        self.sectors[first..first + count].copy_from_slice(&self.new_values[..count]);
-        self.count = 0;
+        erase_sectors(&mut self.bytes, first, erased, self.erased_byte);
+        write_sectors(&mut self.bytes, first + erased, &self.blocks[..count - erased]);
+        self.drop_values();
     }
 }

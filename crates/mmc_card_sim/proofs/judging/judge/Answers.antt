@@ -13,9 +13,9 @@ returns-clause-protected c =
 
 pub returns-clause-image : goal.returns-clause-image
 returns-clause-image c =
-    image_length c.sizes_by-sizes.result c.args.spec.now.image (sym c.if-not-takes_image.ensures)
+    image_length c.args.limit c.sizes_by-sizes.result c.args.spec.now.image (sym c.if-not-takes_image.ensures)
 
 pub returns-clause-exist : goal.returns-clause-exist
 returns-clause-exist c =
-    let few = few_sectors c.sizes_by-sizes.result c.args.spec.now.image (sym c.if-not-takes_image.ensures) in
+    let few = few_sectors c.args.limit c.sizes_by-sizes.result c.args.spec.now.image (sym c.if-not-takes_image.ensures) in
     rw c.sizes_by-sizes.ensures (sizes_exist c.args.spec.now.registers (rw c.sizes_by-sizes.ensures at few))

@@ -1,11 +1,10 @@
 use Rattle.std.proofs.Common.{◌≡◌, ◌≤◌, ◌+◌, drop}
 use Rattle.mmc_card_sim.specs.Sizes.{total}
-use Rattle.mmc_card_sim.specs.declared.store.TheConstants.{MAX_SECTORS}
 use Rattle.mmc_card_sim.proofs.judging.total.Given as goal
 
 -- the sizes so far and those to come are all sizes
 abbrev pub invariant-loop-size : goal.invariant-loop-size
 invariant-loop-size l = record {
-  small : l.sum ≤ MAX_SECTORS;
+  small : l.sum ≤ l.limit;
   rest : l.sum + total (drop l.size-index l.sizes) ≡ total l.fn.sizes;
 }
