@@ -106,3 +106,9 @@ pieces_flat [] long = refl
 pieces_flat (block ∷ blocks) long =
     piece_first (length blocks) block (flat_map (λ x. x) blocks) (long 0 (omega arith))
     ∙ ap (λ xs. block ∷ xs) (pieces_flat blocks (λ i below. long (suc i) (omega (arith, below))))
+
+-- how many whole sectors the bytes of so many have
+pub count_blocks : (bytes : List ℕ) (n : ℕ) → length bytes ≡ 512 * n → n ≡ length (blocks_in bytes)
+count_blocks bytes n whole =
+    let count = length_pieces (length bytes / 512) bytes in
+    omega (arith, count, whole)

@@ -1,11 +1,13 @@
 -- Partitions that stand one behind the other, and blocks that land in one of them.
-use Rattle.std.proofs.Common.{◌*◌, ◌+◌, ◌-◌, ◌<◌, ◌∙◌, ◌∷◌, ◌≡◌, ◌≤◌, List, [], ap, arith, drop, false, length, min}
-use Rattle.std.proofs.Common.{ap₂, refl, rules, suc, sym, take, true, zero, ℕ}
-use Rattle.std.proofs.lemmas.List.{drop-drop, length-drop, length-replicate, length-take, length-take-le, places}
-use Rattle.std.proofs.lemmas.List.{same_lists, take-replicate, take-take}
+use Rattle.std.proofs.Common.{◌*◌, ◌+◌, ◌++◌, ◌-◌, ◌<◌, ◌∙◌, ◌∷◌, ◌≡◌, ◌≤◌, List, [], ap, arith, drop, false, length}
+use Rattle.std.proofs.Common.{ap₂, append_assoc, min, refl, rules, suc, sym, take, true, zero, ℕ}
+use Rattle.std.proofs.Math.Seq.{drop-append-add, take-length}
+use Rattle.std.proofs.lemmas.List.{drop-drop, length-append, length-drop, length-replicate, length-take, length-take-le}
+use Rattle.std.proofs.lemmas.List.{places, same_lists, take-replicate, take-take, take_at}
 use Rattle.std.proofs.lemmas.Slice.{drop-put_mid, take-put_mid_below}
 use Rattle.std.specs.Prelude.{IfSome, None, Option, Some, replicate, slice_index_or, slice_set}
 use borrow.Rule.Slice.PartMut.{put_mid}
+use Rattle.mmc_bus.specs.Bytes.{blocks_in}
 use Rattle.mmc_frame.specs.Flips.{AreBytes}
 use Rattle.mmc_card.proofs.ByteLemmas.{block_of}
 use Rattle.mmc_card.proofs.Cards.{blocks_replicate}
@@ -13,7 +15,8 @@ use Rattle.mmc_card.specs.Card.{AreBlocks, landed_in}
 use Rattle.mmc_card.specs.Sectors.{Sector, part_number, pieces}
 use Rattle.mmc_card.specs.declared.part.Part.{Part}
 use Rattle.mmc_card.specs.declared.part.Part.TheVariants.{Boot1, Boot2, Gp1, Gp2, Gp3, Gp4, User}
-use Rattle.mmc_card_sim.specs.SectorLists.{first_sectors}
+use Rattle.mmc_card_sim.proofs.PieceLemmas.{count_blocks}
+use Rattle.mmc_card_sim.specs.SectorLists.{first_sectors, with_values}
 use Rattle.mmc_card_sim.specs.Sizes.{total}
 use Rattle.mmc_card_sim.specs.Store.{split}
 
@@ -63,6 +66,19 @@ part_within (n ∷ sizes) xs (suc p) =
     let h = part_within sizes (drop n xs) p in
     let left = length-drop n xs in
     omega (arith, h, left)
+
+-- The same of the bytes of all sectors.
+
+pub part_size : (sizes bytes : List ℕ) (p : ℕ) → p < length sizes → length bytes ≡ 512 * total sizes
+    → length (slice_index_or (split sizes (blocks_in bytes)) p []) ≡ slice_index_or sizes p 0
+part_size sizes bytes p h whole = split_part_length sizes (blocks_in bytes) p h (count_blocks bytes (total sizes) whole)
+
+pub part_fits : (sizes bytes : List ℕ) (p : ℕ) → length bytes ≡ 512 * total sizes
+    → length (slice_index_or (split sizes (blocks_in bytes)) p []) ≤ total sizes
+part_fits sizes bytes p whole =
+    let within = part_within sizes (blocks_in bytes) p in
+    let count = count_blocks bytes (total sizes) whole in
+    omega (arith, within, count)
 
 put_within : (n s k : ℕ) (xs ys : List Sector) → s + k ≤ n → n ≤ length xs → length ys ≡ k
     → take n (put_mid s k xs ys) ≡ put_mid s k (take n xs) ys
@@ -193,6 +209,69 @@ split_land sizes xs vs p start count s k at h all room hs hk e =
     split_put sizes xs (take k vs) p s k at h (omega (arith, all)) fits len e
     ∙ ap (slice_set (split sizes xs) p)
     (sym (landed_put start (take count vs) part s k hs landing ∙ ap (put_mid s k part) (take-take k count vs fewer)))
+
+-- the first values of an erase and of the blocks behind it
+take_values : (n k e j : ℕ) (v : Sector) (blocks : List Sector) → e ≡ min n k → j ≡ k - e
+    → take k (replicate n v ++ blocks) ≡ replicate e v ++ take j blocks
+take_values zero k e j v blocks he hj =
+    let none : e ≡ 0 = omega (arith, he) in
+    let all : j ≡ k = omega (arith, hj, none) in
+    rw (none, all) refl
+take_values (suc n) zero e j v blocks he hj =
+    let none : e ≡ 0 = omega (arith, he) in
+    let no_more : j ≡ 0 = omega (arith, hj) in
+    rw (none, no_more) refl
+take_values (suc n) (suc k) e j v blocks he hj =
+    let one : e ≡ suc (min n k) = omega (arith, he) in
+    rw one (ap (λ xs. v ∷ xs) (take_values n k (min n k) j v blocks refl (omega (arith, hj, one))))
+
+-- values behind others are one change
+with_two : (xs ys zs : List Sector) (at e : ℕ) → length ys ≡ e → at + e + length zs ≤ length xs
+    → with_values (with_values xs at ys) (at + e) zs ≡ with_values xs at (ys ++ zs)
+with_two xs ys zs at e len within =
+    let front : List Sector = take at xs in
+    let back : List Sector = drop (at + length ys) xs in
+    let start : length front ≡ at = length-take-le at xs (omega (arith, within)) in
+    let end : length (front ++ ys) ≡ at + e = omega (arith, length-append front ys, start, len) in
+    let sum : at + e + length zs ≡ length (front ++ ys) + length zs = omega (arith, end) in
+    let all : at + length ys + length zs ≡ at + length (ys ++ zs) = omega (arith, length-append ys zs) in
+    let tail : drop (at + e + length zs) ((front ++ ys) ++ back) ≡ drop (at + length (ys ++ zs)) xs =
+    ap (λ n. drop n ((front ++ ys) ++ back)) sum ∙ drop-append-add (front ++ ys) back (length zs)
+    ∙ drop-drop (length zs) (at + length ys) xs ∙ ap (λ n. drop n xs) all in
+    ap (λ ws. with_values ws (at + e) zs) (sym (append_assoc front ys back))
+    ∙ ap₂ (λ us ws. us ++ (zs ++ ws)) (take_at (front ++ ys) back (at + e) end) tail
+    ∙ append_assoc front ys (zs ++ drop (at + length (ys ++ zs)) xs)
+    ∙ ap (λ ws. front ++ ws) (sym (append_assoc ys zs (drop (at + length (ys ++ zs)) xs)))
+
+with_is_put : (at k : ℕ) (xs ys : List Sector) → length ys ≡ k → with_values xs at ys ≡ put_mid at k xs ys
+with_is_put at k xs ys len =
+    ap (λ zs. take at xs ++ (ys ++ zs)) (ap (λ n. drop (at + n) xs) len ∙ sym (drop-drop k at xs))
+
+-- an erase and the blocks behind it land in a partition
+pub split_values : (sizes : List ℕ) (xs blocks : List Sector) (v : Sector) (n p start s k e at : ℕ) → p < length sizes
+    → total sizes ≡ length xs → s ≡ min start (length (slice_index_or (split sizes xs) p []))
+    → k ≡ min (length (replicate n v ++ blocks)) (length (slice_index_or (split sizes xs) p []) - s)
+    → e ≡ min n k → at ≡ total (take p sizes) + s
+    → split sizes (with_values (with_values xs at (replicate e v)) (at + e) (take (k - e) blocks))
+    ≡ slice_set (split sizes xs) p
+    (landed_in (λ i. true) start (replicate n v ++ blocks) (slice_index_or (split sizes xs) p []))
+split_values sizes xs blocks v n p start s k e at h all hs hk he hat =
+    let values : List Sector = replicate n v ++ blocks in
+    let size = split_part_length sizes xs p h all in
+    let place = place_within sizes p in
+    let some : k ≤ length values = omega (arith, hk) in
+    let len : length (take k values) ≡ k = length-take-le k values some in
+    let new : replicate e v ++ take (k - e) blocks ≡ take k values = sym (take_values n k e (k - e) v blocks he refl) in
+    let first : length (replicate e v) ≡ e = length-replicate e v in
+    let both : e + length (take (k - e) blocks) ≡ k =
+    omega (arith, length-append (replicate e v) (take (k - e) blocks), first, ap length new, len) in
+    let within : at + e + length (take (k - e) blocks) ≤ length xs =
+    omega (arith, both, hat, hs, hk, size, place, all) in
+    ap (split sizes) (with_two xs (replicate e v) (take (k - e) blocks) at e first within
+    ∙ ap (with_values xs at) new ∙ with_is_put at k xs (take k values) len)
+    ∙ split_land sizes xs values p start (length values) s k at h all (omega arith) hs hk hat
+    ∙ ap (λ vs. slice_set (split sizes xs) p (landed_in (λ i. true) start vs (slice_index_or (split sizes xs) p [])))
+    (take-length values)
 
 -- where nothing lands every sector stays
 pub none_lands : (start : ℕ) (values xs : List Sector) → landed_in (λ i. false) start values xs ≡ xs

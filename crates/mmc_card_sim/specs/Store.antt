@@ -19,7 +19,7 @@ abbrev pub split : List ℕ → List Sector → List (List Sector)
 split [] sectors = []
 split (n ∷ sizes) sectors = take n sectors ∷ split sizes (drop n sectors)
 
-abbrev pub parts_of : Store → List (List Sector)
+unfoldable pub parts_of : Store → List (List Sector)
 parts_of store = split store.sizes (blocks_in store.bytes.items)
 
 abbrev pub part_of : Store → Part → List Sector
@@ -30,7 +30,7 @@ abbrev pub bytes_of : List Sector → List ℕ
 bytes_of sectors = flat_map (λ (sector : Sector). sector) sectors
 
 -- the new values that the write or erase has so far: of an erase so many sectors that are all one byte, and the blocks of a write
-abbrev pub values_of : Store → List Sector
+unfoldable pub values_of : Store → List Sector
 values_of store = replicate store.erased_count (replicate 512 store.erased_byte) ++ store.blocks.items
 
 -- which new values land: none, or all

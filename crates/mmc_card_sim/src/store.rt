@@ -109,6 +109,7 @@ impl Store {
 
     /// Partitions of these sizes, at most `MAX_LARGE` sectors together, with the bytes of an image, which is taken over
     /// without a copy, or all with this byte.
+    #[tactic(auto, unfolding(crate::specs::Store::parts_of, crate::specs::Store::values_of))]
     pub fn new(
         alloc: Global,
         sizes: [usize; 7],
@@ -134,6 +135,7 @@ impl Store {
     }
 
     // Where the first sector of a partition stands.
+    #[tactic(auto, unfolding(crate::specs::Store::parts_of, crate::specs::Store::values_of))]
     fn first_of(&self, part: Part) -> usize
         ensures first { result ≡ total (take (part_number part) self.now.sizes) }
         ensures within { result + length (part_of self.now part) ≤ total self.now.sizes }
@@ -142,6 +144,7 @@ impl Store {
     }
 
     // The sectors of a partition.
+    #[tactic(auto, unfolding(crate::specs::Store::parts_of, crate::specs::Store::values_of))]
     fn sectors_of(&self, part: Part) -> &[[u8; 512]]
         ensures { result.now ≡ part_of self.now part }
     {
@@ -151,6 +154,7 @@ impl Store {
     }
 
     /// How many sectors a partition has.
+    #[tactic(auto, unfolding(crate::specs::Store::parts_of, crate::specs::Store::values_of))]
     pub fn size(&self, part: Part) -> usize
         ensures size { result ≡ length (part_of self.now part) }
         ensures few { result ≤ MAX_LARGE }
@@ -175,6 +179,7 @@ impl Store {
     }
 
     /// A write begins at this sector of its partition.
+    #[tactic(auto, unfolding(crate::specs::Store::parts_of, crate::specs::Store::values_of))]
     pub fn begin(&mut self, start: usize)
         ensures sectors { parts_of self.new ≡ parts_of self.old }
         ensures start { self.new.start ≡ start }
@@ -185,6 +190,7 @@ impl Store {
     }
 
     // How many sectors what is unfinished has so far.
+    #[tactic(auto, unfolding(crate::specs::Store::parts_of, crate::specs::Store::values_of))]
     fn count(&self) -> usize
         ensures count { result ≡ length (values_of self.now) }
         ensures few { result ≤ MAX_LARGE }
@@ -200,6 +206,7 @@ impl Store {
     }
 
     /// Accepts the next block of the write to this partition.
+    #[tactic(auto, unfolding(crate::specs::Store::parts_of, crate::specs::Store::values_of))]
     pub fn accept(&mut self, part: Part, block: &[u8; 512])
         requires { self.old.start + length (values_of self.old) < length (part_of self.old part) }
         ensures sectors { parts_of self.new ≡ parts_of self.old }
@@ -210,18 +217,21 @@ impl Store {
     }
 
     /// An erase of so many sectors from this one on, to this byte.
+    #[tactic(auto, unfolding(crate::specs::Store::parts_of, crate::specs::Store::values_of))]
     pub fn erase(&mut self, part: Part, start: usize, count: usize, erased: u8)
         requires { count ≤ length (part_of self.old part) }
         ensures sectors { parts_of self.new ≡ parts_of self.old }
         ensures start { self.new.start ≡ start }
         ensures values { values_of self.new ≡ replicate count (replicate 512 erased) }
     {
-        self.begin(start);
+        self.start = start;
         self.erased_count = count;
         self.erased_byte = erased;
+        self.blocks.clear();
     }
 
     /// What is unfinished is over, and nothing of it has landed.
+    #[tactic(auto, unfolding(crate::specs::Store::parts_of, crate::specs::Store::values_of))]
     pub fn drop_values(&mut self)
         ensures sectors { parts_of self.new ≡ parts_of self.old }
         ensures start { self.new.start ≡ self.old.start }
@@ -252,6 +262,7 @@ impl Store {
     }
 
     /// What has come so far of a write to this partition has landed or nothing, and the write goes on behind it.
+    #[tactic(auto, unfolding(crate::specs::Store::parts_of, crate::specs::Store::values_of))]
     pub fn settle_so_far(&mut self, part: Part, outcome: Outcome)
         requires { self.old.start + length (values_of self.old) ≤ length (part_of self.old part) }
         ensures sectors { parts_of self.new ≡ landed_by outcome part self.old }
@@ -264,6 +275,7 @@ impl Store {
     }
 
     /// What is unfinished in this partition is carried out.
+    #[tactic(auto, unfolding(crate::specs::Store::parts_of, crate::specs::Store::values_of))]
     pub fn land(&mut self, part: Part)
         ensures sectors { parts_of self.new
             ≡ slice_set (parts_of self.old) (part_number part)
