@@ -1,7 +1,7 @@
 -- Bytes as sectors, and new bytes in the place of some.
 use Rattle.std.proofs.Common.{◌*◌, ◌+◌, ◌++◌, ◌-◌, ◌/◌, ◌<◌, ◌∙◌, ◌∷◌, ◌≡◌, ◌≤◌, List, [], ap, ap₂, arith, drop}
 use Rattle.std.proofs.Common.{append_assoc, length, refl, suc, sym, take, zero, ℕ}
-use Rattle.std.proofs.lemmas.List.{drop-append-le, drop-drop, drop_at, length-append, length-drop, length-replicate}
+use Rattle.std.proofs.lemmas.List.{drop-append-le, drop_at, length-append, length-drop, length-replicate}
 use Rattle.std.proofs.lemmas.List.{length-take-le, replicate-append-replicate, take-append-drop, take-append-le, take_at}
 use Rattle.std.specs.List.{flat_map}
 use Rattle.std.specs.Prelude.{replicate, slice_index_or}

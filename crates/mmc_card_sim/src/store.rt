@@ -135,7 +135,6 @@ impl Store {
     }
 
     // Where the first sector of a partition stands.
-    #[tactic(auto, unfolding(crate::specs::Store::parts_of, crate::specs::Store::values_of))]
     fn first_of(&self, part: Part) -> usize
         ensures first { result ≡ total (take (part_number part) self.now.sizes) }
         ensures within { result + length (part_of self.now part) ≤ total self.now.sizes }
@@ -144,7 +143,6 @@ impl Store {
     }
 
     // The sectors of a partition.
-    #[tactic(auto, unfolding(crate::specs::Store::parts_of, crate::specs::Store::values_of))]
     fn sectors_of(&self, part: Part) -> &[[u8; 512]]
         ensures { result.now ≡ part_of self.now part }
     {
@@ -154,7 +152,6 @@ impl Store {
     }
 
     /// How many sectors a partition has.
-    #[tactic(auto, unfolding(crate::specs::Store::parts_of, crate::specs::Store::values_of))]
     pub fn size(&self, part: Part) -> usize
         ensures size { result ≡ length (part_of self.now part) }
         ensures few { result ≤ MAX_LARGE }
@@ -190,7 +187,7 @@ impl Store {
     }
 
     // How many sectors what is unfinished has so far.
-    #[tactic(auto, unfolding(crate::specs::Store::parts_of, crate::specs::Store::values_of))]
+    #[tactic(auto, unfolding(crate::specs::Store::values_of))]
     fn count(&self) -> usize
         ensures count { result ≡ length (values_of self.now) }
         ensures few { result ≤ MAX_LARGE }
@@ -275,7 +272,7 @@ impl Store {
     }
 
     /// What is unfinished in this partition is carried out.
-    #[tactic(auto, unfolding(crate::specs::Store::parts_of, crate::specs::Store::values_of))]
+    #[tactic(auto, unfolding(crate::specs::Store::values_of))]
     pub fn land(&mut self, part: Part)
         ensures sectors { parts_of self.new
             ≡ slice_set (parts_of self.old) (part_number part)
@@ -289,7 +286,11 @@ impl Store {
         let erased = self.erased_count.min(count);
         let first = self.first_of(part) + start;
         erase_sectors(&mut self.bytes, first, erased, self.erased_byte);
-        write_sectors(&mut self.bytes, first + erased, &self.blocks[..count - erased]);
+        write_sectors(
+            &mut self.bytes,
+            first + erased,
+            &self.blocks[..count - erased],
+        );
         self.drop_values();
     }
 }

@@ -1,8 +1,10 @@
-use Rattle.std.proofs.Common.{ap, sym, ◌∙◌}
+use Rattle.std.proofs.Common.{ap, arith, sym, ◌∙◌, ◌≤◌}
 use Rattle.mmc_regs.specs.Csd.{is_protected}
 use Rattle.mmc_card.specs.Made.{csd_number_of}
 use Rattle.mmc_card_sim.proofs.SpecLemmas.{few_sectors, image_length, number_of_csd, sizes_exist}
 use Rattle.mmc_card_sim.specs.Registers.{made_of}
+use Rattle.mmc_card_sim.specs.Sizes.{total}
+use Rattle.mmc_card_sim.specs.declared.store.TheConstants.{MAX_LARGE}
 use Rattle.mmc_card_sim.proofs.judging.judge.Goals as goal
 
 pub returns-clause-protected : goal.returns-clause-protected
@@ -17,5 +19,7 @@ returns-clause-image c =
 
 pub returns-clause-exist : goal.returns-clause-exist
 returns-clause-exist c =
-    let few = few_sectors c.args.limit c.sizes_by-sizes.result c.args.spec.now.image (sym c.if-not-takes_image.ensures) in
+    let within = few_sectors c.args.limit c.sizes_by-sizes.result c.args.spec.now.image
+    (sym c.if-not-takes_image.ensures) in
+    let few : total c.sizes_by-sizes.result ≤ MAX_LARGE = omega (arith, within, c.requires) in
     rw c.sizes_by-sizes.ensures (sizes_exist c.args.spec.now.registers (rw c.sizes_by-sizes.ensures at few))

@@ -1,4 +1,4 @@
-use Rattle.std.proofs.Common.{◌+◌, ◌<◌, ◌≤◌, arith, length}
+use Rattle.std.proofs.Common.{◌+◌, ◌<◌, arith, length}
 use Rattle.std.proofs.lemmas.List.{length-append, length-replicate}
 use Rattle.std.specs.Prelude.{replicate}
 use Rattle.mmc_card.specs.Sectors.{part_number}
