@@ -11,7 +11,8 @@ fn greets_as_the_protocol_says(rt: HostRuntime) {
 
 #[test]
 fn reads_a_request(rt: HostRuntime) {
-    let bytes = b"\x25\x60\x95\x13\x00\x01\x00\x01cookie-8\x00\x00\x00\x00\x00\x00\x02\x00\x00\x00\x04\x00";
+    let bytes =
+        b"\x25\x60\x95\x13\x00\x01\x00\x01cookie-8\x00\x00\x00\x00\x00\x00\x02\x00\x00\x00\x04\x00";
     let Some(request) = request_in(bytes) else {
         assert!(rt; false);
         return;
@@ -26,7 +27,10 @@ fn reads_a_request(rt: HostRuntime) {
 fn replies_under_the_cookie(rt: HostRuntime) {
     let reply = simple_reply(Some(ReplyError::Invalid), 0x636f_6f6b_6965_2d38);
     assert!(rt; &reply == b"\x67\x44\x66\x98\x00\x00\x00\x16cookie-8");
-    assert!(rt; &simple_reply(None, 1) == b"\x67\x44\x66\x98\x00\x00\x00\x00\x00\x00\x00\x00\x00\x00\x00\x01");
+    assert!(rt;
+        &simple_reply(None, 1)
+            == b"\x67\x44\x66\x98\x00\x00\x00\x00\x00\x00\x00\x00\x00\x00\x00\x01"
+    );
 }
 
 #[test]
@@ -37,7 +41,10 @@ fn answers_an_option(rt: HostRuntime) {
     };
     assert!(rt; option.number == 7 && option.length == 6);
     let reply = option_reply(7, OptionReply::Unknown, 0);
-    assert!(rt; &reply == b"\x00\x03\xe8\x89\x04\x55\x65\xa9\x00\x00\x00\x07\x80\x00\x00\x06\x00\x00\x00\x00");
+    assert!(rt;
+        &reply
+            == b"\x00\x03\xe8\x89\x04\x55\x65\xa9\x00\x00\x00\x07\x80\x00\x00\x06\x00\x00\x00\x00"
+    );
     assert!(rt; &export_info(65536, 0x2d) == b"\x00\x00\x00\x00\x00\x00\x00\x01\x00\x00\x00\x2d");
     assert!(rt; &block_size_info() == b"\x00\x03\x00\x00\x02\x00\x00\x00\x02\x00\x00\x08\x00\x00");
 }
