@@ -1,0 +1,11 @@
+use Rattle.std.proofs.Common.{List}
+use Rattle.nbd_server.specs.Acts.{Act, AreOfParts}
+use Rattle.nbd_server.specs.Desk.{Leads}
+use Rattle.nbd_server.proofs.long.ask_writes.Given as goal
+
+abbrev pub invariant-loop-piece : goal.invariant-loop-piece
+invariant-loop-piece g l = record {
+  acts : List Act;
+  of_parts : AreOfParts acts;
+  leads : Leads g.B.Bus.view l.fn.desk acts l.desk;
+}

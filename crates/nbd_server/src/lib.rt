@@ -1,0 +1,18 @@
+//! A device as a network block device: the negotiation of an export, and its requests, over one input and one output.
+#![tactic(auto)]
+
+mod desk;
+mod export;
+mod fault;
+mod input;
+mod long;
+mod names;
+mod negotiation;
+mod plan;
+mod session;
+
+pub use desk::Desk;
+pub use export::Export;
+pub use fault::SessionFault;
+pub use names::{PARTS, part_by, part_name};
+pub use session::serve;

@@ -1,0 +1,160 @@
+// What a request comes to. Its rules:
+// 1. What isn't for whole sectors of the export, one at least, is invalid, and so is a read or a write of more than `MAX_LENGTH`.
+// 2. Up to `PART` sectors a read or a write is one request of the device. A longer one is served in parts.
+// 3. A trim is one where the card trims. Otherwise it is an erase of the whole erase units in it, if there are any.
+// 4. Zeroes are a trim, where the card trims to zeroes.
+use crate::export::Export;
+use crate::input::MAX_LENGTH;
+use crate::long::PART;
+use mmc_block::Request;
+use mmc_bus::Bytes;
+use nbd_messages::{Command, ReplyError, RequestHeader};
+
+/// Sectors of an export.
+#[derive(Clone, Copy, Debug, PartialEq, Eq)]
+pub struct Span {
+    /// The first.
+    pub start: u64,
+    /// How many.
+    pub count: u64,
+}
+
+/// What a request comes to.
+#[derive(Drop)]
+pub enum Plan {
+    /// It is answered without the device.
+    Answer(Option<ReplyError>),
+    /// It is one request of the device.
+    Ask(Request),
+    /// It is read in parts.
+    ReadLong(Span),
+    /// It is written in parts.
+    WriteLong(Span, Vec<u8>),
+    /// Nothing before it may be without an answer.
+    Flush,
+    /// The session ends.
+    End,
+}
+
+// The sectors that a request names, where they are whole ones of the export.
+fn span_of(export: &Export, header: &RequestHeader) -> Option<Span> {
+    let length = header.length as u64;
+    if header.offset % 512 != 0 || length % 512 != 0 || length == 0 {
+        return None;
+    }
+    let span = Span {
+        start: header.offset / 512,
+        count: length / 512,
+    };
+    if span.start.saturating_add(span.count) > export.sectors {
+        return None;
+    }
+    Some(span)
+}
+
+// The whole erase units among these sectors; the last one may end with the export.
+fn whole_units(export: &Export, span: Span) -> Span {
+    let unit = export.erase_unit;
+    let start = span.start.div_ceil(unit).saturating_mul(unit);
+    let end = span.start.saturating_add(span.count);
+    let end = if end == export.sectors {
+        end
+    } else {
+        end - end % unit
+    };
+    Span {
+        start,
+        count: end.saturating_sub(start),
+    }
+}
+
+fn read(export: &Export, span: Span) -> Plan {
+    if span.count > PART {
+        return Plan::ReadLong(span);
+    }
+    Plan::Ask(Request::Read {
+        part: export.part,
+        start: span.start,
+        count: span.count,
+    })
+}
+
+fn write(export: &Export, span: Span, data: Vec<u8>) -> Plan {
+    if export.can.read_only {
+        return Plan::Answer(Some(ReplyError::NotPermitted));
+    }
+    if span.count > PART {
+        return Plan::WriteLong(span, data);
+    }
+    Plan::Ask(Request::Write {
+        part: export.part,
+        start: span.start,
+        count: span.count,
+        bytes: Bytes::new(data),
+    })
+}
+
+fn trim(export: &Export, span: Span) -> Plan {
+    if export.can.read_only {
+        return Plan::Answer(Some(ReplyError::NotPermitted));
+    }
+    if !export.can.trims {
+        return Plan::Answer(Some(ReplyError::NotSupported));
+    }
+    if export.trims_each {
+        return Plan::Ask(Request::Trim {
+            part: export.part,
+            start: span.start,
+            count: span.count,
+        });
+    }
+    let Span { start, count } = whole_units(export, span);
+    if count == 0 {
+        return Plan::Answer(None);
+    }
+    Plan::Ask(Request::Erase {
+        part: export.part,
+        start,
+        count,
+    })
+}
+
+fn write_zeroes(export: &Export, span: Span) -> Plan {
+    if export.can.read_only {
+        return Plan::Answer(Some(ReplyError::NotPermitted));
+    }
+    if !export.can.zeroes {
+        return Plan::Answer(Some(ReplyError::NotSupported));
+    }
+    Plan::Ask(Request::Trim {
+        part: export.part,
+        start: span.start,
+        count: span.count,
+    })
+}
+
+/// What a request comes to. `data` are those of a write, of which there are none where it is too long or memory was refused.
+pub fn planned(export: &Export, header: &RequestHeader, data: Option<Vec<u8>>) -> Plan {
+    let Some(command) = header.command else {
+        return Plan::Answer(Some(ReplyError::Invalid));
+    };
+    match command {
+        Command::Disconnect => return Plan::End,
+        Command::Flush => return Plan::Flush,
+        Command::Read | Command::Write if header.length > MAX_LENGTH => {
+            return Plan::Answer(Some(ReplyError::Invalid));
+        }
+        _ => {}
+    }
+    let Some(span) = span_of(export, header) else {
+        return Plan::Answer(Some(ReplyError::Invalid));
+    };
+    match (command, data) {
+        (Command::Read, _) => read(export, span),
+        (Command::Write, Some(data)) => write(export, span, data),
+        (Command::Write, None) => Plan::Answer(Some(ReplyError::NoMemory)),
+        (Command::Trim, _) => trim(export, span),
+        (Command::WriteZeroes, _) => write_zeroes(export, span),
+        (Command::Disconnect, _) | (Command::Flush, _) => Plan::End,
+    }
+}
