@@ -5,6 +5,7 @@ use Rattle.std.proofs.lemmas.List.{get_or_push}
 use Rattle.std.specs.Prelude.{IsErr, OnOk, map}
 use Rattle.nbd_messages.specs.Replies.{reply_header}
 use Rattle.std.proofs.lemmas.Bool.{false≢true}
+use Rattle.std.specs.Io.KnownBytes.{Appends}
 use Rattle.text_out.specs.Writing.{Writes}
 use Rattle.text_out.proofs.WritingLemmas.{appends_none, writes_after}
 use Rattle.mmc_bus.proofs.WorkLemmas.{stays_same, stays_then}
@@ -465,3 +466,102 @@ parts_ask_nothing (Asks cookie request reply ∷ xs) h = absurd h
 parts_ask_nothing (Turns given ∷ xs) h = absurd h
 parts_ask_nothing (Says cookie error ∷ xs) h = absurd h
 parts_ask_nothing (Gives cookie bytes ∷ xs) h = absurd h
+
+parts_answer_nothing : (k : List ℕ) (xs : List Act) → AreOfParts xs → answered k xs ≡ []
+unfolding answered
+parts_answer_nothing k [] h = refl
+parts_answer_nothing k (AsksPart cookie request reply ∷ xs) h =
+    parts_answer_nothing (cookies_behind k (AsksPart cookie request reply)) xs h
+parts_answer_nothing k (Gathers given ∷ xs) h = parts_answer_nothing k xs h
+parts_answer_nothing k (Clears ∷ xs) h = parts_answer_nothing [] xs h
+parts_answer_nothing k (Asks cookie request reply ∷ xs) h = absurd h
+parts_answer_nothing k (Turns given ∷ xs) h = absurd h
+parts_answer_nothing k (Says cookie error ∷ xs) h = absurd h
+parts_answer_nothing k (Gives cookie bytes ∷ xs) h = absurd h
+
+parts_write_nothing : (k : List ℕ) (xs : List Act) → AreOfParts xs → bytes_of k xs ≡ []
+unfolding bytes_of
+parts_write_nothing k [] h = refl
+parts_write_nothing k (AsksPart cookie request reply ∷ xs) h =
+    parts_write_nothing (cookies_behind k (AsksPart cookie request reply)) xs h
+parts_write_nothing k (Gathers given ∷ xs) h = parts_write_nothing k xs h
+parts_write_nothing k (Clears ∷ xs) h = parts_write_nothing [] xs h
+parts_write_nothing k (Asks cookie request reply ∷ xs) h = absurd h
+parts_write_nothing k (Turns given ∷ xs) h = absurd h
+parts_write_nothing k (Says cookie error ∷ xs) h = absurd h
+parts_write_nothing k (Gives cookie bytes ∷ xs) h = absurd h
+
+parts_once : {B : Type 0} (old new : DeskView B) (xs : List Act) → AreOfParts xs → unanswered_of old.device ≡ 0
+    → unanswered_of new.device ≡ 0 → AnswersEach old xs new
+parts_once old new xs h none none_left x =
+    rw (none_pending old.device none, none_pending new.device none_left, parts_answer_nothing old.cookies xs h, parts_ask_nothing xs h)
+    refl
+
+-- parts from an empty desk to an empty desk
+pub parts_do : {B E : Type 0} (view : B → BusView) (old new : DeskView B) (out : Option (List ℕ)) (done : Unit {0})
+    (xs : List Act) → AreOfParts xs → Leads view old xs new → unanswered_of old.device ≡ 0
+    → unanswered_of new.device ≡ 0 → Does {B = B} {E = E} view old new out out (Ok done) xs
+parts_do view old new out done xs h leads none none_left = record {
+  leads = leads;
+  once = parts_once old new xs h none none_left;
+  written = subst (Appends out out) (sym (parts_write_nothing old.cookies xs h)) (appends_none out);
+}
+
+-- A reply without the device.
+
+pub says_does : {B E : Type 0} (view : B → BusView) (d : DeskView B) (cookie : ℕ) (error : Option ReplyError)
+    (before after : Option (List ℕ)) (r : Result (Unit {0}) E) → Writes before after r (reply_header error cookie)
+    → Does view d d before after r (Says cookie error ∷ [])
+unfolding bytes_of
+says_does view d cookie error before after r wrote = record {
+  leads = said view d cookie error;
+  once = said_once d cookie error;
+  written = subst (Writes before after r) (sym (append-nil (reply_header error cookie))) wrote;
+}
+
+gave : {B : Type 0} (view : B → BusView) (d : DeskView B) (cookie : ℕ) (bytes : List ℕ)
+    → Leads view d (Gives cookie bytes ∷ []) d
+unfolding cookies_after events_of replies_of
+gave view d cookie bytes = record {
+  cookies = refl;
+  info = refl;
+  kept = λ h. h;
+  executed = λ kept c agrees. (stays_same (view d.device.bus) (view d.device.bus).lines, (c, refl, agrees));
+}
+
+gave_once : {B : Type 0} (d : DeskView B) (cookie : ℕ) (bytes : List ℕ) → AnswersEach d (Gives cookie bytes ∷ []) d
+unfolding answered asked
+gave_once d cookie bytes x = refl
+
+pub gives_does : {B E : Type 0} (view : B → BusView) (d : DeskView B) (cookie : ℕ) (bytes : List ℕ)
+    (before after : Option (List ℕ)) (r : Result (Unit {0}) E)
+    → Writes before after r (reply_header None cookie ++ bytes)
+    → Does view d d before after r (Gives cookie bytes ∷ [])
+unfolding bytes_of
+gives_does view d cookie bytes before after r wrote = record {
+  leads = gave view d cookie bytes;
+  once = gave_once d cookie bytes;
+  written = subst (Writes before after r) (sym (append-nil (reply_header None cookie ++ bytes))) wrote;
+}
+
+pub asks_one : (xs : List Act) (cookie : ℕ) (act : Act) → asked xs ≡ [] → asked_by act ≡ cookie ∷ []
+    → asked (xs ++ act ∷ []) ≡ cookie ∷ []
+unfolding asked
+asks_one xs cookie act none one =
+    asked_then xs (act ∷ []) ∙ ap (λ cs. cs ++ (asked_by act ++ [])) none ∙ append-nil (asked_by act) ∙ one
+
+-- a long request: what came before it is answered, then its parts are served, and then it has its reply
+pub served_long : {B E : Type 0} (view : B → BusView) (a b c : DeskView B) (before between after : Option (List ℕ))
+    (done : Unit {0}) (r : Result (Unit {0}) E) (xs ys : List Act) (act : Act) (cookie : ℕ)
+    → Does {B = B} {E = E} view a b before between (Ok done) xs → asked xs ≡ [] → unanswered_of b.device ≡ 0
+    → AreOfParts ys → Leads view b ys c → unanswered_of c.device ≡ 0
+    → Does view c c between after r (act ∷ []) → asked_by act ≡ cookie ∷ []
+    → (acts : List Act) × Does view a c before after r acts × OnOk r (asked acts ≡ cookie ∷ [])
+served_long view a b c before between after done r xs ys act cookie first none empty parts leads empty_too last one = (
+  xs ++ (ys ++ act ∷ []),
+  does_then view a b c before between after done r xs (ys ++ act ∷ []) first
+      (does_then view b c c between between after done r ys (act ∷ [])
+      (parts_do view b c between done ys parts leads empty empty_too) last),
+  on_ok r _ (asked_then xs (ys ++ act ∷ []) ∙ ap (λ cs. cs ++ asked (ys ++ act ∷ [])) none
+      ∙ asks_one ys cookie act (parts_ask_nothing ys parts) one),
+)

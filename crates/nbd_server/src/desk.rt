@@ -79,6 +79,14 @@ pub fn put_bytes<W: Write>(out: &mut W, bytes: &[u8]) -> Result<(), SessionFault
     }
 }
 
+/// Writes a reply with these data.
+pub fn put_data<W: Write>(out: &mut W, cookie: u64, data: &[u8]) -> Result<(), SessionFault>
+    ensures { Writes (W.contents out.old) (W.contents out.new) result (reply_header None cookie ++ data.now) }
+{
+    put_reply(out, None, cookie)?;
+    put_bytes(out, data)
+}
+
 // Writes the reply that an answer is, under this cookie.
 fn put_answer<W: Write>(out: &mut W, answer: &Answer, cookie: u64) -> Result<(), SessionFault>
     ensures { Writes (W.contents out.old) (W.contents out.new) result (answer_bytes cookie answer.now) }
@@ -86,10 +94,7 @@ fn put_answer<W: Write>(out: &mut W, answer: &Answer, cookie: u64) -> Result<(),
     match answer {
         Answer::Done => put_reply(out, None, cookie),
         Answer::Failed(_) => put_reply(out, Some(ReplyError::Failed), cookie),
-        Answer::Data(bytes) => {
-            put_reply(out, None, cookie)?;
-            put_bytes(out, bytes.as_slice())
-        }
+        Answer::Data(bytes) => put_data(out, cookie, bytes.as_slice()),
     }
 }
 

@@ -32,8 +32,6 @@ pub enum Plan {
     WriteLong(Span, Vec<u8>),
     /// Nothing before it may be without an answer.
     Flush,
-    /// The session ends.
-    End,
 }
 
 // The sectors that a request names, where they are whole ones of the export.
@@ -133,28 +131,32 @@ fn write_zeroes(export: &Export, span: Span) -> Plan {
     })
 }
 
-/// What a request comes to. `data` are those of a write, of which there are none where it is too long or memory was refused.
-pub fn planned(export: &Export, header: &RequestHeader, data: Option<Vec<u8>>) -> Plan {
-    let Some(command) = header.command else {
-        return Plan::Answer(Some(ReplyError::Invalid));
-    };
-    match command {
-        Command::Disconnect => return Plan::End,
-        Command::Flush => return Plan::Flush,
-        Command::Read | Command::Write if header.length > MAX_LENGTH => {
-            return Plan::Answer(Some(ReplyError::Invalid));
-        }
-        _ => {}
-    }
-    let Some(span) = span_of(export, header) else {
-        return Plan::Answer(Some(ReplyError::Invalid));
-    };
+// What a request for these sectors comes to.
+fn planned_for(export: &Export, command: Command, span: Span, data: Option<Vec<u8>>) -> Plan {
     match (command, data) {
         (Command::Read, _) => read(export, span),
         (Command::Write, Some(data)) => write(export, span, data),
         (Command::Write, None) => Plan::Answer(Some(ReplyError::NoMemory)),
         (Command::Trim, _) => trim(export, span),
         (Command::WriteZeroes, _) => write_zeroes(export, span),
-        (Command::Disconnect, _) | (Command::Flush, _) => Plan::End,
+        (Command::Disconnect | Command::Flush, _) => Plan::Flush,
+    }
+}
+
+/// What a request comes to, or `None` where it ends the session. `data` are those of a write, of which there are none where it is too long or memory was refused.
+pub fn planned(export: &Export, header: &RequestHeader, data: Option<Vec<u8>>) -> Option<Plan> {
+    let Some(command) = header.command else {
+        return Some(Plan::Answer(Some(ReplyError::Invalid)));
+    };
+    match command {
+        Command::Disconnect => None,
+        Command::Flush => Some(Plan::Flush),
+        Command::Read | Command::Write if header.length > MAX_LENGTH => {
+            Some(Plan::Answer(Some(ReplyError::Invalid)))
+        }
+        _ => match span_of(export, header) {
+            None => Some(Plan::Answer(Some(ReplyError::Invalid))),
+            Some(span) => Some(planned_for(export, command, span, data)),
+        },
     }
 }

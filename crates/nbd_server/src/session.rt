@@ -1,12 +1,16 @@
 // A session: the negotiation of an export, then its requests. All that have come are submitted before the next turn, so that
 // neighbours merge; before the input is waited for, each has its reply.
-use crate::desk::{Desk, put_bytes, put_reply};
+ghost use Rattle.std.specs.Prelude.{◌≡◌, ◌∷◌, [], List, OnOk};
+ghost use Rattle.nbd_server.specs.Acts.{Act, asked};
+ghost use Rattle.nbd_server.specs.Desk.{Does};
+
+use crate::desk::{Desk, put_data, put_reply};
 use crate::export::Export;
 use crate::fault::SessionFault;
 use crate::input::{MAX_LENGTH, bytes_of, has_request, next_request, skip};
 use crate::long::{read_long, write_long};
 use crate::negotiation::negotiate;
-use crate::plan::{Plan, planned};
+use crate::plan::{Plan, Span, planned};
 use mmc_bus::{Bus, Part};
 use nbd_messages::{Command, RequestHeader};
 use std::alloc::Global;
@@ -40,40 +44,73 @@ fn data_of<R: Read>(
     Ok(None)
 }
 
-// Does what a request comes to, and says whether more may follow.
-fn carry_out<B: Bus, W: Write>(
+// Serves a long read while nothing else waits, and replies.
+fn serve_read<B: Bus, W: Write>(
+    alloc: Global,
+    desk: &mut Desk<B>,
+    cookie: u64,
+    part: Part,
+    span: Span,
+    out: &mut W,
+) -> Result<(), SessionFault>
+    ensures { (acts : List Act) × Does B.view desk.old desk.new (W.contents out.old) (W.contents out.new) result acts × OnOk result (asked acts ≡ cookie ∷ []) }
+{
+    desk.drain(out)?;
+    match read_long(alloc, desk, cookie, part, span) {
+        Ok(data) => put_data(out, cookie, data.as_slice()),
+        Err(error) => put_reply(out, Some(error), cookie),
+    }
+}
+
+// Serves a long write while nothing else waits, and replies.
+fn serve_write<B: Bus, W: Write>(
+    alloc: Global,
+    desk: &mut Desk<B>,
+    cookie: u64,
+    part: Part,
+    start: u64,
+    data: &[u8],
+    out: &mut W,
+) -> Result<(), SessionFault>
+    ensures { (acts : List Act) × Does B.view desk.old desk.new (W.contents out.old) (W.contents out.new) result acts × OnOk result (asked acts ≡ cookie ∷ []) }
+{
+    desk.drain(out)?;
+    let written = write_long(alloc, desk, cookie, part, start, data);
+    put_reply(out, written.err(), cookie)
+}
+
+// Replies once all earlier requests have their replies.
+fn serve_flush<B: Bus, W: Write>(
+    desk: &mut Desk<B>,
+    cookie: u64,
+    out: &mut W,
+) -> Result<(), SessionFault>
+    ensures { (acts : List Act) × Does B.view desk.old desk.new (W.contents out.old) (W.contents out.new) result acts × OnOk result (asked acts ≡ cookie ∷ []) }
+{
+    desk.drain(out)?;
+    put_reply(out, None, cookie)
+}
+
+// Does what a request comes to.
+fn serve_plan<B: Bus, W: Write>(
     alloc: Global,
     desk: &mut Desk<B>,
     part: Part,
     cookie: u64,
     plan: Plan,
     out: &mut W,
-) -> Result<bool, SessionFault> {
+) -> Result<(), SessionFault>
+    ensures { (acts : List Act) × Does B.view desk.old desk.new (W.contents out.old) (W.contents out.new) result acts × OnOk result (asked acts ≡ cookie ∷ []) }
+{
     match plan {
-        Plan::Answer(error) => put_reply(out, error, cookie)?,
-        Plan::Ask(request) => desk.ask(alloc, cookie, request, out)?,
-        Plan::ReadLong(span) => {
-            desk.drain(out)?;
-            match read_long(alloc, desk, cookie, part, span) {
-                Ok(data) => {
-                    put_reply(out, None, cookie)?;
-                    put_bytes(out, data.as_slice())?;
-                }
-                Err(error) => put_reply(out, Some(error), cookie)?,
-            }
-        }
+        Plan::Answer(error) => put_reply(out, error, cookie),
+        Plan::Ask(request) => desk.ask(alloc, cookie, request, out),
+        Plan::ReadLong(span) => serve_read(alloc, desk, cookie, part, span, out),
         Plan::WriteLong(span, data) => {
-            desk.drain(out)?;
-            let written = write_long(alloc, desk, cookie, part, span.start, data.as_slice());
-            put_reply(out, written.err(), cookie)?;
+            serve_write(alloc, desk, cookie, part, span.start, data.as_slice(), out)
         }
-        Plan::Flush => {
-            desk.drain(out)?;
-            put_reply(out, None, cookie)?;
-        }
-        Plan::End => return Ok(false),
+        Plan::Flush => serve_flush(desk, cookie, out),
     }
-    Ok(true)
 }
 
 // Serves the next request, and says whether more may follow.
@@ -92,8 +129,11 @@ fn serve_next<B: Bus, R: Read, W: Write>(
         return Ok(false);
     };
     let data = data_of(alloc, input, &header)?;
-    let plan = planned(export, &header, data);
-    carry_out(alloc, desk, export.part, header.cookie, plan, out)
+    let Some(plan) = planned(export, &header, data) else {
+        return Ok(false);
+    };
+    serve_plan(alloc, desk, export.part, header.cookie, plan, out)?;
+    Ok(true)
 }
 
 // Serves requests until the client ends the session, or the input ends; 2^64 - 1 at most.
