@@ -2,7 +2,7 @@
 use Rattle.std.proofs.Common.{[], inl, inr, ap, append-nil, append_assoc, arith, length, length-append, refl, subst, sym, ◌+◌, ◌++◌, ◌∙◌, ◌∷◌, ◌≡◌, ◌⊎◌}
 use Rattle.std.proofs.Common.{Err, List, None, Ok, Option, Result, Some, true, ℕ}
 use Rattle.std.proofs.lemmas.List.{get_or_push}
-use Rattle.std.specs.Prelude.{IsErr, OnOk, map}
+use Rattle.std.specs.Prelude.{IsErr, OnOk}
 use Rattle.nbd_messages.specs.Replies.{reply_header}
 use Rattle.std.proofs.lemmas.Bool.{false≢true}
 use Rattle.std.specs.Io.KnownBytes.{Appends}
@@ -28,7 +28,7 @@ use Rattle.nbd_server.specs.Acts.{Act, AreOfParts, answered, asked, bytes_of, co
 use Rattle.nbd_server.specs.Acts.{answered_by, answers_bytes, asked_by, bytes_by, error_of, event_by, events_of, replies_of, reply_by}
 use Rattle.nbd_server.specs.Acts.{reply_to, times}
 use Rattle.nbd_server.specs.Acts.Act.{Asks, AsksPart, Clears, Gathers, Gives, Says, Turns}
-use Rattle.nbd_server.specs.Desk.{AnswersEach, AreNumbered, DeskView, Does, Leads, due, pending}
+use Rattle.nbd_server.specs.Desk.{AnswersEach, AreNumbered, DeskView, Does, Leads, pending}
 use Rattle.nbd_server.proofs.TimesLemmas.{load, load_answered, load_merged, load_more, load_then, no_times, numbered_behind}
 use Rattle.nbd_server.proofs.TimesLemmas.{numbered_front, numbered_merged, numbered_more, numbered_then, times_then}
 

@@ -1,3 +1,5 @@
 pub mod AnswerLemmas
 pub mod DeskLemmas
+pub mod InputLemmas
+pub mod SessionLemmas
 pub mod TimesLemmas

@@ -1,8 +1,8 @@
 -- How often a cookie is due.
-use Rattle.std.proofs.Common.{[], inl, inr, ap, ap₂, append_assoc, arith, length, length-append, refl, sym, ◌+◌, ◌++◌, ◌<◌, ◌∙◌, ◌∷◌, ◌≡◌, ◌⊎◌, List, ℕ}
-use Rattle.std.proofs.lemmas.List.{get_or_append_left, get_or_push}
-use Rattle.std.specs.Prelude.{get_or, map}
-use Rattle.mmc_block.specs.Any.{AreFor, Answers}
+use Rattle.std.proofs.Common.{[], inl, inr, arith, length-append, refl, ◌+◌, ◌++◌, ◌∷◌, ◌≡◌, List, ℕ}
+use Rattle.std.proofs.lemmas.List.{get_or_append_left}
+use Rattle.std.specs.Prelude.{map}
+use Rattle.mmc_block.specs.Any.{AreFor}
 use Rattle.mmc_block.specs.Machine.{IsMerged, Waiting}
 use Rattle.mmc_block.specs.declared.completion.Completion.{Completion}
 use Rattle.nbd_server.specs.Acts.{cookie_under, cookies_of, times}

@@ -10,7 +10,7 @@ ghost use Rattle.nbd_server.specs.Acts.{Act, AreOfParts, answer_bytes, answers_b
 ghost use Rattle.nbd_server.specs.Acts.Act.{Asks, Gathers, Turns};
 ghost use Rattle.nbd_server.specs.Desk.{AnswersEach, Does, Leads};
 
-use crate::fault::SessionFault;
+use crate::fault::OutputFault;
 use crate::long::PART_BYTES;
 use arrayvec::ArrayVec;
 use mmc_block::{Answer, BlockDev, Completion, Completions, MAX_WAITING, Refused, Request, Ticket};
@@ -63,24 +63,24 @@ pub fn put_reply<W: Write>(
     out: &mut W,
     error: Option<ReplyError>,
     cookie: u64,
-) -> Result<(), SessionFault>
+) -> Result<(), OutputFault>
     ensures { Writes (W.contents out.old) (W.contents out.new) result (reply_header error cookie) }
 {
     put_bytes(out, &simple_reply(error, cookie))
 }
 
 /// Writes bytes.
-pub fn put_bytes<W: Write>(out: &mut W, bytes: &[u8]) -> Result<(), SessionFault>
+pub fn put_bytes<W: Write>(out: &mut W, bytes: &[u8]) -> Result<(), OutputFault>
     ensures { Writes (W.contents out.old) (W.contents out.new) result bytes.now }
 {
     match put(out, bytes) {
         Ok(()) => Ok(()),
-        Err(_) => Err(SessionFault::Output),
+        Err(_) => Err(OutputFault),
     }
 }
 
 /// Writes a reply with these data.
-pub fn put_data<W: Write>(out: &mut W, cookie: u64, data: &[u8]) -> Result<(), SessionFault>
+pub fn put_data<W: Write>(out: &mut W, cookie: u64, data: &[u8]) -> Result<(), OutputFault>
     ensures { Writes (W.contents out.old) (W.contents out.new) result (reply_header None cookie ++ data.now) }
 {
     put_reply(out, None, cookie)?;
@@ -88,7 +88,7 @@ pub fn put_data<W: Write>(out: &mut W, cookie: u64, data: &[u8]) -> Result<(), S
 }
 
 // Writes the reply that an answer is, under this cookie.
-fn put_answer<W: Write>(out: &mut W, answer: &Answer, cookie: u64) -> Result<(), SessionFault>
+fn put_answer<W: Write>(out: &mut W, answer: &Answer, cookie: u64) -> Result<(), OutputFault>
     ensures { Writes (W.contents out.old) (W.contents out.new) result (answer_bytes cookie answer.now) }
 {
     match answer {
@@ -135,7 +135,7 @@ fn put_answers<W: Write>(
     out: &mut W,
     cookies: &[u64],
     given: &[Completion],
-) -> Result<(), SessionFault>
+) -> Result<(), OutputFault>
     ensures { Writes (W.contents out.old) (W.contents out.new) result (answers_bytes cookies.now given.now) }
 {
     for completion in given {
@@ -179,7 +179,7 @@ impl<B: Bus> Desk<B> {
     }
 
     // A turn, and the replies that its answers are.
-    fn turn<W: Write>(&mut self, out: &mut W) -> Result<(), SessionFault>
+    fn turn<W: Write>(&mut self, out: &mut W) -> Result<(), OutputFault>
         ensures does { (given : List Completion) × Does B.view self.old self.new (W.contents out.old) (W.contents out.new) result (Turns given ∷ []) }
         ensures falls { 0 < work_of self.old.device → work_of self.new.device < work_of self.old.device }
     {
@@ -190,7 +190,7 @@ impl<B: Bus> Desk<B> {
     }
 
     /// Turns until nothing is without an answer.
-    pub fn drain<W: Write>(&mut self, out: &mut W) -> Result<(), SessionFault>
+    pub fn drain<W: Write>(&mut self, out: &mut W) -> Result<(), OutputFault>
         ensures does { (acts : List Act) × (asked acts ≡ []) × Does B.view self.old self.new (W.contents out.old) (W.contents out.new) result acts }
         ensures none { OnOk result (unanswered_of self.new.device ≡ 0) }
         ensures cleared { OnOk result (self.new.cookies ≡ []) }
@@ -203,7 +203,7 @@ impl<B: Bus> Desk<B> {
     }
 
     // Turns until nothing is without an answer, where there is no room for another request.
-    fn make_room<W: Write>(&mut self, out: &mut W) -> Result<(), SessionFault>
+    fn make_room<W: Write>(&mut self, out: &mut W) -> Result<(), OutputFault>
         ensures does { (acts : List Act) × (asked acts ≡ []) × Does B.view self.old self.new (W.contents out.old) (W.contents out.new) result acts }
         ensures room { OnOk result (length self.new.cookies < MAX_WAITING) }
     {
@@ -238,7 +238,7 @@ impl<B: Bus> Desk<B> {
         cookie: u64,
         request: Request,
         out: &mut W,
-    ) -> Result<(), SessionFault>
+    ) -> Result<(), OutputFault>
         requires { length self.old.cookies < MAX_WAITING }
         ensures { (reply : Reply) × Does B.view self.old self.new (W.contents out.old) (W.contents out.new) result (Asks cookie request reply ∷ []) }
     {
@@ -255,7 +255,7 @@ impl<B: Bus> Desk<B> {
         cookie: u64,
         request: Request,
         out: &mut W,
-    ) -> Result<(), SessionFault>
+    ) -> Result<(), OutputFault>
         ensures { (acts : List Act) × Does B.view self.old self.new (W.contents out.old) (W.contents out.new) result acts × OnOk result (asked acts ≡ cookie ∷ []) }
     {
         self.make_room(out)?;

@@ -1,5 +1,12 @@
 // What a client sends.
-use crate::fault::SessionFault;
+ghost use Rattle.std.specs.Prelude.{◌≡◌, [], IfOk, IfSome, List, MatchOption, OnOk, Some, length, true, ℕ};
+ghost use Rattle.std.specs.Io.Buffered.{reader_remaining};
+ghost use Rattle.std.specs.Io.KnownBytes.{IsAtEnd, Keeps};
+ghost use Rattle.nbd_messages.specs.Options.{option_in};
+ghost use Rattle.nbd_messages.specs.Requests.{request_in};
+ghost use Rattle.nbd_server.specs.Messages.{IsRequest, Reads, data_length};
+
+use crate::fault::InputFault;
 use nbd_messages::{Command, OptionHeader, RequestHeader, option_in, request_in};
 use std::alloc::Global;
 use std::io::{BufRead, BufReader, ErrorKind, Read};
@@ -11,39 +18,49 @@ pub const MAX_OPTION: u32 = 4096;
 pub const MAX_LENGTH: u32 = 0x0200_0000;
 
 /// Reads just so many bytes as there is room for.
-pub fn fill<R: Read>(input: &mut BufReader<R>, bytes: &mut [u8]) -> Result<(), SessionFault> {
+pub fn fill<R: Read>(input: &mut BufReader<R>, bytes: &mut [u8]) -> Result<(), InputFault>
+    ensures read { OnOk result (Reads R.remaining input.old input.new bytes.new) }
+{
     match input.read_exact(bytes) {
         Ok(()) => Ok(()),
         Err(error) => match error.kind() {
-            ErrorKind::UnexpectedEof => Err(SessionFault::Cut),
-            _ => Err(SessionFault::Input),
+            ErrorKind::UnexpectedEof => Err(InputFault::Cut),
+            _ => Err(InputFault::Reader),
         },
     }
 }
 
 // Whether no byte is left.
-fn is_at_end<R: Read>(input: &mut BufReader<R>) -> Result<bool, SessionFault> {
+fn is_at_end<R: Read>(input: &mut BufReader<R>) -> Result<bool, InputFault>
+    ensures kept { Keeps (reader_remaining R.remaining input.old) (reader_remaining R.remaining input.new) }
+    ensures end { IfOk result (λ ends. ends ≡ true → IsAtEnd (reader_remaining R.remaining input.old)) }
+{
     match input.fill_buf() {
         Ok(bytes) => Ok(bytes.is_empty()),
-        Err(_) => Err(SessionFault::Input),
+        Err(_) => Err(InputFault::Reader),
     }
 }
 
-/// So many bytes.
+/// So many bytes, or `None` where memory was refused, and then nothing is read.
 pub fn bytes_of<R: Read>(
     alloc: Global,
     input: &mut BufReader<R>,
     count: usize,
-) -> Result<Vec<u8>, SessionFault> {
+) -> Result<Option<Vec<u8>>, InputFault>
+    ensures { IfOk result (λ bytes. MatchOption bytes (input.new ≡ input.old)
+        (λ bytes. (length bytes.items ≡ count) × Reads R.remaining input.old input.new bytes.items)) }
+{
     let Ok(mut bytes) = vec![in alloc; 0u8; count] else {
-        return Err(SessionFault::NoMemory);
+        return Ok(None);
     };
     fill(input, bytes.as_mut_slice())?;
-    Ok(bytes)
+    Ok(Some(bytes))
 }
 
-/// Reads so many bytes and forgets them.
-pub fn skip<R: Read>(input: &mut BufReader<R>, count: u64) -> Result<(), SessionFault> {
+// Reads so many bytes and forgets them.
+fn skip<R: Read>(input: &mut BufReader<R>, count: u64) -> Result<(), InputFault>
+    ensures read { OnOk result ((bytes : List ℕ) × (length bytes ≡ count) × Reads R.remaining input.old input.new bytes) }
+{
     let mut chunk = [0u8; 4096];
     let mut left = count;
     while left > 0 {
@@ -55,9 +72,10 @@ pub fn skip<R: Read>(input: &mut BufReader<R>, count: u64) -> Result<(), Session
 }
 
 /// The header of the next option, or `None` where the input has ended before it.
-pub fn next_option<R: Read>(
-    input: &mut BufReader<R>,
-) -> Result<Option<OptionHeader>, SessionFault> {
+pub fn next_option<R: Read>(input: &mut BufReader<R>) -> Result<Option<OptionHeader>, InputFault>
+    ensures { IfOk result (λ next. MatchOption next (IsAtEnd (reader_remaining R.remaining input.old) × Reads R.remaining input.old input.new [])
+        (λ header. (head : List ℕ) × (option_in head ≡ Some header) × (length head ≡ 16) × Reads R.remaining input.old input.new head)) }
+{
     if is_at_end(input)? {
         return Ok(None);
     }
@@ -65,14 +83,15 @@ pub fn next_option<R: Read>(
     fill(input, &mut bytes)?;
     match option_in(&bytes) {
         Some(option) => Ok(Some(option)),
-        None => Err(SessionFault::Junk),
+        None => Err(InputFault::Junk),
     }
 }
 
-/// The header of the next request, or `None` where the input has ended before it.
-pub fn next_request<R: Read>(
-    input: &mut BufReader<R>,
-) -> Result<Option<RequestHeader>, SessionFault> {
+// The header of the next request, or `None` where the input has ended before it.
+fn next_request<R: Read>(input: &mut BufReader<R>) -> Result<Option<RequestHeader>, InputFault>
+    ensures { IfOk result (λ next. MatchOption next (IsAtEnd (reader_remaining R.remaining input.old) × Reads R.remaining input.old input.new [])
+        (λ header. (head : List ℕ) × (request_in head ≡ Some header) × (length head ≡ 28) × Reads R.remaining input.old input.new head)) }
+{
     if is_at_end(input)? {
         return Ok(None);
     }
@@ -80,8 +99,54 @@ pub fn next_request<R: Read>(
     fill(input, &mut bytes)?;
     match request_in(&bytes) {
         Some(request) => Ok(Some(request)),
-        None => Err(SessionFault::Junk),
+        None => Err(InputFault::Junk),
     }
+}
+
+// The data behind a header, which are those of a write. Where they are too many or memory is refused they are read and forgotten.
+fn data_of<R: Read>(
+    alloc: Global,
+    input: &mut BufReader<R>,
+    header: &RequestHeader,
+) -> Result<Option<Vec<u8>>, InputFault>
+    ensures { IfOk result (λ given. (behind : List ℕ) × (length behind ≡ data_length header.now.command header.now.length)
+        × IfSome given (λ bytes. bytes.items ≡ behind) × Reads R.remaining input.old input.new behind) }
+{
+    if header.command != Some(Command::Write) {
+        return Ok(None);
+    }
+    if header.length <= MAX_LENGTH {
+        if let Some(bytes) = bytes_of(alloc, input, header.length as usize)? {
+            return Ok(Some(bytes));
+        }
+    }
+    skip(input, header.length as u64)?;
+    Ok(None)
+}
+
+/// A request as it came.
+#[derive(Drop)]
+pub struct Message {
+    /// Its header.
+    pub header: RequestHeader,
+    /// The data of a write, of which there are none where it is too long or memory was refused.
+    pub given: Option<Vec<u8>>,
+}
+
+/// The next request, or `None` where the input has ended before it.
+pub fn next_message<R: Read>(
+    alloc: Global,
+    input: &mut BufReader<R>,
+) -> Result<Option<Message>, InputFault>
+    ensures { IfOk result (λ next. MatchOption next (IsAtEnd (reader_remaining R.remaining input.old) × Reads R.remaining input.old input.new [])
+        (λ message. (behind bytes : List ℕ) × IsRequest message.header behind bytes
+        × IfSome message.given (λ given. given.items ≡ behind) × Reads R.remaining input.old input.new bytes)) }
+{
+    let Some(header) = next_request(input)? else {
+        return Ok(None);
+    };
+    let given = data_of(alloc, input, &header)?;
+    Ok(Some(Message { header, given }))
 }
 
 /// Whether a whole request has come already, so that to read it means no waiting.

@@ -13,6 +13,6 @@ mod session;
 
 pub use desk::Desk;
 pub use export::Export;
-pub use fault::SessionFault;
+pub use fault::{InputFault, OutputFault, SessionFault};
 pub use names::{PARTS, part_by, part_name};
 pub use session::serve;

@@ -1,7 +1,13 @@
 // The negotiation of an export.
+ghost use Rattle.std.specs.Prelude.{IfOk, OnOk};
+ghost use Rattle.std.specs.Io.Buffered.{reader_remaining};
+ghost use Rattle.text_out.specs.Writing.{Writes};
+ghost use Rattle.nbd_messages.specs.Options.{option_reply_header};
+ghost use Rattle.nbd_server.specs.Session.{Grows, Shrinks};
+
 use crate::desk::put_bytes;
 use crate::export::Export;
-use crate::fault::SessionFault;
+use crate::fault::{InputFault, OutputFault, SessionFault};
 use crate::input::{MAX_OPTION, bytes_of, fill, next_option};
 use crate::names::{PARTS, part_by, part_name};
 use crate::session::flush;
@@ -36,26 +42,39 @@ fn export_by(info: &Info, default: Part, name: &[u8]) -> Option<Export> {
 }
 
 // Writes a reply without data.
-fn put_plain<W: Write>(out: &mut W, option: u32, reply: OptionReply) -> Result<(), SessionFault> {
+fn put_plain<W: Write>(out: &mut W, option: u32, reply: OptionReply) -> Result<(), OutputFault>
+    ensures { Writes (W.contents out.old) (W.contents out.new) result (option_reply_header option reply 0) }
+{
     put_bytes(out, &option_reply(option, reply, 0))
 }
 
+// Writes the name of an export.
+fn put_name<W: Write>(out: &mut W, part: Part, option: u32) -> Result<(), OutputFault>
+    ensures { OnOk result (Grows (W.contents out.old) (W.contents out.new)) }
+{
+    let name = part_name(part);
+    let length = name.len() as u32;
+    put_bytes(out, &option_reply(option, OptionReply::Server, 4 + length))?;
+    put_bytes(out, &name_length(length))?;
+    put_bytes(out, name)
+}
+
 // Writes the names of all exports.
-fn put_names<W: Write>(out: &mut W, info: &Info, option: u32) -> Result<(), SessionFault> {
+fn put_names<W: Write>(out: &mut W, info: &Info, option: u32) -> Result<(), OutputFault>
+    ensures { OnOk result (Grows (W.contents out.old) (W.contents out.new)) }
+{
     for part in PARTS {
         if info.sectors(part).is_some() {
-            let name = part_name(part);
-            let length = name.len() as u32;
-            put_bytes(out, &option_reply(option, OptionReply::Server, 4 + length))?;
-            put_bytes(out, &name_length(length))?;
-            put_bytes(out, name)?;
+            put_name(out, part, option)?;
         }
     }
     put_plain(out, option, OptionReply::Acknowledged)
 }
 
 // Writes what an export is like.
-fn put_info<W: Write>(out: &mut W, export: &Export, option: u32) -> Result<(), SessionFault> {
+fn put_info<W: Write>(out: &mut W, export: &Export, option: u32) -> Result<(), OutputFault>
+    ensures { OnOk result (Grows (W.contents out.old) (W.contents out.new)) }
+{
     put_bytes(out, &option_reply(option, OptionReply::Info, 12))?;
     put_bytes(out, &export_info(export.size(), export.can.flags()))?;
     put_bytes(out, &option_reply(option, OptionReply::Info, 14))?;
@@ -68,7 +87,9 @@ fn put_answer<W: Write>(
     out: &mut W,
     export: &Export,
     client: ClientFlags,
-) -> Result<(), SessionFault> {
+) -> Result<(), OutputFault>
+    ensures { OnOk result (Grows (W.contents out.old) (W.contents out.new)) }
+{
     put_bytes(out, &export_answer(export.size(), export.can.flags()))?;
     if !client.no_zeroes {
         put_bytes(out, &[0; 124])?;
@@ -98,7 +119,9 @@ fn inform<W: Write>(
     default: Part,
     option: u32,
     data: &[u8],
-) -> Result<Option<Export>, SessionFault> {
+) -> Result<Option<Export>, OutputFault>
+    ensures { OnOk result (Grows (W.contents out.old) (W.contents out.new)) }
+{
     let Some(name) = name_in(data) else {
         put_plain(out, option, OptionReply::Invalid)?;
         return Ok(None);
@@ -119,7 +142,9 @@ fn answer<W: Write>(
     client: ClientFlags,
     option: u32,
     data: &[u8],
-) -> Result<Standing, SessionFault> {
+) -> Result<Standing, SessionFault>
+    ensures { OnOk result (Grows (W.contents out.old) (W.contents out.new)) }
+{
     match OptionKind::by(option) {
         None => put_plain(out, option, OptionReply::Unsupported)?,
         Some(OptionKind::Abort) => {
@@ -151,14 +176,17 @@ fn answer<W: Write>(
 fn greet<R: Read, W: Write>(
     input: &mut BufReader<R>,
     out: &mut W,
-) -> Result<ClientFlags, SessionFault> {
+) -> Result<ClientFlags, SessionFault>
+    ensures read { OnOk result (Shrinks (reader_remaining R.remaining input.old) (reader_remaining R.remaining input.new)) }
+    ensures written { OnOk result (Grows (W.contents out.old) (W.contents out.new)) }
+{
     put_bytes(out, &greeting())?;
     flush(out)?;
     let mut bytes = [0; 4];
     fill(input, &mut bytes)?;
     match client_flags_in(&bytes) {
         Some(client) => Ok(client),
-        None => Err(SessionFault::Junk),
+        None => Err(SessionFault::Input(InputFault::Junk)),
     }
 }
 
@@ -170,14 +198,19 @@ fn serve_option<R: Read, W: Write>(
     client: ClientFlags,
     input: &mut BufReader<R>,
     out: &mut W,
-) -> Result<Standing, SessionFault> {
+) -> Result<Standing, SessionFault>
+    ensures read { OnOk result (Shrinks (reader_remaining R.remaining input.old) (reader_remaining R.remaining input.new)) }
+    ensures written { OnOk result (Grows (W.contents out.old) (W.contents out.new)) }
+{
     let Some(option) = next_option(input)? else {
         return Ok(Standing::Over);
     };
     if option.length > MAX_OPTION {
         return Err(SessionFault::OptionTooLong);
     }
-    let data = bytes_of(alloc, input, option.length as usize)?;
+    let Some(data) = bytes_of(alloc, input, option.length as usize)? else {
+        return Err(SessionFault::NoMemory);
+    };
     let standing = answer(out, info, default, client, option.number, data.as_slice())?;
     flush(out)?;
     Ok(standing)
@@ -193,7 +226,10 @@ pub fn negotiate<R: Read, W: Write>(
     default: Part,
     input: &mut BufReader<R>,
     out: &mut W,
-) -> Result<Option<Export>, SessionFault> {
+) -> Result<Option<Export>, SessionFault>
+    ensures read { OnOk result (Shrinks (reader_remaining R.remaining input.old) (reader_remaining R.remaining input.new)) }
+    ensures written { OnOk result (Grows (W.contents out.old) (W.contents out.new)) }
+{
     let client = greet(input, out)?;
     for _ in 0..u64::MAX {
         match serve_option(alloc, info, default, client, input, out)? {

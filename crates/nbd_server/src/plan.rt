@@ -3,6 +3,11 @@
 // 2. Up to `PART` sectors a read or a write is one request of the device. A longer one is served in parts.
 // 3. A trim is one where the card trims. Otherwise it is an erase of the whole erase units in it, if there are any.
 // 4. Zeroes are a trim, where the card trims to zeroes.
+ghost use Rattle.std.specs.Prelude.{◌≡◌, ◌≢◌, ◌<◌, ◌+◌, ◌≤◌, List, MatchOption, Option, Some, option_map, ℕ};
+ghost use Rattle.nbd_messages.specs.declared.command.Command.TheVariants.{Disconnect, Flush, Read, Trim, Write, WriteZeroes};
+ghost use Rattle.nbd_server.specs.Plan.{IsPlan, IsPlanFor, Names};
+ghost use Rattle.nbd_server.specs.declared.plan.Span.{Span};
+
 use crate::export::Export;
 use crate::input::MAX_LENGTH;
 use crate::long::PART;
@@ -35,7 +40,9 @@ pub enum Plan {
 }
 
 // The sectors that a request names, where they are whole ones of the export.
-fn span_of(export: &Export, header: &RequestHeader) -> Option<Span> {
+fn span_of(export: &Export, header: &RequestHeader) -> Option<Span>
+    ensures { MatchOption result ((span : Span) → Names export.now header.now span → ⊥) (Names export.now header.now) }
+{
     let length = header.length as u64;
     if header.offset % 512 != 0 || length % 512 != 0 || length == 0 {
         return None;
@@ -51,7 +58,10 @@ fn span_of(export: &Export, header: &RequestHeader) -> Option<Span> {
 }
 
 // The whole erase units among these sectors; the last one may end with the export.
-fn whole_units(export: &Export, span: Span) -> Span {
+fn whole_units(export: &Export, span: Span) -> Span
+    ensures from { 0 < result.count → span.start ≤ result.start }
+    ensures to { 0 < result.count → result.start + result.count ≤ span.start + span.count }
+{
     let unit = export.erase_unit;
     let start = span.start.div_ceil(unit).saturating_mul(unit);
     let end = span.start.saturating_add(span.count);
@@ -66,7 +76,9 @@ fn whole_units(export: &Export, span: Span) -> Span {
     }
 }
 
-fn read(export: &Export, span: Span) -> Plan {
+fn read(export: &Export, span: Span) -> Plan
+    ensures { (given : Option (List ℕ)) → IsPlanFor export.now Read span given result }
+{
     if span.count > PART {
         return Plan::ReadLong(span);
     }
@@ -77,22 +89,26 @@ fn read(export: &Export, span: Span) -> Plan {
     })
 }
 
-fn write(export: &Export, span: Span, data: Vec<u8>) -> Plan {
+fn write(export: &Export, span: Span, bytes: Vec<u8>) -> Plan
+    ensures { IsPlanFor export.now Write span (Some bytes.items) result }
+{
     if export.can.read_only {
         return Plan::Answer(Some(ReplyError::NotPermitted));
     }
     if span.count > PART {
-        return Plan::WriteLong(span, data);
+        return Plan::WriteLong(span, bytes);
     }
     Plan::Ask(Request::Write {
         part: export.part,
         start: span.start,
         count: span.count,
-        bytes: Bytes::new(data),
+        bytes: Bytes::new(bytes),
     })
 }
 
-fn trim(export: &Export, span: Span) -> Plan {
+fn trim(export: &Export, span: Span) -> Plan
+    ensures { (given : Option (List ℕ)) → IsPlanFor export.now Trim span given result }
+{
     if export.can.read_only {
         return Plan::Answer(Some(ReplyError::NotPermitted));
     }
@@ -117,7 +133,9 @@ fn trim(export: &Export, span: Span) -> Plan {
     })
 }
 
-fn write_zeroes(export: &Export, span: Span) -> Plan {
+fn write_zeroes(export: &Export, span: Span) -> Plan
+    ensures { (given : Option (List ℕ)) → IsPlanFor export.now WriteZeroes span given result }
+{
     if export.can.read_only {
         return Plan::Answer(Some(ReplyError::NotPermitted));
     }
@@ -132,10 +150,14 @@ fn write_zeroes(export: &Export, span: Span) -> Plan {
 }
 
 // What a request for these sectors comes to.
-fn planned_for(export: &Export, command: Command, span: Span, data: Option<Vec<u8>>) -> Plan {
-    match (command, data) {
+fn planned_for(export: &Export, command: Command, span: Span, given: Option<Vec<u8>>) -> Plan
+    requires ends { command ≢ Disconnect }
+    requires waits { command ≢ Flush }
+    ensures { IsPlanFor export.now command span (option_map (λ bytes. bytes.items) given) result }
+{
+    match (command, given) {
         (Command::Read, _) => read(export, span),
-        (Command::Write, Some(data)) => write(export, span, data),
+        (Command::Write, Some(bytes)) => write(export, span, bytes),
         (Command::Write, None) => Plan::Answer(Some(ReplyError::NoMemory)),
         (Command::Trim, _) => trim(export, span),
         (Command::WriteZeroes, _) => write_zeroes(export, span),
@@ -143,8 +165,11 @@ fn planned_for(export: &Export, command: Command, span: Span, data: Option<Vec<u
     }
 }
 
-/// What a request comes to, or `None` where it ends the session. `data` are those of a write, of which there are none where it is too long or memory was refused.
-pub fn planned(export: &Export, header: &RequestHeader, data: Option<Vec<u8>>) -> Option<Plan> {
+/// What a request comes to, or `None` where it ends the session. `given` are the data
+/// of a write, of which there are none where it is too long or memory was refused.
+pub fn planned(export: &Export, header: &RequestHeader, given: Option<Vec<u8>>) -> Option<Plan>
+    ensures { MatchOption result (header.now.command ≡ Some Disconnect) (IsPlan export.now header.now (option_map (λ bytes. bytes.items) given)) }
+{
     let Some(command) = header.command else {
         return Some(Plan::Answer(Some(ReplyError::Invalid)));
     };
@@ -156,7 +181,7 @@ pub fn planned(export: &Export, header: &RequestHeader, data: Option<Vec<u8>>) -
         }
         _ => match span_of(export, header) {
             None => Some(Plan::Answer(Some(ReplyError::Invalid))),
-            Some(span) => Some(planned_for(export, command, span, data)),
+            Some(span) => Some(planned_for(export, command, span, given)),
         },
     }
 }

@@ -1,47 +1,32 @@
 // A session: the negotiation of an export, then its requests. All that have come are submitted before the next turn, so that
 // neighbours merge; before the input is waited for, each has its reply.
-ghost use Rattle.std.specs.Prelude.{◌≡◌, ◌∷◌, [], List, OnOk};
+ghost use Rattle.std.specs.Prelude.{◌≡◌, ◌⊎◌, ◌∷◌, [], IfOk, List, OnOk, Option, ℕ};
+ghost use Rattle.std.specs.Io.Buffered.{reader_remaining};
+ghost use Rattle.std.specs.Io.KnownBytes.{Keeps};
+ghost use Rattle.mmc_block.specs.Device.{unanswered_of};
 ghost use Rattle.nbd_server.specs.Acts.{Act, asked};
 ghost use Rattle.nbd_server.specs.Desk.{Does};
+ghost use Rattle.nbd_server.specs.Session.{AreTakenUp, Ends, IsSession, IsTakenUp, done_of};
 
 use crate::desk::{Desk, put_data, put_reply};
 use crate::export::Export;
-use crate::fault::SessionFault;
-use crate::input::{MAX_LENGTH, bytes_of, has_request, next_request, skip};
+use crate::fault::{InputFault, OutputFault, SessionFault};
+use crate::input::{Message, has_request, next_message};
 use crate::long::{read_long, write_long};
 use crate::negotiation::negotiate;
 use crate::plan::{Plan, Span, planned};
 use mmc_bus::{Bus, Part};
-use nbd_messages::{Command, RequestHeader};
 use std::alloc::Global;
 use std::io::{BufReader, Read, Write};
 
 // Writes out what a writer holds back.
-pub(crate) fn flush<W: Write>(out: &mut W) -> Result<(), SessionFault> {
+pub(crate) fn flush<W: Write>(out: &mut W) -> Result<(), OutputFault>
+    ensures { Keeps (W.contents out.old) (W.contents out.new) }
+{
     match out.flush() {
         Ok(()) => Ok(()),
-        Err(_) => Err(SessionFault::Output),
+        Err(_) => Err(OutputFault),
     }
-}
-
-// The data behind the header of a write. Where they are too many or memory is refused they are read and forgotten.
-fn data_of<R: Read>(
-    alloc: Global,
-    input: &mut BufReader<R>,
-    header: &RequestHeader,
-) -> Result<Option<Vec<u8>>, SessionFault> {
-    if header.command != Some(Command::Write) {
-        return Ok(None);
-    }
-    if header.length <= MAX_LENGTH {
-        match bytes_of(alloc, input, header.length as usize) {
-            Ok(data) => return Ok(Some(data)),
-            Err(SessionFault::NoMemory) => {}
-            Err(fault) => return Err(fault),
-        }
-    }
-    skip(input, header.length as u64)?;
-    Ok(None)
 }
 
 // Serves a long read while nothing else waits, and replies.
@@ -52,7 +37,7 @@ fn serve_read<B: Bus, W: Write>(
     part: Part,
     span: Span,
     out: &mut W,
-) -> Result<(), SessionFault>
+) -> Result<(), OutputFault>
     ensures { (acts : List Act) × Does B.view desk.old desk.new (W.contents out.old) (W.contents out.new) result acts × OnOk result (asked acts ≡ cookie ∷ []) }
 {
     desk.drain(out)?;
@@ -71,7 +56,7 @@ fn serve_write<B: Bus, W: Write>(
     start: u64,
     data: &[u8],
     out: &mut W,
-) -> Result<(), SessionFault>
+) -> Result<(), OutputFault>
     ensures { (acts : List Act) × Does B.view desk.old desk.new (W.contents out.old) (W.contents out.new) result acts × OnOk result (asked acts ≡ cookie ∷ []) }
 {
     desk.drain(out)?;
@@ -84,7 +69,7 @@ fn serve_flush<B: Bus, W: Write>(
     desk: &mut Desk<B>,
     cookie: u64,
     out: &mut W,
-) -> Result<(), SessionFault>
+) -> Result<(), OutputFault>
     ensures { (acts : List Act) × Does B.view desk.old desk.new (W.contents out.old) (W.contents out.new) result acts × OnOk result (asked acts ≡ cookie ∷ []) }
 {
     desk.drain(out)?;
@@ -99,7 +84,7 @@ fn serve_plan<B: Bus, W: Write>(
     cookie: u64,
     plan: Plan,
     out: &mut W,
-) -> Result<(), SessionFault>
+) -> Result<(), OutputFault>
     ensures { (acts : List Act) × Does B.view desk.old desk.new (W.contents out.old) (W.contents out.new) result acts × OnOk result (asked acts ≡ cookie ∷ []) }
 {
     match plan {
@@ -113,43 +98,83 @@ fn serve_plan<B: Bus, W: Write>(
     }
 }
 
-// Serves the next request, and says whether more may follow.
-fn serve_next<B: Bus, R: Read, W: Write>(
+// Serves a request, and says whether another may follow.
+fn serve_message<B: Bus, W: Write>(
     alloc: Global,
     desk: &mut Desk<B>,
     export: &Export,
-    input: &mut BufReader<R>,
+    message: Message,
     out: &mut W,
-) -> Result<bool, SessionFault> {
-    if !has_request(input) {
-        desk.drain(out)?;
-        flush(out)?;
-    }
-    let Some(header) = next_request(input)? else {
-        return Ok(false);
-    };
-    let data = data_of(alloc, input, &header)?;
-    let Some(plan) = planned(export, &header, data) else {
+) -> Result<bool, OutputFault>
+    ensures { (acts : List Act) × Does B.view desk.old desk.new (W.contents out.old) (W.contents out.new) (done_of result) acts
+        × IfOk result (IsTakenUp message.header (asked acts)) }
+{
+    let Message { header, given } = message;
+    let Some(plan) = planned(export, &header, given) else {
         return Ok(false);
     };
     serve_plan(alloc, desk, export.part, header.cookie, plan, out)?;
     Ok(true)
 }
 
-// Serves requests until the client ends the session, or the input ends; 2^64 - 1 at most.
+// Replies to all that has come, where the next request hasn't come whole: before it is waited for.
+fn settle<B: Bus, R: Read, W: Write>(
+    desk: &mut Desk<B>,
+    input: &BufReader<R>,
+    out: &mut W,
+) -> Result<(), OutputFault>
+    ensures { (acts : List Act) × (asked acts ≡ []) × Does B.view desk.old desk.new (W.contents out.old) (W.contents out.new) result acts }
+{
+    if has_request(input) {
+        return Ok(());
+    }
+    desk.drain(out)?;
+    flush(out)
+}
+
+// Serves requests until the client ends the session, or the input ends; 2^64 - 1 at most. What comes back is how the input ended.
 fn serve_all<B: Bus, R: Read, W: Write>(
     alloc: Global,
     desk: &mut Desk<B>,
     export: &Export,
     input: &mut BufReader<R>,
     out: &mut W,
-) -> Result<(), SessionFault> {
-    for _ in 0..u64::MAX {
-        if !serve_next(alloc, desk, export, input, out)? {
-            return Ok(());
+) -> Result<Result<(), InputFault>, OutputFault>
+    ensures { (acts : List Act) × Does B.view desk.old desk.new (W.contents out.old) (W.contents out.new) (done_of result) acts
+        × IfOk result (λ ended. (left : Option (List ℕ)) × AreTakenUp (reader_remaining R.remaining input.old) left (asked acts)
+        × OnOk ended (Ends left (reader_remaining R.remaining input.new) (asked acts))) }
+{
+    for _served in 0..u64::MAX {
+        settle(desk, input, out)?;
+        let message = match next_message(alloc, input) {
+            Ok(Some(message)) => message,
+            Ok(None) => return Ok(Ok(())),
+            Err(fault) => return Ok(Err(fault)),
+        };
+        if !serve_message(alloc, desk, export, message, out)? {
+            return Ok(Ok(()));
         }
     }
-    Ok(())
+    Ok(Ok(()))
+}
+
+// The same, and then nothing is without an answer.
+fn serve_export<B: Bus, R: Read, W: Write>(
+    alloc: Global,
+    desk: &mut Desk<B>,
+    export: &Export,
+    input: &mut BufReader<R>,
+    out: &mut W,
+) -> Result<Result<(), InputFault>, OutputFault>
+    ensures { (acts : List Act) × Does B.view desk.old desk.new (W.contents out.old) (W.contents out.new) (done_of result) acts
+        × IfOk result (λ ended. (unanswered_of desk.new.device ≡ 0)
+        × ((left : Option (List ℕ)) × AreTakenUp (reader_remaining R.remaining input.old) left (asked acts)
+        × OnOk ended (Ends left (reader_remaining R.remaining input.new) (asked acts)))) }
+{
+    let ended = serve_all(alloc, desk, export, input, out)?;
+    desk.drain(out)?;
+    flush(out)?;
+    Ok(ended)
 }
 
 /// Negotiates an export, and serves its requests until the client ends the session, or the input ends. The empty name is that of
@@ -163,15 +188,12 @@ pub fn serve<B: Bus, R: Read, W: Write>(
     default: Part,
     input: &mut BufReader<R>,
     out: &mut W,
-) -> Result<(), SessionFault> {
+) -> Result<(), SessionFault>
+    ensures { (desk.new ≡ desk.old) ⊎ IsSession B.view desk.old desk.new (reader_remaining R.remaining input.old)
+        (reader_remaining R.remaining input.new) (W.contents out.old) (W.contents out.new) result }
+{
     let Some(export) = negotiate(alloc, desk.device().info(), default, input, out)? else {
         return Ok(());
     };
-    let served = serve_all(alloc, desk, &export, input, out);
-    if let Err(SessionFault::Output) = served {
-        return served;
-    }
-    desk.drain(out)?;
-    flush(out)?;
-    served
+    Ok(serve_export(alloc, desk, &export, input, out)??)
 }

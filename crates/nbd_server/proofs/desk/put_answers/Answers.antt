@@ -1,7 +1,6 @@
-use Rattle.std.proofs.Common.{◌<◌, ◌+◌, ◌++◌, length, drop, arith, sym, ap, ◌∙◌, append_assoc, subst}
-use Rattle.text_out.specs.Writing.{Writes}
+use Rattle.std.proofs.Common.{◌<◌, ◌+◌, ◌++◌, length, drop, arith, sym, ap, ◌∙◌, append_assoc}
 use Rattle.text_out.proofs.WritingLemmas.{appends_more, writes_broken}
-use Rattle.nbd_server.specs.Acts.{answer_bytes, answers_bytes, cookie_under}
+use Rattle.nbd_server.specs.Acts.{answer_bytes, answers_bytes}
 use Rattle.nbd_server.proofs.AnswerLemmas.{answers_at}
 use Rattle.nbd_server.proofs.desk.put_answers.Goals as goal
 

@@ -1,6 +1,6 @@
-use Rattle.std.proofs.Common.{[], None, Some, refl, ◌++◌, ◌∷◌}
+use Rattle.std.proofs.Common.{Some, refl}
 use Rattle.nbd_server.specs.Acts.Act.{Gives, Says}
-use Rattle.nbd_server.proofs.DeskLemmas.{asks_one, does_failed, does_then, gives_does, on_no_ok, on_ok, says_does}
+use Rattle.nbd_server.proofs.DeskLemmas.{does_failed, gives_does, on_no_ok, says_does}
 use Rattle.nbd_server.proofs.DeskLemmas.{served_long}
 use Rattle.nbd_server.proofs.session.serve_read.Goals as goal
 

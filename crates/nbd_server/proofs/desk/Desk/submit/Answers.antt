@@ -1,4 +1,4 @@
-use Rattle.std.proofs.Common.{[], ap, arith, length, length-append, refl, sym, ◌∷◌, ◌≡◌}
+use Rattle.std.proofs.Common.{[], ap, arith, length, length-append, sym, ◌∷◌}
 use Rattle.nbd_server.specs.Desk.{DeskView}
 use Rattle.nbd_server.proofs.DeskLemmas.{queued, queued_numbered, queued_once, refused, refused_once}
 use Rattle.nbd_server.proofs.desk.Desk.submit.Goals as goal

@@ -1,7 +1,4 @@
-use Rattle.std.proofs.Common.{[], append-nil, refl, subst, sym, ◌∷◌}
-use Rattle.text_out.specs.Writing.{Writes}
-use Rattle.nbd_server.specs.Acts.{bytes_of}
-use Rattle.nbd_server.specs.Acts.Act.{Turns}
+use Rattle.std.proofs.Common.{refl, sym}
 use Rattle.nbd_server.proofs.DeskLemmas.{turn_does, turn_numbered}
 use Rattle.nbd_server.proofs.desk.Desk.turn.Goals as goal
 

@@ -1,0 +1,14 @@
+use Rattle.std.proofs.Common.{refl, ◌++◌}
+use Rattle.nbd_server.proofs.InputLemmas.{consumes_then}
+use Rattle.nbd_server.proofs.input.next_message.Goals as goal
+
+pub returns : goal.returns
+returns g c =
+    let (head, fields, short, read) = rw c.in-Some.is at c.in_ok-header.ensures in
+    let (behind, many, same, more) = c.in_ok-given.ensures in (
+      behind,
+      head ++ behind,
+      record { head = head; fields = fields; short = short; whole = refl; all_data = many },
+      same,
+      consumes_then _ _ _ head behind read more,
+    )

@@ -1,0 +1,61 @@
+use Rattle.std.proofs.Common.{subst, sym, ◌++◌}
+use Rattle.std.specs.Prelude.{OnOk}
+use Rattle.std.specs.Io.Buffered.{reader_remaining}
+use Rattle.nbd_server.specs.Session.{AreTakenUp, Ends}
+use Rattle.nbd_server.proofs.DeskLemmas.{does_then}
+use Rattle.nbd_server.proofs.SessionLemmas.{asks_no_more, does_broken, does_flushed, if_no_ok}
+use Rattle.nbd_server.proofs.session.serve_export.Goals as goal
+
+pub returns-in_err-ended : goal.returns-in_err-ended
+returns-in_err-ended g c =
+    let (acts, does, taken) = c.in_err-ended.ensures in
+    let failed = c.from_residual.ensures.0 in (
+      acts,
+      does_broken g.B.Bus.view _ _ _ _ acts _ c.from_residual.result failed does,
+      if_no_ok c.from_residual.result _ failed,
+    )
+
+pub returns-in_err-drain : goal.returns-in_err-drain
+returns-in_err-drain g c =
+    let (acts, does, taken) = c.in_ok-ended.ensures in
+    let (more, none, drains) = c.in_err-drain.ensures.does in
+    let failed = c.from_residual-in_err-drain.ensures.0 in
+    let result = c.from_residual-in_err-drain.result in (
+      acts ++ more,
+      does_broken g.B.Bus.view _ _ _ _ (acts ++ more) _ result failed
+          (does_then g.B.Bus.view _ _ _ _ _ _ tt _ acts more does drains),
+      if_no_ok result _ failed,
+    )
+
+pub returns-in_err-flush : goal.returns-in_err-flush
+returns-in_err-flush g c =
+    let (acts, does, taken) = c.in_ok-ended.ensures in
+    let (more, none, drains) = c.in_ok-drain.ensures.does in
+    let failed = c.from_residual-in_err-flush.ensures.0 in
+    let result = c.from_residual-in_err-flush.result in (
+      acts ++ more,
+      does_broken g.B.Bus.view _ _ _ _ (acts ++ more) _ result failed
+          (does_flushed g.B.Bus.view _ _ _ _ _ tt _ (acts ++ more)
+          (does_then g.B.Bus.view _ _ _ _ _ _ tt _ acts more does drains) c.in_err-flush.ensures),
+      if_no_ok result _ failed,
+    )
+
+pub returns : goal.returns
+returns g c =
+    let (acts, does, (left, taken, ends)) = c.in_ok-ended.ensures in
+    let (more, none, drains) = c.in_ok-drain.ensures.does in
+    let old = reader_remaining g.R.Read.remaining c.args.input.now in
+    let new = reader_remaining g.R.Read.remaining c.serve_all.new.input in
+    let same = sym (asks_no_more acts more none) in (
+      acts ++ more,
+      does_flushed g.B.Bus.view _ _ _ _ _ tt _ (acts ++ more)
+          (does_then g.B.Bus.view _ _ _ _ _ _ tt _ acts more does drains) c.in_ok-flush.ensures,
+      (
+        c.in_ok-drain.ensures.none,
+        (
+          left,
+          subst (λ cookies. AreTakenUp old left cookies) same taken,
+          subst (λ cookies. OnOk c.in_ok-ended.ended (Ends left new cookies)) same ends,
+        ),
+      ),
+    )
