@@ -5,6 +5,7 @@ use crate::fault::CommandFault;
 use crate::help::{help, version};
 use crate::make::make;
 use crate::texts;
+use card_nbd::nbd;
 use std::io::{self, BufWriter, Input, Write};
 use std::process::ExitCode;
 use std::rt::Files;
@@ -15,6 +16,7 @@ pub enum CommandName {
     New,
     Check,
     Decode,
+    Nbd,
     Help,
     Version,
 }
@@ -26,6 +28,7 @@ impl CommandName {
             "new" => Some(CommandName::New),
             "check" => Some(CommandName::Check),
             "decode" => Some(CommandName::Decode),
+            "nbd" => Some(CommandName::Nbd),
             "help" => Some(CommandName::Help),
             "version" => Some(CommandName::Version),
             _ => None,
@@ -38,6 +41,7 @@ impl CommandName {
             CommandName::New => texts::NEW,
             CommandName::Check => texts::CHECK,
             CommandName::Decode => texts::DECODE,
+            CommandName::Nbd => texts::NBD,
             CommandName::Help => texts::HELP,
             CommandName::Version => texts::VERSION,
         }
@@ -51,7 +55,7 @@ const REFUSED: u8 = 2;
 
 // Does what the words say, and gives the exit status.
 fn done<W: Write>(
-    rt: &(impl Files + Input + AllocGlobal),
+    rt: &(impl Files + Input + Print + AllocGlobal),
     name: CommandName,
     words: &[&str],
     out: &mut W,
@@ -59,6 +63,7 @@ fn done<W: Write>(
     match name {
         CommandName::New => make(rt.alloc(), words, out)?,
         CommandName::Decode => decode(rt.alloc(), words, &mut rt.reader(), out)?,
+        CommandName::Nbd => nbd(rt, words)?,
         CommandName::Help => help(words, out)?,
         CommandName::Version => version(words, out)?,
         CommandName::Check => {

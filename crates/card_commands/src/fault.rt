@@ -4,6 +4,7 @@ ghost use Rattle.card_commands.specs.declared.fault.CommandFault.TheVariants.{No
 
 use card_check::CheckFault;
 use card_maker::MakeFault;
+use card_nbd::NbdFault;
 use register_words::HexFault;
 use std::alloc::{AllocError, AllocFailed};
 use std::io;
@@ -50,6 +51,9 @@ pub enum CommandFault {
     /// No card is as it is wanted.
     #[error("{0}")]
     Make(MakeFault),
+    /// A card wasn't served as a block device, or not to the end.
+    #[error("{0}")]
+    Nbd(NbdFault),
     /// Memory was refused.
     #[error("no memory")]
     NoMemory,
@@ -71,6 +75,19 @@ impl<T: Drop> From<AllocFailed<T>> for CommandFault {
 
     fn from(_error: AllocFailed<T>) -> CommandFault {
         CommandFault::NoMemory
+    }
+}
+
+impl From<NbdFault> for CommandFault {
+    ghost use Rattle.card_commands.specs.Faults.{of_nbd};
+
+    ghost from_gives = { λ fault e. e ≡ of_nbd fault };
+
+    fn from(fault: NbdFault) -> CommandFault {
+        match fault {
+            NbdFault::Usage => CommandFault::Usage,
+            fault => CommandFault::Nbd(fault),
+        }
     }
 }
 

@@ -9,6 +9,7 @@ pub(crate) const OVERVIEW: &str =
     cardtool new ..          prints a card file
     cardtool check ..        says whatever is wrong with a card file, a script and an image
     cardtool decode ..       prints the fields of a register or a frame
+    cardtool nbd ..          serves a card as a network block device on standard input and output
     cardtool help [COMMAND]  this text, or that of a command
     cardtool version         the version
 
@@ -86,8 +87,28 @@ Status: 0, or 2 where the digits aren't those of such a register.
     cardtool decode frame 510000000055
 ";
 
+/// That of `nbd`.
+pub(crate) const NBD: &str =
+    "usage: cardtool nbd --card FILE [--image FILE] [--save FILE] [--part PART]
+
+Serves the card of a card file as a network block device (NBD, fixed newstyle) on standard input and output, with the faults that
+the card file plans. Exports are the partitions that the card has, by their names. A client starts it (libnbd's connect_command), or socat
+gives it a socket.
+
+    --card FILE    the card file: registers, delays and planned faults; up to 4194304 sectors, which are 2 GiB
+    --image FILE   what the card holds at first, all partitions in order, 512 bytes a sector
+    --save FILE    writes what the card holds at the end, of all partitions in order; FILE must not be there yet
+    --part PART    the partition that goes by the empty name, user where it is left out: user, boot1, boot2, gp1, gp2, gp3 or
+                   gp4; it is saved alone
+
+Status: 0 where the client or the end of the input ended the session, 2 where something was refused, or couldn't be read or
+written. The card is saved in each case once it was opened.
+
+    socat UNIX-LISTEN:card.sock EXEC:'cardtool nbd --card examples/sdsc.card --save after.img',nofork
+";
+
 /// That of `help`.
-pub(crate) const HELP: &str = "usage: cardtool help [serve|new|check|decode|help|version]
+pub(crate) const HELP: &str = "usage: cardtool help [serve|new|check|decode|nbd|help|version]
 ";
 
 /// That of `version`.

@@ -1,0 +1,12 @@
+//! A card in memory, with the faults that a card file plans, as a network block device on standard input and output.
+#![tactic(auto)]
+
+mod card;
+mod fault;
+mod files;
+mod options;
+mod save;
+mod serving;
+
+pub use fault::NbdFault;
+pub use serving::nbd;

@@ -1,0 +1,61 @@
+// The words of the command.
+use crate::fault::NbdFault;
+use clap::{Arg, ArgMatches, Command};
+use mmc_bus::Part;
+use nbd_server::part_by;
+use std::alloc::{AllocError, Global};
+
+/// What the words give.
+#[derive(Clone, Copy, Debug, PartialEq, Eq)]
+pub struct Options<'a> {
+    /// The name of the card file.
+    pub card: &'a str,
+    /// The name of the image, where one was given.
+    pub image: Option<&'a str>,
+    /// The name of the file for the contents at the end, where one was given.
+    pub save: Option<&'a str>,
+    /// The partition that goes by the empty name, and that is saved alone, where one was given.
+    pub part: Option<Part>,
+}
+
+// The command as `clap` reads it.
+fn command<'a>(alloc: Global) -> Result<Command<'a>, AllocError> {
+    Command::new(alloc, "nbd")
+        .arg(Arg::new(alloc, "card").long("card").required(true))?
+        .arg(Arg::new(alloc, "image").long("image"))?
+        .arg(Arg::new(alloc, "save").long("save"))?
+        .arg(Arg::new(alloc, "part").long("part"))
+}
+
+// The partition that is named, where one is.
+fn part_given(matches: &ArgMatches<'_>) -> Result<Option<Part>, NbdFault> {
+    let Some(name) = matches.get_str("part") else {
+        return Ok(None);
+    };
+    match part_by(name.as_bytes()) {
+        Some(part) => Ok(Some(part)),
+        None => Err(NbdFault::NoPart),
+    }
+}
+
+/// The values of the words, of which `nbd` is the first.
+///
+/// # Errors
+/// `Usage` for other words, `NoPart`, `NoMemory`.
+pub fn options_given<'a>(alloc: Global, words: &'a [&'a str]) -> Result<Options<'a>, NbdFault> {
+    let Ok(command) = command(alloc) else {
+        return Err(NbdFault::NoMemory);
+    };
+    let Ok(matches) = command.try_get_matches_from(words) else {
+        return Err(NbdFault::Usage);
+    };
+    let Some(card) = matches.get_str("card") else {
+        return Err(NbdFault::Usage);
+    };
+    Ok(Options {
+        card,
+        image: matches.get_str("image"),
+        save: matches.get_str("save"),
+        part: part_given(&matches)?,
+    })
+}

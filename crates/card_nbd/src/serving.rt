@@ -1,0 +1,84 @@
+// The command: a card of a card file is served, and saved.
+use crate::card::built;
+use crate::fault::{NbdFault, of_opening};
+use crate::files::{new_file, read_files};
+use crate::options::{Options, options_given};
+use crate::save::save;
+use card_text::card_file::CardFile;
+use mmc_block::BlockDev;
+use mmc_bus::Part;
+use mmc_card_sim::SimCard;
+use nbd_server::{Desk, SessionFault, serve};
+use std::alloc::Global;
+use std::io::{self, BufReader, BufWriter, Input, Read, Write};
+use std::rt::Files;
+
+// How many bytes of the input are read at once, and of the output written.
+const AT_ONCE: usize = 1_048_576;
+
+// The device of a card, which has the partition that is to go by the empty name.
+fn opened(
+    alloc: Global,
+    card: SimCard,
+    part: Option<Part>,
+) -> Result<(Desk<SimCard>, Part), NbdFault> {
+    let device = match BlockDev::open(alloc, card) {
+        Ok(device) => device,
+        Err((_, fault)) => return Err(of_opening(fault)),
+    };
+    let default = part.unwrap_or(Part::User);
+    if device.info().sectors(default).is_none() {
+        return Err(NbdFault::NoPart);
+    }
+    Ok((Desk::new(device), default))
+}
+
+// Serves a session on these streams.
+fn serve_streams<R: Read + Drop, W: Write + Drop>(
+    alloc: Global,
+    desk: &mut Desk<SimCard>,
+    default: Part,
+    input: R,
+    out: W,
+) -> Result<(), NbdFault> {
+    let Ok(mut input) = BufReader::with_capacity(alloc, AT_ONCE, input) else {
+        return Err(NbdFault::NoMemory);
+    };
+    let Ok(mut out) = BufWriter::with_capacity(alloc, AT_ONCE, out) else {
+        return Err(NbdFault::NoMemory);
+    };
+    match serve(alloc, desk, default, &mut input, &mut out) {
+        Ok(()) => Ok(()),
+        Err(SessionFault::NoMemory) => Err(NbdFault::NoMemory),
+        Err(fault) => Err(NbdFault::Session(fault)),
+    }
+}
+
+// Serves as the options say.
+fn serve_card<R: Files + Input + Print + AllocGlobal>(
+    rt: &R,
+    options: &Options<'_>,
+) -> Result<(), NbdFault> {
+    let alloc = rt.alloc();
+    let CardFile { spec, plan } = read_files(rt, options.card, options.image)?;
+    let card = built(alloc, spec, plan.as_slice())?;
+    let (mut desk, default) = opened(alloc, card, options.part)?;
+    let file = new_file(rt, options.save)?;
+    let served = serve_streams(alloc, &mut desk, default, rt.reader(), io::writer(rt));
+    let card = desk.close();
+    if let Some(mut file) = file {
+        save(&card, options.part, &mut file)?;
+    }
+    served
+}
+
+/// Serves the card that the words name, of which `nbd` is the first, on standard input and output, until the client ends the
+/// session or the input ends; then saves what it holds, however the session ended.
+///
+/// # Errors
+/// `Usage`, `NoPart`; those of the files, in the order card file, image, card, save; `Save` at the end; `Session`. With any of
+/// the last two the card was served.
+pub fn nbd<R: Files + Input + Print + AllocGlobal>(rt: &R, words: &[&str]) -> Result<(), NbdFault> {
+    let options = options_given(rt.alloc(), words)?;
+    serve_card(rt, &options)
+}
