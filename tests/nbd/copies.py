@@ -10,9 +10,6 @@ from trial import Served
 NEEDS = {"nbdcopy": "libnbd-bin"}
 GOOD = (0, "")
 
-# A request of more than some forty sectors meets one of the faults at every hundredth exchange in each of its four attempts.
-SHORT = ["--request-size=8192"]
-
 
 def random_file(trial, seed, sectors):
     data = random.Random(seed).randbytes(512 * sectors)
@@ -65,9 +62,9 @@ def copies_parts(trial):
 
 def copies_with_faults(trial):
     for seed, (plan, faults) in enumerate([("every hundredth", cards.every_hundredth), ("lost power", cards.lost_power)]):
-        there_and_back(trial, f"SD, {plan}", cards.SD + faults(seed), cards.SD_SECTORS, options=SHORT)
+        there_and_back(trial, f"SD, {plan}", cards.SD + faults(seed), cards.SD_SECTORS)
         large = trial.new("--kind", "mmc", "--sectors", "8192", "--highspeed")
-        there_and_back(trial, f"eMMC, {plan}", large + faults(seed), 8192, options=SHORT)
+        there_and_back(trial, f"eMMC, {plan}", large + faults(seed), 8192)
 
 
 def qemu_converts(trial):

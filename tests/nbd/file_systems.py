@@ -4,10 +4,10 @@ import shutil
 from pathlib import Path
 
 import cards
-from copies import SHORT, copy_back, copy_there, is_same
+from copies import copy_back, copy_there, is_same
 
 NEEDS = {"nbdcopy": "libnbd-bin", "mkfs.ext4": "e2fsprogs", "e2fsck": "e2fsprogs", "debugfs": "e2fsprogs"}
-MIB = 1 << 20
+TOP = Path(__file__).resolve().parents[2]
 
 
 def make_files(trial):
@@ -66,12 +66,12 @@ def vfat(trial, sectors):
 
 def survives(trial, label, text, image, check, *words):
     """The image on the card is byte by byte what was copied, clean and with its files; and so it is read back."""
-    saved = copy_there(trial, label, text, image, *words, options=SHORT)
+    saved = copy_there(trial, label, text, image, *words)
     trial.want(f"{label}: bytes", is_same(saved, Path(image).read_bytes()), True)
     if Path(saved).exists():
         check(label, saved)
     if not words and Path(saved).exists():
-        check(f"{label}, back", copy_back(trial, label, text, saved, options=SHORT))
+        check(f"{label}, back", copy_back(trial, label, text, saved))
 
 
 def of_kind(trial, name, make):
@@ -86,8 +86,24 @@ def of_kind(trial, name, make):
         survives(trial, f"{name} in gp1, {plan}", mmc + faults(seed), image, check, "--part", "gp1")
 
 
+def as_readme_says(trial):
+    """README's three commands, as they stand there."""
+    folder = Path(trial.path("readme"))
+    for name in ("docs", "examples"):
+        shutil.copytree(TOP / name, folder / name)
+    (folder / "cardtool").symlink_to(trial.program)
+    lines = [line for line in (TOP / "README.md").read_text().splitlines() if "failing.card" in line or "e2fsck -fn" in line]
+    trial.want("README: its commands", len(lines), 3)
+    commands = trial.file("commands", "\n".join([f"cd {folder}", "PATH=$PATH:.", *lines]))
+    status, output, errors = trial.client("bash", commands)
+    trial.want("README: status, errors", (status, [line for line in errors.splitlines() if not line.startswith("e2fsck ")]), (0, []))
+    trial.want("README: what is saved", is_same(folder / "after.img", (folder / "files.img").read_bytes()), True)
+
+
 def try_all(trial):
     trial.attempt(of_kind, "ext4", ext4)
+    if shutil.which("socat"):
+        trial.attempt(as_readme_says)
     if shutil.which("mkfs.vfat"):
         trial.attempt(of_kind, "vfat", vfat)
     else:

@@ -1,6 +1,8 @@
 """The requests and their replies, by hand."""
 import random
 import struct
+import sys
+from pathlib import Path
 
 import cards
 from session import (DISC, EINVAL, EIO, ENOTSUP, EPERM, FLUSH, FUA, NO_HOLE, READ, SEND_WRITE_ZEROES, Session, TRIM, WRITE, WRITE_ZEROES,
@@ -9,6 +11,9 @@ from session import (DISC, EINVAL, EIO, ENOTSUP, EPERM, FLUSH, FUA, NO_HOLE, REA
 NEEDS = {}
 SD_BYTES = 512 * cards.SD_SECTORS
 MIB = 1 << 20
+
+# It runs a program, and notes how much memory that had.
+MEASURED = str(Path(__file__).resolve().parent / "measured.py")
 
 
 def random_bytes(seed, count):
@@ -201,7 +206,7 @@ def fails(trial):
 
 
 def serves_large_cards(trial):
-    """2^22 sectors are the most, and the memory is that of the card, once: 200 MiB are room for one of 128 MiB, and not for two."""
+    """2^22 sectors are the most, and the memory is that of the card, once: one of 128 MiB has less than 200 MiB, also while it is saved."""
     with served(trial, trial.new("--kind", "sd", "--sectors", str(1 << 22))) as session:
         trial.want("2 GiB: write", session.write((1 << 31) - 512, b"l" * 512), 0)
         trial.want("2 GiB: read", session.read((1 << 31) - 512, 512), (0, b"l" * 512))
@@ -210,12 +215,13 @@ def serves_large_cards(trial):
         ends_badly(trial, "more than 2 GiB", session)
     image = trial.path("saved")
     for words in (["--save", image], ["--image", image, "--save", trial.path("saved")]):
-        limited = ["bash", "-c", f"ulimit -v {200 * 1024} && exec \"$@\"", "bash"]
+        note = trial.path("memory")
         card = trial.file("card", trial.new("--kind", "sd", "--sectors", str(1 << 18)))
-        with Session(trial, card, *words, before=limited) as session:
+        with Session(trial, card, *words, before=[sys.executable, MEASURED, note]) as session:
             session.go()
             trial.want("128 MiB: write", session.write(128 * MIB - MIB, random_bytes(7, MIB)), 0)
             ends_well(trial, "128 MiB", session)
+        trial.want("128 MiB: memory", 128 < int(Path(note).read_text()) // 1024 < 200, True)
         with open(words[-1], "rb") as saved:
             saved.seek(127 * MIB)
             trial.want("128 MiB: what is saved", saved.read() == random_bytes(7, MIB), True)
