@@ -80,11 +80,11 @@ pub fn put_bytes<W: Write>(out: &mut W, bytes: &[u8]) -> Result<(), OutputFault>
 }
 
 /// Writes a reply with these data.
-pub fn put_data<W: Write>(out: &mut W, cookie: u64, data: &[u8]) -> Result<(), OutputFault>
-    ensures { Writes (W.contents out.old) (W.contents out.new) result (reply_header None cookie ++ data.now) }
+pub fn put_data<W: Write>(out: &mut W, cookie: u64, bytes: &[u8]) -> Result<(), OutputFault>
+    ensures { Writes (W.contents out.old) (W.contents out.new) result (reply_header None cookie ++ bytes.now) }
 {
     put_reply(out, None, cookie)?;
-    put_bytes(out, data)
+    put_bytes(out, bytes)
 }
 
 // Writes the reply that an answer is, under this cookie.
