@@ -24,7 +24,8 @@ use Rattle.mmc_block.specs.declared.refused.Refused.{Refused}
 use Rattle.mmc_queue.specs.declared.request.Request.{Request}
 use Rattle.mmc_switch.specs.declared.info.Info.{Info}
 use Rattle.nbd_messages.specs.declared.error.ReplyError.{ReplyError}
-use Rattle.nbd_server.specs.Acts.{Act, AreOfParts, answered, asked, bytes_of, cookie_under, cookies_after, cookies_behind, cookies_of}
+use Rattle.std.proofs.lemmas.List.Elements.{All-append, All-cons, All-head, All-nil, All-push, All-tail}
+use Rattle.nbd_server.specs.Acts.{Act, AreOfParts, AreTurns, IsOfParts, IsOfTurns, answered, asked, bytes_of, cookie_under, cookies_after, cookies_behind, cookies_of}
 use Rattle.nbd_server.specs.Acts.{answered_by, answers_bytes, asked_by, bytes_by, error_of, event_by, events_of, replies_of, reply_by}
 use Rattle.nbd_server.specs.Acts.{reply_to, times}
 use Rattle.nbd_server.specs.Acts.Act.{Asks, AsksPart, Clears, Gathers, Gives, Says, Turns}
@@ -355,16 +356,28 @@ pub none_asked_by_none : asked [] ≡ []
 unfolding asked
 none_asked_by_none = refl
 
-pub none_asked_by_turn : (given : List Completion) → asked (Turns given ∷ []) ≡ []
-unfolding asked
-none_asked_by_turn given = refl
+turn_asks_nothing : (act : Act) → IsOfTurns act → asked_by act ≡ []
+turn_asks_nothing (Turns given) h = refl
+turn_asks_nothing Clears h = refl
+turn_asks_nothing (Asks cookie request reply) h = absurd h
+turn_asks_nothing (AsksPart cookie request reply) h = absurd h
+turn_asks_nothing (Gathers given) h = absurd h
+turn_asks_nothing (Says cookie error) h = absurd h
+turn_asks_nothing (Gives cookie bytes) h = absurd h
 
-pub none_asked_by_clearing : asked (Clears ∷ []) ≡ []
+pub turns_ask_nothing : (xs : List Act) → AreTurns xs → asked xs ≡ []
 unfolding asked
-none_asked_by_clearing = refl
+turns_ask_nothing [] h = refl
+turns_ask_nothing (x ∷ xs) h =
+    ap (λ cs. cs ++ asked xs) (turn_asks_nothing x (All-head IsOfTurns x xs h))
+    ∙ turns_ask_nothing xs (All-tail IsOfTurns x xs h)
 
-pub none_asked_then : (xs ys : List Act) → asked xs ≡ [] → asked ys ≡ [] → asked (xs ++ ys) ≡ []
-none_asked_then xs ys first second = asked_then xs ys ∙ ap (λ cs. cs ++ asked ys) first ∙ second
+pub no_turns : AreTurns []
+no_turns = All-nil IsOfTurns
+
+-- turns, and one more
+pub turns_more : (xs : List Act) (x : Act) → AreTurns xs → IsOfTurns x → AreTurns (xs ++ x ∷ [])
+turns_more = All-push IsOfTurns
 
 pub cleared_does : {B E : Type 0} (view : B → BusView) (old new : DeskView B) (out : Option (List ℕ)) (done : Unit {0})
     → unanswered_of old.device ≡ 0 → new.device ≡ old.device → new.cookies ≡ []
@@ -408,15 +421,13 @@ refused_does view old new cookie why request before after r leads once wrote = r
   written = subst (Writes before after r) (sym (append-nil (reply_header (Some (error_of why)) cookie))) wrote;
 }
 
-pub asks_then : (xs : List Act) (cookie : ℕ) (request : Request) (reply : Reply) → asked xs ≡ []
-    → asked (xs ++ Asks cookie request reply ∷ []) ≡ cookie ∷ []
-unfolding asked
-asks_then xs cookie request reply none =
-    asked_then xs (Asks cookie request reply ∷ []) ∙ ap (λ cs. cs ++ cookie ∷ []) none
-
 pub on_ok : {X E : Type 0} (r : Result X E) (P : Type 0) → P → OnOk r P
 on_ok (Ok x) P h = h
 on_ok (Err e) P h = tt
+
+pub on_ok_then : {X E : Type 0} (r : Result X E) (P Q : Type 0) → (P → Q) → OnOk r P → OnOk r Q
+on_ok_then (Ok x) P Q f h = f h
+on_ok_then (Err e) P Q f h = tt
 
 pub on_no_ok : {X E : Type 0} (r : Result X E) (P : Type 0) → IsErr r → OnOk r P
 on_no_ok (Ok x) P failed = absurd (false≢true failed)
@@ -445,51 +456,48 @@ as_part view old new cookie request (Ok ticket) h =
 as_part view old new cookie request (Err why) h =
     record { cookies = h.cookies; info = h.info; kept = h.kept; executed = h.executed }
 
-pub of_parts_then : (xs ys : List Act) → AreOfParts xs → AreOfParts ys → AreOfParts (xs ++ ys)
-of_parts_then [] ys p q = q
-of_parts_then (AsksPart cookie request reply ∷ xs) ys p q = of_parts_then xs ys p q
-of_parts_then (Gathers given ∷ xs) ys p q = of_parts_then xs ys p q
-of_parts_then (Clears ∷ xs) ys p q = of_parts_then xs ys p q
-of_parts_then (Asks cookie request reply ∷ xs) ys p q = absurd p
-of_parts_then (Turns given ∷ xs) ys p q = absurd p
-of_parts_then (Says cookie error ∷ xs) ys p q = absurd p
-of_parts_then (Gives cookie bytes ∷ xs) ys p q = absurd p
+pub no_parts : AreOfParts []
+no_parts = All-nil IsOfParts
 
--- they take up no request, reply to none and write nothing
+pub of_parts_then : (xs ys : List Act) → AreOfParts xs → AreOfParts ys → AreOfParts (xs ++ ys)
+of_parts_then = All-append IsOfParts
+
+pub parts_more : (xs : List Act) (x : Act) → AreOfParts xs → IsOfParts x → AreOfParts (xs ++ x ∷ [])
+parts_more = All-push IsOfParts
+
+pub one_part : (x : Act) → IsOfParts x → AreOfParts (x ∷ [])
+one_part x is = All-cons IsOfParts x [] is no_parts
+
+-- such an act takes up no request, replies to none and writes nothing
+part_is_silent : (k : List ℕ) (x : Act) → IsOfParts x → (asked_by x ≡ []) × (answered_by k x ≡ []) × (bytes_by k x ≡ [])
+part_is_silent k (AsksPart cookie request reply) is = (refl, refl, refl)
+part_is_silent k (Gathers given) is = (refl, refl, refl)
+part_is_silent k Clears is = (refl, refl, refl)
+part_is_silent k (Asks cookie request reply) is = absurd is
+part_is_silent k (Turns given) is = absurd is
+part_is_silent k (Says cookie error) is = absurd is
+part_is_silent k (Gives cookie bytes) is = absurd is
+
 pub parts_ask_nothing : (xs : List Act) → AreOfParts xs → asked xs ≡ []
 unfolding asked
 parts_ask_nothing [] h = refl
-parts_ask_nothing (AsksPart cookie request reply ∷ xs) h = parts_ask_nothing xs h
-parts_ask_nothing (Gathers given ∷ xs) h = parts_ask_nothing xs h
-parts_ask_nothing (Clears ∷ xs) h = parts_ask_nothing xs h
-parts_ask_nothing (Asks cookie request reply ∷ xs) h = absurd h
-parts_ask_nothing (Turns given ∷ xs) h = absurd h
-parts_ask_nothing (Says cookie error ∷ xs) h = absurd h
-parts_ask_nothing (Gives cookie bytes ∷ xs) h = absurd h
+parts_ask_nothing (x ∷ xs) h =
+    ap (λ cs. cs ++ asked xs) (part_is_silent [] x (All-head IsOfParts x xs h)).0
+    ∙ parts_ask_nothing xs (All-tail IsOfParts x xs h)
 
 parts_answer_nothing : (k : List ℕ) (xs : List Act) → AreOfParts xs → answered k xs ≡ []
 unfolding answered
 parts_answer_nothing k [] h = refl
-parts_answer_nothing k (AsksPart cookie request reply ∷ xs) h =
-    parts_answer_nothing (cookies_behind k (AsksPart cookie request reply)) xs h
-parts_answer_nothing k (Gathers given ∷ xs) h = parts_answer_nothing k xs h
-parts_answer_nothing k (Clears ∷ xs) h = parts_answer_nothing [] xs h
-parts_answer_nothing k (Asks cookie request reply ∷ xs) h = absurd h
-parts_answer_nothing k (Turns given ∷ xs) h = absurd h
-parts_answer_nothing k (Says cookie error ∷ xs) h = absurd h
-parts_answer_nothing k (Gives cookie bytes ∷ xs) h = absurd h
+parts_answer_nothing k (x ∷ xs) h =
+    ap (λ cs. cs ++ answered (cookies_behind k x) xs) (part_is_silent k x (All-head IsOfParts x xs h)).1
+    ∙ parts_answer_nothing (cookies_behind k x) xs (All-tail IsOfParts x xs h)
 
 parts_write_nothing : (k : List ℕ) (xs : List Act) → AreOfParts xs → bytes_of k xs ≡ []
 unfolding bytes_of
 parts_write_nothing k [] h = refl
-parts_write_nothing k (AsksPart cookie request reply ∷ xs) h =
-    parts_write_nothing (cookies_behind k (AsksPart cookie request reply)) xs h
-parts_write_nothing k (Gathers given ∷ xs) h = parts_write_nothing k xs h
-parts_write_nothing k (Clears ∷ xs) h = parts_write_nothing [] xs h
-parts_write_nothing k (Asks cookie request reply ∷ xs) h = absurd h
-parts_write_nothing k (Turns given ∷ xs) h = absurd h
-parts_write_nothing k (Says cookie error ∷ xs) h = absurd h
-parts_write_nothing k (Gives cookie bytes ∷ xs) h = absurd h
+parts_write_nothing k (x ∷ xs) h =
+    ap (λ cs. cs ++ bytes_of (cookies_behind k x) xs) (part_is_silent k x (All-head IsOfParts x xs h)).2
+    ∙ parts_write_nothing (cookies_behind k x) xs (All-tail IsOfParts x xs h)
 
 parts_once : {B : Type 0} (old new : DeskView B) (xs : List Act) → AreOfParts xs → unanswered_of old.device ≡ 0
     → unanswered_of new.device ≡ 0 → AnswersEach old xs new
@@ -549,19 +557,3 @@ pub asks_one : (xs : List Act) (cookie : ℕ) (act : Act) → asked xs ≡ [] �
 unfolding asked
 asks_one xs cookie act none one =
     asked_then xs (act ∷ []) ∙ ap (λ cs. cs ++ (asked_by act ++ [])) none ∙ append-nil (asked_by act) ∙ one
-
--- a long request: what came before it is answered, then its parts are served, and then it has its reply
-pub served_long : {B E : Type 0} (view : B → BusView) (a b c : DeskView B) (before between after : Option (List ℕ))
-    (done : Unit {0}) (r : Result (Unit {0}) E) (xs ys : List Act) (act : Act) (cookie : ℕ)
-    → Does {B = B} {E = E} view a b before between (Ok done) xs → asked xs ≡ [] → unanswered_of b.device ≡ 0
-    → AreOfParts ys → Leads view b ys c → unanswered_of c.device ≡ 0
-    → Does view c c between after r (act ∷ []) → asked_by act ≡ cookie ∷ []
-    → (acts : List Act) × Does view a c before after r acts × OnOk r (asked acts ≡ cookie ∷ [])
-served_long view a b c before between after done r xs ys act cookie first none empty parts leads empty_too last one = (
-  xs ++ (ys ++ act ∷ []),
-  does_then view a b c before between after done r xs (ys ++ act ∷ []) first
-      (does_then view b c c between between after done r ys (act ∷ [])
-      (parts_do view b c between done ys parts leads empty empty_too) last),
-  on_ok r _ (asked_then xs (ys ++ act ∷ []) ∙ ap (λ cs. cs ++ asked (ys ++ act ∷ [])) none
-      ∙ asks_one ys cookie act (parts_ask_nothing ys parts) one),
-)

@@ -1,5 +1,6 @@
 pub mod AnswerLemmas
 pub mod DeskLemmas
 pub mod InputLemmas
+pub mod PartsLemmas
 pub mod SessionLemmas
 pub mod TimesLemmas

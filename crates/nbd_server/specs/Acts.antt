@@ -1,5 +1,6 @@
 -- What is done at a desk with the requests of a client, act by act: what each writes, and which event of the sector machine it is.
 use Rattle.std.specs.Prelude.{Err, List, None, Ok, Option, Result, Some, [], ◌++◌, ◌+◌, ◌==◌, ◌∷◌, if◌then◌else◌, get_or, length, map, ℕ}
+use Rattle.std.specs.List.{All}
 use Rattle.mmc_block.specs.Execution.{Event, Reply}
 use Rattle.mmc_block.specs.Execution.Event.{Submit, Turn}
 use Rattle.mmc_block.specs.Execution.Reply.{Accepted, Answers, RefusedFor}
@@ -29,13 +30,24 @@ pub data Act : Type 0 where
   -- a long read is answered with these bytes
   Gives : ℕ → List ℕ → Act
 
--- these are of the parts of a long request alone: nothing is written
+-- it is of the parts of a long request: nothing is written
+abbrev pub IsOfParts : Act → Type 0
+IsOfParts (AsksPart cookie request reply) = Unit {0}
+IsOfParts (Gathers given) = Unit {0}
+IsOfParts Clears = Unit {0}
+IsOfParts act = ⊥
+
 abbrev pub AreOfParts : List Act → Type 0
-AreOfParts [] = Unit {0}
-AreOfParts (AsksPart cookie request reply ∷ acts) = AreOfParts acts
-AreOfParts (Gathers given ∷ acts) = AreOfParts acts
-AreOfParts (Clears ∷ acts) = AreOfParts acts
-AreOfParts (act ∷ acts) = ⊥
+AreOfParts acts = All IsOfParts acts
+
+-- a turn, or clients are numbered anew: nothing is taken up
+abbrev pub IsOfTurns : Act → Type 0
+IsOfTurns (Turns given) = Unit {0}
+IsOfTurns Clears = Unit {0}
+IsOfTurns act = ⊥
+
+abbrev pub AreTurns : List Act → Type 0
+AreTurns acts = All IsOfTurns acts
 
 -- Cookies.
 

@@ -2,7 +2,7 @@
 use Rattle.std.specs.Prelude.{List, Option, Result, [], ◌++◌, ◌+◌, ◌<◌, ◌≡◌, ◌≤◌, ◌∷◌, length, map, true, ℕ}
 use Rattle.text_out.specs.Writing.{Writes}
 use Rattle.mmc_card.specs.BusView.{BusView}
-use Rattle.mmc_block.specs.Device.{Comes, DeviceView}
+use Rattle.mmc_block.specs.Device.{Comes, DeviceView, unanswered_of}
 use Rattle.mmc_block.specs.Execution.{Counted, IsCountedExecution}
 use Rattle.mmc_block.specs.Machine.{Waiting}
 use Rattle.mmc_block.specs.Service.{in_service_of}
@@ -27,6 +27,7 @@ AreNumbered cookies (w ∷ ws) = (w.client < length cookies) × AreNumbered cook
 -- What a desk keeps true of its fields: no answer is kept between two calls.
 pub record IsKeptDesk {B : Type 0} (device : DeviceView B) (cookies : List ℕ) (given : List Completion) : Type 0 where
   pub numbered : AreNumbered cookies (device.waits ++ in_service_of device.service)
+  pub each : unanswered_of device ≤ length cookies
   pub few : length cookies ≤ MAX_WAITING
   pub none : given ≡ []
 

@@ -1,5 +1,5 @@
 -- What a request of the client comes to at an export.
-use Rattle.std.specs.Prelude.{List, None, Option, Some, false, true, ◌*◌, ◌+◌, ◌<◌, ◌≡◌, ◌≤◌, ◌⊎◌, ℕ}
+use Rattle.std.specs.Prelude.{List, None, Option, Some, false, true, ◌*◌, ◌+◌, ◌<◌, ◌≡◌, ◌≤◌, ◌⊎◌, length, ℕ}
 use Rattle.mmc_card.specs.declared.part.Part.{Part}
 use Rattle.mmc_queue.specs.declared.request.Request.{Request}
 use Rattle.mmc_queue.specs.declared.request.Request.TheVariants as Asks
@@ -13,7 +13,7 @@ use Rattle.nbd_server.specs.declared.input.TheConstants.{MAX_LENGTH}
 use Rattle.nbd_server.specs.declared.plan.Plan.{Plan}
 use Rattle.nbd_server.specs.declared.plan.Plan.TheVariants.{Answer, Ask, ReadLong, WriteLong}
 use Rattle.nbd_server.specs.declared.plan.Plan.TheVariants as Comes
-use Rattle.nbd_server.specs.declared.plan.Span.{Span}
+use Rattle.nbd_server.specs.declared.span.Span.{Span}
 
 -- The bytes that a header names are these sectors of the export.
 pub record Names (export : Export) (header : RequestHeader) (span : Span) : Type 0 where
@@ -53,6 +53,11 @@ IsPlanFor export command span given (ReadLong all) = (command ≡ Read) × (all 
 IsPlanFor export command span given (WriteLong all bytes) =
     (command ≡ Write) × (given ≡ Some bytes.items) × (export.can.read_only ≡ false) × (all ≡ span)
 IsPlanFor export command span given Comes.Flush = ⊥
+
+-- a long write has all bytes of its sectors
+abbrev pub HasAll : Plan → Type 0
+HasAll (WriteLong span bytes) = length bytes.items ≡ 512 * span.count
+HasAll plan = Unit {0}
 
 -- a command that isn't known, bytes that are too many, or that aren't whole sectors of the export
 abbrev pub IsInvalid : Export → RequestHeader → Type 0

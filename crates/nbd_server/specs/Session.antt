@@ -1,13 +1,17 @@
--- A session: which requests were read, and that these were taken up.
-use Rattle.std.specs.Prelude.{Bool, Err, List, Ok, OnOk, Option, Result, Some, [], false, true, ◌++◌, ◌-◌, ◌^◌, ◌≡◌, ◌∷◌, ◌⊎◌, length, ℕ}
+-- A session: which requests were read, and that each was served.
+use Rattle.std.specs.Prelude.{Bool, Err, List, Ok, OnOk, Option, Result, Some, [], false, true, ◌++◌, ◌-◌, ◌^◌, ◌≡◌, ◌⊎◌, length, map, ℕ}
+use Rattle.std.specs.List.{All, flat_map}
 use Rattle.std.specs.Io.KnownBytes.{Appends, Consumes, IsAtEnd}
 use Rattle.nbd_messages.specs.declared.command.Command.TheVariants.{Disconnect}
 use Rattle.nbd_messages.specs.declared.request.RequestHeader.{RequestHeader}
 use Rattle.mmc_card.specs.BusView.{BusView}
 use Rattle.mmc_block.specs.Device.{unanswered_of}
-use Rattle.nbd_server.specs.Acts.{Act, asked}
+use Rattle.nbd_server.specs.Acts.{Act, AreTurns, asked}
 use Rattle.nbd_server.specs.Desk.{DeskView, Does}
+use Rattle.nbd_server.specs.Exports.{IsExport}
 use Rattle.nbd_server.specs.Messages.{IsRequest}
+use Rattle.nbd_server.specs.Served.{IsServed, IsServedBy, Served}
+use Rattle.nbd_server.specs.declared.export.Export.{Export}
 use Rattle.nbd_server.specs.declared.fault.OutputFault.{OutputFault}
 use Rattle.nbd_server.specs.declared.fault.SessionFault.{SessionFault}
 use Rattle.nbd_server.specs.declared.fault.SessionFault.TheVariants.{Output}
@@ -17,17 +21,10 @@ abbrev pub done_of : {X E : Type 0} → Result X E → Result (Unit {0}) E
 done_of (Ok x) = Ok tt
 done_of (Err e) = Err e
 
--- a request is taken up under its cookie, or it ends the session
-abbrev pub IsTakenUp : RequestHeader → List ℕ → Bool → Type 0
-IsTakenUp header cookies true = cookies ≡ header.cookie ∷ []
-IsTakenUp header cookies false = (cookies ≡ []) × (header.command ≡ Some Disconnect)
-
--- one request after the other, with these cookies
-abbrev pub AreRequests : List ℕ → List ℕ → Type 0
-AreRequests [] bytes = bytes ≡ []
-AreRequests (cookie ∷ cookies) bytes =
-    (header : RequestHeader) × (behind first rest : List ℕ) × (header.cookie ≡ cookie) × IsRequest header behind first
-    × (bytes ≡ first ++ rest) × AreRequests cookies rest
+-- a request is served, or it ends the session
+abbrev pub IsTakenUp : Export → RequestHeader → Option (List ℕ) → List Act → Bool → Type 0
+IsTakenUp export header given acts true = IsServedBy export header given acts
+IsTakenUp export header given acts false = (acts ≡ []) × (header.command ≡ Some Disconnect)
 
 -- these bytes end the session: the request that asks for it, or the end of the input
 abbrev pub IsEnd : Option (List ℕ) → List ℕ → Type 0
@@ -35,14 +32,19 @@ IsEnd left last =
     ((last ≡ []) × IsAtEnd left)
     ⊎ ((header : RequestHeader) × (behind : List ℕ) × (header.command ≡ Some Disconnect) × IsRequest header behind last)
 
--- the requests with these cookies were next in the input, and this is left behind them
-abbrev pub AreTakenUp : Option (List ℕ) → Option (List ℕ) → List ℕ → Type 0
-AreTakenUp old left cookies = (bytes : List ℕ) × AreRequests cookies bytes × Consumes old left bytes
+-- These requests were next in the input, and this is left behind them: each was served, in their order, and nothing else was done.
+pub record AreTakenUp (export : Export) (old left : Option (List ℕ)) (acts : List Act) (served : List Served) : Type 0 where
+  pub read : Consumes old left (flat_map (λ (s : Served). s.bytes) served)
+  pub each : All (IsServed export) served
+  pub cookies : asked acts ≡ map (λ (s : Served). s.header.cookie) served
+  pub turns : List Act
+  pub are_turns : AreTurns turns
+  pub all : acts ≡ flat_map (λ (s : Served). s.acts) served ++ turns
 
--- the session ends there, or as many requests were taken up as can be
-abbrev pub Ends : Option (List ℕ) → Option (List ℕ) → List ℕ → Type 0
-Ends left new cookies =
-    (last : List ℕ) × Consumes left new last × (IsEnd left last ⊎ (length cookies ≡ 2 ^ 64 - 1))
+-- the session ends there, or as many requests were served as can be
+abbrev pub Ends : Option (List ℕ) → Option (List ℕ) → List Served → Type 0
+Ends left new served =
+    (last : List ℕ) × Consumes left new last × (IsEnd left last ⊎ (length served ≡ 2 ^ 64 - 1))
 
 -- The negotiation.
 
@@ -61,16 +63,19 @@ abbrev pub output_of : Result (Unit {0}) SessionFault → Result (Unit {0}) Outp
 output_of (Err (Output fault)) = Err fault
 output_of result = Ok tt
 
--- An export was agreed, and then requests were next in the input: each was taken up once, in their order. Unless the output failed
+-- An export was agreed, and then requests were next in the input: each was served once, in their order. Unless the output failed
 -- nothing is without an answer at the end.
 pub record IsSession {B : Type 0} (view : B → BusView) (old new : DeskView B) (in_old in_new : Option (List ℕ))
     (before after : Option (List ℕ)) (result : Result (Unit {0}) SessionFault) : Type 0 where
+  pub export : Export
   pub begins : Option (List ℕ)
   pub begun : Option (List ℕ)
   pub left : Option (List ℕ)
   pub acts : List Act
-  pub agreed : Shrinks in_old begins × Grows before begun
+  pub served : List Served
+  pub agreed : IsExport old.device.info export
+  pub negotiated : Shrinks in_old begins × Grows before begun
   pub does : Does view old new begun after (output_of result) acts
-  pub requests : OnOk (output_of result) (AreTakenUp begins left (asked acts))
+  pub requests : OnOk (output_of result) (AreTakenUp export begins left acts served)
   pub answered : OnOk (output_of result) (unanswered_of new.device ≡ 0)
-  pub ends : OnOk result (Ends left in_new (asked acts))
+  pub ends : OnOk result (Ends left in_new served)

@@ -1,17 +1,19 @@
 // Requests of the client that wait for the device, each by its cookie.
-ghost use Rattle.std.specs.Prelude.{◌≡◌, ◌<◌, ◌++◌, ◌∷◌, [], List, None, OnErr, OnOk, Some, length};
+ghost use Rattle.std.specs.Prelude.{◌≡◌, ◌≤◌, ◌<◌, ◌+◌, ◌++◌, ◌∷◌, [], List, None, OnErr, OnOk, Some, length};
 ghost use Rattle.text_out.specs.Writing.{Writes};
 ghost use Rattle.mmc_block.specs.Device.{unanswered_of, work_of};
 ghost use Rattle.mmc_block.specs.declared.completion.Completion.{Completion};
 ghost use Rattle.nbd_messages.specs.Replies.{reply_header};
 ghost use Rattle.mmc_block.specs.Execution.{Reply};
 ghost use Rattle.mmc_queue.specs.declared.queue.TheConstants.{MAX_WAITING};
-ghost use Rattle.nbd_server.specs.Acts.{Act, AreOfParts, answer_bytes, answers_bytes, asked, cookie_under, error_of, reply_to};
+ghost use Rattle.nbd_server.specs.Acts.{Act, AreOfParts, AreTurns, answer_bytes, answers_bytes, cookie_under, error_of, reply_to};
 ghost use Rattle.nbd_server.specs.Acts.Act.{Asks, Gathers, Turns};
 ghost use Rattle.nbd_server.specs.Desk.{AnswersEach, Does, Leads};
+ghost use Rattle.nbd_server.specs.Parts.{AreGathered, accepted, gathered};
+ghost use Rattle.std.specs.List.{All, Contains};
 
+use crate::answers::{Gathered, keep_all};
 use crate::fault::OutputFault;
-use crate::long::PART_BYTES;
 use arrayvec::ArrayVec;
 use mmc_block::{Answer, BlockDev, Completion, Completions, MAX_WAITING, Refused, Request, Ticket};
 use mmc_bus::Bus;
@@ -108,28 +110,6 @@ fn cookie_under(cookies: &[u64], client: u32) -> u64
     }
 }
 
-// Puts bytes at the place of the part with this number, where there is one.
-fn place(data: &mut [u8], number: u32, bytes: &[u8]) {
-    let start = PART_BYTES * number as usize;
-    let end = start + bytes.len();
-    if end <= data.len() {
-        data[start..end].copy_from_slice(bytes);
-    }
-}
-
-// Puts the bytes of these answers at the places of their parts, and gives how many were carried out.
-fn place_all(data: &mut [u8], given: &[Completion]) -> usize {
-    for completion in given {
-        if let Answer::Data(bytes) = &completion.answer {
-            place(data, completion.client, bytes.as_slice());
-        }
-    }
-    given
-        .iter()
-        .filter(|completion| !completion.answer.is_failed())
-        .count()
-}
-
 // Writes the replies that these are, each under the cookie of its client number.
 fn put_answers<W: Write>(
     out: &mut W,
@@ -191,7 +171,7 @@ impl<B: Bus> Desk<B> {
 
     /// Turns until nothing is without an answer.
     pub fn drain<W: Write>(&mut self, out: &mut W) -> Result<(), OutputFault>
-        ensures does { (acts : List Act) × (asked acts ≡ []) × Does B.view self.old self.new (W.contents out.old) (W.contents out.new) result acts }
+        ensures does { (acts : List Act) × AreTurns acts × Does B.view self.old self.new (W.contents out.old) (W.contents out.new) result acts }
         ensures none { OnOk result (unanswered_of self.new.device ≡ 0) }
         ensures cleared { OnOk result (self.new.cookies ≡ []) }
     {
@@ -204,7 +184,7 @@ impl<B: Bus> Desk<B> {
 
     // Turns until nothing is without an answer, where there is no room for another request.
     fn make_room<W: Write>(&mut self, out: &mut W) -> Result<(), OutputFault>
-        ensures does { (acts : List Act) × (asked acts ≡ []) × Does B.view self.old self.new (W.contents out.old) (W.contents out.new) result acts }
+        ensures does { (acts : List Act) × AreTurns acts × Does B.view self.old self.new (W.contents out.old) (W.contents out.new) result acts }
         ensures room { OnOk result (length self.new.cookies < MAX_WAITING) }
     {
         if self.cookies.is_full() {
@@ -256,7 +236,8 @@ impl<B: Bus> Desk<B> {
         request: Request,
         out: &mut W,
     ) -> Result<(), OutputFault>
-        ensures { (acts : List Act) × Does B.view self.old self.new (W.contents out.old) (W.contents out.new) result acts × OnOk result (asked acts ≡ cookie ∷ []) }
+        ensures { (acts : List Act) × Does B.view self.old self.new (W.contents out.old) (W.contents out.new) result acts
+            × OnOk result ((turns : List Act) × (reply : Reply) × AreTurns turns × (acts ≡ turns ++ Asks cookie request reply ∷ [])) }
     {
         self.make_room(out)?;
         self.submit_or_reply(alloc, cookie, request, out)
@@ -269,7 +250,8 @@ impl<B: Bus> Desk<B> {
         cookie: u64,
         request: Request,
     ) -> Result<(), ReplyError>
-        ensures { (acts : List Act) × AreOfParts acts × Leads B.view self.old acts self.new }
+        ensures { (acts : List Act) × AreOfParts acts × Leads B.view self.old acts self.new × (gathered acts ≡ [])
+            × OnOk result (accepted acts ≡ request ∷ []) }
     {
         if self.cookies.is_full() {
             return Err(ReplyError::NoMemory);
@@ -280,30 +262,31 @@ impl<B: Bus> Desk<B> {
         }
     }
 
-    // A turn whose answers are those of parts. The bytes of a read are put at the places of their parts, and what comes back is how many
-    // parts were carried out.
-    fn gather_turn(&mut self, data: &mut [u8]) -> usize
-        ensures leads { (given : List Completion) × Leads B.view self.old (Gathers given ∷ []) self.new }
+    // A turn whose answers are kept with those before it.
+    fn gather_turn(&mut self, all: &mut Gathered)
+        requires room { length all.old.items + unanswered_of self.old.device ≤ MAX_WAITING }
+        ensures leads { (given : List Completion) × Leads B.view self.old (Gathers given ∷ []) self.new
+            × All (Contains (all.old.items ++ given)) all.new.items }
         ensures falls { 0 < work_of self.old.device → work_of self.new.device < work_of self.old.device }
+        ensures leaves { length all.new.items + unanswered_of self.new.device ≡ length all.old.items + unanswered_of self.old.device }
     {
         self.device.turn_into(&mut self.given);
-        let done = place_all(data, self.given.as_slice());
-        self.given.clear();
-        done
+        keep_all(all, &mut self.given);
     }
 
-    /// Turns until nothing is without an answer. The bytes of a read are put at the places of their parts, each of `PART_BYTES`, and
-    /// the answer says how many parts were carried out.
-    pub fn gather(&mut self, data: &mut [u8]) -> usize
-        ensures leads { (acts : List Act) × AreOfParts acts × Leads B.view self.old acts self.new }
+    /// Turns until nothing is without an answer, and gives the answers.
+    pub fn gather(&mut self) -> Gathered
+        ensures leads { (acts : List Act) × AreOfParts acts × Leads B.view self.old acts self.new × AreGathered acts result.items }
         ensures none { unanswered_of self.new.device ≡ 0 }
         ensures cleared { self.new.cookies ≡ [] }
     {
-        let mut done = 0_usize;
+        // the struct's invariant: no more are without an answer than there is room for
+        let _ = &self.device;
+        let mut all = Gathered::new();
         while self.device.work_left() > 0 {
-            done = self.gather_turn(data).saturating_add(done);
+            self.gather_turn(&mut all);
         }
         self.cookies.clear();
-        done
+        all
     }
 }

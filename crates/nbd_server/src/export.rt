@@ -22,8 +22,13 @@ pub struct Export {
 }
 
 impl Export {
+    ghost use Rattle.std.specs.Prelude.{◌≡◌, IfSome};
+    ghost use Rattle.nbd_server.specs.Exports.{IsExport};
+
     /// The export of a partition, where the card has one.
-    pub fn of(info: &Info, part: Part) -> Option<Export> {
+    pub fn of(info: &Info, part: Part) -> Option<Export>
+        ensures { IfSome result (λ export. (export.part ≡ part) × IsExport info.now export) }
+    {
         let sectors = info.sectors(part)?;
         let erases = !info.read_only && !matches!(part, Part::Boot1 | Part::Boot2);
         Some(Export {

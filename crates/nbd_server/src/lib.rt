@@ -1,6 +1,7 @@
 //! A device as a network block device: the negotiation of an export, and its requests, over one input and one output.
 #![tactic(auto)]
 
+mod answers;
 mod desk;
 mod export;
 mod fault;
@@ -10,6 +11,7 @@ mod names;
 mod negotiation;
 mod plan;
 mod session;
+mod span;
 
 pub use desk::Desk;
 pub use export::Export;

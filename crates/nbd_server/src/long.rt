@@ -3,56 +3,44 @@
 //    hundredth is served within the four attempts that each request of the device has.
 // 2. As many parts as the device takes are submitted together, so that it joins neighbours, while nothing else waits.
 // 3. The request has one reply, which is an error where some part had one. Of a write that fails each sector is old or new.
-ghost use Rattle.std.specs.Prelude.{◌≡◌, [], List};
+ghost use Rattle.std.specs.Prelude.{◌*◌, ◌++◌, ◌≡◌, ◌≤◌, [], IfOk, List, length, ℕ};
 ghost use Rattle.mmc_block.specs.Device.{unanswered_of};
 ghost use Rattle.nbd_server.specs.Acts.{Act, AreOfParts};
 ghost use Rattle.nbd_server.specs.Desk.{Leads};
+ghost use Rattle.nbd_server.specs.Parts.{AreAll, AreRead, AreWindows, AreWritten, IsRead, Window, IsWritten, accepted, gathered, reads, writes};
 
+use crate::answers::{are_done, join};
 use crate::desk::Desk;
-use crate::plan::Span;
-use mmc_block::{MAX_WAITING, Request};
+use crate::span::Span;
+use mmc_block::Request;
 use mmc_bus::{Bus, Bytes, Part};
 use nbd_messages::ReplyError;
 use std::alloc::Global;
 
 /// The most sectors of a part.
 pub const PART: u64 = 16;
-/// The bytes of such a part.
-pub const PART_BYTES: usize = 8192;
-// The bytes of as many parts as are submitted together.
-const TOGETHER: usize = PART_BYTES * MAX_WAITING;
+// The sectors of as many parts as are submitted together.
+const WINDOW: u64 = 4096;
 
-// What became of parts that were submitted, of which so many were carried out.
-fn outcome(asked: Result<usize, ReplyError>, done: usize) -> Result<(), ReplyError> {
-    if asked? == done {
-        Ok(())
-    } else {
-        Err(ReplyError::Failed)
-    }
-}
-
-// Submits the parts of a read of so many bytes, and gives how many they are.
+// Submits the parts of a read, and gives how many they are.
 fn ask_reads<B: Bus>(
     alloc: Global,
     desk: &mut Desk<B>,
     cookie: u64,
     part: Part,
-    start: u64,
-    data: &[u8],
-) -> Result<usize, ReplyError>
-    ensures { (acts : List Act) × AreOfParts acts × Leads B.view desk.old acts desk.new }
+    span: Span,
+) -> Result<u32, ReplyError>
+    requires { span.count ≤ 4096 }
+    ensures { (acts : List Act) × AreOfParts acts × Leads B.view desk.old acts desk.new × (gathered acts ≡ [])
+        × IfOk result (λ parts. AreAll parts span.count × (accepted acts ≡ reads part span.start span.count parts)) }
 {
-    let mut asked = 0_usize;
-    for piece in data.chunks(PART_BYTES) {
-        let request = Request::Read {
-            part,
-            start: start.saturating_add((asked as u64).saturating_mul(PART)),
-            count: (piece.len() / 512) as u64,
-        };
+    let parts = span.count.div_ceil(PART) as u32;
+    for number in 0..parts {
+        let Span { start, count } = span.behind(PART * number as u64, PART);
+        let request = Request::Read { part, start, count };
         desk.ask_part(alloc, cookie, request)?;
-        asked = asked.saturating_add(1);
     }
-    Ok(asked)
+    Ok(parts)
 }
 
 // Submits the parts of a write of these bytes, and gives how many they are.
@@ -61,62 +49,76 @@ fn ask_writes<B: Bus>(
     desk: &mut Desk<B>,
     cookie: u64,
     part: Part,
-    start: u64,
-    data: &[u8],
-) -> Result<usize, ReplyError>
-    ensures { (acts : List Act) × AreOfParts acts × Leads B.view desk.old acts desk.new }
+    span: Span,
+    bytes: &[u8],
+) -> Result<u32, ReplyError>
+    requires few { span.count ≤ 4096 }
+    requires whole { length bytes.now ≡ 512 * span.count }
+    ensures { (acts : List Act) × AreOfParts acts × Leads B.view desk.old acts desk.new × (gathered acts ≡ [])
+        × IfOk result (λ parts. AreAll parts span.count × (accepted acts ≡ writes part span.start span.count bytes.now parts)) }
 {
-    let mut asked = 0_usize;
-    for piece in data.chunks(PART_BYTES) {
-        let Ok(bytes) = Vec::from_slice(alloc, piece) else {
+    let parts = span.count.div_ceil(PART) as u32;
+    for number in 0..parts {
+        let before = PART * number as u64;
+        let Span { start, count } = span.behind(before, PART);
+        let from = 512 * before as usize;
+        let Ok(piece) = Vec::from_slice(alloc, &bytes[from..from + 512 * count as usize]) else {
             return Err(ReplyError::NoMemory);
         };
         let request = Request::Write {
             part,
-            start: start.saturating_add((asked as u64).saturating_mul(PART)),
-            count: (piece.len() / 512) as u64,
-            bytes: Bytes::new(bytes),
+            start,
+            count,
+            bytes: Bytes::new(piece),
         };
         desk.ask_part(alloc, cookie, request)?;
-        asked = asked.saturating_add(1);
     }
-    Ok(asked)
+    Ok(parts)
 }
 
-// Reads so many bytes from a sector on, in parts that are submitted together.
+// Reads sectors in parts that are submitted together, and puts their bytes behind others.
 fn read_window<B: Bus>(
     alloc: Global,
     desk: &mut Desk<B>,
     cookie: u64,
     part: Part,
-    start: u64,
-    data: &mut [u8],
+    span: Span,
+    bytes: &mut Vec<u8>,
 ) -> Result<(), ReplyError>
-    ensures leads { (acts : List Act) × AreOfParts acts × Leads B.view desk.old acts desk.new }
+    requires few { span.count ≤ 4096 }
+    ensures leads { (acts : List Act) × AreOfParts acts × Leads B.view desk.old acts desk.new
+        × IfOk result (λ done. (more : List ℕ) × (bytes.new.items ≡ bytes.old.items ++ more) × IsRead part span.start span.count acts more) }
     ensures none { unanswered_of desk.new.device ≡ 0 }
     ensures cleared { desk.new.cookies ≡ [] }
 {
-    let asked = ask_reads(alloc, desk, cookie, part, start, data);
-    let done = desk.gather(data);
-    outcome(asked, done)
+    let asked = ask_reads(alloc, desk, cookie, part, span);
+    let given = desk.gather();
+    join(given.as_slice(), asked?, span.count, bytes)
 }
 
-// Writes these bytes from a sector on, in parts that are submitted together.
+// Writes sectors in parts that are submitted together.
 fn write_window<B: Bus>(
     alloc: Global,
     desk: &mut Desk<B>,
     cookie: u64,
     part: Part,
-    start: u64,
-    data: &[u8],
+    span: Span,
+    bytes: &[u8],
 ) -> Result<(), ReplyError>
-    ensures leads { (acts : List Act) × AreOfParts acts × Leads B.view desk.old acts desk.new }
+    requires few { span.count ≤ 4096 }
+    requires whole { length bytes.now ≡ 512 * span.count }
+    ensures leads { (acts : List Act) × AreOfParts acts × Leads B.view desk.old acts desk.new
+        × IfOk result (λ done. IsWritten part span.start span.count acts bytes.now) }
     ensures none { unanswered_of desk.new.device ≡ 0 }
     ensures cleared { desk.new.cookies ≡ [] }
 {
-    let asked = ask_writes(alloc, desk, cookie, part, start, data);
-    let done = desk.gather(&mut []);
-    outcome(asked, done)
+    let asked = ask_writes(alloc, desk, cookie, part, span, bytes);
+    let given = desk.gather();
+    if are_done(given.as_slice(), asked?) {
+        Ok(())
+    } else {
+        Err(ReplyError::Failed)
+    }
 }
 
 /// The contents of these sectors.
@@ -132,22 +134,24 @@ pub fn read_long<B: Bus>(
 ) -> Result<Vec<u8>, ReplyError>
     requires none { unanswered_of desk.old.device ≡ 0 }
     requires cleared { desk.old.cookies ≡ [] }
-    ensures leads { (acts : List Act) × AreOfParts acts × Leads B.view desk.old acts desk.new }
+    ensures leads { (acts : List Act) × AreOfParts acts × Leads B.view desk.old acts desk.new
+        × IfOk result (λ bytes. (windows : List Window) × AreRead part span.start windows × AreWindows windows span.count acts bytes.items) }
     ensures none { unanswered_of desk.new.device ≡ 0 }
     ensures cleared { desk.new.cookies ≡ [] }
 {
-    let Ok(mut data) = vec![in alloc; 0u8; (span.count as usize).saturating_mul(512)] else {
+    let Ok(mut bytes) = Vec::with_capacity(alloc, (span.count as usize).saturating_mul(512)) else {
         return Err(ReplyError::NoMemory);
     };
-    let mut start = span.start;
-    for window in data.as_mut_slice().chunks_mut(TOGETHER) {
-        read_window(alloc, desk, cookie, part, start, window)?;
-        start = start.saturating_add((window.len() / 512) as u64);
+    let mut done = 0_u64;
+    while done < span.count {
+        let next = span.behind(done, WINDOW);
+        read_window(alloc, desk, cookie, part, next, &mut bytes)?;
+        done += next.count;
     }
-    Ok(data)
+    Ok(bytes)
 }
 
-/// Writes these bytes from a sector on.
+/// Writes these bytes to these sectors.
 ///
 /// # Errors
 /// `Failed` where the card failed at some part, and the device's refusal of one.
@@ -156,19 +160,24 @@ pub fn write_long<B: Bus>(
     desk: &mut Desk<B>,
     cookie: u64,
     part: Part,
-    start: u64,
-    data: &[u8],
+    span: Span,
+    bytes: &[u8],
 ) -> Result<(), ReplyError>
     requires none { unanswered_of desk.old.device ≡ 0 }
     requires cleared { desk.old.cookies ≡ [] }
-    ensures leads { (acts : List Act) × AreOfParts acts × Leads B.view desk.old acts desk.new }
+    requires whole { length bytes.now ≡ 512 * span.count }
+    ensures leads { (acts : List Act) × AreOfParts acts × Leads B.view desk.old acts desk.new
+        × IfOk result (λ done. (windows : List Window) × AreWritten part span.start windows × AreWindows windows span.count acts bytes.now) }
     ensures none { unanswered_of desk.new.device ≡ 0 }
     ensures cleared { desk.new.cookies ≡ [] }
 {
-    let mut start = start;
-    for window in data.chunks(TOGETHER) {
-        write_window(alloc, desk, cookie, part, start, window)?;
-        start = start.saturating_add((window.len() / 512) as u64);
+    let mut done = 0_u64;
+    while done < span.count {
+        let next = span.behind(done, WINDOW);
+        let from = 512 * done as usize;
+        let piece = &bytes[from..from + 512 * next.count as usize];
+        write_window(alloc, desk, cookie, part, next, piece)?;
+        done += next.count;
     }
     Ok(())
 }

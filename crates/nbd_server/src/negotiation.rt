@@ -1,8 +1,9 @@
 // The negotiation of an export.
-ghost use Rattle.std.specs.Prelude.{IfOk, OnOk};
+ghost use Rattle.std.specs.Prelude.{IfOk, IfSome, OnOk};
 ghost use Rattle.std.specs.Io.Buffered.{reader_remaining};
 ghost use Rattle.text_out.specs.Writing.{Writes};
 ghost use Rattle.nbd_messages.specs.Options.{option_reply_header};
+ghost use Rattle.nbd_server.specs.Exports.{IsExport, IsOf};
 ghost use Rattle.nbd_server.specs.Session.{Grows, Shrinks};
 
 use crate::desk::put_bytes;
@@ -32,7 +33,9 @@ enum Standing {
 }
 
 // The export with this name; the empty one is that of `default`.
-fn export_by(info: &Info, default: Part, name: &[u8]) -> Option<Export> {
+fn export_by(info: &Info, default: Part, name: &[u8]) -> Option<Export>
+    ensures { IfSome result (IsExport info.now) }
+{
     let part = if name.is_empty() {
         default
     } else {
@@ -120,7 +123,8 @@ fn inform<W: Write>(
     option: u32,
     data: &[u8],
 ) -> Result<Option<Export>, OutputFault>
-    ensures { OnOk result (Grows (W.contents out.old) (W.contents out.new)) }
+    ensures written { OnOk result (Grows (W.contents out.old) (W.contents out.new)) }
+    ensures export { IfOk result (λ found. IfSome found (IsExport info.now)) }
 {
     let Some(name) = name_in(data) else {
         put_plain(out, option, OptionReply::Invalid)?;
@@ -143,7 +147,8 @@ fn answer<W: Write>(
     option: u32,
     data: &[u8],
 ) -> Result<Standing, SessionFault>
-    ensures { OnOk result (Grows (W.contents out.old) (W.contents out.new)) }
+    ensures written { OnOk result (Grows (W.contents out.old) (W.contents out.new)) }
+    ensures export { IfOk result (IsOf info.now) }
 {
     match OptionKind::by(option) {
         None => put_plain(out, option, OptionReply::Unsupported)?,
@@ -199,6 +204,7 @@ fn serve_option<R: Read, W: Write>(
     input: &mut BufReader<R>,
     out: &mut W,
 ) -> Result<Standing, SessionFault>
+    ensures export { IfOk result (IsOf info.now) }
     ensures read { OnOk result (Shrinks (reader_remaining R.remaining input.old) (reader_remaining R.remaining input.new)) }
     ensures written { OnOk result (Grows (W.contents out.old) (W.contents out.new)) }
 {
@@ -227,6 +233,7 @@ pub fn negotiate<R: Read, W: Write>(
     input: &mut BufReader<R>,
     out: &mut W,
 ) -> Result<Option<Export>, SessionFault>
+    ensures export { IfOk result (λ agreed. IfSome agreed (IsExport info.now)) }
     ensures read { OnOk result (Shrinks (reader_remaining R.remaining input.old) (reader_remaining R.remaining input.new)) }
     ensures written { OnOk result (Grows (W.contents out.old) (W.contents out.new)) }
 {

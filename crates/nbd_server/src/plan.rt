@@ -6,23 +6,15 @@
 ghost use Rattle.std.specs.Prelude.{◌≡◌, ◌≢◌, ◌<◌, ◌+◌, ◌≤◌, List, MatchOption, Option, Some, option_map, ℕ};
 ghost use Rattle.nbd_messages.specs.declared.command.Command.TheVariants.{Disconnect, Flush, Read, Trim, Write, WriteZeroes};
 ghost use Rattle.nbd_server.specs.Plan.{IsPlan, IsPlanFor, Names};
-ghost use Rattle.nbd_server.specs.declared.plan.Span.{Span};
+ghost use Rattle.nbd_server.specs.declared.span.Span.{Span};
 
 use crate::export::Export;
 use crate::input::MAX_LENGTH;
 use crate::long::PART;
+use crate::span::Span;
 use mmc_block::Request;
 use mmc_bus::Bytes;
 use nbd_messages::{Command, ReplyError, RequestHeader};
-
-/// Sectors of an export.
-#[derive(Clone, Copy, Debug, PartialEq, Eq)]
-pub struct Span {
-    /// The first.
-    pub start: u64,
-    /// How many.
-    pub count: u64,
-}
 
 /// What a request comes to.
 #[derive(Drop)]

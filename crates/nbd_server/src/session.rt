@@ -1,12 +1,16 @@
 // A session: the negotiation of an export, then its requests. All that have come are submitted before the next turn, so that
 // neighbours merge; before the input is waited for, each has its reply.
-ghost use Rattle.std.specs.Prelude.{◌≡◌, ◌⊎◌, ◌∷◌, [], IfOk, List, OnOk, Option, ℕ};
+ghost use Rattle.std.specs.Prelude.{◌≡◌, ◌⊎◌, IfOk, IfSome, List, OnOk, Option, length, option_map, ℕ};
 ghost use Rattle.std.specs.Io.Buffered.{reader_remaining};
 ghost use Rattle.std.specs.Io.KnownBytes.{Keeps};
 ghost use Rattle.mmc_block.specs.Device.{unanswered_of};
-ghost use Rattle.nbd_server.specs.Acts.{Act, asked};
+ghost use Rattle.nbd_server.specs.Acts.{Act, AreTurns};
 ghost use Rattle.nbd_server.specs.Desk.{Does};
+ghost use Rattle.nbd_server.specs.Messages.{data_length};
+ghost use Rattle.nbd_server.specs.Plan.{HasAll};
+ghost use Rattle.nbd_server.specs.Served.{IsServedAs, Served};
 ghost use Rattle.nbd_server.specs.Session.{AreTakenUp, Ends, IsSession, IsTakenUp, done_of};
+ghost use Rattle.nbd_server.specs.declared.plan.Plan.TheVariants.{Flush, ReadLong, WriteLong};
 
 use crate::desk::{Desk, put_data, put_reply};
 use crate::export::Export;
@@ -14,7 +18,8 @@ use crate::fault::{InputFault, OutputFault, SessionFault};
 use crate::input::{Message, has_request, next_message};
 use crate::long::{read_long, write_long};
 use crate::negotiation::negotiate;
-use crate::plan::{Plan, Span, planned};
+use crate::plan::{Plan, planned};
+use crate::span::Span;
 use mmc_bus::{Bus, Part};
 use std::alloc::Global;
 use std::io::{BufReader, Read, Write};
@@ -38,7 +43,8 @@ fn serve_read<B: Bus, W: Write>(
     span: Span,
     out: &mut W,
 ) -> Result<(), OutputFault>
-    ensures { (acts : List Act) × Does B.view desk.old desk.new (W.contents out.old) (W.contents out.new) result acts × OnOk result (asked acts ≡ cookie ∷ []) }
+    ensures { (acts : List Act) × Does B.view desk.old desk.new (W.contents out.old) (W.contents out.new) result acts
+        × OnOk result (IsServedAs part cookie (ReadLong span) acts) }
 {
     desk.drain(out)?;
     match read_long(alloc, desk, cookie, part, span) {
@@ -53,24 +59,30 @@ fn serve_write<B: Bus, W: Write>(
     desk: &mut Desk<B>,
     cookie: u64,
     part: Part,
-    start: u64,
-    data: &[u8],
+    span: Span,
+    bytes: Vec<u8>,
     out: &mut W,
 ) -> Result<(), OutputFault>
-    ensures { (acts : List Act) × Does B.view desk.old desk.new (W.contents out.old) (W.contents out.new) result acts × OnOk result (asked acts ≡ cookie ∷ []) }
+    requires { HasAll (WriteLong span bytes) }
+    ensures { (acts : List Act) × Does B.view desk.old desk.new (W.contents out.old) (W.contents out.new) result acts
+        × OnOk result (IsServedAs part cookie (WriteLong span bytes) acts) }
 {
     desk.drain(out)?;
-    let written = write_long(alloc, desk, cookie, part, start, data);
-    put_reply(out, written.err(), cookie)
+    match write_long(alloc, desk, cookie, part, span, bytes.as_slice()) {
+        Ok(()) => put_reply(out, None, cookie),
+        Err(error) => put_reply(out, Some(error), cookie),
+    }
 }
 
 // Replies once all earlier requests have their replies.
 fn serve_flush<B: Bus, W: Write>(
     desk: &mut Desk<B>,
+    part: Part,
     cookie: u64,
     out: &mut W,
 ) -> Result<(), OutputFault>
-    ensures { (acts : List Act) × Does B.view desk.old desk.new (W.contents out.old) (W.contents out.new) result acts × OnOk result (asked acts ≡ cookie ∷ []) }
+    ensures { (acts : List Act) × Does B.view desk.old desk.new (W.contents out.old) (W.contents out.new) result acts
+        × OnOk result (IsServedAs part cookie Flush acts) }
 {
     desk.drain(out)?;
     put_reply(out, None, cookie)
@@ -85,16 +97,16 @@ fn serve_plan<B: Bus, W: Write>(
     plan: Plan,
     out: &mut W,
 ) -> Result<(), OutputFault>
-    ensures { (acts : List Act) × Does B.view desk.old desk.new (W.contents out.old) (W.contents out.new) result acts × OnOk result (asked acts ≡ cookie ∷ []) }
+    requires { HasAll plan }
+    ensures { (acts : List Act) × Does B.view desk.old desk.new (W.contents out.old) (W.contents out.new) result acts
+        × OnOk result (IsServedAs part cookie plan acts) }
 {
     match plan {
         Plan::Answer(error) => put_reply(out, error, cookie),
         Plan::Ask(request) => desk.ask(alloc, cookie, request, out),
         Plan::ReadLong(span) => serve_read(alloc, desk, cookie, part, span, out),
-        Plan::WriteLong(span, data) => {
-            serve_write(alloc, desk, cookie, part, span.start, data.as_slice(), out)
-        }
-        Plan::Flush => serve_flush(desk, cookie, out),
+        Plan::WriteLong(span, bytes) => { serve_write(alloc, desk, cookie, part, span, bytes, out) }
+        Plan::Flush => serve_flush(desk, part, cookie, out),
     }
 }
 
@@ -106,8 +118,9 @@ fn serve_message<B: Bus, W: Write>(
     message: Message,
     out: &mut W,
 ) -> Result<bool, OutputFault>
+    requires { IfSome message.given (λ bytes. length bytes.items ≡ data_length message.header.command message.header.length) }
     ensures { (acts : List Act) × Does B.view desk.old desk.new (W.contents out.old) (W.contents out.new) (done_of result) acts
-        × IfOk result (IsTakenUp message.header (asked acts)) }
+        × IfOk result (IsTakenUp export.now message.header (option_map (λ bytes. bytes.items) message.given) acts) }
 {
     let Message { header, given } = message;
     let Some(plan) = planned(export, &header, given) else {
@@ -123,7 +136,7 @@ fn settle<B: Bus, R: Read, W: Write>(
     input: &BufReader<R>,
     out: &mut W,
 ) -> Result<(), OutputFault>
-    ensures { (acts : List Act) × (asked acts ≡ []) × Does B.view desk.old desk.new (W.contents out.old) (W.contents out.new) result acts }
+    ensures { (acts : List Act) × AreTurns acts × Does B.view desk.old desk.new (W.contents out.old) (W.contents out.new) result acts }
 {
     if has_request(input) {
         return Ok(());
@@ -141,8 +154,9 @@ fn serve_all<B: Bus, R: Read, W: Write>(
     out: &mut W,
 ) -> Result<Result<(), InputFault>, OutputFault>
     ensures { (acts : List Act) × Does B.view desk.old desk.new (W.contents out.old) (W.contents out.new) (done_of result) acts
-        × IfOk result (λ ended. (left : Option (List ℕ)) × AreTakenUp (reader_remaining R.remaining input.old) left (asked acts)
-        × OnOk ended (Ends left (reader_remaining R.remaining input.new) (asked acts))) }
+        × IfOk result (λ ended. (left : Option (List ℕ)) × (served : List Served)
+        × AreTakenUp export.now (reader_remaining R.remaining input.old) left acts served
+        × OnOk ended (Ends left (reader_remaining R.remaining input.new) served)) }
 {
     for _served in 0..u64::MAX {
         settle(desk, input, out)?;
@@ -168,8 +182,9 @@ fn serve_export<B: Bus, R: Read, W: Write>(
 ) -> Result<Result<(), InputFault>, OutputFault>
     ensures { (acts : List Act) × Does B.view desk.old desk.new (W.contents out.old) (W.contents out.new) (done_of result) acts
         × IfOk result (λ ended. (unanswered_of desk.new.device ≡ 0)
-        × ((left : Option (List ℕ)) × AreTakenUp (reader_remaining R.remaining input.old) left (asked acts)
-        × OnOk ended (Ends left (reader_remaining R.remaining input.new) (asked acts)))) }
+        × ((left : Option (List ℕ)) × (served : List Served)
+        × AreTakenUp export.now (reader_remaining R.remaining input.old) left acts served
+        × OnOk ended (Ends left (reader_remaining R.remaining input.new) served))) }
 {
     let ended = serve_all(alloc, desk, export, input, out)?;
     desk.drain(out)?;

@@ -1,12 +1,34 @@
-use Rattle.std.proofs.Common.{◌++◌}
+use Rattle.std.proofs.Common.{subst, ◌++◌}
+use Rattle.nbd_server.specs.Parts.{AreAnswered}
 use Rattle.nbd_server.proofs.DeskLemmas.{leads_then, of_parts_then}
+use Rattle.nbd_server.proofs.PartsLemmas.{if_ok_then, window_read}
+use Rattle.nbd_server.proofs.SessionLemmas.{if_no_ok}
 use Rattle.nbd_server.proofs.long.read_window.Goals as goal
+
+pub returns-in_err-asked-clause-leads : goal.returns-in_err-asked-clause-leads
+returns-in_err-asked-clause-leads g c =
+    let (xs, of_xs, leads_xs, none, failed) = c.in_err-asked.ensures in
+    let (ys, of_ys, leads_ys, answers) = c.gather-given.ensures.leads in (
+      xs ++ ys,
+      of_parts_then xs ys of_xs of_ys,
+      leads_then g.B.Bus.view _ _ _ xs ys leads_xs leads_ys,
+      if_no_ok c.from_residual.result _ c.from_residual.ensures.0,
+    )
 
 pub returns-clause-leads : goal.returns-clause-leads
 returns-clause-leads g c =
-    let (acts, of_parts, leads) = c.ask_reads-asked.ensures in
-    let (more, of_parts_too, then) = c.gather-done.ensures.leads in (
-      acts ++ more,
-      of_parts_then acts more of_parts of_parts_too,
-      leads_then g.B.Bus.view _ _ _ acts more leads then,
+    let (xs, of_xs, leads_xs, none, asked) = c.in_ok-asked.ensures in
+    let (ys, of_ys, leads_ys, answers) = c.gather-given.ensures.leads in
+    let same = c.as_slice.ensures.value in (
+      xs ++ ys,
+      of_parts_then xs ys of_xs of_ys,
+      leads_then g.B.Bus.view _ _ _ xs ys leads_xs leads_ys,
+      if_ok_then c.join.result _ _
+          (λ done (more, behind, long, answered). (
+            more,
+            behind,
+            window_read c.args.part c.args.span.start c.args.span.count c.in_ok-asked.field-0 xs ys c.gather-given.result.items more none asked.0 asked.1
+                answers long (subst (λ given. AreAnswered given c.args.span.count c.in_ok-asked.field-0 more) same answered),
+          ))
+          c.join.ensures,
     )

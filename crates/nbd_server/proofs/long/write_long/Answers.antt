@@ -1,36 +1,49 @@
-use Rattle.std.proofs.Common.{[], ◌++◌}
-use Rattle.nbd_server.proofs.DeskLemmas.{leads_none, leads_then, of_parts_then}
+use Rattle.std.proofs.Common.{drop, refl, take, ◌*◌, ◌-◌, [], arith, ap, subst, sym, ◌++◌, ◌+◌, ◌∙◌, ◌∷◌, ℕ}
+use Rattle.nbd_server.specs.Parts.{AreWindows, IsWritten, Window}
+use Rattle.nbd_server.proofs.DeskLemmas.{leads_none, leads_then, of_parts_then, no_parts}
+use Rattle.nbd_server.proofs.PartsLemmas.{bytes_next, no_windows, in_turn_then, none_in_turn, window_more}
+use Rattle.nbd_server.proofs.SessionLemmas.{if_no_ok}
 use Rattle.nbd_server.proofs.long.write_long.Goals as goal
 
-pub loop-window-init : goal.loop-window-init
-loop-window-init g c = record {
+pub loop-done-init : goal.loop-done-init
+loop-done-init g c = record {
   acts = [];
-  of_parts = tt;
+  windows = [];
+  of_parts = no_parts;
   leads = leads_none g.B.Bus.view _;
+  written = none_in_turn _ _;
+  are = no_windows;
+  within = omega arith;
   none = c.requires.none;
   cleared = c.requires.cleared;
 }
 
-pub loop-window-preserved : goal.loop-window-preserved
-loop-window-preserved g c =
-    let (acts, of_parts, leads) = c.in_ok-write_window.ensures.leads in
-    let so_far = c.loop-window.invariant in
-    record {
-      acts = so_far.acts ++ acts;
-      of_parts = of_parts_then so_far.acts acts so_far.of_parts of_parts;
-      leads = leads_then g.B.Bus.view _ _ _ so_far.acts acts so_far.leads leads;
-      none = c.in_ok-write_window.ensures.none;
-      cleared = c.in_ok-write_window.ensures.cleared;
-    }
-
 pub returns-in_err-write_window-clause-leads : goal.returns-in_err-write_window-clause-leads
 returns-in_err-write_window-clause-leads g c =
-    let (acts, of_parts, leads) = c.in_err-write_window.ensures.leads in
-    let so_far = c.loop-window.invariant in (
+    let (acts, of_parts, leads, failed) = c.in_err-write_window.ensures.leads in
+    let so_far = c.loop-done.invariant in (
       so_far.acts ++ acts,
       of_parts_then so_far.acts acts so_far.of_parts of_parts,
       leads_then g.B.Bus.view _ _ _ so_far.acts acts so_far.leads leads,
+      if_no_ok c.from_residual.result _ c.from_residual.ensures.0,
     )
 
-pub returns-clause-leads : goal.returns-clause-leads
-returns-clause-leads g c = let so_far = c.loop-window.invariant in (so_far.acts, so_far.of_parts, so_far.leads)
+pub loop-done-preserved : goal.loop-done-preserved
+loop-done-preserved g c =
+    let (acts, of_parts, leads, is) = c.in_ok-write_window.ensures.leads in
+    let more = take (512 * c.loop-done.done + 512 * c.behind-next.result.count - 512 * c.loop-done.done) (drop (512 * c.loop-done.done) c.args.bytes.now) in
+    let so_far = c.loop-done.invariant in
+    let one : Window = record { count = c.behind-next.result.count; acts = acts; bytes = more } in
+    record {
+      acts = so_far.acts ++ acts;
+      windows = so_far.windows ++ one ∷ [];
+      of_parts = of_parts_then so_far.acts acts so_far.of_parts of_parts;
+      leads = leads_then g.B.Bus.view _ _ _ so_far.acts acts so_far.leads leads;
+      written = in_turn_then (λ (from : ℕ) (w : Window). IsWritten c.args.part from w.count w.acts w.bytes) c.args.span.start so_far.windows one so_far.written
+          (subst (λ k. IsWritten c.args.part k one.count acts more) (c.behind-next.ensures.start ∙ ap (λ k. c.args.span.start + k) (sym so_far.are.sectors)) is);
+      are = subst (AreWindows (so_far.windows ++ one ∷ []) _ (so_far.acts ++ acts)) (sym (bytes_next c.loop-done.done c.behind-next.result.count _ c.args.bytes.now refl))
+          (window_more so_far.windows c.loop-done.done c.behind-next.result.count so_far.acts acts (take (512 * c.loop-done.done) c.args.bytes.now) more so_far.are);
+      within = omega (arith, c.behind-next.ensures.count, c.loop-done-test.true);
+      none = c.in_ok-write_window.ensures.none;
+      cleared = c.in_ok-write_window.ensures.cleared;
+    }

@@ -1,9 +1,6 @@
-use Rattle.std.proofs.Common.{subst, sym, ◌++◌}
-use Rattle.std.specs.Prelude.{OnOk}
-use Rattle.std.specs.Io.Buffered.{reader_remaining}
-use Rattle.nbd_server.specs.Session.{AreTakenUp, Ends}
+use Rattle.std.proofs.Common.{◌++◌}
 use Rattle.nbd_server.proofs.DeskLemmas.{does_then}
-use Rattle.nbd_server.proofs.SessionLemmas.{asks_no_more, does_broken, does_flushed, if_no_ok}
+use Rattle.nbd_server.proofs.SessionLemmas.{does_broken, does_flushed, if_no_ok, turns_behind}
 use Rattle.nbd_server.proofs.session.serve_export.Goals as goal
 
 pub returns-in_err-ended : goal.returns-in_err-ended
@@ -42,20 +39,10 @@ returns-in_err-flush g c =
 
 pub returns : goal.returns
 returns g c =
-    let (acts, does, (left, taken, ends)) = c.in_ok-ended.ensures in
-    let (more, none, drains) = c.in_ok-drain.ensures.does in
-    let old = reader_remaining g.R.Read.remaining c.args.input.now in
-    let new = reader_remaining g.R.Read.remaining c.serve_all.new.input in
-    let same = sym (asks_no_more acts more none) in (
+    let (acts, does, (left, served, taken, ends)) = c.in_ok-ended.ensures in
+    let (more, turns, drains) = c.in_ok-drain.ensures.does in (
       acts ++ more,
       does_flushed g.B.Bus.view _ _ _ _ _ tt _ (acts ++ more)
           (does_then g.B.Bus.view _ _ _ _ _ _ tt _ acts more does drains) c.in_ok-flush.ensures,
-      (
-        c.in_ok-drain.ensures.none,
-        (
-          left,
-          subst (λ cookies. AreTakenUp old left cookies) same taken,
-          subst (λ cookies. OnOk c.in_ok-ended.ended (Ends left new cookies)) same ends,
-        ),
-      ),
+      (c.in_ok-drain.ensures.none, (left, served, turns_behind _ _ _ acts more served taken turns, ends)),
     )

@@ -1,10 +1,10 @@
 use Rattle.std.proofs.Common.{[]}
-use Rattle.nbd_server.proofs.DeskLemmas.{does_failed, does_none, none_asked_by_none}
+use Rattle.nbd_server.proofs.DeskLemmas.{does_failed, does_none, no_turns}
 use Rattle.nbd_server.proofs.SessionLemmas.{does_flushed}
 use Rattle.nbd_server.proofs.session.settle.Goals as goal
 
 pub returns-then-has_request : goal.returns-then-has_request
-returns-then-has_request g c = ([], none_asked_by_none, does_none g.B.Bus.view _ _ tt)
+returns-then-has_request g c = ([], no_turns, does_none g.B.Bus.view _ _ tt)
 
 pub returns-in_err-drain : goal.returns-in_err-drain
 returns-in_err-drain g c =

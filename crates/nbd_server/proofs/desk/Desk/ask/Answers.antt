@@ -1,6 +1,6 @@
-use Rattle.std.proofs.Common.{[], ◌++◌, ◌∷◌}
+use Rattle.std.proofs.Common.{[], refl, ◌++◌, ◌∷◌}
 use Rattle.nbd_server.specs.Acts.Act.{Asks}
-use Rattle.nbd_server.proofs.DeskLemmas.{asks_then, does_failed, does_then, on_no_ok, on_ok}
+use Rattle.nbd_server.proofs.DeskLemmas.{does_failed, does_then, on_no_ok, on_ok}
 use Rattle.nbd_server.proofs.desk.Desk.ask.Goals as goal
 
 pub returns-in_err-make_room : goal.returns-in_err-make_room
@@ -17,5 +17,5 @@ returns g c =
     let (reply, second) = c.submit_or_reply.ensures in (
       acts ++ Asks c.args.cookie c.args.request reply ∷ [],
       does_then g.B.Bus.view _ _ _ _ _ _ tt _ acts (Asks c.args.cookie c.args.request reply ∷ []) first second,
-      on_ok c.submit_or_reply.result _ (asks_then acts c.args.cookie c.args.request reply none),
+      on_ok c.submit_or_reply.result _ (acts, reply, none, refl),
     )

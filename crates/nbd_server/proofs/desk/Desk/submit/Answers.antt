@@ -14,6 +14,7 @@ invariant_of-self g c =
       numbered = rw c.push.ensures.items
           (queued_numbered k c.self.inside.device c.submit.new.self c.args.cookie _ _ c.args.request
           c.len-client.ensures.value c.in-Ok.ensures.accepted c.self.invariant.numbered);
+      each = rw (c.push.ensures.items, c.in-Ok.ensures.accepted.waits) (omega (arith, longer, c.self.invariant.each, length-append c.self.inside.device.waits (record { ticket = c.self.inside.device.next; client = c.len-client.result; request = c.args.request } ∷ [])));
       few = rw c.push.ensures.items (omega (arith, same, longer, room));
       none = c.self.invariant.none;
     }

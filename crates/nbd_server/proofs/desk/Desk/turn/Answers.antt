@@ -1,10 +1,11 @@
-use Rattle.std.proofs.Common.{refl, sym}
+use Rattle.std.proofs.Common.{arith, refl, sym}
 use Rattle.nbd_server.proofs.DeskLemmas.{turn_does, turn_numbered}
 use Rattle.nbd_server.proofs.desk.Desk.turn.Goals as goal
 
 pub invariant_of-self : goal.invariant_of-self
 invariant_of-self g c = record {
   numbered = turn_numbered _ _ _ _ _ _ c.turn_into.ensures.answers c.self.invariant.numbered;
+  each = omega (arith, c.turn_into.ensures.leaves, c.self.invariant.each);
   few = c.self.invariant.few;
   none = c.clear.ensures;
 }
