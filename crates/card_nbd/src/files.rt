@@ -1,4 +1,7 @@
 // The files that are read and written.
+ghost use Rattle.std.specs.Prelude.{IfOk};
+ghost use Rattle.card_text.specs.Planning.{CanBePlanned};
+
 use crate::fault::{NbdFault, of_card};
 use card_text::card_file::{CardFile, MAX_CARD_FILE, read_card};
 use card_text::input::{ReadFault, read_bounded, read_front};
@@ -13,7 +16,9 @@ use std::rt::Files;
 const READ_AT_ONCE: usize = 1_048_576;
 
 // What a card file says.
-fn card_file<C: Read>(alloc: Global, card: &mut C) -> Result<CardFile, NbdFault> {
+fn card_file<C: Read>(alloc: Global, card: &mut C) -> Result<CardFile, NbdFault>
+    ensures { IfOk result (λ file. CanBePlanned file.plan.items) }
+{
     let text = match read_bounded(alloc, card, MAX_CARD_FILE) {
         Ok(text) => text,
         Err(ReadFault::Reader) => return Err(NbdFault::ReadCard),
@@ -49,7 +54,9 @@ pub fn read_files<R: Files + AllocGlobal>(
     rt: &R,
     card: &str,
     image: Option<&str>,
-) -> Result<CardFile, NbdFault> {
+) -> Result<CardFile, NbdFault>
+    ensures { IfOk result (λ file. CanBePlanned file.plan.items) }
+{
     let Ok(mut card) = File::open(rt, card) else {
         return Err(NbdFault::ReadCard);
     };

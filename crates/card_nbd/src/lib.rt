@@ -5,7 +5,6 @@ mod card;
 mod fault;
 mod files;
 mod options;
-mod save;
 mod serving;
 
 pub use fault::NbdFault;

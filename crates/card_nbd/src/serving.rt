@@ -3,7 +3,7 @@ use crate::card::built;
 use crate::fault::{NbdFault, of_opening};
 use crate::files::{new_file, read_files};
 use crate::options::{Options, options_given};
-use crate::save::save;
+use card_served::save;
 use card_text::card_file::CardFile;
 use mmc_block::BlockDev;
 use mmc_bus::Part;
@@ -67,7 +67,9 @@ fn serve_card<R: Files + Input + Print + AllocGlobal>(
     let served = serve_streams(alloc, &mut desk, default, rt.reader(), io::writer(rt));
     let card = desk.close();
     if let Some(mut file) = file {
-        save(&card, options.part, &mut file)?;
+        if save(&card, options.part, &mut file).is_err() {
+            return Err(NbdFault::Save);
+        }
     }
     served
 }

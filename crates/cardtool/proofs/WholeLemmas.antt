@@ -39,7 +39,8 @@ use Rattle.card_text.specs.declared.event.ScriptEvent.TheVariants.{Run}
 use Rattle.cardtool.specs.Serving.{IsLaterDevice, IsNext, ServesEvents, ServesScript, Standing, due_events}
 use Rattle.cardtool.specs.Serving.{standing_of, texts}
 use Rattle.card_text.specs.Planning.{PlannedFault}
-use Rattle.cardtool.specs.Whole.{IsNew, IsServed, IsServedOnNewCard, IsServedOnSpec, IsUnopened, IsUnwritten, IsWhyUnbuilt}
+use Rattle.card_served.specs.New.{IsNew}
+use Rattle.cardtool.specs.Whole.{IsServed, IsServedOnNewCard, IsServedOnSpec, IsUnopened, IsUnwritten, IsWhyUnbuilt}
 use Rattle.cardtool.specs.Whole.{ExecutedInAnyProfile, building_fault, opened_after}
 use Rattle.cardtool.specs.Whole.{opening_fault, outcome_of, status_of}
 use Rattle.cardtool.proofs.EndLemmas.{ends_answered}

@@ -10,18 +10,15 @@ use Rattle.mmc_card.specs.declared.exchange.Exchange.{Exchange}
 use Rattle.mmc_card.specs.declared.exchange.Lines.{Lines}
 use Rattle.mmc_bus.specs.ExchangeText.{lines_text}
 use Rattle.mmc_bus.specs.Trace.{HasItsFrame}
-use Rattle.mmc_bus.specs.Wires.{IsUnused}
 use Rattle.mmc_card.specs.BusView.{BusView}
 use Rattle.mmc_card.specs.Faults.{FallNoMore}
-use Rattle.mmc_card.specs.Card.{Card, holds, powered_on}
+use Rattle.mmc_card.specs.Card.{holds}
 use Rattle.mmc_card.specs.Made.{Made}
 use Rattle.mmc_card.specs.Profile.{InProfile}
 use Rattle.mmc_card.specs.declared.part.Part.{Part}
 use Rattle.mmc_card.specs.Sectors.{Sector, Sets, Within}
 use Rattle.mmc_card_sim.specs.CardSpec.{refusal_of}
-use Rattle.mmc_card_sim.specs.Plan.{fault_at}
-use Rattle.mmc_card_sim.specs.Registers.{made_of}
-use Rattle.mmc_card_sim.specs.SimView.{SimView, first_parts, sim_bus_view}
+use Rattle.mmc_card_sim.specs.SimView.{SimView}
 use Rattle.mmc_card_sim.specs.declared.spec.BuildFault.{BuildFault}
 use Rattle.mmc_card_sim.specs.declared.spec.BuildFault.TheVariants as Refused
 use Rattle.mmc_card_sim.specs.declared.spec.CardSpec.{CardSpec}
@@ -39,6 +36,7 @@ use Rattle.card_text.specs.declared.event.ScriptEvent.TheVariants.{Run}
 use Rattle.cardtool.specs.declared.fault.ServeFault.{ServeFault}
 use Rattle.cardtool.specs.declared.fault.ServeFault.TheVariants.{ImageSize, Locked, NoCard, NoMemory, Register}
 use Rattle.cardtool.specs.declared.fault.ServeFault.TheVariants.{Unsupported, Voltage, Write}
+use Rattle.card_served.specs.New.{IsNew}
 use Rattle.card_text.specs.Planning.{PlannedFault}
 use Rattle.cardtool.specs.Serving.{FollowScript, any_bad, texts}
 
@@ -205,18 +203,7 @@ IsUnwritten old new fault = (fault ≡ Write → ⊥) → new ≡ old
 
 -- A new card in memory.
 
--- the card of a spec, after power on
-abbrev pub new_card : CardSpec → Card
-new_card spec = powered_on (made_of spec.registers) (first_parts spec)
-
--- The card in memory is new, as its spec says, and just these faults are planned for it.
-pub record IsNew (spec : CardSpec) (plan : List PlannedFault) (sim : SimView) : Type 0 where
-  pub card : sim.card ≡ new_card spec
-  pub unused : IsUnused (sim_bus_view sim)
-  pub planned : All (λ p. fault_at sim.plan p.0 ≡ Some p.1) plan
-  pub no_others : length sim.plan ≤ length plan
-
--- A script was served on such a card, over its bus, which limits nothing. So many faults fell, no more than were planned.
+-- A script was served on a new card, over its bus, which limits nothing. So many faults fell, no more than were planned.
 pub record IsServedOnNewCard (spec : CardSpec) (plan : List PlannedFault) (script : List ScriptEvent) (trace : Option ℕ)
     (old new : Option (List ℕ)) (result : Result ℕ ServeFault) : Type 0 where
   pub sim : SimView

@@ -1,30 +1,14 @@
 // The card that a script is served on: a new one in memory, with the faults that are planned for it.
-ghost use Rattle.std.specs.Prelude.{◌≡◌, ◌≤◌, IfErr, IfOk, IsOk, None, Some, [], length};
-ghost use Rattle.mmc_bus.specs.Wires.{IsUnused};
+ghost use Rattle.std.specs.Prelude.{◌≡◌, IfErr, IfOk, IsOk, None};
 ghost use Rattle.mmc_card_sim.specs.CardSpec.{refusal_of};
-ghost use Rattle.mmc_card_sim.specs.Plan.{fault_at};
-ghost use Rattle.mmc_card_sim.specs.SimView.{sim_bus_view};
-ghost use Rattle.std.specs.List.{All};
+ghost use Rattle.card_served.specs.New.{IsNew};
 ghost use Rattle.card_text.specs.Planning.{CanBePlanned};
-ghost use Rattle.cardtool.specs.Whole.{IsNew, IsWhyUnbuilt, building_fault};
+ghost use Rattle.cardtool.specs.Whole.{IsWhyUnbuilt, building_fault};
 
 use crate::fault::ServeFault;
+use card_served::plan_all;
 use mmc_card_sim::{BuildFault, CardSpec, Fault, SimCard};
 use std::alloc::Global;
-
-// Plans faults for a card that has made no exchange.
-fn plan_all(card: &mut SimCard, plan: &[(u64, Fault)])
-    requires planned { CanBePlanned plan.now }
-    requires unused { IsUnused (sim_bus_view card.old) }
-    requires unplanned { card.old.plan ≡ [] }
-    ensures planned { All (λ p. fault_at card.new.plan p.0 ≡ Some p.1) plan.now }
-    ensures no_others { length card.new.plan ≤ length plan.now }
-    ensures stays { card.new ≡ record card.old { plan = card.new.plan } }
-{
-    for (exchange, fault) in plan {
-        let _planned = card.plan(*exchange, *fault);
-    }
-}
 
 // What is printed of a card that isn't built.
 fn of_building(fault: BuildFault) -> ServeFault

@@ -10,9 +10,9 @@ use crate::files::{FilesRead, read_files};
 use crate::more::{Drawn, Served, Shown, serve_drawn};
 use crate::new_card::built;
 use crate::options_given::Options;
-use crate::save::save;
 use crate::serve::serve;
 use crate::watched::WatchedCard;
+use card_served::save;
 use mmc_bus::MAX_KEPT;
 use std::alloc::Global;
 use std::fs::{File, OpenOptions};
@@ -94,16 +94,11 @@ fn finish_wave<V: Write + Drop>(drawn: Option<Drawn<V>>) -> Result<(), ServeFaul
 }
 
 // Writes the image of a card, where it is to be saved.
-fn finish_save<V: Write + Drop>(
-    alloc: Global,
-    watched: &WatchedCard,
-    file: Option<V>,
-) -> Result<(), ServeFault> {
+fn finish_save<V: Write + Drop>(watched: &WatchedCard, file: Option<V>) -> Result<(), ServeFault> {
     let Some(mut file) = file else {
         return Ok(());
     };
-    save(alloc, &watched.card, &mut file)?;
-    match file.flush() {
+    match save(&watched.card, None, &mut file) {
         Ok(()) => Ok(()),
         Err(_) => Err(ServeFault::Save),
     }
@@ -142,7 +137,7 @@ fn serve_more<R: Files + Print + AllocGlobal, C: Read, S: Read, I: Read>(
     };
     let flushed = out.flush();
     finish_wave(drawn)?;
-    finish_save(alloc, &bus, image)?;
+    finish_save(&bus, image)?;
     let status = status?;
     explained?;
     match flushed {

@@ -360,7 +360,7 @@ turn_asks_nothing : (act : Act) → IsOfTurns act → asked_by act ≡ []
 turn_asks_nothing (Turns given) h = refl
 turn_asks_nothing Clears h = refl
 turn_asks_nothing (Asks cookie request reply) h = absurd h
-turn_asks_nothing (AsksPart cookie request reply) h = absurd h
+turn_asks_nothing (AsksPart request reply) h = absurd h
 turn_asks_nothing (Gathers given) h = absurd h
 turn_asks_nothing (Says cookie error) h = absurd h
 turn_asks_nothing (Gives cookie bytes) h = absurd h
@@ -447,13 +447,13 @@ gathered view old new given turn same = record {
 }
 
 -- a part is submitted as a whole request is
-pub as_part : {B : Type 0} (view : B → BusView) (old new : DeskView B) (cookie : ℕ) (request : Request)
-    (r : Result ℕ Refused) → Leads view old (Asks cookie request (reply_to r) ∷ []) new
-    → Leads view old (AsksPart cookie request (reply_to r) ∷ []) new
+pub as_part : {B : Type 0} (view : B → BusView) (old new : DeskView B) (request : Request) (r : Result ℕ Refused)
+    → Leads view old (Asks 0 request (reply_to r) ∷ []) new
+    → Leads view old (AsksPart request (reply_to r) ∷ []) new
 unfolding cookies_after events_of replies_of
-as_part view old new cookie request (Ok ticket) h =
+as_part view old new request (Ok ticket) h =
     record { cookies = h.cookies; info = h.info; kept = h.kept; executed = h.executed }
-as_part view old new cookie request (Err why) h =
+as_part view old new request (Err why) h =
     record { cookies = h.cookies; info = h.info; kept = h.kept; executed = h.executed }
 
 pub no_parts : AreOfParts []
@@ -470,7 +470,7 @@ one_part x is = All-cons IsOfParts x [] is no_parts
 
 -- such an act takes up no request, replies to none and writes nothing
 part_is_silent : (k : List ℕ) (x : Act) → IsOfParts x → (asked_by x ≡ []) × (answered_by k x ≡ []) × (bytes_by k x ≡ [])
-part_is_silent k (AsksPart cookie request reply) is = (refl, refl, refl)
+part_is_silent k (AsksPart request reply) is = (refl, refl, refl)
 part_is_silent k (Gathers given) is = (refl, refl, refl)
 part_is_silent k Clears is = (refl, refl, refl)
 part_is_silent k (Asks cookie request reply) is = absurd is

@@ -1,9 +1,14 @@
 -- Bytes that are read and written, one after the other.
-use Rattle.std.proofs.Common.{[], ap, append_assoc, refl, sym, ◌++◌, ◌∙◌, ◌≡◌, Err, List, None, Ok, Option, Result, Some, ℕ}
+use Rattle.std.proofs.Common.{[], ap, append_assoc, arith, length, refl, subst, sym, take, ◌+◌, ◌++◌, ◌∙◌, ◌≡◌, ◌≢◌, ◌≤◌, Err, List, None, Ok, Option, Result, Some, ℕ}
 use Rattle.std.specs.Prelude.{IfSome, OnOk}
 use Rattle.std.specs.Io.KnownBytes.{Appends, Consumes, IsAtEnd, Keeps}
 use Rattle.text_out.specs.Writing.{Writes}
 use Rattle.text_out.proofs.WritingLemmas.{appends_more, appends_none}
+use Rattle.nbd_messages.specs.Requests.{request_in}
+use Rattle.nbd_messages.specs.declared.command.Command.{Command}
+use Rattle.nbd_messages.specs.declared.command.Command.TheVariants.{Disconnect, Flush, Read, Trim, Write, WriteZeroes}
+use Rattle.nbd_messages.specs.declared.request.RequestHeader.{RequestHeader}
+use Rattle.nbd_server.specs.Messages.{HasWhole, data_length}
 use Rattle.nbd_server.specs.Session.{Grows, Shrinks}
 
 pub at_end : (left : Option (List ℕ)) (n : ℕ) → IfSome left (λ xs. n ≡ 0 → xs ≡ []) → n ≡ 0 → IsAtEnd left
@@ -57,3 +62,47 @@ pub grows_on : {E : Type 0} (a b c : Option (List ℕ)) (r : Result (Unit {0}) E
     → Writes b c r text → OnOk r (Grows a c)
 grows_on a b c (Ok x) text h wrote = grows_then a b c h (text, wrote)
 grows_on a b c (Err e) text h wrote = tt
+
+-- Requests that have come whole.
+
+no_data : (command : Option Command) (n : ℕ) → command ≢ Some Write → data_length command n ≡ 0
+no_data None n h = refl
+no_data (Some Read) n h = refl
+no_data (Some Write) n h = absurd (h refl)
+no_data (Some Disconnect) n h = refl
+no_data (Some Flush) n h = refl
+no_data (Some Trim) n h = refl
+no_data (Some WriteZeroes) n h = refl
+
+data_within : (command : Option Command) (n m : ℕ) → n ≤ m → data_length command n ≤ m
+data_within None n m h = omega arith
+data_within (Some Read) n m h = omega arith
+data_within (Some Write) n m h = h
+data_within (Some Disconnect) n m h = omega arith
+data_within (Some Flush) n m h = omega arith
+data_within (Some Trim) n m h = omega arith
+data_within (Some WriteZeroes) n m h = omega arith
+
+has_whole : (buffer head behind : List ℕ) (header : RequestHeader) → head ≡ take 28 buffer → length behind + 28 ≡ length buffer
+    → request_in head ≡ Some header → data_length header.command header.length ≤ length behind → HasWhole buffer
+has_whole buffer head behind header front rest is fits = (
+  omega (arith, rest),
+  subst (λ o. IfSome o (λ h. data_length h.command h.length + 28 ≤ length buffer)) (sym is ∙ ap request_in front) (omega (arith, rest, fits)),
+)
+
+pub has_junk : (buffer head behind : List ℕ) → head ≡ take 28 buffer → length behind + 28 ≡ length buffer
+    → request_in head ≡ None → HasWhole buffer
+has_junk buffer head behind front rest is = (
+  omega (arith, rest),
+  subst (λ o. IfSome o (λ h. data_length h.command h.length + 28 ≤ length buffer)) (sym is ∙ ap request_in front) tt,
+)
+
+pub has_plain : (buffer head behind : List ℕ) (header : RequestHeader) → head ≡ take 28 buffer
+    → length behind + 28 ≡ length buffer → request_in head ≡ Some header → header.command ≢ Some Write → HasWhole buffer
+has_plain buffer head behind header front rest is plain =
+    has_whole buffer head behind header front rest is (omega (arith, no_data header.command header.length plain))
+
+pub has_write : (buffer head behind : List ℕ) (header : RequestHeader) → head ≡ take 28 buffer
+    → length behind + 28 ≡ length buffer → request_in head ≡ Some header → header.length ≤ length behind → HasWhole buffer
+has_write buffer head behind header front rest is fits =
+    has_whole buffer head behind header front rest is (data_within header.command header.length (length behind) fits)

@@ -1,14 +1,14 @@
 -- The parts of a long request, by their numbers.
-use Rattle.std.proofs.Common.{[], Err, Ok, Result, ap, append-nil, append_assoc, arith, drop, inl, inr, length, refl, subst, sym, take, ◌*◌, ◌+◌, ◌++◌, ◌-◌, ◌<◌, ◌∙◌, ◌≡◌, ◌≤◌, ◌∷◌, ◌⊎◌, List, ℕ}
+use Rattle.std.proofs.Common.{[], Err, Ok, Result, ap, append-nil, append_assoc, arith, drop, inl, inr, length, refl, subst, sym, take, ◌*◌, ◌+◌, ◌++◌, ◌-◌, ◌<◌, ◌∙◌, ◌≡◌, ◌≤◌, ◌∷◌, ◌⊎◌, List, suc, zero, ℕ}
 use Rattle.std.proofs.Math.Numerals.{suc-eq-add-one}
 use Rattle.std.proofs.Math.Seq.{drop-append_seam, take-add}
 use Rattle.std.proofs.lemmas.List.{drop-append-le, length-append, length-drop, take-append-le, take_all}
 use Rattle.std.proofs.lemmas.Grind.{flat_map-append}
 use Rattle.std.proofs.lemmas.List.Sums.{sum_by-append, sum_by-cons}
-use Rattle.std.proofs.lemmas.List.Elements.{All-contains, All-head, All-tail, Contains-append_cases, Contains-append_left, Contains-append_right}
-use Rattle.std.proofs.lemmas.List.Sorted.{All-permutation, IsPermutation-remove}
-use Rattle.std.specs.List.{All, Contains, remove, sum_by}
-use Rattle.std.specs.Prelude.{IfOk, get_or, min}
+use Rattle.std.proofs.lemmas.List.Sorted.{Contains-permutation, IsPermutation-append, IsPermutation-refl, IsPermutation-sym, IsPermutation-trans}
+use Rattle.std.proofs.lemmas.List.{get_or_append_left, get_or_push}
+use Rattle.std.specs.List.{sum_by}
+use Rattle.std.specs.Prelude.{◌≢◌, IfErr, IfOk, IsErrAnd, IsPermutation, get_or, min}
 use Rattle.mmc_block.specs.declared.completion.Answer.TheVariants.{Data, Done}
 use Rattle.mmc_block.specs.declared.completion.Answer.{Answer}
 use Rattle.mmc_block.specs.declared.completion.Completion.{Completion}
@@ -16,10 +16,13 @@ use Rattle.mmc_queue.specs.declared.request.Request.{Request}
 use Rattle.mmc_queue.specs.declared.request.Request.TheVariants.{Read, Write}
 use Rattle.mmc_card.specs.declared.part.Part.{Part}
 use Rattle.mmc_block.specs.Execution.{Reply}
-use Rattle.mmc_block.specs.Execution.Reply.{Accepted, Answers, GivenBack, InService, RefusedFor, Unknown}
-use Rattle.nbd_server.specs.Acts.{Act}
-use Rattle.nbd_server.specs.Acts.Act.{Asks, AsksPart, Clears, Gathers, Gives, Says, Turns}
-use Rattle.nbd_server.specs.Parts.{AreAll, AreAnswered, AreGathered, AreWindows, InTurn, IsRead, IsWritten, Window, accepted, gathered, reads, writes, Has, bytes_of_part, sectors_of}
+use Rattle.mmc_block.specs.Execution.Reply.{Accepted}
+use Rattle.mmc_block.specs.declared.refused.Refused.{Refused}
+use Rattle.mmc_block.specs.declared.refused.Refused.TheVariants.{Empty, Full, NoMemory, NoSuchPartition, NoTrim, NotInPartition, OutOfRange, ReadOnly, TooLong, Unaligned, WrongLength}
+use Rattle.nbd_messages.specs.declared.error.ReplyError.TheVariants.{Failed}
+use Rattle.nbd_server.specs.Acts.{Act, error_of}
+use Rattle.nbd_server.specs.Acts.Act.{AsksPart, Clears, Gathers}
+use Rattle.nbd_server.specs.Parts.{AreAll, AreAnswered, AreGathered, AreWindows, HasFailedPart, InTurn, IsWanted, Lacks, firsts, IsRead, IsWritten, Window, accepted, accepted_by, gathered, gathered_by, reads, writes, Has, bytes_of_part, sectors_of}
 
 less_or_same : (n k : ℕ) → n < k + 1 → (n < k) ⊎ (n ≡ k)
 less_or_same n k lt = grind (arith, lt)
@@ -82,65 +85,28 @@ joined given count parts k bytes piece all lt long one before now =
           (long ∙ begins_there count parts k all lt) one)),
     ))
 
--- Answers that are taken over.
-
--- what holds of all holds of the one that is taken out, and of those that are left
-pub taken_out : (P : Completion → Type 0) (given : List Completion) (i : ℕ) (one : Completion) → i < length given
-    → one ≡ get_or given i one → All P given → P one × All P (remove given i)
-taken_out P given i one lt is all =
-    let both = All-permutation P given (one ∷ remove given i) (IsPermutation-remove given i one lt is) all in
-    (All-head P one (remove given i) both, All-tail P one (remove given i) both)
-
 -- Acts one behind the other.
 
 pub accepted_then : (xs ys : List Act) → accepted (xs ++ ys) ≡ accepted xs ++ accepted ys
 unfolding accepted
-accepted_then [] ys = refl
-accepted_then (AsksPart cookie request (Accepted ticket) ∷ xs) ys = ap (λ rest. request ∷ rest) (accepted_then xs ys)
-accepted_then (AsksPart cookie request (RefusedFor why) ∷ xs) ys = accepted_then xs ys
-accepted_then (AsksPart cookie request (Answers given) ∷ xs) ys = accepted_then xs ys
-accepted_then (AsksPart cookie request (GivenBack request_back) ∷ xs) ys = accepted_then xs ys
-accepted_then (AsksPart cookie request InService ∷ xs) ys = accepted_then xs ys
-accepted_then (AsksPart cookie request Unknown ∷ xs) ys = accepted_then xs ys
-accepted_then (Gathers given ∷ xs) ys = accepted_then xs ys
-accepted_then (Clears ∷ xs) ys = accepted_then xs ys
-accepted_then (Asks cookie request reply ∷ xs) ys = accepted_then xs ys
-accepted_then (Turns given ∷ xs) ys = accepted_then xs ys
-accepted_then (Says cookie error ∷ xs) ys = accepted_then xs ys
-accepted_then (Gives cookie bytes ∷ xs) ys = accepted_then xs ys
+accepted_then xs ys = flat_map-append accepted_by xs ys
 
 pub gathered_then : (xs ys : List Act) → gathered (xs ++ ys) ≡ gathered xs ++ gathered ys
 unfolding gathered
-gathered_then [] ys = refl
-gathered_then (Gathers given ∷ xs) ys = ap (λ rest. given ++ rest) (gathered_then xs ys) ∙ sym (append_assoc given (gathered xs) (gathered ys))
-gathered_then (AsksPart cookie request reply ∷ xs) ys = gathered_then xs ys
-gathered_then (Clears ∷ xs) ys = gathered_then xs ys
-gathered_then (Asks cookie request reply ∷ xs) ys = gathered_then xs ys
-gathered_then (Turns given ∷ xs) ys = gathered_then xs ys
-gathered_then (Says cookie error ∷ xs) ys = gathered_then xs ys
-gathered_then (Gives cookie bytes ∷ xs) ys = gathered_then xs ys
-
-in_either : (all before given : List Completion) (one : Completion) → All (Contains before) all
-    → Contains all one ⊎ Contains given one → Contains (before ++ given) one
-in_either all before given one kept (inl h) =
-    Contains-append_left before given one (All-contains (Contains before) all one kept h)
-in_either all before given one kept (inr h) = Contains-append_right before given one h
-
-kept_then : (all new before given : List Completion) → All (Contains before) all → All (Contains (all ++ given)) new
-    → All (Contains (before ++ given)) new
-kept_then all new before given kept more k d less =
-    in_either all before given (get_or new k d) kept (Contains-append_cases all given (get_or new k d) (more k d less))
+gathered_then xs ys = flat_map-append gathered_by xs ys
 
 pub gathered_none : AreGathered [] []
-unfolding accepted
-gathered_none = (refl, λ k d none. absurd (omega (arith, none)))
+unfolding accepted gathered
+gathered_none = (refl, IsPermutation-refl [])
 
 pub gathered_more : (acts : List Act) (given all new : List Completion) → AreGathered acts all
-    → All (Contains (all ++ given)) new → AreGathered (acts ++ Gathers given ∷ []) new
+    → IsPermutation (all ++ given) new → AreGathered (acts ++ Gathers given ∷ []) new
 unfolding accepted gathered
 gathered_more acts given all new (none, kept) more = (
   accepted_then acts (Gathers given ∷ []) ∙ ap (λ xs. xs ++ []) none,
-  rw (gathered_then acts (Gathers given ∷ [])) (rw (append-nil given) (kept_then all new (gathered acts) given kept more)),
+  rw (gathered_then acts (Gathers given ∷ [])) (rw (append-nil given)
+      (IsPermutation-trans (gathered acts ++ given) (all ++ given) new
+      (IsPermutation-append (gathered acts) all given given kept (IsPermutation-refl given)) more)),
 )
 
 pub gathered_cleared : (acts : List Act) (all : List Completion) → AreGathered acts all → AreGathered (acts ++ Clears ∷ []) all
@@ -152,13 +118,13 @@ gathered_cleared acts all (none, kept) = (
 
 -- One part that is asked for.
 
-pub part_gathers_nothing : (cookie : ℕ) (request : Request) (reply : Reply) → gathered (AsksPart cookie request reply ∷ []) ≡ []
+pub part_gathers_nothing : (request : Request) (reply : Reply) → gathered (AsksPart request reply ∷ []) ≡ []
 unfolding gathered
-part_gathers_nothing cookie request reply = refl
+part_gathers_nothing request reply = refl
 
-pub part_accepted : (cookie ticket : ℕ) (request : Request) → accepted (AsksPart cookie request (Accepted ticket) ∷ []) ≡ request ∷ []
+pub part_accepted : (ticket : ℕ) (request : Request) → accepted (AsksPart request (Accepted ticket) ∷ []) ≡ request ∷ []
 unfolding accepted
-part_accepted cookie ticket request = refl
+part_accepted ticket request = refl
 
 pub nothing_gathered : gathered [] ≡ []
 unfolding gathered
@@ -166,53 +132,71 @@ nothing_gathered = refl
 
 -- Requests by the numbers of their parts.
 
-pub reads_none : (part : Part) (start count : ℕ) → accepted [] ≡ reads part start count 0
-unfolding accepted reads
-reads_none part start count = refl
+pub none_asked : (each : ℕ → Request) → accepted [] ≡ firsts each 0
+unfolding accepted firsts
+none_asked each = refl
 
-pub reads_next : (part : Part) (start count n : ℕ)
-    → reads part start count (n + 1) ≡ reads part start count n ++ Read part (start + 16 * n) (sectors_of count n) ∷ []
-unfolding reads
-reads_next part start count n = ap (reads part start count) (sym (suc-eq-add-one n))
+firsts_next : (each : ℕ → Request) (n : ℕ) → firsts each (n + 1) ≡ firsts each n ++ each n ∷ []
+unfolding firsts
+firsts_next each n = ap (firsts each) (sym (suc-eq-add-one n))
 
-pub writes_none : (part : Part) (start count : ℕ) (bytes : List ℕ) → accepted [] ≡ writes part start count bytes 0
-unfolding accepted writes
-writes_none part start count bytes = refl
+-- one more was accepted
+asked_more : (each : ℕ → Request) (n : ℕ) (request : Request) (before acts : List Act) → accepted before ≡ firsts each n
+    → accepted acts ≡ request ∷ [] → request ≡ each n → accepted (before ++ acts) ≡ firsts each (n + 1)
+asked_more each n request before acts so_far one is =
+    accepted_then before acts
+    ∙ ap (λ xs. xs ++ accepted acts) so_far
+    ∙ ap (λ xs. firsts each n ++ xs) (one ∙ ap (λ r. r ∷ []) is)
+    ∙ sym (firsts_next each n)
 
--- one more of a read was accepted
 pub reads_more : (part : Part) (start count n first sectors : ℕ) (before acts : List Act)
     → accepted before ≡ reads part start count n → accepted acts ≡ Read part first sectors ∷ [] → first ≡ start + 16 * n
     → sectors ≡ sectors_of count n → accepted (before ++ acts) ≡ reads part start count (n + 1)
 reads_more part start count n first sectors before acts so_far one there same =
-    accepted_then before acts
-    ∙ ap (λ xs. xs ++ accepted acts) so_far
-    ∙ ap (λ xs. reads part start count n ++ xs) (one ∙ ap (λ k. Read part k sectors ∷ []) there ∙ ap (λ m. Read part (start + 16 * n) m ∷ []) same)
-    ∙ sym (reads_next part start count n)
+    asked_more (λ n. Read part (start + 16 * n) (sectors_of count n)) n (Read part first sectors) before acts so_far one
+    (ap (λ k. Read part k sectors) there ∙ ap (λ m. Read part (start + 16 * n) m) same)
 
-writes_next : (part : Part) (start count n : ℕ) (bytes : List ℕ) → writes part start count bytes (n + 1)
-    ≡ writes part start count bytes n ++ Write part (start + 16 * n) (sectors_of count n) (bytes_of_part bytes count n) ∷ []
-unfolding writes
-writes_next part start count n bytes = ap (writes part start count bytes) (sym (suc-eq-add-one n))
-
--- and of a write
 pub writes_more : (part : Part) (start count n first sectors : ℕ) (bytes piece : List ℕ) (before acts : List Act)
     → accepted before ≡ writes part start count bytes n → accepted acts ≡ Write part first sectors piece ∷ []
     → first ≡ start + 16 * n → sectors ≡ sectors_of count n → piece ≡ bytes_of_part bytes count n
     → accepted (before ++ acts) ≡ writes part start count bytes (n + 1)
 writes_more part start count n first sectors bytes piece before acts so_far one there same its =
-    accepted_then before acts
-    ∙ ap (λ xs. xs ++ accepted acts) so_far
-    ∙ ap (λ xs. writes part start count bytes n ++ xs)
-    (one
-    ∙ ap (λ k. Write part k sectors piece ∷ []) there
-    ∙ ap (λ m. Write part (start + 16 * n) m piece ∷ []) same
-    ∙ ap (λ xs. Write part (start + 16 * n) (sectors_of count n) xs ∷ []) its)
-    ∙ sym (writes_next part start count n bytes)
+    asked_more (λ n. Write part (start + 16 * n) (sectors_of count n) (bytes_of_part bytes count n)) n
+    (Write part first sectors piece) before acts so_far one
+    (ap (λ k. Write part k sectors piece) there
+    ∙ ap (λ m. Write part (start + 16 * n) m piece) same
+    ∙ ap (λ xs. Write part (start + 16 * n) (sectors_of count n) xs) its)
+
+length_firsts : (each : ℕ → Request) (n : ℕ) → length (firsts each n) ≡ n
+unfolding firsts
+length_firsts each zero = refl
+length_firsts each (suc n) = omega (arith, length-append (firsts each n) (each n ∷ []), length_firsts each n)
+
+by_number : (each : ℕ → Request) (n k : ℕ) (d : Request) → (k < n → get_or (firsts each n) k d ≡ each k)
+    → (k < n) ⊎ (k ≡ n) → get_or (firsts each n ++ each n ∷ []) k d ≡ each k
+by_number each n k d before (inl less) =
+    get_or_append_left (firsts each n) (each n ∷ []) d k (omega (arith, less, length_firsts each n)) ∙ before less
+by_number each n k d before (inr same) =
+    get_or_push (firsts each n) (each n) d k (length_firsts each n ∙ sym same) ∙ ap each (sym same)
+
+firsts_at : (each : ℕ → Request) (n k : ℕ) (d : Request) → k < n → get_or (firsts each n) k d ≡ each k
+unfolding firsts
+firsts_at each zero k d less = absurd (omega (arith, less))
+firsts_at each (suc n) k d less =
+    by_number each n k d (firsts_at each n k d) (less_or_same k n (omega (arith, less)))
 
 -- A window: what was asked for, and then what was answered.
 
-has_all : (all given : List Completion) (n : ℕ) (answer : Answer) → All (Contains given) all → Has all n answer → Has given n answer
-has_all all given n answer kept (one, among, client, is) = (one, All-contains (Contains given) all one kept among, client, is)
+has_moved : (given all : List Completion) (n : ℕ) (answer : Answer) → IsPermutation given all → Has given n answer
+    → Has all n answer
+has_moved given all n answer moved (one, among, client, is) =
+    (one, Contains-permutation given all one moved among, client, is)
+
+lacks_moved : (Wanted : Answer → Type 0) (given all : List Completion) (n : ℕ) → IsPermutation given all
+    → Lacks Wanted all n → Lacks Wanted given n
+lacks_moved Wanted given all n moved (inl none) = inl (λ answer has. none answer (has_moved given all n answer moved has))
+lacks_moved Wanted given all n moved (inr (answer, has, other)) =
+    inr (answer, has_moved all given n answer (IsPermutation-sym given all moved) has, other)
 
 gathered_behind : (xs ys : List Act) → gathered xs ≡ [] → gathered (xs ++ ys) ≡ gathered ys
 gathered_behind xs ys none = gathered_then xs ys ∙ ap (λ zs. zs ++ gathered ys) none
@@ -229,7 +213,7 @@ window_read part start count parts xs ys all bytes none whole asked (nothing, ke
   asked = accepted_before xs ys nothing ∙ asked;
   long = omega (arith, long, whole.0);
   answered = λ n less. subst (λ given. Has given n (Data (bytes_of_part bytes count n))) (sym (gathered_behind xs ys none))
-      (has_all all (gathered ys) n (Data (bytes_of_part bytes count n)) kept (answered n less));
+      (has_moved all (gathered ys) n (Data (bytes_of_part bytes count n)) (IsPermutation-sym (gathered ys) all kept) (answered n less));
 }
 
 pub window_written : (part : Part) (start count parts : ℕ) (xs ys : List Act) (all : List Completion) (bytes : List ℕ)
@@ -239,8 +223,60 @@ window_written part start count parts xs ys all bytes none whole asked (nothing,
   parts = parts;
   all = whole;
   asked = accepted_before xs ys nothing ∙ asked;
-  done = λ n less. subst (λ given. Has given n Done) (sym (gathered_behind xs ys none)) (has_all all (gathered ys) n Done kept (done n less));
+  done = λ n less. subst (λ given. Has given n Done) (sym (gathered_behind xs ys none)) (has_moved all (gathered ys) n Done (IsPermutation-sym (gathered ys) all kept) (done n less));
 }
+
+-- a part of it failed
+pub window_failed : (each : ℕ → Request) (parts : ℕ) (xs ys : List Act) (all : List Completion) (n : ℕ) → gathered xs ≡ []
+    → accepted xs ≡ firsts each parts → AreGathered ys all → n < parts → Lacks (IsWanted (each n)) all n
+    → HasFailedPart (xs ++ ys)
+window_failed each parts xs ys all n none asked (nothing, kept) less lacks =
+    let same = accepted_before xs ys nothing ∙ asked in
+    record {
+      before = [];
+      window = xs ++ ys;
+      all = refl;
+      number = n;
+      request = each n;
+      some = rw same (rw (length_firsts each parts) less);
+      asked = rw same (firsts_at each parts n (each n) less);
+      lacks = rw (gathered_behind xs ys none) (lacks_moved (IsWanted (each n)) (gathered ys) all n kept lacks);
+    }
+
+-- behind others
+pub failed_later : (xs ys : List Act) → HasFailedPart ys → HasFailedPart (xs ++ ys)
+failed_later xs ys h = record {
+  before = xs ++ h.before;
+  window = h.window;
+  all = ap (λ zs. xs ++ zs) h.all ∙ sym (append_assoc xs h.before h.window);
+  number = h.number;
+  request = h.request;
+  some = h.some;
+  asked = h.asked;
+  lacks = h.lacks;
+}
+
+pub never_failed : (why : Refused) → error_of why ≢ Failed
+never_failed NoSuchPartition h = absurd cc
+never_failed Empty h = absurd cc
+never_failed TooLong h = absurd cc
+never_failed OutOfRange h = absurd cc
+never_failed WrongLength h = absurd cc
+never_failed ReadOnly h = absurd cc
+never_failed NotInPartition h = absurd cc
+never_failed NoTrim h = absurd cc
+never_failed Unaligned h = absurd cc
+never_failed Full h = absurd cc
+never_failed NoMemory h = absurd cc
+
+-- an error that is passed on
+pub if_err_passed : {X E : Type 0} (r : Result X E) (e : E) (P : E → Type 0) → IsErrAnd r (λ d. d ≡ e) → P e → IfErr r P
+if_err_passed (Ok x) e P same h = tt
+if_err_passed (Err d) e P same h = subst P (sym same) h
+
+pub if_err_then : {X E : Type 0} (r : Result X E) (P Q : E → Type 0) → ((e : E) → P e → Q e) → IfErr r P → IfErr r Q
+if_err_then (Ok x) P Q f h = tt
+if_err_then (Err e) P Q f h = f e h
 
 length_of : (n m k : ℕ) → m ≡ k → 512 * (16 * n) + 512 * m - 512 * (16 * n) ≡ 512 * k
 length_of n m k same = omega (arith, same)

@@ -19,11 +19,13 @@ use Rattle.nbd_server.specs.Acts.{Act, AreOfParts, AreTurns, IsOfTurns, asked}
 use Rattle.nbd_server.specs.Acts.Act.{Asks, Gives, Says}
 use Rattle.nbd_server.specs.Desk.{DeskView, Does, Leads}
 use Rattle.nbd_server.specs.Exports.{IsExport}
-use Rattle.nbd_server.specs.Messages.{IsRequest, data_length}
+use Rattle.nbd_server.specs.Messages.{IsJunk, IsRequest, data_length}
 use Rattle.nbd_server.specs.Plan.{HasAll, IsPlan}
 use Rattle.nbd_server.specs.Served.{IsDoneAs, IsServed, IsServedAs, IsServedBy, Served}
-use Rattle.nbd_server.specs.Session.{AreTakenUp, done_of}
+use Rattle.nbd_server.specs.Session.{AreTakenUp, EndsAs, done_of}
 use Rattle.nbd_server.specs.declared.export.Export.{Export}
+use Rattle.nbd_server.specs.declared.fault.InputFault.{InputFault}
+use Rattle.nbd_server.specs.declared.fault.InputFault.TheVariants.{Cut, Junk, Reader}
 use Rattle.nbd_server.specs.declared.plan.Plan.{Plan}
 use Rattle.nbd_server.specs.declared.plan.Plan.TheVariants.{Answer, Ask, Flush, ReadLong, WriteLong}
 use Rattle.nbd_server.specs.declared.span.Span.{Span}
@@ -68,11 +70,11 @@ own_asks part cookie (Answer error) own is = ap asked is ∙ asks_one [] cookie 
 own_asks part cookie (Ask request) own (reply, is) =
     ap asked is ∙ asks_one [] cookie (Asks cookie request reply) none_asked_by_none refl
 own_asks part cookie Flush own is = ap asked is ∙ asks_one [] cookie (Says cookie None) none_asked_by_none refl
-own_asks part cookie (ReadLong span) own (inl (parts, error, of_parts, is)) =
+own_asks part cookie (ReadLong span) own (inl (parts, error, of_parts, is, why)) =
     ap asked is ∙ asks_one parts cookie (Says cookie (Some error)) (parts_ask_nothing parts of_parts) refl
 own_asks part cookie (ReadLong span) own (inr is) =
     ap asked is.done ∙ asks_one is.parts cookie (Gives cookie is.bytes) (parts_ask_nothing is.parts is.of_parts) refl
-own_asks part cookie (WriteLong span bytes) own (inl (parts, error, of_parts, is)) =
+own_asks part cookie (WriteLong span bytes) own (inl (parts, error, of_parts, is, why)) =
     ap asked is ∙ asks_one parts cookie (Says cookie (Some error)) (parts_ask_nothing parts of_parts) refl
 own_asks part cookie (WriteLong span bytes) own (inr is) =
     ap asked is.done ∙ asks_one is.parts cookie (Says cookie None) (parts_ask_nothing is.parts is.of_parts) refl
@@ -207,3 +209,9 @@ if_no_ok (Err e) P failed = tt
 pub passed_on : {X E : Type 0} (r : Result X E) (e : E) → IsErr r → IsErrAnd r (λ d. d ≡ e) → r ≡ Err e
 passed_on (Ok x) e failed h = absurd (false≢true failed)
 passed_on (Err d) e failed h = ap Err h
+
+pub ends_as : (fault : InputFault) (left new : Option (List ℕ)) (served : List Served) → (fault ≡ Junk → IsJunk left new)
+    → EndsAs (Err fault) left new served
+ends_as Junk left new served junk = junk refl
+ends_as Cut left new served junk = tt
+ends_as Reader left new served junk = tt

@@ -23,8 +23,8 @@ pub data Act : Type 0 where
   Says : ℕ → Option ReplyError → Act
   -- nothing is without an answer: clients are numbered anew
   Clears : Act
-  -- a part of a long request with this cookie is submitted, and the device replies
-  AsksPart : ℕ → Request → Reply → Act
+  -- a part of a long request is submitted, and the device replies
+  AsksPart : Request → Reply → Act
   -- a turn of the device, whose answers are kept
   Gathers : List Completion → Act
   -- a long read is answered with these bytes
@@ -32,7 +32,7 @@ pub data Act : Type 0 where
 
 -- it is of the parts of a long request: nothing is written
 abbrev pub IsOfParts : Act → Type 0
-IsOfParts (AsksPart cookie request reply) = Unit {0}
+IsOfParts (AsksPart request reply) = Unit {0}
 IsOfParts (Gathers given) = Unit {0}
 IsOfParts Clears = Unit {0}
 IsOfParts act = ⊥
@@ -55,10 +55,10 @@ AreTurns acts = All IsOfTurns acts
 abbrev pub cookie_under : List ℕ → ℕ → ℕ
 cookie_under cookies client = get_or cookies client 0
 
--- the cookies by number, behind an act: who is accepted is the next
+-- the cookies by number, behind an act: who is accepted is the next, with 0 for a part, to which nothing is replied
 abbrev pub cookies_behind : List ℕ → Act → List ℕ
 cookies_behind cookies (Asks cookie request (Accepted ticket)) = cookies ++ cookie ∷ []
-cookies_behind cookies (AsksPart cookie request (Accepted ticket)) = cookies ++ cookie ∷ []
+cookies_behind cookies (AsksPart request (Accepted ticket)) = cookies ++ 0 ∷ []
 cookies_behind cookies Clears = []
 cookies_behind cookies act = cookies
 
@@ -144,7 +144,7 @@ reply_to (Err why) = RefusedFor why
 -- the event that an act is, if it is one
 abbrev pub event_by : List ℕ → Act → List Event
 event_by cookies (Asks cookie request reply) = Submit (length cookies) request ∷ []
-event_by cookies (AsksPart cookie request reply) = Submit (length cookies) request ∷ []
+event_by cookies (AsksPart request reply) = Submit (length cookies) request ∷ []
 event_by cookies (Turns given) = Turn ∷ []
 event_by cookies (Gathers given) = Turn ∷ []
 event_by cookies act = []
@@ -152,7 +152,7 @@ event_by cookies act = []
 -- and the machine's reply
 abbrev pub reply_by : Act → List Reply
 reply_by (Asks cookie request reply) = reply ∷ []
-reply_by (AsksPart cookie request reply) = reply ∷ []
+reply_by (AsksPart request reply) = reply ∷ []
 reply_by (Turns given) = Answers given ∷ []
 reply_by (Gathers given) = Answers given ∷ []
 reply_by act = []

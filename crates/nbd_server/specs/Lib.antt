@@ -2,6 +2,7 @@ pub mod Acts
 pub mod Desk
 pub mod Exports
 pub mod Messages
+pub mod Names
 pub mod Parts
 pub mod Plan
 pub mod Served

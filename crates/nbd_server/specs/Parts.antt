@@ -1,6 +1,6 @@
 -- What long requests come to: the parts that the device accepted, and the answers to them.
-use Rattle.std.specs.Prelude.{List, [], ◌*◌, ◌+◌, ◌++◌, ◌-◌, ◌<◌, ◌≡◌, ◌≤◌, ◌∷◌, drop, length, min, suc, take, zero, ℕ}
-use Rattle.std.specs.List.{All, Contains, flat_map, sum_by}
+use Rattle.std.specs.Prelude.{List, [], ◌*◌, ◌+◌, ◌++◌, ◌-◌, ◌<◌, ◌≡◌, ◌≤◌, ◌∷◌, ◌⊎◌, IsPermutation, drop, get_or, length, min, suc, take, zero, ℕ}
+use Rattle.std.specs.List.{Contains, flat_map, sum_by}
 use Rattle.mmc_block.specs.Execution.Reply.{Accepted}
 use Rattle.mmc_block.specs.declared.completion.Answer.{Answer}
 use Rattle.mmc_block.specs.declared.completion.Answer.TheVariants.{Data, Done}
@@ -11,24 +11,43 @@ use Rattle.mmc_queue.specs.declared.request.Request.TheVariants.{Read, Write}
 use Rattle.nbd_server.specs.Acts.{Act, AsksPart, Gathers}
 
 -- the parts that the device accepted, by their numbers
+abbrev pub accepted_by : Act → List Request
+accepted_by (AsksPart request (Accepted ticket)) = request ∷ []
+accepted_by act = []
+
 unfoldable pub accepted : List Act → List Request
-accepted [] = []
-accepted (AsksPart cookie request (Accepted ticket) ∷ acts) = request ∷ accepted acts
-accepted (act ∷ acts) = accepted acts
+accepted acts = flat_map accepted_by acts
 
 -- the answers to parts
-unfoldable pub gathered : List Act → List Completion
-gathered [] = []
-gathered (Gathers given ∷ acts) = given ++ gathered acts
-gathered (act ∷ acts) = gathered acts
+abbrev pub gathered_by : Act → List Completion
+gathered_by (Gathers given) = given
+gathered_by act = []
 
--- without asking for parts these answers to parts came
+unfoldable pub gathered : List Act → List Completion
+gathered acts = flat_map gathered_by acts
+
+-- without asking for parts these answers to parts came, in some order
 abbrev pub AreGathered : List Act → List Completion → Type 0
-AreGathered acts all = (accepted acts ≡ []) × All (Contains (gathered acts)) all
+AreGathered acts all = (accepted acts ≡ []) × IsPermutation (gathered acts) all
 
 -- among these answers the part with this number has this one
 abbrev pub Has : List Completion → ℕ → Answer → Type 0
 Has given number answer = (c : Completion) × Contains given c × (c.client ≡ number) × (c.answer ≡ answer)
+
+-- among these answers the part with this number has none, or one that isn't such an answer
+abbrev pub Lacks : (Answer → Type 0) → List Completion → ℕ → Type 0
+Lacks Wanted given number = ((answer : Answer) → Has given number answer → ⊥)
+    ⊎ ((answer : Answer) × Has given number answer × (Wanted answer → ⊥))
+
+-- the bytes of so many sectors
+abbrev pub IsData : ℕ → Answer → Type 0
+IsData count (Data bytes) = length bytes ≡ 512 * count
+IsData count answer = ⊥
+
+-- what a request is answered with where nothing fails
+abbrev pub IsWanted : Request → Answer → Type 0
+IsWanted (Read part start count) answer = IsData count answer
+IsWanted request answer = answer ≡ Done
 
 -- how many sectors the part with this number has, of so many
 abbrev pub sectors_of : ℕ → ℕ → ℕ
@@ -44,16 +63,19 @@ AreAnswered given count parts bytes = (n : ℕ) → n < parts → Has given n (D
 
 -- Requests of the device for parts, by their numbers.
 
+-- the first so many of these, by their numbers
+unfoldable pub firsts : (ℕ → Request) → ℕ → List Request
+firsts each zero = []
+firsts each (suc n) = firsts each n ++ each n ∷ []
+
 -- those of so many first parts of a read of so many sectors
-unfoldable pub reads : Part → ℕ → ℕ → ℕ → List Request
-reads part start count zero = []
-reads part start count (suc n) = reads part start count n ++ Read part (start + 16 * n) (sectors_of count n) ∷ []
+abbrev pub reads : Part → ℕ → ℕ → ℕ → List Request
+reads part start count parts = firsts (λ (n : ℕ). Read part (start + 16 * n) (sectors_of count n)) parts
 
 -- and of a write of these bytes
-unfoldable pub writes : Part → ℕ → ℕ → List ℕ → ℕ → List Request
-writes part start count bytes zero = []
-writes part start count bytes (suc n) =
-    writes part start count bytes n ++ Write part (start + 16 * n) (sectors_of count n) (bytes_of_part bytes count n) ∷ []
+abbrev pub writes : Part → ℕ → ℕ → List ℕ → ℕ → List Request
+writes part start count bytes parts =
+    firsts (λ (n : ℕ). Write part (start + 16 * n) (sectors_of count n) (bytes_of_part bytes count n)) parts
 
 -- so many parts are all of so many sectors, and each has some
 abbrev pub AreAll : ℕ → ℕ → Type 0
@@ -73,6 +95,17 @@ pub record IsWritten (part : Part) (start count : ℕ) (acts : List Act) (bytes 
   pub all : AreAll parts count
   pub asked : accepted acts ≡ writes part start count bytes parts
   pub done : (n : ℕ) → n < parts → Has (gathered acts) n Done
+
+-- A part that was accepted in the last of these acts isn't answered as it's wanted.
+pub record HasFailedPart (acts : List Act) : Type 0 where
+  pub before : List Act
+  pub window : List Act
+  pub all : acts ≡ before ++ window
+  pub number : ℕ
+  pub request : Request
+  pub some : number < length (accepted window)
+  pub asked : get_or (accepted window) number request ≡ request
+  pub lacks : Lacks (IsWanted request) (gathered window) number
 
 -- Windows of a long request, which are served one behind the other.
 pub record Window : Type 0 where

@@ -3,21 +3,23 @@ use Rattle.std.specs.Prelude.{IfSome, List, None, Option, Some, [], ◌++◌, �
 use Rattle.mmc_card.specs.declared.part.Part.{Part}
 use Rattle.mmc_block.specs.Execution.{Reply}
 use Rattle.nbd_messages.specs.declared.error.ReplyError.{ReplyError}
+use Rattle.nbd_messages.specs.declared.error.ReplyError.TheVariants.{Failed}
 use Rattle.nbd_messages.specs.declared.request.RequestHeader.{RequestHeader}
 use Rattle.nbd_server.specs.Acts.{Act, AreOfParts, AreTurns}
 use Rattle.nbd_server.specs.Acts.Act.{Asks, Gives, Says}
 use Rattle.nbd_server.specs.Messages.{IsRequest}
-use Rattle.nbd_server.specs.Parts.{AreRead, AreWindows, AreWritten, Window}
+use Rattle.nbd_server.specs.Parts.{AreRead, AreWindows, AreWritten, HasFailedPart, Window}
 use Rattle.nbd_server.specs.Plan.{IsPlan}
 use Rattle.nbd_server.specs.declared.export.Export.{Export}
 use Rattle.nbd_server.specs.declared.plan.Plan.{Plan}
 use Rattle.nbd_server.specs.declared.plan.Plan.TheVariants.{Answer, Ask, Flush, ReadLong, WriteLong}
 use Rattle.nbd_server.specs.declared.span.Span.{Span}
 
--- a long request has an error behind some of its parts
+-- a long request has an error behind some of its parts, which is a failure only where one of them failed
 abbrev pub HasFailed : ℕ → List Act → Type 0
 HasFailed cookie acts =
     (parts : List Act) × (error : ReplyError) × AreOfParts parts × (acts ≡ parts ++ Says cookie (Some error) ∷ [])
+    × (error ≡ Failed → HasFailedPart parts)
 
 -- All of its sectors were read, and these bytes are given.
 pub record IsGiven (part : Part) (span : Span) (cookie : ℕ) (acts : List Act) : Type 0 where

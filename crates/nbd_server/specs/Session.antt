@@ -9,12 +9,14 @@ use Rattle.mmc_block.specs.Device.{unanswered_of}
 use Rattle.nbd_server.specs.Acts.{Act, AreTurns, asked}
 use Rattle.nbd_server.specs.Desk.{DeskView, Does}
 use Rattle.nbd_server.specs.Exports.{IsExport}
-use Rattle.nbd_server.specs.Messages.{IsRequest}
+use Rattle.nbd_server.specs.Messages.{IsJunk, IsRequest}
 use Rattle.nbd_server.specs.Served.{IsServed, IsServedBy, Served}
 use Rattle.nbd_server.specs.declared.export.Export.{Export}
+use Rattle.nbd_server.specs.declared.fault.InputFault.{InputFault}
+use Rattle.nbd_server.specs.declared.fault.InputFault.TheVariants.{Junk}
 use Rattle.nbd_server.specs.declared.fault.OutputFault.{OutputFault}
 use Rattle.nbd_server.specs.declared.fault.SessionFault.{SessionFault}
-use Rattle.nbd_server.specs.declared.fault.SessionFault.TheVariants.{Output}
+use Rattle.nbd_server.specs.declared.fault.SessionFault.TheVariants.{Input, Output}
 
 -- how something went, whatever came of it
 abbrev pub done_of : {X E : Type 0} → Result X E → Result (Unit {0}) E
@@ -46,6 +48,12 @@ abbrev pub Ends : Option (List ℕ) → Option (List ℕ) → List Served → Ty
 Ends left new served =
     (last : List ℕ) × Consumes left new last × (IsEnd left last ⊎ (length served ≡ 2 ^ 64 - 1))
 
+-- how the input ended: so, or in a fault, which is junk only where no request stands next
+abbrev pub EndsAs : Result (Unit {0}) InputFault → Option (List ℕ) → Option (List ℕ) → List Served → Type 0
+EndsAs (Ok done) left new served = Ends left new served
+EndsAs (Err Junk) left new served = IsJunk left new
+EndsAs (Err fault) left new served = Unit {0}
+
 -- The negotiation.
 
 -- some bytes went out
@@ -63,6 +71,11 @@ abbrev pub output_of : Result (Unit {0}) SessionFault → Result (Unit {0}) Outp
 output_of (Err (Output fault)) = Err fault
 output_of result = Ok tt
 
+-- how its input ended
+abbrev pub input_of : Result (Unit {0}) SessionFault → Result (Unit {0}) InputFault
+input_of (Err (Input fault)) = Err fault
+input_of result = Ok tt
+
 -- An export was agreed, and then requests were next in the input: each was served once, in their order. Unless the output failed
 -- nothing is without an answer at the end.
 pub record IsSession {B : Type 0} (view : B → BusView) (old new : DeskView B) (in_old in_new : Option (List ℕ))
@@ -78,4 +91,4 @@ pub record IsSession {B : Type 0} (view : B → BusView) (old new : DeskView B) 
   pub does : Does view old new begun after (output_of result) acts
   pub requests : OnOk (output_of result) (AreTakenUp export begins left acts served)
   pub answered : OnOk (output_of result) (unanswered_of new.device ≡ 0)
-  pub ends : OnOk result (Ends left in_new served)
+  pub ends : OnOk (output_of result) (EndsAs (input_of result) left in_new served)

@@ -1,5 +1,5 @@
 // Requests of the client that wait for the device, each by its cookie.
-ghost use Rattle.std.specs.Prelude.{◌≡◌, ◌≤◌, ◌<◌, ◌+◌, ◌++◌, ◌∷◌, [], List, None, OnErr, OnOk, Some, length};
+ghost use Rattle.std.specs.Prelude.{◌≡◌, ◌≢◌, ◌≤◌, IfErr, IsPermutation, ◌<◌, ◌+◌, ◌++◌, ◌∷◌, [], List, None, OnErr, OnOk, Some, length};
 ghost use Rattle.text_out.specs.Writing.{Writes};
 ghost use Rattle.mmc_block.specs.Device.{unanswered_of, work_of};
 ghost use Rattle.mmc_block.specs.declared.completion.Completion.{Completion};
@@ -10,7 +10,7 @@ ghost use Rattle.nbd_server.specs.Acts.{Act, AreOfParts, AreTurns, answer_bytes,
 ghost use Rattle.nbd_server.specs.Acts.Act.{Asks, Gathers, Turns};
 ghost use Rattle.nbd_server.specs.Desk.{AnswersEach, Does, Leads};
 ghost use Rattle.nbd_server.specs.Parts.{AreGathered, accepted, gathered};
-ghost use Rattle.std.specs.List.{All, Contains};
+ghost use Rattle.nbd_messages.specs.declared.error.ReplyError.TheVariants.{Failed};
 
 use crate::answers::{Gathered, keep_all};
 use crate::fault::OutputFault;
@@ -243,20 +243,16 @@ impl<B: Bus> Desk<B> {
         self.submit_or_reply(alloc, cookie, request, out)
     }
 
-    /// Submits a part of a long request that came under this cookie. Its number is how many parts were accepted before it.
-    pub fn ask_part(
-        &mut self,
-        alloc: Global,
-        cookie: u64,
-        request: Request,
-    ) -> Result<(), ReplyError>
-        ensures { (acts : List Act) × AreOfParts acts × Leads B.view self.old acts self.new × (gathered acts ≡ [])
+    /// Submits a part of a long request. Its number is how many parts were accepted before it.
+    pub fn ask_part(&mut self, alloc: Global, request: Request) -> Result<(), ReplyError>
+        ensures leads { (acts : List Act) × AreOfParts acts × Leads B.view self.old acts self.new × (gathered acts ≡ [])
             × OnOk result (accepted acts ≡ request ∷ []) }
+        ensures refused { IfErr result (λ error. error ≢ Failed) }
     {
         if self.cookies.is_full() {
             return Err(ReplyError::NoMemory);
         }
-        match self.submit(alloc, cookie, request) {
+        match self.submit(alloc, 0, request) {
             Ok(_) => Ok(()),
             Err(refused) => Err(error_of(refused)),
         }
@@ -266,7 +262,7 @@ impl<B: Bus> Desk<B> {
     fn gather_turn(&mut self, all: &mut Gathered)
         requires room { length all.old.items + unanswered_of self.old.device ≤ MAX_WAITING }
         ensures leads { (given : List Completion) × Leads B.view self.old (Gathers given ∷ []) self.new
-            × All (Contains (all.old.items ++ given)) all.new.items }
+            × IsPermutation (all.old.items ++ given) all.new.items }
         ensures falls { 0 < work_of self.old.device → work_of self.new.device < work_of self.old.device }
         ensures leaves { length all.new.items + unanswered_of self.new.device ≡ length all.old.items + unanswered_of self.old.device }
     {

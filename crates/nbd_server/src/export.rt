@@ -22,12 +22,13 @@ pub struct Export {
 }
 
 impl Export {
-    ghost use Rattle.std.specs.Prelude.{◌≡◌, IfSome};
+    ghost use Rattle.std.specs.Prelude.{◌*◌, ◌-◌, ◌^◌, ◌≡◌, ◌≤◌, MatchOption, None};
+    ghost use Rattle.mmc_switch.specs.Info.{sectors_of};
     ghost use Rattle.nbd_server.specs.Exports.{IsExport};
 
-    /// The export of a partition, where the card has one.
+    /// The export of a partition, or `None` where the card has no such partition.
     pub fn of(info: &Info, part: Part) -> Option<Export>
-        ensures { IfSome result (λ export. (export.part ≡ part) × IsExport info.now export) }
+        ensures { MatchOption result (sectors_of info.now part ≡ None) (λ export. (export.part ≡ part) × IsExport info.now export) }
     {
         let sectors = info.sectors(part)?;
         let erases = !info.read_only && !matches!(part, Part::Boot1 | Part::Boot2);
@@ -44,8 +45,10 @@ impl Export {
         })
     }
 
-    /// Its size in bytes.
-    pub fn size(&self) -> u64 {
+    /// Its size in bytes, 2^64 - 1 at most.
+    pub fn size(&self) -> u64
+        ensures { 512 * self.now.sectors ≤ 2 ^ 64 - 1 → result ≡ 512 * self.now.sectors }
+    {
         self.sectors.saturating_mul(512)
     }
 }

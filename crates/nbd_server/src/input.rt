@@ -1,10 +1,11 @@
 // What a client sends.
-ghost use Rattle.std.specs.Prelude.{◌≡◌, [], IfOk, IfSome, List, MatchOption, OnOk, Some, length, true, ℕ};
-ghost use Rattle.std.specs.Io.Buffered.{reader_remaining};
+ghost use Rattle.std.specs.Prelude.{◌≡◌, ◌≢◌, [], IfErr, IfOk, IfSome, List, MatchOption, OnOk, Some, length, true, ℕ};
+ghost use Rattle.std.specs.Io.Buffered.{reader_buffer, reader_remaining};
 ghost use Rattle.std.specs.Io.KnownBytes.{IsAtEnd, Keeps};
 ghost use Rattle.nbd_messages.specs.Options.{option_in};
 ghost use Rattle.nbd_messages.specs.Requests.{request_in};
-ghost use Rattle.nbd_server.specs.Messages.{IsRequest, Reads, data_length};
+ghost use Rattle.nbd_server.specs.Messages.{HasWhole, IsJunk, IsRequest, Reads, data_length};
+ghost use Rattle.nbd_server.specs.declared.fault.InputFault.TheVariants.{Junk};
 
 use crate::fault::InputFault;
 use nbd_messages::{Command, OptionHeader, RequestHeader, option_in, request_in};
@@ -20,6 +21,7 @@ pub const MAX_LENGTH: u32 = 0x0200_0000;
 /// Reads just so many bytes as there is room for.
 pub fn fill<R: Read>(input: &mut BufReader<R>, bytes: &mut [u8]) -> Result<(), InputFault>
     ensures read { OnOk result (Reads R.remaining input.old input.new bytes.new) }
+    ensures fault { IfErr result (λ fault. fault ≢ Junk) }
 {
     match input.read_exact(bytes) {
         Ok(()) => Ok(()),
@@ -34,6 +36,7 @@ pub fn fill<R: Read>(input: &mut BufReader<R>, bytes: &mut [u8]) -> Result<(), I
 fn is_at_end<R: Read>(input: &mut BufReader<R>) -> Result<bool, InputFault>
     ensures kept { Keeps (reader_remaining R.remaining input.old) (reader_remaining R.remaining input.new) }
     ensures end { IfOk result (λ ends. ends ≡ true → IsAtEnd (reader_remaining R.remaining input.old)) }
+    ensures fault { IfErr result (λ fault. fault ≢ Junk) }
 {
     match input.fill_buf() {
         Ok(bytes) => Ok(bytes.is_empty()),
@@ -47,8 +50,9 @@ pub fn bytes_of<R: Read>(
     input: &mut BufReader<R>,
     count: usize,
 ) -> Result<Option<Vec<u8>>, InputFault>
-    ensures { IfOk result (λ bytes. MatchOption bytes (input.new ≡ input.old)
+    ensures read { IfOk result (λ bytes. MatchOption bytes (input.new ≡ input.old)
         (λ bytes. (length bytes.items ≡ count) × Reads R.remaining input.old input.new bytes.items)) }
+    ensures fault { IfErr result (λ fault. fault ≢ Junk) }
 {
     let Ok(mut bytes) = vec![in alloc; 0u8; count] else {
         return Ok(None);
@@ -60,6 +64,7 @@ pub fn bytes_of<R: Read>(
 // Reads so many bytes and forgets them.
 fn skip<R: Read>(input: &mut BufReader<R>, count: u64) -> Result<(), InputFault>
     ensures read { OnOk result ((bytes : List ℕ) × (length bytes ≡ count) × Reads R.remaining input.old input.new bytes) }
+    ensures fault { IfErr result (λ fault. fault ≢ Junk) }
 {
     let mut chunk = [0u8; 4096];
     let mut left = count;
@@ -89,8 +94,9 @@ pub fn next_option<R: Read>(input: &mut BufReader<R>) -> Result<Option<OptionHea
 
 // The header of the next request, or `None` where the input has ended before it.
 fn next_request<R: Read>(input: &mut BufReader<R>) -> Result<Option<RequestHeader>, InputFault>
-    ensures { IfOk result (λ next. MatchOption next (IsAtEnd (reader_remaining R.remaining input.old) × Reads R.remaining input.old input.new [])
+    ensures read { IfOk result (λ next. MatchOption next (IsAtEnd (reader_remaining R.remaining input.old) × Reads R.remaining input.old input.new [])
         (λ header. (head : List ℕ) × (request_in head ≡ Some header) × (length head ≡ 28) × Reads R.remaining input.old input.new head)) }
+    ensures fault { IfErr result (λ fault. fault ≡ Junk → IsJunk (reader_remaining R.remaining input.old) (reader_remaining R.remaining input.new)) }
 {
     if is_at_end(input)? {
         return Ok(None);
@@ -109,8 +115,9 @@ fn data_of<R: Read>(
     input: &mut BufReader<R>,
     header: &RequestHeader,
 ) -> Result<Option<Vec<u8>>, InputFault>
-    ensures { IfOk result (λ given. (behind : List ℕ) × (length behind ≡ data_length header.now.command header.now.length)
+    ensures read { IfOk result (λ given. (behind : List ℕ) × (length behind ≡ data_length header.now.command header.now.length)
         × IfSome given (λ bytes. bytes.items ≡ behind) × Reads R.remaining input.old input.new behind) }
+    ensures fault { IfErr result (λ fault. fault ≢ Junk) }
 {
     if header.command != Some(Command::Write) {
         return Ok(None);
@@ -134,13 +141,17 @@ pub struct Message {
 }
 
 /// The next request, or `None` where the input has ended before it.
+///
+/// # Errors
+/// Each `InputFault`, as said there.
 pub fn next_message<R: Read>(
     alloc: Global,
     input: &mut BufReader<R>,
 ) -> Result<Option<Message>, InputFault>
-    ensures { IfOk result (λ next. MatchOption next (IsAtEnd (reader_remaining R.remaining input.old) × Reads R.remaining input.old input.new [])
+    ensures read { IfOk result (λ next. MatchOption next (IsAtEnd (reader_remaining R.remaining input.old) × Reads R.remaining input.old input.new [])
         (λ message. (behind bytes : List ℕ) × IsRequest message.header behind bytes
         × IfSome message.given (λ given. given.items ≡ behind) × Reads R.remaining input.old input.new bytes)) }
+    ensures fault { IfErr result (λ fault. fault ≡ Junk → IsJunk (reader_remaining R.remaining input.old) (reader_remaining R.remaining input.new)) }
 {
     let Some(header) = next_request(input)? else {
         return Ok(None);
@@ -150,7 +161,9 @@ pub fn next_message<R: Read>(
 }
 
 /// Whether a whole request has come already, so that to read it means no waiting.
-pub fn has_request<R: Read>(input: &BufReader<R>) -> bool {
+pub fn has_request<R: Read>(input: &BufReader<R>) -> bool
+    ensures { result ≡ true → HasWhole (reader_buffer input.now) }
+{
     let Some((header, behind)) = input.buffer().split_first_chunk::<28>() else {
         return false;
     };

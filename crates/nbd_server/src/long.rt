@@ -3,11 +3,12 @@
 //    hundredth is served within the four attempts that each request of the device has.
 // 2. As many parts as the device takes are submitted together, so that it joins neighbours, while nothing else waits.
 // 3. The request has one reply, which is an error where some part had one. Of a write that fails each sector is old or new.
-ghost use Rattle.std.specs.Prelude.{◌*◌, ◌++◌, ◌≡◌, ◌≤◌, [], IfOk, List, length, ℕ};
+ghost use Rattle.std.specs.Prelude.{◌*◌, ◌++◌, ◌≡◌, ◌≢◌, ◌≤◌, [], IfErr, IfOk, List, length, ℕ};
 ghost use Rattle.mmc_block.specs.Device.{unanswered_of};
+ghost use Rattle.nbd_messages.specs.declared.error.ReplyError.TheVariants.{Failed};
 ghost use Rattle.nbd_server.specs.Acts.{Act, AreOfParts};
 ghost use Rattle.nbd_server.specs.Desk.{Leads};
-ghost use Rattle.nbd_server.specs.Parts.{AreAll, AreRead, AreWindows, AreWritten, IsRead, Window, IsWritten, accepted, gathered, reads, writes};
+ghost use Rattle.nbd_server.specs.Parts.{AreAll, AreRead, AreWindows, AreWritten, HasFailedPart, IsRead, Window, IsWritten, accepted, gathered, reads, writes};
 
 use crate::answers::{are_done, join};
 use crate::desk::Desk;
@@ -26,19 +27,19 @@ const WINDOW: u64 = 4096;
 fn ask_reads<B: Bus>(
     alloc: Global,
     desk: &mut Desk<B>,
-    cookie: u64,
     part: Part,
     span: Span,
 ) -> Result<u32, ReplyError>
     requires { span.count ≤ 4096 }
-    ensures { (acts : List Act) × AreOfParts acts × Leads B.view desk.old acts desk.new × (gathered acts ≡ [])
+    ensures leads { (acts : List Act) × AreOfParts acts × Leads B.view desk.old acts desk.new × (gathered acts ≡ [])
         × IfOk result (λ parts. AreAll parts span.count × (accepted acts ≡ reads part span.start span.count parts)) }
+    ensures refused { IfErr result (λ error. error ≢ Failed) }
 {
     let parts = span.count.div_ceil(PART) as u32;
     for number in 0..parts {
         let Span { start, count } = span.behind(PART * number as u64, PART);
         let request = Request::Read { part, start, count };
-        desk.ask_part(alloc, cookie, request)?;
+        desk.ask_part(alloc, request)?;
     }
     Ok(parts)
 }
@@ -47,15 +48,15 @@ fn ask_reads<B: Bus>(
 fn ask_writes<B: Bus>(
     alloc: Global,
     desk: &mut Desk<B>,
-    cookie: u64,
     part: Part,
     span: Span,
     bytes: &[u8],
 ) -> Result<u32, ReplyError>
     requires few { span.count ≤ 4096 }
     requires whole { length bytes.now ≡ 512 * span.count }
-    ensures { (acts : List Act) × AreOfParts acts × Leads B.view desk.old acts desk.new × (gathered acts ≡ [])
+    ensures leads { (acts : List Act) × AreOfParts acts × Leads B.view desk.old acts desk.new × (gathered acts ≡ [])
         × IfOk result (λ parts. AreAll parts span.count × (accepted acts ≡ writes part span.start span.count bytes.now parts)) }
+    ensures refused { IfErr result (λ error. error ≢ Failed) }
 {
     let parts = span.count.div_ceil(PART) as u32;
     for number in 0..parts {
@@ -71,7 +72,7 @@ fn ask_writes<B: Bus>(
             count,
             bytes: Bytes::new(piece),
         };
-        desk.ask_part(alloc, cookie, request)?;
+        desk.ask_part(alloc, request)?;
     }
     Ok(parts)
 }
@@ -80,18 +81,18 @@ fn ask_writes<B: Bus>(
 fn read_window<B: Bus>(
     alloc: Global,
     desk: &mut Desk<B>,
-    cookie: u64,
     part: Part,
     span: Span,
     bytes: &mut Vec<u8>,
 ) -> Result<(), ReplyError>
     requires few { span.count ≤ 4096 }
     ensures leads { (acts : List Act) × AreOfParts acts × Leads B.view desk.old acts desk.new
-        × IfOk result (λ done. (more : List ℕ) × (bytes.new.items ≡ bytes.old.items ++ more) × IsRead part span.start span.count acts more) }
+        × IfOk result (λ done. (more : List ℕ) × (bytes.new.items ≡ bytes.old.items ++ more) × IsRead part span.start span.count acts more)
+        × IfErr result (λ error. error ≡ Failed → HasFailedPart acts) }
     ensures none { unanswered_of desk.new.device ≡ 0 }
     ensures cleared { desk.new.cookies ≡ [] }
 {
-    let asked = ask_reads(alloc, desk, cookie, part, span);
+    let asked = ask_reads(alloc, desk, part, span);
     let given = desk.gather();
     join(given.as_slice(), asked?, span.count, bytes)
 }
@@ -100,7 +101,6 @@ fn read_window<B: Bus>(
 fn write_window<B: Bus>(
     alloc: Global,
     desk: &mut Desk<B>,
-    cookie: u64,
     part: Part,
     span: Span,
     bytes: &[u8],
@@ -108,11 +108,12 @@ fn write_window<B: Bus>(
     requires few { span.count ≤ 4096 }
     requires whole { length bytes.now ≡ 512 * span.count }
     ensures leads { (acts : List Act) × AreOfParts acts × Leads B.view desk.old acts desk.new
-        × IfOk result (λ done. IsWritten part span.start span.count acts bytes.now) }
+        × IfOk result (λ done. IsWritten part span.start span.count acts bytes.now)
+        × IfErr result (λ error. error ≡ Failed → HasFailedPart acts) }
     ensures none { unanswered_of desk.new.device ≡ 0 }
     ensures cleared { desk.new.cookies ≡ [] }
 {
-    let asked = ask_writes(alloc, desk, cookie, part, span, bytes);
+    let asked = ask_writes(alloc, desk, part, span, bytes);
     let given = desk.gather();
     if are_done(given.as_slice(), asked?) {
         Ok(())
@@ -128,14 +129,14 @@ fn write_window<B: Bus>(
 pub fn read_long<B: Bus>(
     alloc: Global,
     desk: &mut Desk<B>,
-    cookie: u64,
     part: Part,
     span: Span,
 ) -> Result<Vec<u8>, ReplyError>
     requires none { unanswered_of desk.old.device ≡ 0 }
     requires cleared { desk.old.cookies ≡ [] }
     ensures leads { (acts : List Act) × AreOfParts acts × Leads B.view desk.old acts desk.new
-        × IfOk result (λ bytes. (windows : List Window) × AreRead part span.start windows × AreWindows windows span.count acts bytes.items) }
+        × IfOk result (λ bytes. (windows : List Window) × AreRead part span.start windows × AreWindows windows span.count acts bytes.items)
+        × IfErr result (λ error. error ≡ Failed → HasFailedPart acts) }
     ensures none { unanswered_of desk.new.device ≡ 0 }
     ensures cleared { desk.new.cookies ≡ [] }
 {
@@ -145,7 +146,7 @@ pub fn read_long<B: Bus>(
     let mut done = 0_u64;
     while done < span.count {
         let next = span.behind(done, WINDOW);
-        read_window(alloc, desk, cookie, part, next, &mut bytes)?;
+        read_window(alloc, desk, part, next, &mut bytes)?;
         done += next.count;
     }
     Ok(bytes)
@@ -158,7 +159,6 @@ pub fn read_long<B: Bus>(
 pub fn write_long<B: Bus>(
     alloc: Global,
     desk: &mut Desk<B>,
-    cookie: u64,
     part: Part,
     span: Span,
     bytes: &[u8],
@@ -167,7 +167,8 @@ pub fn write_long<B: Bus>(
     requires cleared { desk.old.cookies ≡ [] }
     requires whole { length bytes.now ≡ 512 * span.count }
     ensures leads { (acts : List Act) × AreOfParts acts × Leads B.view desk.old acts desk.new
-        × IfOk result (λ done. (windows : List Window) × AreWritten part span.start windows × AreWindows windows span.count acts bytes.now) }
+        × IfOk result (λ done. (windows : List Window) × AreWritten part span.start windows × AreWindows windows span.count acts bytes.now)
+        × IfErr result (λ error. error ≡ Failed → HasFailedPart acts) }
     ensures none { unanswered_of desk.new.device ≡ 0 }
     ensures cleared { desk.new.cookies ≡ [] }
 {
@@ -176,7 +177,7 @@ pub fn write_long<B: Bus>(
         let next = span.behind(done, WINDOW);
         let from = 512 * done as usize;
         let piece = &bytes[from..from + 512 * next.count as usize];
-        write_window(alloc, desk, cookie, part, next, piece)?;
+        write_window(alloc, desk, part, next, piece)?;
         done += next.count;
     }
     Ok(())

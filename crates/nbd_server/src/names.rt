@@ -1,5 +1,7 @@
 // The names of exports: those of the partitions.
-ghost use Rattle.std.specs.Prelude.{◌≤◌, length};
+ghost use Rattle.std.specs.Prelude.{◌≡◌, ◌≢◌, ◌≤◌, MatchOption, length};
+ghost use Rattle.mmc_card.specs.declared.part.Part.{Part};
+ghost use Rattle.nbd_server.specs.Names.{name_of};
 
 use mmc_bus::Part;
 
@@ -16,6 +18,7 @@ pub const PARTS: [Part; 7] = [
 
 /// The name of a partition, as card files and scripts have it.
 pub fn part_name(part: Part) -> &'static [u8]
+    ensures name { result.now ≡ name_of part }
     ensures short { length result.now ≤ 5 }
 {
     match part {
@@ -30,7 +33,9 @@ pub fn part_name(part: Part) -> &'static [u8]
 }
 
 /// The partition with this name.
-pub fn part_by(name: &[u8]) -> Option<Part> {
+pub fn part_by(name: &[u8]) -> Option<Part>
+    ensures { MatchOption result ((part : Part) → name_of part ≢ name.now) (λ part. name_of part ≡ name.now) }
+{
     for part in PARTS {
         if part_name(part) == name {
             return Some(part);

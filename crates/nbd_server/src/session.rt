@@ -1,15 +1,15 @@
 // A session: the negotiation of an export, then its requests. All that have come are submitted before the next turn, so that
 // neighbours merge; before the input is waited for, each has its reply.
 ghost use Rattle.std.specs.Prelude.{◌≡◌, ◌⊎◌, IfOk, IfSome, List, OnOk, Option, length, option_map, ℕ};
-ghost use Rattle.std.specs.Io.Buffered.{reader_remaining};
+ghost use Rattle.std.specs.Io.Buffered.{reader_buffer, reader_remaining};
 ghost use Rattle.std.specs.Io.KnownBytes.{Keeps};
 ghost use Rattle.mmc_block.specs.Device.{unanswered_of};
 ghost use Rattle.nbd_server.specs.Acts.{Act, AreTurns};
 ghost use Rattle.nbd_server.specs.Desk.{Does};
-ghost use Rattle.nbd_server.specs.Messages.{data_length};
+ghost use Rattle.nbd_server.specs.Messages.{HasWhole, data_length};
 ghost use Rattle.nbd_server.specs.Plan.{HasAll};
 ghost use Rattle.nbd_server.specs.Served.{IsServedAs, Served};
-ghost use Rattle.nbd_server.specs.Session.{AreTakenUp, Ends, IsSession, IsTakenUp, done_of};
+ghost use Rattle.nbd_server.specs.Session.{AreTakenUp, EndsAs, IsSession, IsTakenUp, done_of};
 ghost use Rattle.nbd_server.specs.declared.plan.Plan.TheVariants.{Flush, ReadLong, WriteLong};
 
 use crate::desk::{Desk, put_data, put_reply};
@@ -47,7 +47,7 @@ fn serve_read<B: Bus, W: Write>(
         × OnOk result (IsServedAs part cookie (ReadLong span) acts) }
 {
     desk.drain(out)?;
-    match read_long(alloc, desk, cookie, part, span) {
+    match read_long(alloc, desk, part, span) {
         Ok(data) => put_data(out, cookie, data.as_slice()),
         Err(error) => put_reply(out, Some(error), cookie),
     }
@@ -68,7 +68,7 @@ fn serve_write<B: Bus, W: Write>(
         × OnOk result (IsServedAs part cookie (WriteLong span bytes) acts) }
 {
     desk.drain(out)?;
-    match write_long(alloc, desk, cookie, part, span, bytes.as_slice()) {
+    match write_long(alloc, desk, part, span, bytes.as_slice()) {
         Ok(()) => put_reply(out, None, cookie),
         Err(error) => put_reply(out, Some(error), cookie),
     }
@@ -136,7 +136,8 @@ fn settle<B: Bus, R: Read, W: Write>(
     input: &BufReader<R>,
     out: &mut W,
 ) -> Result<(), OutputFault>
-    ensures { (acts : List Act) × AreTurns acts × Does B.view desk.old desk.new (W.contents out.old) (W.contents out.new) result acts }
+    ensures does { (acts : List Act) × AreTurns acts × Does B.view desk.old desk.new (W.contents out.old) (W.contents out.new) result acts }
+    ensures settled { OnOk result (HasWhole (reader_buffer input.now) ⊎ (unanswered_of desk.new.device ≡ 0)) }
 {
     if has_request(input) {
         return Ok(());
@@ -156,7 +157,7 @@ fn serve_all<B: Bus, R: Read, W: Write>(
     ensures { (acts : List Act) × Does B.view desk.old desk.new (W.contents out.old) (W.contents out.new) (done_of result) acts
         × IfOk result (λ ended. (left : Option (List ℕ)) × (served : List Served)
         × AreTakenUp export.now (reader_remaining R.remaining input.old) left acts served
-        × OnOk ended (Ends left (reader_remaining R.remaining input.new) served)) }
+        × EndsAs ended left (reader_remaining R.remaining input.new) served) }
 {
     for _served in 0..u64::MAX {
         settle(desk, input, out)?;
@@ -184,7 +185,7 @@ fn serve_export<B: Bus, R: Read, W: Write>(
         × IfOk result (λ ended. (unanswered_of desk.new.device ≡ 0)
         × ((left : Option (List ℕ)) × (served : List Served)
         × AreTakenUp export.now (reader_remaining R.remaining input.old) left acts served
-        × OnOk ended (Ends left (reader_remaining R.remaining input.new) served))) }
+        × EndsAs ended left (reader_remaining R.remaining input.new) served)) }
 {
     let ended = serve_all(alloc, desk, export, input, out)?;
     desk.drain(out)?;

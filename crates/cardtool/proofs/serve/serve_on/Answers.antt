@@ -3,7 +3,7 @@ use Rattle.mmc_block.specs.InOrder.{AreDecided}
 use Rattle.mmc_card.specs.Card.{holds}
 use Rattle.mmc_card_sim.specs.SimView.{sim_bus_view}
 use Rattle.cardtool.proofs.WholeLemmas.{on_spec}
-use Rattle.cardtool.specs.Whole.{new_card}
+use Rattle.card_served.specs.New.{new_card}
 use Rattle.cardtool.proofs.serve.serve_on.Goals as goal
 
 pub returns : goal.returns

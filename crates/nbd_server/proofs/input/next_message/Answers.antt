@@ -2,10 +2,10 @@ use Rattle.std.proofs.Common.{refl, ◌++◌}
 use Rattle.nbd_server.proofs.InputLemmas.{consumes_then}
 use Rattle.nbd_server.proofs.input.next_message.Goals as goal
 
-pub returns : goal.returns
-returns g c =
-    let (head, fields, short, read) = rw c.in-Some.is at c.in_ok-header.ensures in
-    let (behind, many, same, more) = c.in_ok-given.ensures in (
+pub returns-clause-read : goal.returns-clause-read
+returns-clause-read g c =
+    let (head, fields, short, read) = rw c.in-Some.is at c.in_ok-header.ensures.read in
+    let (behind, many, same, more) = c.in_ok-given.ensures.read in (
       behind,
       head ++ behind,
       record { head = head; fields = fields; short = short; whole = refl; all_data = many },

@@ -1,6 +1,6 @@
 use Rattle.std.proofs.Common.{[], ap, ◌++◌, ◌∙◌}
 use Rattle.nbd_server.proofs.DeskLemmas.{leads_none, leads_then, of_parts_then, no_parts}
-use Rattle.nbd_server.proofs.PartsLemmas.{gathered_then, nothing_gathered, reads_more, reads_none}
+use Rattle.nbd_server.proofs.PartsLemmas.{gathered_then, nothing_gathered, reads_more, none_asked}
 use Rattle.nbd_server.proofs.SessionLemmas.{if_no_ok}
 use Rattle.nbd_server.specs.Parts.{gathered}
 use Rattle.nbd_server.proofs.long.ask_reads.Goals as goal
@@ -11,12 +11,12 @@ loop-number-init g c = record {
   of_parts = no_parts;
   leads = leads_none g.B.Bus.view _;
   none = nothing_gathered;
-  asked = reads_none _ _ _;
+  asked = none_asked _;
 }
 
 pub loop-number-preserved : goal.loop-number-preserved
 loop-number-preserved g c =
-    let (acts, of_parts, leads, none, asked) = c.in_ok-ask_part.ensures in
+    let (acts, of_parts, leads, none, asked) = c.in_ok-ask_part.ensures.leads in
     let so_far = c.loop-number.invariant in
     record {
       acts = so_far.acts ++ acts;
@@ -26,9 +26,9 @@ loop-number-preserved g c =
       asked = reads_more c.args.part c.args.span.start c.args.span.count c.loop-number.number c.behind-start.result.start c.behind-start.result.count so_far.acts acts so_far.asked asked c.behind-start.ensures.start c.behind-start.ensures.count;
     }
 
-pub returns-in_err-ask_part : goal.returns-in_err-ask_part
-returns-in_err-ask_part g c =
-    let (acts, of_parts, leads, none, asked) = c.in_err-ask_part.ensures in
+pub returns-in_err-ask_part-clause-leads : goal.returns-in_err-ask_part-clause-leads
+returns-in_err-ask_part-clause-leads g c =
+    let (acts, of_parts, leads, none, asked) = c.in_err-ask_part.ensures.leads in
     let so_far = c.loop-number.invariant in (
       so_far.acts ++ acts,
       of_parts_then so_far.acts acts so_far.of_parts of_parts,

@@ -3,6 +3,10 @@ use Rattle.nbd_server.specs.Parts.{AreWindows, IsWritten, Window}
 use Rattle.nbd_server.proofs.DeskLemmas.{leads_none, leads_then, of_parts_then, no_parts}
 use Rattle.nbd_server.proofs.PartsLemmas.{bytes_next, no_windows, in_turn_then, none_in_turn, window_more}
 use Rattle.nbd_server.proofs.SessionLemmas.{if_no_ok}
+use Rattle.nbd_messages.specs.declared.error.ReplyError.TheVariants.{Failed}
+use Rattle.nbd_server.specs.Parts.{HasFailedPart}
+use Rattle.nbd_server.proofs.PartsLemmas.{failed_later, if_err_passed}
+use Rattle.std.proofs.Common.{◌≡◌}
 use Rattle.nbd_server.proofs.long.write_long.Goals as goal
 
 pub loop-done-init : goal.loop-done-init
@@ -20,17 +24,19 @@ loop-done-init g c = record {
 
 pub returns-in_err-write_window-clause-leads : goal.returns-in_err-write_window-clause-leads
 returns-in_err-write_window-clause-leads g c =
-    let (acts, of_parts, leads, failed) = c.in_err-write_window.ensures.leads in
+    let (acts, of_parts, leads, nothing, failed) = c.in_err-write_window.ensures.leads in
     let so_far = c.loop-done.invariant in (
       so_far.acts ++ acts,
       of_parts_then so_far.acts acts so_far.of_parts of_parts,
       leads_then g.B.Bus.view _ _ _ so_far.acts acts so_far.leads leads,
       if_no_ok c.from_residual.result _ c.from_residual.ensures.0,
+      if_err_passed c.from_residual.result c.in_err-write_window.field-0.0 (λ error. error ≡ Failed → HasFailedPart (so_far.acts ++ acts))
+          c.from_residual.ensures.1 (λ is. failed_later so_far.acts acts (failed is)),
     )
 
 pub loop-done-preserved : goal.loop-done-preserved
 loop-done-preserved g c =
-    let (acts, of_parts, leads, is) = c.in_ok-write_window.ensures.leads in
+    let (acts, of_parts, leads, is, nothing) = c.in_ok-write_window.ensures.leads in
     let more = take (512 * c.loop-done.done + 512 * c.behind-next.result.count - 512 * c.loop-done.done) (drop (512 * c.loop-done.done) c.args.bytes.now) in
     let so_far = c.loop-done.invariant in
     let one : Window = record { count = c.behind-next.result.count; acts = acts; bytes = more } in

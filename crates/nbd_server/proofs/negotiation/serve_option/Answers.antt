@@ -8,5 +8,5 @@ returns-in_default-clause-read g c =
 pub returns-clause-read : goal.returns-clause-read
 returns-clause-read g c =
     let (head, fields, short, read) = rw c.in-Some.is at c.in_ok-option.ensures in
-    let (many, more) = rw c.in-Some-2.is at c.in_ok-data.ensures in
+    let (many, more) = rw c.in-Some-2.is at c.in_ok-data.ensures.read in
     shrinks_then _ _ _ (shrinks_by _ _ _ read) (shrinks_by _ _ _ more)

@@ -48,7 +48,7 @@ returns-in_err-branch g c =
       does = does;
       requests = taken;
       answered = none;
-      ends = tt;
+      ends = rw c.in_err-branch.was at ends;
     }))
 
 pub returns : goal.returns

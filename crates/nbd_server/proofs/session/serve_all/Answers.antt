@@ -2,7 +2,7 @@ use Rattle.std.proofs.Common.{[], ap, append-nil, arith, inl, inr, length-append
 use Rattle.nbd_server.specs.Acts.{AreTurns}
 use Rattle.nbd_server.specs.Served.{Served}
 use Rattle.nbd_server.proofs.DeskLemmas.{does_none, does_then}
-use Rattle.nbd_server.proofs.SessionLemmas.{behind_turns, does_broken, if_no_ok, if_some_mapped, none_taken, taken_more, turns_behind}
+use Rattle.nbd_server.proofs.SessionLemmas.{behind_turns, does_broken, if_no_ok, ends_as, if_some_mapped, none_taken, taken_more, turns_behind}
 use Rattle.nbd_server.proofs.session.serve_all.Goals as goal
 
 pub loop-served-init : goal.loop-served-init
@@ -17,9 +17,9 @@ loop-served-init g c = record {
 pub loop-served-preserved : goal.loop-served-preserved
 loop-served-preserved g c =
     let so_far = c.loop-served.invariant in
-    let (ys, turns, first) = c.in_ok-settle.ensures in
+    let (ys, turns, first) = c.in_ok-settle.ensures.does in
     let (zs, second, taken) = c.in_ok-serve_message.ensures in
-    let (behind, next, is, its, read) = rw c.in-Ok-Some.field-0-is at c.in-Ok-Some.ensures in
+    let (behind, next, is, its, read) = rw c.in-Ok-Some.field-0-is at c.in-Ok-Some.ensures.read in
     let message = c.in-Ok-Some.message in
     let by = rw c.if-not-branch.false at taken in
     let one : Served = record { header = message.header; bytes = next; acts = so_far.taken.turns ++ (ys ++ zs) } in
@@ -38,7 +38,7 @@ loop-served-preserved g c =
 pub returns-in_err-settle : goal.returns-in_err-settle
 returns-in_err-settle g c =
     let so_far = c.loop-served.invariant in
-    let (ys, turns, first) = c.in_err-settle.ensures in (
+    let (ys, turns, first) = c.in_err-settle.ensures.does in (
       so_far.acts ++ ys,
       does_broken g.B.Bus.view _ _ _ _ (so_far.acts ++ ys) _ c.from_residual.result c.from_residual.ensures.0
           (does_then g.B.Bus.view _ _ _ _ _ _ tt _ so_far.acts ys so_far.does first),
@@ -48,8 +48,8 @@ returns-in_err-settle g c =
 pub returns-in-Ok-None : goal.returns-in-Ok-None
 returns-in-Ok-None g c =
     let so_far = c.loop-served.invariant in
-    let (ys, turns, first) = c.in_ok-settle.ensures in
-    let (end, read) = rw c.in-Ok-None.field-0-is at c.in-Ok-None.ensures in (
+    let (ys, turns, first) = c.in_ok-settle.ensures.does in
+    let (end, read) = rw c.in-Ok-None.field-0-is at c.in-Ok-None.ensures.read in (
       so_far.acts ++ ys,
       does_then g.B.Bus.view _ _ _ _ _ _ tt _ so_far.acts ys so_far.does first,
       (
@@ -63,16 +63,16 @@ returns-in-Ok-None g c =
 pub returns-in-Err : goal.returns-in-Err
 returns-in-Err g c =
     let so_far = c.loop-served.invariant in
-    let (ys, turns, first) = c.in_ok-settle.ensures in (
+    let (ys, turns, first) = c.in_ok-settle.ensures.does in (
       so_far.acts ++ ys,
       does_then g.B.Bus.view _ _ _ _ _ _ tt _ so_far.acts ys so_far.does first,
-      (_, so_far.served, turns_behind _ _ _ so_far.acts ys so_far.served so_far.taken turns, tt),
+      (_, so_far.served, turns_behind _ _ _ so_far.acts ys so_far.served so_far.taken turns, ends_as _ _ _ so_far.served c.in-Err.ensures.fault),
     )
 
 pub returns-in_err-serve_message : goal.returns-in_err-serve_message
 returns-in_err-serve_message g c =
     let so_far = c.loop-served.invariant in
-    let (ys, turns, first) = c.in_ok-settle.ensures in
+    let (ys, turns, first) = c.in_ok-settle.ensures.does in
     let (zs, second, taken) = c.in_err-serve_message.ensures in
     let failed = c.from_residual-in_err-serve_message.ensures.0 in
     let result = c.from_residual-in_err-serve_message.result in (
@@ -86,9 +86,9 @@ returns-in_err-serve_message g c =
 pub returns-then-not-branch : goal.returns-then-not-branch
 returns-then-not-branch g c =
     let so_far = c.loop-served.invariant in
-    let (ys, turns, first) = c.in_ok-settle.ensures in
+    let (ys, turns, first) = c.in_ok-settle.ensures.does in
     let (zs, second, taken) = c.in_ok-serve_message.ensures in
-    let (behind, next, is, given, read) = rw c.in-Ok-Some.field-0-is at c.in-Ok-Some.ensures in
+    let (behind, next, is, given, read) = rw c.in-Ok-Some.field-0-is at c.in-Ok-Some.ensures.read in
     let (nothing, ends) = rw c.if-not-branch.true at taken in
     let more = subst AreTurns (ap (λ xs. ys ++ xs) (sym nothing)) (subst AreTurns (sym (append-nil ys)) turns) in (
       so_far.acts ++ (ys ++ zs),

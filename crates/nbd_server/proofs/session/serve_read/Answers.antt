@@ -16,7 +16,7 @@ returns-in_err-drain g c =
 pub returns-in-Ok : goal.returns-in-Ok
 returns-in-Ok g c =
     let (acts, turns, first) = c.in_ok-drain.ensures.does in
-    let (parts, of_parts, leads, (windows, read, are)) = c.in-Ok.ensures.leads in
+    let (parts, of_parts, leads, (windows, read, are), nothing) = c.in-Ok.ensures.leads in
     let wrote = rw c.as_slice.ensures.value at c.put_data.ensures in
     served_long g.B.Bus.view _ _ _ _ _ _ tt _ acts parts (Gives c.args.cookie c.in-Ok.data.items) c.args.part c.args.cookie (ReadLong c.args.span) first turns
     c.in_ok-drain.ensures.none of_parts leads c.in-Ok.ensures.none
@@ -33,7 +33,7 @@ returns-in-Ok g c =
 pub returns-in-Err : goal.returns-in-Err
 returns-in-Err g c =
     let (acts, turns, first) = c.in_ok-drain.ensures.does in
-    let (parts, of_parts, leads, nothing) = c.in-Err.ensures.leads in
+    let (parts, of_parts, leads, nothing, failed) = c.in-Err.ensures.leads in
     served_long g.B.Bus.view _ _ _ _ _ _ tt _ acts parts (Says c.args.cookie (Some c.in-Err.error)) c.args.part c.args.cookie (ReadLong c.args.span) first turns
     c.in_ok-drain.ensures.none of_parts leads c.in-Err.ensures.none
-    (says_does g.B.Bus.view _ c.args.cookie (Some c.in-Err.error) _ _ _ c.put_reply.ensures) (inl (parts, c.in-Err.error, of_parts, refl))
+    (says_does g.B.Bus.view _ c.args.cookie (Some c.in-Err.error) _ _ _ c.put_reply.ensures) (inl (parts, c.in-Err.error, of_parts, refl, failed))

@@ -16,7 +16,7 @@ returns-in_err-drain g c =
 pub returns-in-Ok : goal.returns-in-Ok
 returns-in-Ok g c =
     let (acts, turns, first) = c.in_ok-drain.ensures.does in
-    let (parts, of_parts, leads, (windows, written, are)) = c.in-Ok.ensures.leads in
+    let (parts, of_parts, leads, (windows, written, are), nothing) = c.in-Ok.ensures.leads in
     served_long g.B.Bus.view _ _ _ _ _ _ tt _ acts parts (Says c.args.cookie None) c.args.part c.args.cookie
     (WriteLong c.args.span c.args.bytes) first turns c.in_ok-drain.ensures.none of_parts leads c.in-Ok.ensures.none
     (says_does g.B.Bus.view _ c.args.cookie None _ _ _ c.put_reply.ensures) (inr (record {
@@ -31,8 +31,8 @@ returns-in-Ok g c =
 pub returns : goal.returns
 returns g c =
     let (acts, turns, first) = c.in_ok-drain.ensures.does in
-    let (parts, of_parts, leads, nothing) = c.in-Err.ensures.leads in
+    let (parts, of_parts, leads, nothing, failed) = c.in-Err.ensures.leads in
     served_long g.B.Bus.view _ _ _ _ _ _ tt _ acts parts (Says c.args.cookie (Some c.in-Err.error)) c.args.part c.args.cookie
     (WriteLong c.args.span c.args.bytes) first turns c.in_ok-drain.ensures.none of_parts leads c.in-Err.ensures.none
     (says_does g.B.Bus.view _ c.args.cookie (Some c.in-Err.error) _ _ _ c.put_reply-in-Err.ensures)
-    (inl (parts, c.in-Err.error, of_parts, refl))
+    (inl (parts, c.in-Err.error, of_parts, refl, failed))

@@ -1,7 +1,7 @@
 use Rattle.std.proofs.Common.{take}
 use Rattle.std.specs.Io.KnownBytes.{Appends}
-use Rattle.card_nbd.specs.Saved.{all_parts, bytes_in}
-use Rattle.card_nbd.proofs.save.save_all.Given as goal
+use Rattle.card_served.specs.Saved.{all_parts, bytes_in}
+use Rattle.card_served.proofs.saving.save_all.Given as goal
 
 abbrev pub invariant-loop-part : goal.invariant-loop-part
 invariant-loop-part g l =

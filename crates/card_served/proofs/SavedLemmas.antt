@@ -8,7 +8,7 @@ use Rattle.text_out.proofs.WritingLemmas.{appends_more}
 use Rattle.mmc_card.specs.Card.{Card, stored}
 use Rattle.mmc_card.specs.declared.part.Part.{Part}
 use Rattle.mmc_card_sim.specs.Store.{bytes_of}
-use Rattle.card_nbd.specs.Saved.{bytes_in}
+use Rattle.card_served.specs.Saved.{bytes_in}
 
 -- the bytes of the first partitions, and then those of the next one
 pub one_more : (card : Card) (parts : List Part) (i : ℕ) (d : Part) → i < length parts

@@ -4,27 +4,33 @@ ghost use Rattle.std.specs.Io.KnownBytes.{Appends};
 ghost use Rattle.text_out.specs.Writing.{Writes};
 ghost use Rattle.mmc_card.specs.Card.{stored};
 ghost use Rattle.mmc_card_sim.specs.Store.{bytes_of};
-ghost use Rattle.card_nbd.specs.Saved.{all_parts, bytes_in, saved};
+ghost use Rattle.card_served.specs.Saved.{all_parts, bytes_in, saved};
 
-use crate::fault::NbdFault;
 use mmc_bus::Part;
 use mmc_card_sim::SimCard;
-use nbd_server::PARTS;
-use std::io::Write;
+use std::io::{self, Write};
 use text_out::put::put;
 
+// All partitions, in the order of images.
+const PARTS: [Part; 7] = [
+    Part::User,
+    Part::Boot1,
+    Part::Boot2,
+    Part::Gp1,
+    Part::Gp2,
+    Part::Gp3,
+    Part::Gp4,
+];
+
 // Writes the bytes of a partition.
-fn save_part<W: Write>(card: &SimCard, part: Part, out: &mut W) -> Result<(), NbdFault>
+fn save_part<W: Write>(card: &SimCard, part: Part, out: &mut W) -> io::Result<()>
     ensures { Writes (W.contents out.old) (W.contents out.new) result (bytes_of (stored card.now.card part)) }
 {
-    match put(out, card.contents(part)) {
-        Ok(()) => Ok(()),
-        Err(_) => Err(NbdFault::Save),
-    }
+    put(out, card.contents(part))
 }
 
 // Writes those of all partitions.
-fn save_all<W: Write>(card: &SimCard, out: &mut W) -> Result<(), NbdFault>
+fn save_all<W: Write>(card: &SimCard, out: &mut W) -> io::Result<()>
     ensures { OnOk result (Appends (W.contents out.old) (W.contents out.new) (bytes_in card.now.card all_parts)) }
 {
     for part in PARTS {
@@ -34,19 +40,16 @@ fn save_all<W: Write>(card: &SimCard, out: &mut W) -> Result<(), NbdFault>
 }
 
 /// Writes the bytes of this partition, or without one those of all, one behind the other in the order user, boot1, boot2, gp1 to
-/// gp4. Of a write, erase or trim that is unfinished these are the old ones.
+/// gp4, as an image has them. Of a write, erase or trim that is unfinished these are the old ones.
 ///
 /// # Errors
-/// `Save` where a write failed.
-pub fn save<W: Write>(card: &SimCard, part: Option<Part>, out: &mut W) -> Result<(), NbdFault>
+/// That of a write, and a front of the bytes may have gone out then.
+pub fn save<W: Write>(card: &SimCard, part: Option<Part>, out: &mut W) -> io::Result<()>
     ensures { OnOk result (Appends (W.contents out.old) (W.contents out.new) (saved card.now.card part)) }
 {
     match part {
         Some(part) => save_part(card, part, out)?,
         None => save_all(card, out)?,
     }
-    match out.flush() {
-        Ok(()) => Ok(()),
-        Err(_) => Err(NbdFault::Save),
-    }
+    out.flush()
 }

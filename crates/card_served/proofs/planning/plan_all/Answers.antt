@@ -1,6 +1,6 @@
 use Rattle.std.proofs.Common.{arith}
-use Rattle.cardtool.proofs.PlanningLemmas.{planned_more, planned_none}
-use Rattle.cardtool.proofs.new_card.plan_all.Goals as goal
+use Rattle.card_served.proofs.PlanningLemmas.{planned_more, planned_none}
+use Rattle.card_served.proofs.planning.plan_all.Goals as goal
 
 pub loop-exchange-init : goal.loop-exchange-init
 loop-exchange-init c = planned_none c.args.card.now c.args.plan.now c.requires.unplanned

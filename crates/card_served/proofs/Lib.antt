@@ -1,0 +1,2 @@
+pub mod PlanningLemmas
+pub mod SavedLemmas
