@@ -80,7 +80,10 @@ class Client:
 
     def conclude(self, cookie):
         import nbd
+        is_first = next(iter(self.under_way)) == cookie
         kind, start, count, data = self.under_way.pop(cookie)
+        if kind == "flush" and not is_first:
+            self.wrong.append("a flush is answered before an earlier request")
         try:
             self.handle.aio_command_completed(cookie)
         except nbd.Error as error:
