@@ -435,16 +435,14 @@ on_no_ok (Err e) P failed = tt
 
 -- Parts of a long request.
 
+-- a turn whose answers are kept is a turn
 pub gathered : {B : Type 0} (view : B → BusView) (old new : DeskView B) (given : List Completion)
     → IsTurn view old.device given new.device → new.cookies ≡ old.cookies
     → Leads view old (Gathers given ∷ []) new
 unfolding cookies_after events_of replies_of
-gathered view old new given turn same = record {
-  cookies = same;
-  info = turn.same.0;
-  kept = turn.kept;
-  executed = λ kept. one_step view old.device new.device Turn (Answers given) (turn.machine kept);
-}
+gathered view old new given turn same =
+    let h = turned view old new given turn same in
+    record { cookies = h.cookies; info = h.info; kept = h.kept; executed = h.executed }
 
 -- a part is submitted as a whole request is
 pub as_part : {B : Type 0} (view : B → BusView) (old new : DeskView B) (request : Request) (r : Result ℕ Refused)

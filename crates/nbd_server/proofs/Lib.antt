@@ -1,6 +1,7 @@
 pub mod AnswerLemmas
 pub mod DeskLemmas
 pub mod InputLemmas
+pub mod LongLemmas
 pub mod PartsLemmas
 pub mod SessionLemmas
 pub mod TimesLemmas

@@ -141,7 +141,7 @@ unfolding firsts
 firsts_next each n = ap (firsts each) (sym (suc-eq-add-one n))
 
 -- one more was accepted
-asked_more : (each : ℕ → Request) (n : ℕ) (request : Request) (before acts : List Act) → accepted before ≡ firsts each n
+pub asked_more : (each : ℕ → Request) (n : ℕ) (request : Request) (before acts : List Act) → accepted before ≡ firsts each n
     → accepted acts ≡ request ∷ [] → request ≡ each n → accepted (before ++ acts) ≡ firsts each (n + 1)
 asked_more each n request before acts so_far one is =
     accepted_then before acts
@@ -149,23 +149,19 @@ asked_more each n request before acts so_far one is =
     ∙ ap (λ xs. firsts each n ++ xs) (one ∙ ap (λ r. r ∷ []) is)
     ∙ sym (firsts_next each n)
 
-pub reads_more : (part : Part) (start count n first sectors : ℕ) (before acts : List Act)
-    → accepted before ≡ reads part start count n → accepted acts ≡ Read part first sectors ∷ [] → first ≡ start + 16 * n
-    → sectors ≡ sectors_of count n → accepted (before ++ acts) ≡ reads part start count (n + 1)
-reads_more part start count n first sectors before acts so_far one there same =
-    asked_more (λ n. Read part (start + 16 * n) (sectors_of count n)) n (Read part first sectors) before acts so_far one
-    (ap (λ k. Read part k sectors) there ∙ ap (λ m. Read part (start + 16 * n) m) same)
+-- what is asked for is the part with this number
+pub read_is : (part : Part) (start count n first sectors : ℕ) → first ≡ start + 16 * n → sectors ≡ sectors_of count n
+    → Read part first sectors ≡ Read part (start + 16 * n) (sectors_of count n)
+read_is part start count n first sectors there same =
+    ap (λ k. Read part k sectors) there ∙ ap (λ m. Read part (start + 16 * n) m) same
 
-pub writes_more : (part : Part) (start count n first sectors : ℕ) (bytes piece : List ℕ) (before acts : List Act)
-    → accepted before ≡ writes part start count bytes n → accepted acts ≡ Write part first sectors piece ∷ []
-    → first ≡ start + 16 * n → sectors ≡ sectors_of count n → piece ≡ bytes_of_part bytes count n
-    → accepted (before ++ acts) ≡ writes part start count bytes (n + 1)
-writes_more part start count n first sectors bytes piece before acts so_far one there same its =
-    asked_more (λ n. Write part (start + 16 * n) (sectors_of count n) (bytes_of_part bytes count n)) n
-    (Write part first sectors piece) before acts so_far one
-    (ap (λ k. Write part k sectors piece) there
+pub write_is : (part : Part) (start count n first sectors : ℕ) (bytes piece : List ℕ) → first ≡ start + 16 * n
+    → sectors ≡ sectors_of count n → piece ≡ bytes_of_part bytes count n
+    → Write part first sectors piece ≡ Write part (start + 16 * n) (sectors_of count n) (bytes_of_part bytes count n)
+write_is part start count n first sectors bytes piece there same its =
+    ap (λ k. Write part k sectors piece) there
     ∙ ap (λ m. Write part (start + 16 * n) m piece) same
-    ∙ ap (λ xs. Write part (start + 16 * n) (sectors_of count n) xs) its)
+    ∙ ap (λ xs. Write part (start + 16 * n) (sectors_of count n) xs) its
 
 length_firsts : (each : ℕ → Request) (n : ℕ) → length (firsts each n) ≡ n
 unfolding firsts

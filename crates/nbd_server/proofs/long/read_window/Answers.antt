@@ -2,25 +2,19 @@ use Rattle.std.proofs.Common.{subst, ◌++◌}
 use Rattle.nbd_server.specs.Parts.{AreAnswered}
 use Rattle.nbd_server.proofs.DeskLemmas.{leads_then, of_parts_then}
 use Rattle.nbd_server.proofs.PartsLemmas.{if_ok_then, window_read}
-use Rattle.nbd_server.proofs.SessionLemmas.{if_no_ok}
-use Rattle.nbd_messages.specs.declared.error.ReplyError.TheVariants.{Failed}
+use Rattle.nbd_server.proofs.LongLemmas.{parts_failed}
 use Rattle.mmc_queue.specs.declared.request.Request.TheVariants.{Read}
-use Rattle.nbd_server.specs.Parts.{HasFailedPart, IsData, Lacks, sectors_of}
-use Rattle.nbd_server.proofs.PartsLemmas.{if_err_passed, if_err_then, window_failed}
-use Rattle.std.proofs.Common.{ℕ, ◌≡◌, ◌*◌, ◌+◌}
+use Rattle.nbd_server.specs.Parts.{IsData, Lacks, sectors_of}
+use Rattle.nbd_server.proofs.PartsLemmas.{if_err_then, window_failed}
+use Rattle.std.proofs.Common.{ℕ, ◌*◌, ◌+◌}
 use Rattle.nbd_server.proofs.long.read_window.Goals as goal
 
 pub returns-in_err-asked-clause-leads : goal.returns-in_err-asked-clause-leads
 returns-in_err-asked-clause-leads g c =
     let (xs, of_xs, leads_xs, none, failed) = c.in_err-asked.ensures.leads in
-    let (ys, of_ys, leads_ys, answers) = c.gather-given.ensures.leads in (
-      xs ++ ys,
-      of_parts_then xs ys of_xs of_ys,
-      leads_then g.B.Bus.view _ _ _ xs ys leads_xs leads_ys,
-      if_no_ok c.from_residual.result _ c.from_residual.ensures.0,
-      if_err_passed c.from_residual.result c.in_err-asked.field-0.0 (λ error. error ≡ Failed → HasFailedPart (xs ++ ys))
-          c.from_residual.ensures.1 (λ is. absurd (c.in_err-asked.ensures.refused is)),
-    )
+    let (ys, of_ys, leads_ys, answers) = c.gather-given.ensures.leads in
+    parts_failed g.B.Bus.view _ _ _ xs ys c.from_residual.result c.in_err-asked.field-0.0 _ c.from_residual.ensures.0
+    c.from_residual.ensures.1 of_xs of_ys leads_xs leads_ys (λ is. absurd (c.in_err-asked.ensures.refused is))
 
 pub returns-clause-leads : goal.returns-clause-leads
 returns-clause-leads g c =

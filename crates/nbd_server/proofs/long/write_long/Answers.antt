@@ -1,55 +1,48 @@
-use Rattle.std.proofs.Common.{drop, refl, take, ◌*◌, ◌-◌, [], arith, ap, subst, sym, ◌++◌, ◌+◌, ◌∙◌, ◌∷◌, ℕ}
+use Rattle.std.proofs.Common.{drop, arith, refl, subst, take, ◌*◌, ◌+◌, ◌-◌, ◌≡◌, ℕ}
+use Rattle.std.proofs.lemmas.List.{take_all}
 use Rattle.nbd_server.specs.Parts.{AreWindows, IsWritten, Window}
-use Rattle.nbd_server.proofs.DeskLemmas.{leads_none, leads_then, of_parts_then, no_parts}
-use Rattle.nbd_server.proofs.PartsLemmas.{bytes_next, no_windows, in_turn_then, none_in_turn, window_more}
-use Rattle.nbd_server.proofs.SessionLemmas.{if_no_ok}
-use Rattle.nbd_messages.specs.declared.error.ReplyError.TheVariants.{Failed}
-use Rattle.nbd_server.specs.Parts.{HasFailedPart}
-use Rattle.nbd_server.proofs.PartsLemmas.{failed_later, if_err_passed}
-use Rattle.std.proofs.Common.{◌≡◌}
+use Rattle.nbd_server.proofs.LongLemmas.{nothing_yet, one_more, parts_failed}
+use Rattle.nbd_server.proofs.PartsLemmas.{bytes_next, failed_later}
 use Rattle.nbd_server.proofs.long.write_long.Goals as goal
 
 pub loop-done-init : goal.loop-done-init
-loop-done-init g c = record {
-  acts = [];
-  windows = [];
-  of_parts = no_parts;
-  leads = leads_none g.B.Bus.view _;
-  written = none_in_turn _ _;
-  are = no_windows;
-  within = omega arith;
-  none = c.requires.none;
-  cleared = c.requires.cleared;
-}
+loop-done-init g c = record { so_far = nothing_yet g.B.Bus.view _ _ _ c.requires.none c.requires.cleared; within = omega arith }
 
 pub returns-in_err-write_window-clause-leads : goal.returns-in_err-write_window-clause-leads
 returns-in_err-write_window-clause-leads g c =
     let (acts, of_parts, leads, nothing, failed) = c.in_err-write_window.ensures.leads in
-    let so_far = c.loop-done.invariant in (
-      so_far.acts ++ acts,
-      of_parts_then so_far.acts acts so_far.of_parts of_parts,
-      leads_then g.B.Bus.view _ _ _ so_far.acts acts so_far.leads leads,
-      if_no_ok c.from_residual.result _ c.from_residual.ensures.0,
-      if_err_passed c.from_residual.result c.in_err-write_window.field-0.0 (λ error. error ≡ Failed → HasFailedPart (so_far.acts ++ acts))
-          c.from_residual.ensures.1 (λ is. failed_later so_far.acts acts (failed is)),
-    )
+    let h = c.loop-done.invariant.so_far in
+    parts_failed g.B.Bus.view _ _ _ h.acts acts c.from_residual.result c.in_err-write_window.field-0.0 _ c.from_residual.ensures.0
+    c.from_residual.ensures.1 h.of_parts of_parts h.leads leads (λ is. failed_later h.acts acts (failed is))
 
 pub loop-done-preserved : goal.loop-done-preserved
 loop-done-preserved g c =
     let (acts, of_parts, leads, is, nothing) = c.in_ok-write_window.ensures.leads in
-    let more = take (512 * c.loop-done.done + 512 * c.behind-next.result.count - 512 * c.loop-done.done) (drop (512 * c.loop-done.done) c.args.bytes.now) in
-    let so_far = c.loop-done.invariant in
+    let done = c.loop-done.done in
+    let more = take (512 * done + 512 * c.behind-next.result.count - 512 * done) (drop (512 * done) c.args.bytes.now) in
     let one : Window = record { count = c.behind-next.result.count; acts = acts; bytes = more } in
     record {
-      acts = so_far.acts ++ acts;
-      windows = so_far.windows ++ one ∷ [];
-      of_parts = of_parts_then so_far.acts acts so_far.of_parts of_parts;
-      leads = leads_then g.B.Bus.view _ _ _ so_far.acts acts so_far.leads leads;
-      written = in_turn_then (λ (from : ℕ) (w : Window). IsWritten c.args.part from w.count w.acts w.bytes) c.args.span.start so_far.windows one so_far.written
-          (subst (λ k. IsWritten c.args.part k one.count acts more) (c.behind-next.ensures.start ∙ ap (λ k. c.args.span.start + k) (sym so_far.are.sectors)) is);
-      are = subst (AreWindows (so_far.windows ++ one ∷ []) _ (so_far.acts ++ acts)) (sym (bytes_next c.loop-done.done c.behind-next.result.count _ c.args.bytes.now refl))
-          (window_more so_far.windows c.loop-done.done c.behind-next.result.count so_far.acts acts (take (512 * c.loop-done.done) c.args.bytes.now) more so_far.are);
+      so_far = rw (bytes_next done c.behind-next.result.count _ c.args.bytes.now refl) (one_more g.B.Bus.view _ _ _
+          (λ (from : ℕ) (w : Window). IsWritten c.args.part from w.count w.acts w.bytes) c.args.span.start done _
+          (take (512 * done) c.args.bytes.now) one c.loop-done.invariant.so_far of_parts leads c.behind-next.ensures.start is
+          c.in_ok-write_window.ensures.none c.in_ok-write_window.ensures.cleared);
       within = omega (arith, c.behind-next.ensures.count, c.loop-done-test.true);
-      none = c.in_ok-write_window.ensures.none;
-      cleared = c.in_ok-write_window.ensures.cleared;
     }
+
+pub returns-clause-leads : goal.returns-clause-leads
+returns-clause-leads g c =
+    let h = c.loop-done.invariant.so_far in
+    let within = c.loop-done.invariant.within in
+    let all : c.loop-done.done ≡ c.args.span.count = omega (arith, within, c.loop-done-test.false) in
+    let whole = c.requires.whole in (
+      h.acts,
+      h.of_parts,
+      h.leads,
+      (
+        h.windows,
+        h.served,
+        subst (λ n. AreWindows h.windows n h.acts c.args.bytes.now) all
+            (subst (AreWindows h.windows c.loop-done.done h.acts) (take_all (512 * c.loop-done.done) c.args.bytes.now (omega (arith, all, whole))) h.are),
+      ),
+      tt,
+    )
