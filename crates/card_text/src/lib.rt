@@ -2,8 +2,6 @@
 #![tactic(auto)]
 
 pub mod card_file;
-#[cfg(test)]
-mod card_file_tests;
 pub mod card_line;
 mod card_spec;
 pub mod cut;
@@ -18,6 +16,4 @@ pub mod line;
 pub mod number;
 pub mod output;
 pub mod script;
-#[cfg(test)]
-mod script_tests;
 pub mod text_line;

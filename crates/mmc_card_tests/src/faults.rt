@@ -1,25 +1,11 @@
 // Faults that do what no driver lets be seen, and which of them are counted.
 use crate::cards::*;
-use mmc_bus::{DataIn, DataOut, Part, Reply, Want};
+use mmc_bus::{DataOut, Part};
 use mmc_card_sim::example_cards::*;
-use mmc_card_sim::{Fault, Flips, Outcome, PlanFault, SimCard};
+use mmc_card_sim::{Fault, Flips, SimCard};
 use mmc_frame::encode;
 use std::alloc::Global;
 use std::test::Fail;
-
-fn one(first: u8) -> Flips {
-    Flips {
-        first,
-        second: None,
-    }
-}
-
-fn two(first: u8, second: u8) -> Flips {
-    Flips {
-        first,
-        second: Some(second),
-    }
-}
 
 // Card `sdsc_cmd23` in tran, with a fault that is planned for the exchange after so many more.
 fn faulty(alloc: Global, others: u64, fault: Fault) -> Result<SimCard, Fail> {
@@ -32,8 +18,12 @@ fn faulty(alloc: Global, others: u64, fault: Fault) -> Result<SimCard, Fail> {
 // on after the sector.
 #[test]
 fn drops_a_preset_count(rt: HostRuntime) -> Result<(), Fail> {
+    let flips = Flips {
+        first: 12,
+        second: None,
+    };
     for (fault, begun, ended) in [
-        (Fault::FlipCommand(one(12)), 0x0080_0900, 0x0b00),
+        (Fault::FlipCommand(flips), 0x0080_0900, 0x0b00),
         (Fault::LoseCommand, 0x0900, 0x0900),
     ] {
         let mut card = faulty(rt.alloc(), 1, fault)?;
@@ -91,60 +81,5 @@ fn is_busy_longer(rt: HostRuntime) -> Result<(), Fail> {
         expect_status(&rt, &mut card, 0x900);
         assert_eq!(rt; card.faults(), faults);
     }
-    Ok(())
-}
-
-// A fault that doesn't fit its exchange changes nothing, and isn't counted.
-#[test]
-fn has_only_faults_that_fit(rt: HostRuntime) -> Result<(), Fail> {
-    for fault in [
-        Fault::FlipCommand(two(3, 3)),
-        Fault::FlipCommand(one(48)),
-        Fault::FlipReply(two(0, 48)),
-        Fault::FailSwitch,
-        Fault::FailSwitchLate,
-        Fault::BadBlock,
-        Fault::NoBlock,
-        Fault::ReadError,
-        Fault::Reject,
-        Fault::RejectAll,
-        Fault::LoseStatus(Outcome::New),
-        Fault::Fail(Outcome::New),
-        Fault::FailWith(Outcome::New, 0x0020_0000),
-        Fault::Busy,
-    ] {
-        let mut card = faulty(rt.alloc(), 0, fault)?;
-        expect_status(&rt, &mut card, 0x900);
-        assert_eq!(rt; card.faults(), 0, "{fault:?} at a command");
-        let mut card = faulty(rt.alloc(), 0, fault)?;
-        expect_polls(&rt, &mut card, 0);
-        assert_eq!(rt; card.faults(), 0, "{fault:?} at a poll");
-        let mut card = faulty(rt.alloc(), 0, fault)?;
-        expect_data(&rt, &mut card, DataIn::Nothing);
-        assert_eq!(rt; card.faults(), 0, "{fault:?} at a read");
-        let mut card = faulty(rt.alloc(), 0, fault)?;
-        expect_taken(&rt, &mut card, 0x5a, DataOut::Nothing);
-        assert_eq!(rt; card.faults(), 0, "{fault:?} at a write");
-    }
-    let mut card = faulty(rt.alloc(), 0, Fault::LoseReply)?;
-    assert_eq!(rt; card.command(encode(0, 0), Want::Nothing), Reply::Silent);
-    assert_eq!(rt; card.faults(), 0, "no answer is lost");
-    Ok(())
-}
-
-// A fault is planned for an exchange that is still to come, and the later one of two holds.
-#[test]
-fn plans_what_is_to_come(rt: HostRuntime) -> Result<(), Fail> {
-    let mut card = built(rt.alloc(), sdsc())?;
-    send(&mut card, encode(0, 0));
-    assert_eq!(rt; card.plan(0, Fault::LoseCommand), Err(PlanFault::InThePast));
-    assert_eq!(rt; card.plan(1, Fault::LoseCommand), Ok(()));
-    assert_eq!(rt; card.plan(1, Fault::Reject), Ok(()));
-    expect_r1(&rt, &mut card, 55, 0, 0x120);
-    assert_eq!(rt; card.plan(1, Fault::LoseReply), Err(PlanFault::InThePast));
-    assert_eq!(rt; card.plan(2, Fault::LoseReply), Ok(()));
-    expect_silence(&rt, &mut card, encode(55, 0));
-    assert_eq!(rt; card.faults(), 1);
-    assert_eq!(rt; card.exchanges(), 3);
     Ok(())
 }

@@ -1,5 +1,5 @@
-//! Tests of the card in memory by its public calls: commands that the driver doesn't send, and faults, plans and specs that no
-//! card file has. Nothing else stands here: a crate that has tests is proved twice, and so are these alone.
+//! Tests of the card in memory by its public calls: commands that the driver doesn't send, and faults that no driver lets be
+//! seen. Nothing else stands here: a crate that has tests is proved twice, and so are these alone.
 #![tactic(auto)]
 
 #[cfg(test)]
@@ -12,7 +12,3 @@ mod commands;
 mod faults;
 #[cfg(test)]
 mod opening;
-#[cfg(test)]
-mod plans;
-#[cfg(test)]
-mod specs;

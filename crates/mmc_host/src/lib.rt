@@ -20,6 +20,3 @@ pub use meaning::meant;
 pub use response::{Response, response_of};
 pub use told::{Heard, HostCommand, HostState, Ios, ResponseFault};
 pub use work::{Work, work_of};
-
-#[cfg(test)]
-mod tests;

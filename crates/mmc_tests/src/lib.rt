@@ -1,5 +1,5 @@
-//! Tests of the driver's layers over buses that lie: what a host hears, the trace, identification, width and speed, runs of
-//! blocks, erases, settling and the device; over a host controller; and of requests one at a time, which no program serves yet.
+//! Tests of the driver's layers over buses that lie: the trace, identification, width and speed, runs of blocks, erases,
+//! settling and the device; over a host controller, with the table of what it is told; and of requests one at a time.
 //! What a card in memory shows else, `tests/cases` has.
 //! Nothing else stands here: a crate that has tests is proved twice, and so are these alone.
 #![tactic(auto)]
@@ -13,9 +13,9 @@ mod direct;
 #[cfg(test)]
 mod erase;
 #[cfg(test)]
-mod host;
-#[cfg(test)]
 mod host_bus;
+#[cfg(test)]
+mod host_table;
 #[cfg(test)]
 mod identify;
 #[cfg(test)]

@@ -23,6 +23,3 @@ pub use option::{OptionHeader, OptionKind, option_in};
 pub use option_replies::{OptionReply, name_length, option_reply};
 pub use reply::simple_reply;
 pub use request::{RequestHeader, request_in};
-
-#[cfg(test)]
-mod tests;

@@ -12,6 +12,3 @@ pub mod put;
 mod repeats;
 
 pub use pieces::{Piece, put_pieces};
-
-#[cfg(test)]
-mod tests;

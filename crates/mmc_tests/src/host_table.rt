@@ -1,6 +1,6 @@
-// Rows of the table, as the standards have them.
-use crate::{Blocks, Data, Response, data_of, meant, response_of};
+// Rows of the table of what a host controller is told, as the standards have them.
 use mmc_card::Command;
+use mmc_host::{Blocks, Data, Response, data_of, meant, response_of};
 
 #[test]
 fn tells_commands_of_one_index_apart(rt: HostRuntime) {
