@@ -5,13 +5,19 @@
    the functions that the caller gave. No file is opened. */
 #include "kelifandro.h"
 
-enum { SEND = 1, READ_BLOCK, WRITE_BLOCK, LOOK, SET_IOS, PAUSE, LIMITS, READ_REGISTER, WRITE_REGISTER };
+enum { SEND = 1, READ_BLOCK, WRITE_BLOCK, LOOK, SET_IOS, PAUSE, LIMITS, READ_REGISTER, WRITE_REGISTER, READ_WITH, WRITE_WITH, READ_PORT, WRITE_PORT };
 
 /* The card of the call that is made, and what comes next of its operation. */
 static const struct kelifandro *now;
 static uint8_t operation;
-static uint8_t answer[20];
+static uint8_t answer[24];
 static size_t answered, taken;
+/* The memory of the request, and how many of its blocks have come by one call. */
+static void *memory;
+static size_t came;
+/* The block behind a command of a host that has transfer alone, and what read_block answers to it. */
+static uint8_t one_block[512];
+static int one_answer;
 
 static uint32_t number(const uint8_t *bytes, int n)
 {
@@ -40,6 +46,29 @@ static void answers_word(uint32_t word)
     answers(bytes, 4);
 }
 
+/* Sends a command, by transfer where there is nothing else: a register that comes as a block is kept until it is asked for. */
+static int send_alone(const struct kelifandro_host *host, const struct kelifandro_command *command, uint32_t response[4])
+{
+    struct kelifandro_moved moved = {0, 0};
+    int fault;
+    if (host->send)
+        return host->send(host->context, command, response);
+    fault = host->transfer(host->context, command, response, one_block, command->data == KELIFANDRO_READ, &moved);
+    one_answer = moved.failed ? moved.failed : moved.good ? 0 : 2;
+    return fault;
+}
+
+static int read_alone(const struct kelifandro_host *host, uint8_t *bytes, size_t n)
+{
+    int answer = one_answer;
+    if (host->read_block)
+        return host->read_block(host->context, bytes, n);
+    for (size_t i = 0; i < n && i < sizeof one_block; i++)
+        bytes[i] = one_block[i];
+    one_answer = 2;
+    return answer;
+}
+
 static void send_command(const struct kelifandro_host *host, const uint8_t *record)
 {
     struct kelifandro_command command = {
@@ -50,16 +79,25 @@ static void send_command(const struct kelifandro_host *host, const uint8_t *reco
         .block_length = (uint16_t)number(record + 8, 2),
         .blocks = (uint16_t)number(record + 10, 2),
     };
+    struct kelifandro_moved moved = {0, 0};
     uint32_t response[4] = {0, 0, 0, 0};
-    uint8_t bytes[16] = {0};
-    bytes[0] = (uint8_t)host->send(host->context, &command, response);
+    uint8_t bytes[19] = {0};
+    int is_with = record[0] != SEND;
+    int fault = is_with && host->transfer
+                    ? host->transfer(host->context, &command, response, memory, number(record + 12, 2), &moved)
+                    : send_alone(host, &command, response);
+    came = moved.good;
     if (command.response == KELIFANDRO_R2)
         for (int i = 0; i < 15; i++)
-            bytes[1 + i] = (uint8_t)(response[i / 4] >> (24 - 8 * (i % 4)));
+            bytes[i] = (uint8_t)(response[i / 4] >> (24 - 8 * (i % 4)));
     else
         for (int i = 0; i < 4; i++)
-            bytes[1 + i] = (uint8_t)(response[0] >> (8 * i));
-    answers(bytes, 16);
+            bytes[i] = (uint8_t)(response[0] >> (8 * i));
+    bytes[15] = (uint8_t)fault;
+    bytes[16] = (uint8_t)moved.good;
+    bytes[17] = (uint8_t)(moved.good >> 8);
+    bytes[18] = moved.failed;
+    answers(bytes, is_with ? 19 : 16);
 }
 
 static void of_host(const struct kelifandro_host *host, const uint8_t *record)
@@ -67,6 +105,8 @@ static void of_host(const struct kelifandro_host *host, const uint8_t *record)
     uint8_t limits[2] = {host->lines, host->high_speed};
     switch (record[0]) {
     case SEND:
+    case READ_WITH:
+    case WRITE_WITH:
         send_command(host, record);
         break;
     case LOOK:
@@ -99,6 +139,30 @@ static void of_registers(const struct kelifandro_registers *registers, const uin
     }
 }
 
+/* A block through the Buffer Data Port, by one call where there is one for it. */
+static void read_port(const struct kelifandro_registers *registers, uint8_t *bytes, size_t n)
+{
+    if (registers->read_port) {
+        registers->read_port(registers->context, bytes, n / 4);
+        return;
+    }
+    for (size_t i = 0; i + 4 <= n; i += 4) {
+        uint32_t word = registers->read(registers->context, 0x20, 4);
+        for (int k = 0; k < 4; k++)
+            bytes[i + k] = (uint8_t)(word >> (8 * k));
+    }
+}
+
+static void write_port(const struct kelifandro_registers *registers, const uint8_t *bytes, size_t n)
+{
+    if (registers->write_port) {
+        registers->write_port(registers->context, bytes, n / 4);
+        return;
+    }
+    for (size_t i = 0; i + 4 <= n; i += 4)
+        registers->write(registers->context, 0x20, 4, number(bytes + i, 4));
+}
+
 long kelifandro_put(int stream, const uint8_t *bytes, size_t n);
 long kelifandro_get(int stream, uint8_t *bytes, size_t n);
 
@@ -108,9 +172,14 @@ long kelifandro_put(int stream, const uint8_t *bytes, size_t n)
     (void)stream;
     answered = taken = 0;
     if (operation == WRITE_BLOCK && n == 512) {
-        int status = now->host->write_block(now->host->context, bytes);
+        int status = now->host->write_block ? now->host->write_block(now->host->context, bytes) : 2;
         operation = 0;
         answers_byte(status == 0 ? 1 : status == 1 ? 2 : 0);
+        return (long)n;
+    }
+    if (operation == WRITE_PORT && n == 512) {
+        operation = 0;
+        write_port(now->registers, bytes, n);
         return (long)n;
     }
     operation = bytes[0];
@@ -127,7 +196,7 @@ long kelifandro_get(int stream, uint8_t *bytes, size_t n)
     (void)stream;
     if (operation == READ_BLOCK && now->host) {
         operation = 0;
-        switch (now->host->read_block(now->host->context, bytes, n)) {
+        switch (read_alone(now->host, bytes, n)) {
         case 0:
             return (long)n;
         case 1:
@@ -136,13 +205,25 @@ long kelifandro_get(int stream, uint8_t *bytes, size_t n)
             return 0;
         }
     }
+    if (operation == READ_PORT && now->registers) {
+        operation = 0;
+        read_port(now->registers, bytes, n);
+        return (long)n;
+    }
+    /* a block that has come to its place, or one that failed there */
+    if (operation == READ_WITH && n == 512 && taken == answered) {
+        if (!came)
+            return 0;
+        came--;
+        return (long)n;
+    }
     size_t i = 0;
     while (i < n && taken < answered)
         bytes[i++] = answer[taken++];
     return (long)i;
 }
 
-/* The proved library. `way` is 0 for a host, 1 for registers with room for one block, 2 for registers with room for several. */
+/* The proved library. `way` is 0 for a host, 1 for registers. */
 int32_t kelifandro_open_by(uint8_t way, struct kelifandro_card *card);
 int32_t kelifandro_read_by(uint8_t way, struct kelifandro_card *card, uint8_t part, uint64_t start, uint8_t (*blocks)[512],
                            size_t count);
@@ -169,7 +250,7 @@ static uint8_t begin(const struct kelifandro *kelifandro)
     answered = taken = 0;
     if (kelifandro->host)
         return 0;
-    return kelifandro->registers->one_block ? 1 : 2;
+    return 1;
 }
 
 int32_t kelifandro_open(struct kelifandro *kelifandro)
@@ -183,6 +264,7 @@ int32_t kelifandro_read(struct kelifandro *kelifandro, enum kelifandro_part part
 {
     if (!has_way(kelifandro))
         return KELIFANDRO_NO_HOST;
+    memory = bytes;
     return kelifandro_read_by(begin(kelifandro), &kelifandro->card, (uint8_t)part, start, bytes, at_most(count));
 }
 
@@ -191,6 +273,7 @@ int32_t kelifandro_write(struct kelifandro *kelifandro, enum kelifandro_part par
 {
     if (!has_way(kelifandro))
         return KELIFANDRO_NO_HOST;
+    memory = (void *)bytes;
     return kelifandro_write_by(begin(kelifandro), &kelifandro->card, (uint8_t)part, start, bytes, at_most(count));
 }
 

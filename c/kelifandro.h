@@ -79,6 +79,13 @@ struct kelifandro_command {
     uint16_t blocks;       /* how many; 0: until CMD12 */
 };
 
+/* What became of blocks: how many were good or accepted, and what read_block or write_block would have answered to the one that failed, 1
+   or 2; 0 where none failed. Where one failed, `good` isn't used. */
+struct kelifandro_moved {
+    uint16_t good;
+    uint8_t failed;
+};
+
 /* A host controller. Before the first call it has one data line in use, and a clock of at most 400 kHz. */
 struct kelifandro_host {
     void *context;
@@ -97,6 +104,15 @@ struct kelifandro_host {
     /* Sets how many data lines are in use, the timing, and the clock, to so many hertz at most. */
     void (*set_ios)(void *context, int lines, int high_speed, uint32_t hertz);
     void (*pause)(void *context, uint32_t microseconds);
+    /* May be 0. A command and its blocks by one call: sends the command as `send` does, and answers as `send`. Where the response was
+       heard it moves the first of the blocks, of command->block_length bytes, one after the other from `memory` on: reads them into
+       it, or writes them. `blocks` have room; it may move fewer, as the controller can, even none. It ends after a block that isn't
+       good or accepted. Between two that it writes it waits until the card is no longer busy, and ends where that takes too long.
+       `moved` is zero before. What it hasn't moved is asked for by read_block, write_block and is_busy. `memory` is what the caller of
+       kelifandro_read or kelifandro_write gave, or 512 bytes of the library's; only a command that reads may change it.
+       Where it always moves all, `send`, `read_block` and `write_block` may be 0. */
+    int (*transfer)(void *context, const struct kelifandro_command *command, uint32_t response[4], void *memory, size_t blocks,
+                    struct kelifandro_moved *moved);
 };
 
 /* Why `send` heard no response. */
@@ -105,11 +121,12 @@ enum { KELIFANDRO_TIMEOUT = 1, KELIFANDRO_BAD_CHECK, KELIFANDRO_BAD_END_BIT, KEL
 /* The registers of an SD host controller. Accesses have 1 or 4 bytes, and reach the controller in order. */
 struct kelifandro_registers {
     void *context;
-    /* Whether its buffer has room for one block alone. 0 is right for every controller; 1 saves it from stopping at each block gap. */
-    uint8_t one_block;
     uint32_t (*read)(void *context, unsigned offset, unsigned size);
     void (*write)(void *context, unsigned offset, unsigned size, uint32_t value);
     void (*pause)(void *context, uint32_t microseconds);
+    /* May be 0. So many words through the Buffer Data Port (20h), the lowest byte of a word first in memory: as readsl and writesl. */
+    void (*read_port)(void *context, void *bytes, size_t words);
+    void (*write_port)(void *context, const void *bytes, size_t words);
 };
 
 /* What is known of a card between two calls. It may be copied, moved and stored. A call reads it with a check, so bytes of any kind do

@@ -107,7 +107,6 @@ static void pause(void *context, uint32_t microseconds)
 }
 
 static struct kelifandro_registers registers = {
-    .one_block = 1, /* as QEMU's controller is */
     .read = read_register,
     .write = write_register,
     .pause = pause,

@@ -16,6 +16,8 @@ void card_begin(struct card *card, int is_emmc)
     for (size_t i = 0; i < sizeof *card; i++)
         bytes[i] = 0;
     card->is_emmc = is_emmc;
+    card->lines = card->host_lines = 1;
+    card->hertz = 400000;
     card->lost = ~0ul;
 }
 
@@ -75,14 +77,37 @@ static void send_switch_status(struct card *card, uint32_t argument)
     uint8_t block[64] = {0};
     block[13] = 2;
     block[16] = (argument & 15) == 1 ? 1 : 0;
+    card->is_switching = argument >> 31 && block[16];
     send_register(card, block, 64);
 }
 
-/* A switch of an eMMC device: only PARTITION_CONFIG is of weight here. */
+/* A switch of an eMMC device: of weight here are PARTITION_CONFIG, BUS_WIDTH and HS_TIMING. */
 static void switch_byte(struct card *card, uint32_t argument)
 {
-    if ((argument >> 16 & 0xff) == 179)
-        card->part = argument >> 8 & 7;
+    unsigned value = argument >> 8 & 7;
+    switch (argument >> 16 & 0xff) {
+    case 179:
+        card->part = (uint8_t)value;
+        break;
+    case 183:
+        card->lines = value == 2 ? 8 : value == 1 ? 4 : 1;
+        break;
+    case 185:
+        card->high_speed = value == 1;
+        break;
+    }
+}
+
+/* No block passes on other lines, at another timing, or faster than the card can; nor a command of identification faster than 400 kHz. */
+static int is_seen(const struct card *card)
+{
+    return card->lines == card->host_lines && card->high_speed == card->host_high_speed
+           && card->hertz <= (card->high_speed ? 52000000u : 26000000u);
+}
+
+static int is_heard_of(const struct card *card)
+{
+    return card->hertz != 0 && (card->state >= STBY || card->hertz <= 400000);
 }
 
 static int begin_transfer(struct card *card, uint32_t start, uint32_t blocks, unsigned state)
@@ -152,7 +177,9 @@ static int serve(struct card *card, const struct kelifandro_command *command, in
     case 6:
         if (card->is_emmc)
             switch_byte(card, argument);
-        else if (!app)
+        else if (app)
+            card->lines = (argument & 3) == 2 ? 4 : 1;
+        else
             send_switch_status(card, argument);
         return 1;
     case 8:
@@ -203,6 +230,8 @@ static int respond(struct card *card, const struct kelifandro_command *command, 
         was = card->state = TRAN;
     if (command->index == 0) {
         card->state = IDLE;
+        card->lines = 1;
+        card->high_speed = 0;
         card->part = 0;
         card->rca = 0;
         return 1;
@@ -238,7 +267,7 @@ static int is_lost(struct card *card)
 static int send(void *context, const struct kelifandro_command *command, uint32_t response[4])
 {
     struct card *card = context;
-    int is_heard = respond(card, command, response);
+    int is_heard = is_heard_of(card) && respond(card, command, response);
     return is_lost(card) || !is_heard ? KELIFANDRO_TIMEOUT : 0;
 }
 
@@ -246,13 +275,15 @@ static void block_passed(struct card *card, unsigned behind)
 {
     if (card->left != UNTIL_STOPPED && --card->left == 0)
         card->state = behind;
+    card->high_speed |= card->is_switching; /* behind the status of the switch */
+    card->is_switching = 0;
 }
 
 static int read_block(void *context, void *block, size_t length)
 {
     struct card *card = context;
     uint8_t *to = block;
-    if (card->state != DATA || (!card->source && card->next >= size(card)))
+    if (!is_seen(card) || card->state != DATA || (!card->source && card->next >= size(card)))
         return 2;
     const uint8_t *from = card->source ? card->source : sectors(card)[card->next++];
     for (size_t i = 0; i < length; i++)
@@ -265,7 +296,7 @@ static int write_block(void *context, const void *block)
 {
     struct card *card = context;
     const uint8_t *from = block;
-    if (card->state != RCV || card->next >= size(card))
+    if (!is_seen(card) || card->state != RCV || card->next >= size(card))
         return 2;
     for (int i = 0; i < 512; i++)
         sectors(card)[card->next][i] = from[i];
@@ -281,9 +312,46 @@ static int is_busy(void *context, uint32_t microseconds)
     return is_lost(card);
 }
 
+/* A command and its blocks, as a controller with DMA moves them. */
+static int transfer(void *context, const struct kelifandro_command *command, uint32_t response[4], void *memory, size_t blocks,
+                    struct kelifandro_moved *moved)
+{
+    uint8_t *at = memory;
+    int fault = send(context, command, response);
+    if (fault)
+        return fault;
+    for (size_t i = 0; i < blocks; i++, at += 512) {
+        int got = command->data == KELIFANDRO_READ ? read_block(context, at, command->block_length) : write_block(context, at);
+        if (got) {
+            moved->failed = (uint8_t)got;
+            break;
+        }
+        moved->good++;
+    }
+    return 0;
+}
+
+/* The same by a controller that doesn't tell how far it came, and leaves anything in memory where a block failed. */
+static int blind_transfer(void *context, const struct kelifandro_command *command, uint32_t response[4], void *memory,
+                          size_t blocks, struct kelifandro_moved *moved)
+{
+    uint8_t *at = memory;
+    int fault = transfer(context, command, response, memory, blocks, moved);
+    if (!moved->failed)
+        return fault;
+    moved->good = 0;
+    for (size_t i = 0; command->data == KELIFANDRO_READ && i < blocks * command->block_length; i++)
+        at[i] ^= 0x5a;
+    return fault;
+}
+
 static void set_ios(void *context, int lines, int high_speed, uint32_t hertz)
 {
-    (void)context, (void)lines, (void)high_speed, (void)hertz;
+    struct card *card = context;
+    card->host_lines = lines;
+    card->host_high_speed = high_speed;
+    card->hertz = hertz;
+    card->told++;
 }
 
 static void pause(void *context, uint32_t microseconds)
@@ -300,4 +368,19 @@ const struct kelifandro_host card_host = {
     .is_busy = is_busy,
     .set_ios = set_ios,
     .pause = pause,
+};
+
+const struct kelifandro_host whole_host = {
+    .lines = 8, .high_speed = 1, .is_busy = is_busy, .set_ios = set_ios, .pause = pause, .transfer = blind_transfer};
+
+const struct kelifandro_host transfer_host = {
+    .lines = 8,
+    .high_speed = 1,
+    .send = send,
+    .read_block = read_block,
+    .write_block = write_block,
+    .is_busy = is_busy,
+    .set_ios = set_ios,
+    .pause = pause,
+    .transfer = transfer,
 };

@@ -18,6 +18,10 @@ struct card {
     uint32_t next, left;   /* the next sector, and how many are left; 0xffffffff until CMD12 */
     uint32_t first, last;  /* of an erase */
     uint8_t register_block[512];
+    /* data lines, timing and, for the host, clock, as the card and as the host behind it are set; they have to be the same */
+    int lines, high_speed, host_lines, host_high_speed, is_switching;
+    uint32_t hertz;
+    unsigned long told; /* how often the host behind it was told lines, timing or clock */
     /* how many answers there were, and which of them is lost */
     unsigned long answers, lost;
 };
@@ -26,5 +30,8 @@ void card_begin(struct card *card, int is_emmc);
 
 /* The controller that it is behind; its context is the card. */
 extern const struct kelifandro_host card_host;
+/* The same by whole transfers, beside what it has or alone. */
+extern const struct kelifandro_host whole_host;
+extern const struct kelifandro_host transfer_host;
 
 #endif

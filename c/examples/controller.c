@@ -144,10 +144,21 @@ static void push(struct controller *controller, uint32_t word)
         transmit(controller);
 }
 
+/* Host Control has the lines and the timing, Clock Control the divisor of 50 MHz; without its bit 2 there is no clock. */
+static void set_ios(struct controller *controller)
+{
+    uint32_t divisor = (controller->clock >> 8 & 0xff) | (controller->clock << 2 & 0x300);
+    uint32_t hertz = divisor ? 50000000 / (2 * divisor) : 50000000;
+    int lines = controller->control & 0x20 ? 8 : controller->control & 2 ? 4 : 1;
+    card_host.set_ios(controller->card, lines, controller->control >> 2 & 1, controller->clock & 4 ? hertz : 0);
+}
+
 static void reset(struct controller *controller, uint32_t lines)
 {
-    if (lines & 1)
+    if (lines & 1) {
         controller_begin(controller, controller->card, controller->one_block);
+        set_ios(controller);
+    }
     if (lines & 4) {
         controller->direction = KELIFANDRO_NO_DATA;
         controller->at = controller->length = 0;
@@ -217,6 +228,10 @@ static void write(void *context, unsigned offset, unsigned size, uint32_t value)
     case 0x20:
         push(controller, value);
         break;
+    case 0x28:
+        controller->control = (uint8_t)value;
+        set_ios(controller);
+        break;
     case 0x2a:
         controller->gap = value & 1;
         if (controller->gap && controller->is_waiting) {
@@ -227,6 +242,7 @@ static void write(void *context, unsigned offset, unsigned size, uint32_t value)
         break;
     case 0x2c:
         controller->clock = value & 0xffff;
+        set_ios(controller);
         break;
     case 0x2f:
         reset(controller, value);
@@ -237,9 +253,29 @@ static void write(void *context, unsigned offset, unsigned size, uint32_t value)
     }
 }
 
+static void read_port(void *context, void *bytes, size_t words)
+{
+    uint8_t *to = bytes;
+    for (size_t i = 0; i < words; i++, to += 4) {
+        uint32_t word = pop(context);
+        for (int k = 0; k < 4; k++)
+            to[k] = (uint8_t)(word >> (8 * k));
+    }
+}
+
+static void write_port(void *context, const void *bytes, size_t words)
+{
+    const uint8_t *from = bytes;
+    for (size_t i = 0; i < words; i++, from += 4)
+        push(context, from[0] | (uint32_t)from[1] << 8 | (uint32_t)from[2] << 16 | (uint32_t)from[3] << 24);
+}
+
 static void pause(void *context, uint32_t microseconds)
 {
     (void)context, (void)microseconds;
 }
+
+const struct kelifandro_registers port_registers = {
+    .read = read, .write = write, .pause = pause, .read_port = read_port, .write_port = write_port};
 
 const struct kelifandro_registers controller_registers = {.read = read, .write = write, .pause = pause};

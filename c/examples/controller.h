@@ -21,5 +21,7 @@ void controller_begin(struct controller *controller, struct card *card, int one_
 
 /* Its registers; their context is the controller. */
 extern const struct kelifandro_registers controller_registers;
+/* The same with a block through the port by one call. */
+extern const struct kelifandro_registers port_registers;
 
 #endif

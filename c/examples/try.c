@@ -3,19 +3,21 @@
 
        try             all of it
        try runs N      writes and reads N runs of 16 sectors, for a profiler
-       try sectors N   the same with single sectors */
+       try sectors N   the same with single sectors
+       try N COUNT WAY writes and reads N runs of COUNT sectors, 64 at most; WAY 0 is a host, 1 one with transfers,
+                       2 registers, 4 registers with a call a block */
 #include <stdio.h>
 #include <stdlib.h>
 #include <string.h>
 #include "controller.h"
 
-enum { RUN = 16 };
+enum { RUN = 16, LONGEST = 64 };
 static struct card card;
 static struct controller controller;
 static struct kelifandro_host host;
 static struct kelifandro_registers registers;
 static struct kelifandro sd;
-static uint8_t data[RUN * 512], back[RUN * 512];
+static uint8_t data[LONGEST * 512], back[LONGEST * 512];
 static unsigned long wrong;
 
 static void expect(int is_so, const char *what, unsigned long n)
@@ -24,20 +26,21 @@ static void expect(int is_so, const char *what, unsigned long n)
         printf("wrong: %s (%lu)\n", what, n);
 }
 
-enum way { HOST, ONE_BLOCK, SEVERAL_BLOCKS };
-static const char *const ways[] = {"a host", "registers, room for one block", "registers, room for several"};
+enum way { HOST, TRANSFERS, ONE_BLOCK, SEVERAL_BLOCKS, BY_PORT, WHOLE };
+static const char *const ways[] = {"a host", "a host with transfers", "registers, room for one block", "registers, room for several",
+                                   "registers, room for one block, a call a block", "a host with transfers alone"};
 
 static void begin(int is_emmc, enum way way)
 {
     card_begin(&card, is_emmc);
-    controller_begin(&controller, &card, way == ONE_BLOCK);
-    host = card_host;
+    int one_block = way == ONE_BLOCK || way == BY_PORT;
+    controller_begin(&controller, &card, one_block);
+    host = way == TRANSFERS ? transfer_host : way == WHOLE ? whole_host : card_host;
     host.context = &card;
-    registers = controller_registers;
+    registers = way == BY_PORT ? port_registers : controller_registers;
     registers.context = &controller;
-    registers.one_block = way == ONE_BLOCK;
     memset(&sd, 0, sizeof sd);
-    if (way == HOST)
+    if (way == HOST || way == TRANSFERS || way == WHOLE)
         sd.host = &host;
     else
         sd.registers = &registers;
@@ -53,9 +56,9 @@ static unsigned long whole(int is_emmc, enum way way, unsigned long lost)
     expect(kelifandro_open(&sd) == KELIFANDRO_DONE, "open", lost);
     expect(kelifandro_sectors(&sd, KELIFANDRO_USER) == USER_SECTORS, "size", lost);
     expect(kelifandro_write(&sd, KELIFANDRO_USER, 7, RUN, data) == KELIFANDRO_DONE, "write", lost);
-    expect(memcmp(card.user[7], data, sizeof data) == 0, "what was written", lost);
+    expect(memcmp(card.user[7], data, RUN * 512) == 0, "what was written", lost);
     expect(kelifandro_read(&sd, KELIFANDRO_USER, 7, RUN, back) == KELIFANDRO_DONE, "read", lost);
-    expect(memcmp(back, data, sizeof data) == 0, "what was read", lost);
+    expect(memcmp(back, data, RUN * 512) == 0, "what was read", lost);
     if (is_emmc) {
         expect(kelifandro_write(&sd, KELIFANDRO_BOOT2, 3, 2, data) == KELIFANDRO_DONE, "write to boot 2", lost);
         expect(memcmp(card.boot[1][3], data, 1024) == 0, "what was written to boot 2", lost);
@@ -70,19 +73,27 @@ static unsigned long whole(int is_emmc, enum way way, unsigned long lost)
     return card.answers;
 }
 
-static void refusals(void)
+/* What is refused is told neither to the card nor to its host. */
+static void refusals(enum way way)
+{
+    begin(0, way);
+    expect(kelifandro_read(&sd, KELIFANDRO_USER, 0, 1, back) == KELIFANDRO_NOT_OPEN, "not open", way);
+    kelifandro_open(&sd);
+    unsigned long before = card.answers, told = card.told;
+    expect(kelifandro_read(&sd, KELIFANDRO_BOOT1, 0, 1, back) == KELIFANDRO_NO_PARTITION, "no partition", way);
+    expect(kelifandro_read(&sd, (enum kelifandro_part)77, 0, 1, back) == KELIFANDRO_NO_PARTITION, "no such number", way);
+    expect(kelifandro_read(&sd, KELIFANDRO_USER, USER_SECTORS - 1, 2, back) == KELIFANDRO_OUT_OF_RANGE, "out of range", way);
+    expect(kelifandro_write(&sd, KELIFANDRO_USER, 0, 0, data) == KELIFANDRO_COUNT, "no sector", way);
+    expect(kelifandro_read(&sd, KELIFANDRO_USER, 0, (size_t)1 << 60, back) == KELIFANDRO_COUNT, "too many sectors", way);
+    expect(kelifandro_trim(&sd, KELIFANDRO_USER, 0, 1) == KELIFANDRO_NOT_ERASABLE, "no trim", way);
+    expect(card.answers == before, "nothing is sent", way);
+    expect(card.told == told, "the host is told nothing", way);
+}
+
+static void lost_ways(void)
 {
     begin(0, HOST);
-    expect(kelifandro_read(&sd, KELIFANDRO_USER, 0, 1, back) == KELIFANDRO_NOT_OPEN, "not open", 0);
     kelifandro_open(&sd);
-    unsigned long before = card.answers;
-    expect(kelifandro_read(&sd, KELIFANDRO_BOOT1, 0, 1, back) == KELIFANDRO_NO_PARTITION, "no partition", 0);
-    expect(kelifandro_read(&sd, (enum kelifandro_part)77, 0, 1, back) == KELIFANDRO_NO_PARTITION, "no such number", 0);
-    expect(kelifandro_read(&sd, KELIFANDRO_USER, USER_SECTORS - 1, 2, back) == KELIFANDRO_OUT_OF_RANGE, "out of range", 0);
-    expect(kelifandro_write(&sd, KELIFANDRO_USER, 0, 0, data) == KELIFANDRO_COUNT, "no sector", 0);
-    expect(kelifandro_read(&sd, KELIFANDRO_USER, 0, (size_t)1 << 60, back) == KELIFANDRO_COUNT, "too many sectors", 0);
-    expect(kelifandro_trim(&sd, KELIFANDRO_USER, 0, 1) == KELIFANDRO_NOT_ERASABLE, "no trim", 0);
-    expect(card.answers == before, "nothing is sent", 0);
     sd.host = 0;
     expect(kelifandro_read(&sd, KELIFANDRO_USER, 0, 1, back) == KELIFANDRO_NO_HOST, "no host", 0);
     sd.host = &host;
@@ -105,30 +116,36 @@ static void junk(unsigned long rounds)
     }
 }
 
-static void profile(unsigned long n, size_t count)
+static void profile(unsigned long n, size_t count, enum way way)
 {
-    begin(0, HOST);
+    begin(0, way);
     kelifandro_open(&sd);
     for (unsigned long i = 0; i < n; i++) {
-        kelifandro_write(&sd, KELIFANDRO_USER, i * count % (USER_SECTORS - RUN), count, data);
-        kelifandro_read(&sd, KELIFANDRO_USER, i * count % (USER_SECTORS - RUN), count, back);
+        kelifandro_write(&sd, KELIFANDRO_USER, i * count % (USER_SECTORS - LONGEST), count, data);
+        kelifandro_read(&sd, KELIFANDRO_USER, i * count % (USER_SECTORS - LONGEST), count, back);
     }
 }
 
 int main(int words, char **word)
 {
     if (words == 3) {
-        profile(strtoul(word[2], 0, 10), strcmp(word[1], "sectors") == 0 ? 1 : RUN);
+        profile(strtoul(word[2], 0, 10), strcmp(word[1], "sectors") == 0 ? 1 : RUN, HOST);
         return 0;
     }
-    for (int way = HOST; way <= SEVERAL_BLOCKS; way++)
+    if (words == 4) {
+        profile(strtoul(word[1], 0, 10), strtoul(word[2], 0, 10), (enum way)(word[3][0] - '0'));
+        return 0;
+    }
+    for (int way = HOST; way <= WHOLE; way++)
         for (int is_emmc = 0; is_emmc < 2; is_emmc++) {
             unsigned long answers = whole(is_emmc, way, ~0ul);
             for (unsigned long lost = 0; lost < answers; lost++)
                 whole(is_emmc, way, lost);
             printf("%s by %s: each of %lu answers lost in turn\n", is_emmc ? "eMMC" : "SD", ways[way], answers);
         }
-    refusals();
+    for (int way = HOST; way <= WHOLE; way++)
+        refusals(way);
+    lost_ways();
     junk(100000);
     printf("junk for a card: 100000 calls\n%lu wrong\n", wrong);
     return wrong != 0;

@@ -4,10 +4,13 @@
 //! library gives the two functions that stand behind writing and reading code of his own (`c/kelifandro.c`): no file is opened.
 #![tactic(auto)]
 
+mod diary;
 mod lent;
 mod registers;
 mod stream;
 mod way;
 
+pub use diary::{Call, Diary, Note};
 pub use lent::{Sectors, SectorsMut};
+pub use stream::Stream;
 pub use way::{Given, Way};

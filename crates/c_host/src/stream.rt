@@ -1,5 +1,21 @@
 // A stream with a number: records go to C, and answers come from it. The first byte of a record says what is asked; numbers are
 // little endian. `c/kelifandro.c` has the other end.
+ghost use Rattle.std.specs.Prelude.{◌≡◌, ◌∷◌, ◌≤◌, [], length, true, ℕ};
+ghost use Rattle.std.specs.Int.{from_le_bytes, to_le_bytes, w32};
+ghost use Rattle.c_host.specs.Talk.Talk.{Asked, Came, Told};
+ghost use Rattle.c_host.specs.Talk.{last_answer};
+ghost use Rattle.c_host.specs.Records.{blocks_number, command_record, count_number, data_number, failed_by, fault_by, good_by};
+ghost use Rattle.c_host.specs.Records.{heard_by, heard_in, ios_record, is_word, length_number, lines_by, lines_number, moved_by};
+ghost use Rattle.c_host.specs.Records.{refused_by, response_number, timing_number, touched_by, with_record};
+ghost use Rattle.c_host.specs.Told.{TellsCommand, TellsIos, TellsLook, TellsPause, TellsRead, TellsReadWith, TellsWrite};
+ghost use Rattle.c_host.specs.Told.{TellsWriteWith};
+ghost use Rattle.mmc_card.specs.CardAnswer.{Silent};
+ghost use Rattle.mmc_host.specs.Hosts.{answer_heard, unkept_host};
+ghost use Rattle.mmc_host.specs.Together.{ReadsWith, WritesWith};
+ghost use Rattle.mmc_host.specs.declared.response.Response.TheVariants.{R1};
+
+use crate::diary::{Call, Diary, Note};
+use mmc_bus::{BlocksMut, Moved};
 use mmc_card::{DataIn, DataOut, Lines, Timing, Width};
 use mmc_host::{Blocks, Data, Heard, HostCommand, Ios, Response, ResponseFault};
 
@@ -21,14 +37,28 @@ const READ_REGISTER: u8 = 8;
 
 const WRITE_REGISTER: u8 = 9;
 
-/// A stream.
-#[derive(Clone, Copy, Debug)]
+const READ_WITH: u8 = 10;
+
+const WRITE_WITH: u8 = 11;
+
+const READ_PORT: u8 = 12;
+
+const WRITE_PORT: u8 = 13;
+
+/// A stream, with a diary of what went over it, which exists only in proofs.
+///
+/// Nothing can bind the diary to the stream, so `tell`, `ask` and `take` are to be read: each writes the record that it notes, and
+/// notes the bytes that were read.
+#[derive(Drop)]
 pub struct Stream {
-    pub number: i32,
+    number: i32,
+    pub diary: Diary,
 }
 
 // The kind of a response, as a number for C.
-fn response_number(response: Response) -> u8 {
+fn response_number(response: Response) -> u8
+    ensures { result ≡ response_number response }
+{
     match response {
         Response::Nothing => 0,
         Response::R1 => 1,
@@ -41,7 +71,9 @@ fn response_number(response: Response) -> u8 {
 }
 
 // How many blocks, 0 until CMD12.
-fn number_of(blocks: Blocks) -> u16 {
+fn number_of(blocks: Blocks) -> u16
+    ensures { result ≡ blocks_number blocks }
+{
     match blocks {
         Blocks::Counted(count) => count,
         Blocks::UntilStopped => 0,
@@ -49,7 +81,11 @@ fn number_of(blocks: Blocks) -> u16 {
 }
 
 // The data behind a command: 0 none, 1 it is read, 2 it is written; the length of a block, and how many.
-fn data_numbers(transfer: Data) -> (u8, u16, u16) {
+fn data_numbers(transfer: Data) -> (u8, u16, u16)
+    ensures direction { result.0 ≡ data_number transfer }
+    ensures length { result.1 ≡ length_number transfer }
+    ensures count { result.2 ≡ count_number transfer }
+{
     match transfer {
         Data::Nothing => (0, 0, 0),
         Data::Read { length, blocks } => (1, length, number_of(blocks)),
@@ -57,19 +93,22 @@ fn data_numbers(transfer: Data) -> (u8, u16, u16) {
     }
 }
 
-// Why no response was heard; 0 is none.
-fn fault_of(number: u8) -> Option<ResponseFault> {
+// Why no response was heard.
+fn fault_of(number: u8) -> ResponseFault
+    ensures { result ≡ fault_by number }
+{
     match number {
-        0 => None,
-        2 => Some(ResponseFault::Check),
-        3 => Some(ResponseFault::EndBit),
-        4 => Some(ResponseFault::Index),
-        _ => Some(ResponseFault::Timeout),
+        2 => ResponseFault::Check,
+        3 => ResponseFault::EndBit,
+        4 => ResponseFault::Index,
+        _ => ResponseFault::Timeout,
     }
 }
 
 // What was heard, by these bytes: bits 127 to 8 of a register, the highest byte first, or a word.
-fn heard_in(response: Response, bytes: [u8; 15]) -> Heard {
+fn heard_in(response: Response, bytes: [u8; 15]) -> Heard
+    ensures { result ≡ heard_in response bytes }
+{
     let [a, b, c, d, ..] = bytes;
     match response {
         Response::Nothing => Heard::Nothing,
@@ -78,7 +117,106 @@ fn heard_in(response: Response, bytes: [u8; 15]) -> Heard {
     }
 }
 
-fn lines_number(width: Width) -> u8 {
+// What was heard, or why nothing was, by the bytes after which the fault stands.
+fn heard_by(response: Response, answer: &[u8]) -> Result<Heard, ResponseFault>
+    requires { 16 ≤ length answer.now }
+    ensures { result ≡ heard_by response answer.now }
+{
+    if answer[15] == 0 {
+        let mut bytes = [0; 15];
+        bytes.copy_from_slice(&answer[..15]);
+        Ok(heard_in(response, bytes))
+    } else {
+        Err(fault_of(answer[15]))
+    }
+}
+
+// What became of a block that wasn't good; 0 where none failed.
+fn failed_by(number: u8) -> Option<DataIn>
+    ensures { result ≡ failed_by number }
+{
+    match number {
+        0 => None,
+        1 => Some(DataIn::Bad),
+        _ => Some(DataIn::Nothing),
+    }
+}
+
+// What became of a block that wasn't accepted; 0 where none failed.
+fn refused_by(number: u8) -> Option<DataOut>
+    ensures { result ≡ refused_by number }
+{
+    match number {
+        0 => None,
+        1 => Some(DataOut::Rejected),
+        _ => Some(DataOut::Nothing),
+    }
+}
+
+// What C moved of so many blocks. Where one failed it isn't used how many C says were good.
+fn moved_by<T: Copy>(failed: Option<T>, good: usize, count: usize) -> Moved<T>
+    ensures { result ≡ moved_by failed good count }
+{
+    match failed {
+        Some(_) if count == 0 => Moved::Good(0),
+        Some(got) => Moved::Failed(got),
+        None => Moved::Good(good.min(count)),
+    }
+}
+
+// How many of so many places C may have written to: all of them where a block failed.
+fn touched_by(moved: Moved<DataIn>, count: usize) -> usize
+    ensures { result ≡ touched_by moved count }
+{
+    match moved {
+        Moved::Good(good) => good,
+        Moved::Failed(_) => count,
+    }
+}
+
+// Whether a word was heard, as that of an R1.
+fn is_word(heard: Result<Heard, ResponseFault>) -> bool
+    ensures is { result ≡ is_word heard }
+    ensures heard { result ≡ true → (index : ℕ) → answer_heard R1 index heard ≡ Silent → ⊥ }
+{
+    matches!(heard, Ok(Heard::Word(_)))
+}
+
+// How many blocks C says were good.
+fn good_by(answer: &[u8; 19]) -> usize
+    ensures { result ≡ good_by answer.now }
+{
+    usize::from(u16::from_le_bytes([answer[16], answer[17]]))
+}
+
+// The record of a command.
+fn command_record(command: HostCommand) -> [u8; 12]
+    ensures { result ≡ command_record command }
+{
+    let [a, b, c, d] = command.argument.to_le_bytes();
+    let (direction, length, blocks) = data_numbers(command.transfer);
+    let [e, f] = length.to_le_bytes();
+    let [g, h] = blocks.to_le_bytes();
+    let response = response_number(command.response);
+    [
+        SEND,
+        command.index,
+        response,
+        direction,
+        a,
+        b,
+        c,
+        d,
+        e,
+        f,
+        g,
+        h,
+    ]
+}
+
+fn lines_number(width: Width) -> u8
+    ensures { result ≡ lines_number width }
+{
     match width {
         Width::One => 1,
         Width::Four => 4,
@@ -86,61 +224,153 @@ fn lines_number(width: Width) -> u8 {
     }
 }
 
-fn is_high(timing: Timing) -> u8 {
+fn is_high(timing: Timing) -> u8
+    ensures { result ≡ timing_number timing }
+{
     match timing {
         Timing::Default => 0,
         Timing::High => 1,
     }
 }
 
+// The record of lines, timing and clock.
+fn ios_record(ios: Ios) -> [u8; 7]
+    ensures { result ≡ ios_record ios }
+{
+    let [a, b, c, d] = ios.max_clock().to_le_bytes();
+    [
+        SET_IOS,
+        lines_number(ios.width),
+        is_high(ios.timing),
+        a,
+        b,
+        c,
+        d,
+    ]
+}
+
 impl Stream {
-    // Tells C something. What comes of it is seen by its answer.
-    fn tell(self, record: &[u8]) {
-        let _ = io::write_all(self.number, record);
-    }
-
-    // Tells C something, and takes one byte for an answer, 0 where none comes.
-    fn ask(self, record: &[u8]) -> u8 {
-        self.tell(record);
-        let mut answer = [0];
-        let _ = io::read_full(self.number, &mut answer);
-        answer[0]
-    }
-
-    /// Sends a command, and takes its response.
-    pub fn send(self, command: HostCommand) -> Result<Heard, ResponseFault> {
-        let [a, b, c, d] = command.argument.to_le_bytes();
-        let (direction, length, blocks) = data_numbers(command.transfer);
-        let [e, f] = length.to_le_bytes();
-        let [g, h] = blocks.to_le_bytes();
-        let response = response_number(command.response);
-        let fault = self.ask(&[
-            SEND,
-            command.index,
-            response,
-            direction,
-            a,
-            b,
-            c,
-            d,
-            e,
-            f,
-            g,
-            h,
-        ]);
-        let mut bytes = [0; 15];
-        let _ = io::read_full(self.number, &mut bytes);
-        match fault_of(fault) {
-            Some(fault) => Err(fault),
-            None => Ok(heard_in(command.response, bytes)),
+    /// The stream with this number, over which nothing has gone.
+    pub fn new(number: i32) -> Stream
+        ensures { result.diary.past ≡ [] }
+    {
+        Stream {
+            number,
+            diary: Diary::new(),
         }
     }
 
+    // Puts a record.
+    fn tell(&mut self, put: &[u8])
+        ensures past { self.new.diary.past ≡ Told put.now ∷ self.old.diary.past }
+    {
+        let _ = io::write_all(self.number, put);
+        self.diary = self.diary.then(&Note {
+            call: Call::Tell { put },
+        });
+    }
+
+    // Puts a record, and takes as many bytes as there is room for; where fewer come the others stay.
+    fn ask(&mut self, put: &[u8], answer: &mut [u8])
+        ensures past { self.new.diary.past ≡ Asked put.now answer.new ∷ self.old.diary.past }
+        ensures length { length answer.new ≡ length answer.old }
+    {
+        let _ = io::write_all(self.number, put);
+        let _ = io::read_full(self.number, answer);
+        self.diary = self.diary.then(&Note {
+            call: Call::Ask { put, answer },
+        });
+    }
+
+    // Takes what comes of a block, and tells how many bytes.
+    fn take(&mut self, bytes: &mut [u8]) -> usize
+        ensures past { self.new.diary.past ≡ Came result bytes.new ∷ self.old.diary.past }
+        ensures length { length bytes.new ≡ length bytes.old }
+    {
+        let count = io::read_full(self.number, bytes);
+        self.diary = self.diary.then(&Note {
+            call: Call::Take { count, bytes },
+        });
+        count
+    }
+
+    /// Sends a command, and takes its response.
+    pub fn send(&mut self, command: HostCommand) -> Result<Heard, ResponseFault>
+        ensures { TellsCommand command result self.old.diary.past self.new.diary.past }
+    {
+        let mut answer = [0; 16];
+        self.ask(&command_record(command), &mut answer);
+        heard_by(command.response, &answer)
+    }
+
+    /// Sends a command, takes its response, and the blocks that C has read with it into their places.
+    pub fn read_with<D: BlocksMut>(
+        &mut self,
+        command: HostCommand,
+        blocks: &mut D,
+    ) -> (Result<Heard, ResponseFault>, Moved<DataIn>)
+        ensures reads { ReadsWith D.blocks D.with unkept_host command blocks.old result.0 result.1 blocks.new unkept_host }
+        ensures tells { TellsReadWith command (D.blocks blocks.new) result.0 result.1 self.old.diary.past self.new.diary.past }
+    {
+        let count = blocks.len();
+        let answer = self.send_with(READ_WITH, command, count);
+        let heard = heard_by(command.response, &answer);
+        let moved = moved_by(failed_by(answer[18]), good_by(&answer), count);
+        let touched = touched_by(moved, count);
+        for done in 0..touched {
+            let _ = self.take(blocks.block_mut(done));
+        }
+        (heard, moved)
+    }
+
+    /// Sends a command that has an R1, takes its response, and tells what C has written of the blocks with it. Where no response was
+    /// heard none was.
+    pub fn write_with<D: mmc_bus::Blocks>(
+        &mut self,
+        command: HostCommand,
+        blocks: &D,
+    ) -> (Result<Heard, ResponseFault>, Moved<DataOut>)
+        requires { command.response ≡ R1 }
+        ensures writes { WritesWith unkept_host command (D.blocks blocks.now) result.0 result.1 unkept_host }
+        ensures tells { TellsWriteWith command (length (D.blocks blocks.now)) result.0 result.1 self.old.diary.past
+            self.new.diary.past }
+    {
+        let count = blocks.len();
+        let answer = self.send_with(WRITE_WITH, command, count);
+        let heard = heard_by(command.response, &answer);
+        if !is_word(heard) {
+            return (heard, Moved::Good(0));
+        }
+        (
+            heard,
+            moved_by(refused_by(answer[18]), good_by(&answer), count),
+        )
+    }
+
+    // Sends a command with so many blocks after it, and takes the answer: of its response, how many blocks C moved, and what became of
+    // one that failed.
+    fn send_with(&mut self, operation: u8, command: HostCommand, count: usize) -> [u8; 19]
+        ensures { self.new.diary.past ≡ Asked (with_record operation command count) result ∷ self.old.diary.past }
+    {
+        let [_, index, response, direction, a, b, c, d, e, f, g, h] = command_record(command);
+        let [i, j, ..] = count.to_le_bytes();
+        let mut answer = [0; 19];
+        self.ask(
+            &[
+                operation, index, response, direction, a, b, c, d, e, f, g, h, i, j,
+            ],
+            &mut answer,
+        );
+        answer
+    }
+
     /// Reads a block: a good one comes whole, a bad one as a single byte.
-    pub fn read_block(self, block: &mut [u8]) -> DataIn {
+    pub fn read_block(&mut self, block: &mut [u8]) -> DataIn
+        ensures { TellsRead (length block.old) result block.new self.old.diary.past self.new.diary.past }
+    {
         self.tell(&[READ_BLOCK]);
         let length = block.len();
-        let came = io::read_full(self.number, block);
+        let came = self.take(block);
         if came == length {
             DataIn::Good
         } else if came == 0 {
@@ -151,9 +381,13 @@ impl Stream {
     }
 
     /// Writes a block.
-    pub fn write_block(self, block: &[u8; 512]) -> DataOut {
+    pub fn write_block(&mut self, block: &[u8; 512]) -> DataOut
+        ensures { TellsWrite block.now result self.old.diary.past self.new.diary.past }
+    {
         self.tell(&[WRITE_BLOCK]);
-        match self.ask(block) {
+        let mut answer = [0];
+        self.ask(block, &mut answer);
+        match answer[0] {
             1 => DataOut::Accepted,
             2 => DataOut::Rejected,
             _ => DataOut::Nothing,
@@ -161,36 +395,38 @@ impl Stream {
     }
 
     /// Whether the card is busy after so many microseconds.
-    pub fn is_busy(self, micros: u32) -> bool {
+    pub fn is_busy(&mut self, micros: u32) -> bool
+        ensures { TellsLook micros result self.old.diary.past self.new.diary.past }
+    {
         let [a, b, c, d] = micros.to_le_bytes();
-        self.ask(&[LOOK, a, b, c, d]) != 0
+        let mut answer = [0];
+        self.ask(&[LOOK, a, b, c, d], &mut answer);
+        answer[0] != 0
     }
 
     /// Sets lines, timing and clock.
-    pub fn set_ios(self, ios: Ios) {
-        let [a, b, c, d] = ios.max_clock().to_le_bytes();
-        self.tell(&[
-            SET_IOS,
-            lines_number(ios.width),
-            is_high(ios.timing),
-            a,
-            b,
-            c,
-            d,
-        ]);
+    pub fn set_ios(&mut self, ios: Ios)
+        ensures { TellsIos ios self.old.diary.past self.new.diary.past }
+    {
+        self.tell(&ios_record(ios));
     }
 
     /// Waits for so many microseconds.
-    pub fn pause(self, micros: u32) {
+    pub fn pause(&mut self, micros: u32)
+        ensures { TellsPause micros self.old.diary.past self.new.diary.past }
+    {
         let [a, b, c, d] = micros.to_le_bytes();
         self.tell(&[PAUSE, a, b, c, d]);
     }
 
     /// The most lines and the fastest timing; one line at default speed where C says nothing.
-    pub fn limits(self) -> Lines {
-        self.tell(&[LIMITS]);
+    pub fn limits(&mut self) -> Lines
+        ensures told { let past = self.new.diary.past in
+            past ≡ Asked (7 ∷ []) (last_answer past) ∷ self.old.diary.past }
+        ensures limits { result ≡ lines_by (last_answer self.new.diary.past) }
+    {
         let mut answer = [0; 2];
-        let _ = io::read_full(self.number, &mut answer);
+        self.ask(&[LIMITS], &mut answer);
         let [lines, high] = answer;
         Lines {
             width: match lines {
@@ -207,16 +443,37 @@ impl Stream {
     }
 
     /// Reads a register of so many bytes, 1 or 4.
-    pub fn read_register(self, size: u8, offset: u8) -> u32 {
-        self.tell(&[READ_REGISTER, size, offset]);
+    pub fn read_register(&mut self, size: u8, offset: u8) -> u32
+        ensures told { let past = self.new.diary.past in
+            past ≡ Asked (8 ∷ size ∷ offset ∷ []) (last_answer past) ∷ self.old.diary.past }
+        ensures read { result ≡ from_le_bytes w32 (last_answer self.new.diary.past) }
+    {
         let mut answer = [0; 4];
-        let _ = io::read_full(self.number, &mut answer);
+        self.ask(&[READ_REGISTER, size, offset], &mut answer);
         u32::from_le_bytes(answer)
     }
 
     /// Writes a register of so many bytes, 1 or 4.
-    pub fn write_register(self, size: u8, offset: u8, value: u32) {
+    pub fn write_register(&mut self, size: u8, offset: u8, value: u32)
+        ensures { self.new.diary.past ≡ Told (9 ∷ size ∷ offset ∷ to_le_bytes w32 value) ∷ self.old.diary.past }
+    {
         let [a, b, c, d] = value.to_le_bytes();
         self.tell(&[WRITE_REGISTER, size, offset, a, b, c, d]);
+    }
+
+    /// Reads a block from the Buffer Data Port.
+    pub fn read_port(&mut self, block: &mut [u8])
+        ensures { length block.new ≡ length block.old }
+    {
+        self.tell(&[READ_PORT]);
+        let _ = self.take(block);
+    }
+
+    /// Writes a block to the Buffer Data Port.
+    pub fn write_port(&mut self, block: &[u8; 512])
+        ensures { self.new.diary.past ≡ Told block.now ∷ Told (13 ∷ []) ∷ self.old.diary.past }
+    {
+        self.tell(&[WRITE_PORT]);
+        self.tell(block);
     }
 }

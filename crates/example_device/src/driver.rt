@@ -16,6 +16,9 @@ impl Host for Driver {
     // The proofs know no card behind a real controller.
     ghost view = { λ _. unkept_host };
 
+    // No account is kept of what the controller was told.
+    ghost has_told = { λ _ _. Unit {0} };
+
     fn limits(&self) -> Lines {
         Lines {
             width: Width::Four,

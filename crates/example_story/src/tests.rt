@@ -42,6 +42,8 @@ impl Host for Driver {
 
     ghost view = { λ _. unkept_host };
 
+    ghost has_told = { λ _ _. Unit {0} };
+
     fn limits(&self) -> Lines {
         Lines {
             width: Width::Four,

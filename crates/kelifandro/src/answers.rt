@@ -1,4 +1,7 @@
 // The numbers that C knows of answers (`enum kelifandro_result`).
+ghost use Rattle.std.specs.Prelude.{◌≡◌};
+ghost use Rattle.kelifandro.specs.Answers.{answer_number, cause_number, opening_number, refused_number, start_number, unopened_number};
+
 use mmc_bus::Cause;
 use mmc_direct::{NotDone, Refused};
 use mmc_sdhci::StartFault;
@@ -14,7 +17,9 @@ pub const NOT_OPEN: i32 = -1;
 pub const NO_PARTITION: i32 = -2;
 
 // Why a request is refused.
-fn refused_number(refused: Refused) -> i32 {
+fn refused_number(refused: Refused) -> i32
+    ensures { result ≡ refused_number refused }
+{
     match refused {
         Refused::NoSuchPartition => NO_PARTITION,
         Refused::OutOfRange => -3,
@@ -25,7 +30,9 @@ fn refused_number(refused: Refused) -> i32 {
 }
 
 // Why a request failed.
-fn cause_number(cause: Cause) -> i32 {
+fn cause_number(cause: Cause) -> i32
+    ensures { result ≡ cause_number cause }
+{
     match cause {
         Cause::Answer => -10,
         Cause::Data => -11,
@@ -36,7 +43,9 @@ fn cause_number(cause: Cause) -> i32 {
 }
 
 /// What became of a request.
-pub fn answer_number(answer: Result<(), NotDone>) -> i32 {
+pub fn answer_number(answer: Result<(), NotDone>) -> i32
+    ensures { result ≡ answer_number answer }
+{
     match answer {
         Ok(()) => DONE,
         Err(NotDone::Refused(refused)) => refused_number(refused),
@@ -45,7 +54,9 @@ pub fn answer_number(answer: Result<(), NotDone>) -> i32 {
 }
 
 /// Why a card isn't opened.
-pub fn unopened_number(fault: InitializationFault) -> i32 {
+pub fn unopened_number(fault: InitializationFault) -> i32
+    ensures { result ≡ unopened_number fault }
+{
     match fault {
         InitializationFault::Identification(_)
         | InitializationFault::Widening(SwitchFault::Exchange) => -20,
@@ -54,10 +65,22 @@ pub fn unopened_number(fault: InitializationFault) -> i32 {
 }
 
 /// Why a controller isn't ready.
-pub fn start_number(fault: StartFault) -> i32 {
+pub fn start_number(fault: StartFault) -> i32
+    ensures { result ≡ start_number fault }
+{
     match fault {
         StartFault::NoVoltage => -22,
         StartFault::NoBaseClock => -23,
         StartFault::NoCard => -24,
+    }
+}
+
+/// What became of an opening.
+pub fn opening_number(opened: Result<(), InitializationFault>) -> i32
+    ensures { result ≡ opening_number opened }
+{
+    match opened {
+        Ok(()) => DONE,
+        Err(fault) => unopened_number(fault),
     }
 }

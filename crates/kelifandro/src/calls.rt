@@ -1,50 +1,52 @@
-// What a call of C does: opening a card, and going on with one of which a record was kept.
-ghost use Rattle.std.specs.Prelude.{◌+◌, ◌≤◌};
+// What a call of C begins with: the way to the card, and how a card of which a record was kept stands.
+ghost use Rattle.std.specs.Prelude.{◌≡◌, [], Err, IfOk, IsSome, None, Some, false};
+ghost use Rattle.mmc_record.specs.Numbers.{part_of};
+ghost use Rattle.mmc_record.specs.Note.{is_note};
+ghost use Rattle.mmc_host.specs.HostStates.{resting};
+ghost use Rattle.mmc_calls.specs.Noted.{lines_in};
+ghost use Rattle.kelifandro.specs.Answers.{minus};
+ghost use Rattle.kelifandro.specs.Calls.{IsAsNoted, given_of};
 
-use crate::answers::{NOT_OPEN, answer_number, start_number};
+use crate::answers::{NO_PARTITION, NOT_OPEN, start_number};
 use c_host::{Given, Way};
-use mmc_bus::{Bus, Lines};
-use mmc_direct::{Served, Stands};
-use mmc_host::HostBus;
-use mmc_record::{CardRecord, note, note_broken, restored};
-use mmc_sdhci::Buffer;
-use mmc_switch::{InitializationFault, Session, initialize};
+use mmc_bus::{Lines, Part};
+use mmc_calls::stands_by;
+use mmc_direct::Stands;
+use mmc_record::{CardRecord, part_of};
+use mmc_story::{HasStory, StoryHost};
 
-/// The way that C means by this number: 0 a host, 1 registers with room for one block, anything else registers with room for several.
-pub fn given_of(way: u8) -> Given {
+/// The way that C means by this number: 0 a host, anything else registers.
+pub fn given_of(way: u8) -> Given
+    ensures { result ≡ given_of way }
+{
     match way {
         0 => Given::Host,
-        1 => Given::Registers(Buffer::OneBlock),
-        _ => Given::Registers(Buffer::SeveralBlocks),
+        _ => Given::Registers,
     }
 }
 
-/// Opens the card, whatever became of it before. A lost command may make a good card look like another one, so there are three
-/// rounds.
-///
-/// # Errors
-/// What the last of three rounds says.
-pub fn open<B: Bus>(bus: &mut B) -> Result<Session, InitializationFault>
-    ensures { (B.view bus.new).exchanges ≤ (B.view bus.old).exchanges + 294 }
-{
-    if let Ok(session) = initialize(bus) {
-        return Ok(session);
-    }
-    if let Ok(session) = initialize(bus) {
-        return Ok(session);
-    }
-    initialize(bus)
-}
-
-/// The card of a record, with the bus to it, which is as the record says.
+/// How the card of a record stands, the host that it is behind, and the partition that is meant. The host has a diary that begins
+/// with this call.
 ///
 /// # Errors
 /// The number of what is wrong.
-pub fn resume(way: u8, card: &CardRecord) -> Result<(Stands, HostBus<Way>), i32> {
-    let stands = match restored(card) {
-        Some(Ok(session)) => Stands::Ready(session),
-        Some(Err(broken)) => Stands::Loose(broken),
-        None => return Err(NOT_OPEN),
+pub fn go_back<S: HasStory>(
+    way: u8,
+    card: &CardRecord,
+    part: u8,
+) -> Result<(Stands, StoryHost<Way, S>, Part), i32>
+    ensures stands { IfOk result (λ r. IsAsNoted r.0 card.now) }
+    ensures past { IfOk result (λ r. r.1.diary.past ≡ []) }
+    ensures state { IfOk result (λ r. r.1.state ≡ resting (lines_in r.0)) }
+    ensures part { IfOk result (λ r. part_of part ≡ Some r.2) }
+    ensures no_partition { part_of part ≡ None → result ≡ Err (minus 2) }
+    ensures not_open { IsSome (part_of part) → is_note card.now ≡ false → result ≡ Err (minus 1) }
+{
+    let Some(part) = part_of(part) else {
+        return Err(NO_PARTITION);
+    };
+    let Some(stands) = stands_by(card) else {
+        return Err(NOT_OPEN);
     };
     let info = stands.info();
     let lines = Lines {
@@ -52,16 +54,7 @@ pub fn resume(way: u8, card: &CardRecord) -> Result<(Stands, HostBus<Way>), i32>
         timing: info.timing,
     };
     match Way::resume(0, given_of(way), lines) {
-        Ok(host) => Ok((stands, HostBus::resume(host, lines))),
+        Ok(host) => Ok((stands, StoryHost::resume(host, lines), part)),
         Err(fault) => Err(start_number(fault)),
     }
-}
-
-/// Notes how the card stands now, and says what became of the request.
-pub fn answer(card: &mut CardRecord, served: Served) -> i32 {
-    *card = match &served.stands {
-        Stands::Ready(session) => note(session),
-        Stands::Loose(broken) => note_broken(broken),
-    };
-    answer_number(served.answer)
 }

@@ -1,5 +1,5 @@
 -- What a turn does over any bus.
-use Rattle.std.proofs.Common.{◌*◌, ◌++◌, ◌+◌, ◌<◌, ◌∙◌, ◌∷◌, ◌≡◌, ◌⊎◌, Bool, List, [], ap, append-nil, arith}
+use Rattle.std.proofs.Common.{◌≤◌, ◌*◌, ◌++◌, ◌+◌, ◌<◌, ◌∙◌, ◌∷◌, ◌≡◌, ◌⊎◌, Bool, List, [], ap, append-nil, arith}
 use Rattle.std.proofs.Common.{inl, inr, length, length-append, map, refl, subst, ℕ}
 use Rattle.mmc_bus.specs.declared.cause.Cause.{Cause}
 use Rattle.mmc_card.specs.BusView.{BusView}
@@ -16,6 +16,11 @@ use Rattle.mmc_block.specs.Groups.{AreInOrder, PassNone}
 use Rattle.mmc_block.specs.Machine.{IsMerged, PassesNone, Waiting}
 use Rattle.mmc_block.specs.Service.{AfterFailure, AreAll, AttemptOk, Concludes, HasStarted, IsNext}
 use Rattle.mmc_block.specs.Service.{in_service_of}
+use Rattle.mmc_block.specs.declared.service.Stage.TheVariants as at
+use Rattle.mmc_block.specs.declared.service.Link.TheVariants as link
+use Rattle.mmc_recovery.specs.declared.settling.TheConstants.{EXCHANGES_OF_A_SETTLE}
+use Rattle.mmc_transfer.specs.declared.pace.Pace.{Pace}
+use Rattle.mmc_transfer.specs.declared.pace.Pace.TheVariants.{Exchange}
 use Rattle.mmc_block.specs.Work.{IsCauseAfter, IsCausedBy, is_down, most_at, most_exchanges, service_left}
 use Rattle.mmc_block.specs.declared.completion.Answer.TheVariants.{Failed as FailedFor}
 use Rattle.mmc_block.specs.declared.completion.Completion.{Completion}
@@ -257,12 +262,31 @@ started_broken old left Taken stage attempt s = absurd s
 
 -- Exchanges.
 
-pub started_most : (old left : List Entry) (service : Service) (stage : Stage) (attempt : Attempt)
-    → HasStarted old service left (Serving stage attempt) → most_at stage ≡ most_exchanges service
-started_most old left (Idle link) stage attempt (inl s) = let e = s.2 in cc
-started_most old left (Idle link) stage attempt (inr s) = let e = s.1 in ap most_exchanges e
-started_most old left (Serving st attempt') stage attempt s = ap most_exchanges s.0
-started_most old left Taken stage attempt s = absurd s
+pub started_most : (pace : Pace) (old left : List Entry) (service : Service) (stage : Stage) (attempt : Attempt)
+    → HasStarted old service left (Serving stage attempt) → most_at pace stage ≡ most_exchanges pace service
+started_most pace old left (Idle link) stage attempt (inl s) = let e = s.2 in cc
+started_most pace old left (Idle link) stage attempt (inr s) = let e = s.1 in ap (most_exchanges pace) e
+started_most pace old left (Serving st attempt') stage attempt s = ap (most_exchanges pace) s.0
+started_most pace old left Taken stage attempt s = absurd s
+
+-- one exchange, a select or a settle
+few_at : (stage : Stage) → most_at Exchange stage ≤ EXCHANGES_OF_A_SETTLE
+few_at (at.At (link.Down broken)) = omega arith
+few_at (at.At (link.Up session)) = omega arith
+few_at (at.Running run) = omega arith
+
+pub few_exchanges : (service : Service) → most_exchanges Exchange service ≤ EXCHANGES_OF_A_SETTLE
+few_exchanges (Idle up) = few_at (at.At up)
+few_exchanges (Serving stage attempt) = few_at stage
+few_exchanges Taken = omega arith
+
+-- where nothing goes into service nothing is left
+pub nothing_left : (old left : List Entry) (service : Service) (link : Link) → HasStarted old service left (Idle link)
+    → TURNS_OF_A_REQUEST * length (waits_of left) + service_left (Idle link) ≡ 0
+nothing_left old left (Idle last) link (inl s) = rw s.1 (omega arith)
+nothing_left old left (Idle last) link (inr s) = let e = s.1 in cc
+nothing_left old left (Serving st attempt') link s = let e = s.0 in cc
+nothing_left old left Taken link s = absurd s
 
 pub cause_served : (old left : List Entry) (service new : Service) (stage : Stage) (attempt after : Attempt)
     (o : Progress Stage) (cs : List Completion) (view : BusView) → HasStarted old service left (Serving stage attempt)

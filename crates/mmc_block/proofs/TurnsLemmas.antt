@@ -1,11 +1,12 @@
 -- Turns one behind the other.
-use Rattle.std.proofs.Common.{◌*◌, ◌+◌, ◌++◌, ◌<◌, ◌∙◌, ◌∷◌, ◌≡◌, ◌≤◌, List, [], ap, arith, append_assoc, append-nil, cond, length, length-append}
+use Rattle.std.proofs.Common.{◌*◌, ◌+◌, ◌++◌, ◌∙◌, ◌∷◌, ◌≡◌, ◌≤◌, List, [], ap, arith, append_assoc, append-nil, cond, length, length-append}
 use Rattle.std.proofs.Common.{inl, inr, refl, subst, sym, true, zero-add, ℕ}
 use Rattle.std.proofs.lemmas.List.{replicate-append-replicate}
 use Rattle.std.proofs.lemmas.List.Sums.{sum_by-append}
 use Rattle.std.specs.Prelude.{◌&&◌, ◌==◌, replicate}
 use Rattle.mmc_card.specs.BusView.{BusView}
 use Rattle.mmc_bus.proofs.WorkLemmas.{stays_same, stays_then}
+use Rattle.mmc_transfer.specs.declared.pace.Pace.{Pace}
 use Rattle.mmc_recovery.specs.declared.settling.TheConstants.{EXCHANGES_OF_A_SETTLE}
 use Rattle.mmc_switch.specs.declared.info.Info.{Info}
 use Rattle.mmc_block.specs.declared.completion.Completion.{Completion}
@@ -146,9 +147,9 @@ turns_none view start = record {
   bounded = omega arith;
 }
 
-pub turns_then : {B : Type 0} (view : B → BusView) (start mid now : DeviceView B) (given cs : List Completion)
-    → TurnsSoFar view start mid given → 0 < work_of mid → IsTurn view mid cs now → TurnsSoFar view start now (given ++ cs)
-turns_then view start mid now given cs so_far some turn = record {
+pub turns_then : {B : Type 0} (view : B → BusView) (pace : Pace) (start mid now : DeviceView B) (given cs : List Completion)
+    → TurnsSoFar view start mid given → IsTurn view pace mid cs now → TurnsSoFar view start now (given ++ cs)
+turns_then view pace start mid now given cs so_far turn = record {
   comes = λ kept c agrees.
       let first = so_far.comes (turn.kept kept) c agrees in
       let (between, taken, agrees_between) = first.1 in
@@ -172,7 +173,7 @@ turns_then view start mid now given cs so_far some turn = record {
   counted = let n = so_far.counted in let m = turn.leaves in let k = length-append given cs in omega (arith, n, m, k);
   info = turn.same.0 ∙ so_far.info;
   next = turn.same.1 ∙ so_far.next;
-  bounded = let n = so_far.bounded in let m = turn.bounded in let k = turn.lowers some in omega (arith, n, m, k);
+  bounded = let n = so_far.bounded in let m = turn.paid in omega (arith, n, m);
 }
 
 asked_none : (client ticket : ℕ) (ws : List Waiting) → length ws ≡ 0 → asked_by client ticket ws ≡ 0

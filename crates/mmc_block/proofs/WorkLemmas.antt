@@ -20,7 +20,9 @@ use Rattle.mmc_block.specs.declared.service.Stage.TheVariants.{At}
 use Rattle.mmc_block.specs.declared.work.TheConstants.{TURNS_OF_AN_ATTEMPT, TURNS_OF_A_REQUEST, TURNS_OF_A_RUN}
 use Rattle.mmc_block.specs.Entries.{waits_of}
 use Rattle.mmc_block.specs.Service.{AfterFailure, Concludes, HasStarted, IsFirstTry, IsNext, tries}
-use Rattle.mmc_block.specs.Work.{Lowers, attempts_left, is_on, service_left, split, stage_left}
+use Rattle.mmc_card.specs.BusView.{BusView}
+use Rattle.mmc_recovery.specs.declared.settling.TheConstants.{EXCHANGES_OF_A_SETTLE}
+use Rattle.mmc_block.specs.Work.{Lowers, Pays, attempts_left, left_behind, is_on, service_left, split, stage_left}
 
 -- Attempts.
 
@@ -200,3 +202,57 @@ turn_work old later service new stage attempt turned outcome completions started
     let lowers' : Lowers left turned.group.extent.part outcome = rw run lowers in
     let turn = concluded_left left outcome turned new completions lowers' after in
     omega (arith, at_start, count, turn)
+
+-- The exchanges of a turn are paid for: the work that is left falls by as much as what was left of the attempt, or more.
+
+failed_drops : (left d : ℕ) (broken : Broken) (members : List Entry) (again : ℕ) (others : List Entry) (service : Service)
+    (completions : List Completion) → d ≤ left → AfterFailure broken members others service completions
+    → service_left service + d ≤ left + TURNS_OF_AN_ATTEMPT * (again + split members + 4 * length others)
+failed_drops left d broken [] again others service completions few after = absurd after
+failed_drops left d broken (e ∷ []) again others service completions few after =
+    let next = next_left (Down broken) others service after.0 in
+    omega (arith, next, few)
+failed_drops left d broken (e ∷ f ∷ es) again others service completions few after =
+    let next = next_left (Down broken) (e ∷ f ∷ es) service after.0 in
+    omega (arith, next, few)
+
+concluded_drops : (left d : ℕ) (outcome : Progress Stage) (attempt : Attempt) (service : Service)
+    (completions : List Completion) → left_behind attempt.group.extent.part outcome + d ≤ left
+    → Concludes outcome attempt service completions → service_left service + d ≤ left_with left attempt
+concluded_drops left d (More stage) attempt service completions drops after = rw after.0 (omega (arith, drops))
+concluded_drops left d (Done session) attempt service completions drops after =
+    let next = next_left (Up session) attempt.others.items service after.0 in
+    omega (arith, next, drops)
+concluded_drops left d (Failed broken) attempt service completions drops (inl again) =
+    let less = one_less (tries attempt.group.members.items) attempt.failed again.0 in
+    rw again.1 (omega (arith, less, drops))
+concluded_drops left d (Failed broken) attempt service completions drops (inr last) =
+    failed_drops left d broken attempt.group.members.items (tries attempt.group.members.items - (attempt.failed + 1))
+    attempt.others.items service completions (omega (arith, drops)) last.1
+
+no_more : (left : ℕ) (part : Part) (o : Progress Stage) → Lowers left part o → left_behind part o ≤ left
+no_more left part (More stage) lowers = omega (arith, lowers)
+no_more left part (Done session) lowers = omega arith
+no_more left part (Failed broken) lowers = omega arith
+
+pub turn_paid : (old later : List Entry) (service new : Service) (stage : Stage) (attempt turned : Attempt)
+    (outcome : Progress Stage) (completions : List Completion) (was now : BusView)
+    → HasStarted old service later (Serving stage attempt)
+    → AreLent attempt.group.members.items turned.group.members.items → turned.group.extent ≡ attempt.group.extent
+    → turned.others ≡ attempt.others → turned.failed ≡ attempt.failed
+    → Lowers (stage_left stage attempt.group.extent.part) attempt.group.extent.part outcome
+    → Pays attempt.group.extent.part (stage_left stage attempt.group.extent.part) was outcome now
+    → Concludes outcome turned new completions
+    → now.exchanges + EXCHANGES_OF_A_SETTLE * (TURNS_OF_A_REQUEST * length (waits_of later) + service_left new)
+    ≤ was.exchanges + EXCHANGES_OF_A_SETTLE * (TURNS_OF_A_REQUEST * length (waits_of old) + service_left service)
+turn_paid old later service new stage attempt turned outcome completions was now started lent run others failed lowers paid
+    after =
+    let left : ℕ = stage_left stage attempt.group.extent.part in
+    let at_start = started_left old later service stage attempt started in
+    let count = lent_attempts attempt turned lent others failed in
+    let few = no_more left attempt.group.extent.part outcome lowers in
+    let d : ℕ = left - left_behind attempt.group.extent.part outcome in
+    let drops : left_behind turned.group.extent.part outcome + d ≤ left = rw run (omega (arith, few)) in
+    let turn = concluded_drops left d outcome turned new completions drops after in
+    let gone : left_behind attempt.group.extent.part outcome + d ≡ left = omega (arith, few) in
+    omega (arith, at_start, count, turn, paid, gone)

@@ -12,7 +12,8 @@ use Rattle.mmc_switch.specs.Place.{IsReady}
 use Rattle.mmc_switch.specs.declared.session.Session.{Session}
 use Rattle.mmc_block.specs.Service.{Did, IsAt, IsOutcomeOf, IsUnderWay, IsWorkOf, change_of_group, info_of_outcome}
 use Rattle.mmc_block.specs.Service.{info_of_stage, session_of}
-use Rattle.mmc_block.specs.Work.{IsCausedBy, Lowers, is_down, most_at, run_left, stage_left}
+use Rattle.mmc_transfer.specs.declared.pace.Pace.{Pace}
+use Rattle.mmc_block.specs.Work.{IsCausedBy, Lowers, Pays, is_down, most_at, run_left, stage_left}
 use Rattle.mmc_block.specs.declared.service.Stage.{Stage}
 use Rattle.mmc_block.specs.declared.service.Work.{Work}
 use Rattle.mmc_block.specs.declared.work.TheConstants.{TURNS_OF_A_RUN}
@@ -38,13 +39,14 @@ pub record Advances (info : Info) (down : Bool) (most left : ℕ) (old : Group) 
   pub lowers : Lowers left old.extent.part outcome
   -- so many exchanges at most, and where it fails their cause
   pub bounded : now.exchanges ≤ was.exchanges + most
+  pub paid : Pays old.extent.part left was outcome now
   pub kept : now.is_kept ≡ true → was.is_kept ≡ true
   pub cause : IsCausedBy down outcome now
 
 -- What a step leaves of an attempt that had come so far: the above, by requests that the device can serve; and over a bus that
 -- is kept, what it does to the sectors, after so many faults in the turns of its run.
-pub record Stepped (stage : Stage) (old : Group) (was : BusView) (outcome : Progress Stage) (new : Group) (now : BusView) : Type 0 where
-  pub advances : Advances (info_of_stage stage) (is_down stage) (most_at stage) (stage_left stage old.extent.part) old was outcome new now
+pub record Stepped (pace : Pace) (stage : Stage) (old : Group) (was : BusView) (outcome : Progress Stage) (new : Group) (now : BusView) : Type 0 where
+  pub advances : Advances (info_of_stage stage) (is_down stage) (most_at pace stage) (stage_left stage old.extent.part) old was outcome new now
   pub servable : AreServable (info_of_stage stage) new.members.items
   pub did : now.is_kept ≡ true → (faults : ℕ) → IsAt stage old faults was
       → Did (change_of_group (info_of_stage stage) old) new (faults_then faults was now) was outcome now

@@ -13,6 +13,8 @@ use Rattle.mmc_queue.specs.declared.entry.Entry.{Entry}
 use Rattle.mmc_queue.specs.declared.extent.TheConstants.{MAX_GROUP}
 use Rattle.mmc_recovery.specs.declared.settling.TheConstants.{EXCHANGES_OF_A_SETTLE}
 use Rattle.mmc_switch.specs.declared.mmc.TheConstants.{EXCHANGES_OF_A_SWITCH}
+use Rattle.mmc_transfer.specs.declared.pace.Pace.{Pace}
+use Rattle.mmc_transfer.specs.declared.pace.Pace.TheVariants.{Exchange, Transfer}
 use Rattle.mmc_block.specs.Service.{tries}
 use Rattle.mmc_block.specs.declared.service.Attempt.{Attempt}
 use Rattle.mmc_block.specs.declared.service.Link.{Link}
@@ -81,18 +83,38 @@ service_left (Serving stage attempt) =
     stage_left stage attempt.group.extent.part + TURNS_OF_AN_ATTEMPT * attempts_left attempt
 service_left Taken = 0
 
+-- what is left of an attempt behind a turn
+abbrev pub left_behind : Part → Progress Stage → ℕ
+left_behind part (More stage) = stage_left stage part
+left_behind part _ = 0
+
 -- Exchanges.
 
--- how many exchanges a turn may make at most: those of a settle, of a select, or one of a run
-abbrev pub most_at : Stage → ℕ
-most_at (At (Down broken)) = EXCHANGES_OF_A_SETTLE
-most_at (At (Up session)) = EXCHANGES_OF_A_SWITCH
-most_at (Running work) = 1
+-- Those of a turn are paid for by the work that is left, a settle's for each.
+abbrev pub Pays : Part → ℕ → BusView → Progress Stage → BusView → Type 0
+Pays part left was outcome now =
+    now.exchanges + EXCHANGES_OF_A_SETTLE * left_behind part outcome ≤ was.exchanges + EXCHANGES_OF_A_SETTLE * left
 
-abbrev pub most_exchanges : Service → ℕ
-most_exchanges (Idle link) = most_at (At link)
-most_exchanges (Serving stage attempt) = most_at stage
-most_exchanges Taken = 0
+-- how many exchanges of a run a turn may make at most: one, or all that are left
+abbrev pub most_of_run : Pace → ℕ → ℕ
+most_of_run Exchange left = 1
+most_of_run Transfer left = left
+
+-- and of a card that is ready: those of a select, or of a run that begins
+abbrev pub most_ready : Pace → ℕ
+most_ready Exchange = EXCHANGES_OF_A_SWITCH
+most_ready Transfer = TURNS_OF_A_RUN
+
+-- how many exchanges a turn may make at most: those of a settle, of a select, or of a run
+abbrev pub most_at : Pace → Stage → ℕ
+most_at pace (At (Down broken)) = EXCHANGES_OF_A_SETTLE
+most_at pace (At (Up session)) = most_ready pace
+most_at pace (Running work) = most_of_run pace (run_left work)
+
+abbrev pub most_exchanges : Pace → Service → ℕ
+most_exchanges pace (Idle link) = most_at pace (At link)
+most_exchanges pace (Serving stage attempt) = most_at pace stage
+most_exchanges pace Taken = 0
 
 -- Causes.
 

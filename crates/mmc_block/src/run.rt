@@ -8,6 +8,7 @@ use crate::conclude::Completions;
 use crate::device::BlockDev;
 use arrayvec::ArrayVec;
 use mmc_bus::Bus;
+use mmc_transfer::Pace;
 use std::alloc::{AllocError, Global};
 
 // Moves answers behind others, for which there is room.
@@ -52,7 +53,7 @@ impl<B: Bus> BlockDev<B> {
         let mut answers = Vec::with_capacity(alloc, self.waiting())?;
         let mut given = ArrayVec::new();
         while self.work_left() > 0 {
-            self.turn_into(&mut given);
+            self.turn_at(Pace::Transfer, &mut given);
             append(&mut answers, &mut given);
         }
         Ok(answers)

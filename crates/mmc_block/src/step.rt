@@ -8,13 +8,16 @@ ghost use Rattle.mmc_recovery.specs.declared.settling.TheConstants.{EXCHANGES_OF
 ghost use Rattle.mmc_switch.specs.Place.{IsLoose, IsReady};
 ghost use Rattle.mmc_switch.specs.UnderWay.{FailsBy, faults_then};
 ghost use Rattle.mmc_switch.specs.declared.mmc.TheConstants.{EXCHANGES_OF_A_SWITCH};
+ghost use Rattle.mmc_transfer.specs.First.{Nears};
+ghost use Rattle.mmc_transfer.specs.declared.pace.Pace.{Pace};
+ghost use Rattle.mmc_transfer.specs.declared.pace.Pace.TheVariants.{Exchange};
 ghost use Rattle.mmc_transfer.specs.Run.{HasTurned, IsRunning, IsSameRun, Lowers as LowersBlocks, run_then};
 ghost use Rattle.mmc_block.specs.Entries.{AreServable};
 ghost use Rattle.mmc_block.specs.Service.{Did, IfAt, IfReady, IfRunning, IfServing, IsHere, IsStageOf, IsUnderWay, IsWorkOf};
 ghost use Rattle.mmc_block.specs.Service.{change_of_group, info_of, info_of_link, info_of_stage, lent_for, outcome_of, session_of};
 ghost use Rattle.mmc_block.specs.Service.{work_then};
 ghost use Rattle.mmc_block.specs.Step.{Advances, HasBegun, Stepped};
-ghost use Rattle.mmc_block.specs.Work.{IsElsewhere, is_on, run_left, stage_left};
+ghost use Rattle.mmc_block.specs.Work.{IsElsewhere, is_on, most_of_run, run_left, stage_left};
 ghost use Rattle.mmc_block.specs.declared.service.Link.{Link};
 ghost use Rattle.mmc_block.specs.declared.service.Link.TheVariants.{Down, Up};
 ghost use Rattle.mmc_block.specs.declared.service.Phase.TheVariants.{Serving};
@@ -32,7 +35,7 @@ use mmc_queue::laws::{
 use mmc_queue::{Group, Kind};
 use mmc_recovery::settle;
 use mmc_switch::{Broken, Progress, Session, Standing, select};
-use mmc_transfer::{Run, Way};
+use mmc_transfer::{Pace, Run, Way};
 use std::mem;
 
 // Begins the run of a group, whose partition is selected.
@@ -53,15 +56,16 @@ fn begin(session: Session, group: &Group) -> Work
     }
 }
 
-// The next exchange of a run that moves blocks.
-fn move_on<B: Bus>(bus: &mut B, run: &mut Run, group: &mut Group) -> Standing
+// The next exchange of a run that moves blocks, or all that the bus moves with a command.
+fn move_on<B: Bus>(bus: &mut B, run: &mut Run, group: &mut Group, pace: Pace) -> Standing
     requires joined { IsJoined group.old.members.items group.old.extent }
     requires of { IsWorkOf group.old (Blocks run.old) }
     ensures lent { AreLent group.old.members.items group.new.members.items }
     ensures extent { group.new.extent ≡ group.old.extent }
     ensures joined { IsJoined group.new.members.items group.new.extent }
     ensures writes { group.old.extent.kind ≡ kind.Write → group.new ≡ group.old }
-    ensures bounded { (B.view bus.new).exchanges ≤ (B.view bus.old).exchanges + 1 }
+    ensures bounded { pace ≡ Exchange → (B.view bus.new).exchanges ≤ (B.view bus.old).exchanges + 1 }
+    ensures nears { Nears run.old (B.view bus.old) (run_then run.new result) (B.view bus.new) }
     ensures kept { (B.view bus.new).is_kept ≡ true → (B.view bus.old).is_kept ≡ true }
     ensures same { IsSameRun run.old (run_then run.new result) }
     ensures lowers { LowersBlocks run.old (run_then run.new result) }
@@ -72,17 +76,17 @@ fn move_on<B: Bus>(bus: &mut B, run: &mut Run, group: &mut Group) -> Standing
     a_group_lends_each_sector_of_its_extent();
     a_lent_group_keeps_its_requests();
     match group.extent.kind {
-        Kind::Read => run.read_turn(bus, group),
-        Kind::Write | Kind::Erase | Kind::Trim => run.write_turn(bus, &group.writes()),
+        Kind::Read => run.read_on(bus, group, pace),
+        Kind::Write | Kind::Erase | Kind::Trim => run.write_on(bus, &group.writes(), pace),
     }
 }
 
 // The next exchange of a run, which is advanced where it stands: a turn in the middle of a run moves no session.
 #[tactic(auto, using(crate::proofs::StepLemmas::same_lent))]
-fn exchange<B: Bus>(bus: &mut B, work: &mut Work, group: &mut Group) -> Standing
+fn exchange<B: Bus>(bus: &mut B, work: &mut Work, group: &mut Group, pace: Pace) -> Standing
     requires joined { IsJoined group.old.members.items group.old.extent }
     requires of { IsWorkOf group.old work.old }
-    ensures advances { Advances (info_of (session_of work.old)) false 1 (run_left work.old) group.old (B.view bus.old) (work_then work.new result) group.new (B.view bus.new) }
+    ensures advances { Advances (info_of (session_of work.old)) false (most_of_run pace (run_left work.old)) (run_left work.old) group.old (B.view bus.old) (work_then work.new result) group.new (B.view bus.new) }
     ensures did { (B.view bus.new).is_kept ≡ true → (faults : ℕ) → IsUnderWay work.old group.old faults (B.view bus.old)
         → Did (change_of_group (info_of (session_of work.old)) group.old) group.new (faults_then faults (B.view bus.old) (B.view bus.new))
         (B.view bus.old) (work_then work.new result) (B.view bus.new) }
@@ -91,7 +95,7 @@ fn exchange<B: Bus>(bus: &mut B, work: &mut Work, group: &mut Group) -> Standing
     a_group_lends_each_sector_of_its_extent();
     a_group_lends_the_blocks_of_its_members();
     match work {
-        Work::Blocks(run) => move_on(bus, run, group),
+        Work::Blocks(run) => move_on(bus, run, group, pace),
         Work::Erase(run) => run.turn(bus),
     }
 }
@@ -169,14 +173,14 @@ fn end(phase: &mut Phase, standing: Standing)
 }
 
 // One exchange of a run that is under way. In the middle of the run the phase isn't moved.
-fn go_on<B: Bus>(bus: &mut B, phase: &mut Phase, group: &mut Group)
+fn go_on<B: Bus>(bus: &mut B, phase: &mut Phase, group: &mut Group, pace: Pace)
     requires joined { IsJoined group.old.members.items group.old.extent }
     requires running { IfRunning phase.old (λ work. AreServable (info_of (session_of work)) group.old.members.items × IsWorkOf group.old work) }
     ensures held { IsHere phase.new }
-    ensures stepped { IfRunning phase.old (λ work. (was : Stage) → Stepped (Running work) group.old (B.view bus.old) (outcome_of was phase.new) group.new (B.view bus.new)) }
+    ensures stepped { IfRunning phase.old (λ work. (was : Stage) → Stepped pace (Running work) group.old (B.view bus.old) (outcome_of was phase.new) group.new (B.view bus.new)) }
 {
     match phase {
-        Phase::Serving(Stage::Running(work)) => match exchange(bus, work, group) {
+        Phase::Serving(Stage::Running(work)) => match exchange(bus, work, group, pace) {
             Standing::GoesOn => {}
             standing => end(phase, standing),
         },
@@ -212,15 +216,15 @@ fn begin_here(phase: &mut Phase, group: &Group)
 
 // The run begins, with its first exchange.
 #[inline(never)]
-fn set_out<B: Bus>(bus: &mut B, phase: &mut Phase, group: &mut Group)
+fn set_out<B: Bus>(bus: &mut B, phase: &mut Phase, group: &mut Group, pace: Pace)
     requires joined { IsJoined group.old.members.items group.old.extent }
     requires ready { IfReady phase.old (λ session. AreServable (info_of session) group.old.members.items
         × (session.selected ≡ Some group.old.extent.part)) }
     ensures held { IsHere phase.new }
-    ensures stepped { IfReady phase.old (λ session. (was : Stage) → Stepped (At (Up session)) group.old (B.view bus.old) (outcome_of was phase.new) group.new (B.view bus.new)) }
+    ensures stepped { IfReady phase.old (λ session. (was : Stage) → Stepped pace (At (Up session)) group.old (B.view bus.old) (outcome_of was phase.new) group.new (B.view bus.new)) }
 {
     begin_here(phase, group);
-    go_on(bus, phase, group);
+    go_on(bus, phase, group, pace);
 }
 
 // From a card that no run can begin with yet.
@@ -228,7 +232,7 @@ fn depart<B: Bus>(bus: &mut B, link: Link, group: &Group) -> Progress<Stage>
     requires joined { IsJoined group.now.members.items group.now.extent }
     requires servable { AreServable (info_of_link link) group.now.members.items }
     requires elsewhere { IsElsewhere group.now.extent.part link }
-    ensures stepped { Stepped (At link) group.now (B.view bus.old) result group.now (B.view bus.new) }
+    ensures stepped { (pace : Pace) → Stepped pace (At link) group.now (B.view bus.old) result group.now (B.view bus.new) }
 {
     match link {
         Link::Up(session) => change_over(bus, session, group),
@@ -242,7 +246,7 @@ fn prepare<B: Bus>(bus: &mut B, phase: &mut Phase, group: &Group)
     requires joined { IsJoined group.now.members.items group.now.extent }
     requires at { IfAt phase.old (λ link. AreServable (info_of_link link) group.now.members.items × IsElsewhere group.now.extent.part link) }
     ensures held { IsHere phase.new }
-    ensures stepped { IfServing phase.old (λ stage. Stepped stage group.now (B.view bus.old) (outcome_of stage phase.new) group.now (B.view bus.new)) }
+    ensures stepped { (pace : Pace) → IfServing phase.old (λ stage. Stepped pace stage group.now (B.view bus.old) (outcome_of stage phase.new) group.now (B.view bus.new)) }
 {
     *phase = match mem::replace(phase, Phase::Taken) {
         Phase::Serving(Stage::At(link)) => left(depart(bus, link, group)),
@@ -251,17 +255,17 @@ fn prepare<B: Bus>(bus: &mut B, phase: &mut Phase, group: &Group)
 }
 
 /// One settle, one select, or one exchange, and the phase says what is left: the attempt, or the card where the attempt is over.
-pub fn step<B: Bus>(bus: &mut B, phase: &mut Phase, group: &mut Group)
+pub fn step<B: Bus>(bus: &mut B, phase: &mut Phase, group: &mut Group, pace: Pace)
     requires joined { IsJoined group.old.members.items group.old.extent }
     requires serving { IfServing phase.old (λ stage. AreServable (info_of_stage stage) group.old.members.items × IsStageOf group.old stage) }
     ensures held { IsHere phase.new }
-    ensures stepped { IfServing phase.old (λ stage. Stepped stage group.old (B.view bus.old) (outcome_of stage phase.new) group.new (B.view bus.new)) }
+    ensures stepped { IfServing phase.old (λ stage. Stepped pace stage group.old (B.view bus.old) (outcome_of stage phase.new) group.new (B.view bus.new)) }
 {
     match phase {
-        Phase::Serving(Stage::Running(_)) => go_on(bus, phase, group),
+        Phase::Serving(Stage::Running(_)) => go_on(bus, phase, group, pace),
         Phase::Serving(Stage::At(_)) | Phase::Idle(_) | Phase::Taken => {
             if can_begin(phase, group.extent.part) {
-                set_out(bus, phase, group);
+                set_out(bus, phase, group, pace);
             } else {
                 prepare(bus, phase, group);
             }

@@ -16,8 +16,9 @@ use Rattle.mmc_card.proofs.CardAll.{card_left}
 use Rattle.mmc_card.proofs.Narrow.{both}
 use Rattle.mmc_card.specs.Blocks.{programmed, rested}
 use Rattle.mmc_card.specs.BusView.{BusView}
-use Rattle.mmc_card.specs.Card.{Card, IsCard, is_in, is_selected}
-use Rattle.mmc_card.specs.CardAnswer.{Choice, counted, left_with, shown, status}
+use Rattle.mmc_card.specs.Card.{Card, IsCard, is_in, is_selected, patience}
+use Rattle.mmc_card.specs.CardAnswer.{Choice, counted, left_with, shown}
+use Rattle.mmc_card.specs.Judged.{ShowsItself}
 use Rattle.mmc_card.specs.CardLaws.{HasNoErrorOfItsOwn, IsInOrder}
 use Rattle.mmc_card.specs.Faults.{NoFault}
 use Rattle.mmc_card.specs.RowsIdentify.{at_work, lagging, may_lag}
@@ -93,7 +94,7 @@ pub record Asking (kind : Kind) (rca : ℕ) (old : BusView) (statuses : ℕ) (no
       → IsInOrder kind now.card × (now.card.app ≡ false) × (now.card.rca ≡ rca)
       × (now.card.polled ≡ old.card.polled + statuses)
   pub few : NoFault old now → IsInOrder kind old.card → old.card.app ≡ false → old.card.rca ≡ rca → 0 < statuses
-      → now.card.polled ≤ 8
+      → now.card.polled ≤ patience
 
 pub asking_none : (kind : Kind) (rca : ℕ) (old : BusView) → old.is_kept ≡ true → Asking kind rca old 0 old
 asking_none kind rca old kept = record {
@@ -115,7 +116,7 @@ asking_on kind rca old statuses now new p q =
     let own = q.own in
     let after : (same : NoFault old new) (order : IsInOrder kind old.card) (app : old.card.app ≡ false)
     (is : old.card.rca ≡ rca) → IsInOrder kind now.card × (now.card.app ≡ false) × (now.card.rca ≡ rca)
-    × (now.card.polled ≡ old.card.polled + statuses) × (now.card.polled < 8)
+    × (now.card.polled ≡ old.card.polled + statuses) × (now.card.polled < patience)
     × (new.card.polled ≡ now.card.polled + 1) =
     λ same order app is.
     let parts = quiet_parts old now new p.stays q.stays same in
@@ -152,7 +153,7 @@ abbrev pub Confirms : Kind → ℕ → ℕ → Result Unit Cause → BusView →
 Confirms kind rca most r =
     Worked Narrows
     (λ old new. IsOk r → IsInOrder kind old.card × (new.card ≡ record (shown old.card) { polled = new.card.polled }))
-    (λ old new. IsInOrder kind old.card → old.card.app ≡ false → old.card.rca ≡ rca → 8 < old.card.polled + most → IsOk r)
+    (λ old new. IsInOrder kind old.card → old.card.app ≡ false → old.card.rca ≡ rca → patience < old.card.polled + most → IsOk r)
 
 -- the next one is clean
 pub asked_clean : (kind : Kind) (rca most : ℕ) (old : BusView) (statuses : ℕ) (now new : BusView)
@@ -261,28 +262,28 @@ ended kind rca polls most r a b c is_most p q =
 
 abbrev pub OwnLaw : Type 0
 OwnLaw =
-    (kind : Kind) (app : Bool) (card : Card) → IsCard card
-    → ((error_bits kind (own_status (status app card)) ≡ 0) ↔ HasNoErrorOfItsOwn kind card)
+    (kind : Kind) (told : ℕ) (card : Card) → IsCard card → ShowsItself card told
+    → ((error_bits kind (own_status told) ≡ 0) ↔ HasNoErrorOfItsOwn kind card)
 
 abbrev pub CleanLaw : Type 0
 CleanLaw =
-    (kind : Kind) (app : Bool) (card : Card) → IsCard card
-    → (IsClean kind (own_status (status app card)) ↔ IsInOrder kind card)
+    (kind : Kind) (told : ℕ) (card : Card) → IsCard card → ShowsItself card told
+    → (IsClean kind (own_status told) ↔ IsInOrder kind card)
 
 abbrev pub LagLaw : Type 0
 LagLaw =
-    (kind : Kind) (choice : Choice) (card : Card) → IsCard card
-    → (IsAtWork kind (own_status (status false (at_work choice card))) ↔ HasNoErrorOfItsOwn kind card)
+    (kind : Kind) (choice : Choice) (told : ℕ) (card : Card) → IsCard card → ShowsItself (at_work choice card) told
+    → (IsAtWork kind (own_status told) ↔ HasNoErrorOfItsOwn kind card)
 
 abbrev pub UncleanLaw : Type 0
 UncleanLaw =
-    (kind : Kind) (choice : Choice) (card : Card) → IsCard card
-    → IsClean kind (own_status (status false (at_work choice card))) → ⊥
+    (kind : Kind) (choice : Choice) (told : ℕ) (card : Card) → IsCard card → ShowsItself (at_work choice card) told
+    → IsClean kind (own_status told) → ⊥
 
 lagged : (old new : Card) → may_lag old ≡ true → new ≡ lagging old → HasLagged old new
 lagged old new may e =
     let soon = both old.lags _ (both (is_in old.state Tran) _ may).1 in
-    let below : old.polled < 8 = ltb-true old.polled 8 soon.1 in
+    let below : old.polled < patience = ltb-true old.polled patience soon.1 in
     let count : new.polled ≡ counted old.polled = ap (λ (c : Card). c.polled) e in
     (soon.0, below, omega (arith, below, count))
 
@@ -293,16 +294,17 @@ lagging_shown old new e = subst (HasShown old) (sym e) refl
 told_by : (old new : Card) (heard : Result ℕ Unheard) → IsCard old
     → ((told : ℕ) → heard ≡ Ok told → LeftOver (λ card. TellsStatus card told new) old)
     → (P : ℕ → Type 0) (X : Type 0) → (told : ℕ) × (heard ≡ Ok told) × P (own_status told)
-    → ((left : ℕ) → IsCard (left_with left old) → P (own_status (status false (left_with left old))) → new ≡ shown old → X)
-    → ((left : ℕ) (choice : Choice) → IsCard (left_with left old)
-    → P (own_status (status false (at_work choice (left_with left old)))) → may_lag old ≡ true → new ≡ lagging old → X)
+    → ((left told : ℕ) → IsCard (left_with left old) → ShowsItself (left_with left old) told → P (own_status told)
+    → new ≡ shown old → X)
+    → ((left told : ℕ) (choice : Choice) → IsCard (left_with left old) → ShowsItself (at_work choice (left_with left old)) told
+    → P (own_status told) → may_lag old ≡ true → new ≡ lagging old → X)
     → X
 told_by old new heard k tells P X judged itself lags =
     let says = tells judged.0 judged.1 in
     let met = card_left says.0 old says.1 k in
     elim says.2 [
-      | inl is ↦ itself says.0 met (subst (λ told. P (own_status told)) is.0 judged.2) is.1
-      | inr is ↦ lags says.0 is.choice met (subst (λ told. P (own_status told)) is.told_is judged.2) is.may is.card
+      | inl is ↦ itself says.0 judged.0 met is.0 judged.2 is.1
+      | inr is ↦ lags says.0 judged.0 is.choice met is.told_is judged.2 is.may is.card
     ]
 
 pub told_closing : (kind : Kind) (old new : Card) (heard : Result ℕ Unheard) (r : Result Closing Cause) → IsCard old
@@ -314,16 +316,17 @@ pub told_closing : (kind : Kind) (old new : Card) (heard : Result ℕ Unheard) (
 told_closing kind old new heard r k own clean lag unclean tells is_clean is_work =
     closes_by kind r old new
     (λ is. told_by old new heard k tells (IsClean kind) _ (is_clean is)
-    (λ left met says e. (order_like kind (left_with left old) old refl refl refl refl ((clean kind false _ met).0 says), e))
-    (λ left choice met says may e. absurd (unclean kind choice _ met says)))
+    (λ left told met shows says e.
+    (order_like kind (left_with left old) old refl refl refl refl ((clean kind told _ met shows).0 says), e))
+    (λ left told choice met shows says may e. absurd (unclean kind choice told _ met shows says)))
     (λ is. told_by old new heard k tells (IsAtWork kind) _ (is_work is)
-    (λ left met says e. (
-      none_like kind (left_with left old) old refl refl ((own kind false _ met).0 says.no_error),
+    (λ left told met shows says e. (
+      none_like kind (left_with left old) old refl refl ((own kind told _ met shows).0 says.no_error),
       as_shown old new e,
       λ still. cc (ap (λ (c : Card). c.lags) e, still),
     ))
-    (λ left choice met says may e. (
-      none_like kind (left_with left old) old refl refl ((lag kind choice _ met).0 says),
+    (λ left told choice met shows says may e. (
+      none_like kind (left_with left old) old refl refl ((lag kind choice told _ met shows).0 says),
       lagging_shown old new e,
       λ still. lagged old new may e,
     )))
@@ -337,14 +340,11 @@ pub told_soon : (kind : Kind) (old new : Card) (heard : Result ℕ Unheard) (r :
 told_soon kind old new heard r k clean lag unclean told is tells order all_clean all_work =
     elim tells [
       | inl itself ↦ subst (λ r. ClosesSoon r old new)
-          (sym (all_clean told is
-          (subst (λ told. IsClean kind (own_status told)) (sym itself.0) ((clean kind false old k).1 order)))) tt
+          (sym (all_clean told is ((clean kind told old k itself.0).1 order))) tt
       | inr lags ↦
           subst (λ r. ClosesSoon r old new)
-          (sym (all_work told is (λ c. unclean kind lags.choice old k
-          (subst (λ told. IsClean kind (own_status told)) lags.told_is c))
-          (subst (λ told. IsAtWork kind (own_status told)) (sym lags.told_is)
-          ((lag kind lags.choice old k).1 order.no_error))))
+          (sym (all_work told is (unclean kind lags.choice told old k lags.told_is)
+          ((lag kind lags.choice told old k lags.told_is).1 order.no_error)))
           (lagged old new lags.may lags.card)
     ]
 

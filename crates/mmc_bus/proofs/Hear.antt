@@ -29,17 +29,16 @@ use Rattle.mmc_card.specs.CardAnswer.{CardAnswer, Choice, Silent, left_with, ref
 use Rattle.mmc_card.proofs.Landing.{snoc_length}
 use Rattle.mmc_card.specs.Blocks.{accepted, can_send, can_accept, fallen_short, next_block, next_written, rested, sent}
 use Rattle.mmc_card.specs.Blocks.{waited, will_send}
-use Rattle.mmc_card.specs.Card.{AreAmong, Card, IsCard, holds, is_in, is_selected}
+use Rattle.mmc_card.specs.Card.{AreAmong, Card, IsCard, holds, is_in, is_selected, patience}
 use Rattle.mmc_card.specs.ErrorBits.{command_error_bits}
 use Rattle.mmc_bus.specs.Exchanges.{Exchanged}
-use Rattle.mmc_card.specs.Faults.{CommandStep, FallNoMore, WriteStep, IsFaultless, IsFlipped, NoFault, OneFault}
-use Rattle.mmc_card.specs.Faults.{PollStep, Spells}
-use Rattle.mmc_card.specs.Faults.{ReadStep, bad_block, brownout, fail, faithful, fall_short, flip_command, flip_reply}
-use Rattle.mmc_card.specs.Faults.{fail_switch, leave_over, lose_command}
-use Rattle.mmc_card.specs.Faults.{busy, lose_reply, lose_status, read_error, reject, slow_inquiry}
+use Rattle.mmc_card.specs.Faults.{CommandStep, FallNoMore, IsFaultless, NoFault, OneFault, Replies, WriteStep}
+use Rattle.mmc_card.specs.Faults.{PollStep, ReadStep, RepliesFlipped, brownout, fail, faithful, fall_short}
+use Rattle.mmc_card.specs.Faults.{busy, fail_switch, flip_command, flip_reply, leave_over, lose_command, lose_reply}
+use Rattle.mmc_card.specs.Faults.{lose_status, reject, slow_inquiry, spoil, turn_out}
 use Rattle.mmc_bus.specs.Heard.{cause_of, cause_of_command}
 use Rattle.mmc_card.specs.Laws.{CountsAtMostOne, erased_by, is_frame_of_run, maybe_erased}
-use Rattle.mmc_bus.specs.Learned.{Asked, CommandFacts, Faithful, IsAccepted, WriteFacts, Obeyed, PollFacts, ReadFacts, carried_out}
+use Rattle.mmc_bus.specs.Learned.{Asked, CommandFacts, Faithful, Hears, IsAccepted, Obeyed, PollFacts, ReadFacts, WriteFacts, carried_out}
 use Rattle.mmc_bus.specs.Learned.{may_fail, meant}
 use Rattle.mmc_card.specs.declared.command.Command.{Command as Meaning}
 use Rattle.mmc_card.specs.declared.command.Command.TheVariants.{GoIdleState}
@@ -67,6 +66,11 @@ legal_left : (left : ℕ) (command : Meaning) (card : Card)
 legal_left left GoIdleState card = refl
 legal_left left _ card = refl
 
+-- silence is silence
+silence : {X : Type 0} (answers : CardAnswer → X) (card : Card) (heard : X) → Hears answers card Silent heard
+    → heard ≡ answers Silent
+silence answers card heard h = h.2 ∙ ap answers h.1
+
 -- the card that carries the command out, with what is left over
 obeyed_by : {X : Type 0} (answers : CardAnswer → Result X Unheard) (choice : Choice) (left : ℕ) (old : Card)
     (index argument : ℕ) (heard : Result X Unheard) (new : Card)
@@ -75,12 +79,12 @@ obeyed_by : {X : Type 0} (answers : CardAnswer → Result X Unheard) (choice : C
     → AreAmong left command_error_bits → ((x : X) → answers Silent ≡ Ok x → ⊥)
     → new ≡ (cond foreign (left_with left old, Silent) (cond legal (carried_out choice (left_with left old) index argument)
     (refused (reached (meant old index) (left_with left old)), Silent))).0
-    → heard ≡ answers (cond foreign (left_with left old, Silent)
+    → Hears answers old (cond foreign (left_with left old, Silent)
     (cond legal (carried_out choice (left_with left old) index argument)
-    (refused (reached (meant old index) (left_with left old)), Silent))).1
+    (refused (reached (meant old index) (left_with left old)), Silent))).1 heard
     → (x : X) → heard ≡ Ok x → Obeyed answers old index argument heard new
 obeyed_by answers choice left old index argument heard new true legal f l among mute card answer x h =
-    absurd (mute x (sym answer ∙ h))
+    absurd (mute x (sym (silence answers old heard answer) ∙ h))
 obeyed_by answers choice left old index argument heard new false true f l among mute card answer x h =
     record {
       choice = choice;
@@ -92,12 +96,12 @@ obeyed_by answers choice left old index argument heard new false true f l among 
       answer = answer;
     }
 obeyed_by answers choice left old index argument heard new false false f l among mute card answer x h =
-    absurd (mute x (sym answer ∙ h))
+    absurd (mute x (sym (silence answers old heard answer) ∙ h))
 
 obeyed_left : {X : Type 0} (answers : CardAnswer → Result X Unheard) (choice : Choice) (left : ℕ) (old : Card)
     (index argument : ℕ) (heard : Result X Unheard) (new : Card) → AreAmong left command_error_bits
     → ((x : X) → answers Silent ≡ Ok x → ⊥) → new ≡ (respond choice (left_with left old) index argument).0
-    → heard ≡ answers (respond choice (left_with left old) index argument).1
+    → Hears answers old (respond choice (left_with left old) index argument).1 heard
     → (x : X) → heard ≡ Ok x → Obeyed answers old index argument heard new
 obeyed_left answers choice left old index argument heard new among mute card answer x h =
     obeyed_by answers choice left old index argument heard new (is_foreign (meant old index) old argument)
@@ -111,18 +115,18 @@ left_none card = ap (λ (n : ℕ). record card { command_errors = n }) (or_zero_
 obeyed : {X : Type 0} (answers : CardAnswer → Result X Unheard) (choice : Choice) (old : Card) (index argument : ℕ)
     (heard : Result X Unheard) (new : Card)
     → ((x : X) → answers Silent ≡ Ok x → ⊥) → new ≡ (respond choice old index argument).0
-    → heard ≡ answers (respond choice old index argument).1
+    → Hears answers old (respond choice old index argument).1 heard
     → (x : X) → heard ≡ Ok x → Obeyed answers old index argument heard new
 obeyed answers choice old index argument heard new mute card answer x h =
     let none = sym (left_none old) in
     obeyed_left answers choice 0 old index argument heard new refl mute
     (card ∙ ap (λ (c : Card). (respond choice c index argument).0) none)
-    (answer ∙ ap (λ (c : Card). answers (respond choice c index argument).1) none) x h
+    (subst (λ (c : Card). Hears answers old (respond choice c index argument).1 heard) none answer) x h
 
 faithfully : {X : Type 0} (answers : CardAnswer → X) (choice : Choice) (old : Card) (index argument : ℕ) (heard : X)
     (new : Card)
     → IsFaultless choice old → new ≡ (respond choice old index argument).0
-    → heard ≡ answers (respond choice old index argument).1
+    → Hears answers old (respond choice old index argument).1 heard
     → Faithful answers old index argument heard new
 faithfully answers choice old index argument heard new faultless card answer =
     let obeys : (own : is_foreign (meant old index) old argument ≡ false)
@@ -139,18 +143,15 @@ faithfully answers choice old index argument heard new faultless card answer =
       faultless = faultless;
       obeys = λ own legal. (
         card ∙ ap (λ (x : Card × CardAnswer). x.0) (obeys own legal),
-        answer
-            ∙ ap (λ (x : Card × CardAnswer). answers x.1) (obeys own legal),
+        subst (λ (x : Card × CardAnswer). Hears answers old x.1 heard) (obeys own legal) answer,
       );
       refuses = λ own legal. (
         card ∙ ap (λ (x : Card × CardAnswer). x.0) (refuses own legal),
-        answer
-            ∙ ap (λ (x : Card × CardAnswer). answers x.1) (refuses own legal),
+        silence answers old heard (subst (λ (x : Card × CardAnswer). Hears answers old x.1 heard) (refuses own legal) answer),
       );
       passes = λ foreign. (
         card ∙ ap (λ (x : Card × CardAnswer). x.0) (passes foreign),
-        answer
-            ∙ ap (λ (x : Card × CardAnswer). answers x.1) (passes foreign),
+        silence answers old heard (subst (λ (x : Card × CardAnswer). Hears answers old x.1 heard) (passes foreign) answer),
       );
     }
 
@@ -162,13 +163,13 @@ card_at choice old new frame index argument command card = card ∙ ap (λ s. (a
 
 heard_at : {X : Type 0} (Fits : CardAnswer → Type 0) (hears : Reply → Result X Unheard)
     (answers : CardAnswer → Result X Unheard)
-    (choice : Choice) (old : Card) (frame : List ℕ) (index argument : ℕ) (reply : Reply) → Reads Fits hears answers
+    (choice : Choice) (owner old : Card) (frame : List ℕ) (index argument : ℕ) (reply : Reply) → Reads Fits hears answers
     → Fits (respond choice old index argument).1 → command_in frame ≡ Some (index, argument)
-    → Spells (answered choice old (command_in frame)).1 reply
-    → hears reply ≡ answers (respond choice old index argument).1
-heard_at Fits hears answers choice old frame index argument reply reads fits command spells =
-    reads.whole (respond choice old index argument).1 reply fits
-    (subst (λ s. Spells (answered choice old s).1 reply) command spells)
+    → Replies owner (answered choice old (command_in frame)).1 reply
+    → Hears answers owner (respond choice old index argument).1 (hears reply)
+heard_at Fits hears answers choice owner old frame index argument reply reads fits command replies =
+    let r = subst (λ s. Replies owner (answered choice old s).1 reply) command replies in
+    (r.0, r.1, reads.whole r.0 reply (reads.said owner.made.kind _ r.0 r.1 fits) r.2)
 
 command_sound : {X : Type 0} (Fits : CardAnswer → Type 0) (hears : Reply → Result X Unheard)
     (answers : CardAnswer → Result X Unheard)
@@ -180,7 +181,7 @@ command_sound Fits hears answers old frame index argument reply new reads fits c
     (faithful choice patient count card spells) x h =
     obeyed answers choice old.card index argument (hears reply) new.card reads.mute
     (card_at choice old.card new.card frame index argument command card)
-    (heard_at Fits hears answers choice old.card frame index argument reply reads (fits _ choice) command spells) x h
+    (heard_at Fits hears answers choice old.card old.card frame index argument reply reads (fits _ choice) command spells) x h
 command_sound Fits hears answers old frame index argument reply new reads fits command
     (lose_command count card silent) x h =
     absurd (reads.silent x (ap hears (sym silent) ∙ h))
@@ -192,23 +193,23 @@ command_sound Fits hears answers old frame index argument reply new reads fits c
     absurd (reads.silent x (ap hears (sym silent) ∙ h))
 command_sound Fits hears answers old frame index argument reply new reads fits command
     (flip_reply choice patient count card flipped) x h =
-    absurd (reads.flipped (respond choice old.card index argument).1 reply (fits _ choice)
-    (subst (λ s. IsFlipped (answered choice old.card s).1 reply) command flipped) x h)
+    let r = subst (λ s. RepliesFlipped old.card (answered choice old.card s).1 reply) command flipped in
+    absurd (reads.flipped r.0 reply (reads.said old.card.made.kind _ r.0 r.1 (fits _ choice)) r.2 x h)
 command_sound Fits hears answers old frame index argument reply new reads fits command
     (slow_inquiry choice slow late inquiry count card spells) x h =
     obeyed answers choice old.card index argument (hears reply) new.card reads.mute
     (card_at choice old.card new.card frame index argument command card)
-    (heard_at Fits hears answers choice old.card frame index argument reply reads (fits _ choice) command spells) x h
+    (heard_at Fits hears answers choice old.card old.card frame index argument reply reads (fits _ choice) command spells) x h
 command_sound Fits hears answers old frame index argument reply new reads fits command
     (fail_switch choice fails switch count card spells) x h =
     obeyed answers choice old.card index argument (hears reply) new.card reads.mute
     (card_at choice old.card new.card frame index argument command card)
-    (heard_at Fits hears answers choice old.card frame index argument reply reads (fits _ choice) command spells) x h
+    (heard_at Fits hears answers choice old.card old.card frame index argument reply reads (fits _ choice) command spells) x h
 command_sound Fits hears answers old frame index argument reply new reads fits command
     (leave_over choice bits of patient count card spells) x h =
     obeyed_left answers choice bits old.card index argument (hears reply) new.card of.0 reads.mute
     (card_at choice (left_with bits old.card) new.card frame index argument command card)
-    (heard_at Fits hears answers choice (left_with bits old.card) frame index argument reply reads (fits _ choice)
+    (heard_at Fits hears answers choice old.card (left_with bits old.card) frame index argument reply reads (fits _ choice)
     command spells) x h
 command_sound Fits hears answers old frame index argument reply new reads fits command
     (brownout choice lands keeps_length after patient count card silent) x h =
@@ -224,7 +225,7 @@ command_fine Fits hears answers old frame index argument reply new reads fits co
     (faithful choice patient count card spells) same =
     faithfully answers choice old.card index argument (hears reply) new.card patient
     (card_at choice old.card new.card frame index argument command card)
-    (heard_at Fits hears answers choice old.card frame index argument reply reads (fits _ choice) command spells)
+    (heard_at Fits hears answers choice old.card old.card frame index argument reply reads (fits _ choice) command spells)
 command_fine Fits hears answers old frame index argument reply new reads fits command
     (lose_command count card silent) same = fell old new count same
 command_fine Fits hears answers old frame index argument reply new reads fits command
@@ -307,7 +308,7 @@ record PollWays (old : BusView) (said : Bool) (new : BusView) : Type 0 where
   yes : said ≡ true → (old.card.is_busy ≡ true) × (new.card ≡ waited old.card)
   calm : said ≡ false → is_selected new.card.state ≡ true → may_fail old.card ≡ false → new.card ≡ rested old.card
   shown : said ≡ false → is_selected new.card.state ≡ true → new.card.errors ≡ 0 → new.card ≡ rested old.card
-  patient : NoFault old new → said ≡ true → old.card.polled < 8
+  patient : NoFault old new → said ≡ true → old.card.polled < patience
   fine : NoFault old new → said ≡ false → new.card ≡ rested old.card
 
 -- where programming fails, error bits tell it
@@ -444,6 +445,8 @@ write_ways old block got new (reject ignores can count card answer) = unaccepted
     (not_rejected got answer)
 write_ways old block got new (lose_status is_accepted ignores can count card answer) = unaccepted old block got new count
     (not_nothing got answer)
+write_ways old block got new (turn_out lands several can count card answer) = unaccepted old block got new count
+    (not_nothing got answer)
 write_ways old block got new (brownout lands keeps_length after count card answer) =
     unaccepted old block got new count
     (not_nothing got answer)
@@ -517,10 +520,8 @@ read_ways old size got block new (faithful choice count card answer is) =
       fine = λ same t rests. ways.1 (at_rest choice.is_slow old.card.is_busy can rests t);
       refuses = λ same f. ways.2 (sends_not (not (choice.is_slow && old.card.is_busy)) can f);
     }
-read_ways old size got block new (bad_block choice comes sends count card answer) =
+read_ways old size got block new (spoil choice bits goes_on comes among sends count card answer) =
     not_good old size got block new count (bad_or_nothing comes got answer)
-read_ways old size got block new (read_error sends count card answer) =
-    not_good old size got block new count (bad_or_nothing false got answer)
 read_ways old size got block new (brownout choice lands keeps_length after count card answer) = not_good old size got block new count
     (bad_or_nothing false got answer)
 

@@ -6,4 +6,5 @@ pub mod InquiryLemmas
 pub mod LendingLemmas
 pub mod PollLemmas
 pub mod Readers
+pub mod TogetherLemmas
 pub mod WorkLemmas

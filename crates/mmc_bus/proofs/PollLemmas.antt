@@ -6,7 +6,7 @@ use Rattle.mmc_bus.specs.declared.cause.Cause.{Cause}
 use Rattle.mmc_card.specs.CardAnswer.{counted}
 use Rattle.mmc_bus.proofs.WorkLemmas.{narrows_then, quiet_parts, set_then, stays_same, stays_then, worked_as}
 use Rattle.mmc_card.specs.Blocks.{HasRested, rested}
-use Rattle.mmc_card.specs.Card.{Card, IsCard, is_selected}
+use Rattle.mmc_card.specs.Card.{Card, IsCard, is_selected, patience}
 use Rattle.mmc_bus.specs.Exchanges.{Kept}
 use Rattle.mmc_card.specs.Faults.{NoFault}
 use Rattle.mmc_bus.specs.Learned.{PollFacts, Stays, may_fail}
@@ -18,7 +18,7 @@ use Rattle.mmc_card.specs.BusView.{BusView}
 abbrev pub polled_as : Card → ℕ → Card
 polled_as card polls = record card { polled = polls }
 
--- so many polls more, counted up to eight
+-- so many polls more, counted up to `patience`
 abbrev pub counted_up : ℕ → ℕ → ℕ
 counted_up zero polls = polls
 counted_up (suc more) polls = counted (counted_up more polls)
@@ -26,8 +26,8 @@ counted_up (suc more) polls = counted (counted_up more polls)
 one_up : (more polls : ℕ) → counted (counted_up more polls) ≡ counted_up (more + 1) polls
 one_up more polls = ap (λ n. counted_up n polls) (sym (add-one more))
 
--- from none on all are counted, up to eight
-all_counted : (more : ℕ) → more ≤ 8 → counted_up more 0 ≡ more
+-- from none on all are counted, up to `patience`
+all_counted : (more : ℕ) → more ≤ patience → counted_up more 0 ≡ more
 all_counted zero few = refl
 all_counted (suc more) few = let e = all_counted more (omega (arith, few)) in omega (arith, e, few)
 
@@ -39,8 +39,8 @@ pub record Polling (old : BusView) (polls : ℕ) (now : BusView) : Type 0 where
   pub set : StaysSet old now
   pub narrows : Narrows old now
   pub card : now.card ≡ polled_as old.card (counted_up polls old.card.polled)
-  -- without a fault no more than eight
-  pub few : NoFault old now → old.card.polled ≡ 0 → polls ≤ 8
+  -- without a fault no more than `patience`
+  pub few : NoFault old now → old.card.polled ≡ 0 → polls ≤ patience
 
 pub polling_none : (old : BusView) → old.is_kept ≡ true → Polling old 0 old
 polling_none old kept =
@@ -92,7 +92,7 @@ Counts r =
     Worked Narrows
     (λ old new. IsOk r → is_selected new.card.state ≡ true → new.card.errors ≡ 0 → HasRested old.card new.card)
     (λ old new. old.card.polled ≡ 0
-    → IsOkAnd r (λ polls. (polls ≤ 8) × (new.card ≡ rested (record old.card { polled = polls }))))
+    → IsOkAnd r (λ polls. (polls ≤ patience) × (new.card ≡ rested (record old.card { polled = polls }))))
 
 -- the next poll is answered no
 rests_now : (old : BusView) (polls : ℕ) (now : BusView) → Polling old polls now
@@ -129,7 +129,7 @@ calm_no old polls now new p k up quiet =
 -- so many times yes don't come without a fault
 pub polled_out : {Own Fine : BusView → BusView → Type 0} (old : BusView) (polls : ℕ) (now : BusView)
     → Polling old polls now
-    → 8 < polls → Own old now → Worked Narrows Own (λ old new. old.card.polled ≡ 0 → Fine old new) old now
+    → patience < polls → Own old now → Worked Narrows Own (λ old new. old.card.polled ≡ 0 → Fine old new) old now
 polled_out old polls now p many own =
     let cards = p.cards (omega (arith, many)) in
     record {
@@ -145,7 +145,7 @@ polled_out old polls now p many own =
 
 -- polls whose number isn't wanted
 rested_all : (counts : Result ℕ Cause) (old new : Card)
-    → IsOkAnd counts (λ polls. (polls ≤ 8) × (new ≡ rested (record old { polled = polls })))
+    → IsOkAnd counts (λ polls. (polls ≤ patience) × (new ≡ rested (record old { polled = polls })))
     → IsOk counts × HasRested old new
 rested_all (Ok polls) old new told = (refl, (polls, told.1))
 rested_all (Err cause) old new told = absurd told

@@ -1,5 +1,5 @@
 -- What a reader makes of an answer that comes whole, and that it takes no flipped one.
-use Rattle.std.proofs.Common.{◌&&◌, ◌<◌, ◌∙◌, ◌≡◌, Bool, List, ap, cond, false, length, refl, sym, true, ℕ}
+use Rattle.std.proofs.Common.{◌&&◌, ◌<◌, ◌∙◌, ◌≡◌, Bool, List, ap, cond, false, length, refl, subst, sym, true, ℕ}
 use Rattle.std.specs.Prelude.{◌==◌, ◌||◌, Err, None, Ok, Option, Result, Some, if◌then◌else◌, is_ok, not}
 use Rattle.std.proofs.lemmas.Bool.{agree_below_at, eqb-true}
 use Rattle.mmc_frame.specs.Field.{field}
@@ -28,6 +28,7 @@ use Rattle.mmc_card.specs.declared.command.Command.TheVariants.{SdSendOpCond, Al
 use Rattle.mmc_card.specs.declared.command.Command.TheVariants.{GoIdleState, ReadMultipleBlock, ReadSingleBlock}
 use Rattle.mmc_card.specs.declared.command.Command.TheVariants.{SendCsd, SendIfCond, SendOpCond, SendStatus, SetBlocklen}
 use Rattle.mmc_card.specs.declared.command.Command.TheVariants.{Switch, Unknown, WriteBlock, WriteMultipleBlock}
+use Rattle.mmc_card.specs.Judged.{IsSaid}
 use Rattle.mmc_card.specs.Rows.{command_of, is_foreign, is_legal, leaves_erase, reached, responded, row}
 use Rattle.mmc_card.specs.RowsErase.{erase_held, erases, erasing, forgotten, hold_first, hold_last, holds_address, is_no_range}
 use Rattle.mmc_card.specs.RowsErase.{is_trim}
@@ -60,10 +61,10 @@ answer_cond : (command : Command) (b : Bool) (x y : Card × CardAnswer) → IsAn
 answer_cond command b x y p q = by_cond (λ (r : Card × CardAnswer). IsAnswerTo command r.1) b {x = x} {y = y} (λ _. p)
     (λ _. q)
 
-inquired_answer : (command : Command) (is_ready : Bool) (early : ℕ) (c : Card) → asks_for_ocr command ≡ true
-    → IsAnswerTo command (inquired is_ready early c).1
-inquired_answer command true early c asks = asks
-inquired_answer command false early c asks = asks
+inquired_answer : (command : Command) (is_ready : Bool) (c : Card) → asks_for_ocr command ≡ true
+    → IsAnswerTo command (inquired is_ready c).1
+inquired_answer command true c asks = asks
+inquired_answer command false c asks = asks
 
 transferred_answer : (command : Command) (index errors : ℕ) (c after : Card) → asks_for_ocr command ≡ false
     → IsAnswerTo command (transferred index errors c after).1
@@ -98,9 +99,9 @@ switch_answer late c None = refl
 row_answer : (choice : Choice) (command : Command) (c : Card) (index argument : ℕ) → HasRegisters c.made
     → IsAnswerTo command (row choice command c index argument).1
 row_answer choice GoIdleState c index argument r = tt
-row_answer choice SendOpCond c index argument r = inquired_answer SendOpCond (not choice.is_slow) choice.early c refl
+row_answer choice SendOpCond c index argument r = inquired_answer SendOpCond (not choice.is_slow) c refl
 row_answer choice SdSendOpCond c index argument r = inquired_answer SdSendOpCond
-    (is_served c argument && not choice.is_slow) choice.early c refl
+    (is_served c argument && not choice.is_slow) c refl
 row_answer choice AllSendCid c index argument r = record { size = r.cid; check = r.cid_check; end_bit = r.cid_end }
 row_answer choice SendCsd c index argument r = record { size = r.csd; check = r.csd_check; end_bit = r.csd_end }
 row_answer choice SendIfCond c index argument r = by_cond (IsAnswerTo SendIfCond)
@@ -175,22 +176,22 @@ ocr_where_legal : (b : Bool) (c : Card) (x : Card × CardAnswer) → IsOcrOrNone
 ocr_where_legal true c x h = h
 ocr_where_legal false c x h = tt
 
-ocr_inquired : (is_ready : Bool) (early : ℕ) (c : Card) → IsOcrOrNone (inquired is_ready early c).1
-ocr_inquired true early c = tt
-ocr_inquired false early c = tt
+ocr_inquired : (is_ready : Bool) (c : Card) → IsOcrOrNone (inquired is_ready c).1
+ocr_inquired true c = tt
+ocr_inquired false c = tt
 
 pub inquiry_answer : (kind own : Kind) (app : Bool) (choice : Choice) (c : Card) (argument : ℕ)
     → IsOcrOrNone (responded choice (command_of own app (index_of_inquiry kind)) c (index_of_inquiry kind) argument).1
 inquiry_answer Sd Sd true choice c argument =
     ocr_where_legal (is_legal SdSendOpCond c) _ (row choice SdSendOpCond (reached SdSendOpCond c) 41 argument)
-    (ocr_inquired (is_served (reached SdSendOpCond c) argument && not choice.is_slow) choice.early
+    (ocr_inquired (is_served (reached SdSendOpCond c) argument && not choice.is_slow)
     (reached SdSendOpCond c))
 inquiry_answer Sd Sd false choice c argument = tt
 inquiry_answer Sd Mmc app choice c argument = tt
 inquiry_answer Mmc Sd app choice c argument = tt
 inquiry_answer Mmc Mmc app choice c argument =
     ocr_where_legal (is_legal SendOpCond c) _ (row choice SendOpCond (reached SendOpCond c) 1 argument)
-    (ocr_inquired (not choice.is_slow) choice.early (reached SendOpCond c))
+    (ocr_inquired (not choice.is_slow) (reached SendOpCond c))
 
 -- Readers.
 
@@ -201,6 +202,21 @@ pub record Reads {X : Type 0} (Fits : CardAnswer → Type 0) (hears : Reply → 
   pub mute : (x : X) → answers Silent ≡ Ok x → ⊥
   pub flipped : (answer : CardAnswer) (reply : Reply) → Fits answer → IsFlipped answer reply → (x : X)
       → hears reply ≡ Ok x → ⊥
+  -- what isn't judged of an answer changes nothing of what fits
+  pub said : (kind : Kind) (answer said : CardAnswer) → IsSaid kind answer said → Fits answer → Fits said
+
+answer_said : (command : Command) (kind : Kind) (answer said : CardAnswer) → IsSaid kind answer said
+    → IsAnswerTo command answer → IsAnswerTo command said
+answer_said command kind Silent said is fits = subst (IsAnswerTo command) (sym is) fits
+answer_said command kind (Checked index argument) said is fits = subst (IsAnswerTo command) (sym is.1) fits
+answer_said command kind (R3 ocr) said is fits = subst (IsAnswerTo command) (sym is.1) fits
+answer_said command kind (R2 bytes) said is fits = subst (IsAnswerTo command) (sym is) fits
+
+ocr_said : (kind : Kind) (answer said : CardAnswer) → IsSaid kind answer said → IsOcrOrNone answer → IsOcrOrNone said
+ocr_said kind Silent said is fits = subst IsOcrOrNone (sym is) fits
+ocr_said kind (Checked index argument) said is fits = absurd fits
+ocr_said kind (R3 ocr) said is fits = subst IsOcrOrNone (sym is.1) fits
+ocr_said kind (R2 bytes) said is fits = absurd fits
 
 received_ok : {X : Type 0} (r : Result X FrameFault) (x : X) → or_unsound r ≡ Ok x → is_ok r ≡ false → ⊥
 received_ok (Ok y) x h n = cc
@@ -260,6 +276,7 @@ response_reads law index command asks = record {
   silent = λ x h. cc;
   mute = λ x h. cc;
   flipped = response_flipped law index command asks;
+  said = answer_said command;
 }
 
 ocr_whole : (answer : CardAnswer) (reply : Reply) → IsOcrOrNone answer → Spells answer reply
@@ -283,6 +300,7 @@ ocr_reads law = record {
   silent = λ x h. cc;
   mute = λ x h. cc;
   flipped = ocr_flipped law;
+  said = ocr_said;
 }
 
 register_whole : (command : Command) (answer : CardAnswer) (reply : Reply) → IsAnswerTo command answer
@@ -309,6 +327,7 @@ register_reads law back command = record {
   silent = λ x h. cc;
   mute = λ x h. cc;
   flipped = register_flipped law back command;
+  said = answer_said command;
 }
 
 pub nothing_reads : (command : Command) → Reads (IsAnswerTo command) nothing_heard nothing_of
@@ -317,4 +336,5 @@ nothing_reads command = record {
   silent = λ x h. cc;
   mute = λ x h. cc;
   flipped = λ answer reply fits f x h. cc;
+  said = answer_said command;
 }

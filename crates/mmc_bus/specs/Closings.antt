@@ -4,7 +4,7 @@ use Rattle.mmc_frame.specs.declared.kind.Kind.{Kind}
 use Rattle.mmc_bus.specs.declared.cause.Cause.{Cause}
 use Rattle.mmc_bus.specs.declared.status.Closing.{Closing}
 use Rattle.mmc_bus.specs.declared.status.Closing.TheVariants.{AtWork, Clean}
-use Rattle.mmc_card.specs.Card.{Card}
+use Rattle.mmc_card.specs.Card.{Card, patience}
 use Rattle.mmc_card.specs.CardAnswer.{shown}
 use Rattle.mmc_card.specs.CardLaws.{HasNoErrorOfItsOwn, IsInOrder}
 
@@ -14,7 +14,7 @@ HasShown old new = new ≡ record (shown old) { lags = new.lags; polled = new.po
 
 -- its status lagged behind, and was counted
 abbrev pub HasLagged : Card → Card → Type 0
-HasLagged old new = (old.lags ≡ true) × (old.polled < 8) × (new.polled ≡ old.polled + 1)
+HasLagged old new = (old.lags ≡ true) × (old.polled < patience) × (new.polled ≡ old.polled + 1)
 
 -- where its statuses may lag still, this one did
 abbrev pub CountsOn : Card → Card → Type 0

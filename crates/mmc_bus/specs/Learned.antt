@@ -12,11 +12,12 @@ use Rattle.mmc_card.specs.declared.exchange.Reply.{Reply}
 use Rattle.mmc_card.specs.declared.exchange.Want.{Want}
 use Rattle.mmc_card.specs.CardAnswer.{CardAnswer, Choice, Silent, left_with, refused}
 use Rattle.mmc_card.specs.Blocks.{accepted, can_send, can_accept, next_block, next_written, rested, sent, waited}
-use Rattle.mmc_card.specs.Card.{AreAmong, Card, holds, is_in, is_selected}
+use Rattle.mmc_card.specs.Card.{AreAmong, Card, holds, is_in, is_selected, patience}
 use Rattle.mmc_card.specs.ErrorBits.{command_error_bits}
 use Rattle.mmc_bus.specs.Exchanges.{Exchanged}
 use Rattle.mmc_card.specs.Faults.{FallNoMore, IsFaultless, NoFault}
 use Rattle.mmc_bus.specs.Heard.{cause_of, cause_of_command}
+use Rattle.mmc_card.specs.Judged.{IsSaid}
 use Rattle.mmc_card.specs.Laws.{Carried, StandsIn, StillStands, SwitchesTo, WithinOrAccepted, erased_by}
 use Rattle.mmc_card.specs.Laws.{is_frame_of_run, maybe_erased}
 use Rattle.mmc_card.specs.declared.command.Command.{Command}
@@ -47,6 +48,10 @@ abbrev pub carried_out : Choice → Card → ℕ → ℕ → Card × CardAnswer
 carried_out choice card index argument =
     row choice (meant card index) (reached (meant card index) card) index argument
 
+-- this is heard of a card's answer, in which what isn't judged is open
+abbrev pub Hears : {X : Type 0} → (CardAnswer → X) → Card → CardAnswer → X → Type 0
+Hears answers card answer heard = (said : CardAnswer) × IsSaid card.made.kind answer said × (heard ≡ answers said)
+
 -- The card has carried the command out, and this is its answer; in a fault some of bits 23 and 22 were left over.
 pub record Obeyed {X : Type 0} (answers : CardAnswer → X) (old : Card) (index argument : ℕ) (heard : X)
     (new : Card) : Type 0 where
@@ -56,7 +61,7 @@ pub record Obeyed {X : Type 0} (answers : CardAnswer → X) (old : Card) (index 
   pub own : is_foreign (meant old index) old argument ≡ false
   pub legal : is_legal (meant old index) old ≡ true
   pub card : new ≡ (carried_out choice (left_with left old) index argument).0
-  pub answer : heard ≡ answers (carried_out choice (left_with left old) index argument).1
+  pub answer : Hears answers old (carried_out choice (left_with left old) index argument).1 heard
 
 -- The card did as the table says, no slower than it may, and all of its answer came.
 pub record Faithful {X : Type 0} (answers : CardAnswer → X) (old : Card) (index argument : ℕ) (heard : X)
@@ -64,7 +69,7 @@ pub record Faithful {X : Type 0} (answers : CardAnswer → X) (old : Card) (inde
   pub choice : Choice
   pub faultless : IsFaultless choice old
   pub obeys : is_foreign (meant old index) old argument ≡ false → is_legal (meant old index) old ≡ true
-      → (new ≡ (carried_out choice old index argument).0) × (heard ≡ answers (carried_out choice old index argument).1)
+      → (new ≡ (carried_out choice old index argument).0) × Hears answers old (carried_out choice old index argument).1 heard
   pub refuses : is_foreign (meant old index) old argument ≡ false → is_legal (meant old index) old ≡ false
       → (new ≡ refused (reached (meant old index) old)) × (heard ≡ answers Silent)
   -- it names another card
@@ -115,7 +120,7 @@ pub record PollFacts (old : BusView) (said : Bool) (new : BusView) : Type 0 wher
   -- in rcv a write goes on where it was, fault or not
   pub goes_on : is_in new.card.state Rcv ≡ true
       → (is_in old.card.state Rcv ≡ true) × (next_written new.card ≡ next_written old.card)
-  pub patient : NoFault old new → said ≡ true → old.card.polled < 8
+  pub patient : NoFault old new → said ≡ true → old.card.polled < patience
   pub fine : NoFault old new → said ≡ false → new.card ≡ rested old.card
 
 -- Blocks.

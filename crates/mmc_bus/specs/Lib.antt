@@ -9,6 +9,7 @@ pub mod Learned
 pub mod Lending
 pub mod Scripted
 pub mod ScriptedBus
+pub mod Together
 pub mod Trace
 pub mod Wires
 pub mod Work

@@ -7,7 +7,8 @@ ghost use Rattle.mmc_frame.specs.declared.card_state.State.TheVariants.{Ident, I
 ghost use Rattle.mmc_frame.specs.declared.kind.Kind.TheVariants.{Mmc, Sd};
 ghost use Rattle.mmc_frame.specs.declared.commands.TheConstants as Index;
 ghost use Rattle.mmc_bus.specs.declared.host.Unheard.{Unheard};
-ghost use Rattle.mmc_card.specs.CardAnswer.{busied, done, r6_argument, refused, reset, shown, status};
+ghost use Rattle.mmc_card.specs.CardAnswer.{busied, done, refused, reset, shown};
+ghost use Rattle.mmc_card.specs.Judged.{Shows};
 ghost use Rattle.mmc_card.specs.Card.{IsCard, is_identified};
 ghost use Rattle.mmc_bus.specs.CommandLaws.{Does, DoesOne, Inquires, IsUnheard, Names, Responded, TellsStatus};
 ghost use Rattle.mmc_card.specs.Faults.{NoFault};
@@ -29,8 +30,8 @@ pub fn cmd0_resets_the_card()
         → (lands : ℕ → Bool) × (keeps_length : Bool) × (new.card ≡ reset lands keeps_length old.card) }
 {}
 
-/// CMD1 of eMMC, SEND_OP_COND: a device in idle tells its OCR, and says at most eight times that it isn't ready. Only
-/// an eMMC device answers.
+/// CMD1 of eMMC, SEND_OP_COND: a device in idle tells its OCR, and says at most fifteen times that it isn't ready, when its
+/// window may be empty. Only an eMMC device answers.
 pub fn cmd1_asks_an_emmc_device_whether_it_is_ready()
     ensures { (old new : BusView) (argument : ℕ) (heard : Result ℕ Unheard)
         → CommandFacts ocr_of old Index.SEND_OP_COND argument heard new → IsCard old.card
@@ -41,7 +42,7 @@ pub fn cmd1_asks_an_emmc_device_whether_it_is_ready()
 pub fn cmd2_tells_the_cid()
     ensures { (old new : BusView) (argument : ℕ) (heard : Result (List ℕ) Unheard)
         → CommandFacts register_of old Index.ALL_SEND_CID argument heard new → IsCard old.card
-        → Does (old.card.state ≡ Ready) (λ card. card.made.cid) (record (done old.card) { state = Ident }) old heard new }
+        → Does (old.card.state ≡ Ready) (λ card cid. cid ≡ card.made.cid) (record (done old.card) { state = Ident }) old heard new }
 {
     laws::register_comes_back();
 }
@@ -53,7 +54,7 @@ pub fn cmd3_publishes_the_rca()
         → Responded Index.SEND_RELATIVE_ADDR old argument heard new → IsCard old.card
         → old.card.made.kind ≡ Sd
         → Does ((old.card.state ≡ Ident) ⊎ (old.card.state ≡ Stby))
-        (r6_argument new.card.rca)
+        (λ card told. field 31 16 told ≡ new.card.rca)
         (record (shown old.card) { state = Stby; rca = new.card.rca })
         old heard new }
     ensures named { (old new : BusView) (argument : ℕ) (heard : Result ℕ Unheard)
@@ -68,7 +69,7 @@ pub fn cmd3_gives_the_rca()
         → Responded Index.SEND_RELATIVE_ADDR old argument heard new → IsCard old.card
         → old.card.made.kind ≡ Mmc
         → Does (old.card.state ≡ Ident)
-        (status false)
+        Shows
         (record (shown old.card) { state = Stby; rca = field 31 16 argument })
         old heard new }
 {}
@@ -78,7 +79,7 @@ pub fn cmd7_selects_the_card()
     ensures { (old new : BusView) (argument : ℕ) (heard : Result ℕ Unheard)
         → Responded Index.SELECT_CARD old argument heard new → IsCard old.card
         → Does ((old.card.state ≡ Stby) × Names argument old.card)
-        (status false) (record (busied (shown old.card)) { state = Tran }) old heard new }
+        Shows (record (busied (shown old.card)) { state = Tran }) old heard new }
 {}
 
 /// CMD8 of SD, SEND_IF_COND, for 2.7 to 3.6 V: a card in idle that knows CMD8 accepts it, and tells the voltage and the
@@ -89,7 +90,7 @@ pub fn cmd8_is_repeated_by_a_card_that_knows_it()
         → Responded Index.SEND_IF_COND old argument heard new → IsCard old.card
         → old.card.made.kind ≡ Sd → field 11 8 argument ≡ 1
         → Does ((old.card.state ≡ Idle) × (old.card.made.answers_cmd8 ≡ true))
-        (λ card. field 11 0 argument) (record (done old.card) { accepted_cmd8 = true }) old heard new }
+        (λ card told. field 11 0 told ≡ field 11 0 argument) (record (done old.card) { accepted_cmd8 = true }) old heard new }
     ensures unknown { (old new : BusView) (argument : ℕ) (heard : Result ℕ Unheard)
         → Responded Index.SEND_IF_COND old argument heard new → IsCard old.card
         → old.card.made.kind ≡ Sd → old.card.made.answers_cmd8 ≡ false → old.card.state ≡ Idle
@@ -103,7 +104,7 @@ pub fn cmd8_is_repeated_by_a_card_that_knows_it()
 pub fn cmd9_tells_the_csd()
     ensures { (old new : BusView) (argument : ℕ) (heard : Result (List ℕ) Unheard)
         → CommandFacts register_of old Index.SEND_CSD argument heard new → IsCard old.card
-        → Does ((old.card.state ≡ Stby) × Names argument old.card) (λ card. card.made.csd) (done old.card) old heard new }
+        → Does ((old.card.state ≡ Stby) × Names argument old.card) (λ card csd. csd ≡ card.made.csd) (done old.card) old heard new }
 {
     laws::register_comes_back();
 }
@@ -117,8 +118,8 @@ pub fn cmd13_tells_the_status()
         TellsStatus old heard new }
 {}
 
-/// ACMD41, SD_SEND_OP_COND: a card in idle tells its OCR, and says to a host that serves it at most eight times that it
-/// isn't ready. Only an SD card answers, and only behind CMD55.
+/// ACMD41, SD_SEND_OP_COND: a card in idle tells its OCR, and says to a host that serves it at most fifteen times that it
+/// isn't ready, when its window may be empty. Only an SD card answers, and only behind CMD55.
 pub fn acmd41_asks_an_sd_card_whether_it_is_ready()
     ensures { (old new : BusView) (argument : ℕ) (heard : Result ℕ Unheard)
         → CommandFacts ocr_of old Index.SD_SEND_OP_COND argument heard new → IsCard old.card
@@ -133,7 +134,7 @@ pub fn cmd55_announces_an_application_command()
         → Responded Index.APP_CMD old argument heard new → IsCard old.card
         → Does ((old.card.made.kind ≡ Sd) × ((old.card.state ≡ Idle) ⊎ (is_identified old.card.state ≡ true))
         × Names argument old.card)
-        (λ card. status true (without_addresses card))
+        (λ card. Shows (without_addresses card))
         (record (shown (forgotten old.card)) { app = true })
         old heard new }
     ensures mmc { (old new : BusView) (argument : ℕ) (heard : Result ℕ Unheard)

@@ -11,6 +11,7 @@ ghost use Rattle.mmc_bus.specs.Work.{Ends, Narrows, Works};
 ghost use Rattle.mmc_bus.specs.declared.cause.Cause.TheVariants.{Status};
 ghost use Rattle.mmc_bus.specs.declared.status.Closing.TheVariants.{AtWork, Clean};
 ghost use Rattle.mmc_bus.specs.declared.wait.TheConstants.{MAX_POLLS};
+ghost use Rattle.mmc_card.specs.Card.{patience};
 
 use crate::bus::Bus;
 use crate::cause::Cause;
@@ -126,7 +127,7 @@ fn confirm_within<B: Bus>(bus: &mut B, kind: Kind, rca: u16, most: u64) -> Resul
     ensures works { Works Narrows
         (λ old new. IsOk result → IsInOrder kind old.card
         × (new.card ≡ record (shown old.card) { polled = new.card.polled }))
-        (λ old new. IsInOrder kind old.card → old.card.app ≡ false → old.card.rca ≡ rca → 8 < old.card.polled + most
+        (λ old new. IsInOrder kind old.card → old.card.app ≡ false → old.card.rca ≡ rca → patience < old.card.polled + most
         → IsOk result)
         (B.view bus.old) (B.view bus.new) }
 {

@@ -5,14 +5,15 @@ ghost use Rattle.mmc_frame.specs.declared.card_state.State.TheVariants.{Tran};
 ghost use Rattle.mmc_frame.specs.declared.kind.Kind.TheVariants.{Mmc, Sd};
 ghost use Rattle.mmc_frame.specs.declared.commands.TheConstants as Index;
 ghost use Rattle.mmc_bus.specs.declared.host.Unheard.{Unheard};
-ghost use Rattle.mmc_card.specs.CardAnswer.{shown, status};
+ghost use Rattle.mmc_card.specs.CardAnswer.{shown};
+ghost use Rattle.mmc_card.specs.Judged.{Shows};
 ghost use Rattle.mmc_card.specs.Card.{Card};
 ghost use Rattle.mmc_bus.specs.CommandLaws.{Does, IsSwitchSource, Responded, bytes_sent, Switches};
 ghost use Rattle.mmc_card.specs.Laws.{timing_once_sent};
 ghost use Rattle.mmc_card.specs.Made.{has_switch_function};
 ghost use Rattle.mmc_card.specs.Rows.{without_addresses};
 ghost use Rattle.mmc_card.specs.RowsErase.{forgotten};
-ghost use Rattle.mmc_card.specs.RowsSwitch.{ext_csd_now, programs_switch, switched, width_by, timing_after};
+ghost use Rattle.mmc_card.specs.RowsSwitch.{IsExtCsdOf, programs_switch, switched, timing_after, width_by};
 ghost use Rattle.mmc_card.specs.RowsTransfer.{sending};
 ghost use Rattle.mmc_card.specs.BusView.{BusView};
 
@@ -30,7 +31,7 @@ pub fn cmd6_sends_the_switch_status()
         → Responded Index.SWITCH_FUNC old argument heard new
         → old.card.made.kind ≡ Sd → old.card.app ≡ false
         → Does ((old.card.state ≡ Tran) × (has_switch_function old.card.made ≡ true))
-        (λ card. status false (without_addresses card))
+        (λ card. Shows (without_addresses card))
         (sending (bytes_sent new.card.source) (timing_once_sent new.card.source old.card.timing) (forgotten old.card))
         old heard new }
     ensures sends { (old new : BusView) (argument told : ℕ) (heard : Result ℕ Unheard)
@@ -45,18 +46,21 @@ pub fn acmd6_sets_the_width()
         → Responded Index.SET_BUS_WIDTH old argument heard new
         → old.card.made.kind ≡ Sd → old.card.app ≡ true
         → Does (old.card.state ≡ Tran)
-        (λ card. status true (without_addresses card))
+        (λ card. Shows (without_addresses card))
         (record (shown (forgotten old.card)) { width = width_by (field 1 0 argument) old.card.width })
         old heard new }
 {}
 
-/// CMD8 of eMMC, SEND_EXT_CSD: a device in tran sends its EXT_CSD.
+/// CMD8 of eMMC, SEND_EXT_CSD: a device in tran sends its EXT_CSD, in which the bytes that nobody reads are open.
 pub fn cmd8_sends_the_ext_csd()
-    ensures { (old new : BusView) (argument : ℕ) (heard : Result ℕ Unheard)
+    ensures does { (old new : BusView) (argument : ℕ) (heard : Result ℕ Unheard)
         → Responded Index.SEND_IF_COND old argument heard new
         → old.card.made.kind ≡ Mmc
         → Does (old.card.state ≡ Tran)
-        (λ card. status false (without_addresses card))
-        (sending (ext_csd_now old.card) old.card.timing (forgotten old.card))
+        (λ card. Shows (without_addresses card))
+        (sending (bytes_sent new.card.source) old.card.timing (forgotten old.card))
         old heard new }
+    ensures sends { (old new : BusView) (argument told : ℕ) (heard : Result ℕ Unheard)
+        → Responded Index.SEND_IF_COND old argument heard new
+        → old.card.made.kind ≡ Mmc → heard ≡ Ok told → IsExtCsdOf old.card (bytes_sent new.card.source) }
 {}

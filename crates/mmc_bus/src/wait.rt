@@ -1,7 +1,7 @@
 // Polling until the card isn't busy any more.
 ghost use Rattle.std.specs.Prelude.{◌+◌, ◌<◌, ◌≡◌, ◌≤◌, IfOk, IsOk, IsOkAnd, false, true};
 ghost use Rattle.mmc_card.specs.Blocks.{HasRested, rested};
-ghost use Rattle.mmc_card.specs.Card.{is_selected};
+ghost use Rattle.mmc_card.specs.Card.{is_selected, patience};
 ghost use Rattle.mmc_bus.specs.Learned.{may_fail};
 ghost use Rattle.mmc_bus.specs.Work.{Ends, Narrows, Works};
 
@@ -9,7 +9,7 @@ use crate::bus::Bus;
 use crate::cause::Cause;
 use crate::host::poll;
 
-/// How often a card may say that it is busy, before a wait is given up. Without a fault eight times are enough.
+/// How often a card may say that it is busy, before a wait is given up. Without a fault fifteen times are enough.
 pub const MAX_POLLS: u64 = 16;
 
 /// How many polls are answered yes before one is answered no, `MAX_POLLS` polls at most. A no is believed as far as the card
@@ -26,7 +26,7 @@ pub fn count_polls<B: Bus>(bus: &mut B) -> Result<u64, Cause>
     ensures works { Works Narrows
         (λ old new. IsOk result → is_selected new.card.state ≡ true → new.card.errors ≡ 0 → HasRested old.card new.card)
         (λ old new. old.card.polled ≡ 0 → IsOkAnd result
-        (λ polls. (polls ≤ 8) × (new.card ≡ rested (record old.card { polled = polls }))))
+        (λ polls. (polls ≤ patience) × (new.card ≡ rested (record old.card { polled = polls }))))
         (B.view bus.old) (B.view bus.new) }
     ensures calm { (B.view bus.new).is_kept ≡ true → IsOk result → is_selected (B.view bus.new).card.state ≡ true
         → may_fail (B.view bus.old).card ≡ false → HasRested (B.view bus.old).card (B.view bus.new).card }

@@ -1,9 +1,9 @@
 -- Lists of numbers below 256.
 use Rattle.std.proofs.Common.{◌&&◌, ◌*◌, ◌+◌, ◌<◌, ◌≡◌, ◌≤◌, ◌∷◌, Bool, List, [], arith, false, length, suc, true, zero}
-use Rattle.std.proofs.Common.{ℕ}
-use Rattle.std.specs.Prelude.{◌==◌, if◌then◌else◌, nat_lt, replicate, slice_index, slice_set}
+use Rattle.std.proofs.Common.{◌∙◌, ap, refl, ℕ}
+use Rattle.std.specs.Prelude.{◌%◌, ◌==◌, if◌then◌else◌, nat_lt, replicate, slice_index, slice_set}
 use Rattle.std.proofs.lemmas.Bool.Decides.{nat_tests}
-use Rattle.std.proofs.lemmas.List.{length-replicate}
+use Rattle.std.proofs.lemmas.List.{get_or-set_other, length-replicate, length-set}
 use Rattle.mmc_frame.specs.Field.{field}
 use Rattle.mmc_frame.specs.Flips.{AreBytes}
 use Rattle.mmc_regs.specs.Scr.{data_stat_after_erase, scr_number}
@@ -12,7 +12,8 @@ use Rattle.mmc_card.proofs.Conditions.{by_cond}
 use Rattle.mmc_card.proofs.Narrow.{both}
 use Rattle.mmc_card.specs.Card.{Card, IsBlock}
 use Rattle.mmc_card.specs.Made.{Made, erased_byte_of_card, erased_sector, is_sd}
-use Rattle.mmc_card.specs.RowsSwitch.{access_number, ext_csd_now, partition_config_for, refusal, timing_number, width_number}
+use Rattle.mmc_card.specs.RowsSwitch.{access_number, ext_csd_now, partition_config_for, refusal, timing_number}
+use Rattle.mmc_card.specs.RowsSwitch.{IsExtCsdOf, is_read, reread, width_number}
 use Rattle.mmc_card.specs.declared.exchange.Timing.{Timing}
 use Rattle.mmc_card.specs.declared.exchange.Timing.TheVariants.{Default, High}
 use Rattle.mmc_card.specs.declared.exchange.Width.{Width}
@@ -78,6 +79,33 @@ ext_csd_bytes c group bytes =
     (bytes_set _ 183 (width_number c.width) (width_below c.width)
     (bytes_set _ 179 (partition_config_for c.made c.part) (config_below _ (access_number c.part) (access_below c.part))
     (bytes_set c.made.ext_csd 175 c.erase_group_def (byte_of_group c.erase_group_def group) bytes)))
+
+-- As it is sent.
+
+pub reread_bytes : (others : List (ℕ × ℕ)) (bytes : List ℕ) → AreBytes bytes → AreBytes (reread others bytes)
+reread_bytes [] bytes are = are
+reread_bytes (other ∷ others) bytes are =
+    reread_bytes others _
+    (by_cond AreBytes (is_read other.0) (λ _. are) (λ _. bytes_set bytes other.0 (other.1 % 256) (omega arith) are))
+
+pub reread_length : (others : List (ℕ × ℕ)) (bytes : List ℕ) → length (reread others bytes) ≡ length bytes
+reread_length [] bytes = refl
+reread_length (other ∷ others) bytes =
+    reread_length others _
+    ∙ by_cond (λ (xs : List ℕ). length xs ≡ length bytes) (is_read other.0) (λ _. refl)
+    (λ _. length-set bytes other.0 (other.1 % 256))
+
+pub reread_at : (others : List (ℕ × ℕ)) (bytes : List ℕ) (i : ℕ) → is_read i ≡ true
+    → slice_index (reread others bytes) i ≡ slice_index bytes i
+reread_at [] bytes i read = refl
+reread_at (other ∷ others) bytes i read =
+    reread_at others _ i read
+    ∙ by_cond (λ (xs : List ℕ). slice_index xs i ≡ slice_index bytes i) (is_read other.0) (λ _. refl)
+    (λ unread. get_or-set_other bytes other.0 i (other.1 % 256) 0 (λ same. cc (ap is_read same, read, unread)))
+
+pub reread_is : (unread : List (ℕ × ℕ)) (card : Card) → IsExtCsdOf card (reread unread (ext_csd_now card))
+reread_is unread card =
+    record { len = reread_length unread (ext_csd_now card); read = λ i read. reread_at unread (ext_csd_now card) i read }
 
 -- A switch status that refuses.
 

@@ -11,18 +11,15 @@ use Rattle.mmc_card.proofs.Cards as cards
 use Rattle.mmc_card.proofs.Cards.{IsBasic}
 use Rattle.mmc_card.proofs.Narrow.{sends_data, accepts_in_rcv}
 use Rattle.mmc_card.proofs.NarrowSteps.{command_widens, poll_keeps, read_keeps, write_adds}
-use Rattle.mmc_card.proofs.Ordered.{ordered_fallen_short}
-use Rattle.mmc_card.proofs.Ordered.{IsOrdered, ordered_accepted, ordered_answered, ordered_garbled, ordered_left, ordered_programmed}
-use Rattle.mmc_card.proofs.Ordered.{ordered_raised, ordered_reached, ordered_rejected, ordered_reset, ordered_rested}
-use Rattle.mmc_card.proofs.Ordered.{ordered_sent_from, ordered_waited}
-use Rattle.mmc_card.proofs.Sending.{sending_fallen_short}
-use Rattle.mmc_card.proofs.Sending.{IsSending, sending_accepted, sending_answered, sending_garbled, sending_left, sending_programmed}
-use Rattle.mmc_card.proofs.Sending.{sending_raised, sending_reached, sending_rejected, sending_reset, sending_rested}
-use Rattle.mmc_card.proofs.Sending.{sending_sent_from, sending_waited}
-use Rattle.mmc_card.proofs.Settled.{accepts_still, settled_fallen_short}
-use Rattle.mmc_card.proofs.Settled.{IsSettled, settled_accepted, settled_answered, settled_garbled, settled_left, settled_programmed}
-use Rattle.mmc_card.proofs.Settled.{settled_raised, settled_reached, settled_rejected, settled_reset, settled_rested}
-use Rattle.mmc_card.proofs.Settled.{settled_sent_from, settled_waited}
+use Rattle.mmc_card.proofs.Ordered.{IsOrdered, ordered_accepted, ordered_answered, ordered_fallen_short}
+use Rattle.mmc_card.proofs.Ordered.{ordered_garbled, ordered_left, ordered_programmed, ordered_raised, ordered_reached}
+use Rattle.mmc_card.proofs.Ordered.{ordered_rejected, ordered_reset, ordered_rested, ordered_sent_from, ordered_waited}
+use Rattle.mmc_card.proofs.Sending.{IsSending, sending_accepted, sending_answered, sending_fallen_short}
+use Rattle.mmc_card.proofs.Sending.{sending_garbled, sending_left, sending_programmed, sending_raised, sending_reached}
+use Rattle.mmc_card.proofs.Sending.{sending_rejected, sending_reset, sending_rested, sending_sent_from, sending_waited}
+use Rattle.mmc_card.proofs.Settled.{IsSettled, accepts_still, settled_accepted, settled_answered, settled_fallen_short}
+use Rattle.mmc_card.proofs.Settled.{settled_garbled, settled_left, settled_programmed, settled_raised, settled_reached}
+use Rattle.mmc_card.proofs.Settled.{settled_rejected, settled_reset, settled_rested, settled_sent_from, settled_waited}
 use Rattle.mmc_card.proofs.Steps.{after_command, after_write, after_poll, after_read}
 use Rattle.mmc_card.specs.CardAnswer.{left_with, raised}
 use Rattle.mmc_card.specs.Card.{AreAmong, AreBlocks, Card, HasItsSizes, IsBlock, IsCard, powered_on, stored}
@@ -175,6 +172,9 @@ write_leaves_card old block got new h step k =
     (λ lands accepts.
     let rcv = accepts_in_rcv old.lines old.card accepts in
     ordered_accepted block _ rcv (ordered_fallen_short lands old.card rcv o))
+    (λ lands accepts.
+    let rcv = accepts_in_rcv old.lines old.card accepts in
+    ordered_rejected true _ rcv (ordered_fallen_short lands old.card rcv o))
     (λ bits card _ k. ordered_raised bits card k)
     (λ lands keeps card _. ordered_reset lands keeps card) step)
     (after_write IsSettled old block got new s
@@ -182,11 +182,14 @@ write_leaves_card old block got new h step k =
     (λ ignores accepts. settled_rejected ignores old.card (accepts_in_rcv old.lines old.card accepts) s)
     (λ lands accepts. settled_accepted block old.lines _ (accepts_still lands old.lines old.card accepts)
     (settled_fallen_short lands old.card s))
+    (λ lands accepts. settled_rejected true _ (accepts_in_rcv old.lines old.card accepts)
+    (settled_fallen_short lands old.card s))
     (λ bits card _ k. settled_raised bits card k)
     (λ lands keeps card _. settled_reset lands keeps card) step)
     (after_write IsSending old block got new g (λ _. sending_accepted block old.card g)
     (λ ignores _. sending_rejected ignores old.card g)
     (λ lands _. sending_accepted block _ (sending_fallen_short lands old.card g))
+    (λ lands _. sending_rejected true _ (sending_fallen_short lands old.card g))
     (λ bits card _ k. sending_raised bits card k) sending_reset step)
 
 pub read_leaves_card : (old : BusView) (size : ℕ) (got : DataIn) (block : Sector) (new : BusView)

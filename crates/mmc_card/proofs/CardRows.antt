@@ -36,9 +36,8 @@ use Rattle.mmc_card.specs.Rows.{answered, is_legal, leaves_erase, reached, respo
 use Rattle.mmc_card.specs.RowsErase.{erase_held, erases, erasing, forgotten, hold_first, hold_last, holds_address}
 use Rattle.mmc_card.specs.RowsErase.{is_no_range, is_trim}
 use Rattle.mmc_card.specs.RowsIdentify.{inquired, is_served, may_lag}
-use Rattle.mmc_card.specs.RowsSwitch.{ext_csd_now, switch_row, switch_source}
-use Rattle.mmc_card.specs.RowsTransfer.{begun, preset, sending_from, transfer_errors, transferred}
-use Rattle.mmc_card.specs.RowsTransfer.{stopped}
+use Rattle.mmc_card.specs.RowsSwitch.{ext_csd_now, reread, switch_row, switch_source}
+use Rattle.mmc_card.specs.RowsTransfer.{begun, preset, sending_from, stopped, transfer_errors, transferred}
 use Rattle.mmc_card.specs.Sectors.{Sector}
 use Rattle.mmc_card.specs.BusView.{BusView}
 
@@ -64,12 +63,12 @@ either_state Dis h = refl
 pub either_down : (c : Card) → (is_in c.state Ident || is_in c.state Stby) ≡ true → is_selected c.state ≡ false
 either_down c h = either_state c.state h
 
-card_inquired : (is_ready : Bool) (early : ℕ) (c : Card) → IsBasic c → c.state ≡ Idle
-    → IsBasic (inquired is_ready early c).0
-card_inquired true early c k e =
+card_inquired : (is_ready : Bool) (c : Card) → IsBasic c → c.state ≡ Idle
+    → IsBasic (inquired is_ready c).0
+card_inquired true c k e =
     apart_card c _ k (like_done c _ k refl refl refl refl) (down_in c Idle e refl) refl refl refl refl refl refl refl
     refl refl refl
-card_inquired false early c k e =
+card_inquired false c k e =
     stays_card c _ k (like_done c _ k refl refl refl refl) refl refl refl refl refl refl refl (λ h. h) (λ h. refl)
     (λ h. h)
 
@@ -140,9 +139,9 @@ card_row : (choice : Choice) (command : Command) (c : Card) (index argument : �
     → IsBasic (row choice command c index argument).0
 card_row choice GoIdleState c index argument l k = card_reset choice.lands choice.keeps_length c k
 card_row choice SendOpCond c index argument l k =
-    card_inquired (not choice.is_slow) choice.early c k (in_state c.state Idle l)
+    card_inquired (not choice.is_slow) c k (in_state c.state Idle l)
 card_row choice SdSendOpCond c index argument l k =
-    card_inquired (is_served c argument && not choice.is_slow) choice.early c k (in_state c.state Idle l)
+    card_inquired (is_served c argument && not choice.is_slow) c k (in_state c.state Idle l)
 card_row choice AllSendCid c index argument l k =
     apart_card c _ k (like_done c _ k refl refl refl refl) (down_in c Ready (in_state c.state Ready l) refl) refl refl
     refl refl refl refl refl refl refl refl
@@ -157,7 +156,8 @@ card_row choice SelectCard c index argument l k =
     chosen_card c _ k (like_shown c _ refl refl refl refl) refl refl
     (λ _. none_in c Stby k (in_state c.state Stby l) refl) k.new_values
 card_row choice SendIfCond c index argument l k = card_told _ c k
-card_row choice SendExtCsd c index argument l k = card_sending (FromBytes (ext_csd_now c) c.timing) c (in_state c.state Tran l) k
+card_row choice SendExtCsd c index argument l k =
+    card_sending (FromBytes (reread choice.unread (ext_csd_now c)) c.timing) c (in_state c.state Tran l) k
 card_row choice SendCsd c index argument l k = card_done c k
 card_row choice StopTransmission c index argument l k = card_stopped choice.stays_busy c k l
 card_row choice SendStatus c index argument l k =
@@ -237,11 +237,10 @@ card_accepted block c h k =
 
 card_rejected : (ignores : Bool) (c : Card) → IsBasic c → IsBasic (rejected ignores c)
 card_rejected ignores c k =
-    by_cond IsBasic c.is_single
-    (λ _. chosen_card c _ k (like_same c _ k refl refl refl refl) refl refl (λ _. refl) tt)
-    (λ _. by_cond IsBasic ignores
+    by_cond IsBasic ignores
     (λ _. stays_card c _ k (like_same c _ k refl refl refl refl) refl refl refl refl refl refl refl (λ h. h) (λ h. h) (λ h. h))
-    (λ _. k))
+    (λ _. by_cond IsBasic c.is_single
+    (λ _. chosen_card c _ k (like_same c _ k refl refl refl refl) refl refl (λ _. refl) tt) (λ _. k))
 
 end_among : (b : Bool) → AreAmong (if b then out_of_range else 0) error_bits
 end_among true = refl
@@ -285,6 +284,8 @@ write_leaves_card old block got new h step k =
     after_write IsBasic old block got new k (λ _. card_accepted block old.card h k)
     (λ ignores _. card_rejected ignores old.card k)
     (λ lands accepts. card_accepted block _ h
+    (card_fallen_short lands old.card (accepts_in_rcv old.lines old.card accepts) k))
+    (λ lands accepts. card_rejected true _
     (card_fallen_short lands old.card (accepts_in_rcv old.lines old.card accepts) k))
     (λ bits card among k. card_raised bits card among k) card_reset step
 

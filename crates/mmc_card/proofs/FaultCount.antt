@@ -3,10 +3,9 @@ use Rattle.std.proofs.Common.{Bool, List, inl, inr, ℕ}
 use Rattle.mmc_card.specs.declared.exchange.DataIn.{DataIn}
 use Rattle.mmc_card.specs.declared.exchange.DataOut.{DataOut}
 use Rattle.mmc_card.specs.declared.exchange.Reply.{Reply}
-use Rattle.mmc_card.specs.Faults.{CommandStep, WriteStep, PollStep, ReadStep, bad_block, brownout, busy, fail, faithful}
-use Rattle.mmc_card.specs.Faults.{fail_switch, fall_short, leave_over}
-use Rattle.mmc_card.specs.Faults.{flip_command, flip_reply, lose_command, lose_reply, lose_status, read_error, reject}
-use Rattle.mmc_card.specs.Faults.{slow_inquiry}
+use Rattle.mmc_card.specs.Faults.{CommandStep, PollStep, ReadStep, WriteStep, brownout, busy, fail, faithful}
+use Rattle.mmc_card.specs.Faults.{fail_switch, fall_short, flip_command, flip_reply, leave_over, lose_command}
+use Rattle.mmc_card.specs.Faults.{lose_reply, lose_status, reject, slow_inquiry, spoil, turn_out}
 use Rattle.mmc_card.specs.Laws.{CountsAtMostOne}
 use Rattle.mmc_card.specs.Sectors.{Sector}
 use Rattle.mmc_card.specs.BusView.{BusView}
@@ -36,11 +35,11 @@ write_counts old block got new (faithful count card answer) = inl count
 write_counts old block got new (reject ignores accepts count card answer) = inr count
 write_counts old block got new (lose_status is_accepted ignores accepts count card answer) = inr count
 write_counts old block got new (fall_short lands bits of accepts count card answer) = inr count
+write_counts old block got new (turn_out lands several accepts count card answer) = inr count
 write_counts old block got new (brownout lands keeps_length after count card answer) = inr count
 
 pub read_counts : (old : BusView) (size : ℕ) (got : DataIn) (block : Sector) (new : BusView)
     → ReadStep old size got block new → CountsAtMostOne old new
 read_counts old size got block new (faithful choice count card answer good) = inl count
-read_counts old size got block new (bad_block choice comes sends count card answer) = inr count
-read_counts old size got block new (read_error sends count card answer) = inr count
+read_counts old size got block new (spoil choice bits goes_on comes among sends count card answer) = inr count
 read_counts old size got block new (brownout choice lands keeps_length after count card answer) = inr count

@@ -5,6 +5,7 @@ pub mod Cards
 pub mod Conditions
 pub mod EraseLemmas
 pub mod FaultCount
+pub mod JudgedLemmas
 pub mod Landing
 pub mod Narrow
 pub mod NarrowSteps

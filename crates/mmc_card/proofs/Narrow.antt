@@ -166,9 +166,9 @@ keeps_slow c = plain c _ refl refl refl
 
 -- Rows.
 
-keeps_inquired : (is_ready : Bool) (early : ℕ) (c : Card) → Keeps c (inquired is_ready early c).0
-keeps_inquired true early c = plain c _ refl refl refl
-keeps_inquired false early c = plain c _ refl refl refl
+keeps_inquired : (is_ready : Bool) (c : Card) → Keeps c (inquired is_ready c).0
+keeps_inquired true c = plain c _ refl refl refl
+keeps_inquired false c = plain c _ refl refl refl
 
 keeps_transferred : (index errors : ℕ) (c after : Card) → Keeps c after → Keeps c (transferred index errors c after).0
 keeps_transferred index errors c after k =
@@ -276,9 +276,9 @@ keeps_switch late c (Some d) h = cleared c _ h.made h.sectors refl
 widens_row : (choice : Choice) (command : Command) (c : Card) (index argument : ℕ)
     → Widens (erased_by_command command c argument) c (row choice command c index argument).0
 widens_row choice GoIdleState c index argument = wide _ c _ (keeps_reset choice.lands choice.keeps_length c)
-widens_row choice SendOpCond c index argument = wide _ c _ (keeps_inquired (not choice.is_slow) choice.early c)
+widens_row choice SendOpCond c index argument = wide _ c _ (keeps_inquired (not choice.is_slow) c)
 widens_row choice SdSendOpCond c index argument =
-    wide _ c _ (keeps_inquired (is_served c argument && not choice.is_slow) choice.early c)
+    wide _ c _ (keeps_inquired (is_served c argument && not choice.is_slow) c)
 widens_row choice AllSendCid c index argument = wide _ c _ (plain c _ refl refl refl)
 widens_row choice SendRelativeAddr c index argument = wide _ c _ (plain c _ refl refl refl)
 widens_row choice SetRelativeAddr c index argument = wide _ c _ (plain c _ refl refl refl)
@@ -381,8 +381,8 @@ keeps_sent_from (FromBytes bytes timing) choice c = plain c _ refl refl refl
 
 pub keeps_rejected : (ignores : Bool) (c : Card) → Keeps c (rejected ignores c)
 keeps_rejected ignores c =
-    by_cond (Keeps c) c.is_single (λ _. cleared c _ refl refl refl)
-    (λ _. by_cond (Keeps c) ignores (λ _. plain c _ refl refl refl) (λ _. keeps_same c))
+    by_cond (Keeps c) ignores (λ _. plain c _ refl refl refl)
+    (λ _. by_cond (Keeps c) c.is_single (λ _. cleared c _ refl refl refl) (λ _. keeps_same c))
 
 -- a block that the card accepted
 pub accepted_adds : (block : Sector) (c : Card) → is_in c.state Rcv ≡ true → WithinOrAccepted c block (accepted block c)

@@ -88,6 +88,8 @@ write_adds old block got new step =
     (λ accepts. adds_accepted block old.lines old.card accepts)
     (λ ignores _. adds_none block old.card _ (keeps_rejected ignores old.card))
     (λ lands accepts. adds_behind block lands old.lines old.card accepts)
+    (λ lands _. adds_none block old.card _
+    (keeps_then (keeps_fallen_short lands old.card) (keeps_rejected true (fallen_short lands old.card))))
     (λ bits card _ a. adds_then block old.card card _ a (keeps_raised bits card))
     (λ lands keeps card a. adds_then block old.card card _ a (keeps_reset lands keeps card)) step
 

@@ -13,7 +13,7 @@ use Rattle.mmc_card.proofs.Narrow.{AreSwitched, both, may_switch}
 use Rattle.mmc_card.specs.CardAnswer.{Choice, counted, done, garbled, left_with, raised, refused, reset, shown}
 use Rattle.mmc_card.specs.Blocks.{accepted, fallen_short, is_last, programmed, rejected, rested, sent_from, waited}
 use Rattle.mmc_card.specs.Card.{Both, Card, First, FromBytes, FromSectors, HasItsRca, Held, NoAddress, Source}
-use Rattle.mmc_card.specs.Card.{is_identified, is_in}
+use Rattle.mmc_card.specs.Card.{is_identified, is_in, patience}
 use Rattle.mmc_card.specs.Made.{Made, first_rca, has_switch_function, is_sd}
 use Rattle.mmc_card.specs.declared.command.Command.{Command}
 use Rattle.mmc_card.specs.declared.command.Command.TheVariants.{SdSendOpCond, SendScr, SetBusWidth, AllSendCid, AppCmd}
@@ -23,8 +23,7 @@ use Rattle.mmc_card.specs.declared.command.Command.TheVariants.{SendExtCsd, Send
 use Rattle.mmc_card.specs.declared.command.Command.TheVariants.{SendStatus, SetBlockCount, SetBlocklen, SetRelativeAddr}
 use Rattle.mmc_card.specs.declared.command.Command.TheVariants.{StopTransmission, Switch, SwitchFunc, Unknown}
 use Rattle.mmc_card.specs.declared.command.Command.TheVariants.{WriteBlock, WriteMultipleBlock}
-use Rattle.mmc_card.specs.Rows.{answered, is_legal, leaves_erase, reached, responded, row}
-use Rattle.mmc_card.specs.Rows.{without_addresses}
+use Rattle.mmc_card.specs.Rows.{answered, is_legal, leaves_erase, reached, responded, row, without_addresses}
 use Rattle.mmc_card.specs.RowsErase.{erase_held, erases, erasing, forgotten, hold_first, hold_last, holds_address}
 use Rattle.mmc_card.specs.RowsErase.{is_no_range, is_trim}
 use Rattle.mmc_card.specs.RowsIdentify.{inquired, is_served, may_lag}
@@ -36,10 +35,10 @@ pub record IsOrdered (card : Card) : Type 0 where
   pub busy : is_in card.state Prg ≡ true → card.is_busy ≡ true
   pub rca : HasItsRca card
   pub app : card.made.kind ≡ Mmc → card.app ≡ false
-  pub inquiries : card.inquiries ≤ 8
-  pub polled : card.polled ≤ 8
+  pub inquiries : card.inquiries ≤ patience
+  pub polled : card.polled ≤ patience
 
-pub counted_below : (n : ℕ) → counted n ≤ 8
+pub counted_below : (n : ℕ) → counted n ≤ patience
 counted_below n = omega arith
 
 -- States.
@@ -58,7 +57,7 @@ hidden_in s t e h = ap is_identified e ∙ h
 -- the state is as it was
 pub ordered_like : (c d : Card) → IsOrdered c → d.state ≡ c.state → d.made ≡ c.made → d.rca ≡ c.rca
     → (c.erase ≡ NoAddress → d.erase ≡ NoAddress) → (c.is_busy ≡ true → d.is_busy ≡ true)
-    → (c.made.kind ≡ Mmc → d.app ≡ false) → d.inquiries ≤ 8 → d.polled ≤ 8 → IsOrdered d
+    → (c.made.kind ≡ Mmc → d.app ≡ false) → d.inquiries ≤ patience → d.polled ≤ patience → IsOrdered d
 ordered_like c d k state made rca erase busy app inquiries polled = record {
   held = λ h. erase (k.held (ap (λ x. is_in x Tran) (sym state) ∙ h));
   busy = λ h. busy (k.busy (ap (λ x. is_in x Prg) (sym state) ∙ h));
@@ -71,8 +70,8 @@ ordered_like c d k state made rca erase busy app inquiries polled = record {
 -- from an identified state to another one
 pub ordered_up : (c d : Card) → IsOrdered c → is_identified c.state ≡ true → is_identified d.state ≡ true
     → d.made ≡ c.made → d.rca ≡ c.rca → (is_in d.state Tran ≡ false → d.erase ≡ NoAddress)
-    → (is_in d.state Prg ≡ true → d.is_busy ≡ true) → (c.made.kind ≡ Mmc → d.app ≡ false) → d.inquiries ≤ 8
-    → d.polled ≤ 8 → IsOrdered d
+    → (is_in d.state Prg ≡ true → d.is_busy ≡ true) → (c.made.kind ≡ Mmc → d.app ≡ false) → d.inquiries ≤ patience
+    → d.polled ≤ patience → IsOrdered d
 ordered_up c d k was up made rca held busy app inquiries polled = record {
   held = held;
   busy = busy;
@@ -85,7 +84,7 @@ ordered_up c d k was up made rca held busy app inquiries polled = record {
 -- from a state before stby to another such one
 pub ordered_low : (c d : Card) → IsOrdered c → is_identified c.state ≡ false → is_identified d.state ≡ false
     → is_in d.state Prg ≡ false → d.made ≡ c.made → d.rca ≡ c.rca → d.erase ≡ NoAddress
-    → (c.made.kind ≡ Mmc → d.app ≡ false) → d.inquiries ≤ 8 → d.polled ≤ 8 → IsOrdered d
+    → (c.made.kind ≡ Mmc → d.app ≡ false) → d.inquiries ≤ patience → d.polled ≤ patience → IsOrdered d
 ordered_low c d k was low quiet made rca held app inquiries polled = record {
   held = λ h. held;
   busy = λ h. cc (quiet, h);
@@ -166,12 +165,12 @@ ordered_waited c k = ordered_like c _ k refl refl refl (λ h. h) (λ h. h) k.app
 
 -- Rows.
 
-ordered_inquired : (is_ready : Bool) (early : ℕ) (c : Card) → c.state ≡ Idle → IsOrdered c
-    → IsOrdered (inquired is_ready early c).0
-ordered_inquired true early c e k =
+ordered_inquired : (is_ready : Bool) (c : Card) → c.state ≡ Idle → IsOrdered c
+    → IsOrdered (inquired is_ready c).0
+ordered_inquired true c e k =
     ordered_low c _ k (hidden_in c.state Idle e refl) refl refl refl refl (k.held (not_in c.state Idle Tran e refl))
     (λ _. refl) (counted_below c.inquiries) k.polled
-ordered_inquired false early c e k =
+ordered_inquired false c e k =
     ordered_like c _ k refl refl refl (λ h. h) (λ h. h) (λ _. refl) (counted_below c.inquiries) k.polled
 
 ordered_transferred : (index errors : ℕ) (c after : Card) → IsOrdered c → IsOrdered after
@@ -182,14 +181,14 @@ ordered_transferred index errors c after k a =
 -- from tran, with no address held, to another selected state; programming is busy
 ordered_from : (c d : Card) → is_in c.state Tran ≡ true → IsOrdered c → is_identified d.state ≡ true → d.made ≡ c.made
     → d.rca ≡ c.rca → d.erase ≡ NoAddress → (is_in d.state Prg ≡ true → d.is_busy ≡ true) → d.app ≡ false
-    → d.inquiries ≤ 8 → d.polled ≤ 8 → IsOrdered d
+    → d.inquiries ≤ patience → d.polled ≤ patience → IsOrdered d
 ordered_from c d tran k up made rca held busy app inquiries polled =
     ordered_up c d k
     (identified_in c.state Tran (in_state c.state Tran tran) refl) up made rca (λ _. held) busy (λ _. app)
     inquiries polled
 
 ordered_tran : (c d : Card) → c.state ≡ Tran → IsOrdered c → d.state ≡ c.state → d.made ≡ c.made → d.rca ≡ c.rca
-    → (c.is_busy ≡ true → d.is_busy ≡ true) → d.app ≡ false → d.inquiries ≤ 8 → d.polled ≤ 8 → IsOrdered d
+    → (c.is_busy ≡ true → d.is_busy ≡ true) → d.app ≡ false → d.inquiries ≤ patience → d.polled ≤ patience → IsOrdered d
 ordered_tran c d e k state made rca busy app inquiries polled =
     let tran : d.state ≡ Tran = state ∙ e in
     ordered_up c d k (identified_in c.state Tran e refl) (identified_in d.state Tran tran refl) made rca
@@ -222,14 +221,14 @@ ordered_switch late c None h e none k =
     ordered_from c _ e k refl refl refl none (λ h. refl) refl k.inquiries (omega arith)
 ordered_switch late c (Some d) h e none k =
     ordered_from c _ e k refl h.made h.rca (h.erase ∙ none) (λ h. refl) refl
-    (along (λ n. n ≤ 8) h.inquiries k.inquiries) (omega arith)
+    (along (λ n. n ≤ patience) h.inquiries k.inquiries) (omega arith)
 
 sd_alone : {X : Type 0} (kind : Kind) → is_sd kind ≡ true → kind ≡ Mmc → X
 sd_alone Sd h e = cc
 sd_alone Mmc h e = cc
 
 ordered_named : (c d : Card) → IsOrdered c → d.state ≡ Stby → d.erase ≡ NoAddress
-    → d.app ≡ false → d.inquiries ≤ 8 → d.polled ≤ 8 → IsOrdered d
+    → d.app ≡ false → d.inquiries ≤ patience → d.polled ≤ patience → IsOrdered d
 ordered_named c d k stby held app inquiries polled = record {
   held = λ h. held;
   busy = λ h. cc (ap (λ x. is_in x Prg) stby, h);
@@ -266,9 +265,9 @@ ordered_row : (choice : Choice) (command : Command) (c : Card) (index argument :
     → IsOrdered (row choice command c index argument).0
 ordered_row choice GoIdleState c index argument l none k = ordered_reset choice.lands choice.keeps_length c
 ordered_row choice SendOpCond c index argument l none k =
-    ordered_inquired (not choice.is_slow) choice.early c (in_state c.state Idle l) k
+    ordered_inquired (not choice.is_slow) c (in_state c.state Idle l) k
 ordered_row choice SdSendOpCond c index argument l none k =
-    ordered_inquired (is_served c argument && not choice.is_slow) choice.early c (in_state c.state Idle l) k
+    ordered_inquired (is_served c argument && not choice.is_slow) c (in_state c.state Idle l) k
 ordered_row choice AllSendCid c index argument l none k =
     ordered_low c _ k (hidden_in c.state Ready (in_state c.state Ready l) refl) refl refl refl refl (none refl)
     (λ _. refl) k.inquiries k.polled
@@ -373,11 +372,11 @@ pub ordered_rejected : (ignores : Bool) (c : Card) → is_in c.state Rcv ≡ tru
     → IsOrdered (rejected ignores c)
 ordered_rejected ignores c rcv k =
     let e = in_state c.state Rcv rcv in
-    by_cond IsOrdered c.is_single
+    by_cond IsOrdered ignores
+    (λ _. ordered_like c _ k refl refl refl (λ h. h) (λ h. h) k.app k.inquiries k.polled)
+    (λ _. by_cond IsOrdered c.is_single
     (λ _. ordered_up c _ k (identified_in c.state Rcv e refl) refl refl refl (λ h. cc) (λ h. cc)
-    k.app k.inquiries k.polled)
-    (λ _. by_cond IsOrdered ignores
-    (λ _. ordered_like c _ k refl refl refl (λ h. h) (λ h. h) k.app k.inquiries k.polled) (λ _. k))
+    k.app k.inquiries k.polled) (λ _. k))
 
 quiet_if : (b : Bool) → is_in (if b then Tran else Data) Prg ≡ false
 quiet_if true = refl

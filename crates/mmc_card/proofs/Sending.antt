@@ -4,7 +4,7 @@ use Rattle.std.specs.Prelude.{◌==◌, None, Option, Some}
 use Rattle.mmc_frame.specs.declared.card_state.State.{State}
 use Rattle.mmc_frame.specs.declared.card_state.State.TheVariants.{Data, Prg, Rcv}
 use Rattle.mmc_frame.specs.Flips.{AreBytes}
-use Rattle.mmc_card.proofs.ByteLemmas.{ext_csd_bytes, refusal_bytes}
+use Rattle.mmc_card.proofs.ByteLemmas.{ext_csd_bytes, refusal_bytes, reread_bytes}
 use Rattle.mmc_card.proofs.Conditions.{along, by_cond, first_by_cond}
 use Rattle.mmc_card.proofs.Responses.{after_answer, after_response}
 use Rattle.mmc_card.proofs.Narrow.{AreSwitched, may_switch}
@@ -21,7 +21,7 @@ use Rattle.mmc_card.specs.declared.command.Command.TheVariants.{WriteMultipleBlo
 use Rattle.mmc_card.specs.Rows.{answered, leaves_erase, reached, responded, row}
 use Rattle.mmc_card.specs.RowsErase.{erase_held, hold_first, hold_last, holds_address, is_no_range}
 use Rattle.mmc_card.specs.RowsIdentify.{inquired, is_served, may_lag}
-use Rattle.mmc_card.specs.RowsSwitch.{is_to_speed_up, switch_row, switch_source}
+use Rattle.mmc_card.specs.RowsSwitch.{ext_csd_now, is_to_speed_up, switch_row, switch_source}
 use Rattle.mmc_card.specs.RowsTransfer.{begun, preset, transfer_errors, transferred}
 
 pub record IsSending (card : Card) : Type 0 where
@@ -87,8 +87,8 @@ sending_waited c k = sending_like c _ k refl refl refl
 
 -- Rows.
 
-sending_inquired : (is_ready : Bool) (early : ℕ) (c : Card) → IsSending c → IsSending (inquired is_ready early c).0
-sending_inquired is_ready early c k =
+sending_inquired : (is_ready : Bool) (c : Card) → IsSending c → IsSending (inquired is_ready c).0
+sending_inquired is_ready c k =
     first_by_cond IsSending is_ready _ _ (λ _. sending_like c _ k refl refl refl)
     (λ _. sending_like c _ k refl refl refl)
 
@@ -138,14 +138,15 @@ switch_source_bytes choice c argument bytes =
 sending_row : (choice : Choice) (command : Command) (c : Card) (index argument : ℕ) → IsSending c
     → IsSending (row choice command c index argument).0
 sending_row choice GoIdleState c index argument k = sending_reset choice.lands choice.keeps_length c k
-sending_row choice SendOpCond c index argument k = sending_inquired (not choice.is_slow) choice.early c k
+sending_row choice SendOpCond c index argument k = sending_inquired (not choice.is_slow) c k
 sending_row choice SdSendOpCond c index argument k =
-    sending_inquired (is_served c argument && not choice.is_slow) choice.early c k
+    sending_inquired (is_served c argument && not choice.is_slow) c k
 sending_row choice StopTransmission c index argument k =
     by_cond IsSending (is_in c.state Rcv) (λ _. sending_like c _ k refl refl refl)
     (λ _. by_cond IsSending choice.stays_busy (λ _. sending_from c _ k refl refl tt) (λ _. sending_from c _ k refl refl tt))
 sending_row choice SendExtCsd c index argument k =
-    sending_from c _ k refl refl (ext_csd_bytes c k.erase_group_def k.registers.ext_csd_bytes)
+    sending_from c _ k refl refl
+    (reread_bytes choice.unread (ext_csd_now c) (ext_csd_bytes c k.erase_group_def k.registers.ext_csd_bytes))
 sending_row choice SetBlocklen c index argument k =
     first_by_cond IsSending (argument == 512) _ _ (λ _. sending_like c _ k refl refl refl) (λ _. sending_shown c k)
 sending_row choice SendStatus c index argument k =
@@ -189,8 +190,8 @@ sending_accepted block c k = sending_like c _ k refl refl refl
 
 pub sending_rejected : (ignores : Bool) (c : Card) → IsSending c → IsSending (rejected ignores c)
 sending_rejected ignores c k =
-    by_cond IsSending c.is_single (λ _. sending_like c _ k refl refl refl)
-    (λ _. by_cond IsSending ignores (λ _. sending_like c _ k refl refl refl) (λ _. k))
+    by_cond IsSending ignores (λ _. sending_like c _ k refl refl refl)
+    (λ _. by_cond IsSending c.is_single (λ _. sending_like c _ k refl refl refl) (λ _. k))
 
 pub sending_sent_from : (source : Source) (choice : Choice) (c : Card) → IsSending c
     → IsSending (sent_from source choice c)

@@ -15,8 +15,7 @@ use Rattle.mmc_card.proofs.Landing.{landed_size, snoc_length}
 use Rattle.mmc_card.proofs.Narrow.{AreSwitched, both, may_switch}
 use Rattle.mmc_card.specs.CardAnswer.{Choice, done, garbled, left_with, raised, refused, reset, shown}
 use Rattle.mmc_card.specs.Blocks.{accepted, awaits, can_accept, fallen_short, is_last, next_written, lines_fit}
-use Rattle.mmc_card.specs.Blocks.{programmed, rejected, rested}
-use Rattle.mmc_card.specs.Blocks.{sent_from, waited}
+use Rattle.mmc_card.specs.Blocks.{programmed, rejected, rested, sent_from, waited}
 use Rattle.mmc_card.specs.Card.{Both, Card, First, FitsPart, FromBytes, FromSectors, Held, NoAddress, Source, is_in}
 use Rattle.mmc_card.specs.Card.{stored}
 use Rattle.mmc_card.specs.Made.{is_mmc, sector_at}
@@ -122,10 +121,10 @@ settled_waited c k = settled_like c _ k refl k.fits refl refl refl
 
 -- Rows.
 
-settled_inquired : (is_ready : Bool) (early : ℕ) (c : Card) → c.state ≡ Idle → IsSettled c
-    → IsSettled (inquired is_ready early c).0
-settled_inquired true early c e k = settled_rest _ Ready refl refl refl k.fits (λ _. source_at c Idle k e refl)
-settled_inquired false early c e k = settled_like c _ k refl k.fits refl refl refl
+settled_inquired : (is_ready : Bool) (c : Card) → c.state ≡ Idle → IsSettled c
+    → IsSettled (inquired is_ready c).0
+settled_inquired true c e k = settled_rest _ Ready refl refl refl k.fits (λ _. source_at c Idle k e refl)
+settled_inquired false c e k = settled_like c _ k refl k.fits refl refl refl
 
 settled_transferred : (index errors : ℕ) (c after : Card) → IsSettled c → IsSettled after
     → IsSettled (transferred index errors c after).0
@@ -234,9 +233,9 @@ settled_row : (choice : Choice) (command : Command) (c : Card) (index argument :
     → IsSettled c → IsSettled (row choice command c index argument).0
 settled_row choice GoIdleState c index argument l k = settled_reset choice.lands choice.keeps_length c
 settled_row choice SendOpCond c index argument l k =
-    settled_inquired (not choice.is_slow) choice.early c (in_state c.state Idle l) k
+    settled_inquired (not choice.is_slow) c (in_state c.state Idle l) k
 settled_row choice SdSendOpCond c index argument l k =
-    settled_inquired (is_served c argument && not choice.is_slow) choice.early c (in_state c.state Idle l) k
+    settled_inquired (is_served c argument && not choice.is_slow) c (in_state c.state Idle l) k
 settled_row choice AllSendCid c index argument l k =
     settled_rest _ Ident refl refl refl k.fits (λ _. source_at c Ready k (in_state c.state Ready l) refl)
 settled_row choice SendRelativeAddr c index argument l k =
@@ -340,10 +339,10 @@ settled_accepted block lines c accepts k =
 pub settled_rejected : (ignores : Bool) (c : Card) → is_in c.state Rcv ≡ true → IsSettled c
     → IsSettled (rejected ignores c)
 settled_rejected ignores c rcv k =
-    by_cond IsSettled c.is_single
+    by_cond IsSettled ignores (λ _. settled_like c _ k refl k.fits refl refl refl)
+    (λ _. by_cond IsSettled c.is_single
     (λ _. settled_rest _ Tran refl refl refl (λ some. absurd (omega (arith, some)))
-    (λ _. source_at c Rcv k (in_state c.state Rcv rcv) refl))
-    (λ _. by_cond IsSettled ignores (λ _. settled_like c _ k refl k.fits refl refl refl) (λ _. k))
+    (λ _. source_at c Rcv k (in_state c.state Rcv rcv) refl)) (λ _. k))
 
 settled_sent : (b : Bool) (d : Card) → d.state ≡ (if b then Tran else Data) → FitsPart d → d.source ≡ FromSectors
     → IsSettled d

@@ -280,9 +280,9 @@ stands_accepted s block c rcv h =
 stands_rejected : (s : Setting) (ignores : Bool) (c : Card) → is_in c.state Rcv ≡ true → Stands s c
     → Stands s (rejected ignores c)
 stands_rejected s ignores c rcv h =
-    by_cond (Stands s) c.is_single (λ _. stands_quiet s c _ refl refl (up_in c Rcv rcv refl) refl h)
-    (λ _. by_cond (Stands s) ignores
-    (λ _. stands_like s c _ refl refl refl (λ a. cc (ap (λ x. is_in x Rcv) a.state, rcv)) h) (λ _. h))
+    by_cond (Stands s) ignores
+    (λ _. stands_like s c _ refl refl refl (λ a. cc (ap (λ x. is_in x Rcv) a.state, rcv)) h)
+    (λ _. by_cond (Stands s) c.is_single (λ _. stands_quiet s c _ refl refl (up_in c Rcv rcv refl) refl h) (λ _. h))
 
 stands_sent_from : (s : Setting) (source : Source) (choice : Choice) (c : Card) → is_in c.state Data ≡ true
     → timing_once_sent source c.timing ≡ s.timing → Stands s c → Stands s (sent_from source choice c)
@@ -321,6 +321,7 @@ write_stands old block got new step s h =
     (λ accepts. stands_accepted s block old.card (rcv accepts) h)
     (λ ignores accepts. stands_rejected s ignores old.card (rcv accepts) h)
     (λ lands accepts. stands_accepted s block _ (rcv accepts) (stands_fallen_short s lands old.card (rcv accepts) h))
+    (λ lands accepts. stands_rejected s true _ (rcv accepts) (stands_fallen_short s lands old.card (rcv accepts) h))
     (λ bits card _ k. stands_raised s bits card k)
     (λ lands keeps card _. stands_reset s lands keeps card) step
 

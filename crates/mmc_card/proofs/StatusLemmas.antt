@@ -16,12 +16,13 @@ use Rattle.mmc_card.proofs.Cards.{among_more, in_state}
 use Rattle.mmc_card.specs.CardAnswer.{Choice, bit, status}
 use Rattle.mmc_card.specs.Card.{AreAmong, Card, IsCard}
 use Rattle.mmc_card.specs.ErrorBits.{card_is_locked, command_error_bits, error_bits as held_bits, out_of_range}
+use Rattle.mmc_card.specs.Judged.{whole_status}
 use Rattle.mmc_card.specs.RowsIdentify.{at_work}
 use Rattle.mmc_card.specs.CardLaws.{HasNoError, HasNoErrorOfItsOwn, IsInOrder}
 
 -- Bits.
 
-bit_among : (a m i : ℕ) → AreAmong a m → bit_at a i ≤ bit_at m i
+pub bit_among : (a m i : ℕ) → AreAmong a m → bit_at a i ≤ bit_at m i
 bit_among a m i h = omega (arith, bit_at_or a m i, ap (λ n. bit_at n i) h)
 
 among_then : (a b c : ℕ) → AreAmong a b → AreAmong b c → AreAmong a c
@@ -194,6 +195,22 @@ status_state app c =
 status_ready : (app : Bool) (c : Card) → field 8 8 (status app c) ≡ bit (not c.is_busy)
 status_ready app c =
     omega (arith, state_below c.state, bit_below (not c.is_busy), bit_below c.switch_error, bit_below app)
+
+-- APP_CMD isn't judged
+pub status_app : (app : Bool) (c : Card) → bit_and (status app c) whole_status ≡ bit_and (status false c) whole_status
+status_app app c =
+    let same : status app c
+    ≡ (2 ^ 6 * high_status c + 4 * state_number c.state + 2 * bit (not c.is_busy) + bit c.switch_error) * 2 ^ 7
+    + 2 ^ 5 * bit app = omega arith in
+    let none : status false c
+    ≡ (2 ^ 6 * high_status c + 4 * state_number c.state + 2 * bit (not c.is_busy) + bit c.switch_error) * 2 ^ 7
+    + 0 = omega arith in
+    let w = whole_status / 2 ^ 7 in
+    let q = 2 ^ 6 * high_status c + 4 * state_number c.state + 2 * bit (not c.is_busy) + bit c.switch_error in
+    let some = ap (λ n. bit_and n whole_status) same
+    ∙ and_block 7 q w (2 ^ 5 * bit app) 0 (omega (arith, bit_below app)) (omega arith) in
+    let zero = ap (λ n. bit_and n whole_status) none ∙ and_block 7 q w 0 0 (omega arith) (omega arith) in
+    omega (arith, some, zero, and_le_r (2 ^ 5 * bit app) 0, and_le_r 0 0)
 
 -- What a status says of its card alone.
 

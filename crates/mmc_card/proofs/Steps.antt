@@ -9,14 +9,13 @@ use Rattle.mmc_card.proofs.Cards.{among_wider}
 use Rattle.mmc_card.proofs.Conditions.{along, by_cond, first_by_cond}
 use Rattle.mmc_card.proofs.Narrow.{both}
 use Rattle.mmc_card.specs.CardAnswer.{Choice, garbled, left_with, raised, reset}
-use Rattle.mmc_card.specs.ErrorBits.{card_ecc_failed, command_error_bits, error_bits, execution_error_bits}
+use Rattle.mmc_card.specs.ErrorBits.{command_error_bits, error_bits, execution_error_bits}
 use Rattle.mmc_card.specs.Blocks.{accepted, asked_for, can_send, can_accept, fallen_short, offered, polled_once}
 use Rattle.mmc_card.specs.Blocks.{programmed, rejected, rested, sent, waited, will_send}
 use Rattle.mmc_card.specs.Card.{AreAmong, Card, is_in}
-use Rattle.mmc_card.specs.Faults.{CommandStep, WriteStep, PollStep, ReadStep, bad_block, brownout, busy, fail, faithful}
-use Rattle.mmc_card.specs.Faults.{fail_switch, fall_short, leave_over}
-use Rattle.mmc_card.specs.Faults.{flip_command, flip_reply, lose_command, lose_reply, lose_status, read_error, reject}
-use Rattle.mmc_card.specs.Faults.{slow_inquiry}
+use Rattle.mmc_card.specs.Faults.{CommandStep, PollStep, ReadStep, WriteStep, brownout, busy, fail, faithful}
+use Rattle.mmc_card.specs.Faults.{fail_switch, fall_short, flip_command, flip_reply, leave_over, lose_command}
+use Rattle.mmc_card.specs.Faults.{lose_reply, lose_status, reject, slow_inquiry, spoil, turn_out}
 use Rattle.mmc_card.specs.Rows.{answered}
 use Rattle.mmc_card.specs.Sectors.{Sector}
 use Rattle.mmc_card.specs.BusView.{BusView}
@@ -76,8 +75,9 @@ pub after_write : (P : Card → Type 0) (old : BusView) (block : Sector) (got : 
     → (can_accept old.lines old.card ≡ true → P (accepted block old.card))
     → ((ignores : Bool) → can_accept old.lines old.card ≡ true → P (rejected ignores old.card))
     → ((lands : ℕ → Bool) → can_accept old.lines old.card ≡ true → P (accepted block (fallen_short lands old.card)))
+    → ((lands : ℕ → Bool) → can_accept old.lines old.card ≡ true → P (rejected true (fallen_short lands old.card)))
     → Bears P → Survives P → WriteStep old block got new → P new.card
-after_write P old block got new stays accepts rejects falls bears survives step =
+after_write P old block got new stays accepts rejects falls turns bears survives step =
     let offers : P (offered old.lines block old.card) =
     by_cond P (can_accept old.lines old.card) accepts (λ _. stays) in
     elim step [
@@ -87,6 +87,7 @@ after_write P old block got new stays accepts rejects falls bears survives step 
           (by_cond P is_accepted (λ _. accepts can) (λ _. rejects ignores can))
       | fall_short lands bits of can count card answer ↦ along P card
           (bears bits _ (among_all bits of.0) (falls lands can))
+      | turn_out lands several can count card answer ↦ along P card (turns lands can)
       | brownout lands keeps_length after count card answer ↦ along P card
           (survives lands keeps_length _ (by_cond P after (λ _. offers) (λ _. stays)))
     ]
@@ -101,8 +102,8 @@ after_read P old size got block new stays sends bears survives step =
     (λ will. sends choice (both (not (choice.is_slow && old.card.is_busy)) _ will).1) (λ _. stays) in
     elim step [
       | faithful choice count card answer good ↦ along P card (asks choice)
-      | bad_block choice comes can count card answer ↦ along P card (sends choice can)
-      | read_error can count card answer ↦ along P card (bears card_ecc_failed old.card refl stays)
+      | spoil choice bits goes_on comes among can count card answer ↦ along P card
+          (bears bits _ (among_all bits among) (by_cond P goes_on (λ _. sends choice can) (λ _. stays)))
       | brownout choice lands keeps_length after count card answer ↦ along P card
           (survives lands keeps_length _ (by_cond P after (λ _. asks choice) (λ _. stays)))
     ]

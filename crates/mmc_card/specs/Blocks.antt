@@ -75,12 +75,12 @@ accepted block card =
       state = if is_last card.left then Prg else Rcv;
     }
 
--- The card rejects the block. A write of one block is over then (the project's own); one of several goes on, or the card
--- ignores all further blocks until CMD12 (SD Physical Layer 6.00, section 4.3.4).
+-- The card rejects the block: it ignores all further blocks until CMD12 (SD Physical Layer 6.00, section 4.3.4), or a write
+-- of one block is over, and one of several goes on (the project's own).
 abbrev pub rejected : Bool → Card → Card
 rejected ignores card =
-    if card.is_single then record card { state = Tran; values = [] }
-    else if ignores then record card { left = Some 0 } else card
+    if ignores then record card { left = Some 0 }
+    else if card.is_single then record card { state = Tran; values = [] } else card
 
 -- An earlier block of the write turns out not to be programmed, once the card isn't busy any more: of what has come so far
 -- these values have landed, and the transfer goes on behind it (SD Physical Layer 6.00, section 4.3.4).

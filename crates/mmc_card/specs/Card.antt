@@ -70,6 +70,11 @@ pub record Card : Type 0 where
   -- the programming is that of CMD6 (eMMC)
   pub is_switching : Bool
 
+-- How often at most a faithful card says that it isn't ready, and in one busy time that it is busy or at work. The number is
+-- the project's own: slowness within what the standards allow is no fault (SD Physical Layer 6.00, sections 4.2.3 and 4.6.2).
+abbrev pub patience : ℕ
+patience = 15
+
 abbrev pub is_in : State → State → Bool
 is_in state other = state_number state == state_number other
 
@@ -208,8 +213,8 @@ pub record IsCard (card : Card) : Type 0 where
   pub rca : HasItsRca card
   -- an eMMC device has no application commands
   pub app : card.made.kind ≡ Mmc → card.app ≡ false
-  pub inquiries : card.inquiries ≤ 8
-  pub polled : card.polled ≤ 8
+  pub inquiries : card.inquiries ≤ patience
+  pub polled : card.polled ≤ patience
   -- a write, erase or trim is unfinished only in rcv and prg
   pub finished : is_writing card.state ≡ false → card.values ≡ []
   pub fits : FitsPart card

@@ -4,7 +4,7 @@
 use Rattle.std.specs.Prelude.{◌%◌, ◌*◌, ◌+◌, ◌-◌, ◌^◌, Bool, List, bit_or, false, if◌then◌else◌, min, not, true, ℕ}
 use Rattle.mmc_frame.specs.Field.{field}
 use Rattle.mmc_frame.specs.Status.{state_number}
-use Rattle.mmc_card.specs.Card.{Card, landed, powered_on}
+use Rattle.mmc_card.specs.Card.{Card, landed, patience, powered_on}
 use Rattle.mmc_card.specs.ErrorBits.{card_is_locked, com_crc_error, illegal_command}
 use Rattle.mmc_card.specs.Made.{Made, named_block_length}
 
@@ -28,8 +28,6 @@ pub record Choice : Type 0 where
   pub keeps_count : Bool
   -- which of the RCAs from 1 on an SD card publishes
   pub rca : ℕ
-  -- bits 30 and 29 of an OCR before the card is ready
-  pub early : ℕ
   -- the block length outlives CMD0
   pub keeps_length : Bool
   -- an SD card leaves high speed unselected when it is to switch to it, and its status names function 15 then, none, or 0
@@ -44,6 +42,8 @@ pub record Choice : Type 0 where
   pub is_behind : Bool
   pub shows_prg : Bool
   pub shows_ready : Bool
+  -- places in the EXT_CSD, and the bytes that stand there, where nobody reads them
+  pub unread : List (ℕ × ℕ)
 
 abbrev pub bit : Bool → ℕ
 bit b = if b then 1 else 0
@@ -100,9 +100,9 @@ reset lands keeps_length card =
       block_length = if keeps_length then card.block_length else named_block_length card.made;
     }
 
--- one time more, counted up to eight
+-- one time more, counted up to `patience`
 abbrev pub counted : ℕ → ℕ
-counted times = min (times + 1) 8
+counted times = min (times + 1) patience
 
 -- the card is made busy, until the poll that it answers no
 abbrev pub busied : Card → Card

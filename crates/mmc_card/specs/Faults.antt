@@ -2,8 +2,7 @@
 -- The steps of a kept bus: each exchange is a faithful step, or one fault, which adds one to the count of faults. What
 -- may go wrong, and what a card does then, is the project's own.
 use Rattle.std.specs.Prelude.{◌&&◌, ◌+◌, ◌<◌, ◌≡◌, ◌≤◌, Bool, IsSomeAnd, List, None, Ok, Option, Some, false}
-use Rattle.std.specs.Prelude.{if◌then◌else◌}
-use Rattle.std.specs.Prelude.{is_some, length, true, ℕ}
+use Rattle.std.specs.Prelude.{if◌then◌else◌, is_some, length, true, ℕ}
 use Rattle.mmc_frame.specs.Check.{bits_of}
 use Rattle.mmc_frame.specs.Flips.{AreBytes, Flips}
 use Rattle.mmc_frame.specs.Frame.{argument_in, command_in, response_in}
@@ -13,12 +12,13 @@ use Rattle.mmc_card.specs.declared.exchange.DataIn.{DataIn}
 use Rattle.mmc_card.specs.declared.exchange.DataOut.{DataOut}
 use Rattle.mmc_card.specs.declared.exchange.Reply.{Reply}
 use Rattle.mmc_card.specs.CardAnswer.{CardAnswer, Checked, Choice, Silent, R3, R2, garbled, left_with, raised, reset}
-use Rattle.mmc_card.specs.ErrorBits.{card_ecc_failed, command_error_bits, execution_error_bits}
+use Rattle.mmc_card.specs.ErrorBits.{command_error_bits, execution_error_bits}
 use Rattle.mmc_card.specs.Blocks.{accepted, asked_for, can_send, can_accept, fallen_short, next_block, offered, polled_once}
 use Rattle.mmc_card.specs.Blocks.{programmed, rejected, sent, waited, will_send}
-use Rattle.mmc_card.specs.Card.{AreAmong, Card, is_in}
+use Rattle.mmc_card.specs.Card.{AreAmong, Card, is_in, patience}
 use Rattle.mmc_card.specs.declared.command.Command.{Command}
 use Rattle.mmc_card.specs.declared.command.Command.TheVariants.{SdSendOpCond, SendOpCond, Switch}
+use Rattle.mmc_card.specs.Judged.{IsSaid}
 use Rattle.mmc_card.specs.Rows.{answered, command_of}
 use Rattle.mmc_card.specs.RowsIdentify.{is_served}
 use Rattle.mmc_card.specs.RowsSwitch.{switched}
@@ -50,6 +50,10 @@ Spells (Checked index argument) reply =
 Spells (R3 ocr) reply = reply ≡ Came.Short (ocr_frame ocr)
 Spells (R2 bytes) reply = reply ≡ Came.Long (register_frame bytes)
 
+-- the reply to a card's answer, in which what isn't judged is open
+abbrev pub Replies : Card → CardAnswer → Reply → Type 0
+Replies card answer reply = (said : CardAnswer) × IsSaid card.made.kind answer said × Spells said reply
+
 -- a frame of this many bytes, of which one bit or two are flipped
 abbrev pub AreFlipped : ℕ → List ℕ → List ℕ → Type 0
 AreFlipped size frame heard =
@@ -65,6 +69,10 @@ IsFlipped (R3 ocr) reply =
     (heard : List ℕ) × AreFlipped 6 (ocr_frame ocr) heard × (argument_in heard ≡ ocr) × (reply ≡ Came.Short heard)
 IsFlipped (R2 bytes) reply =
     (heard : List ℕ) × AreFlipped 17 (register_frame bytes) heard × (reply ≡ Came.Long heard)
+
+-- such a reply with one bit or two flipped
+abbrev pub RepliesFlipped : Card → CardAnswer → Reply → Type 0
+RepliesFlipped card answer reply = (said : CardAnswer) × IsSaid card.made.kind answer said × IsFlipped said reply
 
 -- a readiness inquiry that the card could answer with ready
 abbrev pub is_inquiry : Command → Card → ℕ → Bool
@@ -85,9 +93,9 @@ abbrev pub is_switch_frame : Card → Option (ℕ × ℕ) → Bool
 is_switch_frame card (Some command) = is_switch (command_of card.made.kind card.app command.0) card command.1
 is_switch_frame card None = false
 
--- not ready, and busy, at most eight times each
+-- not ready, and busy, no more often than a faithful card is
 abbrev pub IsPatient : Choice → ℕ → Type 0
-IsPatient choice times = choice.is_slow ≡ true → times < 8
+IsPatient choice times = choice.is_slow ≡ true → times < patience
 
 -- so it is at a command, and no switch fails
 abbrev pub IsFaultless : Choice → Card → Type 0
@@ -101,7 +109,7 @@ AreOfACommand bits = AreAmong bits command_error_bits × (bits ≡ 0 → ⊥)
 pub data CommandStep (old : BusView) (frame : List ℕ) (reply : Reply) (new : BusView) : Type 0 where
   faithful : (choice : Choice) → IsFaultless choice old.card → NoFault old new
       → new.card ≡ (answered choice old.card (command_in frame)).0
-      → Spells (answered choice old.card (command_in frame)).1 reply
+      → Replies old.card (answered choice old.card (command_in frame)).1 reply
       → CommandStep old frame reply new
   -- the card doesn't see it
   lose_command : OneFault old new → new.card ≡ old.card → reply ≡ Came.Silent → CommandStep old frame reply new
@@ -116,24 +124,24 @@ pub data CommandStep (old : BusView) (frame : List ℕ) (reply : Reply) (new : B
   -- one bit or two of the answer are flipped
   flip_reply : (choice : Choice) → IsFaultless choice old.card → OneFault old new
       → new.card ≡ (answered choice old.card (command_in frame)).0
-      → IsFlipped (answered choice old.card (command_in frame)).1 reply
+      → RepliesFlipped old.card (answered choice old.card (command_in frame)).1 reply
       → CommandStep old frame reply new
-  -- not ready a ninth time
-  slow_inquiry : (choice : Choice) → choice.is_slow ≡ true → 8 ≤ old.card.inquiries
+  -- not ready once more than a faithful card is
+  slow_inquiry : (choice : Choice) → choice.is_slow ≡ true → patience ≤ old.card.inquiries
       → is_inquiry_frame old.card (command_in frame) ≡ true → OneFault old new
       → new.card ≡ (answered choice old.card (command_in frame)).0
-      → Spells (answered choice old.card (command_in frame)).1 reply
+      → Replies old.card (answered choice old.card (command_in frame)).1 reply
       → CommandStep old frame reply new
   -- a switch fails: no byte changes, which SWITCH_ERROR says, in the response or in the first status behind it
   fail_switch : (choice : Choice) → choice.fails_switch ≡ true → is_switch_frame old.card (command_in frame) ≡ true
       → OneFault old new → new.card ≡ (answered choice old.card (command_in frame)).0
-      → Spells (answered choice old.card (command_in frame)).1 reply
+      → Replies old.card (answered choice old.card (command_in frame)).1 reply
       → CommandStep old frame reply new
   -- the card has an error to show of something on the line that it took for a command before this one
   -- (SD Physical Layer 6.00, section 4.10.1, clear condition B; JESD84-B51, section 6.13)
   leave_over : (choice : Choice) (bits : ℕ) → AreOfACommand bits → IsFaultless choice old.card → OneFault old new
       → new.card ≡ (answered choice (left_with bits old.card) (command_in frame)).0
-      → Spells (answered choice (left_with bits old.card) (command_in frame)).1 reply
+      → Replies old.card (answered choice (left_with bits old.card) (command_in frame)).1 reply
       → CommandStep old frame reply new
   -- the power fails before the step or after it
   brownout : (choice : Choice) (lands : ℕ → Bool) (keeps_length after : Bool) → IsFaultless choice old.card
@@ -150,8 +158,8 @@ pub data PollStep (old : BusView) (said : Bool) (new : BusView) : Type 0 where
   faithful : (choice : Choice) → IsPatient choice old.card.polled → NoFault old new
       → new.card ≡ (polled_once choice old.card).0 → said ≡ (polled_once choice old.card).1
       → PollStep old said new
-  -- busy a ninth time, or more often
-  busy : old.card.is_busy ≡ true → 8 ≤ old.card.polled → OneFault old new
+  -- busy once more than a faithful card is
+  busy : old.card.is_busy ≡ true → patience ≤ old.card.polled → OneFault old new
       → new.card ≡ waited old.card → said ≡ true
       → PollStep old said new
   -- programming of a write, erase or trim fails: some of it has landed, and error bits are raised
@@ -185,6 +193,11 @@ pub data WriteStep (old : BusView) (block : List ℕ) (got : DataOut) (new : Bus
   fall_short : (lands : ℕ → Bool) (bits : ℕ) → AreOfExecution bits → can_accept old.lines old.card ≡ true
       → OneFault old new → new.card ≡ raised bits (accepted block (fallen_short lands old.card)) → got ≡ Sent.Accepted
       → WriteStep old block got new
+  -- Of a write of several, an earlier block was rejected and all after it are ignored, which a host that sends ahead learns
+  -- only now. A write of one block has no earlier one, and `lose_status` says of that one that it was rejected.
+  turn_out : (lands : ℕ → Bool) → old.card.is_single ≡ false → can_accept old.lines old.card ≡ true → OneFault old new
+      → new.card ≡ rejected true (fallen_short lands old.card) → got ≡ Sent.Nothing
+      → WriteStep old block got new
   brownout : (lands : ℕ → Bool) (keeps_length after : Bool) → OneFault old new
       → new.card ≡ reset lands keeps_length (if after then offered old.lines block old.card else old.card) → got ≡ Sent.Nothing
       → WriteStep old block got new
@@ -195,13 +208,12 @@ pub data ReadStep (old : BusView) (size : ℕ) (got : DataIn) (block : List ℕ)
       → got ≡ (if will_send choice old.lines size old.card then Received.Good else Received.Nothing)
       → (got ≡ Received.Good → next_block old.card ≡ Some block)
       → ReadStep old size got block new
-  -- the card sends it, and a bad block comes, or none
-  bad_block : (choice : Choice) (comes : Bool) → can_send old.lines size old.card ≡ true → OneFault old new
-      → new.card ≡ sent choice old.card → got ≡ (if comes then Received.Bad else Received.Nothing)
-      → ReadStep old size got block new
-  -- the card can't correct the block: it sends none, has CARD_ECC_FAILED to show, and stays in data until CMD12
-  read_error : can_send old.lines size old.card ≡ true → OneFault old new
-      → new.card ≡ raised card_ecc_failed old.card → got ≡ Received.Nothing
+  -- A bad block comes, or none: the card has sent it and goes on after it, or stays in data until CMD12, and it may have
+  -- error bits of execution to show (SD Physical Layer 6.00, sections 4.3.3 and 4.10.1).
+  spoil : (choice : Choice) (bits : ℕ) (goes_on comes : Bool) → AreAmong bits execution_error_bits
+      → can_send old.lines size old.card ≡ true → OneFault old new
+      → new.card ≡ raised bits (if goes_on then sent choice old.card else old.card)
+      → got ≡ (if comes then Received.Bad else Received.Nothing)
       → ReadStep old size got block new
   brownout : (choice : Choice) (lands : ℕ → Bool) (keeps_length after : Bool) → OneFault old new
       → new.card ≡ reset lands keeps_length (if after then asked_for choice old.lines size old.card else old.card)

@@ -5,6 +5,7 @@ pub mod CardAnswer
 pub mod CardLaws
 pub mod ErrorBits
 pub mod Faults
+pub mod Judged
 pub mod Laws
 pub mod Limits
 pub mod Made

@@ -1,30 +1,26 @@
 -- Headline (README.md, "What to read").
 -- Identification and status (SD Physical Layer 6.00, sections 4.2 and 4.3; JESD84-B51, sections 6.4 and 6.6.1).
 -- Each row is what a card does with a command in a state where it is legal, and its answer.
-use Rattle.std.specs.Prelude.{◌%◌, ◌&&◌, ◌*◌, ◌+◌, ◌==◌, ◌^◌, ◌||◌, Bool, false, if◌then◌else◌, nat_lt, not, true, ℕ}
+use Rattle.std.specs.Prelude.{◌&&◌, ◌+◌, ◌==◌, ◌^◌, ◌||◌, Bool, false, if◌then◌else◌, nat_lt, not, true, ℕ}
 use Rattle.mmc_frame.specs.Field.{field}
 use Rattle.mmc_frame.specs.declared.card_state.State.TheVariants.{Ident, Prg, Ready, Stby, Tran}
 use Rattle.mmc_frame.specs.declared.commands.TheConstants as Index
 use Rattle.mmc_regs.specs.Ocr.{card_capacity_status}
 use Rattle.mmc_card.specs.CardAnswer.{CardAnswer, Checked, Choice, Silent, R3, R2, busied, counted, done, published}
 use Rattle.mmc_card.specs.CardAnswer.{r6_argument, reset, shown, status}
-use Rattle.mmc_card.specs.Card.{Card, is_in}
+use Rattle.mmc_card.specs.Card.{Card, is_in, patience}
 
 -- CMD0, GO_IDLE_STATE
 abbrev pub go_idle_state : Choice → Card → Card × CardAnswer
 go_idle_state choice card = (reset choice.lands choice.keeps_length card, Silent)
 
--- the OCR before the card is ready, whose bits 30 and 29 are open then
-abbrev pub early_ocr : ℕ → ℕ → ℕ
-early_ocr early ocr = 2 ^ 29 * (early % 4) + ocr % 2 ^ 29
-
 -- A readiness inquiry: not ready yet, or ready, which bit 31 of the OCR says (SD Physical Layer 6.00, section 5.1;
 -- JESD84-B51, section 7.1).
-abbrev pub inquired : Bool → ℕ → Card → Card × CardAnswer
-inquired is_ready early card =
+abbrev pub inquired : Bool → Card → Card × CardAnswer
+inquired is_ready card =
     if is_ready
     then (record (done card) { state = Ready; inquiries = counted card.inquiries }, R3 (2 ^ 31 + card.made.ocr))
-    else (record (done card) { inquiries = counted card.inquiries }, R3 (early_ocr early card.made.ocr))
+    else (record (done card) { inquiries = counted card.inquiries }, R3 card.made.ocr)
 
 -- A card with CCS 1 is never ready for a host that doesn't say HCS, bit 30, and ignores it where it has accepted no CMD8
 -- (SD Physical Layer 6.00, section 4.2.3).
@@ -34,11 +30,11 @@ is_served card argument =
 
 -- CMD1 of eMMC, SEND_OP_COND
 abbrev pub send_op_cond : Choice → Card → Card × CardAnswer
-send_op_cond choice card = inquired (not choice.is_slow) choice.early card
+send_op_cond choice card = inquired (not choice.is_slow) card
 
 -- ACMD41, SD_SEND_OP_COND
 abbrev pub sd_send_op_cond : Choice → Card → ℕ → Card × CardAnswer
-sd_send_op_cond choice card argument = inquired (is_served card argument && not choice.is_slow) choice.early card
+sd_send_op_cond choice card argument = inquired (is_served card argument && not choice.is_slow) card
 
 -- CMD2, ALL_SEND_CID
 abbrev pub all_send_cid : Card → Card × CardAnswer
@@ -77,9 +73,9 @@ abbrev pub send_csd : Card → Card × CardAnswer
 send_csd card = (done card, R2 card.made.csd)
 
 -- Behind its programming a card's status may still show it at work. Together with the polls of its busy time that were
--- answered yes that is so at most eight times (the project's own).
+-- answered yes that is so at most `patience` times (the project's own).
 abbrev pub may_lag : Card → Bool
-may_lag card = is_in card.state Tran && (card.lags && nat_lt card.polled 8)
+may_lag card = is_in card.state Tran && (card.lags && nat_lt card.polled patience)
 
 -- as such a status shows it: in prg, ready for data or not, or in tran and not ready (SD Physical Layer 6.00, section
 -- 4.10.1; JESD84-B51, section 6.13)

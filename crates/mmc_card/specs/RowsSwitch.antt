@@ -1,8 +1,8 @@
 -- Headline (README.md, "What to read").
 -- Width, speed and partition (SD Physical Layer 6.00, sections 4.3.10 and 4.7.4; JESD84-B51, sections 6.6.1 and 7.4).
 -- Each row is what a card does with a command in tran, and its answer.
-use Rattle.std.specs.Prelude.{◌&&◌, ◌*◌, ◌+◌, ◌==◌, ◌^◌, List, None, Option, Some, [], false, if◌then◌else◌}
-use Rattle.std.specs.Prelude.{length, Bool, slice_index, slice_set, true, ℕ, ◌||◌, not}
+use Rattle.std.specs.Prelude.{◌%◌, ◌&&◌, ◌*◌, ◌+◌, ◌==◌, ◌^◌, ◌||◌, ◌∷◌, ◌≡◌, Bool, List, None, Option, Some, [], false}
+use Rattle.std.specs.Prelude.{if◌then◌else◌, length, nat_le, not, slice_index, slice_set, true, ℕ}
 use Rattle.mmc_frame.specs.Field.{field}
 use Rattle.mmc_frame.specs.declared.card_state.State.TheVariants.{Prg}
 use Rattle.mmc_frame.specs.declared.commands.TheConstants as Index
@@ -91,9 +91,29 @@ ext_csd_now card =
     slice_set (slice_set (slice_set (slice_set card.made.ext_csd 175 card.erase_group_def)
     179 (partition_config_for card.made card.part)) 183 (width_number card.width)) 185 (timing_number card.timing)
 
+-- The bytes that are read of an EXT_CSD. All others are open at each CMD8: life time, BKOPS_STATUS, the exceptions and
+-- CORRECTLY_PRG_SECTORS_NUM change while a device works (JESD84-B51, section 7.4).
+abbrev pub is_read : ℕ → Bool
+is_read place =
+    (nat_le 143 place && nat_le place 155) || ((place == 175) || ((place == 179) || ((place == 181) || ((place == 183)
+    || ((place == 185) || ((place == 192) || ((place == 196) || ((nat_le 212 place && nat_le place 215)
+    || ((place == 221) || ((place == 224) || ((place == 226) || (place == 231))))))))))))
+
+-- these bytes, with others in places that aren't read
+abbrev pub reread : List (ℕ × ℕ) → List ℕ → List ℕ
+reread [] bytes = bytes
+reread (other ∷ others) bytes =
+    reread others (if is_read other.0 then bytes else slice_set bytes other.0 (other.1 % 256))
+
 -- CMD8 of eMMC, SEND_EXT_CSD
-abbrev pub send_ext_csd : Card → Card × CardAnswer
-send_ext_csd card = (sending (ext_csd_now card) card.timing card, Checked Index.SEND_IF_COND (status false card))
+abbrev pub send_ext_csd : Choice → Card → Card × CardAnswer
+send_ext_csd choice card =
+    (sending (reread choice.unread (ext_csd_now card)) card.timing card, Checked Index.SEND_IF_COND (status false card))
+
+-- a block that says what is read of the EXT_CSD
+pub record IsExtCsdOf (card : Card) (block : List ℕ) : Type 0 where
+  pub len : length block ≡ length (ext_csd_now card)
+  pub read : (place : ℕ) → is_read place ≡ true → slice_index block place ≡ slice_index (ext_csd_now card) place
 
 -- the argument of CMD6 of eMMC that writes a byte (JESD84-B51, section 6.6.1): access 3 in bits 25 and 24
 abbrev pub write_byte : ℕ → ℕ → ℕ

@@ -1,7 +1,7 @@
 -- The exchanges of a card in memory, with a fault or without one, are steps of a card, and leave one.
 use Rattle.std.proofs.Common.{◌&&◌, ◌+◌, ◌-◌, ◌/◌, ◌<◌, ◌^◌, ◌||◌, ◌≡◌, ◌≤◌, ◌∙◌, Bool, List, None, Some, ap, arith}
-use Rattle.std.proofs.Common.{false, not, refl, subst, sym, true, ℕ}
-use Rattle.std.specs.Prelude.{Option, if◌then◌else◌, is_some, min, nat_le, nat_lt}
+use Rattle.std.proofs.Common.{◌⊎◌, bit_or, false, inl, inr, not, refl, subst, sym, true, ℕ}
+use Rattle.std.specs.Prelude.{◌==◌, Option, if◌then◌else◌, is_some, min, nat_le, nat_lt}
 use Rattle.std.proofs.lemmas.Bool.Decides.{nat_tests}
 use Rattle.mmc_frame.proofs.Bytes.{and_true}
 use Rattle.mmc_card.specs.declared.exchange.DataIn.{DataIn}
@@ -11,20 +11,21 @@ use Rattle.mmc_card.specs.declared.exchange.Exchange.TheVariants.{Busy, Command,
 use Rattle.mmc_card.specs.declared.exchange.Reply.{Reply}
 use Rattle.mmc_card.specs.declared.exchange.Want.{Want}
 use Rattle.mmc_card.specs.BusView.{BusView}
-use Rattle.mmc_card.specs.Card.{Card, IsBlock, IsCard, is_in}
-use Rattle.mmc_card.specs.CardAnswer.{CardAnswer, Choice, raised}
+use Rattle.mmc_card.specs.Card.{Card, IsBlock, IsCard, is_in, patience}
+use Rattle.mmc_card.specs.CardAnswer.{CardAnswer, Checked, Choice, R2, R3, Silent, raised}
 use Rattle.mmc_card.specs.Rows.{answered, command_of, responded}
 use Rattle.mmc_card.specs.RowsSwitch.{switched}
 use Rattle.mmc_card.specs.declared.command.Command.{Command as Meaning}
 use Rattle.mmc_card.specs.declared.command.Command.TheVariants as Names
 use Rattle.mmc_frame.specs.Frame.{command_in}
-use Rattle.mmc_card.specs.ErrorBits.{com_crc_error, general_error, illegal_command}
-use Rattle.mmc_card.specs.Faults.{AreOfExecution, CommandStep, IsPatient, PollStep, ReadStep, WriteStep}
+use Rattle.mmc_card.specs.ErrorBits.{card_ecc_failed, com_crc_error, general_error, illegal_command}
+use Rattle.mmc_card.specs.Faults.{AreOfExecution, CommandStep, IsPatient, PollStep, ReadStep, Spells, WriteStep}
+use Rattle.mmc_card.specs.Faults.{is_switch, is_switch_frame}
 use Rattle.mmc_card.specs.Faults.CommandStep.{brownout as command_brownout, faithful as does_command, flip_command}
 use Rattle.mmc_card.specs.Faults.CommandStep.{fail_switch, flip_reply, leave_over, lose_command, lose_reply}
-use Rattle.mmc_card.specs.Faults.{Spells, is_switch, is_switch_frame}
+use Rattle.mmc_card.proofs.JudgedLemmas.{replies_as_is}
 use Rattle.mmc_card.specs.Faults.PollStep.{brownout as poll_brownout, busy, fail, faithful as does_poll, fall_short}
-use Rattle.mmc_card.specs.Faults.ReadStep.{bad_block, brownout as read_brownout, faithful as does_read, read_error}
+use Rattle.mmc_card.specs.Faults.ReadStep.{brownout as read_brownout, faithful as does_read, spoil}
 use Rattle.mmc_card.specs.Faults.WriteStep.{brownout as write_brownout, faithful as does_write, lose_status, reject}
 use Rattle.mmc_card.specs.Sectors.{Sector}
 use Rattle.mmc_frame.specs.declared.card_state.State.TheVariants.{Prg, Rcv, Tran}
@@ -50,6 +51,15 @@ use Rattle.mmc_card_sim.specs.declared.fault.Fault.TheVariants as Is
 use Rattle.mmc_card_sim.specs.declared.fault.Outcome.TheVariants.{New, Old}
 use Rattle.mmc_card_sim.specs.declared.plan.Planned.{Planned}
 use Rattle.mmc_card_sim.proofs.FlipLemmas.{is_flipped}
+use Rattle.std.specs.Int.Bits.{or_zero_r}
+use Rattle.mmc_card.specs.Blocks.{sent}
+use Rattle.std.specs.Int.RustNames.{bit_and}
+use Rattle.std.proofs.lemmas.Nat.{and_or_apart}
+use Rattle.std.proofs.lemmas.Bool.{eqb-true, ltb-true}
+use Rattle.mmc_card.specs.Judged.{Agree, IsEarlyOcr, IsSaid, judged}
+use Rattle.mmc_frame.specs.declared.kind.Kind.{Kind}
+use Rattle.mmc_frame.specs.declared.kind.Kind.TheVariants.{Mmc, Sd}
+use Rattle.mmc_card_sim.specs.Answer.{early_ocr, said_as}
 
 -- a bus with this card and this plan, that is kept
 abbrev pub kept_with : List Planned → Card → ℕ → Wire → BusView
@@ -77,12 +87,12 @@ exchanged plan old new faults later before after exchange notes in_bounds was is
 
 -- Commands.
 
-few_times : (limit times : ℕ) → limit ≤ 8 → nat_lt times limit ≡ true → times < 8
+few_times : (limit times : ℕ) → limit ≤ patience → nat_lt times limit ≡ true → times < patience
 few_times limit times few less = grind (arith, nat_tests, few, less)
 
 soon_ready : (delays : Delays) (card : Card) → delays.ready ≤ 8
     → IsPatient (command_choice delays card) card.inquiries
-soon_ready delays card few slow = few_times delays.ready card.inquiries few slow
+soon_ready delays card few slow = few_times delays.ready card.inquiries (omega (arith, few)) slow
 
 -- A switch that fails.
 
@@ -124,6 +134,36 @@ fails_to_switch choice card (Some command) fails h =
     sym (switch_fails choice (command_of card.made.kind card.app command.0) card command.0 command.1 fails h)
 fails_to_switch choice card None fails h = cc
 
+-- APP_CMD in an R6 isn't judged
+apart_from_app : (kind : Kind) → bit_and 0x20 (judged kind 3) ≡ 0
+apart_from_app Sd = refl
+apart_from_app Mmc = refl
+
+said_by : (shows : Bool) (kind : Kind) (index argument : ℕ) → (shows ≡ true → index ≡ 3)
+    → Agree (judged kind index) (if shows then bit_or argument 0x20 else argument) argument
+said_by true kind index argument is =
+    subst (λ (i : ℕ). Agree (judged kind i) (bit_or argument 0x20) argument) (sym (is refl))
+    (and_or_apart (judged kind 3) argument 0x20 (apart_from_app kind))
+said_by false kind index argument is = refl
+
+-- bits 30 and 29 of an OCR aren't judged before the card is ready
+ocr_said : (below : Bool) (early ocr : ℕ) → below ≡ nat_lt ocr (2 ^ 31)
+    → let told = if below then early_ocr early ocr else ocr in
+    (told ≡ ocr) ⊎ ((ocr < 2 ^ 31) × IsEarlyOcr told ocr)
+ocr_said true early ocr is = inr (ltb-true ocr (2 ^ 31) (sym is), (omega arith, inr (omega arith)))
+ocr_said false early ocr is = inl refl
+
+said_is : (kind : Kind) (delays : Delays) (answer : CardAnswer) → IsSaid kind answer (said_as delays answer)
+said_is kind delays Silent = refl
+said_is kind delays (Checked index argument) =
+    let shows = delays.shows_app_cmd in (
+      _,
+      refl,
+      said_by (shows && (index == 3)) kind index argument (λ is. eqb-true index 3 (and_true shows (index == 3) is).1),
+    )
+said_is kind delays (R3 ocr) = (_, refl, ocr_said (nat_lt ocr (2 ^ 31)) delays.early ocr refl)
+said_is kind delays (R2 bytes) = refl
+
 -- the choice of a card whose switch fails
 abbrev failing_choice : Bool → Delays → Card → Choice
 failing_choice late delays card = record (command_choice delays card) { fails_switch = true; says_late = late }
@@ -136,7 +176,7 @@ module _ (plan : List Planned) (old new : Card) (delays : Delays) (soon : delays
   failed_switch late frame reply one fits card heard =
       let is = fails_to_switch (failing_choice late delays old) old (command_in frame) refl fits in
       fail_switch (failing_choice late delays old) refl fits one (card ∙ ap (λ (x : Card × CardAnswer). x.0) is)
-      (subst (λ (x : Card × CardAnswer). Spells x.1 reply) is heard)
+      (replies_as_is old _ reply (subst (λ (x : Card × CardAnswer). Spells x.1 reply) is heard))
 
   command_fault : (fault : Option Fault) (frame : List ℕ) (reply : Reply) → later ≡ faults + 1
       → fits_command fault delays old frame ≡ true
@@ -147,19 +187,19 @@ module _ (plan : List Planned) (old new : Card) (delays : Delays) (soon : delays
   command_fault (Some (Is.FlipCommand flips)) frame reply one fits card heard = flip_command false one card heard
   command_fault (Some Is.LoseReply) frame reply one fits card heard =
       lose_reply (command_choice delays old) (soon_ready delays old soon, refl) one card
-      (λ none. cc (ap is_answer none, fits)) heard
+      (λ none. cc (ap (λ answer. is_answer (said_as delays answer)) none, fits)) heard
   command_fault (Some (Is.FlipReply flips)) frame reply one fits card heard =
       flip_reply (command_choice delays old) (soon_ready delays old soon, refl) one card
-      (is_flipped flips (heeded delays old frame).1 reply fits heard)
+      (_, said_is old.made.kind delays _, is_flipped flips (heeded delays old frame).1 reply fits heard)
   command_fault (Some Is.FailSwitch) frame reply one fits card heard = failed_switch false frame reply one fits card heard
   command_fault (Some Is.FailSwitchLate) frame reply one fits card heard =
       failed_switch true frame reply one fits card heard
   command_fault (Some (Is.LeaveOver ComCrc)) frame reply one fits card heard =
       leave_over (command_choice delays old) com_crc_error (refl, λ none. cc) (soon_ready delays old soon, refl) one
-      card heard
+      card (_, said_is old.made.kind delays _, heard)
   command_fault (Some (Is.LeaveOver Illegal)) frame reply one fits card heard =
       leave_over (command_choice delays old) illegal_command (refl, λ none. cc) (soon_ready delays old soon, refl) one
-      card heard
+      card (_, said_is old.made.kind delays _, heard)
   command_fault (Some (Is.Brownout outcome)) frame reply one fits card heard =
       command_brownout (choice_of false) (lands_by outcome) delays.keeps_length false (λ slow. absurd cc, refl) one card
       heard
@@ -179,7 +219,7 @@ module _ (plan : List Planned) (old new : Card) (delays : Delays) (soon : delays
       → CommandStep (kept_with plan old faults before) frame reply (kept_with plan new later after)
   command_step fault frame reply false counts does =
       does_command (command_choice delays old) (soon_ready delays old soon, refl) counts (does.card refl)
-      (does.answer refl)
+      (_, said_is old.made.kind delays _, does.answer refl)
   command_step fault frame reply true counts does =
       command_fault fault frame reply counts (sym does.fell_is) (does.fault_card refl) (does.fault_reply refl)
 
@@ -196,6 +236,10 @@ module _ (plan : List Planned) (old new : Card) (delays : Delays) (soon : delays
 
 -- Blocks.
 
+-- no error bits more
+raised_none : (card : Card) → raised 0 card ≡ card
+raised_none card = ap (λ (n : ℕ). record card { errors = n }) (or_zero_r card.errors)
+
 module _ (plan : List Planned) (old new : Card) (delays : Delays) (faults later : ℕ) (before after : Wire) where
   -- Blocks that the host reads.
 
@@ -204,10 +248,11 @@ module _ (plan : List Planned) (old new : Card) (delays : Delays) (faults later 
       → new ≡ after_read fault delays old → got ≡ read_in fault → ReadStep (kept_with plan old faults before) size got block
       (kept_with plan new later after)
   read_fault (Some Is.BadBlock) size got block one fits card answer =
-      bad_block (choice_of false) true fits one card answer
+      spoil (choice_of false) 0 true true refl fits one (card ∙ sym (raised_none (sent (choice_of false) old))) answer
   read_fault (Some Is.NoBlock) size got block one fits card answer =
-      bad_block (choice_of false) false fits one card answer
-  read_fault (Some Is.ReadError) size got block one fits card answer = read_error fits one card answer
+      spoil (choice_of false) 0 true false refl fits one (card ∙ sym (raised_none (sent (choice_of false) old))) answer
+  read_fault (Some Is.ReadError) size got block one fits card answer =
+      spoil (choice_of false) card_ecc_failed false false refl fits one card answer
   read_fault (Some (Is.Brownout outcome)) size got block one fits card answer =
       read_brownout (choice_of false) (lands_by outcome) delays.keeps_length false one card answer
   read_fault None size got block one fits card answer = cc
@@ -253,7 +298,8 @@ module _ (plan : List Planned) (old new : Card) (delays : Delays) (faults later 
       → new ≡ after_write fault delays old block → got ≡ written_out fault
       → WriteStep (kept_with plan old faults before) block got (kept_with plan new later after)
   write_fault (Some Is.Reject) block got one fits card answer = reject false fits one card answer
-  write_fault (Some Is.RejectAll) block got one fits card answer = reject true fits one card answer
+  write_fault (Some Is.RejectAll) block got one fits card answer =
+      reject (not old.is_single) fits one card answer
   write_fault (Some (Is.LoseStatus Old)) block got one fits card answer = lose_status false false fits one card answer
   write_fault (Some (Is.LoseStatus New)) block got one fits card answer = lose_status true false fits one card answer
   write_fault (Some (Is.Brownout outcome)) block got one fits card answer =
@@ -294,17 +340,17 @@ module _ (plan : List Planned) (old new : Card) (delays : Delays) (faults later 
 
 -- Polls.
 
-slow_within : (early planned : Bool) (limit polled : ℕ) → limit ≤ 8 → early ≡ nat_lt polled limit
-    → (early || (planned && nat_lt polled 8)) ≡ true
-    → polled < 8
+slow_within : (early planned : Bool) (limit polled : ℕ) → limit ≤ patience → early ≡ nat_lt polled limit
+    → (early || (planned && nat_lt polled patience)) ≡ true
+    → polled < patience
 slow_within true planned limit polled few early slow = few_times limit polled few (sym early)
-slow_within false true limit polled few early slow = few_times 8 polled (omega arith) slow
+slow_within false true limit polled few early slow = few_times patience polled (omega arith) slow
 slow_within false false limit polled few early slow = cc
 
 soon_rested : (fault : Option Fault) (delays : Delays) (card : Card) → delays.busy ≤ 8
     → IsPatient (poll_choice fault delays card) card.polled
 soon_rested fault delays card few slow =
-    slow_within (nat_lt card.polled delays.busy) (is_busy_fault fault) delays.busy card.polled few refl slow
+    slow_within (nat_lt card.polled delays.busy) (is_busy_fault fault) delays.busy card.polled (omega (arith, few)) refl slow
 
 is_false : (b : Bool) → not b ≡ true → b ≡ false
 is_false true h = cc
@@ -339,8 +385,8 @@ module _ (plan : List Planned) (old new : Card) (delays : Delays) (soon : delays
       let parts = and_true (are_of_execution bits) (may_fail old || may_fall_short old) fits in
       failed_by bits (lands_by outcome) said (execution_held bits parts.0) (may_fail old) refl parts.1 one card is
   poll_fault (Some Is.Busy) said one fits card is =
-      let parts = and_true old.is_busy (nat_le 8 old.polled) fits in
-      busy parts.0 (at_least 8 old.polled parts.1) one card is
+      let parts = and_true old.is_busy (nat_le patience old.polled) fits in
+      busy parts.0 (at_least patience old.polled parts.1) one card is
   poll_fault (Some (Is.Brownout outcome)) said one fits card is =
       poll_brownout (choice_of false) (lands_by outcome) delays.keeps_length false (λ slow. absurd cc) one card is
   poll_fault None said one fits card is = cc

@@ -1,14 +1,16 @@
 -- What the card in memory answers, and how a reply is heard of which bits are flipped.
-use Rattle.std.specs.Prelude.{◌&&◌, ◌<◌, ◌==◌, ◌||◌, ◌≡◌, Bool, List, None, Option, Some, false, length, nat_lt, not}
-use Rattle.std.specs.Prelude.{ℕ}
+use Rattle.std.specs.Prelude.{◌%◌, ◌&&◌, ◌*◌, ◌+◌, ◌<◌, ◌==◌, ◌^◌, ◌||◌, ◌≡◌, Bool, List, None, Option, Some, bit_or, false}
+use Rattle.std.specs.Prelude.{if◌then◌else◌, length, nat_lt, not, ℕ}
 use Rattle.mmc_frame.specs.Check.{bits_of}
 use Rattle.mmc_frame.specs.Flips.{AreBytes, flip_at}
+use Rattle.mmc_frame.specs.declared.commands.TheConstants as Index
 use Rattle.mmc_card.specs.CardAnswer.{CardAnswer, Checked, R2, R3, Silent}
 use Rattle.mmc_card.specs.Faults.{Spells}
 use Rattle.mmc_card.specs.declared.exchange.Reply.{Reply}
 use Rattle.mmc_card.specs.declared.exchange.Reply.TheVariants as Came
 use Rattle.mmc_card_sim.specs.declared.answer.Answer.{Answer}
 use Rattle.mmc_card_sim.specs.declared.answer.Answer.TheVariants as Is
+use Rattle.mmc_card_sim.specs.declared.delays.Delays.{Delays}
 use Rattle.mmc_card_sim.specs.declared.fault.Flips.{Flips}
 
 abbrev pub answer_of : Answer → CardAnswer
@@ -21,6 +23,20 @@ answer_of (Is.R2 register) = R2 register
 abbrev pub HasIndex : Answer → Type 0
 HasIndex (Is.Checked index argument) = index < 64
 HasIndex _ = Unit {0}
+
+-- the OCR of a card that isn't ready, with these bits 30 and 29
+abbrev pub early_ocr : ℕ → ℕ → ℕ
+early_ocr early ocr = 2 ^ 29 * (early % 4) + ocr % 2 ^ 29
+
+-- The answer as it is sent, in what nobody judges: the status in the response to CMD3 may have APP_CMD, bit 5, and an OCR
+-- before the card is ready other bits 30 and 29.
+abbrev pub said_as : Delays → CardAnswer → CardAnswer
+said_as delays Silent = Silent
+said_as delays (Checked index argument) =
+    Checked index
+    (if delays.shows_app_cmd && (index == Index.SEND_RELATIVE_ADDR) then bit_or argument 0x20 else argument)
+said_as delays (R3 ocr) = R3 (if nat_lt ocr (2 ^ 31) then early_ocr delays.early ocr else ocr)
+said_as delays (R2 register) = R2 register
 
 -- Replies of which bits are flipped.
 

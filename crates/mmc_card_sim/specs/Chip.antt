@@ -1,13 +1,12 @@
 -- What a chip in memory stands for, and the choices that it makes where a card is free.
-use Rattle.std.specs.Prelude.{◌&&◌, ◌+◌, ◌/◌, ◌==◌, ◌^◌, ◌≡◌, Bool, List, false, if◌then◌else◌, length, nat_lt, not, true}
-use Rattle.std.specs.Prelude.{ℕ}
+use Rattle.std.specs.Prelude.{◌&&◌, ◌+◌, ◌/◌, ◌==◌, ◌^◌, ◌≡◌, Bool, List, false, if◌then◌else◌, length, nat_lt, not}
+use Rattle.std.specs.Prelude.{◌∷◌, None, Option, Some, [], true, ℕ}
 use Rattle.mmc_card.specs.declared.exchange.DataIn.{DataIn}
 use Rattle.mmc_card.specs.declared.exchange.DataIn.TheVariants as Received
 use Rattle.mmc_card.specs.declared.exchange.Lines.{Lines}
 use Rattle.mmc_card.specs.Blocks.{asked_for, can_send, next_block}
 use Rattle.mmc_card.specs.Card.{Both, Card, First, FromBytes, FromSectors, Held, NoAddress, Source as CardSource}
 use Rattle.mmc_card.specs.CardAnswer.{CardAnswer, Choice}
-use Rattle.std.specs.Prelude.{None, Option, Some}
 use Rattle.mmc_card_sim.specs.declared.answer.Answer.{Answer}
 use Rattle.mmc_card_sim.specs.declared.chip.Addresses.{Addresses}
 use Rattle.mmc_card_sim.specs.declared.chip.Addresses.TheVariants as Is
@@ -69,8 +68,8 @@ card_of chip =
     }
 
 -- All that is unfinished lands at CMD0, OUT_OF_RANGE is set behind the last sector, and a command with a bad check
--- drops the preset count. At a command the card may choose otherwise where CMD0, CMD3, CMD6, CMD12, CMD13 and an inquiry leave it
--- free.
+-- drops the preset count. At a command the card may choose otherwise where CMD0, CMD3, CMD6, CMD8, CMD12, CMD13 and an
+-- inquiry leave it free.
 abbrev pub choice_of : Bool → Choice
 choice_of is_slow = record {
   is_slow = is_slow;
@@ -78,7 +77,6 @@ choice_of is_slow = record {
   says_end = true;
   keeps_count = false;
   rca = 0;
-  early = 0;
   keeps_length = true;
   refuses_speed = false;
   selects_none = true;
@@ -88,6 +86,7 @@ choice_of is_slow = record {
   is_behind = false;
   shows_prg = true;
   shows_ready = false;
+  unread = [];
 }
 
 -- an SD card that refuses to switch to high speed
@@ -100,14 +99,19 @@ abbrev pub selects_none : Option Refusal → Bool
 selects_none (Some SelectsDefault) = false
 selects_none _ = true
 
+-- DEVICE_LIFE_TIME_EST_TYP_A, which nobody reads
+abbrev pub life_time_bytes : Option ℕ → List (ℕ × ℕ)
+life_time_bytes (Some life_time) = (268, life_time) ∷ []
+life_time_bytes None = []
+
 -- at a command; the first so many inquiries are answered with not ready
 abbrev pub command_choice : Delays → Card → Choice
 command_choice delays card =
     record (choice_of (nat_lt card.inquiries delays.ready)) {
       rca = delays.last_rca;
-      early = delays.early;
       keeps_length = delays.keeps_length;
       refuses_speed = refuses delays.refusal;
+      unread = life_time_bytes delays.life_time;
       selects_none = selects_none delays.refusal;
       stays_busy = delays.stays_busy;
       is_behind = nat_lt 0 delays.lagging && nat_lt card.polled (delays.busy + delays.lagging);

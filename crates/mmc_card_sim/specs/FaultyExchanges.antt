@@ -1,8 +1,7 @@
 -- What the card in memory does in an exchange for which a fault may be planned: the fault falls where it fits, and
 -- otherwise the exchange is a faithful step.
 use Rattle.std.specs.Prelude.{◌&&◌, ◌*◌, ◌/◌, ◌==◌, ◌^◌, ◌||◌, ◌≡◌, Bool, List, Option, Some, bit_or, false}
-use Rattle.std.specs.Prelude.{if◌then◌else◌, length, nat_le, nat_lt}
-use Rattle.std.specs.Prelude.{None, not, true, ℕ}
+use Rattle.std.specs.Prelude.{None, if◌then◌else◌, length, nat_le, nat_lt, not, true, ℕ}
 use Rattle.mmc_frame.specs.Frame.{command_in}
 use Rattle.mmc_frame.specs.declared.card_state.State.TheVariants.{Prg, Rcv}
 use Rattle.mmc_card.specs.declared.exchange.DataIn.{DataIn}
@@ -14,7 +13,7 @@ use Rattle.mmc_card.specs.declared.exchange.Reply.{Reply}
 use Rattle.mmc_card.specs.declared.exchange.Reply.TheVariants as Came
 use Rattle.mmc_card.specs.Blocks.{accepted, can_accept, can_send, offered, polled_once, programmed, rejected, sent}
 use Rattle.mmc_card.specs.Blocks.{fallen_short, next_written, waited}
-use Rattle.mmc_card.specs.Card.{Card, is_in, stored}
+use Rattle.mmc_card.specs.Card.{Card, is_in, patience, stored}
 use Rattle.mmc_card.specs.CardAnswer.{CardAnswer, Choice, Silent, garbled, left_with, raised, reset}
 use Rattle.mmc_card.specs.ErrorBits.{card_ecc_failed, com_crc_error, execution_error_bits, general_error}
 use Rattle.mmc_card.specs.ErrorBits.{illegal_command}
@@ -22,7 +21,7 @@ use Rattle.mmc_card.specs.Faults.{Spells, is_switch_frame}
 use Rattle.mmc_card.specs.Rows.{answered, reached}
 use Rattle.mmc_card.specs.RowsSwitch.{switch_row}
 use Rattle.mmc_card.specs.declared.command.Command.TheVariants.{Switch}
-use Rattle.mmc_card_sim.specs.Answer.{IsHeardFlipped, can_flip, is_flip}
+use Rattle.mmc_card_sim.specs.Answer.{IsHeardFlipped, can_flip, is_flip, said_as}
 use Rattle.mmc_card_sim.specs.Chip.{Sends, choice_of, command_choice}
 use Rattle.mmc_card_sim.specs.Store.{lands_by}
 use Rattle.mmc_card_sim.specs.declared.delays.Delays.{Delays}
@@ -37,9 +36,10 @@ use Rattle.mmc_card_sim.specs.declared.fault.Outcome.TheVariants.{New}
 
 -- Commands.
 
--- the faithful step of the card with this frame
+-- the faithful step of the card with this frame, and its answer as it is sent
 abbrev pub heeded : Delays → Card → List ℕ → Card × CardAnswer
-heeded delays card frame = answered (command_choice delays card) card (command_in frame)
+heeded delays card frame =
+    let step = answered (command_choice delays card) card (command_in frame) in (step.0, said_as delays step.1)
 
 -- a switch that fails, which is said late or at once
 abbrev pub failing : Bool → Card → Card × CardAnswer
@@ -150,7 +150,7 @@ fits_write _ card lines = false
 abbrev pub after_write : Option Fault → Delays → Card → List ℕ → Card
 after_write (Some (LoseStatus New)) delays card block = accepted block card
 after_write (Some (Brownout outcome)) delays card block = reset (lands_by outcome) delays.keeps_length card
-after_write (Some RejectAll) delays card block = rejected true card
+after_write (Some RejectAll) delays card block = rejected (not card.is_single) card
 after_write _ delays card block = rejected false card
 
 abbrev pub written_out : Option Fault → DataOut
@@ -194,7 +194,7 @@ is_busy_fault _ = false
 
 -- The card is slow at the first polls of a busy time; a planned yes is one of them while it is no fault.
 abbrev pub is_slow_at : Option Fault → Delays → Card → Bool
-is_slow_at fault delays card = nat_lt card.polled delays.busy || (is_busy_fault fault && nat_lt card.polled 8)
+is_slow_at fault delays card = nat_lt card.polled delays.busy || (is_busy_fault fault && nat_lt card.polled patience)
 
 abbrev pub poll_choice : Option Fault → Delays → Card → Choice
 poll_choice fault delays card = choice_of (is_slow_at fault delays card)
@@ -202,7 +202,7 @@ poll_choice fault delays card = choice_of (is_slow_at fault delays card)
 abbrev pub fits_poll : Option Fault → Card → Bool
 fits_poll (Some (Fail outcome)) card = may_fail card
 fits_poll (Some (FailWith outcome bits)) card = can_fail_with bits card
-fits_poll (Some Busy) card = card.is_busy && nat_le 8 card.polled
+fits_poll (Some Busy) card = card.is_busy && nat_le patience card.polled
 fits_poll (Some (Brownout outcome)) card = true
 fits_poll _ card = false
 

@@ -1,6 +1,6 @@
 -- The views of a card in memory that follows a plan of faults: what contracts see of it, and what they see of it as a
 -- bus, which is always kept, and on which no more faults may fall than are planned for exchanges to come.
-use Rattle.std.specs.Prelude.{◌-◌, ◌/◌, ◌^◌, ◌≡◌, ◌≤◌, List, None, Option, Some, true, unwrap_or, ℕ}
+use Rattle.std.specs.Prelude.{◌-◌, ◌/◌, ◌^◌, ◌≡◌, ◌≤◌, List, None, Option, Some, false, true, unwrap_or, ℕ}
 use Rattle.mmc_bus.specs.declared.wire.Wire.{Wire}
 use Rattle.mmc_bus.specs.Wires.{bus_view_with}
 use Rattle.mmc_card.specs.BusView.{BusView}
@@ -46,10 +46,12 @@ first_delays spec =
       refusal = spec.refusal;
       stays_busy = spec.stays_busy;
       lagging = spec.lagging;
+      shows_app_cmd = false;
+      life_time = None;
     }
 
--- It is a card, which is slow at most eight times, no more faults have fallen than exchanges were made, and none is
--- planned for the number at which their count stays.
+-- It is a card, whose own delays are eight exchanges at most, no more faults have fallen than exchanges were made, and none
+-- is planned for the number at which their count stays.
 pub record SimOk (sim : SimView) : Type 0 where
   pub is_card : IsCard sim.card
   pub soon_ready : sim.delays.ready ≤ 8

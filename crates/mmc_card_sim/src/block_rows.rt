@@ -7,7 +7,7 @@ ghost use Rattle.mmc_card.specs.Card.{AreAmong, is_in};
 ghost use Rattle.mmc_card.specs.ErrorBits.{error_bits};
 ghost use Rattle.mmc_card_sim.specs.declared.store.TheConstants.{MAX_LARGE};
 
-use crate::chip::{Chip, Source};
+use crate::chip::{Chip, PATIENCE, Source};
 use crate::switch_rows::{timing_number, width_number};
 use bitflags::Flags;
 use mmc_card::{DataIn, DataOut, Lines};
@@ -205,6 +205,6 @@ impl Chip {
     pub fn wait(&mut self)
         ensures { card_of self.new ≡ waited (card_of self.old) }
     {
-        self.polled = (self.polled + 1).min(8);
+        self.polled = (self.polled + 1).min(PATIENCE);
     }
 }

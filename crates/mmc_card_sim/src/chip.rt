@@ -1,7 +1,7 @@
 // The card in memory: where it is, what it remembers, and what it does with a command.
 ghost use Rattle.std.specs.Prelude.{◌*◌, ◌/◌, ◌<◌, ◌≡◌, ◌≤◌, ◌^◌, if◌then◌else◌};
 ghost use Rattle.mmc_frame.specs.Status.{bits_in, state_number};
-ghost use Rattle.mmc_card.specs.Card.{AreAmong};
+ghost use Rattle.mmc_card.specs.Card.{AreAmong, patience};
 ghost use Rattle.mmc_card.specs.ErrorBits.{command_error_bits, error_bits};
 ghost use Rattle.mmc_card.specs.Made.{erase_unit_of_card, first_rca, is_read_only, is_sd, named_block_length};
 ghost use Rattle.mmc_card_sim.specs.Registers.{made_of};
@@ -16,6 +16,9 @@ use arrayvec::ArrayVec;
 use bitflags::Flags;
 use mmc_card::{Command, Part, Timing, Width, is_addressed, leaves_erase};
 use mmc_frame::{Kind, State, Status, read_command};
+
+/// How often at most the card says without a fault that it isn't ready, and in one busy time that it is busy or at work.
+pub const PATIENCE: u8 = 15;
 
 // CURRENT_STATE in a status, from bit 9 on.
 const CURRENT_STATE: u32 = 0x200;
@@ -90,8 +93,8 @@ pub struct Chip {
     pub ghost ocr: { registers.ocr < 2 ^ 31 },
     pub ghost known: { AreAmong command_errors (2 ^ 13 * command_error_bits) },
     pub ghost raised: { AreAmong errors (2 ^ 13 * error_bits) },
-    pub ghost asked: { inquiries ≤ 8 },
-    pub ghost waited: { polled ≤ 8 },
+    pub ghost asked: { inquiries ≤ patience },
+    pub ghost waited: { polled ≤ patience },
 }
 
 // The number of a state in a status.
@@ -336,7 +339,7 @@ impl Chip {
             Command::SetRelativeAddr => self.set_relative_addr(argument),
             Command::SelectCard => self.select_card(),
             Command::SendIfCond => self.send_if_cond(argument),
-            Command::SendExtCsd => self.send_ext_csd(),
+            Command::SendExtCsd => self.send_ext_csd(delays),
             Command::SendCsd => self.send_csd(),
             Command::StopTransmission => self.stop_transmission(delays),
             Command::SendStatus => self.send_status(delays),

@@ -14,7 +14,7 @@ pub struct Delays {
     pub last_rca: u16,
     /// Whether it publishes another one at each CMD3.
     pub rca_changes: bool,
-    /// Bits 30 and 29 of the OCR while the card isn't ready.
+    /// Bits 30 and 29 of the OCR while the card isn't ready, 0 to 3.
     pub early: u8,
     /// Whether the block length outlives CMD0 and a loss of power.
     pub keeps_length: bool,
@@ -22,9 +22,14 @@ pub struct Delays {
     pub refusal: Option<Refusal>,
     /// Whether CMD12 that ends a read leaves the card busy.
     pub stays_busy: bool,
-    /// How many statuses lag behind each programming: they and the polls that were answered yes are as many as this and
-    /// `busy` say, 8 at most.
+    /// How many statuses lag behind each programming, 0 to 8: they and the polls that were answered yes are as many as this and
+    /// `busy` say, 15 at most.
     pub lagging: u8,
+    /// Whether each response to CMD3 shows APP_CMD, bit 5 of the status.
+    pub shows_app_cmd: bool,
+    /// What an eMMC device says of its life time, DEVICE_LIFE_TIME_EST_TYP_A, byte 268 of its EXT_CSD, where it isn't what the
+    /// EXT_CSD is made with.
+    pub life_time: Option<u8>,
 }
 
 impl Delays {

@@ -61,7 +61,7 @@ pub enum Fault {
     /// So it does, or that of an earlier block of a write, with these error bits, as a status has them. Bits that no
     /// programming raises fit no exchange.
     FailWith(Outcome, u32),
-    /// A poll of a busy card is answered yes. It counts as a fault from the ninth yes of one busy time on.
+    /// A poll of a busy card is answered yes. It counts as a fault from the sixteenth yes of one busy time on.
     Busy,
     /// The power fails: no answer, and then the card is as after CMD0.
     Brownout(Outcome),

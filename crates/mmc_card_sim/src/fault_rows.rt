@@ -1,6 +1,6 @@
 // What the card in memory does in a fault: a function for each row of the card relation that leaves the card otherwise
 // than a faithful step.
-ghost use Rattle.std.specs.Prelude.{◌/◌, ◌^◌, ◌≡◌, ◌≤◌, false, length, true};
+ghost use Rattle.std.specs.Prelude.{◌&&◌, ◌/◌, ◌^◌, ◌≡◌, ◌≤◌, false, length, not, true};
 ghost use Rattle.mmc_card_sim.specs.FaultyExchanges.{are_of_execution, error_bit};
 ghost use Rattle.mmc_card_sim.specs.Store.{lands_by};
 
@@ -46,7 +46,7 @@ impl Chip {
     /// A block is rejected: a write of one block is over then, and one of several goes on, or all further blocks are
     /// ignored.
     pub fn reject(&mut self, ignores: bool)
-        ensures { card_of self.new ≡ rejected ignores (card_of self.old) }
+        ensures { card_of self.new ≡ rejected (ignores && not self.old.is_single) (card_of self.old) }
     {
         if self.is_single {
             self.state = State::Tran;

@@ -5,7 +5,7 @@ ghost use Rattle.mmc_card_sim.specs.FaultyExchanges.{are_of_execution};
 ghost use Rattle.mmc_card_sim.specs.declared.fault.Fault.TheVariants.{FlipReply, LoseReply};
 
 use crate::answer::Answer;
-use crate::chip::Chip;
+use crate::chip::{Chip, PATIENCE};
 use crate::delays::Delays;
 use crate::fault::{Fault, Flips, Outcome};
 use crate::flip::{can_flip, heard_flipped, is_flip};
@@ -25,15 +25,22 @@ fn is_of_execution(bits: u32) -> bool
 impl Chip {
     ghost use Rattle.mmc_card.specs.CardAnswer.{raised};
     ghost use Rattle.mmc_card_sim.specs.FaultyExchanges.{Commands, Polls, Reads, Spoils, Writes, can_fail_with, failed};
-    ghost use Rattle.mmc_card_sim.specs.FaultyExchanges.{is_slow_at};
+    ghost use Rattle.mmc_card_sim.specs.FaultyExchanges.{heeded, is_slow_at};
     ghost use Rattle.mmc_card_sim.specs.Store.{lands_by};
-    ghost use Rattle.mmc_card_sim.specs.Chip.{card_of};
+    ghost use Rattle.mmc_card_sim.specs.Chip.{Answers, card_of};
+
+    // The answer to a command, as it is sent.
+    fn heed(&mut self, delays: Delays, frame: &[u8; 6]) -> Answer
+        ensures { Answers (heeded delays (card_of self.old) frame.now) self.new result }
+    {
+        self.command(delays, frame).said(delays)
+    }
 
     // The response to a command, which is lost on the way.
     fn command_unheard(&mut self, delays: Delays, frame: &[u8; 6]) -> (Reply, bool)
         ensures { Commands (Some LoseReply) delays (card_of self.old) frame.now result.0 result.1 (card_of self.new) }
     {
-        match self.command(delays, frame) {
+        match self.heed(delays, frame) {
             Answer::Silent => (Reply::Silent, false),
             _ => (Reply::Silent, true),
         }
@@ -44,7 +51,7 @@ impl Chip {
         ensures { Commands (Some (FlipReply flips)) delays (card_of self.old) frame.now result.0 result.1
             (card_of self.new) }
     {
-        let answer = self.command(delays, frame);
+        let answer = self.heed(delays, frame);
         if can_flip(flips, answer) {
             (heard_flipped(answer, flips), true)
         } else {
@@ -77,13 +84,13 @@ impl Chip {
             }
             Some(Fault::LeaveOver(error)) => {
                 self.leave_over(error);
-                (self.command(delays, frame).spelled(), true)
+                (self.heed(delays, frame).spelled(), true)
             }
             Some(Fault::Brownout(outcome)) => {
                 self.lose_power(outcome, delays.keeps_length);
                 (Reply::Silent, true)
             }
-            _ => (self.command(delays, frame).spelled(), false),
+            _ => (self.heed(delays, frame).spelled(), false),
         }
     }
 
@@ -186,7 +193,7 @@ impl Chip {
         ensures { result ≡ is_slow_at fault delays (card_of self.now) }
     {
         let is_planned = matches!(fault, Some(Fault::Busy));
-        self.polled < delays.busy || is_planned && self.polled < 8
+        self.polled < delays.busy || is_planned && self.polled < PATIENCE
     }
 
     /// A poll: whether the card is busy.
@@ -202,7 +209,7 @@ impl Chip {
                 self.fail_at_once(outcome, bits);
                 (false, true)
             }
-            Some(Fault::Busy) if self.is_busy && self.polled >= 8 => {
+            Some(Fault::Busy) if self.is_busy && self.polled >= PATIENCE => {
                 self.wait();
                 (true, true)
             }

@@ -2,19 +2,13 @@
 // section 6.4), each where it is legal.
 ghost use Rattle.std.specs.Prelude.{◌&&◌, ◌≡◌, false, if◌then◌else◌, not};
 
-use crate::answer::Answer;
-use crate::chip::{Addresses, Chip, Source, first_rca};
+use crate::answer::{Answer, IS_READY};
+use crate::chip::{Addresses, Chip, PATIENCE, Source, first_rca};
 use crate::delays::Delays;
 use mmc_card::{Part, Timing, Width};
 use mmc_frame::State;
 use mmc_frame::commands::{APP_CMD, SELECT_CARD, SEND_IF_COND, SEND_RELATIVE_ADDR, SEND_STATUS};
 use mmc_regs::Ocr;
-
-// Bit 31 of an OCR: the card is ready (SD Physical Layer 6.00, section 5.1; JESD84-B51, section 7.1).
-const IS_READY: u32 = 0x8000_0000;
-
-// Bit 29 of an OCR. It and bit 30 are open until the card is ready.
-const EARLY: u32 = 0x2000_0000;
 
 // Bit 30 of the argument of ACMD41, HCS: the host knows sector addresses (SD Physical Layer 6.00, section 4.2.3.1).
 const HCS: u32 = 0x4000_0000;
@@ -73,14 +67,14 @@ impl Chip {
         Answer::Silent
     }
 
-    // A readiness inquiry. Until the card is ready, its OCR has these bits 30 and 29.
-    fn inquire(&mut self, is_ready: bool, early: u8) -> Answer
-        ensures { Answers (inquired is_ready early (card_of self.old)) self.new result }
+    // A readiness inquiry.
+    fn inquire(&mut self, is_ready: bool) -> Answer
+        ensures { Answers (inquired is_ready (card_of self.old)) self.new result }
     {
         self.finish();
-        self.inquiries = (self.inquiries + 1).min(8);
+        self.inquiries = (self.inquiries + 1).min(PATIENCE);
         if !is_ready {
-            return Answer::R3(EARLY * u32::from(early % 4) + self.registers.ocr % EARLY);
+            return Answer::R3(self.registers.ocr);
         }
         self.state = State::Ready;
         Answer::R3(IS_READY + self.registers.ocr)
@@ -99,7 +93,7 @@ impl Chip {
             result }
     {
         let is_ready = self.is_ready(delays);
-        self.inquire(is_ready, delays.early)
+        self.inquire(is_ready)
     }
 
     // Whether the card becomes ready for such a host: one with sector addresses wants CMD8, and HCS.
@@ -116,7 +110,7 @@ impl Chip {
             self.new result }
     {
         let is_ready = self.is_served(argument) && self.is_ready(delays);
-        self.inquire(is_ready, delays.early)
+        self.inquire(is_ready)
     }
 
     /// CMD2.
@@ -179,7 +173,7 @@ impl Chip {
     {
         let most = u16::from(delays.busy) + u16::from(delays.lagging);
         self.is_in(State::Tran)
-            && (self.lags && self.polled < 8)
+            && (self.lags && self.polled < PATIENCE)
             && (delays.lagging > 0 && u16::from(self.polled) < most)
     }
 

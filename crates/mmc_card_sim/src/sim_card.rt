@@ -34,6 +34,8 @@ fn first_delays(spec: &CardSpec) -> Delays
         refusal: spec.refusal,
         stays_busy: spec.stays_busy,
         lagging: spec.lagging,
+        shows_app_cmd: false,
+        life_time: None,
     }
 }
 
@@ -211,6 +213,23 @@ impl SimCard {
         ensures stays { self.new ≡ record self.old { plan = self.new.plan } }
     {
         self.plan.plan(exchange, fault, self.wire.exchanges)
+    }
+
+    /// From now on the card shows APP_CMD, bit 5 of the status, in each response to CMD3, as most SD cards do in their R6:
+    /// ACMD41 is answered by an R3, which has no status (SD Physical Layer 6.00, sections 4.9.5 and 4.10.1).
+    pub fn show_app_cmd(&mut self)
+        ensures { self.new ≡ record self.old { delays = record self.old.delays { shows_app_cmd = true } } }
+    {
+        self.delays.shows_app_cmd = true;
+    }
+
+    /// From now on an eMMC device says this of its life time in DEVICE_LIFE_TIME_EST_TYP_A, byte 268 of its EXT_CSD, which
+    /// nobody reads: 1 to 10 for at most so many tenths that are used up, 11 for more, and 0 for nothing said (JESD84-B51,
+    /// section 7.4). Any byte is taken. An SD card has no EXT_CSD.
+    pub fn age(&mut self, life_time: u8)
+        ensures { self.new ≡ record self.old { delays = record self.old.delays { life_time = Some life_time } } }
+    {
+        self.delays.life_time = Some(life_time);
     }
 
     /// Sends a command, and gives what came back, whatever response is wanted.

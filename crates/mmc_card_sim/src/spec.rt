@@ -33,7 +33,7 @@ pub struct CardSpec {
     /// Whether CMD12 that ends a read leaves the card busy, for as many polls as any busy time.
     pub stays_busy: bool,
     /// How many statuses lag behind each programming and still show prg: they and the polls that were answered yes are as many
-    /// as this and the delay of busy say, 8 at most.
+    /// as this and the delay of busy say, 15 at most.
     pub lagging: u8,
     /// The bytes of all sectors, 512 each, a partition behind the other in the order of `Part`; the card keeps its
     /// sectors in them. Without an image all bytes are the erased byte.

@@ -227,10 +227,13 @@ impl Chip {
     }
 
     /// CMD8 of eMMC.
-    pub fn send_ext_csd(&mut self) -> Answer
-        ensures { Answers (send_ext_csd (card_of self.old)) self.new result }
+    pub fn send_ext_csd(&mut self, delays: Delays) -> Answer
+        ensures { Answers (send_ext_csd (command_choice delays (card_of self.old)) (card_of self.old)) self.new result }
     {
-        let ext_csd = self.ext_csd_now();
+        let mut ext_csd = self.ext_csd_now();
+        if let Some(life_time) = delays.life_time {
+            put(&mut ext_csd, 268, life_time);
+        }
         self.send_block(SEND_IF_COND, false, ext_csd, self.timing)
     }
 

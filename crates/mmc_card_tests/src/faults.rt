@@ -67,14 +67,21 @@ fn ignores_blocks_behind_a_rejected_one(rt: HostRuntime) -> Result<(), Fail> {
     Ok(())
 }
 
-// A planned yes is one of the yes answers of a busy time. The eighth is no fault, and the ninth is one.
+// Planned yes answers are some of those of a busy time. The fifteenth is no fault, and the sixteenth is one.
 #[test]
 fn is_busy_longer(rt: HostRuntime) -> Result<(), Fail> {
-    for (busy, others, yes, faults) in [(0, 2, 1, 0), (2, 2, 2, 0), (7, 9, 8, 0), (8, 10, 9, 1)] {
+    for (busy, first, end, yes, faults) in [
+        (0, 2, 3, 1, 0),
+        (2, 2, 3, 2, 0),
+        (8, 10, 17, 15, 0),
+        (8, 10, 18, 16, 1),
+    ] {
         let mut spec = sdsc_cmd23();
         spec.busy = busy;
         let mut card = selected_sd(rt.alloc(), spec)?;
-        plan_after(&mut card, others, Fault::Busy)?;
+        for others in first..end {
+            plan_after(&mut card, others, Fault::Busy)?;
+        }
         expect_r1(&rt, &mut card, 24, 512, 0x900);
         expect_taken(&rt, &mut card, 0x5a, DataOut::Accepted);
         expect_polls(&rt, &mut card, yes);

@@ -17,6 +17,7 @@ use Rattle.mmc_bus.specs.Learned.{Asked}
 use Rattle.mmc_bus.specs.declared.host.Unheard.{Unheard}
 use Rattle.mmc_switch.proofs.RestLemmas.{ErrorsLaw}
 use Rattle.mmc_erase.specs.Commands.{CanHold, first_index, last_index}
+use Rattle.mmc_card.specs.Judged.{Shows}
 
 -- a command with a checked response, by its index
 abbrev pub AskedOf : BusView → ℕ → Result ℕ Unheard → BusView → ℕ → Type 0
@@ -60,7 +61,7 @@ abbrev pub FirstLaw : Kind → Type 0
 FirstLaw kind =
     (old new : BusView) (address : ℕ) (heard : Result ℕ Unheard) → Responded (first_index kind) old address heard new
     → old.card.made.kind ≡ kind → old.card.erase ≡ NoAddress
-    → Does (old.card.state ≡ Tran) (status false) (record (shown old.card) { erase = First address }) old heard new
+    → Does (old.card.state ≡ Tran) Shows (record (shown old.card) { erase = First address }) old heard new
 
 pub first_law : FirstLaw Sd → FirstLaw Mmc → (kind : Kind) → FirstLaw kind
 first_law sd mmc Sd = sd
@@ -70,7 +71,7 @@ abbrev pub LastLaw : Kind → Type 0
 LastLaw kind =
     (old new : BusView) (first address : ℕ) (heard : Result ℕ Unheard)
     → Responded (last_index kind) old address heard new → old.card.made.kind ≡ kind → old.card.erase ≡ First first
-    → Does (old.card.state ≡ Tran) (status false) (record (shown old.card) { erase = Both first address }) old
+    → Does (old.card.state ≡ Tran) Shows (record (shown old.card) { erase = Both first address }) old
     heard new
 
 pub last_law : LastLaw Sd → LastLaw Mmc → (kind : Kind) → LastLaw kind
@@ -79,12 +80,12 @@ last_law sd mmc Mmc = mmc
 
 -- a card that can obey shows no error in its R1
 pub shows_no_error : (kind : Kind) (held : Held) (card : Card) → ErrorsLaw → IsCard card → CanHold kind held card
-    → error_bits kind (status false card) ≡ 0
-shows_no_error kind held card errors k can = (errors kind false card k).1 can.no_error
+    → (told : ℕ) → Shows card told → error_bits kind told ≡ 0
+shows_no_error kind held card errors k can told shows = (errors kind told card k shows).1 can.no_error
 
 -- A command that was judged, from what it does.
 module _ (kind : Kind) (after : Card) (old : BusView) (heard : Result ℕ Unheard) (new : BusView)
-    (does : Does (old.card.state ≡ Tran) (status false) after old heard new) where
+    (does : Does (old.card.state ≡ Tran) Shows after old heard new) where
   pub done_where_answered : (told : ℕ) → heard ≡ Ok told → new.card ≡ after
   done_where_answered told is = (does.sound told is).2
 
@@ -92,4 +93,5 @@ module _ (kind : Kind) (after : Card) (old : BusView) (heard : Result ℕ Unhear
       → ((told : ℕ) → heard ≡ Ok told → error_bits kind told ≡ 0 → Judged) → NoFault old new → CanHold kind held old.card
       → Judged
   done_where_it_can held errors k judged same can =
-      judged _ (does.fine same can.tran).0 (shows_no_error kind held old.card errors k can)
+      let told = (does.fine same can.tran).0 in
+      judged told.0 told.1 (shows_no_error kind held old.card errors k can told.0 told.2)

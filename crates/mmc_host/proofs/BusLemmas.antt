@@ -3,9 +3,9 @@ use Rattle.std.proofs.Common.{◌&&◌, ◌+◌, ◌-◌, ◌^◌, ◌∙◌, �
 use Rattle.mmc_frame.specs.Frame.{command_in}
 use Rattle.mmc_card.proofs.Narrow.{both}
 use Rattle.mmc_card.specs.BusView.{BusView}
-use Rattle.mmc_card.specs.Faults.{CommandStep, WriteStep, PollStep, ReadStep, bad_block, brownout, busy, fail, faithful}
+use Rattle.mmc_card.specs.Faults.{CommandStep, WriteStep, PollStep, ReadStep, brownout, busy, fail, faithful}
 use Rattle.mmc_card.specs.Faults.{fail_switch, fall_short, flip_command, flip_reply, leave_over, lose_command, lose_reply}
-use Rattle.mmc_card.specs.Faults.{lose_status, read_error, reject, slow_inquiry}
+use Rattle.mmc_card.specs.Faults.{lose_status, reject, slow_inquiry, spoil, turn_out}
 use Rattle.mmc_card.specs.declared.exchange.DataIn.{DataIn}
 use Rattle.mmc_card.specs.declared.exchange.DataOut.{DataOut}
 use Rattle.mmc_card.specs.declared.exchange.Exchange.{Exchange}
@@ -78,15 +78,16 @@ moved_write old new m a b block got (lose_status accepted ignores can count card
     lose_status accepted ignores can count card is
 moved_write old new m a b block got (fall_short lands bits are can count card is) =
     fall_short lands bits are can count card is
+moved_write old new m a b block got (turn_out lands several can count card is) =
+    turn_out lands several can count card is
 moved_write old new m a b block got (brownout lands keeps after count card is) =
     brownout lands keeps after count card is
 
 moved_read : (old new : BusView) (m : Lines) (a b : Beside) (size : ℕ) (got : DataIn) (block : List ℕ)
     → ReadStep old size got block new → ReadStep (seen old old.lines a) size got block (seen new m b)
 moved_read old new m a b size got block (faithful choice count card is next) = faithful choice count card is next
-moved_read old new m a b size got block (bad_block choice comes can count card is) =
-    bad_block choice comes can count card is
-moved_read old new m a b size got block (read_error can count card is) = read_error can count card is
+moved_read old new m a b size got block (spoil choice bits goes_on comes among can count card is) =
+    spoil choice bits goes_on comes among can count card is
 moved_read old new m a b size got block (brownout choice lands keeps after count card is) =
     brownout choice lands keeps after count card is
 

@@ -1,3 +1,4 @@
 pub mod BusLemmas
 pub mod TableLemmas
+pub mod TogetherLemmas
 pub mod WireLemmas

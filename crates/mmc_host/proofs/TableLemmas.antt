@@ -14,7 +14,7 @@ use Rattle.mmc_card.specs.CardAnswer.{CardAnswer, Choice, Silent}
 use Rattle.mmc_card.specs.Rows.{command_of, is_foreign, is_legal, leaves_erase, reached, responded, row}
 use Rattle.mmc_card.specs.RowsErase.{erase_held, hold_first, hold_last, holds_address, is_no_range}
 use Rattle.mmc_card.specs.RowsIdentify.{is_served, may_lag}
-use Rattle.mmc_card.specs.RowsSwitch.{ext_csd_now, is_to_speed_up, switch_row, switch_source, switched}
+use Rattle.mmc_card.specs.RowsSwitch.{ext_csd_now, is_to_speed_up, reread, switch_row, switch_source, switched}
 use Rattle.mmc_card.specs.RowsTransfer.{begun, preset, sending, sending_from, transfer_errors, transferred}
 use Rattle.mmc_card.specs.declared.command.Command.{Command}
 use Rattle.mmc_card.specs.declared.command.Command.TheVariants.{SdSendOpCond, SendScr, SetBusWidth, AllSendCid, AppCmd}
@@ -34,6 +34,7 @@ use Rattle.mmc_host.specs.declared.data.Data.{Data}
 use Rattle.mmc_host.specs.Fits.{AreSent, AreToCome, Begins, HasDataBehind, IsAnswered, IsBusyBehind}
 use Rattle.mmc_card.specs.Wanted.{response_to}
 use Rattle.mmc_host.specs.Table.{data_of, response_of, want_of}
+use Rattle.mmc_card.proofs.ByteLemmas.{reread_length}
 
 -- the card that a command reaches has other errors and erase addresses alone
 record Likeness (old now : Card) : Type 0 where
@@ -338,8 +339,10 @@ move_row choice SendScr card index argument sized =
     let after = sending card.made.scr card.timing card in
     begins_to_send (data_of SendScr card.count) card after refl (refl, (sized, refl))
 move_row choice SendExtCsd card index argument sized =
-    let after = sending (ext_csd_now card) card.timing card in
-    begins_to_send (data_of SendExtCsd card.count) card after refl (refl, (ext_csd_length card sized, refl))
+    let bytes = reread choice.unread (ext_csd_now card) in
+    let after = sending bytes card.timing card in
+    let size : length bytes ≡ 512 = reread_length choice.unread (ext_csd_now card) ∙ ext_csd_length card sized in
+    begins_to_send (data_of SendExtCsd card.count) card after refl (refl, (size, refl))
 move_row choice _ card index argument sized = stays _ card _ refl
 
 as_before : (told : Data) (old before new : Card) → before.state ≡ old.state → HasDataBehind told before new

@@ -1,25 +1,29 @@
 -- What a wire carries, told by command and answer.
 use Rattle.std.proofs.Common.{◌∙◌, ◌≡◌, Option, subst, sym, ℕ}
 use Rattle.mmc_card.specs.CardAnswer.{CardAnswer, Silent}
-use Rattle.mmc_card.specs.Faults.{IsFlipped, Spells, brownout, fail_switch, faithful, flip_command, flip_reply, leave_over}
+use Rattle.mmc_card.specs.Faults.{IsFlipped, RepliesFlipped, Spells, brownout, fail_switch, faithful, flip_command, flip_reply, leave_over}
 use Rattle.mmc_card.specs.Faults.{lose_command, lose_reply, slow_inquiry}
+use Rattle.mmc_card.specs.Judged.{IsSaid}
+use Rattle.mmc_card.specs.Card.{Card}
 use Rattle.mmc_card.specs.Rows.{answered}
 use Rattle.mmc_card.specs.declared.exchange.Reply.{Reply}
 use Rattle.mmc_host.specs.WireLaws.{FaithfulIsHeard, UnsoundIsLost}
 
 pub faithful_is_heard : FaithfulIsHeard
-faithful_is_heard choice old new index argument fine count card frame reply command spells =
+faithful_is_heard choice old new index argument said fine count card is frame reply command spells =
     faithful choice fine count
     (subst (λ (s : Option (ℕ × ℕ)). new.card ≡ (answered choice old.card s).0) (sym command) card)
-    (subst (λ (s : Option (ℕ × ℕ)). Spells (answered choice old.card s).1 reply) (sym command) spells)
+    (said, subst (λ (s : Option (ℕ × ℕ)). IsSaid old.card.made.kind (answered choice old.card s).1 said) (sym command) is, spells)
 
 -- nothing that comes is flipped silence
-not_silent : (answer : CardAnswer) (reply : Reply) → IsFlipped answer reply → answer ≡ Silent → ⊥
-not_silent answer reply flipped silent = subst (λ (a : CardAnswer). IsFlipped a reply) silent flipped
+not_silent : (card : Card) (answer : CardAnswer) (reply : Reply) → RepliesFlipped card answer reply → answer ≡ Silent → ⊥
+not_silent card answer reply flipped silent =
+    let f = subst (λ (a : CardAnswer). RepliesFlipped card a reply) silent flipped in
+    subst (λ (a : CardAnswer). IsFlipped a reply) f.1 f.2
 
 pub unsound_is_lost : UnsoundIsLost
 unsound_is_lost old new index argument frame reply command (faithful choice fine count card spells) unsound =
-    absurd (unsound _ spells)
+    absurd (unsound spells.0 spells.2)
 unsound_is_lost old new index argument frame reply command (lose_command count card silent) unsound =
     absurd (unsound Silent silent)
 unsound_is_lost old new index argument frame reply command (flip_command keeps count card silent) unsound =
@@ -27,15 +31,15 @@ unsound_is_lost old new index argument frame reply command (flip_command keeps c
 unsound_is_lost old new index argument frame reply command (lose_reply choice fine count card answers silent) unsound =
     absurd (unsound Silent silent)
 unsound_is_lost old new index argument frame reply command (slow_inquiry choice slow late inquiry count card spells) unsound =
-    absurd (unsound _ spells)
+    absurd (unsound spells.0 spells.2)
 unsound_is_lost old new index argument frame reply command (fail_switch choice fails switch count card spells) unsound =
-    absurd (unsound _ spells)
+    absurd (unsound spells.0 spells.2)
 unsound_is_lost old new index argument frame reply command (leave_over choice bits are fine count card spells) unsound =
-    absurd (unsound _ spells)
+    absurd (unsound spells.0 spells.2)
 unsound_is_lost old new index argument frame reply command (brownout choice lands keeps after fine count card silent) unsound =
     absurd (unsound Silent silent)
 unsound_is_lost old new index argument frame reply command (flip_reply choice fine count card flipped) unsound =
     λ other heard same silent. let e = command ∙ sym same in
     lose_reply choice fine count
     (subst (λ (s : Option (ℕ × ℕ)). new.card ≡ (answered choice old.card s).0) e card)
-    (subst (λ (s : Option (ℕ × ℕ)). (answered choice old.card s).1 ≡ Silent → ⊥) e (not_silent _ reply flipped)) silent
+    (subst (λ (s : Option (ℕ × ℕ)). (answered choice old.card s).1 ≡ Silent → ⊥) e (not_silent old.card _ reply flipped)) silent

@@ -45,6 +45,11 @@ resting lines =
       transfer = Data.Nothing;
     }
 
+-- between two commands to a card that is selected, whatever its lines and clock
+abbrev pub IsBetween : HostState → Type 0
+IsBetween state =
+    state ≡ record { ios = state.ios; is_identifying = false; is_app = false; count = 0; transfer = Data.Nothing }
+
 -- behind a command: identification begins with CMD0, and ends when CMD7 is answered
 abbrev pub sent : HostState → HostCommand → Bool → HostState
 sent state command is_answered =

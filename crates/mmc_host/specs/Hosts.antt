@@ -155,6 +155,13 @@ abbrev pub OnlySets : HostView → HostView → Type 0
 OnlySets old new =
     Where new ((old.is_kept ≡ true) × (new ≡ record old { state = record old.state { ios = new.state.ios } }))
 
+-- a host that is set to some lines goes on with its card
+abbrev pub GoesOn : HostView → HostView → Type 0
+GoesOn old new =
+    Where new
+    ((old.is_kept ≡ true) × (new.card ≡ old.card) × (new.faults ≡ old.faults) × (new.may_fall ≡ old.may_fall)
+    × (new.limits ≡ old.limits))
+
 -- one exchange: this command, with this reply
 abbrev pub Replies : HostView → ℕ → ℕ → Reply → HostView → Type 0
 Replies old index argument reply new =

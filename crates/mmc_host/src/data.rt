@@ -1,5 +1,6 @@
 // The data behind commands.
-ghost use Rattle.std.specs.Prelude.{◌≡◌};
+ghost use Rattle.std.specs.Prelude.{◌≡◌, ◌↔◌, IsTrue};
+ghost use Rattle.mmc_host.specs.Together.{AreAhead, AreBehind};
 ghost use Rattle.mmc_host.specs.HostStates.{less_one};
 ghost use Rattle.mmc_host.specs.Table.{blocks_of, data_of};
 
@@ -34,6 +35,38 @@ pub enum Data {
 }
 
 impl Data {
+    /// Whether so many blocks of 512 bytes are to come, or more.
+    pub fn are_behind(self, count: usize) -> bool
+        ensures { IsTrue result ↔ AreBehind self count }
+    {
+        match self {
+            Data::Read {
+                length,
+                blocks: Blocks::Counted(all),
+            } => length == 512 && count <= all as usize,
+            Data::Read {
+                length,
+                blocks: Blocks::UntilStopped,
+            } => length == 512,
+            Data::Nothing | Data::Write { .. } => false,
+        }
+    }
+
+    /// Whether so many blocks are to go, or more.
+    pub fn are_ahead(self, count: usize) -> bool
+        ensures { IsTrue result ↔ AreAhead self count }
+    {
+        match self {
+            Data::Write {
+                blocks: Blocks::Counted(all),
+            } => count <= all as usize,
+            Data::Write {
+                blocks: Blocks::UntilStopped,
+            } => true,
+            Data::Nothing | Data::Read { .. } => false,
+        }
+    }
+
     /// What is left of it behind one block.
     pub fn less_one(self) -> Data
         ensures { result ≡ less_one self }

@@ -2,10 +2,14 @@
 ghost use Rattle.std.specs.Prelude.{◌<◌, ◌≡◌, length};
 ghost use Rattle.mmc_host.specs.Hosts.{HostView, IsSlowEnough, IsWithin, Looks, ReadsBlock, Sends};
 ghost use Rattle.mmc_host.specs.Hosts.{SetsIos, Waits, Where, WritesBlock};
+ghost use Rattle.mmc_host.specs.Together.{AreAhead, AreBehind, ReadsWith, WritesWith};
+ghost use Rattle.mmc_host.specs.declared.response.Response.TheVariants.{R1};
 ghost use Rattle.mmc_host.specs.HostStates.{AreMovable, IsFree, IsTold, IsToCome, IsToGo, lines_of};
+ghost use Rattle.mmc_host.specs.declared.told.Ios.{Ios};
 
 use crate::told::{Heard, HostCommand, Ios, ResponseFault};
 use crate::work::Work;
+use mmc_bus::{Blocks, BlocksMut, Moved};
 use mmc_card::{DataIn, DataOut, Lines};
 
 /// A host controller with one card.
@@ -20,6 +24,10 @@ pub trait Host {
     // What contracts see of a host.
     ghost view: { Self → HostView };
 
+    // Its controller was told these lines, timing and clock last. It is said of any host, kept or not; one that keeps no account of
+    // what it has told its controller says `Unit`.
+    ghost has_told: { Self → Ios → Type 0 };
+
     /// The most data lines that are wired, and the fastest timing.
     fn limits(&self) -> Lines
         ensures { Where (view self.now) (result ≡ (view self.now).limits) };
@@ -27,7 +35,8 @@ pub trait Host {
     /// Sets how many data lines are in use, the timing, and the clock, which `Ios::max_clock` tells in hertz.
     fn set_ios(&mut self, ios: Ios)
         requires { Where (view self.old) (IsWithin (lines_of ios) (view self.old).limits) }
-        ensures { SetsIos (view self.old) ios (view self.new) };
+        ensures sets { SetsIos (view self.old) ios (view self.new) }
+        ensures told { has_told self.new ios };
 
     /// Sends a command and waits for its response, for 64 clocks at least. Where data is behind it, blocks of that length will
     /// be asked for or offered, or the next command ends them. It doesn't wait until the card is no longer busy.
@@ -38,6 +47,50 @@ pub trait Host {
         requires told { Where (view self.old) (IsTold (view self.old).state command) }
         requires clock { Where (view self.old) (IsSlowEnough (view self.old).state command) }
         ensures { Sends (view self.old) command result (view self.new) };
+
+    /// Sends a command after which blocks of 512 bytes come, as many as there are here at least, and waits for its response as `send`
+    /// does. It reads the first of the blocks into their places, from the first on, until one isn't good: as many as the host
+    /// moves by the same call, which are none where it says nothing of it. A block that isn't good ends the data, and
+    /// what the places hold is open then; otherwise the others are read by `read_block`, or the next command ends them.
+    fn read_with<D: BlocksMut>(
+        &mut self,
+        command: HostCommand,
+        blocks: &mut D,
+    ) -> (Result<Heard, ResponseFault>, Moved<DataIn>)
+        requires index { command.index < 64 }
+        requires movable { AreMovable command.transfer }
+        requires free { Where (view self.old) (IsFree (view self.old).state.transfer command) }
+        requires told { Where (view self.old) (IsTold (view self.old).state command) }
+        requires clock { Where (view self.old) (IsSlowEnough (view self.old).state command) }
+        requires behind { AreBehind command.transfer (length (D.blocks blocks.old)) }
+        ensures { ReadsWith D.blocks D.with (view self.old) command blocks.old result.0 result.1 blocks.new (view self.new) }
+    {
+        let _ = blocks;
+        (self.send(command), Moved::Good(0))
+    }
+
+    /// Sends a command after which these blocks go, or more, and waits for its response as `send` does. It writes the first of
+    /// them, from the first on, until one isn't accepted: as many as the host moves by the same call, and none where it heard no
+    /// response. Before each but the first it waits until the card is no longer busy; where that takes too long it writes no
+    /// more. A block that isn't accepted ends the data; otherwise the others are written by `write_block`, or the next command
+    /// ends them.
+    fn write_with<D: Blocks>(
+        &mut self,
+        command: HostCommand,
+        blocks: &D,
+    ) -> (Result<Heard, ResponseFault>, Moved<DataOut>)
+        requires index { command.index < 64 }
+        requires movable { AreMovable command.transfer }
+        requires free { Where (view self.old) (IsFree (view self.old).state.transfer command) }
+        requires told { Where (view self.old) (IsTold (view self.old).state command) }
+        requires clock { Where (view self.old) (IsSlowEnough (view self.old).state command) }
+        requires ahead { AreAhead command.transfer (length (D.blocks blocks.now)) }
+        requires response { command.response ≡ R1 }
+        ensures { WritesWith (view self.old) command (D.blocks blocks.now) result.0 result.1 (view self.new) }
+    {
+        let _ = blocks;
+        (self.send(command), Moved::Good(0))
+    }
 
     /// Reads the next block of the data behind the last command. It waits for 100 ms at least before it answers `Nothing`. A block
     /// that isn't good ends the data.

@@ -1,19 +1,20 @@
-ghost use Rattle.std.specs.Prelude.{◌<◌, ◌≡◌, IsSome, length, true};
+ghost use Rattle.std.specs.Prelude.{◌<◌, ◌≡◌, IfSome, IsNone, IsSome, None, false, length, true};
 ghost use Rattle.mmc_frame.specs.Frame.{command_in};
 ghost use Rattle.mmc_host.specs.declared.data.Data.TheVariants as Data;
 ghost use Rattle.mmc_bus.specs.Exchanges.{Commanded, DataRead, DataWritten, Polled, SetsLines};
 ghost use Rattle.mmc_card.specs.Faults.{CommandStep, PollStep, ReadStep, Spells, WriteStep};
 ghost use Rattle.mmc_bus.specs.Wires.{bus_view_with};
-ghost use Rattle.mmc_host.specs.Hosts.{Does, IsUnused, IsWithin, OnlySets, ReadsBlock, Replies, Waits};
+ghost use Rattle.mmc_host.specs.Hosts.{Does, GoesOn, IsUnused, IsWithin, OnlySets, ReadsBlock, Replies, Waits};
 ghost use Rattle.mmc_host.specs.Hosts.{Where, WritesBlock, answer_heard, bus_over};
-ghost use Rattle.mmc_host.specs.HostStates.{AreMovable, IsFree, IsTold, IsToCome, IsToGo, lines_of, resting};
+ghost use Rattle.mmc_host.specs.Together.{CanRead, CanWrite, all_noted, all_writes_noted, poll_noted, writes_noted};
+ghost use Rattle.mmc_host.specs.HostStates.{AreMovable, IsBetween, IsFree, IsTold, IsToCome, IsToGo, lines_of, resting};
 
 use crate::host::Host;
 use crate::meaning::meant;
 use crate::response::Response;
 use crate::told::{Heard, HostCommand, HostState, Ios, ResponseFault};
 use crate::work::{Work, work_of};
-use mmc_bus::{Bus, Wire};
+use mmc_bus::{Blocks, BlocksMut, Bus, Moved, Wire};
 use mmc_card::{Command, DataIn, DataOut, Exchange, Lines, Reply, Timing, Want, Width};
 use mmc_frame::commands::GO_IDLE_STATE;
 use mmc_frame::{
@@ -66,6 +67,49 @@ fn limited(lines: Lines, limits: Lines) -> Lines
     }
 }
 
+// Keeps the exchanges of these blocks; where one failed, of it alone, since nobody tells how many came before it.
+fn note_blocks(wire: &mut Wire, moved: Moved<DataIn>)
+    ensures { wire.new ≡ all_noted moved wire.old }
+{
+    match moved {
+        Moved::Failed(got) => wire.note(Exchange::In { len: 512, got }),
+        Moved::Good(good) => {
+            for _done in 0..good {
+                wire.note(Exchange::In {
+                    len: 512,
+                    got: DataIn::Good,
+                });
+            }
+        }
+    }
+}
+
+// Keeps the poll before a block that isn't the first.
+fn note_poll(wire: &mut Wire, done: usize)
+    ensures { wire.new ≡ poll_noted done wire.old }
+{
+    if done > 0 {
+        wire.note(Exchange::Busy { yes: false });
+    }
+}
+
+// The same of blocks that are written, with the polls between them.
+fn note_written(wire: &mut Wire, moved: Moved<DataOut>)
+    ensures { wire.new ≡ all_writes_noted moved wire.old }
+{
+    match moved {
+        Moved::Failed(got) => wire.note(Exchange::Out { got }),
+        Moved::Good(good) => {
+            for done in 0..good {
+                note_poll(wire, done);
+                wire.note(Exchange::Out {
+                    got: DataOut::Accepted,
+                });
+            }
+        }
+    }
+}
+
 impl<H: Host> HostBus<H> {
     /// The bus over a host that has been sent no command so far.
     pub fn new(host: H) -> HostBus<H>
@@ -85,21 +129,26 @@ impl<H: Host> HostBus<H> {
     }
 
     /// The bus over a host that is between two commands to a card that is selected, on these lines: how one goes on that has
-    /// kept what it knows elsewhere.
+    /// kept what it knows elsewhere. The host is told the lines, timing and clock, whatever it was told before, as far as it can.
     pub fn resume(host: H, lines: Lines) -> HostBus<H>
-        requires { Where (H.view host) ((H.view host).state ≡ resting lines) }
-        ensures view { bus_over (H.view result.host) result.wire result.is_misused
-            ≡ bus_view_with (H.view host).card (H.view host).faults (H.view host).may_fall (H.view host).is_kept result.wire }
+        requires { Where (H.view host) (IsBetween (H.view host).state) }
+        ensures told { IsWithin lines result.wire.limits → H.has_told result.host (resting lines).ios }
+        ensures goes_on { GoesOn (H.view host) (H.view result.host) }
         ensures lines { result.wire.lines ≡ lines }
         ensures limits { Where (H.view host) (result.wire.limits ≡ (H.view host).limits) }
+        ensures fresh { (result.wire.last ≡ None) × (result.wire.exchanges ≡ 0) }
+        ensures misused { result.is_misused ≡ false }
     {
+        let mut host = host;
         let limits = host.limits();
         let mut wire = Wire::within(limits);
         wire.set_lines(lines.width, lines.timing);
+        let state = HostState::resting(limited(lines, limits));
+        host.set_ios(state.ios);
         HostBus {
             host,
             wire,
-            state: HostState::resting(lines),
+            state,
             work: Work::Settling,
             is_misused: false,
         }
@@ -128,6 +177,7 @@ impl<H: Host> HostBus<H> {
     }
 
     // Sets lines and clock as they are wanted next.
+    #[inline(always)]
     fn set_ios(&mut self, is_identifying: bool)
         ensures wire { self.new.wire ≡ self.old.wire }
         ensures misused { self.new.is_misused ≡ self.old.is_misused }
@@ -205,6 +255,55 @@ impl<H: Host> HostBus<H> {
             return Reply::Silent;
         }
         self.send(command)
+    }
+
+    // The command of a frame after which so many blocks of 512 bytes come, where it can be sent now on the lines that were asked for.
+    fn reading(&mut self, frame: &[u8; 6], count: usize) -> Option<HostCommand>
+        ensures wire { self.new.wire ≡ self.old.wire }
+        ensures misused { self.new.is_misused ≡ self.old.is_misused }
+        ensures only { OnlySets (H.view self.old.host) (H.view self.new.host) }
+        ensures cannot { IsNone result → self.new ≡ self.old }
+        ensures can { IfSome result (λ command. CanRead self.new.state frame.now command count self.old.wire.lines) }
+    {
+        let Some((index, argument)) = read_command(frame) else {
+            return None;
+        };
+        let command = self.state.command(index, argument);
+        let lines = self.wire.lines;
+        if index >= 64
+            || !self.state.is_free(command)
+            || !command.transfer.are_behind(count)
+            || limited(lines, self.wire.limits) != lines
+        {
+            return None;
+        }
+        self.set_ios(self.state.is_identifying || index == GO_IDLE_STATE);
+        Some(command)
+    }
+
+    // The command of a frame after which so many blocks go, where it can be sent now on the lines that were asked for.
+    fn writing(&mut self, frame: &[u8; 6], count: usize) -> Option<HostCommand>
+        ensures wire { self.new.wire ≡ self.old.wire }
+        ensures misused { self.new.is_misused ≡ self.old.is_misused }
+        ensures only { OnlySets (H.view self.old.host) (H.view self.new.host) }
+        ensures cannot { IsNone result → self.new ≡ self.old }
+        ensures can { IfSome result (λ command. CanWrite self.new.state frame.now command count self.old.wire.lines) }
+    {
+        let Some((index, argument)) = read_command(frame) else {
+            return None;
+        };
+        let command = self.state.command(index, argument);
+        let lines = self.wire.lines;
+        if index >= 64
+            || command.response != Response::R1
+            || !self.state.is_free(command)
+            || !command.transfer.are_ahead(count)
+            || limited(lines, self.wire.limits) != lines
+        {
+            return None;
+        }
+        self.set_ios(self.state.is_identifying || index == GO_IDLE_STATE);
+        Some(command)
     }
 
     // Sets the lines as they were asked for last. It tells whether the host can.
@@ -305,6 +404,45 @@ impl<H: Host> Bus for HostBus<H> {
         let reply = self.carry(&frame);
         self.wire.note(Exchange::Command { frame, want, reply });
         reply
+    }
+
+    fn read_with<D: BlocksMut>(
+        &mut self,
+        frame: [u8; 6],
+        want: Want,
+        blocks: &mut D,
+    ) -> (Reply, Moved<DataIn>) {
+        match self.reading(&frame, blocks.len()) {
+            Some(command) => {
+                let (heard, moved) = self.host.read_with(command, blocks);
+                self.state = self.state.sent(command, heard.is_ok()).blocks_passed(moved);
+                let reply = spelled(command, heard);
+                self.wire.note(Exchange::Command { frame, want, reply });
+                note_blocks(&mut self.wire, moved);
+                (reply, moved)
+            }
+            None => (self.command(frame, want), Moved::Good(0)),
+        }
+    }
+
+    fn write_with<D: Blocks>(
+        &mut self,
+        frame: [u8; 6],
+        want: Want,
+        blocks: &D,
+    ) -> (Reply, Moved<DataOut>) {
+        match self.writing(&frame, blocks.len()) {
+            Some(command) => {
+                let (heard, moved) = self.host.write_with(command, blocks);
+                self.state = self.state.sent(command, heard.is_ok()).blocks_passed(moved);
+                self.work = Work::Write;
+                let reply = spelled(command, heard);
+                self.wire.note(Exchange::Command { frame, want, reply });
+                note_written(&mut self.wire, moved);
+                (reply, moved)
+            }
+            None => (self.command(frame, want), Moved::Good(0)),
+        }
     }
 
     fn read_data(&mut self, buffer: &mut [u8]) -> DataIn {

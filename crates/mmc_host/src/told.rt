@@ -2,10 +2,12 @@
 ghost use Rattle.std.specs.Prelude.{◌≡◌, ◌↔◌, IsTrue, false, true};
 ghost use Rattle.mmc_card.specs.declared.exchange.Timing.TheVariants.{Default, High};
 ghost use Rattle.mmc_host.specs.HostStates.{AreMovable, IsFree, IsTold, IsToCome, IsToGo, begun, block_passed, lines_of, resting, sent};
+ghost use Rattle.mmc_host.specs.Together.{passed_on};
 
 use crate::data::{Data, data_of};
 use crate::meaning::meant;
 use crate::response::{Response, response_of};
+use mmc_bus::Moved;
 use mmc_card::{Lines, Timing, Width};
 use mmc_frame::commands::{APP_CMD, GO_IDLE_STATE, SELECT_CARD, SET_BLOCK_COUNT};
 use thiserror::Error;
@@ -219,6 +221,23 @@ impl HostState {
                 Data::Nothing
             },
             ..self
+        }
+    }
+
+    /// After the blocks that one call moved, which go as `block_passed` says; one that failed ends the data, however many came before
+    /// it.
+    pub fn blocks_passed<T: Copy>(self, moved: Moved<T>) -> HostState
+        ensures { result ≡ passed_on moved self }
+    {
+        match moved {
+            Moved::Failed(_) => self.block_passed(false),
+            Moved::Good(good) => {
+                let mut state = self;
+                for _done in 0..good {
+                    state = state.block_passed(true);
+                }
+                state
+            }
         }
     }
 }

@@ -1,16 +1,17 @@
 -- What CMD8, CMD55 and a readiness inquiry tell.
-use Rattle.std.proofs.Common.{◌<◌, ◌∙◌, ◌≡◌, ◌⊎◌, ◌^◌, Bool, ap, arith, cond, false, inl, inr, refl, subst, sym}
+use Rattle.std.proofs.Common.{◌<◌, ◌∙◌, ◌≡◌, ◌⊎◌, Bool, ap, arith, cond, false, inl, inr, refl, subst, sym}
 use Rattle.std.proofs.Common.{true, ℕ}
 use Rattle.std.proofs.lemmas.Bool.{eq-eqb, eqb-true}
-use Rattle.std.specs.Prelude.{◌%◌, ◌/◌, ◌==◌, Err, None, Ok, Option, Result, Some}
+use Rattle.std.specs.Prelude.{◌&&◌, ◌==◌, Err, None, Ok, Option, Result, Some, if◌then◌else◌, not}
 use Rattle.mmc_frame.specs.Field.{field}
 use Rattle.mmc_frame.specs.declared.card_state.State.TheVariants.{Idle}
 use Rattle.mmc_frame.specs.declared.kind.Kind.{Kind}
 use Rattle.mmc_frame.specs.declared.kind.Kind.TheVariants.{Mmc, Sd}
-use Rattle.mmc_regs.specs.Ocr.{card_capacity_status}
+use Rattle.mmc_regs.specs.Ocr.{card_capacity_status, power_up_status, window_at_3_3_volts}
 use Rattle.mmc_card.specs.BusView.{BusView}
-use Rattle.mmc_card.specs.Card.{Card, IsCard, is_identified}
-use Rattle.mmc_card.specs.CardAnswer.{done, refused, shown, status}
+use Rattle.mmc_card.specs.Card.{Card, IsCard, is_identified, patience}
+use Rattle.mmc_card.specs.CardAnswer.{done, refused, shown}
+use Rattle.mmc_card.specs.Judged.{IsEarlyOcr, Shows}
 use Rattle.mmc_card.specs.Faults.{NoFault}
 use Rattle.mmc_card.specs.Made.{first_rca, is_sd}
 use Rattle.mmc_card.specs.Profile.{InProfile}
@@ -37,7 +38,7 @@ idle_refused card idle = record { state = idle.state; told = idle.told; app = re
 abbrev Repeats : BusView → Result ℕ Unheard → BusView → Type 0
 Repeats old heard new =
     (old.card.made.kind ≡ Sd
-    → Does ((old.card.state ≡ Idle) × (old.card.made.answers_cmd8 ≡ true)) (λ card. 0x1aa)
+    → Does ((old.card.state ≡ Idle) × (old.card.made.answers_cmd8 ≡ true)) (λ card told. field 11 0 told ≡ 0x1aa)
     (record (done old.card) { accepted_cmd8 = true }) old heard new)
     × (old.card.made.kind ≡ Sd → old.card.made.answers_cmd8 ≡ false → old.card.state ≡ Idle
     → IsUnheard (refused old.card) old heard new)
@@ -53,8 +54,10 @@ probed_by : (kind : Kind) (answers : Bool) (old : BusView) (heard : Result ℕ U
     → (judged.echoed heard ≡ Ok (echoes old.card.made)) × IsIdle (echoes old.card.made) false 0 new.card
 probed_by Sd true old heard new is knows repeats same idle =
     let f = (repeats.0 is).fine same (idle.state, knows) in
-    let told : echoes old.card.made ≡ true = rw (is, knows) refl in (
-      ap judged.echoed f.0 ∙ ap Ok (sym told),
+    let told : echoes old.card.made ≡ true = rw (is, knows) refl in
+    let again = f.0.2 in
+    let repeats_it : judged.echoed (Ok f.0.0) ≡ Ok true = rw again refl in (
+      ap judged.echoed f.0.1 ∙ repeats_it ∙ ap Ok (sym told),
       probed_so old new.card true told (subst (IsIdle true false 0) (sym f.1) (idle_told old.card idle)),
     )
 probed_by Sd false old heard new is knows repeats same idle =
@@ -82,7 +85,7 @@ probed old heard new result is repeats same idle =
 abbrev Expects : BusView → Result ℕ Unheard → BusView → Type 0
 Expects old heard new =
     Does ((old.card.made.kind ≡ Sd) × ((old.card.state ≡ Idle) ⊎ (is_identified old.card.state ≡ true))
-    × Names 0 old.card) (λ card. status true (without_addresses card))
+    × Names 0 old.card) (λ card. Shows (without_addresses card))
     (record (shown (forgotten old.card)) { app = true }) old heard new
 
 -- an SD card in idle goes by the RCA 0, and an eMMC device by 1
@@ -96,7 +99,7 @@ announced_by Sd old heard new accepted times is card expects other same idle =
     let f = expects.fine same (is, inl idle.state, sym rca) in
     let after : IsIdle accepted true times (record (shown (forgotten old.card)) { app = true }) =
     record { state = idle.state; told = idle.told; app = refl; inquiries = idle.inquiries } in
-    (ap judged.answered f.0, subst (IsIdle accepted true times) (sym f.1) after)
+    (ap judged.answered f.0.1, subst (IsIdle accepted true times) (sym f.1) after)
 announced_by Mmc old heard new accepted times is card expects other same idle =
     let rca : old.card.rca ≡ 1 = card.rca (ap is_identified idle.state) ∙ ap first_rca is in
     let f = other (λ mine. (let e : 0 ≡ 1 = mine ∙ rca in cc)) same in
@@ -124,22 +127,30 @@ answered_by_sd old heard new result is expects ok =
 
 -- Inquiries.
 
-inquired_ready : (ocr : ℕ) → (ocr / 0x100000 % 4 == 3) ≡ true → (ocr / 0x80000000 == 1) ≡ true
+inquired_ready : (ocr : ℕ) → (window_at_3_3_volts ocr == 3) ≡ true → (power_up_status ocr == 1) ≡ true
     → judged.inquired (Ok ocr) ≡ Ok (Some ocr)
-inquired_ready ocr window ready = rw (window, ready) refl
+inquired_ready ocr window ready = rw (ready, window) refl
 
-inquired_wait : (ocr : ℕ) → (ocr / 0x100000 % 4 == 3) ≡ true → (ocr / 0x80000000 == 1) ≡ false
-    → judged.inquired (Ok ocr) ≡ Ok None
-inquired_wait ocr window wait = rw (window, wait) refl
+none_by : (empty : Bool) → let none : Result (Option ℕ) IdentFault = Ok None in (if empty then none else none) ≡ none
+none_by true = refl
+none_by false = refl
 
-low_ocr : (ocr : ℕ) → ocr < 2 ^ 31 → (ocr / 0x80000000 == 1) ≡ false
-low_ocr ocr below = let zero : ocr / 0x80000000 ≡ 0 = omega (arith, below) in rw zero refl
+-- not ready, with the window that the card will have, or an empty one
+inquired_early : (told ocr : ℕ) → IsEarlyOcr told ocr → window_at_3_3_volts ocr ≡ 3 → judged.inquired (Ok told) ≡ Ok None
+inquired_early told ocr early fits =
+    let low = early.0 in
+    let zero : power_up_status told ≡ 0 = omega (arith, low) in
+    let wait : (power_up_status told == 1) ≡ false = rw zero refl in
+    elim early.1 [
+      | inl empty ↦ rw (wait, eq-eqb (field 23 0 told) 0 empty) refl
+      | inr window ↦ rw (wait, eq-eqb (window_at_3_3_volts told) 3 (window ∙ fits)) (none_by (field 23 0 told == 0))
+    ]
 
 -- the card is ready, or isn't yet
 inquiry_told : (accepted : Bool) (times : ℕ) (old : BusView) (heard : Result ℕ Unheard) (new : BusView) (ocr : ℕ) → IsCard old.card
     → InProfile old.card.made → old.card.inquiries ≡ times → old.card.state ≡ Idle → old.card.accepted_cmd8 ≡ accepted
     → heard ≡ Ok ocr
-    → TellsReady old.card ocr new.card ⊎ (TellsWait old.card ocr new.card × (old.card.inquiries < 8))
+    → TellsReady old.card ocr new.card ⊎ (TellsWait old.card ocr new.card × (old.card.inquiries < patience))
     → Inquired accepted times old.card.made (judged.inquired heard) new.card
 inquiry_told accepted times old heard new ocr card profile asked idle flag is (inl ready) =
     let below = card.registers.ocr in
@@ -150,13 +161,9 @@ inquiry_told accepted times old heard new ocr card profile asked idle flag is (i
     ∙ inquired_ready ocr (eq-eqb _ 3 (omega (arith, told, window))) (eq-eqb _ 1 (omega (arith, told, below)))))
     (told, ap (λ (c : Card). c.state) ready.0)
 inquiry_told accepted times old heard new ocr card profile asked idle flag is (inr wait) =
-    let below = card.registers.ocr in
-    let window = profile.window in
-    let told = wait.0.1.1 in
     let few = wait.1 in
     subst (λ r. Inquired accepted times old.card.made r new.card)
-    (sym (ap judged.inquired is
-    ∙ inquired_wait ocr (eq-eqb _ 3 (omega (arith, told, window))) (low_ocr ocr (omega (arith, told, below))))) (
+    (sym (ap judged.inquired is ∙ inquired_early ocr old.card.made.ocr wait.0.1 profile.window)) (
       omega (arith, few, asked),
       record {
         state = ap (λ (c : Card). c.state) wait.0.0 ∙ idle;
@@ -175,27 +182,30 @@ inquiry_fine accepted app times old heard new result is card inquires same there
     subst (λ r. Inquired accepted times old.card.made r new.card) (sym is)
     (inquiry_told accepted times old heard new f.0 card profile idle.inquiries idle.state idle.told f.1 f.2)
 
-inquired_at : (window ready : Bool) (told ocr : ℕ) → ready ≡ (told / 0x80000000 == 1)
-    → let r : Result (Option ℕ) IdentFault = cond window (cond ready (Ok (Some told)) (Ok None)) (Err Voltage) in
-    r ≡ Ok (Some ocr) → (let x : Result ℕ Unheard = Ok told in x ≡ Ok ocr) × (ocr / 0x80000000 ≡ 1)
-inquired_at true true told ocr e h =
+inquired_at : (empty window ready : Bool) (told ocr : ℕ) → ready ≡ (power_up_status told == 1)
+    → let r : Result (Option ℕ) IdentFault = cond (not ready && empty) (Ok None)
+    (cond window (cond ready (Ok (Some told)) (Ok None)) (Err Voltage)) in
+    r ≡ Ok (Some ocr) → (let x : Result ℕ Unheard = Ok told in x ≡ Ok ocr) × (power_up_status ocr ≡ 1)
+inquired_at empty true true told ocr e h =
     let same : told ≡ ocr = cc in
-    (ap Ok same, ap (λ n. n / 0x80000000) (sym same) ∙ eqb-true (told / 0x80000000) 1 (sym e))
-inquired_at true false told ocr e h = cc
-inquired_at false ready told ocr e h = cc
+    (ap Ok same, ap power_up_status (sym same) ∙ eqb-true (power_up_status told) 1 (sym e))
+inquired_at empty false true told ocr e h = cc
+inquired_at true window false told ocr e h = cc
+inquired_at false true false told ocr e h = cc
+inquired_at false false false told ocr e h = cc
 
 inquired_some : (heard : Result ℕ Unheard) (ocr : ℕ) → judged.inquired heard ≡ Ok (Some ocr)
-    → (heard ≡ Ok ocr) × (ocr / 0x80000000 ≡ 1)
+    → (heard ≡ Ok ocr) × (power_up_status ocr ≡ 1)
 inquired_some (Ok told) ocr h =
-    inquired_at (told / 0x100000 % 4 == 3) (told / 0x80000000 == 1) told ocr refl h
+    inquired_at (field 23 0 told == 0) (window_at_3_3_volts told == 3) (power_up_status told == 1) told ocr refl h
 inquired_some (Err unheard) ocr h = cc
 
 -- bit 31 is told by a card that is ready alone
-ready_alone : (old : BusView) (ocr : ℕ) (new : BusView) → IsCard old.card → ocr / 0x80000000 ≡ 1
+ready_alone : (old : BusView) (ocr : ℕ) (new : BusView) → IsCard old.card → power_up_status ocr ≡ 1
     → TellsReady old.card ocr new.card ⊎ TellsWait old.card ocr new.card → ocr ≡ ready_ocr old.card.made
 ready_alone old ocr new card high (inl ready) = ready.1
 ready_alone old ocr new card high (inr wait) =
-    let told = wait.1.1 in absurd (omega (arith, told, high))
+    let early = wait.1.0 in absurd (omega (arith, early, high))
 
 -- whatever fell, the OCR of a card that is ready is its own
 pub inquiry_own : {IsThere IsServed : Type 0} (old : BusView) (heard : Result ℕ Unheard) (new : BusView)

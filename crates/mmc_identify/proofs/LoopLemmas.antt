@@ -6,7 +6,7 @@ use Rattle.mmc_frame.specs.declared.card_state.State.TheVariants.{Ready}
 use Rattle.mmc_frame.specs.declared.kind.Kind.{Kind}
 use Rattle.mmc_frame.specs.declared.kind.Kind.TheVariants.{Mmc, Sd}
 use Rattle.mmc_card.specs.BusView.{BusView}
-use Rattle.mmc_card.specs.Card.{IsCard}
+use Rattle.mmc_card.specs.Card.{IsCard, patience}
 use Rattle.mmc_card.specs.Faults.{NoFault}
 use Rattle.mmc_card.specs.Made.{Made, is_sd}
 use Rattle.mmc_card.specs.Profile.{InProfile}
@@ -38,7 +38,7 @@ abbrev pub Asking : Bool → Kind → Bool → ℕ → ℕ → BusView → BusVi
 Asking app kind hcs first times old now =
     Moved Anything
     (λ old now. InProfile old.card.made → CanStart old.card.made hcs → old.card.made.kind ≡ kind
-    → IsIdle hcs app first old.card → IsIdle hcs app times now.card × (times ≤ 8)) old now
+    → IsIdle hcs app first old.card → IsIdle hcs app times now.card × (times ≤ patience)) old now
 
 -- Inquiries of a card that was asked so many times first, until it is ready.
 abbrev pub Starts : Bool → Kind → Bool → ℕ → Result ℕ IdentFault → BusView → BusView → Type 0
@@ -61,7 +61,7 @@ next_inquired app kind hcs times result a b c stays q same profile can is idle =
 
 -- Loops.
 
-pub asking_none : (app : Bool) (kind : Kind) (hcs : Bool) (first : ℕ) (a : BusView) → first ≤ 8 → a.is_kept ≡ true
+pub asking_none : (app : Bool) (kind : Kind) (hcs : Bool) (first : ℕ) (a : BusView) → first ≤ patience → a.is_kept ≡ true
     → IsCard a.card → Asking app kind hcs first first a a
 asking_none app kind hcs first a few kept card =
     moved_none a kept card tt (λ profile can is idle. (idle, few))
@@ -104,7 +104,7 @@ start_fails app kind hcs first times result fault a b c failed p q =
 
 -- so many in vain take a fault
 pub start_in_vain : (app : Bool) (kind : Kind) (hcs : Bool) (first times : ℕ) (result : Result ℕ IdentFault)
-    (a b : BusView) → IsErr result → 8 < times → Asking app kind hcs first times a b
+    (a b : BusView) → IsErr result → patience < times → Asking app kind hcs first times a b
     → Starts app kind hcs first result a b
 start_in_vain app kind hcs first times result a b failed many p =
     moved_as a b p (IfOk-from_err result (λ ocr. IsReadyOcr kind ocr a.card.made) failed)

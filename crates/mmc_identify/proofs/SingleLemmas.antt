@@ -13,7 +13,7 @@ use Rattle.mmc_card.specs.Card.{Card, IsCard, NoAddress, is_identified, is_in, i
 use Rattle.mmc_card.specs.declared.exchange.Timing.TheVariants.{Default}
 use Rattle.mmc_card.specs.declared.exchange.Width.TheVariants.{One}
 use Rattle.mmc_card.specs.declared.part.Part.TheVariants.{User}
-use Rattle.mmc_card.specs.CardAnswer.{Choice, bit, busied, done, left_with, r6_argument, reset, shown, status}
+use Rattle.mmc_card.specs.CardAnswer.{Choice, bit, busied, done, left_with, reset, shown, status}
 use Rattle.mmc_card.specs.CardLaws.{IsInOrder}
 use Rattle.mmc_card.specs.Faults.{NoFault}
 use Rattle.mmc_card.proofs.CardAll.{card_left}
@@ -21,7 +21,8 @@ use Rattle.mmc_card.proofs.Narrow.{both}
 use Rattle.mmc_card.specs.RowsIdentify.{at_work}
 use Rattle.mmc_card.specs.Made.{Made}
 use Rattle.mmc_card.specs.Profile.{InProfile}
-use Rattle.mmc_bus.specs.CommandLaws.{Does, DoesOne, Names, TellsStatus}
+use Rattle.mmc_bus.specs.CommandLaws.{Does, DoesOne, IsHeard, Names, TellsStatus}
+use Rattle.mmc_card.specs.Judged.{Shows, ShowsItself}
 use Rattle.mmc_bus.specs.declared.host.Unheard.{Unheard}
 use Rattle.mmc_identify.specs.Judged as judged
 use Rattle.mmc_identify.specs.Stages.{IsIdle, IsLeft, IsNamed, IsPolled, IsSelected, Looks}
@@ -37,20 +38,25 @@ idle_reset lands keeps old new e = subst (IsIdle false false 0) (sym e) (record 
 
 -- what is heard of a register is the one that the card tells
 pub register_own : {IsThere : Type 0} (register : Made → List ℕ) (after : Card) (old : BusView)
-    (heard : Result (List ℕ) Unheard) (new : BusView) → Does IsThere (λ card. register card.made) after old heard new
+    (heard : Result (List ℕ) Unheard) (new : BusView)
+    → Does IsThere (λ card bytes. bytes ≡ register card.made) after old heard new
     → IfOk (judged.told_register heard) (λ bytes. bytes ≡ register old.card.made)
 register_own register after old (Ok bytes) new does = (does.sound bytes refl).1.2
 register_own register after old (Err unheard) new does = tt
 
+-- what is heard where it is determined
+heard_is : {X : Type 0} {is : X} {heard : Result X Unheard} → IsHeard (λ x. x ≡ is) heard → heard ≡ Ok is
+heard_is h = h.1 ∙ ap (λ x. Ok x) h.2
+
 -- CMD2.
 
 pub named_fine : (old : BusView) (heard : Result (List ℕ) Unheard) (new : BusView)
-    → Does (old.card.state ≡ Ready) (λ card. card.made.cid) (record (done old.card) { state = Ident }) old heard new
+    → Does (old.card.state ≡ Ready) (λ card cid. cid ≡ card.made.cid) (record (done old.card) { state = Ident }) old heard new
     → NoFault old new → old.card.state ≡ Ready
     → (judged.told_register heard ≡ Ok old.card.made.cid) × (new.card.state ≡ Ident)
 named_fine old heard new does same ready =
     let f = does.fine same ready in
-    (ap judged.told_register f.0, ap (λ (card : Card). card.state) f.1)
+    (ap judged.told_register (heard_is f.0), ap (λ (card : Card). card.state) f.1)
 
 -- CMD3.
 
@@ -59,18 +65,16 @@ named_shown rca old new e =
     subst (IsNamed rca) (sym e)
     (record { state = refl; is_rca = refl; app = refl; command_errors = refl; errors = refl; switch_error = refl })
 
-r6_rca : (rca : ℕ) (card : Card) → r6_argument rca card / 65536 ≡ rca
-r6_rca rca card = omega arith
-
-published_by : (is_zero : Bool) (told rca : ℕ) → (told / 65536 == 0) ≡ is_zero → told / 65536 ≡ rca → (rca ≡ 0 → ⊥)
+published_by : (is_zero : Bool) (told rca : ℕ) → (field 31 16 told == 0) ≡ is_zero → field 31 16 told ≡ rca
+    → (rca ≡ 0 → ⊥)
     → judged.published (Ok told) ≡ Ok rca
-published_by true told rca e is some = absurd (some (sym is ∙ eqb-true (told / 65536) 0 e))
+published_by true told rca e is some = absurd (some (sym is ∙ eqb-true (field 31 16 told) 0 e))
 published_by false told rca e is some = rw e (ap Ok is)
 
 -- CMD3 publishes the RCA by which the card goes then
 abbrev pub Publishes : BusView → Result ℕ Unheard → BusView → Type 0
 Publishes old heard new =
-    Does ((old.card.state ≡ Ident) ⊎ (old.card.state ≡ Stby)) (r6_argument new.card.rca)
+    Does ((old.card.state ≡ Ident) ⊎ (old.card.state ≡ Stby)) (λ card told. field 31 16 told ≡ new.card.rca)
     (record (shown old.card) { state = Stby; rca = new.card.rca }) old heard new
 
 pub published_fine : (old : BusView) (heard : Result ℕ Unheard) (new : BusView) (result : Result ℕ IdentFault)
@@ -80,12 +84,12 @@ pub published_fine : (old : BusView) (heard : Result ℕ Unheard) (new : BusView
 published_fine old heard new result is does same ident some =
     let rca = new.card.rca in
     let f = does.fine same (inl ident) in
-    let judges = published_by _ (r6_argument rca old.card) rca refl (r6_rca rca old.card) some in
+    let judges = published_by _ f.0.0 rca refl f.0.2 some in
     subst (λ (r : Result ℕ IdentFault). IsOkAnd r (λ rca. IsNamed rca new.card))
-    (sym (is ∙ ap judged.published f.0 ∙ judges)) (named_shown rca old.card new.card f.1)
+    (sym (is ∙ ap judged.published f.0.1 ∙ judges)) (named_shown rca old.card new.card f.1)
 
 published_told : (is_zero : Bool) (told : ℕ) → let result : Result ℕ IdentFault = cond is_zero (Err Register)
-    (Ok (told / 65536)) in IfOk result (λ rca. rca ≡ told / 65536)
+    (Ok (field 31 16 told)) in IfOk result (λ rca. rca ≡ field 31 16 told)
 published_told true told = tt
 published_told false told = refl
 
@@ -93,23 +97,22 @@ pub published_own : (old : BusView) (heard : Result ℕ Unheard) (new : BusView)
     → IfOk (judged.published heard) (λ rca. rca ≡ new.card.rca)
 published_own old (Ok told) new does =
     subst (λ (known : ℕ). IfOk (judged.published (Ok told)) (λ rca. rca ≡ known))
-    (let says = (does.sound told refl).1 in
-    ap (λ n. n / 65536) says.2 ∙ r6_rca new.card.rca (left_with says.0 old.card)) (published_told _ told)
+    (let says = (does.sound told refl).1 in says.2) (published_told _ told)
 published_own old (Err unheard) new does = tt
 
 pub assigned_fine : (old : BusView) (heard : Result ℕ Unheard) (new : BusView)
-    → Does (old.card.state ≡ Ident) (status false)
+    → Does (old.card.state ≡ Ident) Shows
     (record (shown old.card) { state = Stby; rca = 1 }) old heard new
     → NoFault old new → old.card.state ≡ Ident → (judged.assigned heard ≡ Ok 1) × IsNamed 1 new.card
 assigned_fine old heard new does same ident =
     let f = does.fine same ident in
-    (ap judged.assigned f.0, named_shown 1 old.card new.card f.1)
+    (ap judged.assigned f.0.1, named_shown 1 old.card new.card f.1)
 
 -- CMD9.
 
 pub described_fine : (rca argument : ℕ) (old : BusView) (heard : Result (List ℕ) Unheard) (new : BusView)
     → field 31 16 argument ≡ rca
-    → Does ((old.card.state ≡ Stby) × Names argument old.card) (λ card. card.made.csd) (done old.card) old heard new
+    → Does ((old.card.state ≡ Stby) × Names argument old.card) (λ card csd. csd ≡ card.made.csd) (done old.card) old heard new
     → NoFault old new → IsNamed rca old.card
     → (judged.told_register heard ≡ Ok old.card.made.csd) × IsNamed rca new.card
 described_fine rca argument old heard new is_rca does same named =
@@ -122,7 +125,7 @@ described_fine rca argument old heard new is_rca does same named =
       errors = named.errors;
       switch_error = named.switch_error;
     } in
-    (ap judged.told_register f.0, subst (IsNamed rca) (sym f.1) still)
+    (ap judged.told_register (heard_is f.0), subst (IsNamed rca) (sym f.1) still)
 
 -- CMD7.
 
@@ -176,18 +179,22 @@ unlocked card state is below command_errors errors lock =
       bit_below card.switch_error,
     )
 
+-- what a response says of the lock
+abbrev pub LockLaw : Type 0
+LockLaw = (told : ℕ) (card : Card) → Shows card told → field 25 25 told ≡ field 25 25 (status false card)
+
 selects : (told : ℕ) → told / 0x2000000 % 2 ≡ 0 → judged.selected (Ok told) ≡ Ok tt
 selects told none = rw none refl
 
 pub selected_fine : (rca argument : ℕ) (old : BusView) (heard : Result ℕ Unheard) (new : BusView)
-    → field 31 16 argument ≡ rca → IsCard old.card → InProfile old.card.made
-    → Does ((old.card.state ≡ Stby) × Names argument old.card) (status false)
+    → field 31 16 argument ≡ rca → LockLaw → IsCard old.card → InProfile old.card.made
+    → Does ((old.card.state ≡ Stby) × Names argument old.card) Shows
     (record (busied (shown old.card)) { state = Tran }) old heard new
     → NoFault old new → IsNamed rca old.card → IsOk (judged.selected heard) × IsPolled true rca new.card
-selected_fine rca argument old heard new is_rca card profile does same named =
+selected_fine rca argument old heard new is_rca locked card profile does same named =
     let f = does.fine same (named.state, is_rca ∙ sym named.is_rca) in
     let none = unlocked old.card Stby named.state (omega arith) named.command_errors named.errors profile.unlocked in
-    let judges = ap judged.selected f.0 ∙ selects (status false old.card) none in
+    let judges = ap judged.selected f.0.1 ∙ selects f.0.0 (locked f.0.0 old.card f.0.2 ∙ none) in
     (subst IsOk (sym judges) refl, selected_after rca old.card new.card card named.state named.is_rca f.1)
 
 selected_ok : (heard : Result ℕ Unheard) → IsOk (judged.selected heard) → (told : ℕ) × (heard ≡ Ok told)
@@ -196,7 +203,7 @@ selected_ok (Err unheard) ok = cc
 
 pub selected_own : (rca argument : ℕ) (old : BusView) (heard : Result ℕ Unheard) (new : BusView)
     → field 31 16 argument ≡ rca → IsCard old.card
-    → Does ((old.card.state ≡ Stby) × Names argument old.card) (status false)
+    → Does ((old.card.state ≡ Stby) × Names argument old.card) Shows
     (record (busied (shown old.card)) { state = Tran }) old heard new
     → IsOk (judged.selected heard) → Looks rca new.card
 selected_own rca argument old heard new is_rca card does ok up =
@@ -226,18 +233,19 @@ confirms : (kind : Kind) (told : ℕ) → told / 0x2000000 % 2 ≡ 0 → judged.
 confirms kind told none clean = rw (none, clean) refl
 
 -- a card that has programmed nothing tells its status as it is
-never_lags : {told : ℕ} (old new : Card) → old.lags ≡ false → TellsStatus old told new → told ≡ status false old
+never_lags : {told : ℕ} (old new : Card) → old.lags ≡ false → TellsStatus old told new → ShowsItself old told
 never_lags old new up (inl itself) = itself.0
 never_lags old new up (inr behind) =
     let soon = both old.lags _ (both (is_in old.state Tran) _ behind.may).1 in absurd (cc (up, soon.0))
 
 pub confirmed_fine : (rca argument : ℕ) (kind : Kind) (old : BusView) (heard : Result ℕ Unheard) (new : BusView)
     → field 31 16 argument ≡ rca → InProfile old.card.made
-    → (IsClean kind (own_status (status false old.card)) ↔ IsInOrder kind old.card)
+    → ((told : ℕ) → ShowsItself old.card told → (IsClean kind (own_status told) ↔ IsInOrder kind old.card))
+    → ((told : ℕ) → ShowsItself old.card told → field 25 25 told ≡ field 25 25 (status false old.card))
     → DoesOne ((is_identified old.card.state ≡ true) × (old.card.app ≡ false) × Names argument old.card)
     TellsStatus old heard new
     → NoFault old new → IsPolled false rca old.card → IsOk (judged.confirmed kind heard)
-confirmed_fine rca argument kind old heard new is_rca profile clean does same polled =
+confirmed_fine rca argument kind old heard new is_rca profile clean locked does same polled =
     let is = polled.selected in
     let f = does.fine same (ap is_identified is.state, is.app, is_rca ∙ sym is.is_rca) in
     let none = unlocked old.card Tran is.state (omega arith) is.command_errors is.errors profile.unlocked in
@@ -246,10 +254,9 @@ confirmed_fine rca argument kind old heard new is_rca profile clean does same po
       tran = is.state;
       rests = polled.is_busy;
     } in
-    let is_clean = clean_by kind (own_status (status false old.card)) (clean.1 order) in
-    let told : heard ≡ Ok (status false old.card) =
-    f.1 ∙ ap (λ x. Ok x) (never_lags old.card new.card is.up_to_date f.2) in
-    let judges = ap (judged.confirmed kind) told ∙ confirms kind (status false old.card) none is_clean in
+    let shows = never_lags old.card new.card is.up_to_date f.2 in
+    let is_clean = clean_by kind (own_status f.0) ((clean f.0 shows).1 order) in
+    let judges = ap (judged.confirmed kind) f.1 ∙ confirms kind f.0 (locked f.0 shows ∙ none) is_clean in
     subst IsOk (sym judges) refl
 
 confirmed_by : (kind : Kind) (told : ℕ) (locked clean : Bool) → let result : Result Unit IdentFault = cond locked
@@ -275,8 +282,10 @@ left_shown rca old new is rests e =
 
 pub confirmed_own : {IsThere : Type 0} (rca : ℕ) (kind : Kind) (old : BusView) (heard : Result ℕ Unheard)
     (new : BusView) → IsCard old.card
-    → ((card : Card) → IsCard card → (IsClean kind (own_status (status false card)) ↔ IsInOrder kind card))
-    → ((choice : Choice) (card : Card) → IsCard card → IsClean kind (own_status (status false (at_work choice card))) → ⊥)
+    → ((told : ℕ) (card : Card) → IsCard card → ShowsItself card told
+    → (IsClean kind (own_status told) ↔ IsInOrder kind card))
+    → ((choice : Choice) (told : ℕ) (card : Card) → IsCard card → ShowsItself (at_work choice card) told
+    → IsClean kind (own_status told) → ⊥)
     → DoesOne IsThere TellsStatus old heard new
     → Looks rca old.card → IsOk (judged.confirmed kind heard) → IsLeft rca new.card
 confirmed_own rca kind old heard new card clean unclean does looks ok =
@@ -286,8 +295,8 @@ confirmed_own rca kind old heard new card clean unclean does looks ok =
     let is_met = card_left says.0 old.card says.1 card in
     elim says.2 [
       | inl itself ↦
-          (let order = (clean met is_met).0 (subst (λ told. IsClean kind (own_status told)) itself.0 t.2) in
+          (let order = (clean t.0 met is_met itself.0).0 t.2 in
           left_shown rca old.card new.card (looks (ap is_selected order.tran)) order.rests itself.1)
       | inr behind ↦
-          absurd (unclean behind.choice met is_met (subst (λ told. IsClean kind (own_status told)) behind.told_is t.2))
+          absurd (unclean behind.choice t.0 met is_met behind.told_is t.2)
     ]

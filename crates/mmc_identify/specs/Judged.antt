@@ -1,6 +1,6 @@
 -- What the host makes of what it heard.
 use Rattle.std.specs.Prelude.{◌%◌, ◌&&◌, ◌/◌, ◌==◌, Bool, Err, List, None, Ok, Option, Result, Some, false}
-use Rattle.std.specs.Prelude.{if◌then◌else◌, true, ℕ}
+use Rattle.std.specs.Prelude.{if◌then◌else◌, not, true, ℕ}
 use Rattle.mmc_frame.specs.Field.{field}
 use Rattle.mmc_frame.specs.Status.{error_bits, own_status}
 use Rattle.mmc_frame.specs.declared.addressing.Addressing.{Addressing}
@@ -9,7 +9,7 @@ use Rattle.mmc_frame.specs.declared.kind.Kind.{Kind}
 use Rattle.mmc_frame.specs.declared.kind.Kind.TheVariants as Is
 use Rattle.mmc_regs.specs.Csd.{csd_in, has_block_length}
 use Rattle.mmc_regs.specs.CsdFields.{read_bl_len}
-use Rattle.mmc_regs.specs.Ocr.{access_mode, card_capacity_status}
+use Rattle.mmc_regs.specs.Ocr.{access_mode, card_capacity_status, power_up_status, window_at_3_3_volts}
 use Rattle.mmc_regs.specs.Register.{checked_number}
 use Rattle.mmc_regs.specs.declared.csd.Csd.{Csd}
 use Rattle.mmc_regs.specs.declared.csd.Csd.TheVariants.{Mmc, V1, V2}
@@ -22,7 +22,7 @@ use Rattle.mmc_identify.specs.declared.found.Found.{Found}
 
 -- CMD8: whether the card repeats voltage 1 and pattern AAh
 abbrev pub echoed : Result ℕ Unheard → Result Bool IdentFault
-echoed (Ok told) = if told % 0x1000 == 0x1aa then Ok true else Err Voltage
+echoed (Ok told) = if field 11 0 told == 0x1aa then Ok true else Err Voltage
 echoed (Err Nothing) = Ok false
 echoed (Err Unsound) = Err NoAnswer
 
@@ -32,10 +32,12 @@ answered (Ok told) = Ok true
 answered (Err Nothing) = Ok false
 answered (Err Unsound) = Err NoAnswer
 
--- an inquiry: the OCR of a card that is ready, or none
+-- an inquiry: the OCR of a card that is ready, or none, where its window may be empty
 abbrev pub inquired : Result ℕ Unheard → Result (Option ℕ) IdentFault
 inquired (Ok ocr) =
-    if ocr / 0x100000 % 4 == 3 then (if ocr / 0x80000000 == 1 then Ok (Some ocr) else Ok None) else Err Voltage
+    if not (power_up_status ocr == 1) && (field 23 0 ocr == 0) then Ok None
+    else if window_at_3_3_volts ocr == 3 then (if power_up_status ocr == 1 then Ok (Some ocr) else Ok None)
+    else Err Voltage
 inquired (Err unheard) = Err NoAnswer
 
 -- the argument of ACMD41, with HCS or not
@@ -49,7 +51,7 @@ told_register (Err unheard) = Err NoAnswer
 
 -- CMD3 of SD: the RCA that is published
 abbrev pub published : Result ℕ Unheard → Result ℕ IdentFault
-published (Ok told) = if told / 65536 == 0 then Err Register else Ok (told / 65536)
+published (Ok told) = if field 31 16 told == 0 then Err Register else Ok (field 31 16 told)
 published (Err unheard) = Err NoAnswer
 
 -- CMD3 of eMMC: the RCA 1 was taken

@@ -10,7 +10,7 @@ use Rattle.mmc_regs.specs.Register.{register_number}
 use Rattle.mmc_card.specs.declared.exchange.Timing.TheVariants.{Default}
 use Rattle.mmc_card.specs.declared.exchange.Width.TheVariants.{One}
 use Rattle.mmc_card.specs.declared.part.Part.TheVariants.{User}
-use Rattle.mmc_card.specs.Card.{Card, NoAddress, is_selected}
+use Rattle.mmc_card.specs.Card.{Card, NoAddress, is_selected, patience}
 use Rattle.mmc_card.specs.Made.{Made, addressing_of, is_sd}
 use Rattle.mmc_identify.specs.declared.fault.IdentFault.{IdentFault}
 use Rattle.mmc_identify.specs.declared.found.Found.{Found}
@@ -38,7 +38,7 @@ CanStart made hcs = made.kind ≡ Sd → card_capacity_status made.ocr ≡ 1 →
 
 -- one inquiry of a card that was asked so many times before, and has accepted a CMD8 or not
 abbrev pub Inquired : Bool → ℕ → Made → Result (Option ℕ) IdentFault → Card → Type 0
-Inquired accepted times made (Ok None) new = (times < 8) × IsIdle accepted false (times + 1) new
+Inquired accepted times made (Ok None) new = (times < patience) × IsIdle accepted false (times + 1) new
 Inquired accepted times made (Ok (Some ocr)) new = (ocr ≡ ready_ocr made) × (new.state ≡ Ready)
 Inquired accepted times made (Err fault) new = ⊥
 

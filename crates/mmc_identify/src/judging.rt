@@ -1,7 +1,8 @@
 // What the host makes of what it heard.
 //
 // 1. Error bits aren't judged before the closing status; CARD_IS_LOCKED is in CMD7's response and in the closing status.
-// 2. The voltage is judged at CMD8's response and at each OCR, an RCA where it is published.
+// 2. The voltage is judged at CMD8's response and at each OCR, unless its window is empty and the card isn't ready yet; an RCA
+//    where it is published.
 // 3. CID, CSD and addressing are judged when the card is in tran.
 ghost use Rattle.std.specs.Prelude.{◌≡◌, IfOk};
 ghost use Rattle.mmc_identify.specs.Judged as judged;
@@ -40,19 +41,23 @@ pub fn answered(heard: Result<u32, Unheard>) -> Result<bool, IdentFault>
     }
 }
 
-/// A readiness inquiry: the OCR of a card that is ready, or none yet.
+/// A readiness inquiry: the OCR of a card that is ready, which bit 31 says, or none yet (SD Physical Layer 6.00, section 5.1;
+/// JESD84-B51, section 7.1). A card that isn't ready may leave its window, bits 23 to 0, empty.
+///
+/// # Errors
+/// `NoAnswer` where no OCR was heard, and `Voltage` where the window lacks bit 21 or 20, 3.2 to 3.4 V.
 pub fn inquired(heard: Result<u32, Unheard>) -> Result<Option<u32>, IdentFault>
     ensures { result ≡ judged.inquired heard }
 {
     let ocr = heard.map_err(|_| IdentFault::NoAnswer)?;
-    if ocr / 0x0010_0000 % 4 != 3 {
+    let is_ready = Ocr::new(ocr).is_ready();
+    if !is_ready && ocr % 0x0100_0000 == 0 {
+        return Ok(None);
+    }
+    if !Ocr::new(ocr).accepts_3_3_volts() {
         return Err(IdentFault::Voltage);
     }
-    if ocr / 0x8000_0000 == 1 {
-        Ok(Some(ocr))
-    } else {
-        Ok(None)
-    }
+    if is_ready { Ok(Some(ocr)) } else { Ok(None) }
 }
 
 /// CMD2 and CMD9: the register.

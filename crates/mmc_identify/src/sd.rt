@@ -18,8 +18,8 @@ use mmc_frame::commands::{APP_CMD, SEND_IF_COND, SEND_RELATIVE_ADDR};
 // The argument of CMD8: voltage 1, 2.7 to 3.6 V, and a pattern.
 const VOLTAGE_AND_PATTERN: u32 = 0x1aa;
 
-/// How often a card is asked whether it is ready, before identification gives up. Without a fault nine times are
-/// enough.
+/// How often a card is asked whether it is ready, before identification gives up. Without a fault sixteen
+/// times are enough.
 pub const MAX_INQUIRIES: u8 = 16;
 
 // The argument of ACMD41: bits 21 and 20, 3.2 to 3.4 V, and HCS where the card knows CMD8.

@@ -58,6 +58,7 @@ pub fn select<B: Bus>(bus: &mut B, rca: u16) -> Result<(), IdentFault>
         (B.view bus.old) (B.view bus.new) }
 {
     identify_laws::cmd7_selects_the_card();
+    card_laws::a_status_tells_of_its_card();
     laws::no_command_but_erase_widens();
     selected(ask(bus, SELECT_CARD, rca_argument(rca)))
 }

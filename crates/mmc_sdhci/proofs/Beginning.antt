@@ -1,20 +1,24 @@
 -- A command begins: its registers say what was asked for.
-use Rattle.std.proofs.Common.{◌%◌, ◌*◌, ◌+◌, ◌/◌, ◌<◌, ◌∙◌, ◌≡◌, ◌≤◌, Bool, Some, ap, arith, bit_and, false, refl, rules, sym, true, ℕ}
-use Rattle.std.proofs.lemmas.Bool.{eqb-true}
-use Rattle.std.specs.Prelude.{◌==◌, ◌||◌, if◌then◌else◌}
+use Rattle.std.proofs.Common.{◌%◌, ◌*◌, ◌+◌, ◌-◌, ◌/◌, ◌<◌, ◌∙◌, ◌≡◌, ◌≤◌, Bool, Some, ap, arith, bit_and, false, inl, inr, refl, rules, sym, true, ℕ}
+use Rattle.std.proofs.lemmas.Bool.{eq-eqb, eqb-true, false≢true, lt-ltb}
+use Rattle.std.proofs.lemmas.Nat.{and_assoc}
+use Rattle.std.specs.Prelude.{◌&&◌, ◌==◌, ◌||◌, if◌then◌else◌, is_none, nat_lt, not}
 use Rattle.mmc_frame.specs.Field.{field}
 use Rattle.mmc_frame.specs.declared.commands.TheConstants as Index
-use Rattle.mmc_host.specs.HostStates.{AreMovable}
+use Rattle.mmc_host.specs.HostStates.{AreMovable, IsFree}
 use Rattle.mmc_host.specs.declared.data.Blocks.{Blocks}
 use Rattle.mmc_host.specs.declared.data.Blocks.TheVariants.{Counted, UntilStopped}
 use Rattle.mmc_host.specs.declared.data.Data.{Data}
 use Rattle.mmc_host.specs.declared.response.Response.{Response}
 use Rattle.mmc_host.specs.declared.response.Response.TheVariants as To
 use Rattle.mmc_host.specs.declared.told.HostCommand.{HostCommand}
-use Rattle.mmc_sdhci.specs.Commands.{Begins, flags_of, mode_of, response_flags, sizes_of}
-use Rattle.mmc_sdhci.specs.Controller.{ControllerView, has_data}
-use Rattle.mmc_sdhci.specs.CommandLooks.{data_asked}
-use Rattle.mmc_sdhci.specs.Accesses.{Writes, written}
+use Rattle.mmc_sdhci.specs.Commands.{Begins, Clears, IsIdleFor, IsSet, IsUnderWay, SetsSizes, begun, flags_of, is_clear, mode_of, older_bits, response_flags, sizes_after, sizes_of}
+use Rattle.mmc_sdhci.specs.Controller.{ControllerView, Settled, has_data, is_set}
+use Rattle.mmc_sdhci.specs.CommandLooks.{data_asked, of_a_command}
+use Rattle.mmc_sdhci.specs.DataLooks.{any_bits}
+use Rattle.mmc_sdhci.specs.Moving.{WhereKept}
+use Rattle.mmc_sdhci.specs.Accesses.{IsAllowed, IsAtRest, Writes, can_clear, is_asked, is_at_rest, is_clean, written}
+use Rattle.mmc_sdhci.proofs.Blocks.{both}
 
 small_response : (response : Response) → response_flags response < 32
 small_response To.Nothing = omega arith
@@ -107,16 +111,19 @@ asked (Data.Write UntilStopped) i f movable is =
     by_bits _ i f 0x20 (512 + 0x10000 * 0) 1 0 1 0 512 0 is refl refl refl refl refl (omega arith) refl
 asked (Data.Write (Counted count)) i f movable is = asked_to_write count i f (count == 1) refl movable.1 is
 
-cond_small : (one : Bool) → (if one then 0 else 0x22) < 0x1000
-cond_small true = omega arith
-cond_small false = omega arith
+no_bits : (n : ℕ) → bit_and n 0 ≡ 0
+no_bits n = search rules
 
-small_mode : (t : Data) → mode_of t < 0x10000
-small_mode Data.Nothing = omega arith
-small_mode (Data.Read size UntilStopped) = omega arith
-small_mode (Data.Read size (Counted count)) = omega (arith, cond_small (count == 1))
-small_mode (Data.Write UntilStopped) = omega arith
-small_mode (Data.Write (Counted count)) = omega (arith, cond_small (count == 1))
+-- after a command's bits being cleared none of them is left
+cleared_bits : (n : ℕ) → bit_and (bit_and n 0xfff0fffe) 0x000f0001 ≡ 0
+cleared_bits n = and_assoc 0x000f0001 n 0xfff0fffe ∙ no_bits n
+
+or_true : (b : Bool) → (b || true) ≡ true
+or_true true = refl
+or_true false = refl
+
+is_running_none : (view : ControllerView) → is_at_rest view ≡ true → is_none view.running ≡ true
+is_running_none view rests = (both (is_none view.running) _ rests).0
 
 -- with a command that runs
 abbrev running : ControllerView → ℕ → ℕ → ℕ → Data → ControllerView
@@ -126,34 +133,274 @@ running view argument index byte transfer =
       is_stale = view.is_stale || has_data view.transfer;
     }
 
-pub begins : (v0 v1 v2 v3 v4 : ControllerView) (command : HostCommand) (sizes flag mode : ℕ) → command.index < 64
-    → AreMovable command.transfer → Writes v0 0x30 0xffffffff v1 → Writes v1 0x04 sizes v2
-    → Writes v2 0x08 command.argument v3 → Writes v3 0x0c (word command.index flag mode) v4
-    → sizes ≡ sizes_of command.transfer → flag ≡ flags_of command → mode ≡ mode_of command.transfer → Begins v0 command v4
-begins v0 v1 v2 v3 v4 command sizes flag mode small movable first second third fourth sized flagged modal kept =
-    let w4 = fourth kept in
-    let w3 = third w4.0 in
-    let w2 = second w3.0 in
-    let w1 = first w2.0 in
+-- where data is asked for none is under way
+only_one : (under_way : Data) (command : HostCommand) → IsFree under_way command → has_data command.transfer ≡ true
+    → has_data under_way ≡ false
+only_one under_way command (inl none) some = absurd (false≢true (ap (λ (t : Data). has_data t) (sym none) ∙ some))
+only_one under_way command (inr none) some = ap (λ (t : Data). has_data t) none
+
+zero_bits : (n : ℕ) → (n == 0) ≡ true → (bit_and n of_a_command == 0) ≡ true
+zero_bits n is = ap (λ m. bit_and m of_a_command == 0) (eqb-true n 0 is)
+
+-- what is clear is clean enough for a command without data
+clean_for_none : (under_way : Data) (view : ControllerView) (has : Bool) → has_data under_way ≡ has → is_clear under_way view ≡ true
+    → (bit_and view.status of_a_command == 0) ≡ true
+clean_for_none under_way view true has clear =
+    sym (ap (λ (b : Bool). if b then bit_and view.status of_a_command == 0 else view.status == 0) has) ∙ clear
+clean_for_none under_way view false has clear =
+    zero_bits view.status
+    (sym (ap (λ (b : Bool). if b then bit_and view.status of_a_command == 0 else view.status == 0) has) ∙ clear)
+
+clean_for_data : (under_way : Data) (view : ControllerView) → has_data under_way ≡ false → is_clear under_way view ≡ true
+    → (view.status == 0) ≡ true
+clean_for_data under_way view has clear =
+    sym (ap (λ (b : Bool). if b then bit_and view.status of_a_command == 0 else view.status == 0) has) ∙ clear
+
+clean_by : (under_way : Data) (view : ControllerView) (command : HostCommand) (value : ℕ) (has : Bool)
+    → has_data command.transfer ≡ has → field 21 21 value ≡ (if has then 1 else 0) → IsFree under_way command
+    → is_clear under_way view ≡ true → is_clean view value ≡ true
+clean_by under_way view command value true has is free clear =
+    ap (λ n. if n == 1 then view.status == 0 else bit_and view.status of_a_command == 0) is
+    ∙ clean_for_data under_way view (only_one under_way command free has) clear
+clean_by under_way view command value false has is free clear =
+    ap (λ n. if n == 1 then view.status == 0 else bit_and view.status of_a_command == 0) is
+    ∙ clean_for_none under_way view (has_data under_way) refl clear
+
+-- The word of a command.
+record IsWord (command : HostCommand) (value : ℕ) : Type 0 where
+  index : field 29 24 value ≡ command.index
+  flags : field 23 16 value ≡ flags_of command
+  asks : (sizes : ℕ) → data_asked (sizes_after sizes command.transfer) value ≡ command.transfer
+  present : field 21 21 value ≡ (if has_data command.transfer then 1 else 0)
+  asked : is_asked value ≡ true
+
+-- what was set before doesn't matter to a command without data
+asked_after : (t : Data) (sizes i f : ℕ) → AreMovable t → f / 32 % 2 ≡ (if has_data t then 1 else 0)
+    → data_asked (sizes_after sizes t) (word i f (mode_of t)) ≡ t
+asked_after Data.Nothing sizes i f movable is =
+    by_bits Data.Nothing i f 0 sizes 0 0 0 0 (sizes % 4096) (sizes / 0x10000 % 0x10000) is refl refl refl refl refl (omega arith) refl
+asked_after (Data.Read size blocks) sizes i f movable is = asked (Data.Read size blocks) i f movable is
+asked_after (Data.Write blocks) sizes i f movable is = asked (Data.Write blocks) i f movable is
+
+-- no bits but those that a command may have
+no_bit_two : (response : Response) → response_flags response / 4 % 2 ≡ 0
+no_bit_two To.Nothing = refl
+no_bit_two To.R1 = refl
+no_bit_two To.R1b = refl
+no_bit_two To.R2 = refl
+no_bit_two To.R3 = refl
+no_bit_two To.R6 = refl
+no_bit_two To.R7 = refl
+
+cond_bits : (one : Bool) → ((if one then 0 else 0x22) % 2 ≡ 0)
+    × (((if one then 0 else 0x22) / 4 % 4 ≡ 0) × ((if one then 0 else 0x22) < 0x40))
+cond_bits true = (refl, (refl, omega arith))
+cond_bits false = (refl, (refl, omega arith))
+
+read_bits : (one : Bool) → ((0x10 + (if one then 0 else 0x22)) % 2 ≡ 0)
+    × (((0x10 + (if one then 0 else 0x22)) / 4 % 4 ≡ 0) × (0x10 + (if one then 0 else 0x22) < 0x40))
+read_bits true = (refl, (refl, omega arith))
+read_bits false = (refl, (refl, omega arith))
+
+mode_bits : (t : Data) → (mode_of t % 2 ≡ 0) × ((mode_of t / 4 % 4 ≡ 0) × (mode_of t < 0x40))
+mode_bits Data.Nothing = (refl, (refl, omega arith))
+mode_bits (Data.Read size UntilStopped) = (refl, (refl, omega arith))
+mode_bits (Data.Read size (Counted count)) = read_bits (count == 1)
+mode_bits (Data.Write UntilStopped) = (refl, (refl, omega arith))
+mode_bits (Data.Write (Counted count)) = cond_bits (count == 1)
+
+all_six : (a b c d e f : Bool) → a ≡ true → b ≡ true → c ≡ true → d ≡ true → e ≡ true → f ≡ true
+    → (a && (b && (c && (d && (e && f))))) ≡ true
+all_six a b c d e f ia ib ic id ie if_ =
+    ap (λ (x : Bool). x && (b && (c && (d && (e && f))))) ia
+    ∙ (ap (λ (x : Bool). x && (c && (d && (e && f)))) ib
+    ∙ (ap (λ (x : Bool). x && (d && (e && f))) ic ∙ (ap (λ (x : Bool). x && (e && f)) id ∙ (ap (λ (x : Bool). x && f) ie ∙ if_))))
+
+abbrev asked_type : ℕ → Bool
+asked_type w = (field 23 22 w == 0) || (field 29 22 w == 0x33)
+
+type_by : (i response has m : ℕ) (abort : Bool) → (i == Index.STOP_TRANSMISSION) ≡ abort → i < 64 → response < 32 → has ≤ 0x20
+    → has % 0x20 ≡ 0 → m < 0x40 → asked_type (word i (response + has + (if abort then 0xc0 else 0)) m) ≡ true
+type_by i response has m false is small low bit whole mode =
+    ap (λ n. (n == 0) || (field 29 22 (word i (response + has + 0) m) == 0x33))
+    (let e : field 23 22 (word i (response + has + 0) m) ≡ 0 = omega (arith, small, low, bit, mode) in e)
+type_by i response has m true is small low bit whole mode =
+    let stop : i ≡ 12 = eqb-true i 12 is in
+    let e : field 29 22 (word i (response + has + 0xc0) m) ≡ 0x33 = omega (arith, stop, low, bit, mode) in
+    ap (λ n. (field 23 22 (word i (response + has + 0xc0) m) == 0) || (n == 0x33)) e
+    ∙ or_true (field 23 22 (word i (response + has + 0xc0) m) == 0)
+
+present_bits : (has : Bool) → ((if has then 0x20 else 0) ≤ 0x20) × ((if has then 0x20 else 0) % 0x20 ≡ 0)
+present_bits true = (omega arith, refl)
+present_bits false = (omega arith, refl)
+
+flags_two : (response has abort : ℕ) → response < 32 → response / 4 % 2 ≡ 0 → has % 0x20 ≡ 0 → abort % 0x40 ≡ 0
+    → (response + has + abort) / 4 % 2 ≡ 0
+flags_two response has abort small none whole more = omega (arith, small, none, whole, more)
+
+stop_bits : (abort : Bool) → (if abort then 0xc0 else 0) % 0x40 ≡ 0
+stop_bits true = refl
+stop_bits false = refl
+
+is_word : (command : HostCommand) → command.index < 64 → AreMovable command.transfer
+    → IsWord command (word command.index (flags_of command) (mode_of command.transfer))
+is_word command small movable =
     let f = flags command in
-    let m = small_mode command.transfer in
-    let clear : bit_and v0.status 0 ≡ 0 = search rules in
+    let m = mode_bits command.transfer in
+    let p = present_bits (has_data command.transfer) in
+    let s = small_response command.response in
+    let two : flags_of command / 4 % 2 ≡ 0 =
+    flags_two (response_flags command.response) (if has_data command.transfer then 0x20 else 0)
+    (if command.index == Index.STOP_TRANSMISSION then 0xc0 else 0) s (no_bit_two command.response) p.1
+    (stop_bits (command.index == Index.STOP_TRANSMISSION)) in
     let w = word command.index (flags_of command) (mode_of command.transfer) in
-    let index_is : field 29 24 w ≡ command.index = omega (arith, small, f.0, m) in
-    let flags_is : field 23 16 w ≡ flags_of command = omega (arith, small, f.0, m) in
-    let data_is = asked command.transfer command.index (flags_of command) movable f.1.0 in
-    let base : ControllerView =
-    record v0 { status = 0; sizes = sizes_of command.transfer; argument = command.argument } in
-    let cleared : v1 ≡ record v0 { status = 0 } = w1.1 ∙ ap (λ n. record v0 { status = n }) clear in
-    let sized_now : v2 ≡ record v0 { status = 0; sizes = sizes_of command.transfer } =
-    w2.1 ∙ (ap (λ (v : ControllerView). written v 0x04 sizes) cleared ∙ ap (λ n. record v0 { status = 0; sizes = n }) sized) in
-    let ready : v3 ≡ base = w3.1 ∙ ap (λ (v : ControllerView). written v 0x08 command.argument) sized_now in
-    let same : word command.index flag mode ≡ w =
-    ap (λ n. word command.index n mode) flagged ∙ ap (λ n. word command.index (flags_of command) n) modal in (
+    let b0 : field 0 0 w ≡ 0 = omega (arith, m.0) in
+    let b2 : field 3 2 w ≡ 0 = omega (arith, m.1.0, m.1.1) in
+    let b6 : field 15 6 w ≡ 0 = omega (arith, m.1.1) in
+    let b18 : field 18 18 w ≡ 0 = omega (arith, two, m.1.1) in
+    let b30 : field 31 30 w ≡ 0 = omega (arith, small, f.0, m.1.1) in
+    record {
+      index = omega (arith, small, f.0, m.1.1);
+      flags = omega (arith, small, f.0, m.1.1);
+      asks = λ sizes. asked_after command.transfer sizes command.index (flags_of command) movable f.1.0;
+      present = omega (arith, small, f.0, f.1.0, m.1.1);
+      asked = all_six _ _ _ _ _ _ (eq-eqb _ 0 b0) (eq-eqb _ 0 b2) (eq-eqb _ 0 b6) (eq-eqb _ 0 b18) (eq-eqb _ 0 b30)
+          (type_by command.index (response_flags command.response) (if has_data command.transfer then 0x20 else 0)
+          (mode_of command.transfer) (command.index == Index.STOP_TRANSMISSION) refl small s p.0 p.1 m.1.1);
+    }
+
+same_word : (command : HostCommand) (flag mode : ℕ) → flag ≡ flags_of command → mode ≡ mode_of command.transfer
+    → word command.index flag mode ≡ word command.index (flags_of command) (mode_of command.transfer)
+same_word command flag mode flagged modal =
+    ap (λ n. word command.index n mode) flagged ∙ ap (λ n. word command.index (flags_of command) n) modal
+
+-- the registers before the command
+prepared : (v0 v1 v2 v3 : ControllerView) (under_way : Data) (command : HostCommand) → Clears v0 under_way v1
+    → SetsSizes v1 command.transfer v2 → Writes v2 0x08 command.argument v3
+    → Settled v0 ((v3 ≡ record v0 { status = v1.status; sizes = sizes_after v0.sizes command.transfer; argument = command.argument })
+    × (is_clear under_way v1 ≡ true)) v3
+prepared v0 v1 v2 v3 under_way command first second third kept =
+    let w3 = third kept in
+    let w2 = second w3.0 in
+    let w1 = first w2.0 in (
       w1.0,
-      w4.1 ∙ (ap (λ (v : ControllerView). written v 0x0c (word command.index flag mode)) ready
-          ∙ (ap (λ n. written base 0x0c n) same
-          ∙ (ap (λ n. running base command.argument n (field 23 16 w) (data_asked (sizes_of command.transfer) w)) index_is
-          ∙ (ap (λ n. running base command.argument command.index n (data_asked (sizes_of command.transfer) w)) flags_is
-          ∙ ap (λ (t : Data). running base command.argument command.index (flags_of command) t) data_is)))),
+      (
+        w3.1 ∙ (ap (λ (v : ControllerView). record v { argument = command.argument }) w2.1
+            ∙ ap (λ (v : ControllerView). record v { sizes = sizes_after v.sizes command.transfer; argument = command.argument }) w1.1.0),
+        w1.1.1,
+      ),
     )
+
+pub may_begin : (v0 v1 v2 v3 : ControllerView) (under_way : Data) (command : HostCommand) (flag mode : ℕ)
+    → IsAtRest v0 → command.index < 64 → AreMovable command.transfer → WhereKept v0 (IsFree under_way command)
+    → IsSet v0 → Clears v0 under_way v1 → SetsSizes v1 command.transfer v2 → Writes v2 0x08 command.argument v3
+    → flag ≡ flags_of command → mode ≡ mode_of command.transfer → IsAllowed v3 0x0c (word command.index flag mode)
+may_begin v0 v1 v2 v3 under_way command flag mode rests small movable free set first second third flagged modal kept =
+    let p = prepared v0 v1 v2 v3 under_way command first second third kept in
+    let w = is_word command small movable in
+    let value = word command.index (flags_of command) (mode_of command.transfer) in
+    let clean : is_clean v1 value ≡ true =
+    clean_by under_way v1 command value (has_data command.transfer) refl w.present (free p.0) p.1.1 in
+    ap (λ n. is_at_rest v3 && (is_clean v3 n && (is_set v3.settings && is_asked n))) (same_word command flag mode flagged modal)
+    ∙ (ap (λ (v : ControllerView). is_at_rest v && (is_clean v value && (is_set v.settings && is_asked value))) p.1.0
+    ∙ (ap (λ (b : Bool). b && (is_clean v1 value && (is_set v0.settings && is_asked value))) (rests p.0)
+    ∙ (ap (λ (b : Bool). b && (is_set v0.settings && is_asked value)) clean
+    ∙ (ap (λ (b : Bool). b && is_asked value) (set p.0) ∙ w.asked))))
+
+pub begins : (v0 v1 v2 v3 v4 : ControllerView) (under_way : Data) (command : HostCommand) (flag mode : ℕ)
+    → command.index < 64 → AreMovable command.transfer → Clears v0 under_way v1 → SetsSizes v1 command.transfer v2
+    → Writes v2 0x08 command.argument v3 → Writes v3 0x0c (word command.index flag mode) v4
+    → flag ≡ flags_of command → mode ≡ mode_of command.transfer → Begins v0 command v4
+begins v0 v1 v2 v3 v4 under_way command flag mode small movable first second third fourth flagged modal kept =
+    let w4 = fourth kept in
+    let p = prepared v0 v1 v2 v3 under_way command first second third w4.0 in
+    let w = is_word command small movable in
+    let base : ControllerView =
+    record v0 { status = v1.status; sizes = sizes_after v0.sizes command.transfer; argument = command.argument } in
+    let value = word command.index (flags_of command) (mode_of command.transfer) in
+    let e : v4 ≡ begun v0 v1.status command =
+    w4.1 ∙ (ap (λ (v : ControllerView). written v 0x0c (word command.index flag mode)) p.1.0
+    ∙ (ap (λ n. written base 0x0c n) (same_word command flag mode flagged modal)
+    ∙ (ap (λ n. running base command.argument n (field 23 16 value) (data_asked base.sizes value)) w.index
+    ∙ (ap (λ n. running base command.argument command.index n (data_asked base.sizes value)) w.flags
+    ∙ ap (λ (t : Data). running base command.argument command.index (flags_of command) t) (w.asks v0.sizes))))) in
+    (p.0, e ∙ sym (ap (λ (v : ControllerView). begun v0 v.status command) e))
+
+-- before it
+pub rests_cleared_bits : (v0 v1 : ControllerView) (under_way : Data) → IsAtRest v0 → Clears v0 under_way v1 → IsAtRest v1
+rests_cleared_bits v0 v1 under_way rests clears kept =
+    let c = clears kept in
+    ap (λ (v : ControllerView). is_at_rest v) c.1.0 ∙ rests c.0
+
+pub idle_for : (v0 v1 : ControllerView) (under_way : Data) (command : HostCommand) → IsUnderWay v0 under_way
+    → WhereKept v0 (IsFree under_way command) → Clears v0 under_way v1 → IsIdleFor v1 command.transfer
+idle_for v0 v1 under_way command is free clears kept some =
+    let c = clears kept in
+    ap (λ (v : ControllerView). has_data v.transfer) c.1.0
+    ∙ (ap (λ (t : Data). has_data t) (is c.0) ∙ only_one under_way command (free c.0) some)
+
+pub may_argue : (v1 v2 : ControllerView) (command : HostCommand) → IsAtRest v1 → SetsSizes v1 command.transfer v2
+    → IsAllowed v2 0x08 command.argument
+may_argue v1 v2 command rests sets kept =
+    let s = sets kept in
+    ap (λ (v : ControllerView). is_none v.running) s.1 ∙ is_running_none v1 (rests s.0)
+
+small_sizes : (t : Data) → AreMovable t → field 15 0 (sizes_of t) < 0x1000
+small_sizes Data.Nothing movable = omega arith
+small_sizes (Data.Read size UntilStopped) movable = omega (arith, movable.0)
+small_sizes (Data.Read size (Counted count)) movable = omega (arith, movable.0.0)
+small_sizes (Data.Write UntilStopped) movable = omega arith
+small_sizes (Data.Write (Counted count)) movable = omega arith
+
+pub may_size : (view : ControllerView) (transfer : Data) (sizes : ℕ) → IsAtRest view → AreMovable transfer → IsIdleFor view transfer
+    → has_data transfer ≡ true → sizes ≡ sizes_of transfer → IsAllowed view 0x04 sizes
+may_size view transfer sizes rests movable idle some is kept =
+    ap (λ (b : Bool). b && not (has_data view.transfer) && nat_lt (field 15 0 sizes) 0x1000) (is_running_none view (rests kept))
+    ∙ (ap (λ (b : Bool). not b && nat_lt (field 15 0 sizes) 0x1000) (idle kept some)
+    ∙ (ap (λ n. nat_lt (field 15 0 n) 0x1000) is ∙ lt-ltb _ 0x1000 (small_sizes transfer movable)))
+
+pub sizes_set : (v0 v1 : ControllerView) (transfer : Data) (sizes : ℕ) → has_data transfer ≡ true → sizes ≡ sizes_of transfer
+    → Writes v0 0x04 sizes v1 → SetsSizes v0 transfer v1
+sizes_set v0 v1 transfer sizes some is writes kept =
+    let w = writes kept in (
+      w.0,
+      w.1 ∙ ap (λ n. record v0 { sizes = n })
+          (is ∙ sym (ap (λ (b : Bool). if b then sizes_of transfer else v0.sizes) some)),
+    )
+
+pub sizes_kept : (v0 : ControllerView) (transfer : Data) → has_data transfer ≡ false → SetsSizes v0 transfer v0
+sizes_kept v0 transfer none kept =
+    (kept, sym (ap (λ n. record v0 { sizes = n }) (ap (λ (b : Bool). if b then sizes_of transfer else v0.sizes) none)))
+
+-- What is cleared before it.
+
+may_clear_by : (view : ControllerView) (under_way : Data) (has : Bool) → has_data under_way ≡ has → is_none view.running ≡ true
+    → view.transfer ≡ under_way → can_clear view (if has then of_a_command else any_bits) ≡ true
+may_clear_by view under_way true has idle is = ap (λ (b : Bool). b && (not (has_data view.transfer) || true)) idle ∙ or_true (not (has_data view.transfer))
+may_clear_by view under_way false has idle is =
+    ap (λ (b : Bool). b && (not (has_data view.transfer) || (bit_and any_bits of_a_command == any_bits))) idle
+    ∙ ap (λ (b : Bool). not b || (bit_and any_bits of_a_command == any_bits)) (ap (λ (t : Data). has_data t) is ∙ has)
+
+pub may_clear : (view : ControllerView) (under_way : Data) (bits : ℕ) → IsAtRest view → IsUnderWay view under_way
+    → bits ≡ older_bits under_way → IsAllowed view 0x30 bits
+may_clear view under_way bits rests is bits_are kept =
+    ap (λ n. can_clear view n) bits_are
+    ∙ may_clear_by view under_way (has_data under_way) refl (is_running_none view (rests kept)) (is kept)
+
+clears_by : (v0 v1 : ControllerView) (under_way : Data) (has : Bool) → has_data under_way ≡ has
+    → v1 ≡ record v0 { status = bit_and v0.status (0xffffffff - (if has then of_a_command else any_bits)) }
+    → is_clear under_way v1 ≡ true
+clears_by v0 v1 under_way true has is =
+    ap (λ (b : Bool). if b then bit_and v1.status of_a_command == 0 else v1.status == 0) has
+    ∙ (ap (λ (v : ControllerView). bit_and v.status of_a_command == 0) is ∙ ap (λ n. n == 0) (cleared_bits v0.status))
+clears_by v0 v1 under_way false has is =
+    ap (λ (b : Bool). if b then bit_and v1.status of_a_command == 0 else v1.status == 0) has
+    ∙ (ap (λ (v : ControllerView). v.status == 0) is ∙ ap (λ n. n == 0) (no_bits v0.status))
+
+pub clears : (v0 v1 : ControllerView) (under_way : Data) (bits : ℕ) → bits ≡ older_bits under_way → Writes v0 0x30 bits v1
+    → Clears v0 under_way v1
+clears v0 v1 under_way bits is writes kept =
+    let w = writes kept in
+    let e : v1 ≡ record v0 { status = bit_and v0.status (0xffffffff - older_bits under_way) } =
+    w.1 ∙ ap (λ n. record v0 { status = bit_and v0.status (0xffffffff - n) }) is in
+    (w.0, (e ∙ sym (ap (λ (v : ControllerView). record v0 { status = v.status }) e), clears_by v0 v1 under_way (has_data under_way) refl e))

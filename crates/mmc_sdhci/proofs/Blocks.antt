@@ -1,6 +1,6 @@
 -- Blocks that are read and written.
-use Rattle.std.proofs.Common.{◌∙◌, ◌≡◌, arith, bit_and, rules, Bool, List, None, Option, Some, ap, false, refl, subst, sym, true, ℕ}
-use Rattle.std.specs.Prelude.{[], ◌&&◌, ◌∷◌, is_none, not}
+use Rattle.std.proofs.Common.{◌∙◌, ◌≡◌, arith, Bool, List, None, Option, Some, ap, false, refl, subst, sym, true, ℕ}
+use Rattle.std.specs.Prelude.{[], ◌&&◌, ◌==◌, ◌||◌, ◌∷◌, is_none, not}
 use Rattle.std.proofs.lemmas.Bool.{eqb-true, false≢true}
 use Rattle.mmc_frame.specs.Field.{field}
 use Rattle.mmc_card.specs.BusView.{BusView}
@@ -9,23 +9,26 @@ use Rattle.mmc_bus.specs.Exchanges.{Kept}
 use Rattle.mmc_card.specs.declared.exchange.DataOut.TheVariants as Went
 use Rattle.mmc_host.specs.declared.data.Blocks.{Blocks}
 use Rattle.mmc_host.specs.declared.data.Data.{Data}
-use Rattle.mmc_sdhci.specs.Commands.{ResetsData}
+use Rattle.mmc_sdhci.specs.Commands.{Moves, ResetsData}
 use Rattle.mmc_sdhci.specs.Controller.{ControllerView, Running, Settled}
-use Rattle.mmc_sdhci.specs.DataLooks.{DataDropped, DataLooked}
-use Rattle.mmc_sdhci.specs.Accesses.{IsAtRest, Writes}
-use Rattle.mmc_sdhci.specs.Controller.{moved, seen}
+use Rattle.mmc_sdhci.specs.DataLooks.{DataDropped, DataLooked, following_of, is_gone_by, is_whole}
+use Rattle.mmc_sdhci.specs.declared.following.Following.{Following}
+use Rattle.mmc_sdhci.specs.declared.watching.Sought.TheVariants.{Gone}
+use Rattle.mmc_sdhci.proofs.Glancing.{gone_news}
+use Rattle.mmc_host.specs.HostStates.{less_one}
+use Rattle.mmc_sdhci.specs.Accesses.{IsAtRest}
+use Rattle.mmc_sdhci.specs.Controller.{is_still, moved, seen}
 use Rattle.mmc_sdhci.specs.DataLooks.{IsUntold, WriteLook, cleared, is_empty}
-use Rattle.mmc_sdhci.specs.Accesses.{Stays, is_at_rest}
+use Rattle.mmc_sdhci.specs.Accesses.{is_at_rest}
 use Rattle.mmc_sdhci.specs.DataLooks.WriteLook.{accepted as write_accepted, failed as write_failed, waits as write_waits}
-use Rattle.mmc_sdhci.specs.declared.buffer.Buffer.{Buffer}
-use Rattle.mmc_sdhci.specs.Moving.{HasRoom, IsGoing, Puts, WritesBlock}
-use Rattle.mmc_sdhci.specs.Moving.{FindsRoom, SeesGone, IsClear, OnlyWatched, Watches, WhereKept, is_error, looking}
+use Rattle.mmc_sdhci.specs.Moving.{HasRoom, IsGoing, WritesBlock}
+use Rattle.mmc_sdhci.specs.Moving.{FindsRoom, SeesGone, IsClear, IsSeeking, OnlyWatched, Watches, WhereKept, is_error, looking}
 use Rattle.mmc_sdhci.specs.declared.watching.Sought.{Sought}
 use Rattle.mmc_sdhci.specs.declared.watching.Glance.{Glance}
 
 -- At rest.
 
-both : (a b : Bool) → (a && b) ≡ true → (a ≡ true) × (b ≡ true)
+pub both : (a b : Bool) → (a && b) ≡ true → (a ≡ true) × (b ≡ true)
 both true b is = (refl, is)
 both false b is = absurd (false≢true is)
 
@@ -37,49 +40,67 @@ none_runs : (o : Option Running) → is_none o ≡ true → o ≡ None
 none_runs None is = refl
 none_runs (Some run) is = absurd (false≢true is)
 
+no_block : (o : Option (List ℕ)) → is_none o ≡ true → o ≡ None
+no_block None is = refl
+no_block (Some block) is = absurd (false≢true is)
+
+pub no_time : (o : Option ℕ) → is_none o ≡ true → o ≡ None
+no_time None is = refl
+no_time (Some waited) is = absurd (false≢true is)
+
 nothing_in : (bytes : List ℕ) → is_empty bytes ≡ true → bytes ≡ []
 nothing_in [] is = refl
 nothing_in (byte ∷ bytes) is = absurd (false≢true is)
 
-pub clear_at_rest : (view : ControllerView) → is_at_rest view ≡ true → IsClear view × (view.outgoing ≡ [])
+pub clear_at_rest : (view : ControllerView) → is_at_rest view ≡ true
+    → IsClear view × (view.outgoing ≡ []) × (view.unjudged ≡ None)
 clear_at_rest view rests =
     let a = both (is_none view.running) _ rests in
     let b = both (not view.is_stuck) _ a.1 in
     let c = both (not view.is_stale) _ b.1 in
-    let d = both (not view.is_open) (is_empty view.outgoing) c.1 in (
+    let d = both (is_none view.unjudged) _ c.1 in
+    let e = both (is_empty view.outgoing) (is_still view) d.1 in
+    let f = both (is_none view.resetting) (is_none view.settings.stabilizing) e.1 in (
       record {
         running = none_runs view.running a.0;
         stuck = unset view.is_stuck b.0;
         stale = unset view.is_stale c.0;
-        open_data = unset view.is_open d.0;
+        resetting = no_time view.resetting f.0;
+        stabilizing = no_time view.settings.stabilizing f.1;
       },
-      nothing_in view.outgoing d.1,
+      nothing_in view.outgoing e.0,
+      no_block view.unjudged d.0,
     )
 
-abbrev rest_with : Option Running → Bool → Bool → Bool → List ℕ → Bool
-rest_with running stuck stale still_open outgoing =
-    is_none running && (not stuck && (not stale && (not still_open && is_empty outgoing)))
+abbrev rest_with : Option Running → Bool → Bool → Option (List ℕ) → List ℕ → Option ℕ → Option ℕ → Bool
+rest_with running stuck stale unjudged outgoing resetting stabilizing =
+    is_none running
+    && (not stuck
+    && (not stale && (is_none unjudged && (is_empty outgoing && (is_none resetting && is_none stabilizing)))))
 
-pub rests_clear : (view : ControllerView) → IsClear view → view.outgoing ≡ [] → is_at_rest view ≡ true
-rests_clear view clear out =
-    ap (λ (r : Option Running). rest_with r view.is_stuck view.is_stale view.is_open view.outgoing) clear.running
-    ∙ (ap (λ (b : Bool). rest_with None b view.is_stale view.is_open view.outgoing) clear.stuck
-    ∙ (ap (λ (b : Bool). rest_with None false b view.is_open view.outgoing) clear.stale
-    ∙ (ap (λ (b : Bool). rest_with None false false b view.outgoing) clear.open_data
-    ∙ ap (λ (l : List ℕ). rest_with None false false false l) out)))
+pub rests_clear : (view : ControllerView) → IsClear view → view.outgoing ≡ [] → view.unjudged ≡ None → is_at_rest view ≡ true
+rests_clear view clear out judged =
+    ap (λ (r : Option Running). rest_with r view.is_stuck view.is_stale view.unjudged view.outgoing view.resetting view.settings.stabilizing) clear.running
+    ∙ (ap (λ (b : Bool). rest_with None b view.is_stale view.unjudged view.outgoing view.resetting view.settings.stabilizing) clear.stuck
+    ∙ (ap (λ (b : Bool). rest_with None false b view.unjudged view.outgoing view.resetting view.settings.stabilizing) clear.stale
+    ∙ (ap (λ (o : Option (List ℕ)). rest_with None false false o view.outgoing view.resetting view.settings.stabilizing) judged
+    ∙ (ap (λ (l : List ℕ). rest_with None false false None l view.resetting view.settings.stabilizing) out
+    ∙ (ap (λ (o : Option ℕ). rest_with None false false None [] o view.settings.stabilizing) clear.resetting
+    ∙ ap (λ (o : Option ℕ). rest_with None false false None [] None o) clear.stabilizing)))))
+
+pub still_clear : (view : ControllerView) → view.resetting ≡ None → view.settings.stabilizing ≡ None → is_still view ≡ true
+still_clear view resetting stabilizing =
+    ap (λ (o : Option ℕ). is_none o && is_none view.settings.stabilizing) resetting
+    ∙ ap (λ (o : Option ℕ). is_none o) stabilizing
 
 -- so is a controller whose data line was reset
-pub rests_cleared : (view new : ControllerView) → view.running ≡ None → view.is_stuck ≡ false → new ≡ cleared view
-    → is_at_rest new ≡ true
-rests_cleared view new runs stuck is =
+pub rests_cleared : (view new : ControllerView) → view.running ≡ None → view.is_stuck ≡ false → view.settings.stabilizing ≡ None
+    → new ≡ cleared view → is_at_rest new ≡ true
+rests_cleared view new runs stuck stable is =
     ap (λ (v : ControllerView). is_at_rest v) is
-    ∙ (ap (λ (r : Option Running). rest_with r view.is_stuck false false []) runs
-    ∙ ap (λ (b : Bool). rest_with None b false false []) stuck)
-
--- Looks until all data has come.
-
-abbrev pub OnlyEnds : ControllerView → ControllerView → Type 0
-OnlyEnds old new = new ≡ record old { status = new.status; is_open = new.is_open }
+    ∙ (ap (λ (r : Option Running). rest_with r view.is_stuck false None [] None view.settings.stabilizing) runs
+    ∙ (ap (λ (b : Bool). rest_with None b false None [] None view.settings.stabilizing) stuck
+    ∙ ap (λ (o : Option ℕ). rest_with None false false None [] None o) stable))
 
 pub zero-is-not-one : (n : ℕ) → n ≡ 0 → n ≡ 1 → ⊥
 zero-is-not-one n zero one = omega (arith, zero, one)
@@ -122,7 +143,7 @@ write_dropped v0 v2 status ready blocks clear is dropped =
       transfer = ap (λ (v : ControllerView). v.transfer) d.1;
       settings = ap (λ (v : ControllerView). v.settings) d.1;
       built = ap (λ (v : ControllerView). v.built) d.1;
-      rest = rests_cleared (moved (looked_so v0 status ready) v2) v2 clear.running clear.stuck d.1;
+      rest = rests_cleared (moved (looked_so v0 status ready) v2) v2 clear.running clear.stuck clear.stabilizing d.1;
     }
 
 -- where a block is to go
@@ -155,7 +176,8 @@ write_broken v0 v1 v2 ready bits clear error (write_failed e untold same) droppe
       settings = ap (λ (v : ControllerView). v.settings) d ∙ ap (λ (v : ControllerView). v.settings) same;
       built = ap (λ (v : ControllerView). v.built) d ∙ ap (λ (v : ControllerView). v.built) same;
       rest = rests_cleared v1 v2 (ap (λ (v : ControllerView). v.running) same ∙ clear.running)
-          (ap (λ (v : ControllerView). v.is_stuck) same ∙ clear.stuck) d;
+          (ap (λ (v : ControllerView). v.is_stuck) same ∙ clear.stuck)
+          (ap (λ (v : ControllerView). v.settings.stabilizing) same ∙ clear.stabilizing) d;
     }
 
 pub write_failed_by : (s : Sought) (v0 v1 v2 : ControllerView) (result : Option Glance) (x : Glance)
@@ -204,61 +226,76 @@ not_gone v0 v2 lost kept =
       ),
     )
 
+-- the block has gone
+accepted_by : (v0 v1 : ControllerView) (bits : ℕ) (ready : Bool) (following : Following) → IsClear v0 → v0.unjudged ≡ None
+    → is_whole v0.outgoing ≡ true → following_of v0.transfer ≡ following → (field 15 15 bits ≡ 1 → ⊥) → is_gone_by following ready bits ≡ true
+    → WriteLook (record v0 { is_ready = ready }) bits v1
+    → Moves v0 (WriteStep (seen v0) v0.outgoing Went.Accepted (seen v1)) (less_one v0.transfer) v1 × (is_at_rest v1 ≡ true)
+accepted_by v0 v1 bits ready following clear judged whole is fine found (write_waits zero not same) =
+    absurd (false≢true (sym not ∙ (gone_news v0 ready bits following whole is ∙ found)))
+accepted_by v0 v1 bits ready following clear judged whole is fine found (write_failed error untold same) = absurd (fine error)
+accepted_by v0 v1 bits ready following clear judged whole is fine found (write_accepted zero gone step same) = (
+  record {
+    step = step;
+    transfer = ap (λ (v : ControllerView). v.transfer) same;
+    settings = ap (λ (v : ControllerView). v.settings) same;
+    built = ap (λ (v : ControllerView). v.built) same;
+  },
+  rests_clear v1
+      (record {
+        running = ap (λ (v : ControllerView). v.running) same ∙ clear.running;
+        stuck = ap (λ (v : ControllerView). v.is_stuck) same ∙ clear.stuck;
+        stale = ap (λ (v : ControllerView). v.is_stale) same ∙ clear.stale;
+        resetting = ap (λ (v : ControllerView). v.resetting) same ∙ clear.resetting;
+        stabilizing = ap (λ (v : ControllerView). v.settings.stabilizing) same ∙ clear.stabilizing;
+      })
+      (ap (λ (v : ControllerView). v.outgoing) same)
+      (ap (λ (v : ControllerView). v.unjudged) same ∙ judged),
+)
+
+found_or_error : (error found : Bool) → (error || found) ≡ true → error ≡ false → found ≡ true
+found_or_error false found over fine = over
+found_or_error true found over fine = absurd (false≢true (sym fine))
+
+pub seen_gone : (following : Following) (v0 v1 : ControllerView) (result : Option Glance) (x : Glance) → result ≡ Some x
+    → is_error x.bits ≡ false → IsSeeking (Gone following) v0 → Watches v0 (Gone following) result v1 → SeesGone v0 Went.Accepted v1
+seen_gone following v0 v1 result x is fine seeking watched kept =
+    let w = one_found (Gone following) v0 v1 result x is watched kept in
+    let s = seeking w.0 in (
+      w.0,
+      accepted_by v0 v1 x.bits x.is_ready following s.0 s.1.1.2 s.1.1.0 s.1.1.1
+          (λ one. false≢true (sym fine ∙ ap (λ (n : ℕ). n == 1) one))
+          (found_or_error (is_error x.bits) _ w.1.0 fine)
+          (subst (λ (d : Data). DataLooked (looking v0 x) d x.bits v1) s.1.0.1 w.1.1),
+    )
+
 -- A write of one block.
 
-pub unsent : (v0 v1 v2 : ControllerView) (block : List ℕ) (found : Bool) → Stays v0 v1 → FindsRoom v1 found v2
-    → found ≡ false → WritesBlock v0 block Went.Nothing v2
-unsent v0 v1 v2 block found stays finds none kept =
-    let u = subst (λ (b : Bool). FindsRoom v1 b v2) none finds kept in
-    let s = stays u.0 in
-    let l = u.1.0 in
-    let same : seen v1 ≡ seen v0 = ap (λ (v : ControllerView). seen v) s.1 in (
-      s.0,
+pub unsent : (v0 v1 : ControllerView) (block : List ℕ) (found : Bool) → FindsRoom v0 found v1
+    → found ≡ false → WritesBlock v0 block Went.Nothing v1
+unsent v0 v1 block found finds none kept =
+    let u = subst (λ (b : Bool). FindsRoom v0 b v1) none finds kept in
+    let l = u.1.0 in (
+      u.0,
       record {
-        step = subst (λ (b : BusView). Kept b (WriteStep b block Went.Nothing (seen v2)) (seen v2)) same (l.step block);
+        step = l.step block;
         transfer = l.transfer;
-        settings = l.settings ∙ ap (λ (v : ControllerView). v.settings) s.1;
-        built = l.built ∙ ap (λ (v : ControllerView). v.built) s.1;
+        settings = l.settings;
+        built = l.built;
       },
     )
 
--- there is room, and the old interrupts are cleared
-roomy : (v0 v1 v2 v3 : ControllerView) (found : Bool) → Stays v0 v1 → FindsRoom v1 found v2 → found ≡ true
-    → Writes v2 0x30 0xffffffff v3 → Settled v0 (v3 ≡ record v0 { status = 0; is_ready = true }) v3
-roomy v0 v1 v2 v3 false stays finds is writes kept = absurd (false≢true is)
-roomy v0 v1 v2 v3 true stays finds is writes kept =
-    let w = writes kept in
-    let f = finds w.0 in
-    let s = stays f.0 in
-    let clear : bit_and v2.status 0 ≡ 0 = search rules in (
-      s.0,
-      w.1 ∙ (ap (λ n. record v2 { status = n }) clear
-          ∙ (ap (λ (v : ControllerView). record v { status = 0 }) f.1
-          ∙ ap (λ (v : ControllerView). record v { status = 0; is_ready = true }) s.1)),
-    )
+roomy : (v0 v1 : ControllerView) (found : Bool) → FindsRoom v0 found v1 → found ≡ true
+    → Settled v0 (v1 ≡ record v0 { status = v1.status; is_ready = true }) v1
+roomy v0 v1 false finds is kept = absurd (false≢true is)
+roomy v0 v1 true finds is kept = finds kept
 
-pub has_room : (v0 v1 v2 v3 : ControllerView) (under_way : Data) (buffer : Buffer) (found : Bool) → IsAtRest v0
-    → IsGoing under_way buffer v0 → Stays v0 v1 → FindsRoom v1 found v2 → found ≡ true → Writes v2 0x30 0xffffffff v3
-    → HasRoom v3
-has_room v0 v1 v2 v3 under_way buffer found rests going stays finds is writes kept =
-    let r = roomy v0 v1 v2 v3 found stays finds is writes kept in
+pub has_room : (v0 v1 : ControllerView) (under_way : Data) (found : Bool) → IsAtRest v0
+    → IsGoing under_way v0 → FindsRoom v0 found v1 → found ≡ true → HasRoom v1
+has_room v0 v1 under_way found rests going finds is kept =
+    let r = roomy v0 v1 found finds is kept in
     let g = going r.0 in
     let c = clear_at_rest v0 (rests r.0) in (
-      (g.1.0.0, ap (λ (v : ControllerView). v.transfer) r.1 ∙ (g.0 ∙ g.1.0.1)),
-      (
-        ap (λ (v : ControllerView). v.is_ready) r.1,
-        (ap (λ (v : ControllerView). v.outgoing) r.1 ∙ c.1, ap (λ (v : ControllerView). v.status) r.1),
-      ),
-    )
-
--- the block is in the buffer
-loaded : (v0 v1 v2 v3 v4 v5 : ControllerView) (block : List ℕ) (found : Bool) → Stays v0 v1 → FindsRoom v1 found v2
-    → found ≡ true → Writes v2 0x30 0xffffffff v3 → Puts v3 block v4 → Stays v4 v5
-    → Settled v0 (v5 ≡ record v0 { status = 0; is_ready = false; outgoing = block }) v5
-loaded v0 v1 v2 v3 v4 v5 block found stays finds is writes puts stops kept =
-    let t = stops kept in
-    let p = puts t.0 in
-    let r = roomy v0 v1 v2 v3 found stays finds is writes p.0 in (
-      r.0,
-      t.1 ∙ (p.1 ∙ ap (λ (v : ControllerView). record v { outgoing = block; is_ready = false }) r.1),
+      (g.1.0, ap (λ (v : ControllerView). v.transfer) r.1 ∙ (g.0 ∙ g.1.1)),
+      (ap (λ (v : ControllerView). v.is_ready) r.1, ap (λ (v : ControllerView). v.outgoing) r.1 ∙ c.1),
     )

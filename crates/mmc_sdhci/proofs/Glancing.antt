@@ -1,16 +1,16 @@
 -- Looks at the data.
-use Rattle.std.proofs.Common.{◌∙◌, ◌≡◌, Bool, List, None, Some, ap, false, refl, subst, sym, true, ℕ}
-use Rattle.std.specs.Prelude.{◌&&◌, ◌==◌, ◌||◌, if◌then◌else◌}
+use Rattle.std.proofs.Common.{◌∙◌, ◌≡◌, Bool, List, None, Option, Some, ap, false, refl, subst, sym, true, ℕ}
+use Rattle.std.specs.Prelude.{[], ◌&&◌, ◌==◌, ◌||◌}
 use Rattle.std.proofs.lemmas.Bool.{false≢true}
 use Rattle.mmc_frame.specs.Field.{field}
 use Rattle.mmc_host.specs.declared.data.Data.{Data}
 use Rattle.mmc_sdhci.specs.Controller.{ControllerView, Settled}
-use Rattle.mmc_sdhci.specs.DataLooks.{DataLooked, ReadLook, WriteLook, has_one, is_gone, is_whole}
+use Rattle.mmc_sdhci.specs.DataLooks.{DataLooked, ReadLook, WriteLook, following_of, has_news, is_empty, is_gone, is_gone_by, is_good_by, is_whole}
 use Rattle.mmc_sdhci.specs.Accesses.{Stays}
-use Rattle.mmc_sdhci.specs.DataLooks.ReadLook.{failed as read_failed, ready as read_ready, waits as read_waits}
+use Rattle.mmc_sdhci.specs.DataLooks.ReadLook.{comes as read_comes, failed as read_failed, good as read_good, waits as read_waits}
 use Rattle.mmc_sdhci.specs.DataLooks.WriteLook.{accepted as write_accepted, failed as write_failed, waits as write_waits}
 use Rattle.mmc_sdhci.specs.Moving.{Glances, IsSeeking, OnlyWatched, Seeks, Watches, is_error, is_found, looking}
-use Rattle.mmc_sdhci.specs.declared.buffer.Buffer.{Buffer}
+use Rattle.mmc_sdhci.specs.declared.following.Following.{Following}
 use Rattle.mmc_sdhci.specs.declared.watching.Glance.{Glance}
 use Rattle.mmc_sdhci.specs.declared.watching.Sought.{Sought}
 use Rattle.mmc_sdhci.specs.declared.watching.Sought.TheVariants as sought
@@ -24,12 +24,14 @@ seeks_still : (s : Sought) (view : ControllerView) (status : ℕ) (is_ready : Bo
     → Seeks s (after_looks view status is_ready)
 seeks_still sought.Block view status is_ready seeks = seeks
 seeks_still sought.Room view status is_ready seeks = seeks
-seeks_still (sought.Gone buffer) view status is_ready seeks = seeks
+seeks_still (sought.Good following) view status is_ready seeks = seeks
+seeks_still (sought.Gone following) view status is_ready seeks = seeks
 
 read_from : (view after : ControllerView) (status size bits : ℕ) (ready : Bool)
     → ReadLook (after_looks view status ready) size bits after → ReadLook (record view { is_ready = ready }) size bits after
 read_from view after status size bits ready (read_waits fine not same) = read_waits fine not same
-read_from view after status size bits ready (read_ready block fine is len step same) = read_ready block fine is len step same
+read_from view after status size bits ready (read_comes block fine none is len same) = read_comes block fine none is len same
+read_from view after status size bits ready (read_good block fine some is step same) = read_good block fine some is step same
 read_from view after status size bits ready (read_failed error step same) = read_failed error step same
 
 write_from : (view after : ControllerView) (status bits : ℕ) (ready : Bool)
@@ -69,14 +71,35 @@ watch_over s v0 v1 v2 seen seeks before look over kept =
     (l.0, (over, l.1.1))
 
 -- a look that finds neither changes nothing else
-read_again : (view after : ControllerView) (size bits : ℕ) (ready : Bool) → ready ≡ false → (field 15 15 bits ≡ 1 → ⊥)
+read_again : (view after : ControllerView) (size bits : ℕ) (ready : Bool)
+    → has_news (record view { is_ready = ready }) view.unjudged bits ≡ false → (field 15 15 bits ≡ 1 → ⊥)
     → ReadLook (record view { is_ready = ready }) size bits after → OnlyWatched view after
 read_again view after size bits ready none fine (read_waits zero not same) =
     let e : after ≡ record view { status = bits; is_ready = ready } = same in
     e ∙ sym (ap (λ (v : ControllerView). record view { status = v.status; is_ready = v.is_ready }) e)
-read_again view after size bits ready none fine (read_ready block zero is len step same) =
-    absurd (false≢true (sym none ∙ is))
+read_again view after size bits ready none fine (read_comes block zero empty is len same) =
+    absurd (false≢true (sym none
+    ∙ (ap (λ (o : Option (List ℕ)). has_news (record view { is_ready = ready }) o bits) empty ∙ is)))
+read_again view after size bits ready none fine (read_good block zero some is step same) =
+    absurd (false≢true (sym none
+    ∙ (ap (λ (o : Option (List ℕ)). has_news (record view { is_ready = ready }) o bits) some ∙ is)))
 read_again view after size bits ready none fine (read_failed error step same) = absurd (fine error)
+
+-- what is new where a block was taken
+pub good_news : (view : ControllerView) (ready : Bool) (bits : ℕ) (block : List ℕ) (following : Following) → view.unjudged ≡ Some block
+    → view.incoming ≡ [] → following_of view.transfer ≡ following
+    → has_news (record view { is_ready = ready }) view.unjudged bits ≡ is_good_by following ready bits
+good_news view ready bits block following some empty is =
+    ap (λ (o : Option (List ℕ)). has_news (record view { is_ready = ready }) o bits) some
+    ∙ (ap (λ (l : List ℕ). is_empty l && is_good_by (following_of view.transfer) ready bits) empty
+    ∙ ap (λ (b : Following). is_good_by b ready bits) is)
+
+-- and where one was written
+pub gone_news : (view : ControllerView) (ready : Bool) (bits : ℕ) (following : Following) → is_whole view.outgoing ≡ true
+    → following_of view.transfer ≡ following → is_gone (record view { is_ready = ready }) bits ≡ is_gone_by following ready bits
+gone_news view ready bits following whole is =
+    ap (λ (b : Bool). b && is_gone_by (following_of view.transfer) ready bits) whole
+    ∙ ap (λ (b : Following). is_gone_by b ready bits) is
 
 write_again : (view after : ControllerView) (bits : ℕ) (ready : Bool) → is_gone (record view { is_ready = ready }) bits ≡ false
     → (field 15 15 bits ≡ 1 → ⊥) → WriteLook (record view { is_ready = ready }) bits after → OnlyWatched view after
@@ -86,35 +109,25 @@ write_again view after bits ready none fine (write_waits zero not same) =
 write_again view after bits ready none fine (write_accepted zero is step same) = absurd (false≢true (sym none ∙ is))
 write_again view after bits ready none fine (write_failed error step same) = absurd (fine error)
 
--- what isn't found isn't gone
-and_false : (a : Bool) → (a && false) ≡ false
-and_false true = refl
-and_false false = refl
-
-choose_and : (one ready : Bool) → (if one then ready else false) ≡ (ready && one)
-choose_and true true = refl
-choose_and true false = refl
-choose_and false true = refl
-choose_and false false = refl
-
+-- what isn't found isn't new
 still_there : (s : Sought) (view after : ControllerView) (seen : Glance) → Seeks s view → is_found s seen ≡ false
     → (field 15 15 seen.bits ≡ 1 → ⊥) → DataLooked (looking view seen) view.transfer seen.bits after → OnlyWatched view after
 still_there sought.Block view after seen seeks none fine look =
-    read_again view after seeks.0 seen.bits seen.is_ready none fine
-    (subst (λ (t : Data). DataLooked (looking view seen) t seen.bits after) seeks.2 look)
+    read_again view after seeks.0.0 seen.bits seen.is_ready
+    (ap (λ (o : Option (List ℕ)). has_news (looking view seen) o seen.bits) seeks.1 ∙ none) fine
+    (subst (λ (t : Data). DataLooked (looking view seen) t seen.bits after) seeks.0.2 look)
+still_there (sought.Good following) view after seen seeks none fine look =
+    read_again view after seeks.0.0 seen.bits seen.is_ready
+    (good_news view seen.is_ready seen.bits seeks.1.0.0 following seeks.1.0.1 seeks.1.1.0 seeks.1.1.1 ∙ none) fine
+    (subst (λ (t : Data). DataLooked (looking view seen) t seen.bits after) seeks.0.2 look)
 still_there sought.Room view after seen seeks none fine look =
     write_again view after seen.bits seen.is_ready
-    (ap (λ (bytes : List ℕ). is_whole bytes && ((field 1 1 seen.bits == 1) || (seen.is_ready && has_one view.built.buffer))) seeks.1)
+    (ap (λ (bytes : List ℕ). is_whole bytes && is_gone_by (following_of view.transfer) seen.is_ready seen.bits) seeks.1)
     fine (subst (λ (t : Data). DataLooked (looking view seen) t seen.bits after) seeks.0.1 look)
-still_there (sought.Gone buffer) view after seen seeks none fine look =
-    let one : (if has_one buffer then seen.is_ready else false) ≡ (seen.is_ready && has_one view.built.buffer) =
-    choose_and (has_one buffer) seen.is_ready
-    ∙ ap (λ (b : Buffer). seen.is_ready && has_one b) (sym seeks.1.1) in
-    let not : ((field 1 1 seen.bits == 1) || (seen.is_ready && has_one view.built.buffer)) ≡ false =
-    ap (λ (b : Bool). (field 1 1 seen.bits == 1) || b) (sym one) ∙ none in
+still_there (sought.Gone following) view after seen seeks none fine look =
     write_again view after seen.bits seen.is_ready
-    (ap (λ (b : Bool). is_whole view.outgoing && b) not ∙ and_false (is_whole view.outgoing))
-    fine (subst (λ (t : Data). DataLooked (looking view seen) t seen.bits after) seeks.0.1 look)
+    (gone_news view seen.is_ready seen.bits following seeks.1.0 seeks.1.1 ∙ none) fine
+    (subst (λ (t : Data). DataLooked (looking view seen) t seen.bits after) seeks.0.1 look)
 
 or_false : (a b : Bool) → (a || b) ≡ false → (a ≡ false) × (b ≡ false)
 or_false false b none = (refl, none)

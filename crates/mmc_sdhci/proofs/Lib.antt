@@ -7,3 +7,4 @@ pub mod Putting
 pub mod Reading
 pub mod Sending
 pub mod Telling
+pub mod Waiting

@@ -36,14 +36,14 @@ look_after first before after bits same read kept =
           (looked_from first before after run bits is (only.1 run is) (shows.1.interrupts refl)),
     )
 
-still : (first after : ControllerView) (run : Running) (bits : ℕ) → (bits % 2 ≡ 1 → ⊥) → (bits / 0x8000 % 2 ≡ 1 → ⊥)
+still : (first after : ControllerView) (run : Running) (bits : ℕ) → (bits % 2 ≡ 1 → ⊥) → bits / 0x10000 % 16 ≡ 0
     → Look first run bits after → after ≡ record first { status = after.status }
 still first after run bits one error (runs zero fine view) = view
 still first after run bits one error (complete answer is fine heard shown view) = absurd (one (omega (arith, is)))
-still first after run bits one error (failed is heard view) = absurd (error (omega (arith, is)))
+still first after run bits one error (failed is heard view) = absurd (is (omega (arith, error)))
 
 -- a look that finds it neither over nor failed
-pub look_again : (first before after : ControllerView) (bits : ℕ) → (bits % 2 ≡ 1 → ⊥) → (bits / 0x8000 % 2 ≡ 1 → ⊥)
+pub look_again : (first before after : ControllerView) (bits : ℕ) → (bits % 2 ≡ 1 → ⊥) → bits / 0x10000 % 16 ≡ 0
     → OnlyLooked first before → Reads before 0x30 bits after → OnlyLooked first after
 look_again first before after bits one error same read kept =
     let shows = read kept in

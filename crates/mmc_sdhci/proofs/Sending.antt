@@ -14,16 +14,18 @@ use Rattle.mmc_host.specs.declared.told.HostCommand.{HostCommand}
 use Rattle.mmc_host.specs.declared.told.ResponseFault.{ResponseFault}
 use Rattle.mmc_sdhci.proofs.Beginning.{flags}
 use Rattle.mmc_sdhci.specs.Commands.{Begins, Ends, Moves, ResetsData, ResetsLine, Sends, Tells, begun, response_flags, run_of}
-use Rattle.mmc_sdhci.specs.Controller.{ControllerView, Running, Settled}
+use Rattle.mmc_sdhci.specs.Controller.{ControllerView, Running, Settings, Settled}
 use Rattle.mmc_sdhci.specs.CommandLooks.{Dropped, IsShown, Look}
 use Rattle.mmc_sdhci.specs.DataLooks.{DataDropped, cleared}
 use Rattle.mmc_sdhci.specs.Moving.{WhereKept}
+use Rattle.mmc_sdhci.specs.Accesses.{IsAtRest}
+use Rattle.mmc_sdhci.proofs.Blocks.{clear_at_rest, rests_cleared}
 use Rattle.mmc_sdhci.specs.Controller.{has_data, seen}
 use Rattle.mmc_sdhci.specs.CommandLooks.{complete, failed, runs}
 
 -- the command is over, or still runs
 ended : (v0 v1 v2 : ControllerView) (command : HostCommand) (bits : ℕ) → Begins v0 command v1 → Ends v1 bits v2
-    → Settled v0 (Look (begun v0 command) (run_of command) bits v2) v2
+    → Settled v0 (Look (begun v0 v1.status command) (run_of command) bits v2) v2
 ended v0 v1 v2 command bits begins ends kept =
     let e = ends kept in
     let b = begins e.0 in (
@@ -55,9 +57,9 @@ record IsLost (old : ControllerView) (command : HostCommand) (new : ControllerVi
   settings : new.settings ≡ old.settings
   built : new.built ≡ old.built
 
-lost_by : (v0 v2 v3 : ControllerView) (command : HostCommand) (bits : ℕ) → (bits % 2 ≡ 0) ⊎ (bits / 0x8000 % 2 ≡ 1)
-    → Look (begun v0 command) (run_of command) bits v2 → Dropped v2 v2.running v3 → IsLost v0 command v3
-lost_by v0 v2 v3 command bits why (runs zero fine view) dropped =
+lost_by : (v0 v2 v3 : ControllerView) (status : ℕ) (command : HostCommand) (bits : ℕ)
+    → (bits % 2 ≡ 0) ⊎ (bits / 0x10000 % 16 ≡ 0 → ⊥) → Look (begun v0 status command) (run_of command) bits v2 → Dropped v2 v2.running v3 → IsLost v0 command v3
+lost_by v0 v2 v3 status command bits why (runs zero fine view) dropped =
     let d = subst (λ (v : ControllerView). Dropped v v.running v3) view dropped in
     record {
       exchange = d.0;
@@ -67,10 +69,10 @@ lost_by v0 v2 v3 command bits why (runs zero fine view) dropped =
       settings = ap (λ (v : ControllerView). v.settings) d.1;
       built = ap (λ (v : ControllerView). v.built) d.1;
     }
-lost_by v0 v2 v3 command bits (inl none) (complete answer one fine heard shown view) dropped = absurd (omega (arith, none, one))
-lost_by v0 v2 v3 command bits (inr error) (complete answer one fine heard shown view) dropped = absurd (omega (arith, error, fine))
-lost_by v0 v2 v3 command bits why (failed error heard view) dropped =
-    let d : v3 ≡ record v2 { is_stuck = false } =
+lost_by v0 v2 v3 status command bits (inl none) (complete answer one fine heard shown view) dropped = absurd (omega (arith, none, one))
+lost_by v0 v2 v3 status command bits (inr error) (complete answer one fine heard shown view) dropped = absurd (error (omega (arith, fine)))
+lost_by v0 v2 v3 status command bits why (failed error heard view) dropped =
+    let d : v3 ≡ record v2 { resetting = None; is_stuck = false } =
     subst (λ (o : Option Running). Dropped v2 o v3) (ap (λ (v : ControllerView). v.running) view) dropped in
     record {
       exchange = subst (λ (b : BusView). Kept (seen v0) (Answers (seen v0) command.index command.argument Silent b) b)
@@ -84,13 +86,13 @@ lost_by v0 v2 v3 command bits why (failed error heard view) dropped =
 
 -- a command that wasn't heard
 pub lost : (v0 v1 v2 v3 v4 : ControllerView) (command : HostCommand) (bits : ℕ) (fault : ResponseFault)
-    → (bits % 2 ≡ 0) ⊎ (bits / 0x8000 % 2 ≡ 1) → Begins v0 command v1 → Ends v1 bits v2 → ResetsLine v2 v3
+    → (bits % 2 ≡ 0) ⊎ (bits / 0x10000 % 16 ≡ 0 → ⊥) → Begins v0 command v1 → Ends v1 bits v2 → ResetsLine v2 v3
     → ResetsData v3 v4 → Sends v0 command (Err fault) v4
 lost v0 v1 v2 v3 v4 command bits fault why begins ends resets clears kept =
     let c = clears kept in
     let r = resets c.0 in
     let e = ended v0 v1 v2 command bits begins ends r.0 in
-    let l = lost_by v0 v2 v3 command bits why e.1 r.1 in
+    let l = lost_by v0 v2 v3 v1.status command bits why e.1 r.1 in
     let d : v4 ≡ cleared v3 = subst (λ (t : Data). DataDropped v3 t v4) l.transfer c.1 in (
       e.0,
       record {
@@ -103,20 +105,33 @@ lost v0 v1 v2 v3 v4 command bits fault why begins ends resets clears kept =
       },
     )
 
+-- and the controller is at rest
+pub lost_rests : (v0 v1 v2 v3 v4 : ControllerView) (command : HostCommand) (bits : ℕ)
+    → (bits % 2 ≡ 0) ⊎ (bits / 0x10000 % 16 ≡ 0 → ⊥) → IsAtRest v0 → Begins v0 command v1 → Ends v1 bits v2 → ResetsLine v2 v3
+    → ResetsData v3 v4 → IsAtRest v4
+lost_rests v0 v1 v2 v3 v4 command bits why rests begins ends resets clears kept =
+    let c = clears kept in
+    let r = resets c.0 in
+    let e = ended v0 v1 v2 command bits begins ends r.0 in
+    let l = lost_by v0 v2 v3 v1.status command bits why e.1 r.1 in
+    let d : v4 ≡ cleared v3 = subst (λ (t : Data). DataDropped v3 t v4) l.transfer c.1 in
+    rests_cleared v3 v4 l.running l.stuck
+    (ap (λ (s : Settings). s.stabilizing) l.settings ∙ (clear_at_rest v0 (rests e.0)).0.stabilizing) d
+
 -- A command that is over without an error.
 abbrev Moved : ControllerView → HostCommand → Heard → ControllerView → Type 0
 Moved old command heard new =
     Moves old (Answers (seen old) command.index command.argument (answer_heard command.response command.index (Ok heard)) (seen new))
     command.transfer new
 
-heard_by : (v0 v2 v3 : ControllerView) (command : HostCommand) (bits : ℕ) (heard : Heard) → (bits % 2 ≡ 0 → ⊥)
-    → (bits / 0x8000 % 2 ≡ 1 → ⊥) → Look (begun v0 command) (run_of command) bits v2 → v3 ≡ v2
+heard_by : (v0 v2 v3 : ControllerView) (status : ℕ) (command : HostCommand) (bits : ℕ) (heard : Heard) → (bits % 2 ≡ 0 → ⊥)
+    → bits / 0x10000 % 16 ≡ 0 → Look (begun v0 status command) (run_of command) bits v2 → v3 ≡ v2
     → ((index byte : ℕ) (answer : CardAnswer) → byte % 32 ≡ response_flags command.response
     → IsShown byte index v2.response answer → answer ≡ answer_heard command.response index (Ok heard))
     → Moved v0 command heard v3
-heard_by v0 v2 v3 command bits heard over fine (runs zero none view) same tells = absurd (over (omega (arith, zero)))
-heard_by v0 v2 v3 command bits heard over fine (failed error lost view) same tells = absurd (fine (omega (arith, error)))
-heard_by v0 v2 v3 command bits heard over fine (complete answer one none exchange shown view) same tells =
+heard_by v0 v2 v3 status command bits heard over fine (runs zero none view) same tells = absurd (over (omega (arith, zero)))
+heard_by v0 v2 v3 status command bits heard over fine (failed error lost view) same tells = absurd (error (omega (arith, fine)))
+heard_by v0 v2 v3 status command bits heard over fine (complete answer one none exchange shown view) same tells =
     let is = tells command.index (run_of command).flags answer (flags command).1.1 shown in
     record {
       step = subst (λ (b : BusView). Kept (seen v0) (Answers (seen v0) command.index command.argument
@@ -128,12 +143,12 @@ heard_by v0 v2 v3 command bits heard over fine (complete answer one none exchang
     }
 
 pub sent : (v0 v1 v2 v3 : ControllerView) (command : HostCommand) (bits : ℕ) (heard : Heard) → (bits % 2 ≡ 0 → ⊥)
-    → (bits / 0x8000 % 2 ≡ 1 → ⊥) → Begins v0 command v1 → Ends v1 bits v2 → Tells v2 command.response heard v3
+    → bits / 0x10000 % 16 ≡ 0 → Begins v0 command v1 → Ends v1 bits v2 → Tells v2 command.response heard v3
     → Sends v0 command (Ok heard) v3
 sent v0 v1 v2 v3 command bits heard over fine begins ends tells kept =
     let t = tells kept in
     let e = ended v0 v1 v2 command bits begins ends t.0 in
-    (e.0, heard_by v0 v2 v3 command bits heard over fine e.1 t.1.0 t.1.1)
+    (e.0, heard_by v0 v2 v3 v1.status command bits heard over fine e.1 t.1.0 t.1.1)
 
 -- no data is asked for while some is under way
 none_asked : (under_way : Data) (command : HostCommand) → has_data under_way ≡ true → IsFree under_way command
@@ -143,7 +158,7 @@ none_asked under_way command some (inr free) = cc (some, ap (λ (t : Data). has_
 
 -- and what was under way is dropped
 pub sent_and_dropped : (v0 v1 v2 v3 v4 : ControllerView) (under_way : Data) (command : HostCommand) (bits : ℕ) (heard : Heard)
-    → (bits % 2 ≡ 0 → ⊥) → (bits / 0x8000 % 2 ≡ 1 → ⊥) → has_data under_way ≡ true
+    → (bits % 2 ≡ 0 → ⊥) → bits / 0x10000 % 16 ≡ 0 → has_data under_way ≡ true
     → WhereKept v0 (IsFree under_way command) → Begins v0 command v1 → Ends v1 bits v2 → Tells v2 command.response heard v3 → ResetsData v3 v4
     → Sends v0 command (Ok heard) v4
 sent_and_dropped v0 v1 v2 v3 v4 under_way command bits heard over fine some free begins ends tells clears kept =

@@ -1,16 +1,21 @@
 -- Accesses to the registers of an SD host controller: what a write sets, and what a read shows (SD Host Controller Simplified
 -- Specification 3.00, section 2.2).
 use Rattle.std.specs.Prelude.{Bool, None, Option, Some, [], bit_and, false, if◌then◌else◌, is_none, length, nat_lt, not, true}
-use Rattle.std.specs.Prelude.{ℕ, ◌&&◌, ◌*◌, ◌++◌, ◌+◌, ◌-◌, ◌<◌, ◌==◌, ◌^◌, ◌||◌, ◌≡◌, ◌≤◌}
+use Rattle.std.specs.Prelude.{ℕ, ◌&&◌, ◌*◌, ◌++◌, ◌+◌, ◌-◌, ◌<◌, ◌==◌, ◌||◌, ◌≡◌, ◌≤◌}
 use Rattle.std.specs.Int.{to_le_bytes, w32}
 use Rattle.mmc_frame.specs.Field.{field}
 use Rattle.mmc_card.specs.Faults.{PollStep}
 use Rattle.mmc_host.specs.declared.data.Data.{Data}
-use Rattle.mmc_sdhci.specs.Controller.{ControllerView, Running, Settled, Steps, has_data, moved, seen}
-use Rattle.mmc_sdhci.specs.CommandLooks.{Dropped, Look, data_asked, word}
+use Rattle.mmc_sdhci.specs.Controller.{ControllerView, Running, Settings, Settled, Steps, are_shown, clock_runs, has_data, is_set, is_still, moved, seen}
+use Rattle.mmc_sdhci.specs.CommandLooks.{Dropped, Look, data_asked, of_a_command, word}
 use Rattle.mmc_sdhci.specs.DataLooks.{DataDropped, DataLooked, is_empty}
 
--- the registers behind a write of 32 bits; those that aren't named change nothing here
+-- The internal clock is set anew where it is on and the card's isn't.
+abbrev pub stabilizing_from : Option ℕ → ℕ → Option ℕ
+stabilizing_from was value =
+    if field 0 0 value == 0 then None else (if field 2 2 value == 0 then Some 0 else was)
+
+-- the registers after a write of 32 bits
 abbrev pub written : ControllerView → ℕ → ℕ → ControllerView
 written old offset value =
     if offset == 0x04 then record old { sizes = value }
@@ -26,19 +31,31 @@ written old offset value =
       is_stale = old.is_stale || has_data old.transfer;
     }
     else (if offset == 0x20 then record old { outgoing = old.outgoing ++ to_le_bytes w32 value; is_ready = false }
-    else (if offset == 0x2c then record old { settings = record old.settings { clock = field 15 0 value } }
-    else (if offset == 0x30 then record old { status = bit_and old.status (0xffffffff - value) } else old)))))
+    else (if offset == 0x2c then
+    record old {
+      settings = record old.settings {
+        clock = field 15 0 value;
+        timeout = field 19 16 value;
+        stabilizing = stabilizing_from old.settings.stabilizing value;
+      };
+    }
+    else (if offset == 0x30 then record old { status = bit_and old.status (0xffffffff - value) }
+    else (if offset == 0x34 then record old { settings = record old.settings { shown = value } } else old))))))
 
--- no command runs, and nothing is left of one that failed or of data that was broken off
+-- no command runs, nothing is left of one that failed or of data that was broken off, and nothing settles
 abbrev pub is_at_rest : ControllerView → Bool
 is_at_rest view =
     is_none view.running
-    && (not view.is_stuck && (not view.is_stale && (not view.is_open && is_empty view.outgoing)))
+    && (not view.is_stuck
+    && (not view.is_stale && (is_none view.unjudged && (is_empty view.outgoing && is_still view))))
+
+abbrev pub IsStill : ControllerView → Type 0
+IsStill view = view.is_kept ≡ true → is_still view ≡ true
 
 abbrev pub IsAtRest : ControllerView → Type 0
 IsAtRest view = view.is_kept ≡ true → is_at_rest view ≡ true
 
--- a block can be written to the buffer, or goes on: there was room for it, and no older Transfer Complete is left
+-- a block can be written to the buffer, or goes on: there was room for it
 abbrev pub is_write : Data → Bool
 is_write (Data.Write blocks) = true
 is_write _ = false
@@ -46,15 +63,71 @@ is_write _ = false
 abbrev pub can_put : ControllerView → Bool
 can_put view =
     is_write view.transfer
-    && ((view.is_ready || not (is_empty view.outgoing))
-    && (nat_lt (length view.outgoing) 512 && (field 1 1 view.status == 0)))
+    && ((view.is_ready || not (is_empty view.outgoing)) && nat_lt (length view.outgoing) 512)
 
--- The rules for writes: a command is begun at rest, with no old interrupt; a word of a block is written where it can be;
--- beside the clock nothing is reset.
-pub record IsAllowed (view : ControllerView) (offset value : ℕ) : Type 0 where
-  pub command : offset ≡ 0x0c → view.is_kept ≡ true → (is_at_rest view && (view.status == 0)) ≡ true
-  pub port : offset ≡ 0x20 → view.is_kept ≡ true → can_put view ≡ true
-  pub clock : offset ≡ 0x2c → value < 2 ^ 24
+-- Bits of the interrupt status that may be cleared now: while a command runs none; while data is under way Command Complete and the
+-- errors of a command alone (bits 0 and 16 to 19), which have been judged; otherwise all.
+abbrev pub can_clear : ControllerView → ℕ → Bool
+can_clear view value = is_none view.running && (not (has_data view.transfer) || (bit_and value of_a_command == value))
+
+-- What an older command or older data left is cleared: all, or, where the command has no data, what is a command's: what is under way
+-- then is dropped by the reset that follows.
+abbrev pub is_clean : ControllerView → ℕ → Bool
+is_clean view value =
+    if field 21 21 value == 1 then view.status == 0 else bit_and view.status of_a_command == 0
+
+-- Sizes are set where no data is under way. What Transfer Mode and Command may ask for: no DMA and no command of the controller's own
+-- (bits 0, 2 and 3 of Transfer Mode), no suspending (bits 22 and 23, but for CMD12).
+abbrev pub is_idle : ControllerView → Bool
+is_idle view = is_none view.running && not (has_data view.transfer)
+
+abbrev pub is_asked : ℕ → Bool
+is_asked value =
+    (field 0 0 value == 0)
+    && ((field 3 2 value == 0)
+    && ((field 15 6 value == 0)
+    && ((field 18 18 value == 0)
+    && ((field 31 30 value == 0) && ((field 23 22 value == 0) || (field 29 22 value == 0x33))))))
+
+-- The card's clock is turned on once the internal one, whose divider it keeps, is stable; no reset is begun beside it.
+abbrev pub is_clock : Settings → ℕ → Bool
+is_clock settings value =
+    nat_lt value 0x100000 && ((field 2 2 value == 0) || (clock_runs value && (field 15 0 value == settings.clock + 4)))
+
+-- The interrupts that are judged are shown, and no others but those of the buffer.
+abbrev pub is_shown_set : ℕ → Bool
+is_shown_set value = are_shown value && (bit_and value 0x007f003f == value)
+
+-- THE RULES for writes of 32 bits, register by register: no others are written. A command is begun at rest, with all set that it needs,
+-- and no old interrupt; no interrupt is cleared that wasn't judged; a word of a block is written where it can be; none raises an
+-- interrupt of the processor.
+abbrev pub may_write : ControllerView → ℕ → ℕ → Bool
+may_write view offset value =
+    if offset == 0x04 then is_idle view && nat_lt (field 15 0 value) 0x1000
+    else (if offset == 0x08 then is_none view.running
+    else (if offset == 0x0c then
+    is_at_rest view && (is_clean view value && (is_set view.settings && is_asked value))
+    else (if offset == 0x20 then can_put view
+    else (if offset == 0x2c then is_none view.running && (is_still view && is_clock view.settings value)
+    else (if offset == 0x30 then can_clear view value
+    else (if offset == 0x34 then is_idle view && is_shown_set value
+    else (if offset == 0x38 then value == 0 else false)))))))
+
+abbrev pub IsAllowed : ControllerView → ℕ → ℕ → Type 0
+IsAllowed view offset value = view.is_kept ≡ true → may_write view offset value ≡ true
+
+-- And of 8 bits: lines and high speed alone (28h), 3.3 V (29h), and resets (2Fh) of the command line and of the data line. The whole
+-- controller is reset before the card has power, for the card loses it.
+abbrev pub may_write8 : ControllerView → ℕ → ℕ → Bool
+may_write8 view offset value =
+    if offset == 0x28 then is_none view.running && (is_still view && (bit_and value 0x26 == value))
+    else (if offset == 0x29 then is_idle view && (value == 0x0f)
+    else (if offset == 0x2f then
+    (value == 2) || ((value == 4) || ((value == 1) && (is_at_rest view && (is_idle view && (view.settings.power == 0)))))
+    else false))
+
+abbrev pub IsAllowed8 : ControllerView → ℕ → ℕ → Type 0
+IsAllowed8 view offset value = view.is_kept ≡ true → may_write8 view offset value ≡ true
 
 abbrev pub Writes : ControllerView → ℕ → ℕ → ControllerView → Type 0
 Writes old offset value new = Settled old (new ≡ written old offset value) new
@@ -90,13 +163,35 @@ is_ready_in Data.Nothing value = false
 is_ready_in (Data.Read size blocks) value = field 3 3 value == 1
 is_ready_in (Data.Write blocks) value = field 2 2 value == 1
 
--- The bytes 2Ah (Block Gap Control), 2Ch (Clock Control) and 2Fh (Software Reset) change nothing when they are read.
+-- Software Reset (2Fh) shows when a reset is over, and Internal Clock Stable, bit 1 of Clock Control (2Ch), that the internal clock is
+-- stable. Version 3.00 bounds neither time, so these bounds are the project's own: 100 ms and 150 ms, here in microseconds.
+abbrev pub reset_time : ℕ
+reset_time = 100000
+
+abbrev pub clock_time : ℕ
+clock_time = 150000
+
+abbrev pub ResetShown : ControllerView → ℕ → Bool → ControllerView → Type 0
+ResetShown old waited true new = new ≡ record old { resetting = None }
+ResetShown old waited false new = (waited < reset_time) × (new ≡ old)
+
+abbrev pub ResetSeen : ControllerView → Option ℕ → ℕ → ControllerView → Type 0
+ResetSeen old None value new = new ≡ old
+ResetSeen old (Some waited) value new = ResetShown old waited (value == 0) new
+
+abbrev pub ClockShown : ControllerView → ℕ → Bool → ControllerView → Type 0
+ClockShown old waited true new = new ≡ record old { settings = record old.settings { stabilizing = None } }
+ClockShown old waited false new = (waited < clock_time) × (new ≡ old)
+
+abbrev pub ClockSeen : ControllerView → Option ℕ → ℕ → ControllerView → Type 0
+ClockSeen old None value new = new ≡ old
+ClockSeen old (Some waited) value new = ClockShown old waited (field 1 1 value == 1) new
+
 pub record Shows8 (old : ControllerView) (offset value : ℕ) (new : ControllerView) : Type 0 where
   pub buffer : offset ≡ 0x25 → new ≡ record old { is_ready = is_ready_in old.transfer value }
   pub level : offset ≡ 0x26 → Polls old (field 4 4 value == 0) new
-  pub gap : offset ≡ 0x2a → new ≡ old
-  pub clock : offset ≡ 0x2c → new ≡ old
-  pub reset : offset ≡ 0x2f → new ≡ old
+  pub clock : offset ≡ 0x2c → ClockSeen old old.settings.stabilizing value new
+  pub reset : offset ≡ 0x2f → ResetSeen old old.resetting value new
   pub version : offset ≡ 0xfe → (value ≡ old.built.version) × (new ≡ old)
 
 abbrev pub Reads8 : ControllerView → ℕ → ℕ → ControllerView → Type 0
@@ -106,19 +201,42 @@ Reads8 old offset value new = Settled old (Shows8 old offset value new) new
 abbrev pub Stays : ControllerView → ControllerView → Type 0
 Stays old new = Settled old (new ≡ old) new
 
+-- Time passes: for a reset, and then for the clock.
+abbrev pub passed_for : ControllerView → Option ℕ → Option ℕ → ℕ → ControllerView
+passed_for view (Some waited) stabilizing micros = record view { resetting = Some (waited + micros) }
+passed_for view None (Some waited) micros =
+    record view { settings = record view.settings { stabilizing = Some (waited + micros) } }
+passed_for view None None micros = view
+
+abbrev pub passed : ControllerView → ℕ → ControllerView
+passed view micros = passed_for view view.resetting view.settings.stabilizing micros
+
+abbrev pub Passes : ControllerView → ℕ → ControllerView → Type 0
+Passes old micros new = Settled old (new ≡ passed old micros) new
+
 -- a reset of the whole controller at rest: its registers are 0
 abbrev pub restarted : ControllerView → ControllerView
-restarted view = record view { settings = record { control = 0; clock = 0 }; status = 0; is_ready = false; incoming = [] }
+restarted view =
+    record view {
+      settings = record { control = 0; power = 0; clock = 0; timeout = 0; shown = 0; stabilizing = None };
+      status = 0;
+      is_ready = false;
+      incoming = [];
+    }
 
--- Host Control 1 (28h); Power Control (29h) and Block Gap Control (2Ah), which change nothing here; Software Reset (2Fh): bit 0
--- all, bit 1 the command line, bit 2 the data line.
+-- a reset is begun, after which the controller is to be this
+abbrev pub ResetBegins : ControllerView → ControllerView → Type 0
+ResetBegins after new = new ≡ record after { resetting = Some 0 }
+
+-- Host Control 1 (28h); Power Control (29h); Software Reset (2Fh): bit 0 all, bit 1 the command line, bit 2 the data line.
 pub record Does8 (old : ControllerView) (offset value : ℕ) (new : ControllerView) : Type 0 where
   pub control : offset ≡ 0x28 → new ≡ record old { settings = record old.settings { control = value } }
-  pub power : offset ≡ 0x29 → new ≡ old
-  pub gap : offset ≡ 0x2a → new ≡ old
-  pub restart : offset ≡ 0x2f → value ≡ 1 → is_at_rest old ≡ true → old.transfer ≡ Data.Nothing → new ≡ restarted old
-  pub command : offset ≡ 0x2f → value ≡ 2 → Dropped old old.running new
-  pub line : offset ≡ 0x2f → value ≡ 4 → DataDropped old old.transfer new
+  pub power : offset ≡ 0x29 → new ≡ record old { settings = record old.settings { power = value } }
+  pub restart : offset ≡ 0x2f → value ≡ 1 → ResetBegins (restarted old) new
+  pub command : offset ≡ 0x2f → value ≡ 2
+      → (after : ControllerView) × Dropped old old.running after × ResetBegins after new
+  pub line : offset ≡ 0x2f → value ≡ 4
+      → (after : ControllerView) × DataDropped old old.transfer after × ResetBegins after new
 
 abbrev pub Writes8 : ControllerView → ℕ → ℕ → ControllerView → Type 0
 Writes8 old offset value new = Settled old (Does8 old offset value new) new

@@ -50,22 +50,30 @@ pub record IsShown (flags index : ℕ) (words : List ℕ) (answer : CardAnswer) 
 abbrev pub Heard : ControllerView → Running → CardAnswer → ControllerView → Type 0
 Heard old run answer new = Steps old (Answers (seen old) run.index run.argument answer (seen new)) new
 
+-- The errors of a command: timeout, check, end bit and index (bits 16 to 19). Those of data may stand beside them.
+abbrev pub command_errors : ℕ → ℕ
+command_errors bits = field 19 16 bits
+
+-- The bits of a command: Command Complete, and its errors.
+abbrev pub of_a_command : ℕ
+of_a_command = 0x000f0001
+
 -- A look at the interrupt status while a command runs.
 pub data Look (old : ControllerView) (run : Running) (bits : ℕ) (new : ControllerView) : Type 0 where
-  runs : field 0 0 bits ≡ 0 → field 15 15 bits ≡ 0 → new ≡ record old { status = new.status } → Look old run bits new
+  runs : field 0 0 bits ≡ 0 → command_errors bits ≡ 0 → new ≡ record old { status = new.status } → Look old run bits new
   -- Command Complete, and no error
-  complete : (answer : CardAnswer) → field 0 0 bits ≡ 1 → field 15 15 bits ≡ 0 → Heard old run answer new
+  complete : (answer : CardAnswer) → field 0 0 bits ≡ 1 → command_errors bits ≡ 0 → Heard old run answer new
       → IsShown run.flags run.index new.response answer
       → new ≡ record (moved old new) { running = None; response = new.response; status = bits; transfer = run.transfer }
       → Look old run bits new
-  -- an error: timeout, CRC, end bit or index. What came, if anything, is lost.
-  failed : field 15 15 bits ≡ 1 → Heard old run Silent new
+  -- an error: what came, if anything, is lost
+  failed : (command_errors bits ≡ 0 → ⊥) → Heard old run Silent new
       → new ≡ record (moved old new) { running = None; response = new.response; status = bits; is_stuck = true; transfer = Data.Nothing }
       → Look old run bits new
 
 -- The reset of the command line: what still runs is lost.
 abbrev pub Dropped : ControllerView → Option Running → ControllerView → Type 0
-Dropped old None new = new ≡ record old { is_stuck = false }
+Dropped old None new = new ≡ record old { resetting = None; is_stuck = false }
 Dropped old (Some run) new =
     Heard old run Silent new
-    × (new ≡ record (moved old new) { running = None; is_stuck = false; transfer = Data.Nothing })
+    × (new ≡ record (moved old new) { resetting = None; running = None; status = 0xffffffff; is_stuck = false; transfer = Data.Nothing })

@@ -1,5 +1,5 @@
 -- What the driver's functions leave.
-use Rattle.std.specs.Prelude.{◌%◌, ◌*◌, ◌+◌, ◌==◌, ◌||◌, ◌≡◌, Ok, Result, Some, if◌then◌else◌, is_ok, true, ℕ}
+use Rattle.std.specs.Prelude.{◌%◌, ◌*◌, ◌+◌, ◌==◌, ◌||◌, ◌≡◌, Bool, Ok, Result, Some, bit_and, false, if◌then◌else◌, is_ok, true, ℕ}
 use Rattle.mmc_card.specs.CardAnswer.{CardAnswer}
 use Rattle.mmc_frame.specs.Field.{field}
 use Rattle.mmc_frame.specs.declared.commands.TheConstants as Index
@@ -15,9 +15,9 @@ use Rattle.mmc_host.specs.declared.told.ResponseFault.{ResponseFault}
 use Rattle.mmc_host.specs.declared.told.ResponseFault.TheVariants as Fault
 use Rattle.mmc_sdhci.specs.Controller.{ControllerView, Running, Settled, Steps}
 use Rattle.mmc_sdhci.specs.CommandLooks.{Dropped, IsShown, Look}
-use Rattle.mmc_sdhci.specs.DataLooks.{DataDropped}
-use Rattle.mmc_sdhci.specs.Controller.{has_data, seen}
-use Rattle.mmc_sdhci.specs.CommandLooks.{word}
+use Rattle.mmc_sdhci.specs.DataLooks.{DataDropped, any_bits}
+use Rattle.mmc_sdhci.specs.Controller.{has_data, is_set, seen}
+use Rattle.mmc_sdhci.specs.CommandLooks.{of_a_command, word}
 
 -- the type of response, with the checks that it has
 abbrev pub response_flags : Response → ℕ
@@ -61,23 +61,39 @@ sizes_of Data.Nothing = 0
 sizes_of (Data.Read size blocks) = size + 0x10000 * count_of blocks
 sizes_of (Data.Write blocks) = 512 + 0x10000 * count_of blocks
 
--- Transfer Mode and Command, in one word
-abbrev pub command_word : HostCommand → ℕ
-command_word command = 0x1000000 * command.index + 0x10000 * flags_of command + mode_of command.transfer
+-- they are set where there is data
+abbrev pub sizes_after : ℕ → Data → ℕ
+sizes_after sizes transfer = if has_data transfer then sizes_of transfer else sizes
 
--- the command runs, and no interrupt is left
-abbrev pub begun : ControllerView → HostCommand → ControllerView
-begun view command =
+abbrev pub SetsSizes : ControllerView → Data → ControllerView → Type 0
+SetsSizes old transfer new = Settled old (new ≡ record old { sizes = sizes_after old.sizes transfer }) new
+
+-- nothing that an older command left is there any more, nor of older data where none is under way
+abbrev pub is_clear : Data → ControllerView → Bool
+is_clear under_way view =
+    if has_data under_way then bit_and view.status of_a_command == 0 else view.status == 0
+
+-- the interrupts that the driver clears before a command
+abbrev pub older_bits : Data → ℕ
+older_bits under_way = if has_data under_way then of_a_command else any_bits
+
+abbrev pub Clears : ControllerView → Data → ControllerView → Type 0
+Clears old under_way new =
+    Settled old ((new ≡ record old { status = new.status }) × (is_clear under_way new ≡ true)) new
+
+-- the command runs
+abbrev pub begun : ControllerView → ℕ → HostCommand → ControllerView
+begun view status command =
     record view {
-      status = 0;
-      sizes = sizes_of command.transfer;
+      status = status;
+      sizes = sizes_after view.sizes command.transfer;
       argument = command.argument;
       running = Some (run_of command);
       is_stale = view.is_stale || has_data view.transfer;
     }
 
 abbrev pub Begins : ControllerView → HostCommand → ControllerView → Type 0
-Begins old command new = Settled old (new ≡ begun old command) new
+Begins old command new = Settled old (new ≡ begun old new.status command) new
 
 -- Looks until a command is over: the last of them, unless none found it over.
 abbrev pub Ends : ControllerView → ℕ → ControllerView → Type 0
@@ -94,7 +110,7 @@ Tells old response heard new =
     ((new ≡ old) × ((index : ℕ) (flags : ℕ) (answer : CardAnswer) → flags % 32 ≡ response_flags response
     → IsShown flags index old.response answer → answer ≡ answer_heard response index (Ok heard))) new
 
--- A step of the card, behind which this data is under way; what is set and built in is as before.
+-- A step of the card, after which this data is under way; what is set and built in is as before.
 pub record Moves (old : ControllerView) (Step : Type 0) (left : Data) (new : ControllerView) : Type 0 where
   pub step : Steps old Step new
   pub transfer : new.transfer ≡ left
@@ -125,3 +141,15 @@ abbrev pub fault_in : ℕ → ResponseFault
 fault_in bits =
     if field 17 17 bits == 1 then Fault.Check
     else (if field 18 18 bits == 1 then Fault.EndBit else (if field 19 19 bits == 1 then Fault.Index else Fault.Timeout))
+
+-- all is set that a command needs
+abbrev pub IsSet : ControllerView → Type 0
+IsSet view = view.is_kept ≡ true → is_set view.settings ≡ true
+
+-- a command runs
+abbrev pub IsRunning : ControllerView → Type 0
+IsRunning view = view.is_kept ≡ true → (run : Running) × (view.running ≡ Some run)
+
+-- no data is under way where some is asked for
+abbrev pub IsIdleFor : ControllerView → Data → Type 0
+IsIdleFor view transfer = view.is_kept ≡ true → has_data transfer ≡ true → has_data view.transfer ≡ false

@@ -2,8 +2,9 @@
 -- (SD Host Controller Simplified Specification 3.00, section 2.2). Offsets and bits are those of that section.
 --
 -- The card's step falls where the driver learns of it: at the look that finds a command or a block over, or at the reset that
--- drops it. So how many looks it takes is open, and a write is a function of what the registers hold.
-use Rattle.std.specs.Prelude.{Bool, List, None, Option, false, if◌then◌else◌, nat_lt, true, ℕ, ◌*◌, ◌+◌, ◌==◌, ◌≡◌, ◌≤◌}
+-- drops it. So how many looks it takes is open, and a write is a function of what the registers hold. A block is over where nothing
+-- can be wrong with it any more: the last one with Transfer Complete, any other once the next one is there, or room for it.
+use Rattle.std.specs.Prelude.{Bool, List, None, Option, bit_and, false, if◌then◌else◌, is_none, nat_lt, true, ℕ, ◌&&◌, ◌*◌, ◌+◌, ◌==◌, ◌≡◌, ◌≤◌}
 use Rattle.mmc_frame.specs.Field.{field}
 use Rattle.mmc_card.specs.BusView.{BusView}
 use Rattle.mmc_card.specs.Card.{Card}
@@ -12,7 +13,6 @@ use Rattle.mmc_card.specs.declared.exchange.Timing.TheVariants.{Default, High}
 use Rattle.mmc_card.specs.declared.exchange.Width.TheVariants.{Eight, Four, One}
 use Rattle.mmc_bus.specs.Exchanges.{Kept}
 use Rattle.mmc_host.specs.declared.data.Data.{Data}
-use Rattle.mmc_sdhci.specs.declared.buffer.Buffer.{Buffer}
 
 -- A command that runs: what its registers held when Command was written.
 pub record Running : Type 0 where
@@ -22,17 +22,21 @@ pub record Running : Type 0 where
   pub flags : ℕ
   pub transfer : Data
 
--- What is built in: Capabilities (40h), the version of the specification (FEh: 0 is 1.00, 1 is 2.00, 2 is 3.00), and how much the
--- buffer has room for.
+-- What is built in: Capabilities (40h), and the version of the specification (FEh: 0 is 1.00, 1 is 2.00, 2 is 3.00).
 pub record Built : Type 0 where
   pub capabilities : ℕ
   pub version : ℕ
-  pub buffer : Buffer
 
--- What is set: Host Control 1 (28h), and Clock Control (2Ch). The card has power.
+-- What is set: Host Control 1 (28h), Power Control (29h), Clock Control (2Ch), Timeout Control (2Eh), and which interrupts are shown
+-- (34h, 36h).
 pub record Settings : Type 0 where
   pub control : ℕ
+  pub power : ℕ
   pub clock : ℕ
+  pub timeout : ℕ
+  pub shown : ℕ
+  -- the internal clock was set, so many microseconds ago, and hasn't been seen to be stable since
+  pub stabilizing : Option ℕ
 
 pub record ControllerView : Type 0 where
   pub card : Card
@@ -44,11 +48,14 @@ pub record ControllerView : Type 0 where
   -- Block Size and Block Count (04h), Argument (08h)
   pub sizes : ℕ
   pub argument : ℕ
+  -- a reset was begun, so many microseconds ago, and hasn't been seen to be over since
+  pub resetting : Option ℕ
   -- the command that runs, if one does
   pub running : Option Running
   -- Response (10h), four words, the lowest first
   pub response : List ℕ
-  -- Normal Interrupt Status (30h, bits 15 to 0) and Error Interrupt Status (bits 31 to 16), as last looked at
+  -- Normal Interrupt Status (30h, bits 15 to 0) and Error Interrupt Status (bits 31 to 16), as last looked at; after a reset
+  -- that dropped something any bit may be left
   pub status : ℕ
   -- a command has failed, and the command line hasn't been reset since
   pub is_stuck : Bool
@@ -56,8 +63,8 @@ pub record ControllerView : Type 0 where
   pub transfer : Data
   -- data was broken off, by a command or a failure, and the data line hasn't been reset since
   pub is_stale : Bool
-  -- all of the data has come, and Transfer Complete hasn't been seen since
-  pub is_open : Bool
+  -- a block that has come into the buffer, while something can still be wrong with it
+  pub unjudged : Option (List ℕ)
   -- the last look at Present State found a block in the buffer, or room for one
   pub is_ready : Bool
   -- what is left in the buffer (20h) of a block that came, and what is in it of one that is to go
@@ -123,6 +130,27 @@ Steps old Step new = Kept (seen old) Step (seen new)
 -- what a step changes beside registers
 abbrev pub moved : ControllerView → ControllerView → ControllerView
 moved old new = record old { card = new.card; faults = new.faults; may_fall = new.may_fall }
+
+-- What a card needs for a command and its data: 3.3 V (29h: bit 0 on, bits 3 to 1 are 111b), a clock that runs (bit 0 the internal
+-- one, bit 2 the card's), Command Complete, Transfer Complete and all errors of command and data shown, and the longest timeout of
+-- data, 2^27 clocks.
+abbrev pub clock_runs : ℕ → Bool
+clock_runs clock = (field 0 0 clock == 1) && (field 2 2 clock == 1)
+
+abbrev pub judged_interrupts : ℕ
+judged_interrupts = 0x007f0003
+
+abbrev pub are_shown : ℕ → Bool
+are_shown shown = bit_and shown judged_interrupts == judged_interrupts
+
+abbrev pub is_set : Settings → Bool
+is_set settings =
+    ((settings.power == 0x0f) && (are_shown settings.shown && is_none settings.stabilizing))
+    && (clock_runs settings.clock && (settings.timeout == 0x0e))
+
+-- nothing settles
+abbrev pub is_still : ControllerView → Bool
+is_still view = is_none view.resetting && is_none view.settings.stabilizing
 
 abbrev pub has_data : Data → Bool
 has_data Data.Nothing = false

@@ -1,41 +1,74 @@
 -- Data of an SD host controller: what a look finds while blocks are under way, and what a reset drops (SD Host Controller Simplified
 -- Specification 3.00, sections 2.2.8, 2.2.9 and 2.2.18).
-use Rattle.std.specs.Prelude.{Bool, List, [], false, if◌then◌else◌, length, not, true, ℕ, ◌&&◌, ◌==◌, ◌||◌, ◌∷◌, ◌≡◌}
+use Rattle.std.specs.Prelude.{Bool, List, None, Option, Some, [], false, if◌then◌else◌, length, true, ℕ, ◌&&◌, ◌==◌, ◌||◌, ◌∷◌, ◌≡◌}
 use Rattle.mmc_frame.specs.Field.{field}
 use Rattle.mmc_card.specs.declared.exchange.DataIn.{DataIn}
 use Rattle.mmc_card.specs.declared.exchange.DataIn.TheVariants as Came
 use Rattle.mmc_card.specs.declared.exchange.DataOut.TheVariants as Went
 use Rattle.mmc_card.specs.Faults.{ReadStep, WriteStep}
 use Rattle.mmc_host.specs.HostStates.{less_one}
+use Rattle.mmc_host.specs.declared.data.Blocks.TheVariants.{Counted, UntilStopped}
 use Rattle.mmc_host.specs.declared.data.Data.{Data}
-use Rattle.mmc_sdhci.specs.declared.buffer.Buffer.{Buffer}
-use Rattle.mmc_sdhci.specs.declared.buffer.Buffer.TheVariants.{OneBlock, SeveralBlocks}
-use Rattle.mmc_sdhci.specs.Controller.{ControllerView, Steps, has_data, moved, seen}
+use Rattle.mmc_sdhci.specs.declared.following.Following.{Following}
+use Rattle.mmc_sdhci.specs.declared.following.Following.TheVariants.{Another, End, Unknown}
+use Rattle.mmc_sdhci.specs.Controller.{ControllerView, Steps, moved, seen}
 
 abbrev pub is_empty : List ℕ → Bool
 is_empty [] = true
 is_empty (byte ∷ bytes) = false
 
+-- what comes after the next block of this data
+abbrev pub following_counted : ℕ → Following
+following_counted count = if count == 1 then End else Another
+
+abbrev pub following_of : Data → Following
+following_of Data.Nothing = End
+following_of (Data.Read size (Counted count)) = following_counted count
+following_of (Data.Read size UntilStopped) = Unknown
+following_of (Data.Write (Counted count)) = following_counted count
+following_of (Data.Write UntilStopped) = Unknown
+
+-- Transfer Complete
+abbrev pub is_complete : ℕ → Bool
+is_complete bits = field 1 1 bits == 1
+
 -- the data line is broken: its reset is to come
 abbrev pub broken : ControllerView → ℕ → ControllerView
 broken view bits =
-    record view { status = bits; transfer = Data.Nothing; is_stale = true; is_ready = false; outgoing = [] }
+    record view { status = bits; transfer = Data.Nothing; is_stale = true; is_ready = false; unjudged = None; outgoing = [] }
 
 -- the error interrupts: bits 21 and 22 are a bad check and a bad end bit, otherwise nothing came (bit 20)
 abbrev pub came : ℕ → DataIn
 came bits = if (field 21 21 bits == 1) || (field 22 22 bits == 1) then Came.Bad else Came.Nothing
 
--- A look at the interrupt status while blocks of this length are read. Behind the last one, Transfer Complete is to come.
+-- Nothing can be wrong any more with a block that was taken out of the buffer: Transfer Complete has come after the last one, and
+-- the next one is there after any other. Where nobody said how many come, it is the first look after it: a controller that shows a
+-- block before it has judged its check must be told how many.
+abbrev pub is_good_by : Following → Bool → ℕ → Bool
+is_good_by End ready bits = is_complete bits
+is_good_by Another ready bits = ready
+is_good_by Unknown ready bits = true
+
+-- a look finds something new: a block in the buffer, or that the one that was in it is good
+abbrev pub has_news : ControllerView → Option (List ℕ) → ℕ → Bool
+has_news view None bits = view.is_ready
+has_news view (Some block) bits =
+    is_empty view.incoming && is_good_by (following_of view.transfer) view.is_ready bits
+
+-- A look at the interrupt status while blocks of this length are read.
 pub data ReadLook (old : ControllerView) (size bits : ℕ) (new : ControllerView) : Type 0 where
-  waits : field 15 15 bits ≡ 0 → old.is_ready ≡ false → new ≡ record old { status = bits } → ReadLook old size bits new
-  ready : (block : List ℕ) → field 15 15 bits ≡ 0 → old.is_ready ≡ true → length block ≡ size
+  waits : field 15 15 bits ≡ 0 → has_news old old.unjudged bits ≡ false → new ≡ record old { status = bits }
+      → ReadLook old size bits new
+  comes : (block : List ℕ) → field 15 15 bits ≡ 0 → old.unjudged ≡ None → old.is_ready ≡ true → length block ≡ size
+      → new ≡ record old { status = bits; is_ready = false; incoming = block; unjudged = Some block }
+      → ReadLook old size bits new
+  good : (block : List ℕ) → field 15 15 bits ≡ 0 → old.unjudged ≡ Some block → has_news old (Some block) bits ≡ true
       → Steps old (ReadStep (seen old) size Came.Good block (seen new)) new
       → new ≡ record (moved old new) {
         status = bits;
         transfer = less_one old.transfer;
-        is_open = not (has_data (less_one old.transfer));
         is_ready = false;
-        incoming = block;
+        unjudged = None;
       }
       → ReadLook old size bits new
   failed : field 15 15 bits ≡ 1
@@ -43,18 +76,18 @@ pub data ReadLook (old : ControllerView) (size bits : ℕ) (new : ControllerView
       → new ≡ broken (moved old new) bits
       → ReadLook old size bits new
 
--- A whole block has been written to the buffer, and has gone: Transfer Complete says so, behind the last block or at a block gap;
--- where the buffer has room for one block alone, so does room for the next one.
-abbrev pub has_one : Buffer → Bool
-has_one OneBlock = true
-has_one SeveralBlocks = false
-
+-- A whole block has been written to the buffer, and has gone: Transfer Complete says so after the last one, and room for the next
+-- one after any other. Where the buffer has room for several, the card may still reject the block, which the next look says
+-- (`WriteStep`, `turn_out`).
 abbrev pub is_whole : List ℕ → Bool
 is_whole bytes = length bytes == 512
 
+abbrev pub is_gone_by : Following → Bool → ℕ → Bool
+is_gone_by End ready bits = is_complete bits
+is_gone_by following ready bits = ready
+
 abbrev pub is_gone : ControllerView → ℕ → Bool
-is_gone view bits =
-    is_whole view.outgoing && ((field 1 1 bits == 1) || (view.is_ready && has_one view.built.buffer))
+is_gone view bits = is_whole view.outgoing && is_gone_by (following_of view.transfer) view.is_ready bits
 
 -- the block that was offered: the one in the buffer, or any where none is
 abbrev pub IsOffered : List ℕ → List ℕ → Type 0
@@ -81,18 +114,23 @@ pub data WriteLook (old : ControllerView) (bits : ℕ) (new : ControllerView) : 
 
 -- a look while no command runs
 abbrev pub DataLooked : ControllerView → Data → ℕ → ControllerView → Type 0
-DataLooked old Data.Nothing bits new =
-    new ≡ record old { status = bits; is_open = old.is_open && (field 1 1 bits == 0) }
+DataLooked old Data.Nothing bits new = new ≡ record old { status = bits }
 DataLooked old (Data.Read size blocks) bits new = ReadLook old size bits new
 DataLooked old (Data.Write blocks) bits new = WriteLook old bits new
+
+-- any bits may be left in the interrupt status
+abbrev pub any_bits : ℕ
+any_bits = 0xffffffff
 
 -- The reset of the data line: a block that was to come or to go is lost, and what was read ahead.
 abbrev pub cleared : ControllerView → ControllerView
 cleared view =
     record view {
+      resetting = None;
+      status = any_bits;
       transfer = Data.Nothing;
       is_stale = false;
-      is_open = false;
+      unjudged = None;
       is_ready = false;
       incoming = [];
       outgoing = [];

@@ -9,10 +9,9 @@ use Rattle.mmc_host.specs.Hosts.{HostView}
 use Rattle.mmc_host.specs.declared.data.Data.{Data}
 use Rattle.mmc_host.specs.declared.told.HostState.{HostState}
 use Rattle.mmc_host.specs.declared.told.Ios.{Ios}
-use Rattle.mmc_sdhci.specs.Controller.{ControllerView, IsAtMost, Settled, base_clock}
+use Rattle.mmc_sdhci.specs.Controller.{ControllerView, IsAtMost, Settled, base_clock, clock_runs, is_set, is_still}
 use Rattle.mmc_sdhci.specs.Accesses.{is_at_rest, restarted}
 use Rattle.mmc_sdhci.specs.Moving.{WhereKept}
-use Rattle.mmc_sdhci.specs.declared.buffer.Buffer.TheVariants.{OneBlock}
 
 -- a host with this controller: its card, what it was told so far, and its limits
 abbrev pub host_over : ControllerView → HostState → Lines → HostView
@@ -39,19 +38,40 @@ abbrev pub IsBaseClock : ℕ → ℕ → ControllerView → Type 0
 IsBaseClock base version view =
     WhereKept view ((view.built.version ≡ version) × (base_clock view.built.capabilities version ≡ base))
 
--- the clock is set, to so many hertz at most, and nothing else
+-- where the clock can be set
+abbrev pub IsSteady : ControllerView → Type 0
+IsSteady view = WhereKept view ((view.running ≡ None) × (is_still view ≡ true))
+
+-- the clock is set, to so many hertz at most, and runs; the timeout of data is the longest; nothing else is set
 abbrev pub SetsClock : ControllerView → ℕ → ControllerView → Type 0
 SetsClock old most new =
     Settled old
-    (IsAtMost most new × (new ≡ record old { settings = record old.settings { clock = new.settings.clock } })) new
+    (IsAtMost most new
+    × ((clock_runs new.settings.clock ≡ true)
+    × (new ≡ record old {
+      settings = record old.settings { clock = new.settings.clock; timeout = 0x0e; stabilizing = None };
+    }))) new
 
--- no command was sent so far
+-- no command was sent so far, and the card has no power
 abbrev pub IsNew : ControllerView → Type 0
-IsNew view = WhereKept view ((is_at_rest view ≡ true) × (view.transfer ≡ Data.Nothing))
+IsNew view =
+    WhereKept view ((is_at_rest view ≡ true) × ((view.transfer ≡ Data.Nothing) × (view.settings.power ≡ 0)))
 
--- a reset: one line at default speed, and no data under way
+-- between two commands, with all set that they need
+abbrev pub IsReady : ControllerView → Type 0
+IsReady view =
+    WhereKept view ((is_at_rest view ≡ true) × ((view.transfer ≡ Data.Nothing) × (is_set view.settings ≡ true)))
+
+-- a reset: one line at default speed, no power, and the interrupts shown that the driver looks at
+abbrev pub started : ControllerView → ControllerView
+started view =
+    record (restarted view) {
+      settings = record (restarted view).settings { shown = 0x007f0033 };
+      resetting = None;
+    }
+
 abbrev pub Restarts : ControllerView → ControllerView → Type 0
-Restarts old new = Settled old (new ≡ restarted old) new
+Restarts old new = Settled old (new ≡ started old) new
 
 -- the card is as before, and so is what is built in
 pub record IsSameCard (old new : ControllerView) : Type 0 where
@@ -74,8 +94,9 @@ unkept_controller =
       faults = 0;
       may_fall = None;
       is_kept = false;
-      built = record { capabilities = 0; version = 0; buffer = OneBlock };
-      settings = record { control = 0; clock = 0 };
+      built = record { capabilities = 0; version = 0 };
+      settings = record { control = 0; power = 0; clock = 0; timeout = 0; shown = 0; stabilizing = None };
+      resetting = None;
       sizes = 0;
       argument = 0;
       running = None;
@@ -84,7 +105,7 @@ unkept_controller =
       is_stuck = false;
       transfer = Data.Nothing;
       is_stale = false;
-      is_open = false;
+      unjudged = None;
       is_ready = false;
       incoming = [];
       outgoing = [];

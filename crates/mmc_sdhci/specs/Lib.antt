@@ -6,3 +6,4 @@ pub mod Controller
 pub mod DataLooks
 pub mod Driver
 pub mod Moving
+pub mod Settling

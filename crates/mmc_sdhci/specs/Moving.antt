@@ -10,9 +10,8 @@ use Rattle.mmc_host.specs.declared.data.Blocks.{Blocks}
 use Rattle.mmc_host.specs.declared.data.Data.{Data}
 use Rattle.mmc_sdhci.specs.Commands.{Moves}
 use Rattle.mmc_sdhci.specs.Controller.{ControllerView, Settled, Steps, seen}
-use Rattle.mmc_sdhci.specs.DataLooks.{DataLooked, has_one, is_whole}
+use Rattle.mmc_sdhci.specs.DataLooks.{DataLooked, following_of, is_gone_by, is_good_by, is_whole}
 use Rattle.mmc_sdhci.specs.Accesses.{is_at_rest}
-use Rattle.mmc_sdhci.specs.declared.buffer.Buffer.{Buffer}
 use Rattle.mmc_sdhci.specs.declared.watching.Glance.{Glance}
 use Rattle.mmc_sdhci.specs.declared.watching.Sought.{Sought}
 use Rattle.mmc_sdhci.specs.declared.watching.Sought.TheVariants as sought
@@ -21,20 +20,33 @@ use Rattle.mmc_sdhci.specs.declared.watching.Sought.TheVariants as sought
 abbrev pub WhereKept : ControllerView → Type 0 → Type 0
 WhereKept view Rule = view.is_kept ≡ true → Rule
 
--- where the driver looks for this: blocks are read, or there is to be room for one, or one was written to the buffer
+-- blocks are read, or written
+abbrev pub AreRead : Data → Type 0
+AreRead transfer = (size : ℕ) × (blocks : Blocks) × (transfer ≡ Data.Read size blocks)
+
+abbrev pub AreWritten : Data → Type 0
+AreWritten transfer = (blocks : Blocks) × (transfer ≡ Data.Write blocks)
+
+-- where the driver looks for this: for a block, or that the one that was taken is good; for room, or that the block in the buffer has
+-- gone
 abbrev pub Seeks : Sought → ControllerView → Type 0
-Seeks sought.Block view = (size : ℕ) × (blocks : Blocks) × (view.transfer ≡ Data.Read size blocks)
-Seeks sought.Room view = ((blocks : Blocks) × (view.transfer ≡ Data.Write blocks)) × (view.outgoing ≡ [])
-Seeks (sought.Gone buffer) view =
-    ((blocks : Blocks) × (view.transfer ≡ Data.Write blocks))
-    × ((is_whole view.outgoing ≡ true) × (view.built.buffer ≡ buffer))
+Seeks sought.Block view = AreRead view.transfer × (view.unjudged ≡ None)
+Seeks (sought.Good following) view =
+    AreRead view.transfer
+    × (((block : List ℕ) × (view.unjudged ≡ Some block))
+    × ((view.incoming ≡ []) × (following_of view.transfer ≡ following) × (view.outgoing ≡ [])))
+Seeks sought.Room view = AreWritten view.transfer × (view.outgoing ≡ [])
+Seeks (sought.Gone following) view =
+    AreWritten view.transfer
+    × ((is_whole view.outgoing ≡ true) × (following_of view.transfer ≡ following) × (view.unjudged ≡ None))
 
 -- no command runs, and nothing is left of one that failed or of other data
 pub record IsClear (view : ControllerView) : Type 0 where
   pub running : view.running ≡ None
   pub stuck : view.is_stuck ≡ false
   pub stale : view.is_stale ≡ false
-  pub open_data : view.is_open ≡ false
+  pub resetting : view.resetting ≡ None
+  pub stabilizing : view.settings.stabilizing ≡ None
 
 abbrev pub IsSeeking : Sought → ControllerView → Type 0
 IsSeeking sought view = WhereKept view (IsClear view × Seeks sought view)
@@ -45,7 +57,8 @@ is_error bits = field 15 15 bits == 1
 abbrev pub is_found : Sought → Glance → Bool
 is_found sought.Block seen = seen.is_ready
 is_found sought.Room seen = seen.is_ready
-is_found (sought.Gone buffer) seen = (field 1 1 seen.bits == 1) || (if has_one buffer then seen.is_ready else false)
+is_found (sought.Good following) seen = is_good_by following seen.is_ready seen.bits
+is_found (sought.Gone following) seen = is_gone_by following seen.is_ready seen.bits
 
 -- a look at the buffer, and then at the interrupt status
 abbrev pub looking : ControllerView → Glance → ControllerView
@@ -78,31 +91,10 @@ Takes old block new =
 abbrev pub Puts : ControllerView → List ℕ → ControllerView → Type 0
 Puts old block new = Settled old (new ≡ record old { outgoing = block; is_ready = false }) new
 
--- there is room for a block, and no interrupt is left
+-- there is room for a block
 abbrev pub HasRoom : ControllerView → Type 0
 HasRoom view =
-    WhereKept view
-    (((blocks : Blocks) × (view.transfer ≡ Data.Write blocks))
-    × ((view.is_ready ≡ true) × ((view.outgoing ≡ []) × (view.status ≡ 0))))
-
--- No step: the bus is as before, and the controller at rest.
-pub record Rests (old new : ControllerView) : Type 0 where
-  pub same : seen new ≡ seen old
-  pub transfer : new.transfer ≡ Data.Nothing
-  pub settings : new.settings ≡ old.settings
-  pub built : new.built ≡ old.built
-  pub rest : is_at_rest new ≡ true
-
--- all data has come, but Transfer Complete wasn't seen
-pub record HasCome (view : ControllerView) : Type 0 where
-  pub running : view.running ≡ None
-  pub stuck : view.is_stuck ≡ false
-  pub stale : view.is_stale ≡ false
-  pub outgoing : view.outgoing ≡ []
-  pub transfer : view.transfer ≡ Data.Nothing
-
-abbrev pub Finishes : ControllerView → ControllerView → Type 0
-Finishes old new = Settled old (Rests old new) new
+    WhereKept view (AreWritten view.transfer × ((view.is_ready ≡ true) × (view.outgoing ≡ [])))
 
 -- a block is to come, of this length, or to go
 abbrev pub IsComing : Data → ℕ → ControllerView → Type 0
@@ -110,11 +102,8 @@ IsComing under_way size view =
     WhereKept view
     ((view.transfer ≡ under_way) × ((blocks : Blocks) × (under_way ≡ Data.Read size blocks) × (size % 4 ≡ 0)))
 
-abbrev pub IsGoing : Data → Buffer → ControllerView → Type 0
-IsGoing under_way buffer view =
-    WhereKept view
-    ((view.transfer ≡ under_way)
-    × (((blocks : Blocks) × (under_way ≡ Data.Write blocks)) × (view.built.buffer ≡ buffer)))
+abbrev pub IsGoing : Data → ControllerView → Type 0
+IsGoing under_way view = WhereKept view ((view.transfer ≡ under_way) × AreWritten under_way)
 
 -- One block: what the host learns is a step of the card. One that failed ends the data.
 abbrev pub ReadsBlock : ControllerView → ℕ → DataIn → List ℕ → ControllerView → Type 0
@@ -145,4 +134,12 @@ abbrev pub SeesGone : ControllerView → DataOut → ControllerView → Type 0
 SeesGone old got new =
     Settled old
     (Moves old (WriteStep (seen old) old.outgoing got (seen new)) (if is_accepted got then less_one old.transfer else Data.Nothing) new
+    × (is_at_rest new ≡ true)) new
+
+-- the block that was taken is good; where not, the card's step is what came, and the controller is at rest
+abbrev pub SeesGood : ControllerView → DataIn → ControllerView → Type 0
+SeesGood old got new =
+    Settled old
+    (((size : ℕ) (blocks : Blocks) (block : List ℕ) → old.transfer ≡ Data.Read size blocks → old.unjudged ≡ Some block
+    → Moves old (ReadStep (seen old) size got block (seen new)) (if is_good got then less_one old.transfer else Data.Nothing) new)
     × (is_at_rest new ≡ true)) new

@@ -1,21 +1,23 @@
 // The card's busy signal: it holds DAT0 low.
 ghost use Rattle.mmc_sdhci.specs.Busy.{IsPolled};
-ghost use Rattle.mmc_sdhci.specs.Accesses.{IsAtRest, Stays};
+ghost use Rattle.mmc_sdhci.specs.Accesses.{IsAtRest, IsStill, Stays};
 
 use crate::offsets::{DATA_LEVELS, PRESENT};
 use crate::registers::Registers;
+use crate::settling::pause;
 
 const BETWEEN_LOOKS: u32 = 10;
 
 // Waits until DAT0 is high, for so many microseconds at most.
 fn wait<R: Registers>(registers: &mut R, micros: u32)
+    requires { IsStill (R.view registers.old) }
     ensures { Stays (R.view registers.old) (R.view registers.new) }
 {
     for _ in 0..micros / BETWEEN_LOOKS {
         if registers.read32(PRESENT) / 0x10_0000 % 2 == 1 {
             return;
         }
-        registers.pause(BETWEEN_LOOKS);
+        pause(registers, BETWEEN_LOOKS);
     }
 }
 

@@ -1,15 +1,11 @@
 // The clock of the card (SD Host Controller Simplified Specification 3.00, sections 2.2.14 and 3.2).
-ghost use Rattle.std.specs.Prelude.{◌*◌, ◌+◌, ◌-◌, ◌<◌, ◌≡◌, ◌≤◌, ◌^◌};
+ghost use Rattle.std.specs.Prelude.{◌%◌, ◌*◌, ◌+◌, ◌-◌, ◌<◌, ◌≡◌, ◌≤◌, ◌^◌};
 ghost use Rattle.mmc_sdhci.specs.Controller.{base_clock, divider_in, divisor};
-ghost use Rattle.mmc_sdhci.specs.Accesses.{Stays};
-ghost use Rattle.mmc_sdhci.specs.Driver.{IsBaseClock, SetsClock};
+ghost use Rattle.mmc_sdhci.specs.Driver.{IsBaseClock, IsSteady, SetsClock};
 
 use crate::offsets::CLOCK;
 use crate::registers::Registers;
-
-const LOOKS: u32 = 2000;
-
-const BETWEEN_LOOKS: u32 = 100;
+use crate::settling::settle_clock;
 
 // The longest timeout of data, in Timeout Control; the driver's own looks end sooner.
 const TIMEOUT: u32 = 0xe_0000;
@@ -62,20 +58,9 @@ fn word_of(divider: u32) -> u32
     requires { divider < 1024 }
     ensures divider { divider_in (result + 5) ≡ divider }
     ensures small { result < 2 ^ 16 - 5 }
+    ensures low { result % 64 ≡ 0 }
 {
     divider % 256 * 256 + divider / 256 * 64
-}
-
-// Waits until the internal clock is stable.
-fn settle<R: Registers>(registers: &mut R)
-    ensures { Stays (R.view registers.old) (R.view registers.new) }
-{
-    for _ in 0..LOOKS {
-        if registers.read8(CLOCK) / 2 % 2 == 1 {
-            return;
-        }
-        registers.pause(BETWEEN_LOOKS);
-    }
 }
 
 /// Sets the clock to so many hertz at most, 400,000 to 50,000,000: the card's clock stops, and begins again once the internal one is
@@ -85,11 +70,12 @@ pub fn set_clock<R: Registers>(registers: &mut R, base: u32, version: u8, most: 
     requires small { base < 256 }
     requires least { 400000 ≤ most }
     requires most { most ≤ 50000000 }
+    requires steady { IsSteady (R.view registers.old) }
     ensures { SetsClock (R.view registers.old) most (R.view registers.new) }
 {
     let word = word_of(divider(base, version, most));
     registers.write32(CLOCK, TIMEOUT);
     registers.write32(CLOCK, TIMEOUT + word + 1);
-    settle(registers);
+    settle_clock(registers);
     registers.write32(CLOCK, TIMEOUT + word + 5);
 }

@@ -1,24 +1,26 @@
 // Commands and their responses.
 ghost use Rattle.std.specs.Prelude.{◌≡◌, ◌<◌};
 ghost use Rattle.mmc_host.specs.HostStates.{AreMovable, IsFree};
-ghost use Rattle.mmc_sdhci.specs.Commands.{Begins, Ends, ReadsWord, ResetsData, ResetsLine, Tells, count_of, flags_of, mode_of};
-ghost use Rattle.mmc_sdhci.specs.Commands.{IsUnderWay, Sends, fault_in, response_flags, several, sizes_of};
+ghost use Rattle.mmc_sdhci.specs.Commands.{Begins, Clears, Ends, IsIdleFor, IsRunning, IsSet, ReadsWord, ResetsData, ResetsLine, SetsSizes, Tells, count_of, flags_of, mode_of};
+ghost use Rattle.mmc_sdhci.specs.Commands.{IsUnderWay, Sends, fault_in, older_bits, response_flags, several, sizes_of};
 ghost use Rattle.mmc_host.specs.declared.response.Response.TheVariants.{R2};
 ghost use Rattle.mmc_sdhci.specs.Controller.{has_data};
 ghost use Rattle.mmc_sdhci.specs.CommandLooks.{bytes_shown};
-ghost use Rattle.mmc_sdhci.specs.Accesses.{IsAtRest, Stays};
+ghost use Rattle.mmc_sdhci.specs.Accesses.{IsAtRest, IsStill};
 ghost use Rattle.mmc_sdhci.specs.Moving.{WhereKept};
 
 use crate::offsets::{ARGUMENT, COMMAND, INTERRUPTS, RESET, RESPONSE, SIZES};
 use crate::registers::Registers;
+use crate::settling::{pause, settle_reset};
 use mmc_frame::commands::STOP_TRANSMISSION;
 use mmc_host::{Blocks, Data, Heard, HostCommand, Response, ResponseFault};
 
 const ALL: u32 = 0xffff_ffff;
 
-const LOOKS: u32 = 1000;
+// Command Complete, and the errors of a command.
+const OF_A_COMMAND: u32 = 0x000f_0001;
 
-const RESET_LOOKS: u32 = 1000;
+const LOOKS: u32 = 1000;
 
 const BETWEEN_LOOKS: u32 = 10;
 
@@ -38,7 +40,7 @@ fn response_flags(response: Response) -> u32
     }
 }
 
-/// Whether there is any.
+/// Whether there is any data.
 pub fn has_data(transfer: Data) -> bool
     ensures { result ≡ has_data transfer }
 {
@@ -105,15 +107,50 @@ fn sizes_of(transfer: Data) -> u32
     }
 }
 
-// Begins a command.
-fn begin<R: Registers>(registers: &mut R, command: HostCommand)
+// The interrupts that are cleared before a command: all, or where data is under way those of a command.
+fn older_bits(under_way: Data) -> u32
+    ensures { result ≡ older_bits under_way }
+{
+    if has_data(under_way) {
+        OF_A_COMMAND
+    } else {
+        ALL
+    }
+}
+
+// Clears what is left of an older command, and of older data where none is under way.
+fn clear<R: Registers>(registers: &mut R, under_way: Data)
+    requires rest { IsAtRest (R.view registers.old) }
+    requires under_way { IsUnderWay (R.view registers.old) under_way }
+    ensures { Clears (R.view registers.old) under_way (R.view registers.new) }
+{
+    registers.write32(INTERRUPTS, older_bits(under_way));
+}
+
+// Sets Block Size and Block Count, where there is data.
+fn set_sizes<R: Registers>(registers: &mut R, transfer: Data)
+    requires rest { IsAtRest (R.view registers.old) }
+    requires movable { AreMovable transfer }
+    requires idle { IsIdleFor (R.view registers.old) transfer }
+    ensures { SetsSizes (R.view registers.old) transfer (R.view registers.new) }
+{
+    if has_data(transfer) {
+        registers.write32(SIZES, sizes_of(transfer));
+    }
+}
+
+// Begins a command while this data is under way.
+fn begin<R: Registers>(registers: &mut R, under_way: Data, command: HostCommand)
     requires rest { IsAtRest (R.view registers.old) }
     requires index { command.index < 64 }
     requires movable { AreMovable command.transfer }
+    requires under_way { IsUnderWay (R.view registers.old) under_way }
+    requires free { WhereKept (R.view registers.old) (IsFree under_way command) }
+    requires set { IsSet (R.view registers.old) }
     ensures { Begins (R.view registers.old) command (R.view registers.new) }
 {
-    registers.write32(INTERRUPTS, ALL);
-    registers.write32(SIZES, sizes_of(command.transfer));
+    clear(registers, under_way);
+    set_sizes(registers, command.transfer);
     registers.write32(ARGUMENT, command.argument);
     let word = command.index as u32 * 0x100_0000
         + flags_of(command) * 0x1_0000
@@ -123,14 +160,16 @@ fn begin<R: Registers>(registers: &mut R, command: HostCommand)
 
 // Looks at the interrupt status until the command is over, and tells it; 0 where it still runs.
 fn wait<R: Registers>(registers: &mut R) -> u32
+    requires still { IsStill (R.view registers.old) }
+    requires running { IsRunning (R.view registers.old) }
     ensures { Ends (R.view registers.old) result (R.view registers.new) }
 {
     for _ in 0..LOOKS {
         let bits = registers.read32(INTERRUPTS);
-        if bits % 2 == 1 || bits / 0x8000 % 2 == 1 {
+        if bits % 2 == 1 || bits / 0x1_0000 % 16 != 0 {
             return bits;
         }
-        registers.pause(BETWEEN_LOOKS);
+        pause(registers, BETWEEN_LOOKS);
     }
     0
 }
@@ -143,8 +182,8 @@ fn word<R: Registers>(registers: &mut R, i: u8) -> u32
     registers.read32(RESPONSE + 4 * i)
 }
 
-// Bits 127 to 8 of the register in these words of Response, the lowest first.
-fn register_in(words: [u32; 4]) -> [u8; 15]
+/// Bits 127 to 8 of the register in these words of Response, the lowest word first (section 2.2.7).
+pub fn register_in(words: [u32; 4]) -> [u8; 15]
     ensures { result ≡ bytes_shown words }
 {
     let [lowest, low, high, highest] = words;
@@ -177,24 +216,12 @@ fn hear<R: Registers>(registers: &mut R, response: Response) -> Heard
     }
 }
 
-// Waits until a reset is over.
-fn settle<R: Registers>(registers: &mut R, lines: u8)
-    ensures { Stays (R.view registers.old) (R.view registers.new) }
-{
-    for _ in 0..RESET_LOOKS {
-        if registers.read8(RESET) & lines == 0 {
-            return;
-        }
-        registers.pause(BETWEEN_LOOKS);
-    }
-}
-
 // Resets the command line, by which a command that still runs is lost.
 fn reset_command<R: Registers>(registers: &mut R)
     ensures { ResetsLine (R.view registers.old) (R.view registers.new) }
 {
     registers.write8(RESET, COMMAND_LINE);
-    settle(registers, COMMAND_LINE);
+    settle_reset(registers);
 }
 
 /// Resets the data line, which drops what was read ahead.
@@ -202,7 +229,7 @@ pub fn reset_data<R: Registers>(registers: &mut R)
     ensures { ResetsData (R.view registers.old) (R.view registers.new) }
 {
     registers.write8(RESET, DATA_LINE);
-    settle(registers, DATA_LINE);
+    settle_reset(registers);
 }
 
 // Why no response was heard, by the error interrupts.
@@ -220,7 +247,7 @@ fn fault_in(bits: u32) -> ResponseFault
     }
 }
 
-/// Sends a command while this data is under way, and hears its response. Behind it the controller is at rest, also where the command
+/// Sends a command while this data is under way, and hears its response. After it the controller is at rest, also where the command
 /// failed, and what was read ahead of the data is dropped.
 ///
 /// # Errors
@@ -236,12 +263,13 @@ pub fn send<R: Registers>(
     requires movable { AreMovable command.transfer }
     requires under_way { IsUnderWay (R.view registers.old) under_way }
     requires free { WhereKept (R.view registers.old) (IsFree under_way command) }
+    requires set { IsSet (R.view registers.old) }
     ensures rest { IsAtRest (R.view registers.new) }
     ensures sent { Sends (R.view registers.old) command result (R.view registers.new) }
 {
-    begin(registers, command);
+    begin(registers, under_way, command);
     let bits = wait(registers);
-    if bits % 2 == 0 || bits / 0x8000 % 2 == 1 {
+    if bits % 2 == 0 || bits / 0x1_0000 % 16 != 0 {
         reset_command(registers);
         reset_data(registers);
         return Err(fault_in(bits));

@@ -2,66 +2,16 @@
 ghost use Rattle.std.specs.Prelude.{◌≡◌, length};
 ghost use Rattle.mmc_sdhci.specs.declared.watching.Sought.TheVariants as Sought;
 ghost use Rattle.mmc_sdhci.specs.DataLooks.{came};
-ghost use Rattle.mmc_sdhci.specs.Accesses.{IsAtRest, Stays};
-ghost use Rattle.mmc_sdhci.specs.Moving.{FindsRoom, Finishes, HasCome, HasRoom, IsComing, IsGoing, IsSeeking, Puts};
-ghost use Rattle.mmc_sdhci.specs.Moving.{ReadsBlock, SeesGone, Takes, WhereKept, WritesBlock};
+ghost use Rattle.mmc_sdhci.specs.Accesses.{IsAtRest};
+ghost use Rattle.mmc_sdhci.specs.Moving.{FindsRoom, IsComing, IsGoing, IsSeeking};
+ghost use Rattle.mmc_sdhci.specs.Moving.{ReadsBlock, SeesGone, SeesGood, WritesBlock};
 
-use crate::buffer::Buffer;
-use crate::command::{has_data, reset_data};
-use crate::offsets::{BLOCK_GAP, INTERRUPTS, PORT};
+use crate::command::reset_data;
+use crate::following::{Following, following_of};
 use crate::registers::Registers;
 use crate::watching::{Sought, watch};
 use mmc_card::{DataIn, DataOut};
 use mmc_host::Data;
-
-const ALL: u32 = 0xffff_ffff;
-
-const LOOKS: u32 = 10_000;
-
-const BETWEEN_LOOKS: u32 = 1;
-
-// Takes a block out of the buffer.
-fn take<R: Registers>(registers: &mut R, block: &mut [u8])
-    ensures { Takes (R.view registers.old) block.new (R.view registers.new) }
-{
-    for i in 0..block.len() / 4 {
-        let [a, b, c, d] = registers.read32(PORT).to_le_bytes();
-        block[4 * i] = a;
-        block[4 * i + 1] = b;
-        block[4 * i + 2] = c;
-        block[4 * i + 3] = d;
-    }
-}
-
-// Writes a block to the buffer.
-fn put<R: Registers>(registers: &mut R, block: &[u8; 512])
-    requires { HasRoom (R.view registers.old) }
-    ensures { Puts (R.view registers.old) block.now (R.view registers.new) }
-{
-    for i in 0..128 {
-        let word = [
-            block[4 * i],
-            block[4 * i + 1],
-            block[4 * i + 2],
-            block[4 * i + 3],
-        ];
-        registers.write32(PORT, u32::from_le_bytes(word));
-    }
-}
-
-// Looks until the controller says that all data has come. Where it doesn't, the data line is reset.
-fn finish<R: Registers>(registers: &mut R)
-    requires { WhereKept (R.view registers.old) (HasCome (R.view registers.old)) }
-    ensures { Finishes (R.view registers.old) (R.view registers.new) }
-{
-    for _ in 0..LOOKS {
-        if registers.read32(INTERRUPTS) / 2 % 2 == 1 {
-            return;
-        }
-        registers.pause(BETWEEN_LOOKS);
-    }
-    reset_data(registers);
-}
 
 // Why no good block came, by the error interrupts.
 fn came(bits: u32) -> DataIn
@@ -72,6 +22,22 @@ fn came(bits: u32) -> DataIn
     } else {
         DataIn::Nothing
     }
+}
+
+// Looks until nothing can be wrong any more with the block that was taken. Where something is, the data line is reset.
+fn see_good<R: Registers>(registers: &mut R, following: Following) -> DataIn
+    requires { IsSeeking (Sought.Good following) (R.view registers.old) }
+    ensures { SeesGood (R.view registers.old) result (R.view registers.new) }
+{
+    let Some(seen) = watch(registers, Sought::Good(following)) else {
+        reset_data(registers);
+        return DataIn::Nothing;
+    };
+    if seen.is_error() {
+        reset_data(registers);
+        return came(seen.bits);
+    }
+    DataIn::Good
 }
 
 /// Reads the next block of the data that is under way. A bad one ends the data, and so does none; then the data line is reset.
@@ -89,30 +55,8 @@ pub fn read_block<R: Registers>(registers: &mut R, under_way: Data, block: &mut 
         reset_data(registers);
         return came(seen.bits);
     }
-    take(registers, block);
-    if has_data(under_way.less_one()) {
-        return DataIn::Good;
-    }
-    finish(registers);
-    DataIn::Good
-}
-
-// Has the controller go on, where it has stopped at a block gap.
-fn go_on<R: Registers>(registers: &mut R, buffer: Buffer)
-    ensures { Stays (R.view registers.old) (R.view registers.new) }
-{
-    if buffer == Buffer::SeveralBlocks && registers.read8(BLOCK_GAP) % 2 == 1 {
-        registers.write8(BLOCK_GAP, 2);
-    }
-}
-
-// Has the controller stop behind this block, where that tells when it has gone. It ends behind the last one anyway.
-fn stop_behind<R: Registers>(registers: &mut R, buffer: Buffer, under_way: Data)
-    ensures { Stays (R.view registers.old) (R.view registers.new) }
-{
-    if buffer == Buffer::SeveralBlocks && has_data(under_way.less_one()) {
-        registers.write8(BLOCK_GAP, 1);
-    }
+    registers.read_port(block);
+    see_good(registers, following_of(under_way))
 }
 
 // Looks until there is room for a block. Where there isn't, the data line is reset.
@@ -132,11 +76,11 @@ fn find_room<R: Registers>(registers: &mut R) -> bool
 }
 
 // Looks until the block in the buffer has gone. Where it hasn't, the data line is reset.
-fn see_gone<R: Registers>(registers: &mut R, buffer: Buffer) -> DataOut
-    requires { IsSeeking (Sought.Gone buffer) (R.view registers.old) }
+fn see_gone<R: Registers>(registers: &mut R, following: Following) -> DataOut
+    requires { IsSeeking (Sought.Gone following) (R.view registers.old) }
     ensures { SeesGone (R.view registers.old) result (R.view registers.new) }
 {
-    let Some(seen) = watch(registers, Sought::Gone(buffer)) else {
+    let Some(seen) = watch(registers, Sought::Gone(following)) else {
         reset_data(registers);
         return DataOut::Nothing;
     };
@@ -147,25 +91,17 @@ fn see_gone<R: Registers>(registers: &mut R, buffer: Buffer) -> DataOut
     DataOut::Accepted
 }
 
-/// Writes the next block of the data that is under way. `Accepted` says that the card's status has come; otherwise the data line is
+/// Writes the next block of the data that is under way. `Accepted` says that it has gone without an error; otherwise the data line is
 /// reset, which ends the data.
-pub fn write_block<R: Registers>(
-    registers: &mut R,
-    buffer: Buffer,
-    under_way: Data,
-    block: &[u8; 512],
-) -> DataOut
+pub fn write_block<R: Registers>(registers: &mut R, under_way: Data, block: &[u8; 512]) -> DataOut
     requires rest { IsAtRest (R.view registers.old) }
-    requires going { IsGoing under_way buffer (R.view registers.old) }
+    requires going { IsGoing under_way (R.view registers.old) }
     ensures rest { IsAtRest (R.view registers.new) }
     ensures written { WritesBlock (R.view registers.old) block.now result (R.view registers.new) }
 {
-    go_on(registers, buffer);
     if !find_room(registers) {
         return DataOut::Nothing;
     }
-    registers.write32(INTERRUPTS, ALL);
-    put(registers, block);
-    stop_behind(registers, buffer, under_way);
-    see_gone(registers, buffer)
+    registers.write_port(block);
+    see_gone(registers, following_of(under_way))
 }

@@ -2,18 +2,21 @@
 //! Specification 3.00).
 #![tactic(auto)]
 
-mod buffer;
 mod busy;
 mod clock;
 mod command;
 mod data;
+mod following;
 mod offsets;
 mod registers;
 mod sdhci;
+mod settling;
 mod start;
 mod watching;
 
-pub use buffer::Buffer;
+pub use clock::base_clock;
+pub use command::{has_data, register_in};
+pub use following::{Following, following_of};
 pub use registers::Registers;
 pub use sdhci::Sdhci;
-pub use start::StartFault;
+pub use start::{StartFault, limits_in};

@@ -20,8 +20,6 @@ pub const DATA_LEVELS: u8 = 0x26;
 pub const CONTROL: u8 = 0x28;
 /// Power Control.
 pub const POWER: u8 = 0x29;
-/// Block Gap Control: in bit 0 Stop At Block Gap Request, in bit 1 Continue Request.
-pub const BLOCK_GAP: u8 = 0x2a;
 /// Clock Control, and above it Timeout Control and Software Reset.
 pub const CLOCK: u8 = 0x2c;
 /// Software Reset.

@@ -1,5 +1,8 @@
 ghost use Rattle.mmc_sdhci.specs.Controller.{ControllerView};
-ghost use Rattle.mmc_sdhci.specs.Accesses.{IsAllowed, Reads, Reads8, Stays, Writes, Writes8};
+ghost use Rattle.mmc_sdhci.specs.Accesses.{IsAllowed, IsAllowed8, Passes, Reads, Reads8, Writes, Writes8};
+ghost use Rattle.mmc_sdhci.specs.Moving.{HasRoom, Puts, Takes};
+
+use crate::offsets::PORT;
 
 /// The registers of an SD host controller, by their offsets in bytes. Each access reaches the controller, in order.
 pub trait Registers {
@@ -21,9 +24,40 @@ pub trait Registers {
 
     /// Writes 8 bits.
     fn write8(&mut self, offset: u8, value: u8)
+        requires { IsAllowed8 (view self.old) offset value }
         ensures { Writes8 (view self.old) offset value (view self.new) };
+
+    /// Fills this block, of whole words, from the Buffer Data Port: reads of 32 bits at 20h, the lowest byte first. Who has a faster way
+    /// makes them by one call.
+    fn read_port(&mut self, block: &mut [u8])
+        ensures { Takes (view self.old) block.new (view self.new) }
+    {
+        for i in 0..block.len() / 4 {
+            let [a, b, c, d] = self.read32(PORT).to_le_bytes();
+            block[4 * i] = a;
+            block[4 * i + 1] = b;
+            block[4 * i + 2] = c;
+            block[4 * i + 3] = d;
+        }
+    }
+
+    /// Writes this block to the Buffer Data Port: writes of 32 bits to 20h.
+    fn write_port(&mut self, block: &[u8; 512])
+        requires { HasRoom (view self.old) }
+        ensures { Puts (view self.old) block.now (view self.new) }
+    {
+        for i in 0..128 {
+            let word = [
+                block[4 * i],
+                block[4 * i + 1],
+                block[4 * i + 2],
+                block[4 * i + 3],
+            ];
+            self.write32(PORT, u32::from_le_bytes(word));
+        }
+    }
 
     /// Waits for so many microseconds.
     fn pause(&mut self, micros: u32)
-        ensures { Stays (view self.old) (view self.new) };
+        ensures { Passes (view self.old) micros (view self.new) };
 }

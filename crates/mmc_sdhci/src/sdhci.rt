@@ -3,16 +3,17 @@ ghost use Rattle.mmc_host.specs.HostStates.{lines_of, resting};
 ghost use Rattle.mmc_host.specs.Hosts.{IsUnused};
 ghost use Rattle.mmc_sdhci.specs.Controller.{IsAtMost, Settled, limits_in, lines_in};
 ghost use Rattle.mmc_sdhci.specs.Accesses.{IsAtRest};
-ghost use Rattle.mmc_sdhci.specs.Driver.{IsBaseClock, IsNew, IsSameCard, are_words, clock_limit, host_over, speed_limit};
+ghost use Rattle.mmc_sdhci.specs.Commands.{IsSet};
+ghost use Rattle.mmc_sdhci.specs.Driver.{IsBaseClock, IsNew, IsReady, IsSameCard, are_words, clock_limit, host_over, speed_limit};
 ghost use Rattle.mmc_sdhci.specs.Moving.{WhereKept};
 
-use crate::buffer::Buffer;
 use crate::busy::is_busy;
 use crate::clock::{base_clock, set_clock};
 use crate::command::send;
 use crate::data::{read_block, write_block};
 use crate::offsets::{CAPABILITIES, CONTROL, POWER, PRESENT, VERSION};
 use crate::registers::Registers;
+use crate::settling::pause;
 use crate::start::{StartFault, control_of, has_card, limits_in, restart};
 use mmc_card::{DataIn, DataOut, Lines};
 use mmc_host::{Heard, Host, HostCommand, HostState, Ios, ResponseFault, Work};
@@ -24,7 +25,6 @@ pub struct Sdhci<R: Registers> {
     // what it was told so far
     state: HostState,
     limits: Lines,
-    buffer: Buffer,
     // in MHz
     base: u32,
     version: u8,
@@ -34,7 +34,7 @@ pub struct Sdhci<R: Registers> {
     ghost lines: { WhereKept (R.view registers) (lines_in (R.view registers).settings.control ≡ lines_of state.ios) },
     ghost most: { WhereKept (R.view registers) (limits_in (R.view registers).built.capabilities ≡ limits) },
     ghost clock: { WhereKept (R.view registers) (IsAtMost (clock_limit state.ios) (R.view registers)) },
-    ghost buffers: { WhereKept (R.view registers) ((R.view registers).built.buffer ≡ buffer) },
+    ghost set: { IsSet (R.view registers) },
     ghost base_clock: { IsBaseClock base version (R.view registers) },
     ghost small: { base < 256 },
 }
@@ -53,9 +53,8 @@ impl<R: Registers> Sdhci<R> {
     /// # Errors
     /// `NoVoltage` where the controller has no 3.3 V, `NoBaseClock` where it doesn't say how fast its clock is, `NoCard` where no
     /// card is inserted. The registers are given back.
-    pub fn new(registers: R, buffer: Buffer) -> Result<Sdhci<R>, (R, StartFault)>
+    pub fn new(registers: R) -> Result<Sdhci<R>, (R, StartFault)>
         requires new { IsNew (R.view registers) }
-        requires buffer { WhereKept (R.view registers) ((R.view registers).built.buffer ≡ buffer) }
         ensures same { IfOk result (λ host. Settled (R.view registers)
             (IsSameCard (R.view registers) (R.view host.registers)) (R.view host.registers)) }
         ensures limits { IfOk result (λ host. WhereKept (R.view host.registers)
@@ -79,12 +78,11 @@ impl<R: Registers> Sdhci<R> {
         registers.write8(POWER, POWER_ON);
         registers.write8(CONTROL, 0);
         set_clock(&mut registers, base, version, IDENTIFICATION);
-        registers.pause(POWER_UP);
+        pause(&mut registers, POWER_UP);
         Ok(Sdhci {
             registers,
             state: HostState::new(),
             limits: limits_in(capabilities),
-            buffer,
             base,
             version,
         })
@@ -95,9 +93,8 @@ impl<R: Registers> Sdhci<R> {
     ///
     /// # Errors
     /// `NoBaseClock` where the controller doesn't say how fast its clock is. The registers are given back.
-    pub fn resume(registers: R, buffer: Buffer, lines: Lines) -> Result<Sdhci<R>, (R, StartFault)>
-        requires new { IsNew (R.view registers) }
-        requires buffer { WhereKept (R.view registers) ((R.view registers).built.buffer ≡ buffer) }
+    pub fn resume(registers: R, lines: Lines) -> Result<Sdhci<R>, (R, StartFault)>
+        requires ready { IsReady (R.view registers) }
         requires lines { WhereKept (R.view registers) (lines_in (R.view registers).settings.control ≡ lines) }
         requires clock { WhereKept (R.view registers) (IsAtMost (speed_limit lines.timing) (R.view registers)) }
         ensures same { IfOk result (λ host. Settled (R.view registers)
@@ -115,7 +112,6 @@ impl<R: Registers> Sdhci<R> {
             registers,
             state: HostState::resting(lines),
             limits: limits_in(capabilities),
-            buffer,
             base,
             version,
         })
@@ -142,6 +138,9 @@ impl<R: Registers> Sdhci<R> {
 
 impl<R: Registers> Host for Sdhci<R> {
     ghost view = { λ s. host_over (R.view s.registers) s.state s.limits };
+
+    // What the registers were told binds where they are kept.
+    ghost has_told = { λ _ _. Unit {0} };
 
     fn limits(&self) -> Lines {
         self.limits
@@ -171,7 +170,7 @@ impl<R: Registers> Host for Sdhci<R> {
     }
 
     fn write_block(&mut self, block: &[u8; 512]) -> DataOut {
-        let got = write_block(&mut self.registers, self.buffer, self.state.transfer, block);
+        let got = write_block(&mut self.registers, self.state.transfer, block);
         self.state = self.state.block_passed(got == DataOut::Accepted);
         got
     }
@@ -181,6 +180,6 @@ impl<R: Registers> Host for Sdhci<R> {
     }
 
     fn pause(&mut self, micros: u32) {
-        self.registers.pause(micros);
+        pause(&mut self.registers, micros);
     }
 }

@@ -1,12 +1,13 @@
 // How a controller begins.
-ghost use Rattle.std.specs.Prelude.{◌≡◌};
+ghost use Rattle.std.specs.Prelude.{◌≡◌, bit_and};
 ghost use Rattle.mmc_card.specs.declared.exchange.Width.TheVariants as Width;
 ghost use Rattle.mmc_sdhci.specs.Controller.{limits_in, lines_in};
-ghost use Rattle.mmc_sdhci.specs.Accesses.{Stays};
+ghost use Rattle.mmc_sdhci.specs.Accesses.{IsStill, Stays};
 ghost use Rattle.mmc_sdhci.specs.Driver.{IsNew, Restarts};
 
 use crate::offsets::{PRESENT, RESET, SHOWN_INTERRUPTS, SIGNALS};
 use crate::registers::Registers;
+use crate::settling::{pause, settle_reset};
 use mmc_card::{Lines, Timing, Width};
 use thiserror::Error;
 
@@ -50,7 +51,8 @@ pub fn limits_in(capabilities: u32) -> Lines
 
 /// Host Control 1 for these lines.
 pub fn control_of(lines: Lines) -> u8
-    ensures { lines_in result ≡ lines }
+    ensures lines { lines_in result ≡ lines }
+    ensures alone { bit_and result 0x26 ≡ result }
 {
     let width = match lines.width {
         Width::One => 0,
@@ -64,31 +66,20 @@ pub fn control_of(lines: Lines) -> u8
     width + timing
 }
 
-// Waits until the reset is over.
-fn settle<R: Registers>(registers: &mut R)
-    ensures { Stays (R.view registers.old) (R.view registers.new) }
-{
-    for _ in 0..LOOKS {
-        if registers.read8(RESET) % 2 == 0 {
-            return;
-        }
-        registers.pause(BETWEEN_LOOKS);
-    }
-}
-
 /// Resets the controller, and has it show the interrupts that the driver looks at. None reaches the processor.
 pub fn restart<R: Registers>(registers: &mut R)
     requires { IsNew (R.view registers.old) }
     ensures { Restarts (R.view registers.old) (R.view registers.new) }
 {
     registers.write8(RESET, 1);
-    settle(registers);
+    settle_reset(registers);
     registers.write32(SHOWN_INTERRUPTS, SHOWN);
     registers.write32(SIGNALS, 0);
 }
 
 /// Whether a card is inserted, once the controller is sure of it, or after 100 ms.
 pub fn has_card<R: Registers>(registers: &mut R) -> bool
+    requires { IsStill (R.view registers.old) }
     ensures { Stays (R.view registers.old) (R.view registers.new) }
 {
     for _ in 0..LOOKS {
@@ -96,7 +87,7 @@ pub fn has_card<R: Registers>(registers: &mut R) -> bool
         if state / 0x2_0000 % 2 == 1 {
             return state / 0x1_0000 % 2 == 1;
         }
-        registers.pause(BETWEEN_LOOKS);
+        pause(registers, BETWEEN_LOOKS);
     }
     false
 }

@@ -1,10 +1,12 @@
 // Looks at the buffer and at the interrupts, while data is under way.
 ghost use Rattle.std.specs.Prelude.{◌≡◌, ◌||◌};
+ghost use Rattle.mmc_sdhci.specs.DataLooks.{is_gone_by, is_good_by};
 ghost use Rattle.mmc_sdhci.specs.Moving.{Glances, IsSeeking, Watches, is_error, is_found};
 
-use crate::buffer::Buffer;
+use crate::following::Following;
 use crate::offsets::{BUFFERS, INTERRUPTS};
 use crate::registers::Registers;
+use crate::settling::pause;
 
 // 100 ms for a block of a read, half a second for one of a write.
 const LOOKS_FOR_A_BLOCK: u32 = 100_000;
@@ -18,10 +20,12 @@ const BETWEEN_LOOKS: u32 = 1;
 pub enum Sought {
     /// A block in the buffer.
     Block,
+    /// That nothing can be wrong any more with the one that was taken.
+    Good(Following),
     /// Room for one.
     Room,
     /// That the block in the buffer has gone.
-    Gone(Buffer),
+    Gone(Following),
 }
 
 /// What a look showed.
@@ -42,6 +46,29 @@ impl Glance {
     }
 }
 
+impl Following {
+    // Whether this shows that nothing can be wrong any more with a block that was taken.
+    fn is_good(self, seen: Glance) -> bool
+        ensures { result ≡ is_good_by self seen.is_ready seen.bits }
+    {
+        match self {
+            Following::End => seen.bits / 2 % 2 == 1,
+            Following::Another => seen.is_ready,
+            Following::Unknown => true,
+        }
+    }
+
+    // Whether this shows that the block in the buffer has gone.
+    fn is_gone(self, seen: Glance) -> bool
+        ensures { result ≡ is_gone_by self seen.is_ready seen.bits }
+    {
+        match self {
+            Following::End => seen.bits / 2 % 2 == 1,
+            Following::Another | Following::Unknown => seen.is_ready,
+        }
+    }
+}
+
 impl Sought {
     /// Whether this shows it.
     pub fn is_found(self, seen: Glance) -> bool
@@ -49,8 +76,8 @@ impl Sought {
     {
         match self {
             Sought::Block | Sought::Room => seen.is_ready,
-            Sought::Gone(Buffer::OneBlock) => seen.bits / 2 % 2 == 1 || seen.is_ready,
-            Sought::Gone(Buffer::SeveralBlocks) => seen.bits / 2 % 2 == 1,
+            Sought::Good(following) => following.is_good(seen),
+            Sought::Gone(following) => following.is_gone(seen),
         }
     }
 
@@ -63,7 +90,7 @@ impl Sought {
 
     fn looks(self) -> u32 {
         match self {
-            Sought::Block => LOOKS_FOR_A_BLOCK,
+            Sought::Block | Sought::Good(_) => LOOKS_FOR_A_BLOCK,
             Sought::Room | Sought::Gone(_) => LOOKS_FOR_A_WRITE,
         }
     }
@@ -75,7 +102,7 @@ fn look<R: Registers>(registers: &mut R, sought: Sought) -> Glance
 {
     let buffers = registers.read8(BUFFERS);
     let is_ready = match sought {
-        Sought::Block => buffers / 8 % 2 == 1,
+        Sought::Block | Sought::Good(_) => buffers / 8 % 2 == 1,
         Sought::Room | Sought::Gone(_) => buffers / 4 % 2 == 1,
     };
     Glance {
@@ -94,7 +121,7 @@ pub fn watch<R: Registers>(registers: &mut R, sought: Sought) -> Option<Glance>
         if sought.is_over(seen) {
             return Some(seen);
         }
-        registers.pause(BETWEEN_LOOKS);
+        pause(registers, BETWEEN_LOOKS);
     }
     None
 }

@@ -3,6 +3,7 @@ use Rattle.std.specs.Prelude.{Bool, List, Result, ℕ}
 use Rattle.mmc_card.specs.declared.exchange.DataIn.{DataIn}
 use Rattle.mmc_card.specs.declared.exchange.DataOut.{DataOut}
 use Rattle.mmc_card.specs.declared.exchange.Lines.{Lines}
+use Rattle.mmc_bus.specs.declared.moved.Moved.{Moved}
 use Rattle.mmc_host.specs.declared.told.Heard.{Heard}
 use Rattle.mmc_host.specs.declared.told.HostCommand.{HostCommand}
 use Rattle.mmc_host.specs.declared.told.HostState.{HostState}
@@ -17,6 +18,10 @@ pub data Event : Type 0 where
   Written : List ℕ → DataOut → Event
   -- the card was looked at: busy or not
   Looked : Bool → Event
+  -- this command was sent with places for the blocks after it; this was heard, this was moved, and the places hold these blocks
+  ReadWith : HostCommand → Result Heard ResponseFault → Moved DataIn → List (List ℕ) → Event
+  -- this command was sent with these blocks to go after it; this was heard, and this was moved
+  WrittenWith : HostCommand → Result Heard ResponseFault → List (List ℕ) → Moved DataOut → Event
 
 pub record Entry : Type 0 where
   -- what the host had been told before, its lines among it

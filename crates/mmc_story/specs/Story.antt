@@ -10,7 +10,8 @@ use Rattle.mmc_bus.specs.Exchanges.{Kept}
 use Rattle.mmc_host.specs.Hosts.{Answers, HostView, answer_heard, bus_of}
 use Rattle.mmc_host.specs.declared.told.HostState.{HostState}
 use Rattle.mmc_story.specs.Entry.{Entry, Event}
-use Rattle.mmc_story.specs.Entry.Event.{Looked, Read, Sent, Written}
+use Rattle.mmc_story.specs.Entry.Event.{Looked, Read, ReadWith, Sent, Written, WrittenWith}
+use Rattle.mmc_story.specs.Transfers.{ReadsTogether, WritesTogether}
 
 -- What became of a card.
 pub record Outcome : Type 0 where
@@ -43,8 +44,10 @@ Allows old (Sent command heard) new =
 Allows old (Read size got block) new = ReadStep old size got block new
 Allows old (Written block got) new = WriteStep old block got new
 Allows old (Looked is_busy) new = PollStep old is_busy new
+Allows old (ReadWith command heard moved blocks) new = ReadsTogether old command heard moved blocks new
+Allows old (WrittenWith command heard blocks moved) new = WritesTogether old command heard blocks moved new
 
--- An entry is one step of the card.
+-- An entry is one step of the card, or those of the exchanges of one call.
 abbrev pub IsStep : Outcome → Entry → Outcome → Type 0
 IsStep old entry new =
     Kept (bus_at old entry) (Allows (bus_at old entry) entry.event (bus_at new entry)) (bus_at new entry)
@@ -53,7 +56,7 @@ IsStep old entry new =
 pub record Story : Type 0 where
   -- what became of the card after these entries, the last one first
   pub outcome : List Entry → Outcome
-  -- where controller and card have conformed, each entry is a step
+  -- where controller and card have conformed, each entry is explained so
   pub explains : (entry : Entry) (past : List Entry) → (outcome (entry ∷ past)).conformed ≡ true
       → IsStep (outcome past) entry (outcome (entry ∷ past))
 

@@ -1,8 +1,9 @@
 // What a host did. It exists only in proofs: a diary has no bytes, and its functions do nothing at run time.
-ghost use Rattle.std.specs.Prelude.{◌≡◌, ◌∷◌, [], List};
+ghost use Rattle.std.specs.Prelude.{◌≡◌, ◌∷◌, ◌++◌, [], List, ℕ};
 ghost use Rattle.std.specs.Borrow.{ftrue};
 ghost use Rattle.mmc_story.specs.Entry.{Entry};
 
+use mmc_bus::{Blocks, Moved};
 use mmc_card::{DataIn, DataOut, Lines};
 use mmc_host::{Heard, HostCommand, HostState, ResponseFault};
 use std::marker::Model;
@@ -16,6 +17,45 @@ pub struct Diary {
 
 impl Model for Diary {
     ghost also_owns = { λ _. ftrue };
+}
+
+/// Blocks, as proofs see them. It has no bytes.
+#[derive(Drop)]
+pub struct Seen {
+    // their bytes
+    pub ghost blocks: { List (List ℕ) },
+}
+
+impl Model for Seen {
+    ghost also_owns = { λ _. ftrue };
+}
+
+impl Seen {
+    /// These blocks.
+    pub fn of<D: Blocks>(blocks: &D) -> Seen
+        ensures { result.blocks ≡ D.blocks blocks.now }
+    {
+        let mut seen = Seen::nothing();
+        for done in 0..blocks.len() {
+            seen = seen.and(blocks.block(done));
+        }
+        seen
+    }
+
+    // No block.
+    fn nothing() -> Seen
+        ensures { result.blocks ≡ [] }
+    {
+        Seen {}
+    }
+
+    // One block more.
+    #[inline(always)]
+    fn and(&self, _block: &[u8; 512]) -> Seen
+        ensures { result.blocks ≡ self.now.blocks ++ (_block.now ∷ []) }
+    {
+        Seen {}
+    }
 }
 
 /// A call of a host, with its answer.
@@ -48,6 +88,28 @@ pub enum Call<'a> {
     Look {
         /// Whether it was busy.
         is_busy: bool,
+    },
+    /// A command was sent with places for the blocks after it.
+    ReadWith {
+        /// The command.
+        command: HostCommand,
+        /// What was heard.
+        heard: Result<Heard, ResponseFault>,
+        /// What was moved.
+        moved: Moved<DataIn>,
+        /// What the places hold.
+        places: &'a Seen,
+    },
+    /// A command was sent with blocks to go after it.
+    WriteWith {
+        /// The command.
+        command: HostCommand,
+        /// What was heard.
+        heard: Result<Heard, ResponseFault>,
+        /// The blocks, whether they went or not.
+        offered: &'a Seen,
+        /// What was moved.
+        moved: Moved<DataOut>,
     },
 }
 

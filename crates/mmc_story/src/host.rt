@@ -1,8 +1,9 @@
 ghost use Rattle.std.specs.Prelude.{◌≡◌, ◌∷◌, [], false, true};
-ghost use Rattle.mmc_host.specs.HostStates.{begun};
+ghost use Rattle.mmc_host.specs.HostStates.{begun, resting};
 
-use crate::diary::{Call, Diary, Note};
+use crate::diary::{Call, Diary, Note, Seen};
 use crate::story::HasStory;
+use mmc_bus::{Blocks, BlocksMut, Moved};
 use mmc_card::{DataIn, DataOut, Lines};
 use mmc_host::{Heard, Host, HostBus, HostCommand, HostState, Ios, ResponseFault, Work};
 use std::marker::PhantomData;
@@ -47,6 +48,24 @@ impl<H: Host, S: HasStory> StoryHost<H, S> {
         }
     }
 
+    /// The same over a driver that is between two commands to a card that is selected, on these lines. The diary begins anew: its
+    /// story is that of one call.
+    pub fn resume(host: H, lines: Lines) -> StoryHost<H, S>
+        requires { (H.view host).is_kept ≡ false }
+        ensures host { result.host ≡ host }
+        ensures past { result.diary.past ≡ [] }
+        ensures state { result.state ≡ resting lines }
+    {
+        let limits = host.limits();
+        StoryHost {
+            host,
+            state: HostState::resting(lines),
+            limits,
+            diary: Diary::new(),
+            of: PhantomData,
+        }
+    }
+
     /// The driver.
     pub fn host(&self) -> &H
         ensures { result.now ≡ self.now.host }
@@ -77,6 +96,9 @@ impl<H: Host, S: HasStory> Host for StoryHost<H, S> {
 
     ghost view = { λ s. host_with (S.story.outcome s.diary.past) s.state s.limits };
 
+    // The driver has told its controller so.
+    ghost has_told = { λ s ios. H.has_told s.host ios };
+
     fn limits(&self) -> Lines {
         self.limits
     }
@@ -91,6 +113,40 @@ impl<H: Host, S: HasStory> Host for StoryHost<H, S> {
         self.note(Call::Send { command, heard });
         self.state = self.state.sent(command, heard.is_ok());
         heard
+    }
+
+    fn read_with<D: BlocksMut>(
+        &mut self,
+        command: HostCommand,
+        blocks: &mut D,
+    ) -> (Result<Heard, ResponseFault>, Moved<DataIn>) {
+        let (heard, came) = self.host.read_with(command, blocks);
+        let places = &Seen::of(blocks);
+        self.note(Call::ReadWith {
+            command,
+            heard,
+            moved: came,
+            places,
+        });
+        self.state = self.state.sent(command, heard.is_ok()).blocks_passed(came);
+        (heard, came)
+    }
+
+    fn write_with<D: Blocks>(
+        &mut self,
+        command: HostCommand,
+        blocks: &D,
+    ) -> (Result<Heard, ResponseFault>, Moved<DataOut>) {
+        let (heard, went) = self.host.write_with(command, blocks);
+        let offered = &Seen::of(blocks);
+        self.note(Call::WriteWith {
+            command,
+            heard,
+            offered,
+            moved: went,
+        });
+        self.state = self.state.sent(command, heard.is_ok()).blocks_passed(went);
+        (heard, went)
     }
 
     fn read_block(&mut self, block: &mut [u8]) -> DataIn {

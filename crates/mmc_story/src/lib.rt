@@ -10,6 +10,6 @@ mod host;
 pub mod laws;
 mod story;
 
-pub use diary::{Call, Diary, Note};
+pub use diary::{Call, Diary, Note, Seen};
 pub use host::{StoryBus, StoryHost};
 pub use story::HasStory;

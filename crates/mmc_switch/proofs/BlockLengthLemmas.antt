@@ -6,7 +6,7 @@ use Rattle.mmc_frame.specs.declared.card_state.State.TheVariants.{Tran}
 use Rattle.mmc_frame.specs.declared.kind.Kind.{Kind}
 use Rattle.mmc_card.specs.BusView.{BusView}
 use Rattle.mmc_card.specs.Card.{Card, IsCard, is_writing}
-use Rattle.mmc_card.specs.CardAnswer.{shown, status}
+use Rattle.mmc_card.specs.CardAnswer.{shown}
 use Rattle.mmc_card.specs.CardLaws.{HasNoError}
 use Rattle.mmc_card.specs.Laws.{erased_by}
 use Rattle.mmc_card.specs.Rows.{without_addresses}
@@ -22,6 +22,7 @@ use Rattle.mmc_bus.specs.declared.host.Unheard.{Unheard}
 use Rattle.mmc_identify.specs.Stages.{IsLeft}
 use Rattle.mmc_switch.proofs.RestLemmas.{nothing_dropped}
 use Rattle.mmc_switch.specs.Stages.{IsSet, first_lines, first_setting}
+use Rattle.mmc_card.specs.Judged.{Shows}
 
 -- the card after it, as widening finds it
 set_after : (rca : ℕ) (old new : BusView) → IsCard old.card → IsLeft rca old.card → old.lines ≡ first_lines
@@ -49,9 +50,9 @@ set_after rca old new card left first lines e =
 pub length_set : (kind : Kind) (heard : Result ℕ Unheard) (r : Result Unit Cause) (old new : BusView)
     → erased_by old.card (Some (16, 512)) ≡ None → new.lines ≡ old.lines
     → Kept old (CommandFacts (response_of 16) old 16 512 heard new) new
-    → Does (old.card.state ≡ Tran) (λ card. status false (without_addresses card))
+    → Does (old.card.state ≡ Tran) (λ card. Shows (without_addresses card))
     (record (shown (forgotten old.card)) { block_length = 512 }) old heard new
-    → ((error_bits kind (status false old.card) ≡ 0) ↔ HasNoError kind old.card)
+    → ((told : ℕ) → Shows old.card told → ((error_bits kind told ≡ 0) ↔ HasNoError kind old.card))
     → (IsOk r → (told : ℕ) × (heard ≡ Ok told) × (error_bits kind (own_status told) ≡ 0))
     → ((told : ℕ) → heard ≡ Ok told → error_bits kind told ≡ 0 → IsOk r)
     → Moved (λ old new. (rca : ℕ) → IsLeft rca old.card → old.lines ≡ first_lines → IsOk r
@@ -65,8 +66,9 @@ length_set kind heard r old new none lines k does clean ok all =
     (λ same rca left.
     let is = left.selected in
     let plain = nothing_dropped old.card is.erase in
-    all (status false old.card) ((does.fine same is.state).0 ∙ ap (λ card. Ok (status false card)) plain)
-    (clean.1 (record {
+    let told = (does.fine same is.state).0 in
+    all told.0 told.1
+    ((clean told.0 (subst (λ (c : Card). Shows c told.0) plain told.2)).1 (record {
       command_errors = is.command_errors;
       errors = is.errors;
       switch_error = λ mmc. is.switch_error;

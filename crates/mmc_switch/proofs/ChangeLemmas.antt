@@ -88,7 +88,7 @@ module _ (change : Change) (a b : Card) (rest_a : Same (holds a) (known a)) (res
 
 -- Turns one behind the other.
 
-within_twice : (change : Change) (a b c : Sets) → Within b (maybe_changed change a) → Within c (maybe_changed change b)
+pub within_twice : (change : Change) (a b c : Sets) → Within b (maybe_changed change a) → Within c (maybe_changed change b)
     → Within c (maybe_changed change a)
 within_twice change a b c first second part s v h =
     elim (in_cond (touches change part s) (value_of change s) (b part s) v (second part s v h)) [

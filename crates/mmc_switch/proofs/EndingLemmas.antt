@@ -7,13 +7,14 @@ use Rattle.mmc_frame.specs.declared.card_state.State.TheVariants.{Prg}
 use Rattle.mmc_card.proofs.Conditions.{by_cond}
 use Rattle.mmc_card.specs.Blocks.{programmed, rested, waited}
 use Rattle.mmc_card.specs.BusView.{BusView}
-use Rattle.mmc_card.specs.Card.{Card, FitsPart, holds, is_in, is_selected, known, unfinished}
+use Rattle.mmc_card.specs.Card.{Card, FitsPart, holds, is_in, is_selected, known, patience, unfinished}
 use Rattle.mmc_card.specs.CardAnswer.{shown}
 use Rattle.mmc_card.specs.CardLaws.{IsInOrder}
 use Rattle.mmc_card.specs.Faults.{NoFault}
 use Rattle.mmc_card.specs.Laws.{Setting}
 use Rattle.mmc_card.specs.Sectors.{Change, IsIn as IsOneOf, Same, Sector, Sets, Within, changed, touches, value_of}
 use Rattle.mmc_card.specs.declared.exchange.Exchange.TheVariants.{Busy}
+use Rattle.mmc_bus.specs.Together.{OneOf}
 use Rattle.mmc_bus.specs.Exchanges.{Exchanged}
 use Rattle.mmc_bus.specs.Closings.{ClosesSoon, CountsOn, HasShown}
 use Rattle.mmc_bus.specs.Learned.{PollFacts}
@@ -23,8 +24,7 @@ use Rattle.mmc_bus.specs.declared.status.Closing.TheVariants.{AtWork, Clean}
 use Rattle.mmc_bus.specs.declared.wait.TheConstants.{MAX_POLLS}
 use Rattle.mmc_bus.proofs.WorkLemmas.{done_by}
 use Rattle.mmc_switch.proofs.TurnLemmas.{no_more, turn_fails, turn_goes_on}
-use Rattle.mmc_switch.proofs.UnderWayLemmas.{knows_then, part_in, quiet_by, ready_again, set_in}
-use Rattle.mmc_switch.proofs.UnderWayLemmas.{stands_then}
+use Rattle.mmc_switch.proofs.UnderWayLemmas.{knows_then, part_in, quiet_by, ready_again, set_in, stands_then}
 use Rattle.mmc_switch.specs.Ending.{Confirms, EndingDid, FailsAt, IsEnding, LagsAfter, Polls, ShownIn}
 use Rattle.mmc_switch.specs.Place.{IsReady}
 use Rattle.mmc_switch.specs.Turns.{LeftIn}
@@ -41,6 +41,14 @@ polls_by a b polled kept =
     done_by a b k k.step.stays (record { lines = polled.lines; stands = k.step.stands }) k.step.narrows k.step
     (λ same. tt)
 
+-- the same of one of several exchanges
+pub one_polls_by : {said : Bool} (a b : BusView) → OneOf a (Busy said) (PollFacts a said b) b → b.is_kept ≡ true
+    → Polls said a b
+one_polls_by a b polled kept =
+    let k = polled.kept kept in
+    done_by a b k k.step.stays (record { lines = polled.lines; stands = k.step.stands }) k.step.narrows k.step
+    (λ same. tt)
+
 -- what a card holds once programming has ended
 abbrev pub ProgramLaw : Type 0
 ProgramLaw = (card : Card) → card.state ≡ Prg → FitsPart card
@@ -48,8 +56,8 @@ ProgramLaw = (card : Card) → card.state ≡ Prg → FitsPart card
 
 -- A card that says yes.
 
-polled_more : (polled polls : ℕ) → (polled < 8 → polled ≡ polls) → min (polled + 1) 8 < 8
-    → min (polled + 1) 8 ≡ polls + 1
+polled_more : (polled polls : ℕ) → (polled < patience → polled ≡ polls) → min (polled + 1) patience < patience
+    → min (polled + 1) patience ≡ polls + 1
 polled_more polled polls was below = let same = was (omega (arith, below)) in omega (arith, below, same)
 
 pub busy_still : (polls : ℕ) (card : Card) → IsBusyAfter polls card → IsBusyAfter (polls + 1) (waited card)

@@ -13,12 +13,12 @@ use Rattle.mmc_card.specs.declared.exchange.Timing.{Timing}
 use Rattle.mmc_card.specs.Blocks.{can_send, lines_fit, next_block, sent}
 use Rattle.mmc_card.specs.BusView.{BusView}
 use Rattle.mmc_card.specs.Card.{Card, FromSectors, IsCard}
-use Rattle.mmc_card.specs.CardAnswer.{Choice, status}
+use Rattle.mmc_card.specs.CardAnswer.{Choice}
 use Rattle.mmc_card.specs.Faults.{NoFault}
 use Rattle.mmc_card.specs.Laws.{Setting, erased_by, setting_of}
 use Rattle.mmc_card.specs.Rows.{without_addresses}
 use Rattle.mmc_card.specs.RowsErase.{forgotten}
-use Rattle.mmc_card.specs.RowsSwitch.{ext_csd_now, timing_number, width_number}
+use Rattle.mmc_card.specs.RowsSwitch.{IsExtCsdOf, ext_csd_now, timing_number, width_number}
 use Rattle.mmc_card.specs.RowsTransfer.{sending}
 use Rattle.mmc_bus.specs.CommandLaws.{Does}
 use Rattle.mmc_bus.specs.Heard.{response_heard, response_of}
@@ -29,6 +29,7 @@ use Rattle.mmc_bus.specs.Work.{Moved, Narrows, Worked}
 use Rattle.mmc_bus.proofs.WorkLemmas.{moved_as, moved_by, moved_then, quiet_parts, refuted}
 use Rattle.mmc_switch.specs.Stages.{IsAtRest, IsSet, IsSetOver, lines_of}
 use Rattle.mmc_switch.proofs.RestLemmas.{ErrorsLaw, answers_well, carried_out, set_as}
+use Rattle.mmc_card.specs.Judged.{Shows}
 
 -- the host's lines stay, and the card is to send these bytes
 abbrev pub IsSending : List ℕ → Timing → BusView → BusView → Type 0
@@ -41,24 +42,24 @@ Commands Asks IsThere bytes timing r a b =
     Moved (λ old new. Asks → IsOk r → IsSending bytes timing a b)
     (λ old new. (is_app : Bool) → Asks → IsThere → IsAtRest is_app a.card → IsOk r) a b
 
-pub commanded : {Asks IsThere : Type 0} (kind : Kind) (app : Bool) (bytes : List ℕ) (timing : Timing) (a : BusView)
+pub commanded : {Asks IsThere : Type 0} (kind : Kind) (bytes : List ℕ) (timing : Timing) (a : BusView)
     (index argument : ℕ) (heard : Result ℕ Unheard) (b : BusView) (r : Result Unit Cause)
     → Asked (response_heard index) (response_of index) a index argument heard b → b.is_kept ≡ true
     → erased_by a.card (Some (index, argument)) ≡ None → ErrorsLaw
     → (IsOk r → (told : ℕ) × (heard ≡ Ok told) × (error_bits kind (own_status told) ≡ 0))
     → ((told : ℕ) → heard ≡ Ok told → error_bits kind told ≡ 0 → IsOk r)
-    → (Asks → Does IsThere (λ card. status app (without_addresses card)) (sending bytes timing (forgotten a.card)) a heard b)
+    → (Asks → Does IsThere (λ card. Shows (without_addresses card)) (sending bytes timing (forgotten a.card)) a heard b)
     → Commands Asks IsThere bytes timing r a b
-commanded kind app bytes timing a index argument heard b r asked kept none errors judged judges law =
+commanded kind bytes timing a index argument heard b r asked kept none errors judged judges law =
     let k = asked.exchanged.kept kept in
     let after = sending bytes timing (forgotten a.card) in
     moved_by a index argument heard b none k
     (λ asks ok. (
       asked.exchanged.lines,
-      (carried_out kind (λ card. status app (without_addresses card)) after a heard b r judged (law asks) ok).1,
+      (carried_out kind (λ card. Shows (without_addresses card)) after a heard b r judged (law asks) ok).1,
     ))
     (λ same is_app asks there rest.
-    answers_well kind app is_app after a heard b r errors k.was_card judges (law asks) same rest there)
+    answers_well kind is_app after a heard b r errors k.was_card judges (law asks) same rest there)
 
 -- The block.
 
@@ -162,15 +163,23 @@ abbrev pub SendsExtCsd : Result (List ℕ) Cause → BusView → BusView → Typ
 SendsExtCsd r a b =
     Moved
     (λ old new. (setting : Setting) → old.card.made.kind ≡ Mmc → IsSet false setting old
-    → IfOk r (λ block. (block ≡ ext_csd_now old.card) × IsSet false setting new))
+    → IfOk r (λ block. IsExtCsdOf old.card block × IsSet false setting new))
     (λ old new. (setting : Setting) → old.card.made.kind ≡ Mmc → IsSet false setting old → IsOk r) a b
 
 pub ext_csd_length : (card : Card) → length card.made.ext_csd ≡ 512 → length (ext_csd_now card) ≡ 512
 ext_csd_length card long = simp length-set long
 
-pub ext_csd_sent : (r : Result (List ℕ) Cause) (a b : BusView)
-    → Fetches (a.card.made.kind ≡ Mmc) (Unit {0}) false (ext_csd_now a.card) a.card.timing (λ bytes. bytes) r a b
+-- what was sent, where something was
+sent_is : (card : Card) (bytes : List ℕ) (r : Result (List ℕ) Cause) (P : Type 0)
+    → (IsOk r → IsExtCsdOf card bytes) → IfOk r (λ x. (x ≡ bytes) × P) → IfOk r (λ x. IsExtCsdOf card x × P)
+sent_is card bytes (Ok x) P is p = (subst (IsExtCsdOf card) (sym p.0) (is refl), p.1)
+sent_is card bytes (Err cause) P is p = tt
+
+pub ext_csd_sent : (bytes : List ℕ) (r : Result (List ℕ) Cause) (a b : BusView)
+    → (a.card.made.kind ≡ Mmc → IsOk r → IsExtCsdOf a.card bytes)
+    → Fetches (a.card.made.kind ≡ Mmc) (Unit {0}) false bytes a.card.timing (λ bytes. bytes) r a b
     → SendsExtCsd r a b
-ext_csd_sent r a b p =
-    moved_as a b p (λ setting mmc set. p.own setting setting mmc set set.is_set)
+ext_csd_sent bytes r a b is p =
+    moved_as a b p
+    (λ setting mmc set. sent_is a.card bytes r (IsSet false setting b) (is mmc) (p.own setting setting mmc set set.is_set))
     (λ same setting mmc set. p.fine same setting mmc tt set)

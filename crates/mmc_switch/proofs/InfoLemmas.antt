@@ -1,7 +1,7 @@
 -- What the registers of a card come to.
 use Rattle.std.proofs.Common.{◌+◌, ◌<◌, ◌∙◌, ◌≡◌, ◌≢◌, ◌≤◌, ◌↔◌, Bool, List, ap, arith, cond, false, refl, subst, suc}
 use Rattle.std.proofs.Common.{sym, true, ℕ}
-use Rattle.std.proofs.lemmas.Bool.{leb-true}
+use Rattle.std.proofs.lemmas.Bool.{le-leb, leb-true}
 use Rattle.std.proofs.lemmas.Bool.Decides.{nat_tests}
 use Rattle.std.proofs.lemmas.List.{get_or-set_other}
 use Rattle.std.specs.Prelude.{◌&&◌, ◌*◌, ◌-◌, ◌==◌, Err, IsTrue, Ok, Result, if◌then◌else◌, nat_le, slice_index}
@@ -23,7 +23,7 @@ use Rattle.mmc_card.specs.Card.{Card}
 use Rattle.mmc_card.specs.Made.{HasRegisters, Made, addressing_of, csd_number_of, erase_unit_of_card}
 use Rattle.mmc_card.specs.Made.{erased_byte_of_card, has_sector_addresses, is_mmc, is_sd, mmc_sectors, or_none}
 use Rattle.mmc_card.specs.Made.{sd_sectors, sectors_in, user_sectors}
-use Rattle.mmc_card.specs.RowsSwitch.{ext_csd_now, partition_config_for, timing_number, width_number}
+use Rattle.mmc_card.specs.RowsSwitch.{IsExtCsdOf, ext_csd_now, is_read, partition_config_for, timing_number, width_number}
 use Rattle.mmc_card.specs.declared.part.Part.{Part}
 use Rattle.mmc_card.specs.declared.part.Part.TheVariants.{Boot1, Boot2, Gp1, Gp2, Gp3, Gp4, User}
 use Rattle.mmc_switch.specs.Info.{has_high_timing, trims_of}
@@ -152,12 +152,17 @@ same_count : (xs ys : List ℕ) → slice_index xs 212 ≡ slice_index ys 212 �
     → slice_index xs 214 ≡ slice_index ys 214 → slice_index xs 215 ≡ slice_index ys 215 → sec_count xs ≡ sec_count ys
 same_count xs ys a b c d = rw (a, b, c, d) refl
 
-pub count_kept : (card : Card) → sec_count (ext_csd_now card) ≡ sec_count card.made.ext_csd
-count_kept card =
-    let at = λ (k : ℕ) (above : 211 < k).
-    byte_kept card k (omega arith) (omega arith) (omega arith) (omega arith) in
-    same_count (ext_csd_now card) card.made.ext_csd (at 212 (omega arith)) (at 213 (omega arith)) (at 214 (omega arith))
-    (at 215 (omega arith))
+-- a byte that is read, of a block that says so, and that no switch writes
+pub byte_told : (card : Card) (block : List ℕ) (k : ℕ) → IsExtCsdOf card block → is_read k ≡ true → k ≢ 175 → k ≢ 179
+    → k ≢ 183 → k ≢ 185 → slice_index block k ≡ slice_index card.made.ext_csd k
+byte_told card block k told read a b c d = told.read k read ∙ byte_kept card k a b c d
+
+pub count_kept : (card : Card) (block : List ℕ) → IsExtCsdOf card block → sec_count block ≡ sec_count card.made.ext_csd
+count_kept card block told =
+    let at = λ (k : ℕ) (above : 211 < k) (read : is_read k ≡ true).
+    byte_told card block k told read (omega arith) (omega arith) (omega arith) (omega arith) in
+    same_count block card.made.ext_csd (at 212 (omega arith) refl) (at 213 (omega arith) refl) (at 214 (omega arith) refl)
+    (at 215 (omega arith) refl)
 
 same_mult : (i : ℕ) (xs ys : List ℕ) → let p = 143 + 3 * (i - 1) in slice_index xs p ≡ slice_index ys p
     → slice_index xs (suc p) ≡ slice_index ys (suc p)
@@ -169,17 +174,22 @@ same_gp : (i : ℕ) (xs ys : List ℕ) → slice_index xs 155 ≡ slice_index ys
     → gp_sectors i xs ≡ gp_sectors i ys
 same_gp i xs ys a b c d = rw (a, b, c, d) refl
 
-gp_kept : (card : Card) (i : ℕ) → 1 ≤ i → i ≤ 4 → gp_sectors i (ext_csd_now card) ≡ gp_sectors i card.made.ext_csd
-gp_kept card i first last =
-    let low = λ (k : ℕ) (below : k < 175).
-    byte_kept card k (omega arith) (omega arith) (omega arith) (omega arith) in
-    let high = λ (k : ℕ) (above : 211 < k).
-    byte_kept card k (omega arith) (omega arith) (omega arith) (omega arith) in
+-- GP_SIZE_MULT is read
+mult_read : (k : ℕ) → 143 ≤ k → k ≤ 155 → is_read k ≡ true
+mult_read k low high = rw (le-leb 143 k low, le-leb k 155 high) refl
+
+gp_kept : (card : Card) (block : List ℕ) (i : ℕ) → IsExtCsdOf card block → 1 ≤ i → i ≤ 4
+    → gp_sectors i block ≡ gp_sectors i card.made.ext_csd
+gp_kept card block i told first last =
+    let low = λ (k : ℕ) (above : 143 ≤ k) (below : k ≤ 155).
+    byte_told card block k told (mult_read k above below) (omega arith) (omega arith) (omega arith) (omega arith) in
+    let high = λ (k : ℕ) (above : 211 < k) (read : is_read k ≡ true).
+    byte_told card block k told read (omega arith) (omega arith) (omega arith) (omega arith) in
     let p = 143 + 3 * (i - 1) in
-    same_gp i (ext_csd_now card) card.made.ext_csd (low 155 (omega arith))
-    (same_mult i (ext_csd_now card) card.made.ext_csd (low p (omega arith)) (low (suc p) (omega arith))
-    (low (suc (suc p)) (omega arith)))
-    (high 221 (omega arith)) (high 224 (omega arith))
+    same_gp i block card.made.ext_csd (low 155 (omega arith) (omega arith))
+    (same_mult i block card.made.ext_csd (low p (omega arith) (omega arith)) (low (suc p) (omega arith) (omega arith))
+    (low (suc (suc p)) (omega arith) (omega arith)))
+    (high 221 (omega arith) refl) (high 224 (omega arith) refl)
 
 -- An eMMC device.
 
@@ -212,68 +222,67 @@ exists_twice : (size : ℕ) (addressing : Addressing)
     → existing_sectors (existing_sectors size addressing) addressing ≡ existing_sectors size addressing
 exists_twice size addressing = twice_by size (addressable_sectors addressing) _ refl
 
-mmc_gp : (card : Card) (i : ℕ) (addressing : Addressing) → 1 ≤ i → i ≤ 4
-    → existing_sectors (gp_sectors i (ext_csd_now card)) addressing
+mmc_gp : (card : Card) (block : List ℕ) (i : ℕ) (addressing : Addressing) → IsExtCsdOf card block → 1 ≤ i → i ≤ 4
+    → existing_sectors (gp_sectors i block) addressing
     ≡ existing_sectors (existing_sectors (gp_sectors i card.made.ext_csd) addressing) addressing
-mmc_gp card i addressing first last =
-    ap (λ n. existing_sectors n addressing) (gp_kept card i first last)
+mmc_gp card block i addressing told first last =
+    ap (λ n. existing_sectors n addressing) (gp_kept card block i told first last)
     ∙ sym (exists_twice (gp_sectors i card.made.ext_csd) addressing)
 
-mmc_boot : (card : Card) (addressing : Addressing)
-    → existing_sectors (boot_sectors (ext_csd_now card)) addressing
+mmc_boot : (card : Card) (block : List ℕ) (addressing : Addressing) → IsExtCsdOf card block
+    → existing_sectors (boot_sectors block) addressing
     ≡ existing_sectors (boot_sectors card.made.ext_csd) addressing
-mmc_boot card addressing =
+mmc_boot card block addressing told =
     ap (λ n. existing_sectors (n * 256) addressing)
-    (byte_kept card 226 (omega arith) (omega arith) (omega arith) (omega arith))
+    (byte_told card block 226 told refl (omega arith) (omega arith) (omega arith) (omega arith))
 
-mmc_all : (card : Card) (csd : Csd) → card.made.kind ≡ Is.Mmc
+mmc_all : (card : Card) (csd : Csd) (block : List ℕ) → IsExtCsdOf card block → card.made.kind ≡ Is.Mmc
     → csd_of card.made.kind (csd_number_of card.made) ≡ Ok csd
-    → (part : Part) → size_of (mmc_sizes (addressing_of card.made) csd (ext_csd_now card)) part
+    → (part : Part) → size_of (mmc_sizes (addressing_of card.made) csd block) part
     ≡ existing_sectors (mmc_sectors card.made part) (addressing_of card.made)
-mmc_all card csd is e User =
+mmc_all card csd block told is e User =
     ap (λ n. existing_sectors n (addressing_of card.made))
-    (user_kept (addressing_of card.made) csd (ext_csd_now card) card.made.ext_csd (count_kept card)
+    (user_kept (addressing_of card.made) csd block card.made.ext_csd (count_kept card block told)
     ∙ mmc_user card.made csd is e)
-mmc_all card csd is e Boot1 = mmc_boot card (addressing_of card.made)
-mmc_all card csd is e Boot2 = mmc_boot card (addressing_of card.made)
-mmc_all card csd is e Gp1 = mmc_gp card 1 (addressing_of card.made) (omega arith) (omega arith)
-mmc_all card csd is e Gp2 = mmc_gp card 2 (addressing_of card.made) (omega arith) (omega arith)
-mmc_all card csd is e Gp3 = mmc_gp card 3 (addressing_of card.made) (omega arith) (omega arith)
-mmc_all card csd is e Gp4 = mmc_gp card 4 (addressing_of card.made) (omega arith) (omega arith)
+mmc_all card csd block told is e Boot1 = mmc_boot card block (addressing_of card.made) told
+mmc_all card csd block told is e Boot2 = mmc_boot card block (addressing_of card.made) told
+mmc_all card csd block told is e Gp1 = mmc_gp card block 1 (addressing_of card.made) told (omega arith) (omega arith)
+mmc_all card csd block told is e Gp2 = mmc_gp card block 2 (addressing_of card.made) told (omega arith) (omega arith)
+mmc_all card csd block told is e Gp3 = mmc_gp card block 3 (addressing_of card.made) told (omega arith) (omega arith)
+mmc_all card csd block told is e Gp4 = mmc_gp card block 4 (addressing_of card.made) told (omega arith) (omega arith)
 
 pub mmc_sizes_are : (card : Card) (csd : Csd) (addressing : Addressing) (block : List ℕ) → HasRegisters card.made
     → card.made.kind ≡ Is.Mmc → csd_in card.made.kind card.made.csd ≡ Ok csd → addressing ≡ addressing_of card.made
-    → block ≡ ext_csd_now card → (part : Part) → size_of (mmc_sizes addressing csd block) part
+    → IsExtCsdOf card block → (part : Part) → size_of (mmc_sizes addressing csd block) part
     ≡ existing_sectors (sectors_in card.made part) (addressing_of card.made)
 mmc_sizes_are card csd addressing block registers is e by told part =
     ap (λ (a : Addressing). size_of (mmc_sizes a csd block) part) by
-    ∙ ap (λ (xs : List ℕ). size_of (mmc_sizes (addressing_of card.made) csd xs) part) told
-    ∙ mmc_all card csd is (csd_read card.made csd registers e) part
+    ∙ mmc_all card csd block told is (csd_read card.made csd registers e) part
     ∙ ap (λ n. existing_sectors n (addressing_of card.made)) (sym (sectors_by card.made Is.Mmc part is))
 
-pub mmc_unit : (card : Card) (block : List ℕ) → card.made.kind ≡ Is.Mmc → block ≡ ext_csd_now card
+pub mmc_unit : (card : Card) (block : List ℕ) → card.made.kind ≡ Is.Mmc → IsExtCsdOf card block
     → erase_unit block ≡ erase_unit_of_card card.made
 mmc_unit card block is told =
-    let kept = byte_kept card 224 (omega arith) (omega arith) (omega arith) (omega arith) in
-    ap erase_unit told ∙ ap (λ n. n * 1024) kept ∙ rw is refl
+    let kept = byte_told card block 224 told refl (omega arith) (omega arith) (omega arith) (omega arith) in
+    ap (λ n. n * 1024) kept ∙ rw is refl
 
-pub mmc_erased : (card : Card) (block : List ℕ) → card.made.kind ≡ Is.Mmc → block ≡ ext_csd_now card
+pub mmc_erased : (card : Card) (block : List ℕ) → card.made.kind ≡ Is.Mmc → IsExtCsdOf card block
     → erased_byte block ≡ erased_byte_of_card card.made
 mmc_erased card block is told =
-    let kept = byte_kept card 181 (omega arith) (omega arith) (omega arith) (omega arith) in
-    ap erased_byte told ∙ ap (λ n. if n == 0 then 0 else 0xff) kept ∙ rw is refl
+    let kept = byte_told card block 181 told refl (omega arith) (omega arith) (omega arith) (omega arith) in
+    ap (λ n. if n == 0 then 0 else 0xff) kept ∙ rw is refl
 
-pub mmc_trims : (card : Card) (block : List ℕ) → card.made.kind ≡ Is.Mmc → block ≡ ext_csd_now card
+pub mmc_trims : (card : Card) (block : List ℕ) → card.made.kind ≡ Is.Mmc → IsExtCsdOf card block
     → (trim_support block == 1) ≡ trims_of card.made
 mmc_trims card block is told =
-    let kept = byte_kept card 231 (omega arith) (omega arith) (omega arith) (omega arith) in
-    ap (λ xs. trim_support xs == 1) told ∙ ap (λ n. field 4 4 n == 1) kept ∙ rw is refl
+    let kept = byte_told card block 231 told refl (omega arith) (omega arith) (omega arith) (omega arith) in
+    ap (λ n. field 4 4 n == 1) kept ∙ rw is refl
 
-pub mmc_speed : (card : Card) (block : List ℕ) → card.made.kind ≡ Is.Mmc → block ≡ ext_csd_now card
+pub mmc_speed : (card : Card) (block : List ℕ) → card.made.kind ≡ Is.Mmc → IsExtCsdOf card block
     → (high_speed_at_52_mhz block == 1) ≡ has_high_timing card.made
 mmc_speed card block is told =
-    let kept = byte_kept card 196 (omega arith) (omega arith) (omega arith) (omega arith) in
-    ap (λ xs. high_speed_at_52_mhz xs == 1) told ∙ ap (λ n. field 1 1 n == 1) kept ∙ rw is refl
+    let kept = byte_told card block 196 told refl (omega arith) (omega arith) (omega arith) (omega arith) in
+    ap (λ n. field 1 1 n == 1) kept ∙ rw is refl
 
 -- Each kind.
 

@@ -10,7 +10,7 @@ use Rattle.mmc_card.specs.declared.exchange.Timing.{Timing}
 use Rattle.mmc_card.specs.declared.exchange.Width.{Width}
 use Rattle.mmc_card.specs.BusView.{BusView}
 use Rattle.mmc_card.specs.Card.{Card, Held, IsCard, NoAddress, Source}
-use Rattle.mmc_card.specs.CardAnswer.{shown, status}
+use Rattle.mmc_card.specs.CardAnswer.{shown}
 use Rattle.mmc_card.specs.CardLaws.{HasNoError}
 use Rattle.mmc_card.specs.Faults.{NoFault}
 use Rattle.mmc_card.specs.Laws.{Setting, setting_of}
@@ -22,6 +22,7 @@ use Rattle.mmc_bus.specs.declared.host.Unheard.{Unheard}
 use Rattle.mmc_bus.specs.Work.{Moved}
 use Rattle.mmc_bus.proofs.WorkLemmas.{moved_on}
 use Rattle.mmc_switch.specs.Stages.{IsAtRest, IsSet, IsSetOver, lines_of}
+use Rattle.mmc_card.specs.Judged.{Shows}
 
 -- where no erase address is held none is dropped
 pub nothing_dropped : (card : Card) → card.erase ≡ NoAddress → without_addresses card ≡ card
@@ -32,11 +33,11 @@ no_error kind is_app card rest =
     record { command_errors = rest.command_errors; errors = rest.errors; switch_error = λ mmc. rest.switch_error }
 
 -- an R1 without an error comes from where the command is carried out
-pub carried_out : {IsThere : Type 0} (kind : Kind) (told : Card → ℕ) (after : Card) (old : BusView)
+pub carried_out : {IsThere : Type 0} (kind : Kind) (Tells : Card → ℕ → Type 0) (after : Card) (old : BusView)
     (heard : Result ℕ Unheard) (new : BusView) (r : Result Unit Cause)
     → (IsOk r → (status : ℕ) × (heard ≡ Ok status) × (error_bits kind (own_status status) ≡ 0))
-    → Does IsThere told after old heard new → IsOk r → IsThere × (new.card ≡ after)
-carried_out kind told after old heard new r judged does ok =
+    → Does IsThere Tells after old heard new → IsOk r → IsThere × (new.card ≡ after)
+carried_out kind Tells after old heard new r judged does ok =
     let t = judged ok in
     let s = does.sound t.0 t.1 in
     (s.0, s.2)
@@ -44,20 +45,19 @@ carried_out kind told after old heard new r judged does ok =
 -- the error bits of a status are 0 just where its card holds no error
 abbrev pub ErrorsLaw : Type 0
 ErrorsLaw =
-    (kind : Kind) (app : Bool) (card : Card) → IsCard card
-    → ((error_bits kind (status app card) ≡ 0) ↔ HasNoError kind card)
+    (kind : Kind) (told : ℕ) (card : Card) → IsCard card → Shows card told
+    → ((error_bits kind told ≡ 0) ↔ HasNoError kind card)
 
 -- without a fault a card at rest tells of no error
-pub answers_well : {IsThere : Type 0} (kind : Kind) (app is_app : Bool) (after : Card) (old : BusView)
+pub answers_well : {IsThere : Type 0} (kind : Kind) (is_app : Bool) (after : Card) (old : BusView)
     (heard : Result ℕ Unheard) (new : BusView) (r : Result Unit Cause) → ErrorsLaw → IsCard old.card
     → ((status : ℕ) → heard ≡ Ok status → error_bits kind status ≡ 0 → IsOk r)
-    → Does IsThere (λ card. status app (without_addresses card)) after old heard new → NoFault old new
+    → Does IsThere (λ card. Shows (without_addresses card)) after old heard new → NoFault old new
     → IsAtRest is_app old.card → IsThere → IsOk r
-answers_well kind app is_app after old heard new r errors card judges does same rest there =
-    let none = (errors kind app old.card card).1 (no_error kind is_app old.card rest) in
-    let e = ap (status app) (nothing_dropped old.card rest.erase) in
-    judges (status app (without_addresses old.card)) (does.fine same there).0
-    (subst (λ n. error_bits kind n ≡ 0) (sym e) none)
+answers_well kind is_app after old heard new r errors card judges does same rest there =
+    let told = (does.fine same there).0 in
+    let shows = subst (λ (c : Card). Shows c told.0) (nothing_dropped old.card rest.erase) told.2 in
+    judges told.0 told.1 ((errors kind told.0 old.card card shows).1 (no_error kind is_app old.card rest))
 
 -- A card that has shown its errors, in this state, with these lines, this timing and this block length.
 abbrev pub left_as : Bool → State → Source → Width → Timing → ℕ → Card → Card

@@ -29,7 +29,7 @@ use Rattle.mmc_bus.specs.Learned.{Stays}
 use Rattle.mmc_bus.specs.Work.{Moved}
 use Rattle.mmc_bus.proofs.ClosingLemmas.{ConfirmsOnce}
 use Rattle.mmc_bus.proofs.WorkLemmas.{moved_as, moved_then, quiet_parts, refuted}
-use Rattle.mmc_switch.specs.Info.{IsTimingOver, timing_of, timing_over, width_of, width_over}
+use Rattle.mmc_switch.specs.Info.{IsTimingOver, timing_of, timing_over, width_over}
 use Rattle.mmc_switch.specs.Stages.{HasSwitched, IsSet, IsSetOver, IsToldOf, first_setting, lines_of, user_setting}
 use Rattle.mmc_switch.specs.declared.sd.TheConstants as Argument
 use Rattle.mmc_switch.specs.declared.sd.Told.{Told}

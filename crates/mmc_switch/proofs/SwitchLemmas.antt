@@ -1,14 +1,12 @@
 -- A switch of an eMMC device: CMD6 and the status behind it; and the switches of widening, one behind the other.
 use Rattle.std.proofs.Common.{◌∙◌, ◌≡◌, ◌⊎◌, ◌↔◌, Bool, ap, false, inl, inr, refl, subst, sym, true, ℕ}
-use Rattle.std.proofs.lemmas.Result.{IfOk-from_err}
-use Rattle.std.specs.Prelude.{◌&&◌, ◌*◌, ◌+◌, ◌==◌, Err, IfOk, IfSome, IsErr, IsOk, None, Ok, Option, Result, Some}
+use Rattle.std.specs.Prelude.{◌&&◌, ◌*◌, ◌+◌, ◌==◌, Err, IfSome, IsErr, IsOk, None, Ok, Option, Result, Some}
 use Rattle.std.specs.Prelude.{if◌then◌else◌, length}
 use Rattle.mmc_frame.specs.Field.{field}
 use Rattle.mmc_frame.specs.Status.{error_bits, own_status}
 use Rattle.mmc_frame.specs.declared.card_state.State.TheVariants.{Prg}
 use Rattle.mmc_frame.specs.declared.kind.Kind.TheVariants.{Mmc}
 use Rattle.mmc_ext_csd.specs.ExtCsd.{high_speed_at_52_mhz, partition_config}
-use Rattle.mmc_card.specs.declared.exchange.Timing.{Timing}
 use Rattle.mmc_card.specs.declared.exchange.Timing.TheVariants.{Default, High}
 use Rattle.mmc_card.specs.declared.exchange.Lines.{Lines}
 use Rattle.mmc_card.specs.declared.exchange.Width.{Width}
@@ -18,7 +16,7 @@ use Rattle.mmc_card.proofs.Conditions.{by_cond}
 use Rattle.mmc_card.specs.Blocks.{rested}
 use Rattle.mmc_card.specs.BusView.{BusView}
 use Rattle.mmc_card.specs.Card.{Card, is_in, stored}
-use Rattle.mmc_card.specs.CardAnswer.{shown, status}
+use Rattle.mmc_card.specs.CardAnswer.{shown}
 use Rattle.mmc_card.specs.CardLaws.{HasNoError, IsInOrder}
 use Rattle.mmc_card.specs.Faults.{NoFault}
 use Rattle.mmc_card.specs.Laws.{Setting, StandsIn, StillStands, erased_by, setting_of}
@@ -38,6 +36,7 @@ use Rattle.mmc_bus.proofs.WorkLemmas.{done_as, done_by, done_then, moved_as, mov
 use Rattle.mmc_switch.specs.Info.{has_high_timing}
 use Rattle.mmc_switch.proofs.RestLemmas.{no_error, nothing_dropped, set_on_lines}
 use Rattle.mmc_switch.specs.Stages.{IsAtRest, IsSet, IsSetOver, MayStandIn, first_setting, lines_of, user_setting}
+use Rattle.mmc_card.specs.Judged.{Shows}
 
 -- CMD6.
 
@@ -55,7 +54,7 @@ pub requested : (argument : ℕ) (heard : Result ℕ Unheard) (r : Result Unit C
     → Kept old (CommandFacts (response_of 6) old 6 argument heard new) new
     → ((after : Card) → old.card.made.kind ≡ Mmc → switched (without_addresses old.card) argument ≡ Some after
     → Written after old heard new)
-    → ((error_bits Mmc (status false old.card) ≡ 0) ↔ HasNoError Mmc old.card)
+    → ((told : ℕ) → Shows old.card told → ((error_bits Mmc told ≡ 0) ↔ HasNoError Mmc old.card))
     → (IsOk r → (told : ℕ) × (heard ≡ Ok told) × (error_bits Mmc (own_status told) ≡ 0))
     → ((told : ℕ) → heard ≡ Ok told → error_bits Mmc told ≡ 0 → IsOk r) → Requests argument r old new
 requested argument heard r old new none lines k law clean ok all =
@@ -66,9 +65,10 @@ requested argument heard r old new none lines k law clean ok all =
     ((law after mmc (ap (λ card. switched card argument) plain ∙ to)).sound told.0 told.1 told.2).1)
     (λ same after mmc rest to.
     let plain = nothing_dropped old.card rest.erase in
-    let does = (law after mmc (ap (λ card. switched card argument) plain ∙ to)).fine same rest.state in (
-      all (status false old.card) (does.0 ∙ ap (λ card. Ok (status false card)) plain)
-          (clean.1 (no_error Mmc false old.card rest)),
+    let does = (law after mmc (ap (λ card. switched card argument) plain ∙ to)).fine same rest.state in
+    let told = does.0 in
+    let shows = subst (λ (c : Card). Shows c told.0) plain told.2 in (
+      all told.0 told.1 ((clean told.0 shows).1 (no_error Mmc false old.card rest)),
       does.1,
     ))
 

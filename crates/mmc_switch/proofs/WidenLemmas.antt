@@ -1,10 +1,10 @@
 -- How the parts of widening join.
-use Rattle.std.proofs.Common.{◌+◌, ◌<◌, ◌∙◌, ◌≡◌, ◌≤◌, ◌↔◌, Bool, List, ap, arith, cond, false, inl, inr, length}
+use Rattle.std.proofs.Common.{◌+◌, ◌<◌, ◌∙◌, ◌≡◌, ◌≤◌, Bool, List, ap, arith, cond, false, inl, inr, length}
 use Rattle.std.proofs.Common.{refl, subst, sym, true, ℕ}
 use Rattle.std.proofs.lemmas.Bool.{eqb-true, le-ltb, ne_eqb}
 use Rattle.std.proofs.lemmas.List.{get_or-set_other, get_or-set_same, length-set}
 use Rattle.std.proofs.lemmas.Result.{IfOk-at_ok, IfOk-from_err}
-use Rattle.std.specs.Prelude.{◌*◌, ◌==◌, Err, IfOk, IfSome, IsErr, IsOk, IsSome, IsTrue, MatchResult, Ok, Option}
+use Rattle.std.specs.Prelude.{◌*◌, ◌==◌, Err, IfOk, IfSome, IsErr, IsOk, IsSome, MatchResult, Ok, Option}
 use Rattle.std.specs.Prelude.{Result, Some, if◌then◌else◌, is_ok, is_some, slice_set}
 use Rattle.mmc_frame.specs.Field.{field}
 use Rattle.mmc_frame.specs.declared.addressing.Addressing.TheVariants.{Bytes, Sectors}
@@ -20,7 +20,7 @@ use Rattle.mmc_card.specs.Laws.{Setting}
 use Rattle.mmc_card.specs.Made.{HasRegisters, Made, addressing_of, csd_number_of, has_sector_addresses}
 use Rattle.mmc_card.specs.Made.{named_block_length}
 use Rattle.mmc_card.specs.Profile.{InProfile}
-use Rattle.mmc_card.specs.RowsSwitch.{ext_csd_now, partition_config_for, timing_number, width_number}
+use Rattle.mmc_card.specs.RowsSwitch.{IsExtCsdOf, ext_csd_now, partition_config_for, timing_number, width_number}
 use Rattle.mmc_card.specs.Limits.{slower}
 use Rattle.mmc_card.specs.declared.exchange.Lines.{Lines}
 use Rattle.mmc_card.specs.declared.exchange.Timing.{Timing}
@@ -38,7 +38,7 @@ use Rattle.mmc_switch.proofs.UnderWayLemmas.{knows_then}
 use Rattle.mmc_bus.proofs.WorkLemmas.{both, fell, moved_as, refuted}
 use Rattle.mmc_identify.specs.Stages.{IsFound, IsLeft}
 use Rattle.mmc_identify.specs.declared.found.Found.{Found}
-use Rattle.mmc_switch.proofs.InfoLemmas.{byte_kept, count_kept, mmc_speed, number_is, tested}
+use Rattle.mmc_switch.proofs.InfoLemmas.{byte_told, count_kept, mmc_speed, number_is}
 use Rattle.mmc_switch.specs.Info.{IsInfo, erase_group_def_of, has_high_timing, timing_over, width_over}
 use Rattle.mmc_switch.specs.Place.{IsReady, Knows, setting_in}
 use Rattle.mmc_switch.specs.Stages.{IsSet, IsToldOf, first_lines, first_setting, user_setting}
@@ -163,13 +163,13 @@ mmc_send_fails found sent r a b err fails p =
 taken_by : (block : List ℕ) → 5 ≤ ext_csd_rev block → (hc_erase_grp_size block ≡ 0 → ⊥) → ext_csd_in block ≡ Ok block
 taken_by block revision some = rw (le-ltb (ext_csd_rev block) 5 revision, ne_eqb (hc_erase_grp_size block) 0 some) refl
 
-sent_taken : (card : Card) → InProfile card.made → card.made.kind ≡ Mmc
-    → ext_csd_in (ext_csd_now card) ≡ Ok (ext_csd_now card)
-sent_taken card profile is =
+sent_taken : (card : Card) (block : List ℕ) → IsExtCsdOf card block → InProfile card.made → card.made.kind ≡ Mmc
+    → ext_csd_in block ≡ Ok block
+sent_taken card block told profile is =
     let mmc = profile.mmc is in
-    let revision = byte_kept card 192 (omega arith) (omega arith) (omega arith) (omega arith) in
-    let group = byte_kept card 224 (omega arith) (omega arith) (omega arith) (omega arith) in
-    taken_by (ext_csd_now card) (subst (λ n. 5 ≤ n) (sym revision) mmc.revision) (λ e. mmc.erase_group (sym group ∙ e))
+    let revision = byte_told card block 192 told refl (omega arith) (omega arith) (omega arith) (omega arith) in
+    let group = byte_told card block 224 told refl (omega arith) (omega arith) (omega arith) (omega arith) in
+    taken_by block (subst (λ n. 5 ≤ n) (sym revision) mmc.revision) (λ e. mmc.erase_group (sym group ∙ e))
 
 by_sectors : (high : Bool) → cond high Sectors Bytes ≡ Sectors → high ≡ true
 by_sectors true e = refl
@@ -194,11 +194,11 @@ mmc_judge_fails found block sent judged r a b err refused e all p =
     moved_as a b p (λ is own set. IfOk-from_err r _ err)
     (λ same is profile own set.
     let told = (IfOk-at_ok _ e (p.own (first_setting found.rca) is set)).0 in
-    let taken = subst (λ xs. ext_csd_in xs ≡ Ok xs) (sym told) (sent_taken a.card profile is) in
+    let taken = sent_taken a.card block told profile is in
     refuted judged refused
     (all taken
     (λ sectors none. counted a.card.made profile is (sym own.addressing ∙ sectors)
-    (sym (count_kept a.card) ∙ ap sec_count (sym told) ∙ none))))
+    (sym (count_kept a.card block told) ∙ none))))
 
 -- high speed is used where the device has it
 fast_by : (has : Bool) (limit timing : Timing) → timing ≡ slower (if has then High else Default) limit → timing ≡ High
@@ -216,7 +216,7 @@ mmc_set : (found : Found) (block : List ℕ) (lines : Lines) (sent : Result (Lis
     (a b c : BusView) → sent ≡ Ok block → IsTimingBy block lines a.limits → SendsExtCsd sent a b
     → SetsUpMmc found.rca lines up b c
     → Moved (λ old new. old.card.made.kind ≡ Mmc → IsSet false (first_setting found.rca) old
-    → (block ≡ ext_csd_now old.card) × (lines.timing ≡ timing_over old.limits old.card.made)
+    → IsExtCsdOf old.card block × (lines.timing ≡ timing_over old.limits old.card.made)
     × (IsOk up → IsSet false (user_setting found.rca lines.width lines.timing 1) new))
     (λ old new. old.card.made.kind ≡ Mmc → IsSet false (first_setting found.rca) old → IsOk up) a c
 mmc_set found block lines sent up a b c e timing p q =
@@ -225,9 +225,9 @@ mmc_set found block lines sent up a b c e timing p q =
     let told = λ (is : a.card.made.kind ≡ Mmc) (set : IsSet false (first_setting found.rca) a).
     IfOk-at_ok _ e (p.own (first_setting found.rca) is set) in
     let still : a.card.made.kind ≡ Mmc → b.card.made.kind ≡ Mmc = λ is. ap (λ (m : Made). m.kind) made ∙ is in
-    let speed : a.card.made.kind ≡ Mmc → block ≡ ext_csd_now a.card
+    let speed : a.card.made.kind ≡ Mmc → IsExtCsdOf a.card block
     → (high_speed_at_52_mhz block == 1) ≡ has_high_timing a.card.made = λ is by. mmc_speed a.card block is by in
-    let may : a.card.made.kind ≡ Mmc → block ≡ ext_csd_now a.card → lines.timing ≡ High
+    let may : a.card.made.kind ≡ Mmc → IsExtCsdOf a.card block → lines.timing ≡ High
     → has_high_timing b.card.made ≡ true =
     λ is by fast. ap has_high_timing made ∙ sym (speed is by) ∙ fast_by _ a.limits.timing lines.timing timing fast in
     moved_as a c pair
@@ -263,11 +263,11 @@ high_bits : (n config : ℕ) → config ≡ 8 * field 7 3 n + 0 → field 7 3 co
 high_bits n config e = omega (arith, e)
 
 config_kept : (card : Card) (block : List ℕ) → HasRegisters card.made → card.made.kind ≡ Mmc → card.part ≡ User
-    → block ≡ ext_csd_now card
+    → IsExtCsdOf card block
     → field 7 3 (partition_config block) ≡ field 7 3 (partition_config card.made.ext_csd)
 config_kept card block registers is user told =
     high_bits (partition_config card.made.ext_csd) (partition_config block)
-    (ap partition_config told ∙ config_sent card (registers.ext_csd is)
+    (told.read 179 refl ∙ config_sent card (registers.ext_csd is)
     ∙ ap (λ (part : Part). partition_config_for card.made part) user)
 
 -- a device has eight lines, so that it uses those of the host
@@ -278,7 +278,7 @@ pub mmc_widened : (found : Found) (block : List ℕ) (lines : Lines) (sent : Res
     (up : Result Unit Cause) (info : Info) (config : ℕ) (session : Session) (limits : Lines) (a b c : BusView)
     → sent ≡ Ok block → limits ≡ a.limits → lines.width ≡ limits.width → IsTimingBy block lines limits → true ≡ is_ok up → config ≡ partition_config block → session ≡ first_session info config
     → ((limits : Lines) (card : Card) → HasRegisters card.made → card.made.kind ≡ Mmc → IsFound card.made found
-    → block ≡ ext_csd_now card → lines.width ≡ width_over limits card.made
+    → IsExtCsdOf card block → lines.width ≡ width_over limits card.made
     → lines.timing ≡ timing_over limits card.made → IsInfo limits card.made info) → info.rca ≡ found.rca
     → (info.width ≡ lines.width) × (info.timing ≡ lines.timing)
     → SendsExtCsd sent a b → SetsUpMmc found.rca lines up b c → WidensKind Mmc found (Ok session) a c

@@ -3,7 +3,7 @@
 use Rattle.std.specs.Prelude.{◌+◌, ◌-◌, ◌<◌, ◌≡◌, Bool, Err, None, Ok, Option, Result, Some, false, nat_lt, true, ℕ}
 use Rattle.mmc_frame.specs.declared.kind.Kind.{Kind}
 use Rattle.mmc_card.specs.BusView.{BusView}
-use Rattle.mmc_card.specs.Card.{Card, is_selected}
+use Rattle.mmc_card.specs.Card.{Card, is_selected, patience}
 use Rattle.mmc_card.specs.CardLaws.{IsInOrder}
 use Rattle.mmc_card.specs.Sectors.{Change}
 use Rattle.mmc_bus.specs.Closings.{Closes, ClosesSoon}
@@ -68,7 +68,7 @@ ShownIn (Confirm waits) card = IsSound card
 
 -- where its statuses may lag, it has said so often that it is at work
 abbrev pub LagsAfter : ℕ → Card → Type 0
-LagsAfter waits card = card.lags ≡ true → card.polled < 8 → card.polled ≡ waits
+LagsAfter waits card = card.lags ≡ true → card.polled < patience → card.polled ≡ waits
 
 -- A card that ends a change: it programs it, and then rests with it carried out.
 abbrev pub IsEnding : Change → Ending → Card → Type 0

@@ -5,7 +5,7 @@ use Rattle.mmc_frame.specs.declared.card_state.State.TheVariants.{Prg, Tran}
 use Rattle.mmc_card.specs.declared.part.Part.{Part}
 use Rattle.mmc_card.specs.declared.part.Part.TheVariants.{User}
 use Rattle.mmc_card.specs.BusView.{BusView}
-use Rattle.mmc_card.specs.Card.{Card, IsCard, NoAddress, holds}
+use Rattle.mmc_card.specs.Card.{Card, IsCard, NoAddress, holds, patience}
 use Rattle.mmc_card.specs.Sectors.{Change, Sector, Within, changed, maybe_changed}
 use Rattle.mmc_bus.specs.Heard.{cause_of}
 use Rattle.mmc_bus.specs.Learned.{Stays}
@@ -47,7 +47,7 @@ pub record IsIdle (preset : ℕ) (card : Card) : Type 0 where
 -- A card that was asked whether it is busy so often, and is.
 pub record IsBusyAfter (polls : ℕ) (card : Card) : Type 0 where
   pub busy : card.is_busy ≡ true
-  pub polled : card.polled < 8 → card.polled ≡ polls
+  pub polled : card.polled < patience → card.polled ≡ polls
 
 -- It programs these values, from this sector on of the partition that is selected.
 pub record IsProgramming (first : ℕ) (news : List Sector) (card : Card) : Type 0 where

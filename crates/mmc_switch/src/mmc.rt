@@ -7,7 +7,7 @@ ghost use Rattle.mmc_card.specs.Card.{Card};
 ghost use Rattle.mmc_card.specs.Laws.{Setting, setting_of};
 ghost use Rattle.mmc_card.specs.Limits.{slower};
 ghost use Rattle.mmc_card.specs.Profile.{InProfile};
-ghost use Rattle.mmc_card.specs.RowsSwitch.{ext_csd_now, programs_switch, switched, width_number, write_byte};
+ghost use Rattle.mmc_card.specs.RowsSwitch.{IsExtCsdOf, programs_switch, switched, width_number, write_byte};
 ghost use Rattle.mmc_card.specs.declared.exchange.Timing.TheVariants as At;
 ghost use Rattle.mmc_card.specs.declared.exchange.Width.TheVariants as Over;
 ghost use Rattle.mmc_card.specs.declared.part.Part.TheVariants.{User};
@@ -53,7 +53,7 @@ fn send_ext_csd<B: Bus>(bus: &mut B) -> Result<[u8; 512], Cause>
     ensures bounded { (B.view bus.new).exchanges ≤ (B.view bus.old).exchanges + 2 }
     ensures moves { Moves
         (λ old new. (setting : Setting) → old.card.made.kind ≡ Mmc → IsSet false setting old
-        → IfOk result (λ block. (block ≡ ext_csd_now old.card) × IsSet false setting new))
+        → IfOk result (λ block. IsExtCsdOf old.card block × IsSet false setting new))
         (λ old new. (setting : Setting) → old.card.made.kind ≡ Mmc → IsSet false setting old → IsOk result)
         (B.view bus.old) (B.view bus.new) }
 {

@@ -5,7 +5,7 @@ ghost use Rattle.mmc_regs.specs.Csd.{IsSdCsd, erase_unit_of};
 ghost use Rattle.mmc_ext_csd.specs.ExtCsd.{erase_unit};
 ghost use Rattle.mmc_card.specs.Card.{Card};
 ghost use Rattle.mmc_card.specs.Made.{HasRegisters, Made};
-ghost use Rattle.mmc_card.specs.RowsSwitch.{ext_csd_now};
+ghost use Rattle.mmc_card.specs.RowsSwitch.{IsExtCsdOf};
 ghost use Rattle.mmc_card.specs.declared.exchange.Lines.{Lines};
 ghost use Rattle.mmc_identify.specs.Stages.{IsFound};
 ghost use Rattle.mmc_switch.specs.Info.{IsInfo, timing_over, width_over};
@@ -102,7 +102,7 @@ pub fn sd_info(found: &Found, told: &Told) -> Option<Info>
 pub fn mmc_info(found: &Found, ext_csd: &ExtCsd, lines: Lines) -> Info
     requires some_unit { 1 ≤ erase_unit ext_csd.now }
     ensures info { (limits : Lines) → (card : Card) → HasRegisters card.made → card.made.kind ≡ Is.Mmc
-        → IsFound card.made found.now → ext_csd.now ≡ ext_csd_now card → lines.width ≡ width_over limits card.made
+        → IsFound card.made found.now → IsExtCsdOf card ext_csd.now → lines.width ≡ width_over limits card.made
         → lines.timing ≡ timing_over limits card.made → IsInfo limits card.made result }
     ensures rca { result.rca ≡ found.now.rca }
     ensures lines { (result.width ≡ lines.width) × (result.timing ≡ lines.timing) }

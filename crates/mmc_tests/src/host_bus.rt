@@ -62,6 +62,8 @@ impl Host for Controller {
 
     ghost view = { λ _. unkept_host };
 
+    ghost has_told = { λ _ _. Unit {0} };
+
     fn limits(&self) -> Lines {
         self.limits
     }

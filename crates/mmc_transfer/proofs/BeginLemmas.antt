@@ -70,7 +70,7 @@ module _ (job : Job) (blocks : List Sector) (faults : ℕ) (kind : Kind) (addres
   sector_is = rw addressed (sector_named job.session a at.under_way.knows job.start)
 
   -- the exact card can start
-  can_start : Exact job blocks (Other Command) a.card → CanStart kind job.way a.card address
+  pub can_start : Exact job blocks (Other Command) a.card → CanStart kind job.way a.card address
   can_start exact =
       let idle : IsIdle (preset_of job) a.card = from_both job.way exact in
       let selected : is_selected a.card.state ≡ true = ap is_selected idle.quiet.state in

@@ -1,8 +1,10 @@
 -- The commands of a run, each with its R1 judged.
 use Rattle.std.proofs.Common.{◌^◌, ◌∙◌, ◌≡◌, ◌⊎◌, Bool, ap, false, inl, inr, refl}
 use Rattle.std.proofs.Common.{subst, sym, true, ℕ}
-use Rattle.std.specs.Prelude.{None, Ok, Result, Some}
+use Rattle.std.specs.Prelude.{Err, IfErr, None, Ok, Option, Result, Some}
+use Rattle.mmc_bus.specs.declared.cause.Cause.{Cause}
 use Rattle.mmc_frame.specs.Status.{error_bits}
+use Rattle.mmc_frame.specs.declared.card_state.State.TheVariants.{Tran}
 use Rattle.mmc_frame.specs.declared.kind.Kind.{Kind}
 use Rattle.mmc_card.specs.BusView.{BusView}
 use Rattle.mmc_card.specs.Card.{Card, Held, IsCard, NoAddress}
@@ -21,6 +23,7 @@ use Rattle.mmc_switch.proofs.RestLemmas.{ErrorsLaw, nothing_dropped}
 use Rattle.mmc_transfer.specs.Commands.{CanObey, CanStart, CanStop, index_of, is_write, starts}
 use Rattle.mmc_transfer.specs.declared.way.Way.{Way}
 use Rattle.mmc_transfer.specs.declared.way.Way.TheVariants.{Read, Write}
+use Rattle.mmc_card.specs.Judged.{Shows}
 
 -- A card that can obey: none of its erase addresses is dropped, and its R1 shows no error.
 
@@ -28,10 +31,9 @@ pub forgets_none : (card : Card) → card.erase ≡ NoAddress → forgotten card
 forgets_none card none = ap (λ (held : Held). record card { erase = held }) (sym none)
 
 pub shows_no_error : (kind : Kind) (card : Card) → ErrorsLaw → IsCard card → CanObey kind card
-    → error_bits kind (status false (without_addresses card)) ≡ 0
-shows_no_error kind card errors k can =
-    subst (λ n. error_bits kind n ≡ 0) (sym (ap (status false) (nothing_dropped card can.erase)))
-    ((errors kind false card k).1 can.no_error)
+    → (told : ℕ) → Shows (without_addresses card) told → error_bits kind told ≡ 0
+shows_no_error kind card errors k can told shows =
+    (errors kind told card k (subst (λ (c : Card). Shows c told) (nothing_dropped card can.erase) shows)).1 can.no_error
 
 -- Beginning a transfer, whichever way it goes, of one block or of several.
 
@@ -57,6 +59,19 @@ begin_law read reads write writes Read false = reads
 begin_law read reads write writes Write true = write
 begin_law read reads write writes Write false = writes
 
+pub read_law : BeginLaw Read true → BeginLaw Read false → (is_single : Bool) → BeginLaw Read is_single
+read_law one several true = one
+read_law one several false = several
+
+pub write_law : BeginLaw Write true → BeginLaw Write false → (is_single : Bool) → BeginLaw Write is_single
+write_law one several true = one
+write_law one several false = several
+
+pub caused : {X : Type 0} (r : Result X Cause) (why : Cause) (last : Option Cause) → IfErr r (λ cause. cause ≡ why)
+    → last ≡ Some why → IfErr r (λ cause. last ≡ Some cause)
+caused (Ok x) why last h is = h
+caused (Err cause) why last h is = is ∙ sym (ap (λ (c : Cause). Some c) h)
+
 pub erases_nothing : (way : Way) (is_single : Bool) (card : Card) (argument : ℕ)
     → erased_by card (Some (index_of way is_single, argument)) ≡ None
 erases_nothing Read true card argument = refl
@@ -81,40 +96,49 @@ module _ (kind : Kind) (way : Way) (is_single : Bool) (old : BusView) (address :
       (begins.sound kind told is no_error).1
       ∙ ap (λ card. starts way is_single card address) (forgets_none old.card none)
 
+  -- a sound answer with one says that it has begun, or is in tran still
+  pub begun_or_in_tran : (told : ℕ) → heard ≡ Ok told → old.card.erase ≡ NoAddress
+      → (new.card ≡ starts way is_single old.card address) ⊎ (new.card.state ≡ Tran)
+  begun_or_in_tran told is none =
+      elim (begins.answered told is) [
+        | inl begun ↦ inl (begun ∙ ap (λ card. starts way is_single card address) (forgets_none old.card none))
+        | inr tran ↦ inr tran
+      ]
+
   -- a card that can begin does, where no fault falls
   pub begins_where_it_can : {Done : Type 0} → ErrorsLaw → IsCard old.card
       → ((told : ℕ) → heard ≡ Ok told → error_bits kind told ≡ 0 → Done)
       → NoFault old new → CanStart kind way old.card address → Done
   begins_where_it_can errors k judged same can =
       let obeys = can.obeys in
-      judged _ (begins.fine same obeys.tran can.allowed).0 (shows_no_error kind old.card errors k obeys)
+      let told = (begins.fine same obeys.tran can.allowed).0 in
+      judged told.0 told.1 (shows_no_error kind old.card errors k obeys told.0 told.2)
 
 -- The status of a card that can be stopped.
 
 abbrev pub EndLaw : Type 0
 EndLaw =
-    (kind : Kind) (app : Bool) (card : Card) → IsCard card → HasNoError kind (record card { errors = 0 })
-    → card.errors ≡ out_of_range → error_bits kind (status app card) ≡ 2 ^ 31
+    (kind : Kind) (told : ℕ) (card : Card) → IsCard card → Shows card told → HasNoError kind (record card { errors = 0 })
+    → card.errors ≡ out_of_range → error_bits kind told ≡ 2 ^ 31
 
 -- where OUT_OF_RANGE is an error too, no error is held behind a status that is judged good
 pub shows_nothing : (kind : Kind) (at_end : Bool) (card : Card) (told : ℕ) → ErrorsLaw → IsCard card
-    → told ≡ status false card → at_end ≡ false
+    → Shows card told → at_end ≡ false
     → (error_bits kind told ≡ 0) ⊎ ((at_end ≡ true) × (error_bits kind told ≡ 2 ^ 31)) → card.errors ≡ 0
 shows_nothing kind at_end card told errors k is never judged =
     elim judged [
-      | inl none ↦ ((errors kind false card k).0 (sym (ap (error_bits kind) is) ∙ none)).errors
+      | inl none ↦ ((errors kind told card k is).0 none).errors
       | inr last ↦ cc (never, last.0)
     ]
 
 -- a card that can be stopped shows no error, or at the end of a partition OUT_OF_RANGE alone
-pub shows_it_stops : (kind : Kind) (at_end : Bool) (card : Card) → ErrorsLaw → EndLaw → IsCard card
-    → CanStop kind at_end card
-    → (error_bits kind (status false card) ≡ 0)
-    ⊎ ((at_end ≡ true) × (error_bits kind (status false card) ≡ 2 ^ 31))
-shows_it_stops kind at_end card errors ends k can =
+pub shows_it_stops : (kind : Kind) (at_end : Bool) (card : Card) (told : ℕ) → ErrorsLaw → EndLaw → IsCard card
+    → Shows card told → CanStop kind at_end card
+    → (error_bits kind told ≡ 0) ⊎ ((at_end ≡ true) × (error_bits kind told ≡ 2 ^ 31))
+shows_it_stops kind at_end card told errors ends k shows can =
     let none = can.no_error in
     elim can.errors [
-      | inl clear ↦ inl ((errors kind false card k).1
+      | inl clear ↦ inl ((errors kind told card k shows).1
           (record { command_errors = none.command_errors; errors = clear; switch_error = none.switch_error }))
-      | inr last ↦ inr (last.0, ends kind false card k none last.1)
+      | inr last ↦ inr (last.0, ends kind told card k shows none last.1)
     ]

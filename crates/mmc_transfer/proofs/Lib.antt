@@ -2,6 +2,7 @@ pub mod BeginLemmas
 pub mod CommandLemmas
 pub mod EndLemmas
 pub mod FinishLemmas
+pub mod FirstLemmas
 pub mod GiveLemmas
 pub mod LendingLemmas
 pub mod PauseLemmas
@@ -10,3 +11,4 @@ pub mod StepLemmas
 pub mod TakeLemmas
 pub mod TurnLemmas
 pub mod WholeLemmas
+pub mod WriteFirstLemmas

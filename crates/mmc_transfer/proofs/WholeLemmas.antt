@@ -1,5 +1,5 @@
 -- A whole run, from its turns.
-use Rattle.std.proofs.Common.{◌+◌, ◌<◌, ◌∙◌, ◌∷◌, ◌≡◌, ◌≤◌, Bool, List, [], ap, arith, cond, false, length, refl, subst}
+use Rattle.std.proofs.Common.{◌+◌, ◌∙◌, ◌∷◌, ◌≡◌, ◌≤◌, Bool, List, [], ap, arith, cond, false, length, refl, subst}
 use Rattle.std.proofs.Common.{sym, true, ℕ}
 use Rattle.std.specs.Prelude.{Err, Ok, Result}
 use Rattle.mmc_card.proofs.SectorLemmas.{untouched}
@@ -66,14 +66,14 @@ then_turned begun run was blocks first now new result same job f turned =
 -- It goes on so.
 pub along_next : (begun run next : Run) (was blocks : List Sector) (first now new : BusView)
     → change_of begun.job was ≡ change_of begun.job blocks → length blocks ≡ length was
-    → IsAlong begun run was first now → new.exchanges ≤ now.exchanges + 1
-    → (new.is_kept ≡ true → now.is_kept ≡ true) → next.job ≡ run.job → exchanges_left next < exchanges_left run
+    → IsAlong begun run was first now → new.exchanges + exchanges_left next ≤ now.exchanges + exchanges_left run
+    → (new.is_kept ≡ true → now.is_kept ≡ true) → next.job ≡ run.job
     → (new.is_kept ≡ true → (faults : ℕ) → IsRunning run was faults now → HasTurned run blocks faults now (More next) new)
     → IsAlong begun next blocks first new
-along_next begun run next was blocks first now new same count a one kept job lowers turned = record {
+along_next begun run next was blocks first now new same count a nears kept job turned = record {
   job = job ∙ a.job;
   count = count ∙ a.count;
-  bounded = let l = a.bounded in omega (arith, l, one, lowers);
+  bounded = let l = a.bounded in omega (arith, l, nears);
   kept = λ k. a.kept (kept k);
   so_far = λ k ready.
       let f = then_turned begun run was blocks first now new (More next) same a.job (a.so_far (kept k) ready) (turned k) in

@@ -1,5 +1,6 @@
 pub mod Address
 pub mod Commands
+pub mod First
 pub mod Fits
 pub mod Moves
 pub mod Run

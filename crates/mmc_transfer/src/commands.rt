@@ -1,16 +1,22 @@
 // The commands of a run, each with its R1 judged (SD Physical Layer 6.00, section 4.3; JESD84-B51, section 6.6).
-ghost use Rattle.std.specs.Prelude.{◌*◌, ◌<◌, ◌^◌, ◌≡◌, ◌⊎◌, IfErr, IsOk, Ok, false, true, ℕ};
+ghost use Rattle.std.specs.Prelude.{◌*◌, ◌<◌, ◌^◌, ◌≡◌, ◌⊎◌, IfErr, IsOk, Ok, false, length, true, ℕ};
 ghost use Rattle.mmc_frame.specs.Status.{error_bits};
 ghost use Rattle.mmc_card.specs.Card.{NoAddress};
 ghost use Rattle.mmc_card.specs.RowsTransfer.{preset_to};
 ghost use Rattle.mmc_bus.specs.CommandLaws.{IsStopped};
 ghost use Rattle.mmc_bus.specs.Heard.{cause_of_response, is_inquiry_index};
+ghost use Rattle.mmc_bus.specs.Lending.{IsRewritten};
+ghost use Rattle.mmc_bus.specs.Together.{MovesAtMost};
 ghost use Rattle.mmc_bus.specs.Work.{Ends, Narrows, Works};
 ghost use Rattle.mmc_transfer.specs.Commands.{CanPreset, CanStart, CanStop, IsMoving, index_of, starts};
+ghost use Rattle.mmc_transfer.specs.First.{StartedReading, StartedWriting};
 
 use crate::way::Way;
 use bitflags::Flags;
-use mmc_bus::{Bus, Cause, Unheard, ask, card_laws, check_r1, transfer_laws};
+use mmc_bus::{
+    Blocks, BlocksMut, Bus, Cause, DataIn, DataOut, Moved, Unheard, ask, ask_reading, ask_writing,
+    card_laws, check_r1, transfer_laws,
+};
 use mmc_frame::commands::{
     READ_MULTIPLE_BLOCK, READ_SINGLE_BLOCK, SET_BLOCK_COUNT, STOP_TRANSMISSION, WRITE_BLOCK,
     WRITE_MULTIPLE_BLOCK,
@@ -70,6 +76,53 @@ pub fn start<B: Bus>(
     transfer_laws::cmd25_begins_a_write_of_blocks();
     card_laws::a_status_tells_of_its_card();
     check_r1(kind, ask(bus, command_of(way, is_single), address))
+}
+
+/// Begins a read, of one block (CMD17) or of several (CMD18), and reads the first of its blocks into their places, as many as the
+/// bus moves with the command.
+///
+/// # Errors
+/// As `start`.
+pub fn start_reading<B: Bus, D: BlocksMut>(
+    bus: &mut B,
+    kind: Kind,
+    is_single: bool,
+    address: u32,
+    blocks: &mut D,
+) -> (Result<(), Cause>, Moved<DataIn>)
+    ensures started { StartedReading D.blocks D.with kind is_single address (B.view bus.old) blocks.old result.0 result.1 blocks.new
+        (B.view bus.new) }
+    ensures few { MovesAtMost result.1 (length (D.blocks blocks.old)) }
+    ensures count { length (D.blocks blocks.new) ≡ length (D.blocks blocks.old) }
+    ensures lent { IsRewritten D.blocks D.with blocks.old blocks.new }
+{
+    transfer_laws::cmd17_begins_a_read();
+    transfer_laws::cmd18_begins_a_read_of_blocks();
+    card_laws::a_status_tells_of_its_card();
+    let (heard, moved) = ask_reading(bus, command_of(Way::Read, is_single), address, blocks);
+    (check_r1(kind, heard), moved)
+}
+
+/// Begins a write, of one block (CMD24) or of several (CMD25), and writes the first of its blocks, as many as the bus moves with the
+/// command.
+///
+/// # Errors
+/// As `start`.
+pub fn start_writing<B: Bus, D: Blocks>(
+    bus: &mut B,
+    kind: Kind,
+    is_single: bool,
+    address: u32,
+    blocks: &D,
+) -> (Result<(), Cause>, Moved<DataOut>)
+    ensures started { StartedWriting kind is_single address (D.blocks blocks.now) (B.view bus.old) result.0 result.1 (B.view bus.new) }
+    ensures few { MovesAtMost result.1 (length (D.blocks blocks.now)) }
+{
+    transfer_laws::cmd24_begins_a_write();
+    transfer_laws::cmd25_begins_a_write_of_blocks();
+    card_laws::a_status_tells_of_its_card();
+    let (heard, moved) = ask_writing(bus, command_of(Way::Write, is_single), address, blocks);
+    (check_r1(kind, heard), moved)
 }
 
 // Judges the R1 of CMD12, in which OUT_OF_RANGE alone may be no error.

@@ -4,6 +4,7 @@
 mod commands;
 mod job;
 mod moves;
+mod pace;
 mod phase;
 mod run;
 mod steps;
@@ -12,6 +13,7 @@ mod way;
 mod whole;
 
 pub use job::MAX_BLOCKS;
+pub use pace::Pace;
 pub use run::Run;
 pub use turns::{EXCHANGES_BESIDE_BLOCKS, EXCHANGES_OF_A_BLOCK};
 pub use way::Way;

@@ -6,12 +6,15 @@ ghost use Rattle.mmc_bus.specs.Lending.{IsRewritten};
 ghost use Rattle.mmc_switch.specs.Place.{IsReady};
 ghost use Rattle.mmc_switch.specs.UnderWay.{FailsBy, room_of};
 ghost use Rattle.mmc_transfer.specs.declared.job.TheConstants.{MAX_BLOCKS};
+ghost use Rattle.mmc_transfer.specs.declared.pace.Pace.TheVariants.{Exchange};
 ghost use Rattle.mmc_transfer.specs.declared.way.Way.TheVariants.{Read, Write};
 ghost use Rattle.mmc_transfer.specs.Run.{HasProgressed, HasTurned, IsRunning, IsSameRun, Lowers, exchanges_left, run_then};
+ghost use Rattle.mmc_transfer.specs.First.{Nears};
 ghost use Rattle.mmc_transfer.specs.Fits.{phase_fits, phase_left};
 
 use crate::job::{Job, MAX_BLOCKS};
-use crate::moves::{give, take};
+use crate::moves::{give, give_first, take, take_first};
+use crate::pace::Pace;
 use crate::phase::{Phase, Step};
 use crate::run::Run;
 use crate::steps::step;
@@ -88,6 +91,28 @@ impl Run {
         }
     }
 
+    /// The next exchange of a write as `write_turn` makes it, or its command and all blocks that the bus moves with it.
+    pub fn write_on<B: Bus, D: Blocks>(&mut self, bus: &mut B, blocks: &D, pace: Pace) -> Standing
+        requires way { self.old.job.way ≡ Write }
+        requires count { length (D.blocks blocks.now) ≡ self.old.job.count }
+        ensures bounded { pace ≡ Exchange → (B.view bus.new).exchanges ≤ (B.view bus.old).exchanges + 1 }
+        ensures nears { Nears self.old (B.view bus.old) (run_then self.new result) (B.view bus.new) }
+        ensures kept { (B.view bus.new).is_kept ≡ true → (B.view bus.old).is_kept ≡ true }
+        ensures same { IsSameRun self.old (run_then self.new result) }
+        ensures lowers { Lowers self.old (run_then self.new result) }
+        ensures cause { FailsBy (run_then self.new result) (B.view bus.new) }
+        ensures turned { (B.view bus.new).is_kept ≡ true → (faults : ℕ) → IsRunning self.old (D.blocks blocks.now) faults (B.view bus.old)
+            → HasTurned self.old (D.blocks blocks.now) faults (B.view bus.old) (run_then self.new result) (B.view bus.new) }
+    {
+        match self.phase {
+            Phase::Other(Step::Command) if pace == Pace::Transfer => {
+                let outcome = give_first(bus, &self.job, blocks);
+                self.stand(outcome)
+            }
+            _ => self.write_turn(bus, blocks),
+        }
+    }
+
     /// The next exchange of a read, with the same blocks at each turn. What they hold is open until the read is done. Once it is
     /// done or has failed there is no other.
     pub fn read_turn<B: Bus, D: BlocksMut>(&mut self, bus: &mut B, blocks: &mut D) -> Standing
@@ -112,6 +137,35 @@ impl Run {
                 let outcome = step(bus, &self.job, other);
                 self.stand(outcome)
             }
+        }
+    }
+
+    /// The next exchange of a read as `read_turn` makes it, or its command and all blocks that the bus moves with it.
+    pub fn read_on<B: Bus, D: BlocksMut>(
+        &mut self,
+        bus: &mut B,
+        blocks: &mut D,
+        pace: Pace,
+    ) -> Standing
+        requires way { self.old.job.way ≡ Read }
+        requires count { length (D.blocks blocks.old) ≡ self.old.job.count }
+        ensures bounded { pace ≡ Exchange → (B.view bus.new).exchanges ≤ (B.view bus.old).exchanges + 1 }
+        ensures nears { Nears self.old (B.view bus.old) (run_then self.new result) (B.view bus.new) }
+        ensures kept { (B.view bus.new).is_kept ≡ true → (B.view bus.old).is_kept ≡ true }
+        ensures same { IsSameRun self.old (run_then self.new result) }
+        ensures count { length (D.blocks blocks.new) ≡ length (D.blocks blocks.old) }
+        ensures lent { IsRewritten D.blocks D.with blocks.old blocks.new }
+        ensures lowers { Lowers self.old (run_then self.new result) }
+        ensures cause { FailsBy (run_then self.new result) (B.view bus.new) }
+        ensures turned { (B.view bus.new).is_kept ≡ true → (faults : ℕ) → IsRunning self.old (D.blocks blocks.old) faults (B.view bus.old)
+            → HasTurned self.old (D.blocks blocks.new) faults (B.view bus.old) (run_then self.new result) (B.view bus.new) }
+    {
+        match self.phase {
+            Phase::Other(Step::Command) if pace == Pace::Transfer => {
+                let outcome = take_first(bus, &self.job, blocks);
+                self.stand(outcome)
+            }
+            _ => self.read_turn(bus, blocks),
         }
     }
 

@@ -9,6 +9,7 @@ ghost use Rattle.mmc_transfer.specs.declared.turns.TheConstants.{EXCHANGES_BESID
 ghost use Rattle.mmc_transfer.specs.declared.way.Way.TheVariants.{Read, Write};
 ghost use Rattle.mmc_transfer.specs.Whole.{HasRun};
 
+use crate::pace::Pace;
 use crate::run::Run;
 use crate::way::Way;
 use mmc_bus::{Blocks, BlocksMut, Bus, card_laws};
@@ -41,7 +42,7 @@ pub fn write_run<B: Bus, D: Blocks>(
     card_laws::a_card_at_rest_holds_what_it_stores();
     let mut run = Run::begin(session, start, blocks.len() as u32, Way::Write);
     loop {
-        match run.write_turn(bus, blocks) {
+        match run.write_on(bus, blocks, Pace::Transfer) {
             Standing::GoesOn => {}
             Standing::Done => return Ok(run.into_session()),
             Standing::Failed(cause) => return Err(run.into_session().break_off(cause)),
@@ -76,7 +77,7 @@ pub fn read_run<B: Bus, D: BlocksMut>(
     card_laws::a_card_at_rest_holds_what_it_stores();
     let mut run = Run::begin(session, start, blocks.len() as u32, Way::Read);
     loop {
-        match run.read_turn(bus, blocks) {
+        match run.read_on(bus, blocks, Pace::Transfer) {
             Standing::GoesOn => {}
             Standing::Done => return Ok(run.into_session()),
             Standing::Failed(cause) => return Err(run.into_session().break_off(cause)),

@@ -19,6 +19,7 @@ use Rattle.mmc_block.specs.Execution.Reply.{Accepted, Answers, RefusedFor}
 use Rattle.mmc_block.specs.Machine.{IsMerged, Waiting}
 use Rattle.mmc_block.specs.Service.{in_service_of}
 use Rattle.mmc_block.specs.Turn.{IsTurn}
+use Rattle.mmc_transfer.specs.declared.pace.Pace.TheVariants.{Exchange}
 use Rattle.mmc_block.specs.declared.completion.Completion.{Completion}
 use Rattle.mmc_block.specs.declared.refused.Refused.{Refused}
 use Rattle.mmc_queue.specs.declared.request.Request.{Request}
@@ -194,7 +195,7 @@ turn_numbered k waits served waits_new served_new given h numbered =
     (numbered_behind k h.answered served_new (subst (AreNumbered k) h.served started))
 
 pub turned : {B : Type 0} (view : B → BusView) (old new : DeskView B) (given : List Completion)
-    → IsTurn view old.device given new.device → new.cookies ≡ old.cookies
+    → IsTurn view Exchange old.device given new.device → new.cookies ≡ old.cookies
     → Leads view old (Turns given ∷ []) new
 unfolding cookies_after events_of replies_of
 turned view old new given turn same = record {
@@ -205,7 +206,7 @@ turned view old new given turn same = record {
 }
 
 pub turned_once : {B : Type 0} (view : B → BusView) (old new : DeskView B) (given : List Completion)
-    → IsTurn view old.device given new.device → new.cookies ≡ old.cookies → AnswersEach old (Turns given ∷ []) new
+    → IsTurn view Exchange old.device given new.device → new.cookies ≡ old.cookies → AnswersEach old (Turns given ∷ []) new
 unfolding answered asked times
 turned_once view old new given turn same x =
     let once = turn_once old.cookies x old.device.waits (in_service_of old.device.service) new.device.waits
@@ -340,7 +341,7 @@ cleared_once old new none same x = rw (same, none_pending old.device none) refl
 
 -- a turn, and the replies that its answers are
 pub turn_does : {B E : Type 0} (view : B → BusView) (old new : DeskView B) (given : List Completion)
-    (before after : Option (List ℕ)) (r : Result (Unit {0}) E) → IsTurn view old.device given new.device
+    (before after : Option (List ℕ)) (r : Result (Unit {0}) E) → IsTurn view Exchange old.device given new.device
     → new.cookies ≡ old.cookies → Writes before after r (answers_bytes old.cookies given)
     → Does view old new before after r (Turns given ∷ [])
 unfolding bytes_of
@@ -437,7 +438,7 @@ on_no_ok (Err e) P failed = tt
 
 -- a turn whose answers are kept is a turn
 pub gathered : {B : Type 0} (view : B → BusView) (old new : DeskView B) (given : List Completion)
-    → IsTurn view old.device given new.device → new.cookies ≡ old.cookies
+    → IsTurn view Exchange old.device given new.device → new.cookies ≡ old.cookies
     → Leads view old (Gathers given ∷ []) new
 unfolding cookies_after events_of replies_of
 gathered view old new given turn same =

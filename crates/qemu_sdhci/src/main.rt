@@ -13,7 +13,7 @@ use crate::runs::Card;
 use anyhow::{Result, anyhow};
 use mmc_block::{BlockDev, Part};
 use mmc_host::HostBus;
-use mmc_sdhci::{Buffer, Sdhci};
+use mmc_sdhci::Sdhci;
 use std::env;
 
 const USAGE: &str = "usage: qemu_sdhci RUNS SEED";
@@ -23,7 +23,7 @@ fn open(rt: &impl AllocGlobal) -> Result<Card> {
     let registers = QemuRegisters {
         conversation: Conversation::new(),
     };
-    match Sdhci::new(registers, Buffer::OneBlock) {
+    match Sdhci::new(registers) {
         Err((_, fault)) => Err(fault.into()),
         Ok(host) => match BlockDev::open(rt.alloc(), HostBus::new(host)) {
             Err((_, fault)) => Err(fault.into()),

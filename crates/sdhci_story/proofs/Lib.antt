@@ -1,1 +1,3 @@
+pub mod ConformingLemmas
+pub mod Telling
 pub mod Walks

@@ -1,3 +1,4 @@
 pub mod Access
 pub mod Noted
 pub mod RegisterStory
+pub mod Conforming

@@ -1,14 +1,11 @@
 -- THE ASSUMPTION about an SD host controller and its card, by its registers: there is a story of what the controller was, and each
 -- access is a step of it, as `mmc_sdhci` `Accesses` says what a controller does.
-use Rattle.std.specs.Prelude.{◌≡◌, ◌∷◌, [], List}
+use Rattle.std.specs.Prelude.{◌∷◌, [], List}
 use Rattle.std.proofs.lemmas.Bool.{false≢true}
-use Rattle.mmc_sdhci.specs.Accesses.{Reads, Reads8, Writes, Writes8}
+use Rattle.mmc_sdhci.specs.Accesses.{Passes, Reads, Reads8, Writes, Writes8}
 use Rattle.mmc_sdhci.specs.Controller.{ControllerView}
 use Rattle.mmc_sdhci.specs.Driver.{IsNew, unkept_controller}
-use Rattle.mmc_sdhci.specs.Moving.{WhereKept}
-use Rattle.mmc_sdhci.specs.declared.buffer.Buffer.{Buffer}
-use Rattle.mmc_sdhci.specs.declared.buffer.Buffer.TheVariants.{OneBlock}
-use Rattle.sdhci_story.specs.Access.{Access, Read32, Read8, Write32, Write8}
+use Rattle.sdhci_story.specs.Access.{Access, Pause, Read32, Read8, Write32, Write8}
 
 -- An access is what the controller does.
 abbrev pub IsAccess : ControllerView → Access → ControllerView → Type 0
@@ -16,6 +13,7 @@ IsAccess old (Read32 offset value) new = Reads old offset value new
 IsAccess old (Write32 offset value) new = Writes old offset value new
 IsAccess old (Read8 offset value) new = Reads8 old offset value new
 IsAccess old (Write8 offset value) new = Writes8 old offset value new
+IsAccess old (Pause micros) new = Passes old micros new
 
 -- The assumption.
 pub record RegisterStory : Type 0 where
@@ -23,9 +21,6 @@ pub record RegisterStory : Type 0 where
   pub controller : List Access → ControllerView
   -- before the first access it is new to a driver
   pub begins : IsNew (controller [])
-  -- so much its buffer has room for
-  pub buffer : Buffer
-  pub built : WhereKept (controller []) ((controller []).built.buffer ≡ buffer)
   -- where they have, each access is what a controller does
   pub explains : (access : Access) (past : List Access) → IsAccess (controller past) access (controller (access ∷ past))
 
@@ -35,6 +30,7 @@ never (Read32 offset value) = λ said. absurd (false≢true said)
 never (Write32 offset value) = λ said. absurd (false≢true said)
 never (Read8 offset value) = λ said. absurd (false≢true said)
 never (Write8 offset value) = λ said. absurd (false≢true said)
+never (Pause micros) = λ said. absurd (false≢true said)
 
 abbrev pub never_true : RegisterStory
-never_true = record { controller = λ past. unkept_controller; begins = λ said. absurd (false≢true said); buffer = OneBlock; built = λ said. absurd (false≢true said); explains = λ access past. never access }
+never_true = record { controller = λ past. unkept_controller; begins = λ said. absurd (false≢true said); explains = λ access past. never access }

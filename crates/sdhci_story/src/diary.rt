@@ -47,6 +47,11 @@ pub enum Note {
         /// What was written.
         value: u8,
     },
+    /// Time passed.
+    Pause {
+        /// For so many microseconds.
+        micros: u32,
+    },
 }
 
 impl Diary {

@@ -5,6 +5,7 @@
 #![tactic(auto)]
 
 mod diary;
+pub mod laws;
 mod registers;
 mod story;
 

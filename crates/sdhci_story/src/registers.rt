@@ -4,7 +4,7 @@ ghost use Rattle.mmc_host.specs.Hosts.{IsUnused};
 use crate::diary::{Diary, Note};
 use crate::story::HasRegisterStory;
 use mmc_host::Host;
-use mmc_sdhci::{Buffer, Registers, Sdhci, StartFault};
+use mmc_sdhci::{Registers, Sdhci, StartFault};
 use std::marker::PhantomData;
 
 /// Registers with a diary of their accesses, which exists only in proofs.
@@ -22,7 +22,6 @@ pub struct StoryRegisters<R: Registers, S: HasRegisterStory> {
 
 impl<R: Registers, S: HasRegisterStory> StoryRegisters<R, S> {
     ghost use Rattle.mmc_sdhci.specs.Driver.{IsNew};
-    ghost use Rattle.mmc_sdhci.specs.Moving.{WhereKept};
     ghost use Rattle.sdhci_story.specs.Noted.{access_of};
 
     /// Over registers of which nothing is proved, as of those with the view `unkept_controller`, before any access.
@@ -31,7 +30,6 @@ impl<R: Registers, S: HasRegisterStory> StoryRegisters<R, S> {
         ensures registers { result.registers ≡ registers }
         ensures past { result.diary.past ≡ [] }
         ensures new { IsNew (S.story.controller result.diary.past) }
-        ensures buffer { WhereKept (S.story.controller result.diary.past) ((S.story.controller result.diary.past).built.buffer ≡ S.story.buffer) }
     {
         StoryRegisters {
             registers,
@@ -82,20 +80,19 @@ impl<R: Registers, S: HasRegisterStory> Registers for StoryRegisters<R, S> {
 
     fn pause(&mut self, micros: u32) {
         self.registers.pause(micros);
+        self.note(Note::Pause { micros });
     }
 }
 
-/// The driver over such registers, whose buffer has this much room: a host that conforms where the story is true.
+/// The driver over such registers: a host that conforms where the story is true.
 ///
 /// # Errors
 /// What `Sdhci::new` says.
 pub fn driver<R: Registers, S: HasRegisterStory>(
     registers: R,
-    buffer: Buffer,
 ) -> Result<Sdhci<StoryRegisters<R, S>>, (StoryRegisters<R, S>, StartFault)>
     requires unkept { (R.view registers).is_kept ≡ false }
-    requires buffer { S.story.buffer ≡ buffer }
     ensures unused { IfOk result (λ host. IsUnused (⟦<Sdhci<StoryRegisters<R, S>> as Host>⟧.view host)) }
 {
-    Sdhci::new(StoryRegisters::new(registers), buffer)
+    Sdhci::new(StoryRegisters::new(registers))
 }

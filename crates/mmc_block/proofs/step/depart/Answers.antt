@@ -1,12 +1,15 @@
-use Rattle.std.proofs.Common.{ap}
+use Rattle.std.proofs.Common.{ap, arith, refl}
+use Rattle.mmc_switch.specs.declared.mmc.TheConstants.{EXCHANGES_OF_A_SWITCH}
+use Rattle.mmc_block.specs.Work.{most_ready}
 use Rattle.mmc_block.specs.declared.service.Stage.TheVariants.{At}
-use Rattle.mmc_block.proofs.StepLemmas.{down_turned, up_turned}
+use Rattle.mmc_block.proofs.StepLemmas.{advances_within, down_turned, select_most, up_turned}
 use Rattle.mmc_block.proofs.step.depart.Goals as goal
 
 pub returns-in-Up : goal.returns-in-Up
 returns-in-Up g c = record {
-  stepped = record {
-    advances = rw c.in-Up.is c.change_over.ensures.advances;
+  stepped = λ pace. record {
+    advances = rw c.in-Up.is (advances_within _ _ EXCHANGES_OF_A_SWITCH (most_ready pace) _ _ c.args.group.now c.args.group.now _ _ _
+        refl (select_most pace) (omega arith) c.change_over.ensures.advances);
     servable = c.requires.servable;
     did = λ kept faults at.
         up_turned (At c.args.link) c.in-Up.session c.args.group.now c.args.group.now faults (g.B.Bus.view c.args.bus.now)
@@ -16,7 +19,7 @@ returns-in-Up g c = record {
 
 pub returns-in-Down : goal.returns-in-Down
 returns-in-Down g c = record {
-  stepped = record {
+  stepped = λ pace. record {
     advances = rw c.in-Down.is (c.restore.ensures.advances c.args.group.now c.requires.joined);
     servable = c.requires.servable;
     did = λ kept faults at.

@@ -31,12 +31,12 @@ pub returns-in-Blocks-clause-advances : goal.returns-in-Blocks-clause-advances
 returns-in-Blocks-clause-advances g c =
     let e = c.move_on.ensures in
     let of = rw c.in-Blocks.is at c.requires.of in
-    rw c.in-Blocks.is (blocks_advance c.in-Blocks.run' c.move_on.new.run c.move_on.result c.args.group.now
-    c.move_on.new.group _ _ of e.lent e.extent e.joined e.bounded e.kept e.same e.lowers e.cause)
+    rw c.in-Blocks.is (blocks_advance c.args.pace c.in-Blocks.run' c.move_on.new.run c.move_on.result c.args.group.now
+    c.move_on.new.group _ _ of e.lent e.extent e.joined e.bounded e.nears e.kept e.same e.lowers e.cause)
 
 pub returns-in-Erase-clause-advances : goal.returns-in-Erase-clause-advances
 returns-in-Erase-clause-advances g c =
     let e = c.turn.ensures in
     let of = rw c.in-Erase.is at c.requires.of in
-    rw c.in-Erase.is (erase_advance c.in-Erase.run' c.turn.new.self c.turn.result c.args.group.now _ _ of
+    rw c.in-Erase.is (erase_advance c.args.pace c.in-Erase.run' c.turn.new.self c.turn.result c.args.group.now _ _ of
     c.requires.joined e.bounded e.kept e.same e.lowers e.cause)

@@ -6,7 +6,7 @@ pub returns-in-GoesOn-clause-stepped : goal.returns-in-GoesOn-clause-stepped
 returns-in-GoesOn-clause-stepped g c =
     let running = rw (c.in-Serving-Running.is, c.in-Serving-Running.field-0-is) at c.requires.running in
     rw (c.in-Serving-Running.is, c.in-Serving-Running.field-0-is)
-    (λ was. run_stepped c.in-Serving-Running.work c.exchange.new.work c.exchange.result c.args.group.now c.exchange.new.group _ _ _
+    (λ was. run_stepped c.args.pace c.in-Serving-Running.work c.exchange.new.work c.exchange.result c.args.group.now c.exchange.new.group _ _ _
     (rw c.in-GoesOn.is refl) running.0 c.exchange.ensures.advances c.exchange.ensures.did)
 
 pub returns-in_default : goal.returns-in_default
@@ -15,6 +15,6 @@ returns-in_default g c =
     record {
       held = c.end.ensures.held;
       stepped = rw (c.in-Serving-Running.is, c.in-Serving-Running.field-0-is)
-          (λ was. run_stepped c.in-Serving-Running.work c.exchange.new.work c.exchange.result c.args.group.now
+          (λ was. run_stepped c.args.pace c.in-Serving-Running.work c.exchange.new.work c.exchange.result c.args.group.now
           c.exchange.new.group _ _ _ (c.end.ensures.left was) running.0 c.exchange.ensures.advances c.exchange.ensures.did);
     }

@@ -9,17 +9,17 @@ pub returns-in-Read-clause-turned : goal.returns-in-Read-clause-turned
 returns-in-Read-clause-turned g c kept faults at =
     let run = c.args.run.now in
     let old = g.B.Bus.view c.args.bus.now in
-    let then = run_then c.read_turn.new.self c.read_turn.result in
-    subst (λ bs. HasTurned run bs faults old then (g.B.Bus.view c.read_turn.new.bus))
-    (sym (room_is_lent run.job.way _ c.read_turn.new.blocks c.in-Read.is c.requires.of.1))
-    (c.read_turn.ensures.turned kept faults
+    let then = run_then c.read_on.new.self c.read_on.result in
+    subst (λ bs. HasTurned run bs faults old then (g.B.Bus.view c.read_on.new.bus))
+    (sym (room_is_lent run.job.way _ c.read_on.new.blocks c.in-Read.is c.requires.of.1))
+    (c.read_on.ensures.turned kept faults
     (subst (λ bs. IsRunning run bs faults old) (room_is_lent run.job.way _ c.args.group.now c.in-Read.is c.requires.of.1) at))
 
 pub returns-in-Write : goal.returns-in-Write
 returns-in-Write g c =
     let run = c.args.run.now in
     let old = g.B.Bus.view c.args.bus.now in
-    let then = run_then c.write_turn.new.self c.write_turn.result in
+    let then = run_then c.write_on.new.self c.write_on.result in
     let lent = bytes_are_lent run.job.way _ c.args.group.now c.in-Write.is c.requires.of.1
     ∙ ap write_blocks_of (sym c.writes.ensures) in
     record {
@@ -27,12 +27,13 @@ returns-in-Write g c =
       extent = refl;
       joined = c.requires.joined;
       writes = λ is. refl;
-      bounded = c.write_turn.ensures.bounded;
-      kept = c.write_turn.ensures.kept;
-      same = c.write_turn.ensures.same;
-      lowers = c.write_turn.ensures.lowers;
-      cause = c.write_turn.ensures.cause;
+      bounded = c.write_on.ensures.bounded;
+      nears = c.write_on.ensures.nears;
+      kept = c.write_on.ensures.kept;
+      same = c.write_on.ensures.same;
+      lowers = c.write_on.ensures.lowers;
+      cause = c.write_on.ensures.cause;
       turned = λ kept faults at.
-          subst (λ bs. HasTurned run bs faults old then (g.B.Bus.view c.write_turn.new.bus)) (sym lent)
-          (c.write_turn.ensures.turned kept faults (subst (λ bs. IsRunning run bs faults old) lent at));
+          subst (λ bs. HasTurned run bs faults old then (g.B.Bus.view c.write_on.new.bus)) (sym lent)
+          (c.write_on.ensures.turned kept faults (subst (λ bs. IsRunning run bs faults old) lent at));
     }

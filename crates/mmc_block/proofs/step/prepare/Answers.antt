@@ -6,8 +6,8 @@ use Rattle.mmc_block.specs.declared.service.Stage.TheVariants.{At}
 use Rattle.mmc_block.proofs.step.prepare.Goals as goal
 
 pub returns-clause-stepped : goal.returns-clause-stepped
-returns-clause-stepped g c =
+returns-clause-stepped g c pace =
     let stage : Stage = At c.in-Serving-At.link in
     rw (← c.replace.ensures.value, c.in-Serving-At.is, c.in-Serving-At.field-0-is)
-    (subst (λ (o : Progress Stage). Stepped stage c.args.group.now (g.B.Bus.view c.args.bus.now) o c.args.group.now
-    (g.B.Bus.view c.depart.new.bus)) (sym (c.left.ensures.left stage)) c.depart.ensures.stepped)
+    (subst (λ (o : Progress Stage). Stepped pace stage c.args.group.now (g.B.Bus.view c.args.bus.now) o c.args.group.now
+    (g.B.Bus.view c.depart.new.bus)) (sym (c.left.ensures.left stage)) (c.depart.ensures.stepped pace))

@@ -1,5 +1,5 @@
 use Rattle.std.proofs.Common.{arith, refl, rules}
-use Rattle.mmc_block.proofs.StepLemmas.{down_did, same_lent, up_did}
+use Rattle.mmc_block.proofs.StepLemmas.{down_did, settle_paid, same_lent, up_did}
 use Rattle.mmc_block.proofs.step.restore.Goals as goal
 
 pub returns-in-Ok-clause-advances : goal.returns-in-Ok-clause-advances
@@ -11,6 +11,7 @@ returns-in-Ok-clause-advances g c group joined = record {
   info_is = c.in-Ok.ensures.ok.0;
   lowers = search rules;
   bounded = c.settle.ensures.bounded;
+  paid = (settle_paid c.in-Ok.session c.args.broken group.extent.part (g.B.Bus.view c.args.bus.now) (g.B.Bus.view c.settle.new.bus) c.settle.ensures.bounded).0;
   kept = c.settle.ensures.kept;
   cause = tt;
 }
@@ -24,6 +25,7 @@ returns-in-Err-clause-advances g c group joined = record {
   info_is = search rules;
   lowers = omega arith;
   bounded = c.settle.ensures.bounded;
+  paid = (settle_paid c.in-Err.broken.session c.in-Err.broken group.extent.part (g.B.Bus.view c.args.bus.now) (g.B.Bus.view c.settle.new.bus) c.settle.ensures.bounded).1;
   kept = c.settle.ensures.kept;
   cause = search rules;
 }

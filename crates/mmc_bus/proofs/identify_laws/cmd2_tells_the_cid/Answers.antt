@@ -1,4 +1,4 @@
-use Rattle.std.proofs.Common.{ap, refl}
+use Rattle.std.proofs.Common.{◌∙◌, ◌≡◌, ap, refl}
 use Rattle.mmc_frame.specs.declared.card_state.State.TheVariants.{Ready}
 use Rattle.mmc_bus.proofs.Readers.{with_errors}
 use Rattle.mmc_bus.proofs.CommandLemmas.{does_in, low_reached}
@@ -11,8 +11,12 @@ use Rattle.mmc_card.specs.Rows.{row}
 
 pub returns : goal.returns
 returns c = λ old new argument heard facts k.
-    does_in register_of Ready (λ card. card.made.cid) _ (λ card. R2 card.made.cid) AllSendCid old 2 argument heard new facts refl
+    does_in register_of Ready (λ card cid. cid ≡ card.made.cid) _ (λ card. R2 card.made.cid) AllSendCid old 2 argument heard new facts refl
     refl refl (λ errors choice there. ap (λ (c : Card). row choice AllSendCid c 2 argument)
     (low_reached AllSendCid (with_errors errors old.card) Ready k.held there refl))
-    (λ errors. ap or_unsound (c.register_comes_back.ensures old.card.made.cid k.registers.cid k.registers.cid_check
-    k.registers.cid_end))
+    (λ errors said is. (
+      old.card.made.cid,
+      ap register_of is ∙ ap or_unsound (c.register_comes_back.ensures old.card.made.cid k.registers.cid k.registers.cid_check
+          k.registers.cid_end),
+      refl,
+    ))

@@ -2,6 +2,7 @@ use Rattle.std.proofs.Common.{ap, refl, true}
 use Rattle.mmc_frame.specs.declared.card_state.State.TheVariants.{Idle}
 use Rattle.mmc_bus.proofs.Readers.{with_errors}
 use Rattle.mmc_bus.proofs.CommandLemmas.{does, dropped, either_in, in_either, named, owns, told_by_kind, unheard}
+use Rattle.mmc_bus.proofs.CommandLemmas.{r1_told}
 use Rattle.mmc_card.proofs.Narrow.{both}
 use Rattle.mmc_bus.proofs.identify_laws.cmd55_announces_an_application_command.Goals as goal
 use Rattle.mmc_card.specs.CardAnswer.{Checked, shown, status}
@@ -10,11 +11,12 @@ use Rattle.mmc_bus.specs.Heard.{response_of}
 use Rattle.mmc_card.specs.Made.{is_sd}
 use Rattle.mmc_card.specs.Rows.{without_addresses}
 use Rattle.mmc_card.specs.declared.command.Command.TheVariants.{AppCmd}
+use Rattle.mmc_card.specs.Judged.{Shows}
 
 pub returns : goal.returns
 returns c = record {
   idle = λ old new argument heard facts k.
-      does (response_of 55) _ (λ card. status true (without_addresses card)) _
+      does (response_of 55) _ (λ card. Shows (without_addresses card)) _
       (λ card. Checked 55 (status true (without_addresses card))) AppCmd old 55 argument heard new facts refl
       (λ own legal. let h = both (is_sd old.card.made.kind) _ legal in (
         told_by_kind old.card.made.kind h.0,
@@ -28,7 +30,8 @@ returns c = record {
       (λ errors choice there. ap (λ (d : Card). (
         record d { app = true },
         Checked 55 (status true (without_addresses (with_errors errors old.card))),
-      )) (dropped shown (with_errors errors old.card) refl)) (λ errors. refl);
+      )) (dropped shown (with_errors errors old.card) refl)) (λ errors said is. r1_told old.card.made.kind 55 true
+      (without_addresses (with_errors errors old.card)) said refl is);
   mmc = λ old new argument heard facts k kind mine.
       unheard (response_of 55) AppCmd old 55 argument heard new facts refl (owns argument old.card mine)
       (rw kind refl) refl;

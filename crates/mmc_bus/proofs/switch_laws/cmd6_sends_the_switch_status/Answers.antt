@@ -1,7 +1,7 @@
 use Rattle.std.proofs.Common.{◌∙◌, ◌≡◌, ap, false, refl, sym, ℕ}
 use Rattle.mmc_frame.specs.declared.card_state.State.TheVariants.{Tran}
 use Rattle.mmc_bus.proofs.Readers.{with_errors}
-use Rattle.mmc_bus.proofs.CommandLemmas.{comes, does_known_chosen, dropped, switch_bytes}
+use Rattle.mmc_bus.proofs.CommandLemmas.{comes, does_known_chosen, dropped, r1_told, switch_bytes}
 use Rattle.mmc_bus.proofs.switch_laws.cmd6_sends_the_switch_status.Goals as goal
 use Rattle.mmc_bus.specs.CommandLaws.{bytes_sent}
 use Rattle.mmc_bus.specs.Heard.{response_of}
@@ -14,6 +14,7 @@ use Rattle.mmc_card.specs.RowsErase.{forgotten}
 use Rattle.mmc_card.specs.RowsSwitch.{switch_source}
 use Rattle.mmc_card.specs.RowsTransfer.{sending, sending_from}
 use Rattle.mmc_card.specs.declared.command.Command.TheVariants.{SwitchFunc}
+use Rattle.mmc_card.specs.Judged.{Shows}
 
 -- the row, from the card as it was
 sends : (choice : Choice) (card : Card) (argument : ℕ)
@@ -31,7 +32,7 @@ returns c = record {
   does = λ old new argument heard facts kind app.
       does_known_chosen {N = Source} (response_of 6) Tran (has_switch_function old.card.made)
       (λ choice. switch_source choice old.card argument) (λ (card : Card). card.source)
-      (λ card. status false (without_addresses card))
+      (λ card. Shows (without_addresses card))
       (λ source. sending (bytes_sent source) (timing_once_sent source old.card.timing) (forgotten old.card))
       (λ card. Checked 6 (status false (without_addresses card))) SwitchFunc old 6 argument heard new facts
       (rw (kind, app) refl) refl refl
@@ -41,7 +42,8 @@ returns c = record {
         Checked 6 (status false (without_addresses (with_errors errors old.card))),
       ))
       (sym (switch_bytes old.card.timing old.card argument _ (choice, refl))))
-      (λ errors. refl) (λ choice. switch_bytes old.card.timing old.card argument _ (choice, refl));
+      (λ errors said is. r1_told old.card.made.kind 6 false
+      (without_addresses (with_errors errors old.card)) said refl is) (λ choice. switch_bytes old.card.timing old.card argument _ (choice, refl));
   sends = λ old new argument told heard facts kind app h.
       let o = facts.sound told h in
       let d = comes o.choice SwitchFunc (left_with o.left old.card) 6 argument _ (rw (kind, app) refl)

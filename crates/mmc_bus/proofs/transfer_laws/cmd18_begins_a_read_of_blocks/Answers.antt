@@ -7,5 +7,5 @@ use Rattle.mmc_card.specs.RowsTransfer.{begun, preset}
 
 pub returns : goal.returns
 returns c = λ old new address heard facts card.
-    begins false 18 _ old address heard new facts card refl refl
+    begins false 18 _ old address heard new facts card refl refl refl
     (λ errors choice. transfers false 18 (with_errors errors old.card) address (λ d. begun Data false (preset d) d address) refl)

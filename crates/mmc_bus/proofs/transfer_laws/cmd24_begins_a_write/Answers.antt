@@ -8,5 +8,5 @@ use Rattle.mmc_card.specs.RowsTransfer.{begun}
 
 pub returns : goal.returns
 returns c = λ old new address heard facts card.
-    begins true 24 _ old address heard new facts card refl refl
+    begins true 24 _ old address heard new facts card refl refl refl
     (λ errors choice. transfers true 24 (with_errors errors old.card) address (λ d. begun Rcv true (Some 1) d address) refl)

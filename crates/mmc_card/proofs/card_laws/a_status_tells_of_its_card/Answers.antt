@@ -1,13 +1,15 @@
-use Rattle.mmc_card.proofs.StatusLemmas.{clean_status, lagging_is_not_clean, lagging_status, own_status_errors, status_at_end, status_errors, status_state}
+use Rattle.mmc_card.proofs.JudgedLemmas.{told_at_end, told_at_work, told_clean, told_errors, told_lock, told_own, told_state}
+use Rattle.mmc_card.proofs.JudgedLemmas.{told_unclean}
 use Rattle.mmc_card.proofs.card_laws.a_status_tells_of_its_card.Goals as goal
 
 pub returns : goal.returns
 returns c = record {
-  state = status_state;
-  errors = status_errors;
-  own = own_status_errors;
-  clean = clean_status;
-  at_end = status_at_end;
-  lagging = lagging_status;
-  lags_unclean = lagging_is_not_clean;
+  state = told_state;
+  errors = told_errors;
+  own = told_own;
+  clean = told_clean;
+  at_end = told_at_end;
+  lagging = told_at_work;
+  lags_unclean = told_unclean;
+  locked = told_lock;
 }

@@ -17,5 +17,6 @@ returns-clause-moves g c kept =
     let is_rca = c.rca_argument.ensures.names in
     moved_by old 7 argument heard new none k
     (λ ok. selected_own rca argument old heard new is_rca k.was_card law (subst IsOk c.selected.ensures ok))
-    (λ same profile named. let f = selected_fine rca argument old heard new is_rca k.was_card profile law same named in
+    (λ same profile named. let f = selected_fine rca argument old heard new is_rca c.a_status_tells_of_its_card.ensures.locked
+    k.was_card profile law same named in
     (subst IsOk (sym c.selected.ensures) f.0, f.1))

@@ -1,6 +1,6 @@
 use Rattle.std.proofs.Common.{◌∙◌, arith, inl, inr, sym}
-use Rattle.mmc_sdhci.proofs.Sending.{lost, sent, sent_and_dropped}
-use Rattle.mmc_sdhci.proofs.command.send.Goals.{then-bits-eq0-via-else-bits-eq0+then-bits-eq1, then-bits-eq0-via-then-bits-eq0}
+use Rattle.mmc_sdhci.proofs.Sending.{lost, lost_rests, sent, sent_and_dropped}
+use Rattle.mmc_sdhci.proofs.command.send.Goals.{then-bits-eq0-via-else-bits-eq0+then-bits-ne0, then-bits-eq0-via-then-bits-eq0}
 use Rattle.mmc_sdhci.proofs.command.send.Goals as goal
 
 pub returns-then-bits-eq0-clause-sent : goal.returns-then-bits-eq0-clause-sent
@@ -10,7 +10,7 @@ returns-then-bits-eq0-clause-sent g c =
     (g.R.Registers.view c.reset_data.new.registers) c.args.command c.wait-bits.result c.fault_in.result
     (elim c.then-bits-eq0.branch [
       | then-bits-eq0-via-then-bits-eq0 w ↦ inl (omega (arith, w.if-bits-eq0))
-      | then-bits-eq0-via-else-bits-eq0+then-bits-eq1 w ↦ inr (omega (arith, w.if-bits-eq1))
+      | then-bits-eq0-via-else-bits-eq0+then-bits-ne0 w ↦ inr w.if-bits-ne0.true
     ])
     c.begin.ensures c.wait-bits.ensures c.reset_command.ensures c.reset_data.ensures
 
@@ -19,12 +19,23 @@ returns-then-not-has_data-clause-sent g c =
     sent (g.R.Registers.view c.args.registers.now) (g.R.Registers.view c.begin.new.registers)
     (g.R.Registers.view c.wait-bits.new.registers) (g.R.Registers.view c.hear-heard.new.registers) c.args.command
     c.wait-bits.result c.hear-heard.result (λ h. omega (arith, h, c.if-bits-eq0.false))
-    (λ h. omega (arith, h, c.if-bits-eq1.false)) c.begin.ensures c.wait-bits.ensures c.hear-heard.ensures
+    (omega (arith, c.if-bits-ne0.false)) c.begin.ensures c.wait-bits.ensures c.hear-heard.ensures
 
 pub returns-clause-sent : goal.returns-clause-sent
 returns-clause-sent g c =
     sent_and_dropped (g.R.Registers.view c.args.registers.now) (g.R.Registers.view c.begin.new.registers)
     (g.R.Registers.view c.wait-bits.new.registers) (g.R.Registers.view c.hear-heard.new.registers)
     (g.R.Registers.view c.reset_data-2.new.registers) c.args.under_way c.args.command c.wait-bits.result c.hear-heard.result
-    (λ h. omega (arith, h, c.if-bits-eq0.false)) (λ h. omega (arith, h, c.if-bits-eq1.false)) (sym c.has_data.ensures ∙ c.if-not-has_data.false) c.requires.free
+    (λ h. omega (arith, h, c.if-bits-eq0.false)) (omega (arith, c.if-bits-ne0.false)) (sym c.has_data.ensures ∙ c.if-not-has_data.false) c.requires.free
     c.begin.ensures c.wait-bits.ensures c.hear-heard.ensures c.reset_data-2.ensures
+
+pub returns-then-bits-eq0-clause-rest : goal.returns-then-bits-eq0-clause-rest
+returns-then-bits-eq0-clause-rest g c =
+    lost_rests (g.R.Registers.view c.args.registers.now) (g.R.Registers.view c.begin.new.registers)
+    (g.R.Registers.view c.wait-bits.new.registers) (g.R.Registers.view c.reset_command.new.registers)
+    (g.R.Registers.view c.reset_data.new.registers) c.args.command c.wait-bits.result
+    (elim c.then-bits-eq0.branch [
+      | then-bits-eq0-via-then-bits-eq0 w ↦ inl (omega (arith, w.if-bits-eq0))
+      | then-bits-eq0-via-else-bits-eq0+then-bits-ne0 w ↦ inr w.if-bits-ne0.true
+    ])
+    c.requires.rest c.begin.ensures c.wait-bits.ensures c.reset_command.ensures c.reset_data.ensures

@@ -1,5 +1,5 @@
 use Rattle.std.proofs.Common.{◌∙◌, sym}
-use Rattle.mmc_sdhci.proofs.Blocks.{not_gone, write_failed_by, write_lost}
+use Rattle.mmc_sdhci.proofs.Blocks.{not_gone, seen_gone, write_failed_by, write_lost}
 use Rattle.mmc_sdhci.specs.declared.watching.Sought.TheVariants.{Gone}
 use Rattle.mmc_sdhci.proofs.data.see_gone.Goals as goal
 
@@ -7,7 +7,7 @@ pub returns-in_default : goal.returns-in_default
 returns-in_default g c =
     let v0 = g.R.Registers.view c.args.registers.now in
     not_gone v0 _
-    (write_lost (Gone c.args.buffer) v0 (g.R.Registers.view c.watch.new.registers)
+    (write_lost (Gone c.args.following) v0 (g.R.Registers.view c.watch.new.registers)
     (g.R.Registers.view c.reset_data.new.registers) c.watch.result c.in_default.not-Some
     (λ k. ((c.requires k).0, (c.requires k).1.0)) c.watch.ensures c.reset_data.ensures)
 
@@ -15,7 +15,12 @@ pub returns-then-is_error : goal.returns-then-is_error
 returns-then-is_error g c =
     let v0 = g.R.Registers.view c.args.registers.now in
     not_gone v0 _
-    (write_failed_by (Gone c.args.buffer) v0 (g.R.Registers.view c.watch.new.registers)
+    (write_failed_by (Gone c.args.following) v0 (g.R.Registers.view c.watch.new.registers)
     (g.R.Registers.view c.reset_data-then-is_error.new.registers) c.watch.result c.in-Some.seen c.in-Some.is
     (sym c.is_error.ensures ∙ c.if-is_error.true) (λ k. ((c.requires k).0, (c.requires k).1.0)) c.watch.ensures
     c.reset_data-then-is_error.ensures)
+
+pub returns : goal.returns
+returns g c =
+    seen_gone c.args.following (g.R.Registers.view c.args.registers.now) (g.R.Registers.view c.watch.new.registers) c.watch.result
+    c.in-Some.seen c.in-Some.is (sym c.is_error.ensures ∙ c.if-is_error.false) c.requires c.watch.ensures

@@ -3,11 +3,10 @@ use Rattle.mmc_sdhci.proofs.data.write_block.Goals as goal
 
 pub returns-then-not-find_room-clause-written : goal.returns-then-not-find_room-clause-written
 returns-then-not-find_room-clause-written g c =
-    unsent (g.R.Registers.view c.args.registers.now) (g.R.Registers.view c.go_on.new.registers) _ c.args.block.now
-    c.find_room.result c.go_on.ensures c.find_room.ensures c.if-not-find_room.true
+    unsent (g.R.Registers.view c.args.registers.now) _ c.args.block.now c.find_room.result c.find_room.ensures
+    c.if-not-find_room.true
 
-pub put-requires : goal.put-requires
-put-requires g c =
-    has_room (g.R.Registers.view c.args.registers.now) (g.R.Registers.view c.go_on.new.registers)
-    (g.R.Registers.view c.find_room.new.registers) _ c.args.under_way c.args.buffer c.find_room.result c.requires.rest
-    c.requires.going c.go_on.ensures c.find_room.ensures c.if-not-find_room.false c.write32.ensures
+pub write_port-requires : goal.write_port-requires
+write_port-requires g c =
+    has_room (g.R.Registers.view c.args.registers.now) (g.R.Registers.view c.find_room.new.registers) c.args.under_way
+    c.find_room.result c.requires.rest c.requires.going c.find_room.ensures c.if-not-find_room.false

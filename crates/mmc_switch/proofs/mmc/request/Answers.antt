@@ -1,4 +1,4 @@
-use Rattle.std.proofs.Common.{arith, false}
+use Rattle.std.proofs.Common.{arith}
 use Rattle.mmc_frame.specs.declared.kind.Kind.TheVariants.{Mmc}
 use Rattle.mmc_switch.proofs.SwitchLemmas.{requested}
 use Rattle.mmc_switch.proofs.mmc.request.Goals as goal
@@ -15,5 +15,5 @@ returns-clause-done g c kept =
     (λ is. absurd (omega (arith, is))) in
     requested argument heard c.check_own.result old new none e.lines k
     (λ after. c.cmd6_switches_an_emmc_device.ensures old new argument heard after k.step)
-    (c.a_status_tells_of_its_card.ensures.errors Mmc false old.card k.was_card) c.check_own.ensures.ok
+    (λ told. c.a_status_tells_of_its_card.ensures.errors Mmc told old.card k.was_card) c.check_own.ensures.ok
     c.check_own.ensures.all

@@ -18,7 +18,7 @@ returns-in_err-check_own-clause-moves g c kept =
     let judged = c.in_err-check_own.ensures in
     let k = asked.exchanged.kept kept in
     let none = c.no_command_but_erase_widens.ensures a.card 51 0 (omega arith) (λ e. absurd (omega (arith, e))) in
-    let p = commanded {Asks = Unit {0}} Sd true bytes timing a 51 0 c.ask.result b (Err cause) asked
+    let p = commanded {Asks = Unit {0}} Sd bytes timing a 51 0 c.ask.result b (Err cause) asked
     kept none c.a_status_tells_of_its_card.ensures.errors judged.ok judged.all
     (λ asks. c.acmd51_sends_the_scr.ensures _ _ _ _ k.step) in
     scr_sent r a b
@@ -39,7 +39,7 @@ returns-in_err-receive-clause-moves g c kept =
     let q = c.in_err-receive.ensures.works kept in
     let k = asked.exchanged.kept q.was_kept in
     let none = c.no_command_but_erase_widens.ensures a.card 51 0 (omega arith) (λ e. absurd (omega (arith, e))) in
-    let p = commanded {Asks = Unit {0}} Sd true bytes timing a 51 0 c.ask.result b (Ok tt) asked
+    let p = commanded {Asks = Unit {0}} Sd bytes timing a 51 0 c.ask.result b (Ok tt) asked
     q.was_kept none c.a_status_tells_of_its_card.ensures.errors judged.ok judged.all
     (λ asks. c.acmd51_sends_the_scr.ensures _ _ _ _ k.step) in
     scr_sent r a d
@@ -58,7 +58,7 @@ returns-clause-moves g c kept =
     let q = c.in_ok-receive.ensures.works kept in
     let k = asked.exchanged.kept q.was_kept in
     let none = c.no_command_but_erase_widens.ensures a.card 51 0 (omega arith) (λ e. absurd (omega (arith, e))) in
-    let p = commanded {Asks = Unit {0}} Sd true bytes timing a 51 0 c.ask.result b (Ok tt) asked
+    let p = commanded {Asks = Unit {0}} Sd bytes timing a 51 0 c.ask.result b (Ok tt) asked
     q.was_kept none c.a_status_tells_of_its_card.ensures.errors judged.ok judged.all
     (λ asks. c.acmd51_sends_the_scr.ensures _ _ _ _ k.step) in
     scr_sent (Ok c.new.result) a d

@@ -1,4 +1,4 @@
-use Rattle.std.proofs.Common.{arith, false}
+use Rattle.std.proofs.Common.{arith}
 use Rattle.mmc_switch.proofs.BlockLengthLemmas.{length_set}
 use Rattle.mmc_switch.proofs.widening.set_block_length.Goals as goal
 
@@ -14,5 +14,5 @@ returns-clause-moves g c kept =
     (λ is. absurd (omega (arith, is))) in
     length_set kind heard c.check_own.result old new none e.lines k
     (c.cmd16_sets_the_block_length.ensures old new heard k.step)
-    (c.a_status_tells_of_its_card.ensures.errors kind false old.card k.was_card) c.check_own.ensures.ok
+    (λ told. c.a_status_tells_of_its_card.ensures.errors kind told old.card k.was_card) c.check_own.ensures.ok
     c.check_own.ensures.all

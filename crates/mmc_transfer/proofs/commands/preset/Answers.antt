@@ -13,5 +13,6 @@ returns-clause-works g c kept =
     (λ ok none. let judged = c.check_r1.ensures.ok ok in
     (law.sound judged.0 judged.1).2 ∙ ap (λ old. preset_to old c.args.count) (forgets_none card none))
     (λ same can. let obeys = can.obeys in
-    c.check_r1.ensures.all _ (law.fine same (obeys.tran, can.knows)).0
-    (shows_no_error c.args.kind card c.a_status_tells_of_its_card.ensures.errors k.was_card obeys))
+    let told = (law.fine same (obeys.tran, can.knows)).0 in
+    c.check_r1.ensures.all told.0 told.1
+    (shows_no_error c.args.kind card c.a_status_tells_of_its_card.ensures.errors k.was_card obeys told.0 told.2))

@@ -23,6 +23,6 @@ returns-clause-works g c kept =
     ))
     (λ same can.
     let told = law.fine same can.moving in
-    c.check_stop.ensures.all (status false card) (told.1 ∙ ap (λ x. Ok x) told.2.0)
-    (shows_it_stops c.args.kind c.args.may_run_out card c.a_status_tells_of_its_card.ensures.errors
-    c.a_status_tells_of_its_card.ensures.at_end k.was_card can))
+    c.check_stop.ensures.all told.0 told.1
+    (shows_it_stops c.args.kind c.args.may_run_out card told.0 c.a_status_tells_of_its_card.ensures.errors
+    c.a_status_tells_of_its_card.ensures.at_end k.was_card told.2.0 can))

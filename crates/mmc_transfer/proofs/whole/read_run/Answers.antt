@@ -13,19 +13,19 @@ loop-run-init g c = (
   nothing,
 )
 
-pub read_turn-requires-clause-count : goal.read_turn-requires-clause-count
-read_turn-requires-clause-count g c =
+pub read_on-requires-clause-count : goal.read_on-requires-clause-count
+read_on-requires-clause-count g c =
     let i = c.loop-run.invariant.0 in i.count ∙ ap (λ (j : Job). j.count) (sym i.job)
 
 pub loop-run-preserved : goal.loop-run-preserved
 loop-run-preserved g c =
     let e = c.in-GoesOn.ensures in
     let was = g.D.Blocks.blocks c.loop-run.blocks in
-    let blocks = g.D.Blocks.blocks c.read_turn.new.blocks in (
-      along_next c.begin-run.result c.loop-run.run c.read_turn.new.self was blocks _ _ _
+    let blocks = g.D.Blocks.blocks c.read_on.new.blocks in (
+      along_next c.begin-run.result c.loop-run.run c.read_on.new.self was blocks _ _ _
           (same_change c.begin-run.result.job was blocks c.begin-run.ensures.way) e.count c.loop-run.invariant.0
-          e.bounded e.kept e.same e.lowers e.turned,
-      rewritten_then c.args.blocks.now c.loop-run.blocks c.read_turn.new.blocks c.loop-run.invariant.1 e.lent,
+          e.nears e.kept e.same e.turned,
+      rewritten_then c.args.blocks.now c.loop-run.blocks c.read_on.new.blocks c.loop-run.invariant.1 e.lent,
     )
 
 pub returns-in-Done-clause-count : goal.returns-in-Done-clause-count
@@ -37,10 +37,10 @@ returns-in-Done-clause-run g c kept ready =
     let b = c.begin-run.ensures in
     let e = c.in-Done.ensures in
     let was = g.D.Blocks.blocks c.loop-run.blocks in
-    let blocks = g.D.Blocks.blocks c.read_turn.new.blocks in
+    let blocks = g.D.Blocks.blocks c.read_on.new.blocks in
     rw c.into_session.ensures (run_done c.begin-run.result c.loop-run.run was blocks _ _ _ c.args.session c.args.start _
     (same_change c.begin-run.result.job was blocks b.way) b.session b.start b.way c.loop-run.invariant.0 (e.kept kept)
-    ready c.read_turn.new.self.job.session c.a_card_at_rest_holds_what_it_stores.ensures (e.count ∙ c.loop-run.invariant.0.count) e.same
+    ready c.read_on.new.self.job.session c.a_card_at_rest_holds_what_it_stores.ensures (e.count ∙ c.loop-run.invariant.0.count) e.same
     (e.turned kept))
 
 pub returns-in-Failed-clause-count : goal.returns-in-Failed-clause-count
@@ -52,16 +52,16 @@ returns-in-Failed-clause-run g c kept ready =
     let b = c.begin-run.ensures in
     let e = c.in-Failed.ensures in
     let was = g.D.Blocks.blocks c.loop-run.blocks in
-    let blocks = g.D.Blocks.blocks c.read_turn.new.blocks in
+    let blocks = g.D.Blocks.blocks c.read_on.new.blocks in
     rw (c.break_off.ensures, c.into_session-in-Failed.ensures) (run_failed c.begin-run.result c.loop-run.run was blocks _ _ _ c.args.session c.args.start _
     (same_change c.begin-run.result.job was blocks b.way) b.session b.start b.way c.loop-run.invariant.0 (e.kept kept)
-    ready (broken_off c.read_turn.new.self.job.session c.in-Failed.cause) (e.turned kept))
+    ready (broken_off c.read_on.new.self.job.session c.in-Failed.cause) (e.turned kept))
 
 pub returns-in-Done-clause-lent : goal.returns-in-Done-clause-lent
 returns-in-Done-clause-lent g c =
-    rewritten_then c.args.blocks.now c.loop-run.blocks c.read_turn.new.blocks c.loop-run.invariant.1 c.in-Done.ensures.lent
+    rewritten_then c.args.blocks.now c.loop-run.blocks c.read_on.new.blocks c.loop-run.invariant.1 c.in-Done.ensures.lent
 
 pub returns-in-Failed-clause-lent : goal.returns-in-Failed-clause-lent
 returns-in-Failed-clause-lent g c =
-    rewritten_then c.args.blocks.now c.loop-run.blocks c.read_turn.new.blocks c.loop-run.invariant.1
+    rewritten_then c.args.blocks.now c.loop-run.blocks c.read_on.new.blocks c.loop-run.invariant.1
     c.in-Failed.ensures.lent

@@ -12,8 +12,8 @@ pub loop-run-preserved : goal.loop-run-preserved
 loop-run-preserved g c =
     let blocks = g.D.Blocks.blocks c.args.blocks.now in
     let e = c.in-GoesOn.ensures in
-    along_next c.begin-run.result c.loop-run.run c.write_turn.new.self blocks blocks _ _ _ refl refl c.loop-run.invariant
-    e.bounded e.kept e.same e.lowers e.turned
+    along_next c.begin-run.result c.loop-run.run c.write_on.new.self blocks blocks _ _ _ refl refl c.loop-run.invariant
+    e.nears e.kept e.same e.turned
 
 pub returns-in-Done-clause-run : goal.returns-in-Done-clause-run
 returns-in-Done-clause-run g c kept ready =
@@ -21,7 +21,7 @@ returns-in-Done-clause-run g c kept ready =
     let b = c.begin-run.ensures in
     let e = c.in-Done.ensures in
     rw c.into_session.ensures (run_done c.begin-run.result c.loop-run.run blocks blocks _ _ _ c.args.session c.args.start _ refl b.session b.start
-    b.way c.loop-run.invariant (e.kept kept) ready c.write_turn.new.self.job.session c.a_card_at_rest_holds_what_it_stores.ensures
+    b.way c.loop-run.invariant (e.kept kept) ready c.write_on.new.self.job.session c.a_card_at_rest_holds_what_it_stores.ensures
     c.loop-run.invariant.count e.same (e.turned kept))
 
 pub returns-in-Failed-clause-run : goal.returns-in-Failed-clause-run
@@ -30,4 +30,4 @@ returns-in-Failed-clause-run g c kept ready =
     let b = c.begin-run.ensures in
     let e = c.in-Failed.ensures in
     rw (c.break_off.ensures, c.into_session-in-Failed.ensures) (run_failed c.begin-run.result c.loop-run.run blocks blocks _ _ _ c.args.session c.args.start _ refl b.session
-    b.start b.way c.loop-run.invariant (e.kept kept) ready (broken_off c.write_turn.new.self.job.session c.in-Failed.cause) (e.turned kept))
+    b.start b.way c.loop-run.invariant (e.kept kept) ready (broken_off c.write_on.new.self.job.session c.in-Failed.cause) (e.turned kept))

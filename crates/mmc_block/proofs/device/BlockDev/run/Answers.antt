@@ -1,4 +1,5 @@
-use Rattle.std.proofs.Common.{◌<◌, arith, subst}
+use Rattle.std.proofs.Common.{arith}
+use Rattle.mmc_transfer.specs.declared.pace.Pace.TheVariants.{Transfer}
 use Rattle.mmc_block.proofs.TurnsLemmas.{each_answered, turns_then}
 use Rattle.mmc_block.proofs.device.BlockDev.run.Goals as goal
 
@@ -7,11 +8,10 @@ loop-self-preserved g c =
     let room = c.loop-self.invariant.room in
     let long = c.append.ensures.len in
     let kept = c.append.ensures.capacity in
-    let leaves = c.turn_into.ensures.leaves in
-    let some = subst (λ n. 0 < n) c.work_left.ensures.work c.loop-self-test.true in
+    let leaves = c.turn_at.ensures.leaves in
     record {
-      so_far = rw c.append.ensures.items (turns_then g.B.Bus.view c.args.self.now c.loop-self.self c.turn_into.new.self
-          c.loop-self.answers.items c.turn_into.new.answers.items c.loop-self.invariant.so_far some c.turn_into.ensures);
+      so_far = rw c.append.ensures.items (turns_then g.B.Bus.view Transfer c.args.self.now c.loop-self.self c.turn_at.new.self
+          c.loop-self.answers.items c.turn_at.new.answers.items c.loop-self.invariant.so_far c.turn_at.ensures);
       room = omega (arith, room, long, kept, leaves);
       none = c.append.ensures.none;
     }

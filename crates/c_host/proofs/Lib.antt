@@ -1,0 +1,3 @@
+pub mod MovedLemmas
+pub mod Walks
+pub mod WritesLemmas

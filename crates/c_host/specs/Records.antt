@@ -1,0 +1,163 @@
+-- The records that C is put, and how its answers are read (`c/kelifandro.c` has the other end). Numbers are little endian.
+use Rattle.std.specs.Prelude.{◌∷◌, ◌++◌, ◌==◌, Bool, Err, List, None, Ok, Option, Result, Some, [], false, if◌then◌else◌, min, not, slice_index, take, true, ℕ}
+use Rattle.std.specs.Int.{from_le_bytes, to_le_bytes, w16, w32, w64}
+use Rattle.mmc_card.specs.declared.exchange.DataIn.{DataIn}
+use Rattle.mmc_card.specs.declared.exchange.DataIn.TheVariants as Received
+use Rattle.mmc_card.specs.declared.exchange.DataOut.{DataOut}
+use Rattle.mmc_card.specs.declared.exchange.DataOut.TheVariants as Sent
+use Rattle.mmc_card.specs.declared.exchange.Lines.{Lines}
+use Rattle.mmc_card.specs.declared.exchange.Timing.{Timing}
+use Rattle.mmc_card.specs.declared.exchange.Timing.TheVariants.{Default, High}
+use Rattle.mmc_card.specs.declared.exchange.Width.{Width}
+use Rattle.mmc_card.specs.declared.exchange.Width.TheVariants.{Eight, Four, One}
+use Rattle.mmc_bus.specs.declared.moved.Moved.{Moved}
+use Rattle.mmc_bus.specs.declared.moved.Moved.TheVariants as Move
+use Rattle.mmc_host.specs.declared.data.Blocks.{Blocks}
+use Rattle.mmc_host.specs.declared.data.Blocks.TheVariants.{Counted, UntilStopped}
+use Rattle.mmc_host.specs.declared.data.Data.{Data}
+use Rattle.mmc_host.specs.declared.data.Data.TheVariants as Behind
+use Rattle.mmc_host.specs.declared.response.Response.{Response}
+use Rattle.mmc_host.specs.declared.response.Response.TheVariants as To
+use Rattle.mmc_host.specs.declared.told.Heard.{Heard}
+use Rattle.mmc_host.specs.declared.told.Heard.TheVariants as Came
+use Rattle.mmc_host.specs.declared.told.HostCommand.{HostCommand}
+use Rattle.mmc_host.specs.declared.told.Ios.{Ios}
+use Rattle.mmc_host.specs.declared.told.ResponseFault.{ResponseFault}
+use Rattle.mmc_host.specs.declared.told.ResponseFault.TheVariants.{Check, EndBit, Index, Timeout}
+
+-- A command: `enum kelifandro_response`, `enum kelifandro_data`, the argument, the length of a block, and how many; 0 until CMD12.
+
+abbrev pub response_number : Response → ℕ
+response_number To.Nothing = 0
+response_number To.R1 = 1
+response_number To.R1b = 2
+response_number To.R2 = 3
+response_number To.R3 = 4
+response_number To.R6 = 5
+response_number To.R7 = 6
+
+abbrev pub blocks_number : Blocks → ℕ
+blocks_number (Counted count) = count
+blocks_number UntilStopped = 0
+
+abbrev pub data_number : Data → ℕ
+data_number Behind.Nothing = 0
+data_number (Behind.Read size blocks) = 1
+data_number (Behind.Write blocks) = 2
+
+abbrev pub length_number : Data → ℕ
+length_number Behind.Nothing = 0
+length_number (Behind.Read size blocks) = size
+length_number (Behind.Write blocks) = 512
+
+abbrev pub count_number : Data → ℕ
+count_number Behind.Nothing = 0
+count_number (Behind.Read size blocks) = blocks_number blocks
+count_number (Behind.Write blocks) = blocks_number blocks
+
+abbrev pub command_bytes : HostCommand → List ℕ
+command_bytes command =
+    command.index ∷ response_number command.response ∷ data_number command.transfer ∷ []
+    ++ (to_le_bytes w32 command.argument ++ (to_le_bytes w16 (length_number command.transfer) ++ to_le_bytes w16 (count_number command.transfer)))
+
+abbrev pub command_record : HostCommand → List ℕ
+command_record command = 1 ∷ command_bytes command
+
+-- The same with so many blocks after it, which C may move with the command: operation 10 reads them, 11 writes them.
+abbrev pub with_record : ℕ → HostCommand → ℕ → List ℕ
+with_record operation command count = operation ∷ (command_bytes command ++ take 2 (to_le_bytes w64 count))
+
+-- Its answer: bits 127 to 8 of a register, the highest byte first, or a word; and after these fifteen bytes why no response was heard, 0 where
+-- one was.
+
+abbrev pub fault_by : ℕ → ResponseFault
+fault_by number = if number == 2 then Check else if number == 3 then EndBit else if number == 4 then Index else Timeout
+
+abbrev pub heard_in : Response → List ℕ → Heard
+heard_in To.Nothing bytes = Came.Nothing
+heard_in To.R2 bytes = Came.Register bytes
+heard_in _ bytes = Came.Word (from_le_bytes w32 (take 4 bytes))
+
+abbrev pub heard_by : Response → List ℕ → Result Heard ResponseFault
+heard_by response answer =
+    if slice_index answer 15 == 0 then Ok (heard_in response (take 15 answer)) else Err (fault_by (slice_index answer 15))
+
+-- After them, where C was to move blocks with the command: how many were good, and what became of one that failed, 0 where none did.
+
+abbrev pub good_by : List ℕ → ℕ
+good_by answer = from_le_bytes w16 (slice_index answer 16 ∷ slice_index answer 17 ∷ [])
+
+abbrev pub failed_by : ℕ → Option DataIn
+failed_by number = if number == 0 then None else if number == 1 then Some Received.Bad else Some Received.Nothing
+
+abbrev pub refused_by : ℕ → Option DataOut
+refused_by number = if number == 0 then None else if number == 1 then Some Sent.Rejected else Some Sent.Nothing
+
+-- Where one failed it isn't used how many were good.
+abbrev pub moved_by : {T : Type 0} → Option T → ℕ → ℕ → Moved T
+moved_by None good count = Move.Good (min good count)
+moved_by (Some got) good count = if count == 0 then Move.Good 0 else Move.Failed got
+
+abbrev pub read_by : List ℕ → ℕ → Moved DataIn
+read_by answer count = moved_by (failed_by (slice_index answer 18)) (good_by answer) count
+
+-- none is written where no word was heard
+abbrev pub is_word : Result Heard ResponseFault → Bool
+is_word (Ok (Came.Word word)) = true
+is_word _ = false
+
+abbrev pub written_by : Result Heard ResponseFault → List ℕ → ℕ → Moved DataOut
+written_by heard answer count =
+    if is_word heard then moved_by (refused_by (slice_index answer 18)) (good_by answer) count else Move.Good 0
+
+-- C may have written to so many places: to all where a block failed.
+abbrev pub touched_by : Moved DataIn → ℕ → ℕ
+touched_by (Move.Good good) count = good
+touched_by (Move.Failed got) count = count
+
+-- A block that is read: a good one comes whole, a bad one as fewer bytes.
+abbrev pub block_by : ℕ → ℕ → DataIn
+block_by size count = if count == size then Received.Good else if count == 0 then Received.Nothing else Received.Bad
+
+-- A block that is written: 1 accepted, 2 rejected.
+abbrev pub status_by : List ℕ → DataOut
+status_by [] = Sent.Nothing
+status_by (status ∷ rest) = if status == 1 then Sent.Accepted else if status == 2 then Sent.Rejected else Sent.Nothing
+
+abbrev pub look_record : ℕ → List ℕ
+look_record micros = 4 ∷ to_le_bytes w32 micros
+
+abbrev pub is_busy_by : List ℕ → Bool
+is_busy_by [] = false
+is_busy_by (busy ∷ rest) = not (busy == 0)
+
+abbrev pub pause_record : ℕ → List ℕ
+pause_record micros = 6 ∷ to_le_bytes w32 micros
+
+abbrev pub lines_number : Width → ℕ
+lines_number One = 1
+lines_number Four = 4
+lines_number Eight = 8
+
+abbrev pub timing_number : Timing → ℕ
+timing_number Default = 0
+timing_number High = 1
+
+-- the fastest clock in hertz
+abbrev pub clock_at : Timing → ℕ
+clock_at Default = 25000000
+clock_at High = 50000000
+
+abbrev pub clock_number : Ios → ℕ
+clock_number ios = if ios.is_identifying then 400000 else clock_at ios.timing
+
+abbrev pub ios_record : Ios → List ℕ
+ios_record ios = 5 ∷ lines_number ios.width ∷ timing_number ios.timing ∷ to_le_bytes w32 (clock_number ios)
+
+abbrev pub lines_by : List ℕ → Lines
+lines_by (lines ∷ high ∷ []) =
+    record {
+      width = if lines == 8 then Eight else if lines == 4 then Four else One;
+      timing = if high == 0 then Default else High;
+    }
+lines_by _ = record { width = One; timing = Default }

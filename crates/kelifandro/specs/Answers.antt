@@ -1,0 +1,54 @@
+-- The numbers that C knows of answers (`enum kelifandro_result`).
+use Rattle.std.specs.Prelude.{Err, Ok, Result, negsuc, pos, suc, zero, ℕ, ℤ}
+use Rattle.mmc_bus.specs.declared.cause.Cause.{Cause}
+use Rattle.mmc_bus.specs.declared.cause.Cause.TheVariants.{Answer, Busy, Data, Recovery, Status}
+use Rattle.mmc_direct.specs.declared.refused.NotDone.{NotDone}
+use Rattle.mmc_direct.specs.declared.refused.NotDone.TheVariants.{Failed, Refused as RefusedFor}
+use Rattle.mmc_direct.specs.declared.refused.Refused.{Refused}
+use Rattle.mmc_direct.specs.declared.refused.Refused.TheVariants.{Empty, NoSuchPartition, NoTrim, NotInPartition}
+use Rattle.mmc_direct.specs.declared.refused.Refused.TheVariants.{OutOfRange, ReadOnly, TooLong, Unaligned}
+use Rattle.mmc_sdhci.specs.declared.start.StartFault.{StartFault}
+use Rattle.mmc_sdhci.specs.declared.start.StartFault.TheVariants.{NoBaseClock, NoCard, NoVoltage}
+use Rattle.mmc_switch.specs.declared.fault.SwitchFault.TheVariants.{Exchange, Register}
+use Rattle.mmc_switch.specs.declared.initialization.InitializationFault.{InitializationFault}
+use Rattle.mmc_switch.specs.declared.initialization.InitializationFault.TheVariants.{Identification, Widening}
+
+abbrev pub minus : ℕ → ℤ
+minus zero = pos 0
+minus (suc n) = negsuc n
+
+abbrev pub refused_number : Refused → ℤ
+refused_number NoSuchPartition = minus 2
+refused_number OutOfRange = minus 3
+refused_number Empty = minus 4
+refused_number TooLong = minus 4
+refused_number ReadOnly = minus 5
+refused_number NotInPartition = minus 6
+refused_number NoTrim = minus 6
+refused_number Unaligned = minus 6
+
+abbrev pub cause_number : Cause → ℤ
+cause_number Answer = minus 10
+cause_number Data = minus 11
+cause_number Status = minus 12
+cause_number Busy = minus 13
+cause_number Recovery = minus 14
+
+abbrev pub answer_number : Result Unit NotDone → ℤ
+answer_number (Ok done) = pos 0
+answer_number (Err (RefusedFor why)) = refused_number why
+answer_number (Err (Failed cause)) = cause_number cause
+
+abbrev pub unopened_number : InitializationFault → ℤ
+unopened_number (Identification fault) = minus 20
+unopened_number (Widening Exchange) = minus 20
+unopened_number (Widening Register) = minus 21
+
+abbrev pub start_number : StartFault → ℤ
+start_number NoVoltage = minus 22
+start_number NoBaseClock = minus 23
+start_number NoCard = minus 24
+
+abbrev pub opening_number : Result Unit InitializationFault → ℤ
+opening_number (Ok done) = pos 0
+opening_number (Err fault) = unopened_number fault

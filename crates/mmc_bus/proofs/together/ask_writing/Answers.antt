@@ -1,0 +1,37 @@
+use Rattle.std.proofs.Common.{◌∙◌, ap, subst, sym, ℕ}
+use Rattle.std.specs.Prelude.{IsErr, Result, Some}
+use Rattle.mmc_bus.specs.Heard.{cause_of, cause_of_command, cause_of_response}
+use Rattle.mmc_bus.specs.declared.host.Unheard.{Unheard}
+use Rattle.std.specs.Prelude.{false}
+use Rattle.mmc_bus.specs.Learned.{meant}
+use Rattle.mmc_bus.proofs.Hear.{asked, poll_facts, write_facts}
+use Rattle.mmc_bus.proofs.Readers.{IsAnswerTo, asks_none, responded_answer, response_reads, with_errors}
+use Rattle.mmc_bus.proofs.TogetherLemmas.{one_facts, written_as, written_few}
+use Rattle.mmc_bus.proofs.together.ask_writing.Goals as goal
+
+pub returns-clause-asked : goal.returns-clause-asked
+returns-clause-asked g c =
+    let old = g.B.Bus.view c.args.bus.now in
+    let command = meant old.card c.args.index in
+    let e = c.write_with-reply.ensures in
+    record {
+      behind = e.behind;
+      asked = asked (IsAnswerTo command) _ _ old c.encode.result c.args.index c.args.argument c.wanted.result
+          c.write_with-reply.result.0 c.response_in.result _
+          (response_reads c.flipped_response_is_refused.ensures.r1 c.args.index command
+          (asks_none old.card.made.kind old.card.app c.args.index c.requires.command c.requires.checked))
+          (λ k errors choice. responded_answer choice command (with_errors errors old.card) c.args.index c.args.argument k.registers)
+          c.encode.ensures c.wanted.ensures c.response_in.ensures e.commanded;
+      cause = ap cause_of e.commanded.last
+          ∙ ap (λ s. Some (cause_of_command s c.write_with-reply.result.0)) c.encode.ensures
+          ∙ ap (λ (r : Result ℕ Unheard). Some (cause_of_response r)) (sym c.response_in.ensures);
+      unheard = λ err. e.unheard (c.args.index, c.args.argument) c.encode.ensures
+          (subst (λ (r : Result ℕ Unheard). IsErr r) c.response_in.ensures err);
+      written = written_as e.behind
+          (λ a b got bytes step. one_facts a _ b step (λ k limits bounded s. write_facts a bytes got b limits bounded s))
+          (λ a b step. one_facts a _ b step (λ k limits bounded s. poll_facts a false b limits bounded s))
+          _ _ e.written;
+    }
+
+pub returns-clause-few : goal.returns-clause-few
+returns-clause-few g c = written_few c.write_with-reply.ensures.behind _ _ c.write_with-reply.ensures.written

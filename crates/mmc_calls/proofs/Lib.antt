@@ -1,0 +1,2 @@
+pub mod NotedLemmas
+pub mod OpenLemmas

@@ -1,0 +1,145 @@
+-- A record notes how a card stands, and a card stands as it is noted.
+use Rattle.std.proofs.Common.{◌&&◌, ◌≡◌, ap, false, refl, subst, sym, true}
+use Rattle.std.proofs.lemmas.Bool.{cond_both, false≢true}
+use Rattle.std.specs.Prelude.{Bool, Err, None, Ok, Option, Result, Some}
+use Rattle.mmc_frame.specs.declared.kind.Kind.TheVariants.{Mmc}
+use Rattle.mmc_frame.specs.Field.{field}
+use Rattle.mmc_ext_csd.specs.ExtCsd.{partition_config}
+use Rattle.mmc_card.specs.BusView.{BusView}
+use Rattle.mmc_card.specs.Card.{Card, IsCard}
+use Rattle.mmc_card.specs.Laws.{Stands as IsSetTo, setting_of}
+use Rattle.mmc_card.specs.Made.{HasRegisters, Made}
+use Rattle.mmc_card.specs.declared.exchange.Lines.{Lines}
+use Rattle.mmc_direct.specs.Stands.{IfRefused, StandsIn, stands_of}
+use Rattle.mmc_direct.specs.declared.refused.NotDone.{NotDone}
+use Rattle.mmc_direct.specs.declared.refused.NotDone.TheVariants.{Failed, Refused as RefusedFor}
+use Rattle.mmc_direct.specs.declared.stands.Served.{Served}
+use Rattle.mmc_direct.specs.declared.stands.Stands.{Stands}
+use Rattle.mmc_direct.specs.declared.stands.Stands.TheVariants.{Loose, Ready}
+use Rattle.mmc_host.specs.Hosts.{HostView, bus_over}
+use Rattle.mmc_bus.specs.declared.wire.Wire.{Wire}
+use Rattle.mmc_record.specs.Note.{IsNoteOf, given_up, what_is_left}
+use Rattle.mmc_record.specs.declared.record.CardRecord.{CardRecord}
+use Rattle.mmc_switch.specs.Info.{IsInfo}
+use Rattle.mmc_switch.specs.Place.{IsLoose, IsPartOf, IsReady, Knows, setting_in}
+use Rattle.mmc_switch.specs.Stages.{IsAtRest}
+use Rattle.mmc_switch.specs.declared.broken.Broken.{Broken}
+use Rattle.mmc_switch.specs.declared.info.Info.{Info}
+use Rattle.mmc_switch.specs.declared.session.Session.{Session}
+use Rattle.mmc_calls.specs.Noted.{HasServed, IsNoted, IsNotedOf, Notes, bus_going_on, lines_in}
+
+-- what a note says of a card whose registers have their checks
+abbrev pub IfItsCard : Info → (Result Session Broken) → CardRecord → Type 0
+IfItsCard info how note =
+    (limits : Lines) → (made : Made) → HasRegisters made → IsInfo limits made info → IsNoteOf how note
+
+pub ready_noted : (stands : Stands) (session : Session) (note : CardRecord) → stands ≡ Ready session
+    → IfItsCard session.info (Ok session) note → Notes stands note
+ready_noted stands session note is says view stood =
+    let ready : IsReady session view = subst (λ s. StandsIn s view) is stood in record {
+      how = Ok session;
+      says = says view.limits view.card.made ready.is_card.registers ready.knows.info;
+      stands = ready;
+    }
+
+gives_up : (broken : Broken) (view : BusView) → IsLoose broken view → IsLoose (given_up broken.session) view
+gives_up broken view loose = record {
+  is_card = loose.is_card;
+  knows = record { info = loose.knows.info; partition_config = loose.knows.partition_config };
+  stands = λ no. absurd (false≢true (sym no));
+}
+
+what_is_left_stands : (broken : Broken) (view : BusView) → IsLoose broken view → IsLoose (what_is_left broken) view
+what_is_left_stands broken view loose =
+    cond_both broken.must_reset (given_up broken.session) broken (λ left. IsLoose left view)
+    (λ p. gives_up broken view loose) (λ p. loose)
+
+pub loose_noted : (stands : Stands) (broken : Broken) (note : CardRecord) → stands ≡ Loose broken
+    → IfItsCard broken.session.info (Err (what_is_left broken)) note → Notes stands note
+loose_noted stands broken note is says view stood =
+    let loose : IsLoose broken view = subst (λ s. StandsIn s view) is stood in record {
+      how = Err (what_is_left broken);
+      says = says view.limits view.card.made loose.is_card.registers loose.knows.info;
+      stands = what_is_left_stands broken view loose;
+    }
+
+abbrev pub standing : Option (Result Session Broken) → Option Stands
+standing None = None
+standing (Some how) = Some (stands_of how)
+
+pub stands_so : (a b : Option (Result Session Broken)) → a ≡ b → standing a ≡ standing b
+stands_so a b p = ap standing p
+
+pub refused_noted : (P : Type 0) (answer : Result Unit NotDone) (left stands : Stands) (note : CardRecord)
+    → IfRefused answer (P × (left ≡ stands)) → Notes left note → IfRefused answer (P × Notes stands note)
+refused_noted P (Ok done) left stands note h n = tt
+refused_noted P (Err (RefusedFor why)) left stands note h n = (h.0, subst (λ s. Notes s note) h.1 n)
+refused_noted P (Err (Failed cause)) left stands note h n = tt
+
+pub refused_read_noted : (P Q : Type 0) (answer : Result Unit NotDone) (left stands : Stands) (note : CardRecord)
+    → IfRefused answer (P × (left ≡ stands) × Q) → Notes left note → IfRefused answer (P × Q × Notes stands note)
+refused_read_noted P Q (Ok done) left stands note h n = tt
+refused_read_noted P Q (Err (RefusedFor why)) left stands note h n = (h.0, h.2, subst (λ s. Notes s note) h.1 n)
+refused_read_noted P Q (Err (Failed cause)) left stands note h n = tt
+
+-- What a view says of a session lies in its card, its lines and its limits.
+
+knows_too : (session : Session) (v w : BusView) → w.card ≡ v.card → w.limits ≡ v.limits → Knows session v
+    → Knows session w
+knows_too session v w card limits k = record {
+  info = subst (λ l. IsInfo l w.card.made session.info) (sym limits)
+      (subst (λ (c : Card). IsInfo v.limits c.made session.info) (sym card) k.info);
+  partition_config = subst (λ (c : Card). c.made.kind ≡ Mmc
+      → field 7 3 session.partition_config ≡ field 7 3 (partition_config c.made.ext_csd)) (sym card) k.partition_config;
+}
+
+pub stands_too : (stands : Stands) (v w : BusView) → w.card ≡ v.card → w.limits ≡ v.limits → w.lines ≡ lines_in stands
+    → StandsIn stands v → StandsIn stands w
+stands_too (Ready session) v w card limits lines ready = record {
+  is_card = subst IsCard (sym card) ready.is_card;
+  knows = knows_too session v w card limits ready.knows;
+  set = record {
+    rest = subst (IsAtRest false) (sym card) ready.set.rest;
+    is_set = subst (λ (c : Card). setting_of c ≡ setting_in session.info c.part) (sym card) ready.set.is_set;
+    on_lines = lines;
+  };
+  part = subst (λ (c : Card). IsPartOf session c.part) (sym card) ready.part;
+}
+stands_too (Loose broken) v w card limits lines loose = record {
+  is_card = subst IsCard (sym card) loose.is_card;
+  knows = knows_too broken.session v w card limits loose.knows;
+  stands = λ no. let at = loose.stands no in record {
+    part = at.part;
+    is_part = at.is_part;
+    stands = subst (IsSetTo (setting_in broken.session.info at.part)) (sym card) at.stands;
+    lines = lines;
+  };
+}
+
+-- A whole call.
+
+pub and_left : (a b : Bool) → (a && b) ≡ true → a ≡ true
+and_left true b p = refl
+and_left false b p = absurd (false≢true p)
+
+pub served_over : (Has : BusView → Served → BusView → Type 0) (stands : Stands) (old new begun : BusView)
+    (answer : Result Unit NotDone) (note : CardRecord) → (new.is_kept ≡ true → begun.is_kept ≡ true)
+    → (begun.is_kept ≡ true → begun ≡ old)
+    → HasServed (λ served. new.is_kept ≡ true → StandsIn stands begun → Has begun served new) answer note
+    → HasServed (λ served. new.is_kept ≡ true → StandsIn stands old → Has old served new) answer note
+served_over Has stands old new begun answer note kept same s = record {
+  served = s.served;
+  answers = s.answers;
+  fits = s.fits;
+  notes = s.notes;
+  has = λ k. subst (λ b. StandsIn stands b → Has b s.served new) (same (kept k)) (s.has k);
+}
+
+pub noted_of : (host : HostView) (wire : Wire) (misused : Bool) (note : CardRecord) → host.limits ≡ wire.limits
+    → IsNoted note (bus_over host wire misused) → IsNotedOf note host
+noted_of host wire misused note within n = record {
+  how = n.how;
+  says = n.says;
+  stands = stands_too (stands_of n.how) (bus_over host wire misused) (bus_going_on host (lines_in (stands_of n.how))) refl
+      within refl n.stands;
+}

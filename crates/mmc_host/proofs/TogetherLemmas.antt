@@ -1,0 +1,460 @@
+-- A command with the blocks after it, as exchanges of the bus over a host.
+use Rattle.std.proofs.Common.{◌+◌, ◌≤◌, ◌∙◌, ◌≡◌, Bool, List, ap, false, refl, sym, true, ℕ, suc, zero}
+use Rattle.std.specs.Prelude.{Err, IsErr, Ok, Option, Result, Some, is_ok, nat_lt, slice_index_or}
+use Rattle.std.proofs.lemmas.Bool.Decides.{nat_tests}
+use Rattle.std.proofs.Common.{[], arith, subst}
+use Rattle.mmc_card.specs.CardAnswer.{Silent}
+use Rattle.mmc_frame.specs.Frame.{command_in}
+use Rattle.mmc_card.specs.Faults.{CommandStep, PollStep, ReadStep, Spells, WriteStep}
+use Rattle.mmc_card.specs.declared.exchange.DataOut.{DataOut}
+use Rattle.mmc_card.specs.declared.exchange.DataOut.TheVariants.{Accepted}
+use Rattle.mmc_card.specs.declared.exchange.DataOut.TheVariants as Went
+use Rattle.mmc_card.specs.declared.exchange.DataIn.{DataIn}
+use Rattle.mmc_card.specs.declared.exchange.DataIn.TheVariants.{Good}
+use Rattle.mmc_card.specs.declared.exchange.DataIn.TheVariants as Received
+use Rattle.mmc_card.specs.declared.exchange.Exchange.{Exchange}
+use Rattle.mmc_card.specs.declared.exchange.Exchange.TheVariants.{Busy, Command, In, Out}
+use Rattle.mmc_card.specs.declared.exchange.Lines.{Lines}
+use Rattle.mmc_card.specs.declared.exchange.Reply.{Reply}
+use Rattle.mmc_card.specs.declared.exchange.Want.{Want}
+use Rattle.mmc_bus.specs.Heard.{or_unsound, response_heard}
+use Rattle.mmc_bus.specs.Together.{AreAccepted, AreGood, BlockRead, BlockWritten, NotBusy, OneOf, ReadOn, ReadWith, RestsBehind, WrittenOn, WrittenWith}
+use Rattle.mmc_bus.specs.Together.{accepted_one, good_one, none_accepted, none_good, reads, reads_none, writes, writes_none}
+use Rattle.mmc_bus.specs.Wires.{Notes}
+use Rattle.mmc_bus.specs.declared.moved.Moved.{Moved}
+use Rattle.mmc_bus.specs.declared.moved.Moved.TheVariants as Move
+use Rattle.mmc_bus.specs.declared.wire.Wire.{Wire}
+use Rattle.mmc_host.proofs.BusLemmas.{does_command, does_poll, does_read, does_write, exchanged, replied}
+use Rattle.mmc_host.specs.HostStates.{block_passed, is_accepted, is_good, lines_of, sent}
+use Rattle.mmc_card.specs.BusView.{BusView}
+use Rattle.mmc_host.specs.Hosts.{Does, HostView, OnlySets, Waits, Where, WritesBlock, answer_heard, bus_over}
+use Rattle.mmc_host.specs.Together.{CanRead, CanWrite, HostRead, HostRested, ReadsWith, WritesWith, all_noted, all_writes_noted}
+use Rattle.mmc_host.specs.Together.{blocks_noted, noted, passed, passed_on, poll_noted, writes_noted}
+use Rattle.mmc_host.specs.declared.response.Response.TheVariants as To
+use Rattle.mmc_host.specs.declared.told.Heard.{Heard}
+use Rattle.mmc_host.specs.declared.told.HostCommand.{HostCommand}
+use Rattle.mmc_host.specs.declared.told.HostState.{HostState}
+use Rattle.mmc_host.specs.declared.told.ResponseFault.{ResponseFault}
+
+pub noted_is : (old : Wire) (exchange : Exchange) (new : Wire) → Notes old exchange new → new ≡ noted exchange old
+noted_is old exchange new n =
+    let lines : Lines → Wire = λ l. record { lines = l; limits = new.limits; last = new.last; exchanges = new.exchanges } in
+    let limits : Lines → Wire = λ l. record { lines = old.lines; limits = l; last = new.last; exchanges = new.exchanges } in
+    let last : Option Exchange → Wire =
+    λ e. record { lines = old.lines; limits = old.limits; last = e; exchanges = new.exchanges } in
+    let count : ℕ → Wire = λ k. record { lines = old.lines; limits = old.limits; last = Some exchange; exchanges = k } in
+    ap lines n.lines ∙ ap limits n.limits ∙ ap last n.last ∙ ap count n.exchanges
+
+pub notes : (exchange : Exchange) (wire : Wire) → Notes wire exchange (noted exchange wire)
+notes exchange wire = record { lines = refl; limits = refl; last = refl; exchanges = refl }
+
+-- One of several exchanges, whether it is counted or not.
+abbrev Tells : Wire → Exchange → Wire → Type 0
+Tells old exchange new =
+    (new.lines ≡ old.lines) × (new.limits ≡ old.limits) × (new.last ≡ Some exchange) × (new.exchanges ≤ old.exchanges + 1)
+
+one_told : (old new : HostView) (w v : Wire) (misused : Bool) (exchange : Exchange) (Step : BusView → BusView → Type 0)
+    → Does old w misused Step new misused → Tells w exchange v
+    → OneOf (bus_over old w misused) exchange (Step (bus_over old w misused) (bus_over new v misused)) (bus_over new v misused)
+one_told old new w v misused exchange Step does tells = record {
+  lines = tells.0;
+  limits = tells.1;
+  last = tells.2;
+  exchanges = tells.3;
+  kept = does v tells.0;
+}
+
+noted_tells : (exchange : Exchange) (wire : Wire) → Tells wire exchange (noted exchange wire)
+noted_tells exchange wire = (refl, refl, refl, omega arith)
+
+-- a wire on which this came, uncounted
+abbrev told : Exchange → Wire → Wire
+told exchange wire = record wire { last = Some exchange }
+
+abbrev told_so : Exchange → ℕ → Wire → Wire
+told_so exchange zero wire = wire
+told_so exchange (suc k) wire = told exchange wire
+
+so_tells : (first exchange : Exchange) (k : ℕ) (wire : Wire) → Tells (told_so first k wire) exchange (told exchange wire)
+so_tells first exchange zero wire = (refl, refl, refl, omega arith)
+so_tells first exchange (suc k) wire = (refl, refl, refl, omega arith)
+
+so_noted : (first exchange : Exchange) (k : ℕ) (wire : Wire) → Tells (told_so first k wire) exchange (noted exchange wire)
+so_noted first exchange zero wire = (refl, refl, refl, omega arith)
+so_noted first exchange (suc k) wire = (refl, refl, refl, omega arith)
+
+so_lines : (exchange : Exchange) (k : ℕ) (wire : Wire) → (told_so exchange k wire).lines ≡ wire.lines
+so_lines exchange zero wire = refl
+so_lines exchange (suc k) wire = refl
+
+pub sets_none : (view : HostView) → OnlySets view view
+sets_none view kept = (kept, refl)
+
+pub waits_none : (view : HostView) → Waits view view
+waits_none view kept = (kept, refl)
+
+lines_of_blocks : (k : ℕ) (wire : Wire) → (blocks_noted k wire).lines ≡ wire.lines
+lines_of_blocks zero wire = refl
+lines_of_blocks (suc k) wire = lines_of_blocks k wire
+
+pub is_other_in : (got : DataIn) → (got ≡ Good → ⊥) → is_good got ≡ false
+is_other_in Received.Good not = absurd (not refl)
+is_other_in Received.Bad not = refl
+is_other_in Received.Nothing not = refl
+
+-- a block that failed ends the data, however many came before it
+pub ended : (k : ℕ) (state : HostState) → block_passed (passed k state) false ≡ block_passed state false
+ended zero state = refl
+ended (suc k) state = ended k state
+
+module _ {S : Type 0} (blocks : S → List (List ℕ)) (leave : S → ℕ → List ℕ → S) (was : S) (behind : HostView)
+    (wire : Wire) (misused : Bool) (lines : Where behind (lines_of behind.state.ios ≡ wire.lines)) where
+  -- Where it is kept, the lines stay as they were.
+  lines_in : (k : ℕ) (view : HostView) (now : S) → AreGood HostRead blocks leave behind was k view now
+      → Where view (lines_of view.state.ios ≡ (blocks_noted k wire).lines)
+  lines_in k view now none_good kept = lines kept
+  lines_in k view now (good_one done from held left next before below long read) kept =
+      let s = read kept in
+      ap (λ (state : HostState). lines_of state.ios) s.state ∙ lines_in done from held before s.step.was_kept
+
+  -- and it has been told of as many blocks as were good
+  state_in : (k : ℕ) (view : HostView) (now : S) → AreGood HostRead blocks leave behind was k view now
+      → Where view (view.state ≡ passed k behind.state)
+  state_in k view now none_good kept = refl
+  state_in k view now (good_one done from held left next before below long read) kept =
+      let s = read kept in
+      s.state ∙ ap (λ (state : HostState). block_passed state true) (state_in done from held before s.step.was_kept)
+
+  kept_in : (k : ℕ) (view : HostView) (now : S) → AreGood HostRead blocks leave behind was k view now
+      → view.is_kept ≡ true → behind.is_kept ≡ true
+  kept_in k view now none_good kept = kept
+  kept_in k view now (good_one done from held left next before below long read) kept =
+      kept_in done from held before (read kept).step.was_kept
+
+  limits_in : (k : ℕ) (view : HostView) (now : S) → AreGood HostRead blocks leave behind was k view now
+      → Where view (view.limits ≡ behind.limits)
+  limits_in k view now none_good kept = refl
+  limits_in k view now (good_one done from held left next before below long read) kept =
+      let s = read kept in s.limits ∙ limits_in done from held before s.step.was_kept
+
+  one_read : (from next : HostView) (at then : Wire) (got : DataIn) (left : List ℕ)
+      → Where from (lines_of from.state.ios ≡ at.lines) → HostRead from got left next → Tells at (In 512 got) then
+      → BlockRead (bus_over from at misused) got left (bus_over next then misused)
+  one_read from next at then got left same read tells =
+      one_told from next at then misused (In 512 got) (λ old new. ReadStep old 512 got left new)
+      (does_read from from next at misused 512 got left same (sets_none from) read) tells
+
+  good_over : (k : ℕ) (view : HostView) (now : S) → AreGood HostRead blocks leave behind was k view now
+      → AreGood BlockRead blocks leave (bus_over behind wire misused) was k (bus_over view (blocks_noted k wire) misused) now
+  good_over k view now none_good = none_good
+  good_over k view now (good_one done from held left next before below long read) =
+      good_one done (bus_over from (blocks_noted done wire) misused) held left
+      (bus_over next (blocks_noted (suc done) wire) misused) (good_over done from held before) below long
+      (one_read from next (blocks_noted done wire) (blocks_noted (suc done) wire) Good left (lines_in done from held before)
+      read (noted_tells (In 512 Good) (blocks_noted done wire)))
+
+  -- uncounted
+  lines_so : (k : ℕ) (view : HostView) (now : S) → AreGood HostRead blocks leave behind was k view now
+      → Where view (lines_of view.state.ios ≡ (told_so (In 512 Good) k wire).lines)
+  lines_so k view now all kept =
+      lines_in k view now all kept ∙ lines_of_blocks k wire ∙ sym (so_lines (In 512 Good) k wire)
+
+  good_so : (k : ℕ) (view : HostView) (now : S) → AreGood HostRead blocks leave behind was k view now
+      → AreGood BlockRead blocks leave (bus_over behind wire misused) was k
+      (bus_over view (told_so (In 512 Good) k wire) misused) now
+  good_so k view now none_good = none_good
+  good_so k view now (good_one done from held left next before below long read) =
+      good_one done (bus_over from (told_so (In 512 Good) done wire) misused) held left
+      (bus_over next (told (In 512 Good) wire) misused) (good_so done from held before) below long
+      (one_read from next (told_so (In 512 Good) done wire) (told (In 512 Good) wire) Good left
+      (lines_so done from held before) read (so_tells (In 512 Good) (In 512 Good) done wire))
+
+  pub read_over : (moved : Moved DataIn) (new : HostView) (now : S)
+      → ReadOn HostRead blocks leave behind was moved new now
+      → ReadOn BlockRead blocks leave (bus_over behind wire misused) was moved
+      (bus_over new (all_noted moved wire) misused) now
+  read_over moved new now (reads good next held all) = reads good _ held (good_over good next held all)
+  read_over moved new now (reads_none some view held last got left next all below long not read lent) =
+      reads_none some (bus_over view (told_so (In 512 Good) some wire) misused) held last got left
+      (bus_over next (noted (In 512 got) wire) misused) (good_so some view held all) below long not
+      (one_read view next (told_so (In 512 Good) some wire) (noted (In 512 got) wire) got left (lines_so some view held all)
+      read (so_noted (In 512 Good) (In 512 got) some wire)) lent
+
+  pub state_on : (moved : Moved DataIn) (new : HostView) (now : S)
+      → ReadOn HostRead blocks leave behind was moved new now
+      → Where new ((behind.is_kept ≡ true) × (new.state ≡ passed_on moved behind.state) × (new.limits ≡ behind.limits))
+  state_on moved new now (reads good next held all) kept =
+      (kept_in good next held all kept, state_in good next held all kept, limits_in good next held all kept)
+  state_on moved new now (reads_none some view held last got left next all below long not read lent) kept =
+      let s = read kept in
+      let was = s.step.was_kept in (
+        kept_in some view held all was,
+        s.state ∙ ap (block_passed view.state) (is_other_in got not)
+            ∙ ap (λ (state : HostState). block_passed state false) (state_in some view held all was)
+            ∙ ended some behind.state,
+        s.limits ∙ limits_in some view held all was,
+      )
+
+limits_of : (good : ℕ) (wire : Wire) → (blocks_noted good wire).limits ≡ wire.limits
+limits_of zero wire = refl
+limits_of (suc good) wire = limits_of good wire
+
+-- The whole call.
+module _ {S : Type 0} {blocks : S → List (List ℕ)} {leave : S → ℕ → List ℕ → S} (was : S) (v0 v1 : HostView)
+    (w0 w1 : Wire) (misused : Bool) (state : HostState) (frame : List ℕ) (want : Want) (command : HostCommand)
+    (count : ℕ) (heard : Result Heard ResponseFault) (reply : Reply) (moved : Moved DataIn) (now : S) (new : HostView)
+    (only : OnlySets v0 v1) (told : Where v1 (v1.state ≡ state)) (can : CanRead state frame command count w0.lines)
+    (read : ReadsWith blocks leave v1 command was heard moved now new)
+    (spells : Spells (answer_heard command.response command.index heard) reply)
+    (notes_it : Notes w0 (Command frame want reply) w1) where
+  lines_behind : Where read.behind (lines_of read.behind.state.ios ≡ w1.lines)
+  lines_behind kept =
+      let s = read.sent kept in
+      ap (λ (x : HostState). lines_of x.ios) s.state
+      ∙ ap (λ (x : HostState). lines_of x.ios) (told s.step.was_kept) ∙ can.set ∙ sym notes_it.lines
+
+  pub over : ReadWith blocks leave (bus_over v0 w0 misused) frame want was reply moved now
+      (bus_over new (all_noted moved w1) misused)
+  over = record {
+    behind = bus_over read.behind w1 misused;
+    commanded = exchanged v0 read.behind w0 w0 w1 misused misused (Command frame want reply)
+        (λ old next. CommandStep old frame reply next)
+        (does_command v0 read.behind w0 misused command.index command.argument frame reply can.holds
+        (replied v0 v1 read.behind read.behind command heard reply only read.sent (waits_none read.behind) spells))
+        refl notes_it;
+    read = read_over blocks leave was read.behind w1 misused lines_behind moved new now read.read;
+  }
+
+  pub told_then : Where new (new.state ≡ passed_on moved (sent state command (is_ok heard)))
+  told_then kept =
+      let all = state_on blocks leave was read.behind w1 misused lines_behind moved new now read.read kept in
+      let s = read.sent all.0 in
+      all.1
+      ∙ ap (passed_on moved)
+      (s.state ∙ ap (λ (x : HostState). sent x command (is_ok heard)) (told s.step.was_kept))
+
+  pub within_then : Where v1 (v1.limits ≡ w0.limits) → Where new (new.limits ≡ w0.limits)
+  within_then within kept =
+      let all = state_on blocks leave was read.behind w1 misused lines_behind moved new now read.read kept in
+      let s = read.sent all.0 in
+      all.2 ∙ s.limits ∙ within s.step.was_kept
+
+pub limits_noted : (moved : Moved DataIn) (wire : Wire) → (all_noted moved wire).limits ≡ wire.limits
+limits_noted (Move.Good good) wire = limits_of good wire
+limits_noted (Move.Failed got) wire = refl
+
+-- Writes.
+
+lines_passed : (k : ℕ) (state : HostState) → lines_of (passed k state).ios ≡ lines_of state.ios
+lines_passed zero state = refl
+lines_passed (suc k) state = lines_passed k state
+
+some_polled : (k : ℕ) (wire : Wire) → poll_noted (suc k) wire ≡ noted (Busy false) wire
+some_polled k wire = let less : nat_lt 0 (suc k) ≡ true = grind (arith, nat_tests) in rw less refl
+
+lines_polled : (k : ℕ) (wire : Wire) → (poll_noted k wire).lines ≡ wire.lines
+lines_polled zero wire = refl
+lines_polled (suc k) wire = ap (λ (w : Wire). w.lines) (some_polled k wire)
+
+lines_written : (k : ℕ) (wire : Wire) → (writes_noted k wire).lines ≡ wire.lines
+lines_written zero wire = refl
+lines_written (suc k) wire = lines_polled k (writes_noted k wire) ∙ lines_written k wire
+
+limits_polled : (k : ℕ) (wire : Wire) → (poll_noted k wire).limits ≡ wire.limits
+limits_polled zero wire = refl
+limits_polled (suc k) wire = ap (λ (w : Wire). w.limits) (some_polled k wire)
+
+limits_written : (k : ℕ) (wire : Wire) → (writes_noted k wire).limits ≡ wire.limits
+limits_written zero wire = refl
+limits_written (suc k) wire = limits_polled k (writes_noted k wire) ∙ limits_written k wire
+
+pub limits_all_written : (moved : Moved DataOut) (wire : Wire)
+    → (all_writes_noted moved wire).limits ≡ wire.limits
+limits_all_written (Move.Good good) wire = limits_written good wire
+limits_all_written (Move.Failed got) wire = refl
+
+-- a poll leaves what it has been told
+rested_state : (done : ℕ) (view ready : HostView) → RestsBehind HostRested done view ready
+    → Where ready ((view.is_kept ≡ true) × (ready.state ≡ view.state) × (ready.limits ≡ view.limits))
+rested_state zero view ready rests kept = (
+  subst (λ (v : HostView). v.is_kept ≡ true) rests kept,
+  ap (λ (v : HostView). v.state) rests,
+  ap (λ (v : HostView). v.limits) rests,
+)
+rested_state (suc done) view ready rests kept = let s = rests kept in (s.step.was_kept, s.state, s.limits)
+
+pub is_other_out : (got : DataOut) → (got ≡ Accepted → ⊥) → is_accepted got ≡ false
+is_other_out Went.Accepted not = absurd (not refl)
+is_other_out Went.Rejected not = refl
+is_other_out Went.Nothing not = refl
+
+rests_told : (k : ℕ) (view ready : HostView) (at then : Wire) (misused : Bool) → HostRested view ready
+    → Tells at (Busy false) then → NotBusy (bus_over view at misused) (bus_over ready then misused)
+rests_told k view ready at then misused rests tells =
+    one_told view ready at then misused (Busy false) (λ old new. PollStep old false new)
+    (does_poll view ready at misused false rests) tells
+
+rests_over : (done : ℕ) (view ready : HostView) (at : Wire) (misused : Bool) → RestsBehind HostRested done view ready
+    → RestsBehind NotBusy done (bus_over view at misused) (bus_over ready (poll_noted done at) misused)
+rests_over zero view ready at misused rests = ap (λ (v : HostView). bus_over v at misused) rests
+rests_over (suc done) view ready at misused rests =
+    subst (λ (w : Wire). NotBusy (bus_over view at misused) (bus_over ready w misused)) (sym (some_polled done at))
+    (rests_told done view ready at (noted (Busy false) at) misused rests (noted_tells (Busy false) at))
+
+-- uncounted
+rests_so : (k : ℕ) (view ready : HostView) (wire : Wire) (misused : Bool) → RestsBehind HostRested k view ready
+    → RestsBehind NotBusy k (bus_over view (told_so (Out Accepted) k wire) misused)
+    (bus_over ready (told_so (Busy false) k wire) misused)
+rests_so zero view ready wire misused rests = ap (λ (v : HostView). bus_over v wire misused) rests
+rests_so (suc k) view ready wire misused rests =
+    rests_told k view ready (told (Out Accepted) wire) (told (Busy false) wire) misused rests
+    (so_tells (Out Accepted) (Busy false) (suc k) wire)
+
+module _ (blocks : List (List ℕ)) (behind : HostView) (wire : Wire) (misused : Bool)
+    (lines : Where behind (lines_of behind.state.ios ≡ wire.lines)) where
+  state_out : (k : ℕ) (view : HostView) → AreAccepted WritesBlock HostRested blocks behind k view
+      → Where view ((behind.is_kept ≡ true) × (view.state ≡ passed k behind.state) × (view.limits ≡ behind.limits))
+  state_out k view none_accepted kept = (kept, refl, refl)
+  state_out k view (accepted_one done from ready next before rests below written) kept =
+      let s = written kept in
+      let r = rested_state done from ready rests s.step.was_kept in
+      let so_far = state_out done from before r.0 in (
+        so_far.0,
+        s.state ∙ ap (λ (state : HostState). block_passed state true) (r.1 ∙ so_far.1),
+        s.limits ∙ r.2 ∙ so_far.2,
+      )
+
+  -- Where it is kept, the lines stay as they were.
+  lines_out : (k : ℕ) (view ready : HostView) → AreAccepted WritesBlock HostRested blocks behind k view
+      → RestsBehind HostRested k view ready
+      → Where ready (lines_of ready.state.ios ≡ (poll_noted k (writes_noted k wire)).lines)
+  lines_out k view ready all rests kept =
+      let r = rested_state k view ready rests kept in
+      let so_far = state_out k view all r.0 in
+      ap (λ (state : HostState). lines_of state.ios) (r.1 ∙ so_far.1) ∙ lines_passed k behind.state ∙ lines so_far.0
+      ∙ sym (lines_written k wire) ∙ sym (lines_polled k (writes_noted k wire))
+
+  one_written : (ready next : HostView) (at then : Wire) (got : DataOut) (block : List ℕ)
+      → Where ready (lines_of ready.state.ios ≡ at.lines) → WritesBlock ready block got next → Tells at (Out got) then
+      → BlockWritten (bus_over ready at misused) block got (bus_over next then misused)
+  one_written ready next at then got block same written tells =
+      one_told ready next at then misused (Out got) (λ old new. WriteStep old block got new)
+      (does_write ready ready next at misused block got same (sets_none ready) written) tells
+
+  accepted_over : (k : ℕ) (view : HostView) → AreAccepted WritesBlock HostRested blocks behind k view
+      → AreAccepted BlockWritten NotBusy blocks (bus_over behind wire misused) k (bus_over view (writes_noted k wire) misused)
+  accepted_over k view none_accepted = none_accepted
+  accepted_over k view (accepted_one done from ready next before rests below written) =
+      accepted_one done (bus_over from (writes_noted done wire) misused)
+      (bus_over ready (poll_noted done (writes_noted done wire)) misused)
+      (bus_over next (writes_noted (suc done) wire) misused) (accepted_over done from before)
+      (rests_over done from ready (writes_noted done wire) misused rests) below
+      (one_written ready next (poll_noted done (writes_noted done wire)) (writes_noted (suc done) wire) Accepted
+      (slice_index_or blocks done []) (lines_out done from ready before rests) written
+      (noted_tells (Out Accepted) (poll_noted done (writes_noted done wire))))
+
+  -- uncounted
+  lines_so_out : (k : ℕ) (view ready : HostView) → AreAccepted WritesBlock HostRested blocks behind k view
+      → RestsBehind HostRested k view ready
+      → Where ready (lines_of ready.state.ios ≡ (told_so (Busy false) k wire).lines)
+  lines_so_out k view ready all rests kept =
+      lines_out k view ready all rests kept ∙ lines_polled k (writes_noted k wire) ∙ lines_written k wire
+      ∙ sym (so_lines (Busy false) k wire)
+
+  accepted_so : (k : ℕ) (view : HostView) → AreAccepted WritesBlock HostRested blocks behind k view
+      → AreAccepted BlockWritten NotBusy blocks (bus_over behind wire misused) k
+      (bus_over view (told_so (Out Accepted) k wire) misused)
+  accepted_so k view none_accepted = none_accepted
+  accepted_so k view (accepted_one done from ready next before rests below written) =
+      accepted_one done (bus_over from (told_so (Out Accepted) done wire) misused)
+      (bus_over ready (told_so (Busy false) done wire) misused) (bus_over next (told (Out Accepted) wire) misused)
+      (accepted_so done from before) (rests_so done from ready wire misused rests) below
+      (one_written ready next (told_so (Busy false) done wire) (told (Out Accepted) wire) Accepted
+      (slice_index_or blocks done []) (lines_so_out done from ready before rests) written
+      (so_tells (Busy false) (Out Accepted) done wire))
+
+  pub written_over : (moved : Moved DataOut) (new : HostView)
+      → WrittenOn WritesBlock HostRested blocks behind moved new
+      → WrittenOn BlockWritten NotBusy blocks (bus_over behind wire misused) moved
+      (bus_over new (all_writes_noted moved wire) misused)
+  written_over moved new (writes good next all) = writes good _ (accepted_over good next all)
+  written_over moved new (writes_none some view ready got next all rests below not written) =
+      writes_none some (bus_over view (told_so (Out Accepted) some wire) misused)
+      (bus_over ready (told_so (Busy false) some wire) misused) got (bus_over next (noted (Out got) wire) misused)
+      (accepted_so some view all) (rests_so some view ready wire misused rests) below not
+      (one_written ready next (told_so (Busy false) some wire) (noted (Out got) wire) got (slice_index_or blocks some [])
+      (lines_so_out some view ready all rests) written (so_noted (Busy false) (Out got) some wire))
+
+  pub state_on_out : (moved : Moved DataOut) (new : HostView)
+      → WrittenOn WritesBlock HostRested blocks behind moved new
+      → Where new ((behind.is_kept ≡ true) × (new.state ≡ passed_on moved behind.state) × (new.limits ≡ behind.limits))
+  state_on_out moved new (writes good next all) kept = state_out good next all kept
+  state_on_out moved new (writes_none some view ready got next all rests below not written) kept =
+      let s = written kept in
+      let r = rested_state some view ready rests s.step.was_kept in
+      let so_far = state_out some view all r.0 in (
+        so_far.0,
+        s.state ∙ ap (block_passed ready.state) (is_other_out got not)
+            ∙ ap (λ (state : HostState). block_passed state false) (r.1 ∙ so_far.1) ∙ ended some behind.state,
+        s.limits ∙ r.2 ∙ so_far.2,
+      )
+
+-- a response that is spelled is heard
+heard_none : (index : ℕ) (heard : Result Heard ResponseFault) (reply : Reply)
+    → Spells (answer_heard To.R1 index heard) reply → IsErr (response_heard index reply)
+    → answer_heard To.R1 index heard ≡ Silent
+heard_none index (Ok (Heard.Word argument)) reply spells err =
+    cc (subst IsErr (ap (response_heard index) spells.1 ∙ ap or_unsound spells.2) err)
+heard_none index (Ok Heard.Nothing) reply spells err = refl
+heard_none index (Ok (Heard.Register bytes)) reply spells err = refl
+heard_none index (Err fault) reply spells err = refl
+
+-- The whole call.
+module _ (blocks : List (List ℕ)) (v0 v1 : HostView)
+    (w0 w1 : Wire) (misused : Bool) (state : HostState) (frame : List ℕ) (want : Want) (command : HostCommand)
+    (count : ℕ) (heard : Result Heard ResponseFault) (reply : Reply) (moved : Moved DataOut) (new : HostView)
+    (only : OnlySets v0 v1) (told : Where v1 (v1.state ≡ state)) (can : CanWrite state frame command count w0.lines)
+    (write : WritesWith v1 command blocks heard moved new)
+    (spells : Spells (answer_heard command.response command.index heard) reply)
+    (notes_it : Notes w0 (Command frame want reply) w1) where
+  write_lines : Where write.behind (lines_of write.behind.state.ios ≡ w1.lines)
+  write_lines kept =
+      let s = write.sent kept in
+      ap (λ (x : HostState). lines_of x.ios) s.state
+      ∙ ap (λ (x : HostState). lines_of x.ios) (told s.step.was_kept) ∙ can.set ∙ sym notes_it.lines
+
+  none_unheard : (c : ℕ × ℕ) → command_in frame ≡ Some c → IsErr (response_heard c.0 reply)
+      → moved ≡ Move.Good 0
+  none_unheard c is err =
+      let same : Some (command.index, command.argument) ≡ Some c = sym can.holds ∙ is in
+      let index : command.index ≡ c.0 = grind (arith, same) in
+      write.unheard
+      (rw can.response (heard_none command.index heard reply (rw can.response at spells)
+      (subst (λ n. IsErr (response_heard n reply)) (sym index) err)))
+
+  pub writes_over : WrittenWith (bus_over v0 w0 misused) frame want blocks reply moved
+      (bus_over new (all_writes_noted moved w1) misused)
+  writes_over = record {
+    behind = bus_over write.behind w1 misused;
+    commanded = exchanged v0 write.behind w0 w0 w1 misused misused (Command frame want reply)
+        (λ old next. CommandStep old frame reply next)
+        (does_command v0 write.behind w0 misused command.index command.argument frame reply can.holds
+        (replied v0 v1 write.behind write.behind command heard reply only write.sent (waits_none write.behind) spells))
+        refl notes_it;
+    unheard = none_unheard;
+    written = written_over blocks write.behind w1 misused write_lines moved new write.written;
+  }
+
+  pub told_write : Where new (new.state ≡ passed_on moved (sent state command (is_ok heard)))
+  told_write kept =
+      let all = state_on_out blocks write.behind w1 misused write_lines moved new write.written kept in
+      let s = write.sent all.0 in
+      all.1
+      ∙ ap (λ (x : HostState). passed_on moved x)
+      (s.state ∙ ap (λ (x : HostState). sent x command (is_ok heard)) (told s.step.was_kept))
+
+  pub within_write : Where v1 (v1.limits ≡ w0.limits) → Where new (new.limits ≡ w0.limits)
+  within_write within kept =
+      let all = state_on_out blocks write.behind w1 misused write_lines moved new write.written kept in
+      let s = write.sent all.0 in
+      all.2 ∙ s.limits ∙ within s.step.was_kept

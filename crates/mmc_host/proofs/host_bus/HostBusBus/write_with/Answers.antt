@@ -1,0 +1,71 @@
+use Rattle.std.proofs.Common.{◌∙◌, Bool, ap, refl, subst, sym}
+use Rattle.mmc_card.specs.declared.exchange.Exchange.TheVariants.{Command}
+use Rattle.mmc_bus.specs.Together.{WrittenWith, none_accepted, writes}
+use Rattle.mmc_bus.specs.Wires.{Notes}
+use Rattle.mmc_bus.specs.declared.wire.Wire.{Wire}
+use Rattle.mmc_host.proofs.TogetherLemmas.{limits_all_written, told_write, within_write, writes_over}
+use Rattle.mmc_host.specs.HostStates.{sent}
+use Rattle.mmc_host.specs.Hosts.{bus_over}
+use Rattle.mmc_host.specs.Together.{CanWrite, passed_on}
+use Rattle.mmc_host.proofs.host_bus.HostBusBus.write_with.Goals as goal
+
+pub returns-in-Some : goal.returns-in-Some
+returns-in-Some g c =
+    let v0 = g.H.Host.view c.args.self.now.host in
+    let v1 = g.H.Host.view c.writing.new.self.host in
+    let new = g.H.Host.view c.write_with-heard.new.self in
+    let w0 = c.args.self.now.wire in
+    let moved = c.write_with-heard.result.1 in
+    let wire = c.writing.ensures.wire in
+    let misused = c.writing.ensures.misused in
+    let noted : Notes w0 (Command c.args.frame c.args.want c.spelled-reply.result) c.note.new.self =
+    subst (λ (w : Wire). Notes w (Command c.args.frame c.args.want c.spelled-reply.result) c.note.new.self) wire
+    c.note.ensures in
+    let can : CanWrite c.writing.new.self.state c.args.frame c.in-Some.command c.len.result w0.lines = c.in-Some.ensures.can in
+    subst (λ (m : Bool). WrittenWith (bus_over v0 w0 c.args.self.now.is_misused) c.args.frame
+    c.args.want (g.D.Blocks.blocks c.args.blocks.now) c.spelled-reply.result moved
+    (bus_over new c.note_written.new.wire m)) (sym misused)
+    (subst (λ (w : Wire). WrittenWith (bus_over v0 w0 c.args.self.now.is_misused)
+    c.args.frame c.args.want (g.D.Blocks.blocks c.args.blocks.now) c.spelled-reply.result moved
+    (bus_over new w c.args.self.now.is_misused)) (sym c.note_written.ensures)
+    (writes_over (g.D.Blocks.blocks c.args.blocks.now) v0 v1 w0 c.note.new.self c.args.self.now.is_misused c.writing.new.self.state c.args.frame
+    c.args.want c.in-Some.command c.len.result c.write_with-heard.result.0 c.spelled-reply.result moved
+    new c.writing.ensures.only c.writing.new.self.told can c.write_with-heard.ensures
+    c.spelled-reply.ensures noted))
+
+pub returns-in-None : goal.returns-in-None
+returns-in-None g c =
+    rw (sym (c.in-None.ensures.cannot refl)) (record {
+      behind = bus_over (g.H.Host.view c.command.new.self.host) c.command.new.self.wire c.command.new.self.is_misused;
+      commanded = c.command.ensures;
+      unheard = λ command is err. refl;
+      written = writes 0 _ none_accepted;
+    })
+
+pub invariant_of-self : goal.invariant_of-self
+invariant_of-self g c =
+    let v0 = g.H.Host.view c.args.self.now.host in
+    let v1 = g.H.Host.view c.writing.new.self.host in
+    let new = g.H.Host.view c.write_with-heard.new.self in
+    let w = c.writing.new.self.wire in
+    let moved = c.write_with-heard.result.1 in
+    let can : CanWrite c.writing.new.self.state c.args.frame c.in-Some.command c.len.result w.lines =
+    subst (λ (v : Wire). CanWrite c.writing.new.self.state c.args.frame c.in-Some.command c.len.result v.lines)
+    (sym c.writing.ensures.wire) c.in-Some.ensures.can in
+    record {
+      told = λ kept.
+          told_write (g.D.Blocks.blocks c.args.blocks.now) v0 v1 w c.note.new.self c.args.self.now.is_misused c.writing.new.self.state c.args.frame
+          c.args.want c.in-Some.command c.len.result c.write_with-heard.result.0 c.spelled-reply.result moved
+          new c.writing.ensures.only c.writing.new.self.told can c.write_with-heard.ensures
+          c.spelled-reply.ensures c.note.ensures kept
+          ∙ sym (c.blocks_passed-self.ensures
+          ∙ ap (passed_on moved)
+          (c.sent.ensures ∙ ap (sent c.writing.new.self.state c.in-Some.command) c.is_ok.ensures.value));
+      within = λ kept.
+          within_write (g.D.Blocks.blocks c.args.blocks.now) v0 v1 w c.note.new.self c.args.self.now.is_misused c.writing.new.self.state c.args.frame
+          c.args.want c.in-Some.command c.len.result c.write_with-heard.result.0 c.spelled-reply.result moved
+          new c.writing.ensures.only c.writing.new.self.told can c.write_with-heard.ensures
+          c.spelled-reply.ensures c.note.ensures c.writing.new.self.within kept
+          ∙ sym c.note.ensures.limits ∙ sym (limits_all_written moved c.note.new.self)
+          ∙ ap (λ (v : Wire). v.limits) (sym c.note_written.ensures);
+    }

@@ -1,0 +1,115 @@
+-- A command with the blocks after it, by one call of a host.
+use Rattle.std.specs.Prelude.{◌+◌, ◌-◌, ◌<◌, ◌^◌, ◌≡◌, ◌≤◌, List, Result, Some, false, if◌then◌else◌, min, nat_lt, suc, true, zero, ℕ}
+use Rattle.mmc_frame.specs.Frame.{command_in}
+use Rattle.mmc_card.specs.declared.exchange.Lines.{Lines}
+use Rattle.mmc_card.specs.declared.exchange.DataIn.{DataIn}
+use Rattle.mmc_card.specs.declared.exchange.DataIn.TheVariants.{Good}
+use Rattle.mmc_card.specs.CardAnswer.{Silent}
+use Rattle.mmc_card.specs.declared.exchange.DataOut.{DataOut}
+use Rattle.mmc_card.specs.declared.exchange.DataOut.TheVariants.{Accepted}
+use Rattle.mmc_card.specs.declared.exchange.Exchange.{Exchange}
+use Rattle.mmc_card.specs.declared.exchange.Exchange.TheVariants.{Busy, In, Out}
+use Rattle.mmc_bus.specs.Together.{ReadOn, WrittenOn}
+use Rattle.mmc_bus.specs.declared.moved.Moved.{Moved}
+use Rattle.mmc_bus.specs.declared.moved.Moved.TheVariants as Move
+use Rattle.mmc_bus.specs.declared.wire.Wire.{Wire}
+use Rattle.mmc_host.specs.HostStates.{AreMovable, IsFree, IsTold, block_passed, lines_of}
+use Rattle.mmc_host.specs.Hosts.{HostView, IsSlowEnough, Looks, ReadsBlock, Sends, WritesBlock, answer_heard}
+use Rattle.mmc_host.specs.declared.response.Response.TheVariants as To
+use Rattle.mmc_host.specs.declared.data.Blocks.TheVariants.{Counted, UntilStopped}
+use Rattle.mmc_host.specs.declared.data.Data.{Data}
+use Rattle.mmc_host.specs.declared.data.Data.TheVariants as Behind
+use Rattle.mmc_host.specs.declared.told.Heard.{Heard}
+use Rattle.mmc_host.specs.declared.told.HostCommand.{HostCommand}
+use Rattle.mmc_host.specs.declared.told.HostState.{HostState}
+use Rattle.mmc_host.specs.declared.told.ResponseFault.{ResponseFault}
+
+-- so many blocks of 512 bytes are to come, or more
+abbrev pub AreBehind : Data → ℕ → Type 0
+AreBehind (Behind.Read size (Counted all)) count = (size ≡ 512) × (count ≤ all)
+AreBehind (Behind.Read size UntilStopped) count = size ≡ 512
+AreBehind _ count = ⊥
+
+-- so many blocks are to go, or more
+abbrev pub AreAhead : Data → ℕ → Type 0
+AreAhead (Behind.Write (Counted all)) count = count ≤ all
+AreAhead (Behind.Write UntilStopped) count = Unit {0}
+AreAhead _ count = ⊥
+
+abbrev pub HostRead : HostView → DataIn → List ℕ → HostView → Type 0
+HostRead old got bytes new = ReadsBlock old 512 got bytes new
+
+pub record ReadsWith {S : Type 0} (blocks : S → List (List ℕ)) (leave : S → ℕ → List ℕ → S) (old : HostView)
+    (command : HostCommand) (was : S) (heard : Result Heard ResponseFault) (moved : Moved DataIn) (now : S)
+    (new : HostView) : Type 0 where
+  pub behind : HostView
+  pub sent : Sends old command heard behind
+  pub read : ReadOn HostRead blocks leave behind was moved new now
+
+abbrev pub HostRested : HostView → HostView → Type 0
+HostRested old new = Looks old false new
+
+-- none goes where no response was heard
+pub record WritesWith (old : HostView) (command : HostCommand) (blocks : List (List ℕ)) (heard : Result Heard ResponseFault)
+    (moved : Moved DataOut) (new : HostView) : Type 0 where
+  pub behind : HostView
+  pub sent : Sends old command heard behind
+  pub unheard : answer_heard command.response command.index heard ≡ Silent → moved ≡ Move.Good 0
+  pub written : WrittenOn WritesBlock HostRested blocks behind moved new
+
+-- the command of a frame can be sent, and so many blocks come behind it on these lines
+pub record CanRead (state : HostState) (frame : List ℕ) (command : HostCommand) (count : ℕ) (lines : Lines) : Type 0 where
+  pub index : command.index < 64
+  pub holds : command_in frame ≡ Some (command.index, command.argument)
+  pub movable : AreMovable command.transfer
+  pub told : IsTold state command
+  pub free : IsFree state.transfer command
+  pub clock : IsSlowEnough state command
+  pub behind : AreBehind command.transfer count
+  pub set : lines_of state.ios ≡ lines
+
+-- and so many go behind it
+pub record CanWrite (state : HostState) (frame : List ℕ) (command : HostCommand) (count : ℕ) (lines : Lines) : Type 0 where
+  pub index : command.index < 64
+  pub holds : command_in frame ≡ Some (command.index, command.argument)
+  pub response : command.response ≡ To.R1
+  pub movable : AreMovable command.transfer
+  pub told : IsTold state command
+  pub free : IsFree state.transfer command
+  pub clock : IsSlowEnough state command
+  pub ahead : AreAhead command.transfer count
+  pub set : lines_of state.ios ≡ lines
+
+-- after so many good blocks
+abbrev pub passed : ℕ → HostState → HostState
+passed zero state = state
+passed (suc done) state = block_passed (passed done state) true
+
+-- a block that failed ends the data, however many came before it
+abbrev pub passed_on : {T : Type 0} → Moved T → HostState → HostState
+passed_on (Move.Good good) state = passed good state
+passed_on (Move.Failed got) state = block_passed state false
+
+-- what a wire keeps of them; where one failed, of it alone
+abbrev pub noted : Exchange → Wire → Wire
+noted exchange wire = record wire { last = Some exchange; exchanges = min (wire.exchanges + 1) (2 ^ 64 - 1) }
+
+abbrev pub blocks_noted : ℕ → Wire → Wire
+blocks_noted zero wire = wire
+blocks_noted (suc done) wire = noted (In 512 Good) (blocks_noted done wire)
+
+abbrev pub all_noted : Moved DataIn → Wire → Wire
+all_noted (Move.Good good) wire = blocks_noted good wire
+all_noted (Move.Failed got) wire = noted (In 512 got) wire
+
+-- of those that are written there is a poll before each but the first
+abbrev pub poll_noted : ℕ → Wire → Wire
+poll_noted done wire = if nat_lt 0 done then noted (Busy false) wire else wire
+
+abbrev pub writes_noted : ℕ → Wire → Wire
+writes_noted zero wire = wire
+writes_noted (suc done) wire = noted (Out Accepted) (poll_noted done (writes_noted done wire))
+
+abbrev pub all_writes_noted : Moved DataOut → Wire → Wire
+all_writes_noted (Move.Good good) wire = writes_noted good wire
+all_writes_noted (Move.Failed got) wire = noted (Out got) wire

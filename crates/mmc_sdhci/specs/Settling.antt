@@ -1,0 +1,17 @@
+-- Waiting for what settles.
+use Rattle.std.specs.Prelude.{None, Some, ℕ, ◌≡◌}
+use Rattle.mmc_sdhci.specs.Controller.{ControllerView, Settled}
+use Rattle.mmc_sdhci.specs.Moving.{WhereKept}
+
+abbrev pub IsResetting : ControllerView → Type 0
+IsResetting view = WhereKept view ((waited : ℕ) × (view.resetting ≡ Some waited))
+
+abbrev pub ResetEnds : ControllerView → ControllerView → Type 0
+ResetEnds old new = Settled old (new ≡ record old { resetting = None }) new
+
+abbrev pub IsStabilizing : ControllerView → Type 0
+IsStabilizing view =
+    WhereKept view ((view.resetting ≡ None) × ((waited : ℕ) × (view.settings.stabilizing ≡ Some waited)))
+
+abbrev pub Stabilizes : ControllerView → ControllerView → Type 0
+Stabilizes old new = Settled old (new ≡ record old { settings = record old.settings { stabilizing = None } }) new

@@ -1,0 +1,49 @@
+// What comes after a block.
+ghost use Rattle.std.specs.Prelude.{◌≡◌};
+ghost use Rattle.mmc_sdhci.specs.DataLooks.{following_counted, following_of};
+
+use mmc_host::{Blocks, Data};
+
+/// What comes after a block.
+#[derive(Clone, Copy, Debug, PartialEq, Eq)]
+pub enum Following {
+    /// Nothing: it is the last one.
+    End,
+    /// Another block.
+    Another,
+    /// Blocks come until they are stopped.
+    Unknown,
+}
+
+fn following_counted(count: u16) -> Following
+    ensures { result ≡ following_counted count }
+{
+    if count == 1 {
+        Following::End
+    } else {
+        Following::Another
+    }
+}
+
+/// What comes after the next block of this data.
+pub fn following_of(transfer: Data) -> Following
+    ensures { result ≡ following_of transfer }
+{
+    match transfer {
+        Data::Nothing => Following::End,
+        Data::Read {
+            blocks: Blocks::Counted(count),
+            ..
+        } => following_counted(count),
+        Data::Write {
+            blocks: Blocks::Counted(count),
+        } => following_counted(count),
+        Data::Read {
+            blocks: Blocks::UntilStopped,
+            ..
+        } => Following::Unknown,
+        Data::Write {
+            blocks: Blocks::UntilStopped,
+        } => Following::Unknown,
+    }
+}

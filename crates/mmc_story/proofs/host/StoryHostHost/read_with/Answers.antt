@@ -1,0 +1,22 @@
+use Rattle.std.proofs.Common.{◌∙◌, ap}
+use Rattle.mmc_host.specs.HostStates.{sent}
+use Rattle.mmc_host.specs.Together.{passed_on}
+use Rattle.mmc_host.specs.declared.told.HostState.{HostState}
+use Rattle.mmc_story.proofs.TransferLemmas.{before_reads, read_noted}
+use Rattle.mmc_story.proofs.host.StoryHostHost.read_with.Goals as goal
+
+pub returns : goal.returns
+returns g c =
+    read_noted g.D.Blocks.blocks g.D.BlocksMut.with g.met.D.BlocksMut.writes_one g.S.HasStory.story c.args.command
+    c.read_with-heard.result.0 c.read_with-heard.result.1 c.args.blocks.now c.read_with-heard.new.blocks _ _
+    c.read_with-heard.ensures c.args.self.now.diary.past c.note.new.self.diary.past c.args.self.now.state
+    c.blocks_passed-self.result c.args.self.now.limits c.note.new.self.limits _ c.of.ensures c.note.ensures.past
+    (c.blocks_passed-self.ensures
+    ∙ ap (passed_on c.read_with-heard.result.1)
+    (c.sent.ensures ∙ ap (λ (s : HostState). sent s c.args.command c.is_ok.result) c.note.ensures.state
+    ∙ ap (sent c.args.self.now.state c.args.command) c.is_ok.ensures.value))
+    c.note.ensures.limits
+
+pub invariant_of-self : goal.invariant_of-self
+invariant_of-self g c =
+    record { unkept = λ kept. c.args.self.now.unkept (before_reads _ c.args.command c.args.blocks.now _ _ _ _ c.read_with-heard.ensures kept) }

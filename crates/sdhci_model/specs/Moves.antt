@@ -1,0 +1,67 @@
+-- What the model's registers do while blocks are moved.
+use Rattle.std.specs.Prelude.{[], List, Some, false, true, ℕ, ◌≡◌}
+use Rattle.mmc_frame.specs.Field.{field}
+use Rattle.mmc_host.specs.HostStates.{less_one}
+use Rattle.mmc_host.specs.declared.data.Data.{Data}
+use Rattle.mmc_story.specs.Story.{Outcome}
+use Rattle.mmc_sdhci.specs.Accesses.{ClockSeen, Pops, ResetSeen, is_ready_in, written}
+use Rattle.mmc_sdhci.specs.Controller.{ControllerView}
+use Rattle.mmc_sdhci.specs.DataLooks.{has_news, is_gone}
+use Rattle.sdhci_model.specs.Shown.{shown}
+use Rattle.sdhci_model.specs.declared.state.State.{State}
+
+-- these interrupts tell that the block that was taken is good, or it isn't time
+abbrev pub TellsGood : State → ℕ → Type 0
+TellsGood state bits =
+    (field 15 15 bits ≡ 0) × ((outcome : Outcome) → has_news (shown outcome state) (Some state.block.items) bits ≡ true)
+
+abbrev pub AwaitsGood : State → Type 0
+AwaitsGood state = (outcome : Outcome) → has_news (shown outcome state) (Some state.block.items) 0 ≡ false
+
+-- that the block in the buffer has gone
+abbrev pub TellsGone : State → ℕ → Type 0
+TellsGone state bits = (field 15 15 bits ≡ 0) × ((outcome : Outcome) → is_gone (shown outcome state) bits ≡ true)
+
+abbrev pub AwaitsGone : State → Type 0
+AwaitsGone state = (outcome : Outcome) → is_gone (shown outcome state) 0 ≡ false
+
+pub record Comes (old : State) (block : List ℕ) (new : State) : Type 0 where
+  pub items : new.block.items ≡ block
+  pub same : new ≡ record old { block = new.block; taken = 0; is_unjudged = true; is_ready = false; status = 0x20 }
+
+pub record Goes (old : State) (bits : ℕ) (new : State) : Type 0 where
+  pub items : new.outgoing.items ≡ []
+  pub same : new
+      ≡ record old { outgoing = new.outgoing; status = bits; transfer = less_one old.transfer; is_ready = false }
+
+pub record Breaks (old : State) (bits : ℕ) (new : State) : Type 0 where
+  pub items : new.outgoing.items ≡ []
+  pub same : new
+      ≡ record old {
+        outgoing = new.outgoing;
+        status = bits;
+        transfer = Data.Nothing;
+        is_stale = true;
+        is_ready = false;
+        is_unjudged = false;
+      }
+
+-- whatever became of the card, the registers are written so
+abbrev pub WritesTo : State → ℕ → ℕ → State → Type 0
+WritesTo old offset value new = (outcome : Outcome) → shown outcome new ≡ written (shown outcome old) offset value
+
+abbrev pub PopsFrom : State → ℕ → State → Type 0
+PopsFrom old value new = (outcome : Outcome) → Pops (shown outcome old) value (shown outcome new)
+
+abbrev pub ChangesTo : State → (ControllerView → ControllerView) → State → Type 0
+ChangesTo old change new = (outcome : Outcome) → shown outcome new ≡ change (shown outcome old)
+
+abbrev pub SeesBuffer : State → ℕ → State → Type 0
+SeesBuffer old value new =
+    (outcome : Outcome) → shown outcome new ≡ record (shown outcome old) { is_ready = is_ready_in old.transfer value }
+
+abbrev pub SeesClock : State → ℕ → State → Type 0
+SeesClock old value new = (outcome : Outcome) → ClockSeen (shown outcome old) old.stabilizing value (shown outcome new)
+
+abbrev pub SeesReset : State → ℕ → State → Type 0
+SeesReset old value new = (outcome : Outcome) → ResetSeen (shown outcome old) old.resetting value (shown outcome new)

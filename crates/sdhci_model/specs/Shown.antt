@@ -1,0 +1,87 @@
+-- What the model's registers show, over what became of the card.
+use Rattle.std.specs.Prelude.{Bool, List, None, Ok, Option, Some, drop, false, if◌then◌else◌, true, ℕ, ◌≡◌, ◌%◌}
+use Rattle.mmc_host.specs.Hosts.{answer_heard}
+use Rattle.mmc_host.specs.declared.data.Data.{Data}
+use Rattle.mmc_host.specs.declared.response.Response.{Response}
+use Rattle.mmc_host.specs.declared.told.Heard.{Heard}
+use Rattle.mmc_host.specs.declared.told.HostState.{HostState}
+use Rattle.mmc_story.specs.Entry.{Entry, Event}
+use Rattle.mmc_story.specs.Story.{Outcome, Story}
+use Rattle.mmc_sdhci.specs.CommandLooks.{IsShown}
+use Rattle.mmc_sdhci.specs.Commands.{response_flags}
+use Rattle.mmc_sdhci.specs.Controller.{ControllerView, Running, limits_in, lines_in}
+use Rattle.sdhci_model.specs.declared.commands.Run.{Run}
+use Rattle.sdhci_model.specs.declared.state.State.{State}
+
+abbrev pub running_of : Run → Running
+running_of run =
+    record { index = run.index; argument = run.argument; flags = run.flags; transfer = run.transfer }
+
+abbrev pub running_in : Option Run → Option Running
+running_in None = None
+running_in (Some run) = Some (running_of run)
+
+abbrev pub unjudged_in : Bool → List ℕ → Option (List ℕ)
+unjudged_in false block = None
+unjudged_in true block = Some block
+
+abbrev pub shown : Outcome → State → ControllerView
+shown outcome state =
+    record {
+      card = outcome.card;
+      faults = outcome.faults;
+      may_fall = None;
+      is_kept = if state.is_sound then outcome.conformed else false;
+      built = record { capabilities = state.capabilities; version = state.version };
+      settings = record {
+        control = state.control;
+        power = state.power;
+        clock = state.clock;
+        timeout = state.timeout;
+        shown = state.shown;
+        stabilizing = state.stabilizing;
+      };
+      sizes = state.sizes;
+      argument = state.argument;
+      resetting = state.resetting;
+      running = running_in state.running;
+      response = state.response;
+      status = state.status;
+      is_stuck = state.is_stuck;
+      transfer = state.transfer;
+      is_stale = state.is_stale;
+      unjudged = unjudged_in state.is_unjudged state.block.items;
+      is_ready = state.is_ready;
+      incoming = drop state.taken state.block.items;
+      outgoing = state.outgoing.items;
+    }
+
+-- what a host was told that has these lines
+abbrev pub told_of : ℕ → HostState
+told_of control =
+    record {
+      ios = record {
+        width = (lines_in control).width;
+        timing = (lines_in control).timing;
+        is_identifying = false;
+      };
+      is_identifying = false;
+      is_app = false;
+      count = 0;
+      transfer = Data.Nothing;
+    }
+
+-- the words show what was heard
+abbrev pub Fits : Response → Heard → List ℕ → Type 0
+Fits response heard words =
+    (flags index : ℕ) → flags % 32 ≡ response_flags response
+    → IsShown flags index words (answer_heard response index (Ok heard))
+
+-- what is noted of a call
+abbrev pub entry_for : State → Event → Entry
+entry_for state event =
+    record { told = told_of state.control; limits = limits_in state.capabilities; event = event }
+
+-- the controller, where this was noted
+abbrev pub controller : Story → List Entry → State → ControllerView
+controller story past state = shown (story.outcome past) state

@@ -1,0 +1,17 @@
+//! A strict SD host controller in memory, over any host with its card: registers that do as `mmc_sdhci`'s definition of a controller
+//! says, which is proved. It judges what a driver writes, and sends to the card only where lines, power and clock are set. Each
+//! thing is over at the first look at it: a command, a block, a reset, and the wait for the internal clock.
+#![tactic(auto)]
+
+mod commands;
+mod data;
+mod model;
+mod reading;
+mod rules;
+mod settings;
+mod settling;
+mod state;
+mod writes;
+mod writing;
+
+pub use model::{Model, driver};

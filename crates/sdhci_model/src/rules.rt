@@ -1,0 +1,215 @@
+// The rules: what a driver may write. They are those of `mmc_sdhci`, one function for each register.
+ghost use Rattle.std.specs.Prelude.{◌&&◌, ◌||◌, ◌≡◌, is_none};
+ghost use Rattle.mmc_frame.specs.Field.{field};
+ghost use Rattle.mmc_sdhci.specs.Accesses.{can_put, is_asked, is_at_rest, is_clean, is_clock, is_idle, may_write, may_write8};
+ghost use Rattle.mmc_sdhci.specs.Controller.{is_set, is_still};
+ghost use Rattle.mmc_story.specs.Story.{Outcome};
+ghost use Rattle.sdhci_model.specs.Shown.{shown};
+
+use crate::state::State;
+use mmc_host::Data;
+use mmc_sdhci::has_data;
+
+// Both; with `&&` the proofs would lose what each says.
+fn both(a: bool, b: bool) -> bool
+    ensures { result ≡ (a && b) }
+{
+    a && b
+}
+
+// One at least.
+fn either(a: bool, b: bool) -> bool
+    ensures { result ≡ (a || b) }
+{
+    a || b
+}
+
+// Whether these flags and this mode are what a command may ask for: no DMA, no command of the controller's own, no suspending.
+fn is_asked(value: u32) -> bool
+    ensures { result ≡ is_asked value }
+{
+    value % 2 == 0
+        && value / 4 % 4 == 0
+        && value / 64 % 1024 == 0
+        && value / 0x4_0000 % 2 == 0
+        && value / 0x4000_0000 == 0
+        && (value / 0x40_0000 % 4 == 0 || value / 0x40_0000 % 256 == 0x33)
+}
+
+// Block Size, which stands below Block Count.
+fn block_size(sizes: u32) -> u32
+    ensures { result ≡ field 15 0 sizes }
+{
+    sizes % 0x1_0000
+}
+
+impl State {
+    fn is_still(&self) -> bool
+        ensures { (outcome : Outcome) → result ≡ is_still (shown outcome self.now) }
+    {
+        self.resetting.is_none() && self.stabilizing.is_none()
+    }
+
+    fn is_at_rest(&self) -> bool
+        ensures { (outcome : Outcome) → result ≡ is_at_rest (shown outcome self.now) }
+    {
+        if self.running.is_some() {
+            return false;
+        }
+        if self.is_stuck {
+            return false;
+        }
+        if self.is_stale {
+            return false;
+        }
+        if self.is_unjudged {
+            return false;
+        }
+        if self.outgoing.len() != 0 {
+            return false;
+        }
+        self.is_still()
+    }
+
+    fn is_idle(&self) -> bool
+        ensures { (outcome : Outcome) → result ≡ is_idle (shown outcome self.now) }
+    {
+        self.running.is_none() && !has_data(self.transfer)
+    }
+
+    fn is_set(&self) -> bool
+        ensures { (outcome : Outcome) → result ≡ is_set (shown outcome self.now).settings }
+    {
+        self.power == 0x0f
+            && self.shown & 0x007f_0003 == 0x007f_0003
+            && self.stabilizing.is_none()
+            && self.clock % 2 == 1
+            && self.clock / 4 % 2 == 1
+            && self.timeout == 0x0e
+    }
+
+    fn is_clean(&self, value: u32) -> bool
+        ensures { (outcome : Outcome) → result ≡ is_clean (shown outcome self.now) value }
+    {
+        if value / 0x20_0000 % 2 == 1 {
+            self.status == 0
+        } else {
+            self.status & 0x000f_0001 == 0
+        }
+    }
+
+    fn can_put(&self) -> bool
+        ensures { (outcome : Outcome) → result ≡ can_put (shown outcome self.now) }
+    {
+        matches!(self.transfer, Data::Write { .. })
+            && (self.is_ready || !self.outgoing.is_empty())
+            && self.outgoing.len() < 512
+    }
+
+    fn is_none_running(&self) -> bool
+        ensures { (outcome : Outcome) → result ≡ is_none (shown outcome self.now).running }
+    {
+        self.running.is_none()
+    }
+
+    fn is_clock(&self, value: u32) -> bool
+        ensures { (outcome : Outcome) → result ≡ is_clock (shown outcome self.now).settings value }
+    {
+        value < 0x10_0000
+            && (value / 4 % 2 == 0
+                || value % 2 == 1 && u64::from(value % 0x1_0000) == u64::from(self.clock) + 4)
+    }
+
+    fn may_size(&self, value: u32) -> bool
+        ensures { (outcome : Outcome) → result ≡ may_write (shown outcome self.now) 0x04 value }
+    {
+        both(self.is_idle(), block_size(value) < 0x1000)
+    }
+
+    fn may_begin(&self, value: u32) -> bool
+        ensures { (outcome : Outcome) → result ≡ may_write (shown outcome self.now) 0x0c value }
+    {
+        both(
+            self.is_at_rest(),
+            both(self.is_clean(value), both(self.is_set(), is_asked(value))),
+        )
+    }
+
+    fn may_clock(&self, value: u32) -> bool
+        ensures { (outcome : Outcome) → result ≡ may_write (shown outcome self.now) 0x2c value }
+    {
+        both(
+            self.is_none_running(),
+            both(self.is_still(), self.is_clock(value)),
+        )
+    }
+
+    fn may_clear(&self, value: u32) -> bool
+        ensures { (outcome : Outcome) → result ≡ may_write (shown outcome self.now) 0x30 value }
+    {
+        self.running.is_none() && (!has_data(self.transfer) || value & 0x000f_0001 == value)
+    }
+
+    fn may_show(&self, value: u32) -> bool
+        ensures { (outcome : Outcome) → result ≡ may_write (shown outcome self.now) 0x34 value }
+    {
+        both(
+            self.is_idle(),
+            both(
+                value & 0x007f_0003 == 0x007f_0003,
+                value & 0x007f_003f == value,
+            ),
+        )
+    }
+
+    fn may_control(&self, value: u8) -> bool
+        ensures { (outcome : Outcome) → result ≡ may_write8 (shown outcome self.now) 0x28 value }
+    {
+        both(
+            self.is_none_running(),
+            both(self.is_still(), value & 0x26 == value),
+        )
+    }
+
+    fn may_power(&self, value: u8) -> bool
+        ensures { (outcome : Outcome) → result ≡ may_write8 (shown outcome self.now) 0x29 value }
+    {
+        both(self.is_idle(), value == 0x0f)
+    }
+
+    fn may_reset(&self, value: u8) -> bool
+        ensures { (outcome : Outcome) → result ≡ may_write8 (shown outcome self.now) 0x2f value }
+    {
+        let is_off = both(self.is_at_rest(), both(self.is_idle(), self.power == 0));
+        either(value == 2, either(value == 4, both(value == 1, is_off)))
+    }
+
+    /// Whether the rules allow this write of 32 bits.
+    pub fn may_write(&self, offset: u8, value: u32) -> bool
+        ensures { (outcome : Outcome) → result ≡ may_write (shown outcome self.now) offset value }
+    {
+        match offset {
+            0x04 => self.may_size(value),
+            0x08 => self.running.is_none(),
+            0x0c => self.may_begin(value),
+            0x20 => self.can_put(),
+            0x2c => self.may_clock(value),
+            0x30 => self.may_clear(value),
+            0x34 => self.may_show(value),
+            0x38 => value == 0,
+            _ => false,
+        }
+    }
+
+    /// And of 8 bits.
+    pub fn may_write8(&self, offset: u8, value: u8) -> bool
+        ensures { (outcome : Outcome) → result ≡ may_write8 (shown outcome self.now) offset value }
+    {
+        match offset {
+            0x28 => self.may_control(value),
+            0x29 => self.may_power(value),
+            0x2f => self.may_reset(value),
+            _ => false,
+        }
+    }
+}

@@ -1,0 +1,9 @@
+//! Tests of the driver of SD host controllers on the strict controller of `sdhci_model`, behind which is a card in memory.
+#![tactic(auto)]
+
+#[cfg(test)]
+mod controller;
+#[cfg(test)]
+mod narrow;
+#[cfg(test)]
+mod tests;

@@ -1,0 +1,186 @@
+// The driver opens cards, writes and reads back, also where an answer is lost.
+use crate::controller::Controller;
+use crate::narrow::Narrow;
+use mmc_block::{Answer, BlockDev, Bytes, Completion, Part, Request};
+use mmc_bus::{Lines, Timing, Width};
+use mmc_card_sim::example_cards::{emmc, emmc_with, ext_csd_of_emmc, sdhc, sdsc, sdsc_cmd23};
+use mmc_card_sim::{CardSpec, Fault, Outcome, SimCard};
+use mmc_host::HostBus;
+use mmc_sdhci::Sdhci;
+use sdhci_model::{Model, driver};
+use std::alloc::Global;
+use std::marker::Brand;
+use std::test::Fail;
+
+// Capabilities: a base clock of 50 MHz, 3.3 V, high speed, and eight lines.
+const CAPABILITIES: u32 = 0x0124_3200;
+
+type Device = BlockDev<Narrow<HostBus<Sdhci<Model<Controller, Brand>>>>>;
+
+// What came of a run: the lines that the card was opened on, and how many exchanges it took.
+#[derive(Clone, Copy)]
+struct Served {
+    lines: Lines,
+    exchanges: u64,
+}
+
+// Opens the card behind the model, over so many lines at most.
+fn open(alloc: Global, card: SimCard, width: Width) -> Option<Device> {
+    let controller = Controller {
+        card,
+        is_slow: false,
+        was_too_fast: false,
+    };
+    match driver::<Controller, Brand>(controller, CAPABILITIES, 2) {
+        Ok(host) => BlockDev::open(alloc, Narrow::new(HostBus::new(host), width)).ok(),
+        Err(_) => None,
+    }
+}
+
+// Sectors 1 and 2 are written and read back.
+fn submit(alloc: Global, device: &mut Device) -> Result<(), Fail> {
+    let write = Request::Write {
+        part: Part::User,
+        start: 1,
+        count: 2,
+        bytes: Bytes::new(vec![in alloc; 0x5a; 1024]?),
+    };
+    let read = Request::Read {
+        part: Part::User,
+        start: 1,
+        count: 2,
+    };
+    for request in [write, read] {
+        device.submit(alloc, 1, request).ok().ok_or("refused")?;
+    }
+    Ok(())
+}
+
+fn is_all(bytes: &[u8], byte: u8) -> bool {
+    bytes.iter().all(|b| *b == byte)
+}
+
+// The write was done, and what was written was read.
+fn is_served(answers: &[Completion]) -> bool {
+    match answers {
+        [
+            Completion {
+                answer: Answer::Done,
+                ..
+            },
+            Completion {
+                answer: Answer::Data(bytes),
+                ..
+            },
+        ] => is_all(bytes.as_slice(), 0x5a),
+        _ => false,
+    }
+}
+
+// The sectors that were written hold it, and no other one does.
+fn holds(contents: &[u8]) -> bool {
+    for i in 0..contents.len() {
+        let is_written = i >= 512 && i < 1536;
+        if (contents[i] == 0x5a) != is_written {
+            return false;
+        }
+    }
+    contents.len() >= 1536
+}
+
+// The driver over a card with this fault at this exchange opens it, writes and reads back, and keeps to the rules.
+fn serve(
+    alloc: Global,
+    spec: CardSpec,
+    width: Width,
+    exchange: u64,
+    fault: Fault,
+) -> Result<Served, Fail> {
+    let mut card = SimCard::build(alloc, spec).ok().ok_or("no card")?;
+    card.plan(exchange, fault).ok().ok_or("not planned")?;
+    let mut device = open(alloc, card, width).ok_or("no device")?;
+    submit(alloc, &mut device)?;
+    let answers = device.run(alloc)?;
+    let lines = Lines {
+        width: device.info().width,
+        timing: device.info().timing,
+    };
+    let narrow = device.close();
+    let model = narrow.bus.host().registers();
+    if narrow.bus.is_misused() || !model.is_sound() {
+        return Err("the driver broke a rule".into());
+    }
+    let controller = model.host();
+    if controller.was_too_fast {
+        return Err("too fast a clock".into());
+    }
+    if !is_served(answers.as_slice()) || !holds(controller.card.contents(Part::User)) {
+        return Err("not served".into());
+    }
+    Ok(Served {
+        lines,
+        exchanges: controller.card.exchanges(),
+    })
+}
+
+// A card of each kind, with four sectors.
+#[derive(Clone, Copy)]
+enum Which {
+    Sd,
+    Mmc,
+}
+
+fn spec_of(which: Which) -> CardSpec {
+    match which {
+        Which::Sd => sdsc_cmd23(),
+        Which::Mmc => {
+            let mut ext_csd = ext_csd_of_emmc();
+            // SEC_COUNT is 4, and BOOT_SIZE_MULT 0.
+            ext_csd[212] = 4;
+            ext_csd[213] = 0;
+            ext_csd[226] = 0;
+            emmc_with(ext_csd, 4)
+        }
+    }
+}
+
+// No run is so long.
+const NEVER: u64 = 1000;
+
+// Each answer of the controller is lost once: a response, a block that is read, and the status of a block that was rejected.
+fn lose_each(alloc: Global, which: Which, width: Width) -> Result<Lines, Fail> {
+    let whole = serve(alloc, spec_of(which), width, NEVER, Fault::LoseReply)?;
+    let lost = [
+        Fault::LoseReply,
+        Fault::NoBlock,
+        Fault::LoseStatus(Outcome::Old),
+    ];
+    for exchange in 0..whole.exchanges {
+        for fault in lost {
+            serve(alloc, spec_of(which), width, exchange, fault)?;
+        }
+    }
+    Ok(whole.lines)
+}
+
+#[test]
+fn loses_each_answer_on_a_strict_controller(rt: HostRuntime) -> Result<(), Fail> {
+    for which in [Which::Sd, Which::Mmc] {
+        for width in [Width::One, Width::Four] {
+            let lines = lose_each(rt.alloc(), which, width)?;
+            assert!(rt; lines.width == width);
+        }
+    }
+    Ok(())
+}
+
+#[test]
+fn serves_cards_on_a_strict_controller(rt: HostRuntime) -> Result<(), Fail> {
+    let open_ended = serve(rt.alloc(), sdsc(), Width::Four, NEVER, Fault::LoseReply)?;
+    assert!(rt; open_ended.lines.timing == Timing::Default);
+    let four = serve(rt.alloc(), sdhc(), Width::Four, NEVER, Fault::LoseReply)?;
+    assert!(rt; four.lines.timing == Timing::High);
+    let eight = serve(rt.alloc(), emmc(), Width::Eight, NEVER, Fault::LoseReply)?;
+    assert!(rt; eight.lines.width == Width::Eight);
+    Ok(())
+}
