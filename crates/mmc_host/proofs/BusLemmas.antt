@@ -16,7 +16,7 @@ use Rattle.mmc_bus.specs.Wires.{Notes}
 use Rattle.mmc_bus.specs.declared.wire.Wire.{Wire}
 use Rattle.std.specs.Prelude.{None, Result}
 use Rattle.mmc_host.specs.HostStates.{block_passed, is_accepted, is_good, lines_of}
-use Rattle.mmc_host.specs.Hosts.{Does, HostView, OnlySets, ReadsBlock, Replies, Sends, Steps, Waits, Where, WritesBlock, answer_heard, bus_of, bus_over}
+use Rattle.mmc_host.specs.Hosts.{Does, HostView, OnlySets, ReadsBlock, Replies, Rests, Sends, Steps, Where, WritesBlock, answer_heard, bus_of, bus_over}
 use Rattle.mmc_host.specs.declared.told.Heard.{Heard}
 use Rattle.mmc_host.specs.declared.told.HostCommand.{HostCommand}
 use Rattle.mmc_host.specs.declared.told.HostState.{HostState}
@@ -187,7 +187,7 @@ set_before old new ios index argument reply replies kept =
 
 -- lines are set, a command is sent, and its reply is spelled
 pub replied : (v0 v1 v2 v3 : HostView) (command : HostCommand) (heard : Result Heard ResponseFault) (reply : Reply)
-    → OnlySets v0 v1 → Sends v1 command heard v2 → Waits v2 v3
+    → OnlySets v0 v1 → Sends v1 command heard v2 → Rests v2 v3
     → Spells (answer_heard command.response command.index heard) reply
     → Replies v0 command.index command.argument reply v3
 replied v0 v1 v2 v3 command heard reply sets sends waits spells kept =

@@ -1,8 +1,8 @@
 -- A command with the blocks after it, as exchanges of the bus over a host.
 use Rattle.std.proofs.Common.{◌+◌, ◌≤◌, ◌∙◌, ◌≡◌, Bool, List, ap, false, refl, sym, true, ℕ, suc, zero}
-use Rattle.std.specs.Prelude.{Err, IsErr, Ok, Option, Result, Some, is_ok, nat_lt, slice_index_or}
+use Rattle.std.specs.Prelude.{IfSome, Err, IsErr, Ok, Option, Result, Some, is_ok, nat_lt, slice_index_or}
 use Rattle.std.proofs.lemmas.Bool.Decides.{nat_tests}
-use Rattle.std.proofs.Common.{[], arith, subst}
+use Rattle.std.proofs.Common.{[], arith, inl, inr, subst}
 use Rattle.mmc_card.specs.CardAnswer.{Silent}
 use Rattle.mmc_frame.specs.Frame.{command_in}
 use Rattle.mmc_card.specs.Faults.{CommandStep, PollStep, ReadStep, Spells, WriteStep}
@@ -25,11 +25,16 @@ use Rattle.mmc_bus.specs.declared.moved.Moved.{Moved}
 use Rattle.mmc_bus.specs.declared.moved.Moved.TheVariants as Move
 use Rattle.mmc_bus.specs.declared.wire.Wire.{Wire}
 use Rattle.mmc_host.proofs.BusLemmas.{does_command, does_poll, does_read, does_write, exchanged, replied}
-use Rattle.mmc_host.specs.HostStates.{block_passed, is_accepted, is_good, lines_of, sent}
+use Rattle.mmc_host.specs.HostStates.{IsFree, block_passed, is_accepted, is_good, lines_of, sent}
 use Rattle.mmc_card.specs.BusView.{BusView}
-use Rattle.mmc_host.specs.Hosts.{Does, HostView, OnlySets, Waits, Where, WritesBlock, answer_heard, bus_over}
-use Rattle.mmc_host.specs.Together.{CanRead, CanWrite, HostRead, HostRested, ReadsWith, WritesWith, all_noted, all_writes_noted}
+use Rattle.mmc_host.specs.Hosts.{Does, HostView, OnlySets, Rests, Where, WritesBlock, answer_heard, bus_over}
+use Rattle.mmc_host.specs.Together.{AreAhead, AreBehind, CanRead, CanWrite, HostRead, HostRested, ReadsWith, WritesWith, all_noted, all_writes_noted}
 use Rattle.mmc_host.specs.Together.{blocks_noted, noted, passed, passed_on, poll_noted, writes_noted}
+use Rattle.mmc_host.specs.Misuse.{can_send}
+use Rattle.mmc_host.specs.Pace.{IsClocked, IsTimed}
+use Rattle.mmc_host.specs.declared.told.Ios.{Ios}
+use Rattle.mmc_host.specs.declared.data.Data.{Data}
+use Rattle.mmc_host.specs.declared.data.Data.TheVariants as Behind
 use Rattle.mmc_host.specs.declared.response.Response.TheVariants as To
 use Rattle.mmc_host.specs.declared.told.Heard.{Heard}
 use Rattle.mmc_host.specs.declared.told.HostCommand.{HostCommand}
@@ -90,8 +95,53 @@ so_lines exchange (suc k) wire = refl
 pub sets_none : (view : HostView) → OnlySets view view
 sets_none view kept = (kept, refl)
 
-pub waits_none : (view : HostView) → Waits view view
-waits_none view kept = (kept, refl)
+pub rests : (view : HostView) → Rests view view
+rests view kept = (kept, refl)
+
+-- where no data is under way each command can be sent
+idle_sends : (state : HostState) (frame : List ℕ) (index argument : ℕ) → command_in frame ≡ Some (index, argument)
+    → state.transfer ≡ Behind.Nothing → can_send state frame ≡ true
+idle_sends state frame index argument holds idle = rw (holds, idle) refl
+
+with_blocks : (Blocks : Data → Type 0) → (Blocks Behind.Nothing → ⊥) → (under_way : Data) (command : HostCommand)
+    → Blocks command.transfer → IsFree under_way command → under_way ≡ Behind.Nothing
+with_blocks Blocks none under_way command are (inl nothing) = absurd (none (subst Blocks nothing are))
+with_blocks Blocks none under_way command are (inr idle) = idle
+
+-- a command with blocks is sent only where no data is under way
+pub reading_sends : (old new : HostState) (frame : List ℕ) (command : HostCommand) (count : ℕ) (lines : Lines)
+    → new ≡ record old { ios = new.ios } → CanRead new frame command count lines → can_send old frame ≡ true
+reading_sends old new frame command count lines same can =
+    idle_sends old frame command.index command.argument can.holds
+    (sym (ap (λ (s : HostState). s.transfer) same)
+    ∙ with_blocks (λ d. AreBehind d count) (λ no. no) new.transfer command can.behind can.free)
+
+pub writing_sends : (old new : HostState) (frame : List ℕ) (command : HostCommand) (count : ℕ) (lines : Lines)
+    → new ≡ record old { ios = new.ios } → CanWrite new frame command count lines → can_send old frame ≡ true
+writing_sends old new frame command count lines same can =
+    idle_sends old frame command.index command.argument can.holds
+    (sym (ap (λ (s : HostState). s.transfer) same)
+    ∙ with_blocks (λ d. AreAhead d count) (λ no. no) new.transfer command can.ahead can.free)
+
+passed_ios : (done : ℕ) (state : HostState) → (passed done state).ios ≡ state.ios
+passed_ios zero state = refl
+passed_ios (suc done) state = passed_ios done state
+
+moved_ios : {T : Type 0} (moved : Moved T) (state : HostState) → (passed_on moved state).ios ≡ state.ios
+moved_ios (Move.Good good) state = passed_ios good state
+moved_ios (Move.Failed got) state = refl
+
+-- the clock stays as the command wanted it, whatever its blocks did
+pub clocked_then : {T : Type 0} (old mid new : HostState) (frame : List ℕ) (command : HostCommand) (is_answered : Bool)
+    (moved : Moved T) → command_in frame ≡ Some (command.index, command.argument) → IsClocked old command.index mid
+    → new ≡ passed_on moved (sent mid command is_answered) → IfSome (command_in frame) (λ c. IsClocked old c.0 new)
+clocked_then old mid new frame command is_answered moved holds clocked same =
+    rw (holds) (ap (λ (ios : Ios). ios.is_identifying)
+    (ap (λ (s : HostState). s.ios) same ∙ moved_ios moved (sent mid command is_answered)) ∙ clocked)
+
+pub timed_clock : (old new : HostState) (frame : List ℕ) (reply : Reply) → IsTimed old frame reply new
+    → IfSome (command_in frame) (λ c. IsClocked old c.0 new)
+timed_clock old new frame reply timed = rw (timed.holds) timed.clock
 
 lines_of_blocks : (k : ℕ) (wire : Wire) → (blocks_noted k wire).lines ≡ wire.lines
 lines_of_blocks zero wire = refl
@@ -220,7 +270,7 @@ module _ {S : Type 0} {blocks : S → List (List ℕ)} {leave : S → ℕ → Li
     commanded = exchanged v0 read.behind w0 w0 w1 misused misused (Command frame want reply)
         (λ old next. CommandStep old frame reply next)
         (does_command v0 read.behind w0 misused command.index command.argument frame reply can.holds
-        (replied v0 v1 read.behind read.behind command heard reply only read.sent (waits_none read.behind) spells))
+        (replied v0 v1 read.behind read.behind command heard reply only read.sent (rests read.behind) spells))
         refl notes_it;
     read = read_over blocks leave was read.behind w1 misused lines_behind moved new now read.read;
   }
@@ -439,7 +489,7 @@ module _ (blocks : List (List ℕ)) (v0 v1 : HostView)
     commanded = exchanged v0 write.behind w0 w0 w1 misused misused (Command frame want reply)
         (λ old next. CommandStep old frame reply next)
         (does_command v0 write.behind w0 misused command.index command.argument frame reply can.holds
-        (replied v0 v1 write.behind write.behind command heard reply only write.sent (waits_none write.behind) spells))
+        (replied v0 v1 write.behind write.behind command heard reply only write.sent (rests write.behind) spells))
         refl notes_it;
     unheard = none_unheard;
     written = written_over blocks write.behind w1 misused write_lines moved new write.written;

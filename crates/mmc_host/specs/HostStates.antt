@@ -1,5 +1,5 @@
 -- What a host controller has been told so far, command by command.
-use Rattle.std.specs.Prelude.{◌%◌, ◌&&◌, ◌-◌, ◌<◌, ◌==◌, ◌||◌, ◌≡◌, ◌≤◌, ◌⊎◌, Bool, false, if◌then◌else◌, nat_lt, not, true, ℕ}
+use Rattle.std.specs.Prelude.{◌%◌, ◌*◌, ◌+◌, ◌&&◌, ◌-◌, ◌<◌, ◌==◌, ◌||◌, ◌≡◌, ◌≤◌, ◌⊎◌, Bool, false, if◌then◌else◌, nat_lt, not, true, ℕ}
 use Rattle.mmc_frame.specs.Field.{field}
 use Rattle.mmc_frame.specs.declared.commands.TheConstants as Index
 use Rattle.mmc_frame.specs.declared.kind.Kind.{Kind}
@@ -19,6 +19,10 @@ use Rattle.mmc_host.specs.declared.data.Data.{Data}
 use Rattle.mmc_host.specs.declared.told.HostCommand.{HostCommand}
 use Rattle.mmc_host.specs.declared.told.HostState.{HostState}
 use Rattle.mmc_host.specs.declared.told.Ios.{Ios}
+use Rattle.mmc_host.specs.declared.response.Response.{Response}
+use Rattle.mmc_host.specs.declared.response.Response.TheVariants.{R1b}
+use Rattle.mmc_host.specs.declared.work.Work.{Work}
+use Rattle.mmc_host.specs.declared.work.Work.TheVariants.{Erase, Settling, Switch, Write}
 
 abbrev pub lines_of : Ios → Lines
 lines_of ios = record { width = ios.width; timing = ios.timing }
@@ -32,6 +36,10 @@ begun =
       is_app = false;
       count = 0;
       transfer = Data.Nothing;
+      work = Settling;
+      erase_start = 0;
+      erase_end = 0;
+      paused = 0;
     }
 
 -- between two commands to a card that CMD7 has selected, on these lines
@@ -43,12 +51,47 @@ resting lines =
       is_app = false;
       count = 0;
       transfer = Data.Nothing;
+      work = Settling;
+      erase_start = 0;
+      erase_end = 0;
+      paused = 0;
     }
 
 -- between two commands to a card that is selected, whatever its lines and clock
 abbrev pub IsBetween : HostState → Type 0
-IsBetween state =
-    state ≡ record { ios = state.ios; is_identifying = false; is_app = false; count = 0; transfer = Data.Nothing }
+IsBetween state = state ≡ record (resting (lines_of state.ios)) { ios = state.ios }
+
+-- An erase is told by two commands where it begins and ends (SD Physical Layer 6.00, section 4.3.5; JESD84-B51, section 6.6.9).
+abbrev pub begins_erase : ℕ → Bool
+begins_erase index = (index == Index.ERASE_WR_BLK_START) || (index == Index.ERASE_GROUP_START)
+
+abbrev pub ends_erase : ℕ → Bool
+ends_erase index = (index == Index.ERASE_WR_BLK_END) || (index == Index.ERASE_GROUP_END)
+
+-- the card may be busy after such a response
+abbrev pub is_busy_after : Response → Bool
+is_busy_after R1b = true
+is_busy_after _ = false
+
+abbrev pub is_written : ℕ → Bool
+is_written index =
+    (index == Index.STOP_TRANSMISSION) || (index == Index.WRITE_BLOCK) || (index == Index.WRITE_MULTIPLE_BLOCK)
+
+-- what a command sets a card to that is busy then; every other leaves it at what it was
+abbrev pub work_after : HostState → HostCommand → Work
+work_after state command =
+    if command.index == Index.SELECT_CARD then Settling
+    else if is_written command.index then Write
+    else if (command.index == Index.SWITCH_FUNC) && is_busy_after command.response then Switch
+    else if command.index == Index.ERASE then Erase (state.erase_end - state.erase_start)
+    else state.work
+
+-- for how many microseconds a host looks at it, sixteen times at most
+abbrev pub micros_of : Work → ℕ
+micros_of Settling = 32000
+micros_of Write = 32000
+micros_of Switch = 160000
+micros_of (Erase span) = 10000000 + 16000 * (span + 1)
 
 -- behind a command: identification begins with CMD0, and ends when CMD7 is answered
 abbrev pub sent : HostState → HostCommand → Bool → HostState
@@ -60,6 +103,10 @@ sent state command is_answered =
       is_app = (command.index == Index.APP_CMD) && is_answered;
       count = if (command.index == Index.SET_BLOCK_COUNT) && is_answered then field 15 0 command.argument else 0;
       transfer = if is_answered then command.transfer else Data.Nothing;
+      work = work_after state command;
+      erase_start = if begins_erase command.index then command.argument else state.erase_start;
+      erase_end = if ends_erase command.index then command.argument else state.erase_end;
+      paused = 0;
     }
 
 -- one block fewer to come

@@ -123,8 +123,14 @@ abbrev pub SetsIos : HostView → Ios → HostView → Type 0
 SetsIos old ios new =
     Where new ((old.is_kept ≡ true) × (new ≡ record old { state = record old.state { ios = ios } }))
 
-abbrev pub Waits : HostView → HostView → Type 0
-Waits old new = Where new ((old.is_kept ≡ true) × (new ≡ old))
+abbrev pub Waits : HostView → ℕ → HostView → Type 0
+Waits old micros new =
+    Where new ((old.is_kept ≡ true) × (new ≡ record old { state = record old.state { paused = micros } }))
+
+-- a pause at most
+abbrev pub Rests : HostView → HostView → Type 0
+Rests old new =
+    Where new ((old.is_kept ≡ true) × (new ≡ record old { state = record old.state { paused = new.state.paused } }))
 
 -- no command was sent so far
 abbrev pub IsUnused : HostView → Type 0

@@ -2,6 +2,8 @@ pub mod Fits
 pub mod Hosts
 pub mod HostStates
 pub mod Meaning
+pub mod Misuse
+pub mod Pace
 pub mod Table
 pub mod Together
 pub mod WireLaws

@@ -104,11 +104,13 @@ pub trait Host {
         requires { Where (view self.old) (IsToGo (view self.old).state) }
         ensures { WritesBlock (view self.old) block.now result (view self.new) };
 
-    /// Whether the card is still busy after `work.micros()` microseconds. The answer comes at once where it isn't.
+    /// Whether the card is still busy after `work.micros()` microseconds, at what it was set to last. The answer comes at once where
+    /// it isn't.
     fn is_busy(&mut self, work: Work) -> bool
+        requires { Where (view self.old) (work ≡ (view self.old).state.work) }
         ensures { Looks (view self.old) result (view self.new) };
 
     /// Waits for so many microseconds.
     fn pause(&mut self, micros: u32)
-        ensures { Waits (view self.old) (view self.new) };
+        ensures { Waits (view self.old) micros (view self.new) };
 }

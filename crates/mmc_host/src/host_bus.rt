@@ -1,25 +1,24 @@
-ghost use Rattle.std.specs.Prelude.{◌<◌, ◌≡◌, IfSome, IsNone, IsSome, None, false, length, true};
-ghost use Rattle.mmc_frame.specs.Frame.{command_in};
-ghost use Rattle.mmc_host.specs.declared.data.Data.TheVariants as Data;
+ghost use Rattle.std.specs.Prelude.{◌<◌, ◌==◌, ◌||◌, ◌≡◌, IfSome, IsNone, None, false, length, not, true};
 ghost use Rattle.mmc_bus.specs.Exchanges.{Commanded, DataRead, DataWritten, Polled, SetsLines};
+ghost use Rattle.mmc_bus.specs.Together.{ReadWith, WrittenWith};
 ghost use Rattle.mmc_card.specs.Faults.{CommandStep, PollStep, ReadStep, Spells, WriteStep};
 ghost use Rattle.mmc_bus.specs.Wires.{bus_view_with};
-ghost use Rattle.mmc_host.specs.Hosts.{Does, GoesOn, IsUnused, IsWithin, OnlySets, ReadsBlock, Replies, Waits};
+ghost use Rattle.mmc_host.specs.Hosts.{Does, GoesOn, IsUnused, IsWithin, OnlySets, ReadsBlock, Replies, Rests};
+ghost use Rattle.mmc_frame.specs.Frame.{command_in};
+ghost use Rattle.mmc_host.specs.Misuse.{can_send};
+ghost use Rattle.mmc_host.specs.Pace.{IsClocked, IsPaced, IsTimed, pause_after, shows_work};
+ghost use Rattle.mmc_frame.specs.declared.commands.TheConstants.{GO_IDLE_STATE};
 ghost use Rattle.mmc_host.specs.Hosts.{Where, WritesBlock, answer_heard, bus_over};
 ghost use Rattle.mmc_host.specs.Together.{CanRead, CanWrite, all_noted, all_writes_noted, poll_noted, writes_noted};
 ghost use Rattle.mmc_host.specs.HostStates.{AreMovable, IsBetween, IsFree, IsTold, IsToCome, IsToGo, lines_of, resting};
 
 use crate::host::Host;
-use crate::meaning::meant;
 use crate::response::Response;
 use crate::told::{Heard, HostCommand, HostState, Ios, ResponseFault};
-use crate::work::{Work, work_of};
 use mmc_bus::{Blocks, BlocksMut, Bus, Moved, Wire};
-use mmc_card::{Command, DataIn, DataOut, Exchange, Lines, Reply, Timing, Want, Width};
-use mmc_frame::commands::GO_IDLE_STATE;
-use mmc_frame::{
-    Kind, encode_r2, encode_r3, encode_response, is_at_work, read_command, with_check,
-};
+use mmc_card::{DataIn, DataOut, Exchange, Lines, Reply, Timing, Want, Width};
+use mmc_frame::commands::{GO_IDLE_STATE, SD_SEND_OP_COND, SEND_OP_COND, SEND_STATUS};
+use mmc_frame::{encode_r2, encode_r3, encode_response, read_command, with_check};
 
 /// The bus over a host controller.
 ///
@@ -32,8 +31,6 @@ pub struct HostBus<H: Host> {
     wire: Wire,
     // what the host has been told
     state: HostState,
-    // what a busy card is at
-    work: Work,
     is_misused: bool,
     ghost told: { Where (H.view host) ((H.view host).state ≡ state) },
     ghost within: { Where (H.view host) ((H.view host).limits ≡ wire.limits) },
@@ -56,6 +53,29 @@ fn spelled(command: HostCommand, heard: Result<Heard, ResponseFault>) -> Reply
     }
 }
 
+// For how many microseconds the card is left alone after this was heard.
+fn pause_after(is_app: bool, command: HostCommand, heard: Result<Heard, ResponseFault>) -> u32
+    ensures { result ≡ pause_after is_app command heard }
+{
+    let Ok(Heard::Word(word)) = heard else {
+        return 0;
+    };
+    match command.index {
+        SEND_OP_COND if word < READY => BETWEEN_INQUIRIES,
+        SD_SEND_OP_COND if is_app && word < READY => BETWEEN_INQUIRIES,
+        SEND_STATUS if shows_work(word) => BETWEEN_STATUSES,
+        _ => 0,
+    }
+}
+
+// Whether a card status shows the card at work: prg, or tran without READY_FOR_DATA.
+fn shows_work(status: u32) -> bool
+    ensures { result ≡ shows_work status }
+{
+    let state = status / 512 % 16;
+    state == 7 || state == 4 && status / 256 % 2 == 0
+}
+
 // As many of these lines and as fast as the limits allow.
 fn limited(lines: Lines, limits: Lines) -> Lines
     ensures within { IsWithin result limits }
@@ -65,6 +85,14 @@ fn limited(lines: Lines, limits: Lines) -> Lines
         width: lines.width.fewer(limits.width),
         timing: lines.timing.slower(limits.timing),
     }
+}
+
+// Whether the limits allow these lines.
+fn are_within(lines: Lines, limits: Lines) -> bool
+    ensures within { result ≡ true → IsWithin lines limits }
+    ensures can { IsWithin lines limits → result ≡ true }
+{
+    limited(lines, limits) == lines
 }
 
 // Keeps the exchanges of these blocks; where one failed, of it alone, since nobody tells how many came before it.
@@ -123,7 +151,6 @@ impl<H: Host> HostBus<H> {
             host,
             wire: Wire::within(limits),
             state: HostState::new(),
-            work: Work::Settling,
             is_misused: false,
         }
     }
@@ -149,7 +176,6 @@ impl<H: Host> HostBus<H> {
             host,
             wire,
             state,
-            work: Work::Settling,
             is_misused: false,
         }
     }
@@ -198,22 +224,17 @@ impl<H: Host> HostBus<H> {
         }
     }
 
-    // Gives the card the time that it may take before it is asked again.
-    fn keep_pace(&mut self, command: Command, heard: Result<Heard, ResponseFault>)
+    // Pauses for so many microseconds after a command, for which it hasn't paused so far.
+    fn rest(&mut self, micros: u32)
+        requires { self.old.state.paused ≡ 0 }
         ensures wire { self.new.wire ≡ self.old.wire }
         ensures misused { self.new.is_misused ≡ self.old.is_misused }
-        ensures state { self.new.state ≡ self.old.state }
-        ensures waits { Waits (H.view self.old.host) (H.view self.new.host) }
+        ensures state { self.new.state ≡ record self.old.state { paused = micros } }
+        ensures rests { Rests (H.view self.old.host) (H.view self.new.host) }
     {
-        let Ok(Heard::Word(word)) = heard else {
-            return;
-        };
-        match command {
-            Command::SendOpCond | Command::SdSendOpCond if word < READY => self
-                .host
-                .pause(BETWEEN_INQUIRIES),
-            Command::SendStatus if is_at_work(Kind::Mmc, word) => self.host.pause(BETWEEN_STATUSES),
-            _ => {}
+        if micros > 0 {
+            self.host.pause(micros);
+            self.state.paused = micros;
         }
     }
 
@@ -225,14 +246,15 @@ impl<H: Host> HostBus<H> {
         requires free { IsFree self.old.state.transfer command }
         ensures wire { self.new.wire ≡ self.old.wire }
         ensures misused { self.new.is_misused ≡ self.old.is_misused }
+        ensures clock { IsClocked self.old.state command.index self.new.state }
+        ensures pace { IsPaced self.old.state.is_app command result self.new.state.paused }
         ensures sent { Replies (H.view self.old.host) command.index command.argument result (H.view self.new.host) }
     {
         self.set_ios(self.state.is_identifying || command.index == GO_IDLE_STATE);
-        let meaning = meant(command.index, command.argument, self.state.is_app);
+        let is_app = self.state.is_app;
         let heard = self.host.send(command);
         self.state = self.state.sent(command, heard.is_ok());
-        self.work = work_of(meaning).unwrap_or(self.work);
-        self.keep_pace(meaning, heard);
+        self.rest(pause_after(is_app, command, heard));
         spelled(command, heard)
     }
 
@@ -242,8 +264,8 @@ impl<H: Host> HostBus<H> {
         ensures wire { self.new.wire ≡ self.old.wire }
         ensures sent { Does (H.view self.old.host) self.old.wire self.old.is_misused
             (λ old new. CommandStep old frame.now result new) (H.view self.new.host) self.new.is_misused }
-        ensures fits { IsSome (command_in frame.now) → self.old.state.transfer ≡ Data.Nothing
-            → self.new.is_misused ≡ self.old.is_misused }
+        ensures misused { self.new.is_misused ≡ (not (can_send self.old.state frame.now) || self.old.is_misused) }
+        ensures timed { can_send self.old.state frame.now ≡ true → IsTimed self.old.state frame.now result self.new.state }
     {
         let Some((index, argument)) = read_command(frame) else {
             self.is_misused = true;
@@ -262,7 +284,9 @@ impl<H: Host> HostBus<H> {
         ensures wire { self.new.wire ≡ self.old.wire }
         ensures misused { self.new.is_misused ≡ self.old.is_misused }
         ensures only { OnlySets (H.view self.old.host) (H.view self.new.host) }
+        ensures state { self.new.state ≡ record self.old.state { ios = self.new.state.ios } }
         ensures cannot { IsNone result → self.new ≡ self.old }
+        ensures clock { IfSome result (λ command. IsClocked self.old.state command.index self.new.state) }
         ensures can { IfSome result (λ command. CanRead self.new.state frame.now command count self.old.wire.lines) }
     {
         let Some((index, argument)) = read_command(frame) else {
@@ -273,7 +297,7 @@ impl<H: Host> HostBus<H> {
         if index >= 64
             || !self.state.is_free(command)
             || !command.transfer.are_behind(count)
-            || limited(lines, self.wire.limits) != lines
+            || !are_within(lines, self.wire.limits)
         {
             return None;
         }
@@ -286,7 +310,9 @@ impl<H: Host> HostBus<H> {
         ensures wire { self.new.wire ≡ self.old.wire }
         ensures misused { self.new.is_misused ≡ self.old.is_misused }
         ensures only { OnlySets (H.view self.old.host) (H.view self.new.host) }
+        ensures state { self.new.state ≡ record self.old.state { ios = self.new.state.ios } }
         ensures cannot { IsNone result → self.new ≡ self.old }
+        ensures clock { IfSome result (λ command. IsClocked self.old.state command.index self.new.state) }
         ensures can { IfSome result (λ command. CanWrite self.new.state frame.now command count self.old.wire.lines) }
     {
         let Some((index, argument)) = read_command(frame) else {
@@ -298,7 +324,7 @@ impl<H: Host> HostBus<H> {
             || command.response != Response::R1
             || !self.state.is_free(command)
             || !command.transfer.are_ahead(count)
-            || limited(lines, self.wire.limits) != lines
+            || !are_within(lines, self.wire.limits)
         {
             return None;
         }
@@ -313,10 +339,11 @@ impl<H: Host> HostBus<H> {
         ensures state { self.new.state ≡ record self.old.state { ios = self.new.state.ios } }
         ensures only { OnlySets (H.view self.old.host) (H.view self.new.host) }
         ensures set { result ≡ true → lines_of self.new.state.ios ≡ self.old.wire.lines }
+        ensures within { result ≡ true → IsWithin self.old.wire.lines self.old.wire.limits }
         ensures can { IsWithin self.old.wire.lines self.old.wire.limits → result ≡ true }
     {
         self.set_ios(self.state.is_identifying);
-        self.state.ios.lines() == self.wire.lines
+        are_within(self.wire.lines, self.wire.limits)
     }
 
     // Whether a block of this length is to come, on lines that the host can set.
@@ -325,7 +352,9 @@ impl<H: Host> HostBus<H> {
         ensures misused { self.new.is_misused ≡ self.old.is_misused }
         ensures only { OnlySets (H.view self.old.host) (H.view self.new.host) }
         ensures set { result ≡ true → lines_of self.new.state.ios ≡ self.old.wire.lines }
+        ensures within { result ≡ true → IsWithin self.old.wire.lines self.old.wire.limits }
         ensures to_come { result ≡ true → IsToCome self.new.state len }
+        ensures came { result ≡ true → IsToCome self.old.state len }
         ensures can { IsWithin self.old.wire.lines self.old.wire.limits → IsToCome self.old.state len → result ≡ true }
     {
         self.set_lines_asked() && self.state.is_to_come(len)
@@ -337,7 +366,9 @@ impl<H: Host> HostBus<H> {
         ensures misused { self.new.is_misused ≡ self.old.is_misused }
         ensures only { OnlySets (H.view self.old.host) (H.view self.new.host) }
         ensures set { result ≡ true → lines_of self.new.state.ios ≡ self.old.wire.lines }
+        ensures within { result ≡ true → IsWithin self.old.wire.lines self.old.wire.limits }
         ensures to_go { result ≡ true → IsToGo self.new.state }
+        ensures went { result ≡ true → IsToGo self.old.state }
         ensures can { IsWithin self.old.wire.lines self.old.wire.limits → IsToGo self.old.state → result ≡ true }
     {
         self.set_lines_asked() && self.state.is_to_go()
@@ -350,6 +381,8 @@ impl<H: Host> HostBus<H> {
             (λ old new. ReadStep old (length block.old) result block.new new) (H.view self.new.host) self.new.is_misused }
         ensures fits { IsWithin self.old.wire.lines self.old.wire.limits → IsToCome self.old.state (length block.old)
             → self.new.is_misused ≡ self.old.is_misused }
+        ensures only { self.new.is_misused ≡ false
+            → IsWithin self.old.wire.lines self.old.wire.limits × IsToCome self.old.state (length block.old) }
     {
         if !self.can_read(block.len()) {
             self.is_misused = true;
@@ -367,6 +400,8 @@ impl<H: Host> HostBus<H> {
             (λ old new. WriteStep old block.now result new) (H.view self.new.host) self.new.is_misused }
         ensures fits { IsWithin self.old.wire.lines self.old.wire.limits → IsToGo self.old.state
             → self.new.is_misused ≡ self.old.is_misused }
+        ensures only { self.new.is_misused ≡ false
+            → IsWithin self.old.wire.lines self.old.wire.limits × IsToGo self.old.state }
     {
         if !self.can_write() {
             self.is_misused = true;
@@ -380,10 +415,12 @@ impl<H: Host> HostBus<H> {
     // Whether the card is still busy.
     fn look(&mut self) -> bool
         ensures wire { self.new.wire ≡ self.old.wire }
+        ensures misused { self.new.is_misused ≡ self.old.is_misused }
+        ensures state { self.new.state ≡ self.old.state }
         ensures looked { Does (H.view self.old.host) self.old.wire self.old.is_misused
             (λ old new. PollStep old result new) (H.view self.new.host) self.new.is_misused }
     {
-        self.host.is_busy(self.work)
+        self.host.is_busy(self.state.work)
     }
 }
 
@@ -400,7 +437,12 @@ impl<H: Host> Bus for HostBus<H> {
         self.wire.limits
     }
 
-    fn command(&mut self, frame: [u8; 6], want: Want) -> Reply {
+    fn command(&mut self, frame: [u8; 6], want: Want) -> Reply
+        ensures commanded { Commanded (bus_over (H.view self.old.host) self.old.wire self.old.is_misused) frame want result
+            (bus_over (H.view self.new.host) self.new.wire self.new.is_misused) }
+        ensures misused { self.new.is_misused ≡ (not (can_send self.old.state frame) || self.old.is_misused) }
+        ensures timed { can_send self.old.state frame ≡ true → IsTimed self.old.state frame result self.new.state }
+    {
         let reply = self.carry(&frame);
         self.wire.note(Exchange::Command { frame, want, reply });
         reply
@@ -411,7 +453,13 @@ impl<H: Host> Bus for HostBus<H> {
         frame: [u8; 6],
         want: Want,
         blocks: &mut D,
-    ) -> (Reply, Moved<DataIn>) {
+    ) -> (Reply, Moved<DataIn>)
+        ensures read { ReadWith D.blocks D.with (bus_over (H.view self.old.host) self.old.wire self.old.is_misused)
+            frame want blocks.old result.0 result.1 blocks.new (bus_over (H.view self.new.host) self.new.wire self.new.is_misused) }
+        ensures misused { self.new.is_misused ≡ (not (can_send self.old.state frame) || self.old.is_misused) }
+        ensures clock { can_send self.old.state frame ≡ true
+            → IfSome (command_in frame) (λ command. IsClocked self.old.state command.0 self.new.state) }
+    {
         match self.reading(&frame, blocks.len()) {
             Some(command) => {
                 let (heard, moved) = self.host.read_with(command, blocks);
@@ -430,12 +478,17 @@ impl<H: Host> Bus for HostBus<H> {
         frame: [u8; 6],
         want: Want,
         blocks: &D,
-    ) -> (Reply, Moved<DataOut>) {
+    ) -> (Reply, Moved<DataOut>)
+        ensures written { WrittenWith (bus_over (H.view self.old.host) self.old.wire self.old.is_misused) frame want
+            (D.blocks blocks.now) result.0 result.1 (bus_over (H.view self.new.host) self.new.wire self.new.is_misused) }
+        ensures misused { self.new.is_misused ≡ (not (can_send self.old.state frame) || self.old.is_misused) }
+        ensures clock { can_send self.old.state frame ≡ true
+            → IfSome (command_in frame) (λ command. IsClocked self.old.state command.0 self.new.state) }
+    {
         match self.writing(&frame, blocks.len()) {
             Some(command) => {
                 let (heard, moved) = self.host.write_with(command, blocks);
                 self.state = self.state.sent(command, heard.is_ok()).blocks_passed(moved);
-                self.work = Work::Write;
                 let reply = spelled(command, heard);
                 self.wire.note(Exchange::Command { frame, want, reply });
                 note_written(&mut self.wire, moved);
@@ -445,26 +498,50 @@ impl<H: Host> Bus for HostBus<H> {
         }
     }
 
-    fn read_data(&mut self, buffer: &mut [u8]) -> DataIn {
+    fn read_data(&mut self, buffer: &mut [u8]) -> DataIn
+        ensures read { DataRead (bus_over (H.view self.old.host) self.old.wire self.old.is_misused) (length buffer.old) result
+            buffer.new (bus_over (H.view self.new.host) self.new.wire self.new.is_misused) }
+        ensures fits { IsWithin self.old.wire.lines self.old.wire.limits → IsToCome self.old.state (length buffer.old)
+            → self.new.is_misused ≡ self.old.is_misused }
+        ensures only { self.new.is_misused ≡ false
+            → IsWithin self.old.wire.lines self.old.wire.limits × IsToCome self.old.state (length buffer.old) }
+    {
         let len = buffer.len();
         let got = self.read_next(buffer);
         self.wire.note(Exchange::In { len, got });
         got
     }
 
-    fn write_data(&mut self, block: &[u8; 512]) -> DataOut {
+    fn write_data(&mut self, block: &[u8; 512]) -> DataOut
+        ensures written { DataWritten (bus_over (H.view self.old.host) self.old.wire self.old.is_misused) block.now result
+            (bus_over (H.view self.new.host) self.new.wire self.new.is_misused) }
+        ensures fits { IsWithin self.old.wire.lines self.old.wire.limits → IsToGo self.old.state
+            → self.new.is_misused ≡ self.old.is_misused }
+        ensures only { self.new.is_misused ≡ false
+            → IsWithin self.old.wire.lines self.old.wire.limits × IsToGo self.old.state }
+    {
         let got = self.write_next(block);
         self.wire.note(Exchange::Out { got });
         got
     }
 
-    fn busy(&mut self) -> bool {
+    fn busy(&mut self) -> bool
+        ensures polled { Polled (bus_over (H.view self.old.host) self.old.wire self.old.is_misused) result
+            (bus_over (H.view self.new.host) self.new.wire self.new.is_misused) }
+        ensures misused { self.new.is_misused ≡ self.old.is_misused }
+        ensures state { self.new.state ≡ self.old.state }
+    {
         let yes = self.look();
         self.wire.note(Exchange::Busy { yes });
         yes
     }
 
-    fn set_lines(&mut self, width: Width, timing: Timing) {
+    fn set_lines(&mut self, width: Width, timing: Timing)
+        ensures sets { SetsLines (bus_over (H.view self.old.host) self.old.wire self.old.is_misused) width timing
+            (bus_over (H.view self.new.host) self.new.wire self.new.is_misused) }
+        ensures misused { self.new.is_misused ≡ self.old.is_misused }
+        ensures state { self.new.state ≡ self.old.state }
+    {
         self.wire.set_lines(width, timing);
     }
 }

@@ -19,4 +19,4 @@ pub use host_bus::HostBus;
 pub use meaning::meant;
 pub use response::{Response, response_of};
 pub use told::{Heard, HostCommand, HostState, Ios, ResponseFault};
-pub use work::{Work, work_of};
+pub use work::Work;

@@ -1,8 +1,10 @@
 // Which command a frame holds.
-ghost use Rattle.std.specs.Prelude.{◌≡◌};
+ghost use Rattle.std.specs.Prelude.{◌≡◌, ℕ};
 ghost use Rattle.mmc_frame.specs.declared.kind.Kind.TheVariants.{Mmc, Sd};
 ghost use Rattle.mmc_card.specs.Rows.{command_of};
 ghost use Rattle.mmc_host.specs.Meaning.{IsSentTo};
+ghost use Rattle.mmc_host.specs.Misuse.{carries_data, has_data};
+ghost use Rattle.mmc_host.specs.Table.{data_of};
 
 use mmc_card::Command;
 use mmc_frame::commands::*;
@@ -14,6 +16,7 @@ use mmc_frame::commands::*;
 pub fn meant(index: u8, argument: u32, is_app: bool) -> Command
     ensures sd { IsSentTo Sd is_app index argument → result ≡ command_of Sd is_app index }
     ensures mmc { IsSentTo Mmc is_app index argument → result ≡ command_of Mmc is_app index }
+    ensures data { (count : ℕ) → has_data (data_of result count) ≡ carries_data is_app index argument }
 {
     match index {
         GO_IDLE_STATE => Command::GoIdleState,

@@ -1,7 +1,8 @@
 // What a host controller is told, and what it says.
 ghost use Rattle.std.specs.Prelude.{◌≡◌, ◌↔◌, IsTrue, false, true};
 ghost use Rattle.mmc_card.specs.declared.exchange.Timing.TheVariants.{Default, High};
-ghost use Rattle.mmc_host.specs.HostStates.{AreMovable, IsFree, IsTold, IsToCome, IsToGo, begun, block_passed, lines_of, resting, sent};
+ghost use Rattle.mmc_host.specs.HostStates.{AreMovable, IsFree, IsTold, IsToCome, IsToGo, begun, block_passed, lines_of, resting, sent, work_after};
+ghost use Rattle.mmc_host.specs.Misuse.{carries_data, has_data};
 ghost use Rattle.mmc_host.specs.Together.{passed_on};
 
 use crate::data::{Data, data_of};
@@ -9,7 +10,10 @@ use crate::meaning::meant;
 use crate::response::{Response, response_of};
 use mmc_bus::Moved;
 use mmc_card::{Lines, Timing, Width};
-use mmc_frame::commands::{APP_CMD, GO_IDLE_STATE, SELECT_CARD, SET_BLOCK_COUNT};
+use crate::work::Work;
+use mmc_frame::commands::{APP_CMD, ERASE, ERASE_GROUP_END, ERASE_GROUP_START, ERASE_WR_BLK_END, ERASE_WR_BLK_START};
+use mmc_frame::commands::{GO_IDLE_STATE, SELECT_CARD, SET_BLOCK_COUNT, STOP_TRANSMISSION, SWITCH_FUNC, WRITE_BLOCK};
+use mmc_frame::commands::WRITE_MULTIPLE_BLOCK;
 use thiserror::Error;
 
 /// A command, as a host controller is told of it.
@@ -112,6 +116,14 @@ pub struct HostState {
     pub count: u16,
     /// The data that is still to come behind the last command.
     pub transfer: Data,
+    /// What the card was set to last that makes it busy.
+    pub work: Work,
+    /// The addresses that an erase would begin and end with, as they were told last.
+    pub erase_start: u32,
+    /// See `erase_start`.
+    pub erase_end: u32,
+    /// For how many microseconds the host has paused since the last command.
+    pub paused: u32,
 }
 
 impl HostState {
@@ -129,6 +141,10 @@ impl HostState {
             is_app: false,
             count: 0,
             transfer: Data::Nothing,
+            work: Work::Settling,
+            erase_start: 0,
+            erase_end: 0,
+            paused: 0,
         }
     }
 
@@ -146,6 +162,10 @@ impl HostState {
             is_app: false,
             count: 0,
             transfer: Data::Nothing,
+            work: Work::Settling,
+            erase_start: 0,
+            erase_end: 0,
+            paused: 0,
         }
     }
 
@@ -155,6 +175,7 @@ impl HostState {
         ensures argument { result.argument ≡ argument }
         ensures told { IsTold self result }
         ensures movable { AreMovable result.transfer }
+        ensures data { has_data result.transfer ≡ carries_data self.is_app index argument }
     {
         let meaning = meant(index, argument, self.is_app);
         HostCommand {
@@ -170,6 +191,21 @@ impl HostState {
         ensures { IsTrue result ↔ IsFree self.transfer command }
     {
         command.transfer == Data::Nothing || self.transfer == Data::Nothing
+    }
+
+    // What the card is at after this command, as far as it is busy.
+    fn work_after(self, command: HostCommand) -> Work
+        ensures { result ≡ work_after self command }
+    {
+        match command.index {
+            SELECT_CARD => Work::Settling,
+            STOP_TRANSMISSION | WRITE_BLOCK | WRITE_MULTIPLE_BLOCK => Work::Write,
+            SWITCH_FUNC if command.response == Response::R1b => Work::Switch,
+            ERASE => Work::Erase {
+                span: self.erase_end.saturating_sub(self.erase_start),
+            },
+            _ => self.work,
+        }
     }
 
     /// Behind a command that was answered as it was wanted, or not.
@@ -193,6 +229,16 @@ impl HostState {
                 0
             },
             transfer: if is_answered { transfer } else { Data::Nothing },
+            work: self.work_after(command),
+            erase_start: match index {
+                ERASE_WR_BLK_START | ERASE_GROUP_START => argument,
+                _ => self.erase_start,
+            },
+            erase_end: match index {
+                ERASE_WR_BLK_END | ERASE_GROUP_END => argument,
+                _ => self.erase_end,
+            },
+            paused: 0,
         }
     }
 

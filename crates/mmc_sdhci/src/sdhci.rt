@@ -181,5 +181,6 @@ impl<R: Registers> Host for Sdhci<R> {
 
     fn pause(&mut self, micros: u32) {
         pause(&mut self.registers, micros);
+        self.state.paused = micros;
     }
 }

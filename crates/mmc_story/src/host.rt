@@ -172,5 +172,6 @@ impl<H: Host, S: HasStory> Host for StoryHost<H, S> {
 
     fn pause(&mut self, micros: u32) {
         self.host.pause(micros);
+        self.state.paused = micros;
     }
 }

@@ -5,6 +5,7 @@ use Rattle.mmc_host.specs.declared.data.Data.{Data}
 use Rattle.mmc_host.specs.declared.response.Response.{Response}
 use Rattle.mmc_host.specs.declared.told.Heard.{Heard}
 use Rattle.mmc_host.specs.declared.told.HostState.{HostState}
+use Rattle.mmc_host.specs.declared.work.Work.TheVariants.{Settling}
 use Rattle.mmc_story.specs.Entry.{Entry, Event}
 use Rattle.mmc_story.specs.Story.{Outcome, Story}
 use Rattle.mmc_sdhci.specs.CommandLooks.{IsShown}
@@ -69,6 +70,10 @@ told_of control =
       is_app = false;
       count = 0;
       transfer = Data.Nothing;
+      work = Settling;
+      erase_start = 0;
+      erase_end = 0;
+      paused = 0;
     }
 
 -- the words show what was heard

@@ -7,7 +7,7 @@ ghost use Rattle.sdhci_model.specs.Shown.{told_of};
 
 use crate::state::State;
 use mmc_card::{Lines, Timing, Width};
-use mmc_host::{Data, HostState, Ios};
+use mmc_host::{Data, HostState, Ios, Work};
 use mmc_sdhci::base_clock;
 
 // The lines that Host Control 1 sets.
@@ -44,6 +44,10 @@ pub fn told_on(control: u8) -> HostState
         is_app: false,
         count: 0,
         transfer: Data::Nothing,
+        work: Work::Settling,
+        erase_start: 0,
+        erase_end: 0,
+        paused: 0,
     }
 }
 

@@ -3,14 +3,15 @@ use Rattle.mmc_card.specs.declared.exchange.Exchange.TheVariants.{Command}
 use Rattle.mmc_bus.specs.Together.{ReadWith, none_good, reads}
 use Rattle.mmc_bus.specs.Wires.{Notes}
 use Rattle.mmc_bus.specs.declared.wire.Wire.{Wire}
-use Rattle.mmc_host.proofs.TogetherLemmas.{limits_noted, over, told_then, within_then}
+use Rattle.mmc_host.proofs.TogetherLemmas.{clocked_then, limits_noted, over, reading_sends, timed_clock, told_then, within_then}
 use Rattle.mmc_host.specs.HostStates.{sent}
 use Rattle.mmc_host.specs.Hosts.{bus_over}
 use Rattle.mmc_host.specs.Together.{CanRead, passed_on}
+use Rattle.std.specs.Prelude.{is_ok}
 use Rattle.mmc_host.proofs.host_bus.HostBusBus.read_with.Goals as goal
 
-pub returns-in-Some : goal.returns-in-Some
-returns-in-Some g c =
+pub returns-in-Some-clause-read : goal.returns-in-Some-clause-read
+returns-in-Some-clause-read g c =
     let v0 = g.H.Host.view c.args.self.now.host in
     let v1 = g.H.Host.view c.reading.new.self.host in
     let new = g.H.Host.view c.read_with-heard.new.self in
@@ -33,13 +34,32 @@ returns-in-Some g c =
     c.read_with-heard.new.blocks new c.reading.ensures.only c.reading.new.self.told can c.read_with-heard.ensures
     c.spelled-reply.ensures noted))
 
-pub returns-in-None : goal.returns-in-None
-returns-in-None g c =
+pub returns-in-None-clause-read : goal.returns-in-None-clause-read
+returns-in-None-clause-read g c =
     rw (sym (c.in-None.ensures.cannot refl)) (record {
       behind = bus_over (g.H.Host.view c.command.new.self.host) c.command.new.self.wire c.command.new.self.is_misused;
-      commanded = c.command.ensures;
+      commanded = c.command.ensures.commanded;
       read = reads 0 _ _ none_good;
     })
+
+pub returns-in-Some-clause-misused : goal.returns-in-Some-clause-misused
+returns-in-Some-clause-misused g c =
+    rw (c.reading.ensures.misused,
+    reading_sends c.args.self.now.state c.reading.new.self.state c.args.frame c.in-Some.command c.len.result c.args.self.now.wire.lines
+    c.reading.ensures.state c.in-Some.ensures.can) refl
+
+pub returns-in-Some-clause-clock : goal.returns-in-Some-clause-clock
+returns-in-Some-clause-clock g c =
+    λ can. clocked_then c.args.self.now.state c.reading.new.self.state c.blocks_passed-self.result c.args.frame c.in-Some.command
+    (is_ok c.read_with-heard.result.0) c.read_with-heard.result.1 c.in-Some.ensures.can.holds c.in-Some.ensures.clock
+    (c.blocks_passed-self.ensures
+    ∙ ap (passed_on c.read_with-heard.result.1)
+    (c.sent.ensures ∙ ap (sent c.reading.new.self.state c.in-Some.command) c.is_ok.ensures.value))
+
+pub returns-in-None-clause-clock : goal.returns-in-None-clause-clock
+returns-in-None-clause-clock g c =
+    rw (sym (c.in-None.ensures.cannot refl)) (λ can. timed_clock c.reading.new.self.state c.command.new.self.state c.args.frame
+    c.command.result (c.command.ensures.timed can))
 
 pub invariant_of-self : goal.invariant_of-self
 invariant_of-self g c =

@@ -3,14 +3,15 @@ use Rattle.mmc_card.specs.declared.exchange.Exchange.TheVariants.{Command}
 use Rattle.mmc_bus.specs.Together.{WrittenWith, none_accepted, writes}
 use Rattle.mmc_bus.specs.Wires.{Notes}
 use Rattle.mmc_bus.specs.declared.wire.Wire.{Wire}
-use Rattle.mmc_host.proofs.TogetherLemmas.{limits_all_written, told_write, within_write, writes_over}
+use Rattle.mmc_host.proofs.TogetherLemmas.{clocked_then, limits_all_written, timed_clock, told_write, within_write, writes_over, writing_sends}
 use Rattle.mmc_host.specs.HostStates.{sent}
 use Rattle.mmc_host.specs.Hosts.{bus_over}
 use Rattle.mmc_host.specs.Together.{CanWrite, passed_on}
+use Rattle.std.specs.Prelude.{is_ok}
 use Rattle.mmc_host.proofs.host_bus.HostBusBus.write_with.Goals as goal
 
-pub returns-in-Some : goal.returns-in-Some
-returns-in-Some g c =
+pub returns-in-Some-clause-written : goal.returns-in-Some-clause-written
+returns-in-Some-clause-written g c =
     let v0 = g.H.Host.view c.args.self.now.host in
     let v1 = g.H.Host.view c.writing.new.self.host in
     let new = g.H.Host.view c.write_with-heard.new.self in
@@ -33,14 +34,33 @@ returns-in-Some g c =
     new c.writing.ensures.only c.writing.new.self.told can c.write_with-heard.ensures
     c.spelled-reply.ensures noted))
 
-pub returns-in-None : goal.returns-in-None
-returns-in-None g c =
+pub returns-in-None-clause-written : goal.returns-in-None-clause-written
+returns-in-None-clause-written g c =
     rw (sym (c.in-None.ensures.cannot refl)) (record {
       behind = bus_over (g.H.Host.view c.command.new.self.host) c.command.new.self.wire c.command.new.self.is_misused;
-      commanded = c.command.ensures;
+      commanded = c.command.ensures.commanded;
       unheard = λ command is err. refl;
       written = writes 0 _ none_accepted;
     })
+
+pub returns-in-Some-clause-misused : goal.returns-in-Some-clause-misused
+returns-in-Some-clause-misused g c =
+    rw (c.writing.ensures.misused,
+    writing_sends c.args.self.now.state c.writing.new.self.state c.args.frame c.in-Some.command c.len.result c.args.self.now.wire.lines
+    c.writing.ensures.state c.in-Some.ensures.can) refl
+
+pub returns-in-Some-clause-clock : goal.returns-in-Some-clause-clock
+returns-in-Some-clause-clock g c =
+    λ can. clocked_then c.args.self.now.state c.writing.new.self.state c.blocks_passed-self.result c.args.frame c.in-Some.command
+    (is_ok c.write_with-heard.result.0) c.write_with-heard.result.1 c.in-Some.ensures.can.holds c.in-Some.ensures.clock
+    (c.blocks_passed-self.ensures
+    ∙ ap (passed_on c.write_with-heard.result.1)
+    (c.sent.ensures ∙ ap (sent c.writing.new.self.state c.in-Some.command) c.is_ok.ensures.value))
+
+pub returns-in-None-clause-clock : goal.returns-in-None-clause-clock
+returns-in-None-clause-clock g c =
+    rw (sym (c.in-None.ensures.cannot refl)) (λ can. timed_clock c.writing.new.self.state c.command.new.self.state c.args.frame
+    c.command.result (c.command.ensures.timed can))
 
 pub invariant_of-self : goal.invariant_of-self
 invariant_of-self g c =
