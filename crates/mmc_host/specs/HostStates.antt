@@ -1,5 +1,5 @@
 -- What a host controller has been told so far, command by command.
-use Rattle.std.specs.Prelude.{◌%◌, ◌*◌, ◌+◌, ◌&&◌, ◌-◌, ◌<◌, ◌==◌, ◌||◌, ◌≡◌, ◌≤◌, ◌⊎◌, Bool, false, if◌then◌else◌, nat_lt, not, true, ℕ}
+use Rattle.std.specs.Prelude.{◌%◌, ◌*◌, ◌+◌, ◌&&◌, ◌-◌, ◌<◌, ◌==◌, ◌||◌, ◌≡◌, ◌≤◌, ◌⊎◌, Bool, false, if◌then◌else◌, min, nat_lt, not, true, ℕ}
 use Rattle.mmc_frame.specs.Field.{field}
 use Rattle.mmc_frame.specs.declared.commands.TheConstants as Index
 use Rattle.mmc_frame.specs.declared.kind.Kind.{Kind}
@@ -91,7 +91,7 @@ abbrev pub micros_of : Work → ℕ
 micros_of Settling = 32000
 micros_of Write = 32000
 micros_of Switch = 160000
-micros_of (Erase span) = 10000000 + 16000 * (span + 1)
+micros_of (Erase span) = min 900000000 (10000000 + 16000 * (span + 1))
 
 -- behind a command: identification begins with CMD0, and ends when CMD7 is answered
 abbrev pub sent : HostState → HostCommand → Bool → HostState

@@ -9,11 +9,11 @@ use crate::settling::pause;
 const BETWEEN_LOOKS: u32 = 10;
 
 // Waits until DAT0 is high, for so many microseconds at most.
-fn wait<R: Registers>(registers: &mut R, micros: u64)
+fn wait<R: Registers>(registers: &mut R, micros: u32)
     requires { IsStill (R.view registers.old) }
     ensures { Stays (R.view registers.old) (R.view registers.new) }
 {
-    for _ in 0..micros / BETWEEN_LOOKS as u64 {
+    for _ in 0..micros / BETWEEN_LOOKS {
         if registers.read32(PRESENT) / 0x10_0000 % 2 == 1 {
             return;
         }
@@ -23,7 +23,7 @@ fn wait<R: Registers>(registers: &mut R, micros: u64)
 
 /// Whether the card is still busy after so many microseconds. The answer comes at once where it isn't. It is one poll: the last look
 /// is the one that counts.
-pub fn is_busy<R: Registers>(registers: &mut R, micros: u64) -> bool
+pub fn is_busy<R: Registers>(registers: &mut R, micros: u32) -> bool
     requires { IsAtRest (R.view registers.old) }
     ensures rest { IsAtRest (R.view registers.new) }
     ensures polled { IsPolled (R.view registers.old) result (R.view registers.new) }
