@@ -8,12 +8,14 @@ ghost use Rattle.mmc_host.specs.Together.{passed_on};
 use crate::data::{Data, data_of};
 use crate::meaning::meant;
 use crate::response::{Response, response_of};
+use crate::work::Work;
 use mmc_bus::Moved;
 use mmc_card::{Lines, Timing, Width};
-use crate::work::Work;
-use mmc_frame::commands::{APP_CMD, ERASE, ERASE_GROUP_END, ERASE_GROUP_START, ERASE_WR_BLK_END, ERASE_WR_BLK_START};
-use mmc_frame::commands::{GO_IDLE_STATE, SELECT_CARD, SET_BLOCK_COUNT, STOP_TRANSMISSION, SWITCH_FUNC, WRITE_BLOCK};
-use mmc_frame::commands::WRITE_MULTIPLE_BLOCK;
+use mmc_frame::commands::{
+    APP_CMD, ERASE, ERASE_GROUP_END, ERASE_GROUP_START, ERASE_WR_BLK_END, ERASE_WR_BLK_START,
+    GO_IDLE_STATE, SELECT_CARD, SET_BLOCK_COUNT, STOP_TRANSMISSION, SWITCH_FUNC, WRITE_BLOCK,
+    WRITE_MULTIPLE_BLOCK,
+};
 use thiserror::Error;
 
 /// A command, as a host controller is told of it.

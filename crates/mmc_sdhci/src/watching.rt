@@ -8,12 +8,18 @@ use crate::offsets::{BUFFERS, INTERRUPTS};
 use crate::registers::Registers;
 use crate::settling::pause;
 
-// 100 ms for a block of a read, half a second for one of a write.
-const LOOKS_FOR_A_BLOCK: u32 = 100_000;
+// 100 ms for a block of a read, half a second for one of a write: a millisecond of looks that follow each other at once, and then
+// others, so that a pause that takes longer than it was asked for makes the wait not much longer.
+const FIRST_LOOKS: u32 = 1000;
 
-const LOOKS_FOR_A_WRITE: u32 = 500_000;
+const LOOKS_FOR_A_BLOCK: u32 = FIRST_LOOKS + 1980;
 
-const BETWEEN_LOOKS: u32 = 1;
+const LOOKS_FOR_A_WRITE: u32 = FIRST_LOOKS + 9980;
+
+// For how many microseconds nobody looks after this look.
+fn between(look: u32) -> u32 {
+    if look < FIRST_LOOKS { 1 } else { 50 }
+}
 
 /// What is looked for.
 #[derive(Clone, Copy, Debug, PartialEq, Eq)]
@@ -116,12 +122,12 @@ pub fn watch<R: Registers>(registers: &mut R, sought: Sought) -> Option<Glance>
     requires { IsSeeking sought (R.view registers.old) }
     ensures { Watches (R.view registers.old) sought result (R.view registers.new) }
 {
-    for _ in 0..sought.looks() {
+    for number in 0..sought.looks() {
         let seen = look(registers, sought);
         if sought.is_over(seen) {
             return Some(seen);
         }
-        pause(registers, BETWEEN_LOOKS);
+        pause(registers, between(number));
     }
     None
 }

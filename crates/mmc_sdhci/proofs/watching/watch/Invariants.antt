@@ -2,7 +2,7 @@ use Rattle.mmc_sdhci.specs.Controller.{Settled}
 use Rattle.mmc_sdhci.specs.Moving.{OnlyWatched}
 use Rattle.mmc_sdhci.proofs.watching.watch.Given as goal
 
-abbrev pub invariant-loop : goal.invariant-loop
-invariant-loop g l =
+abbrev pub invariant-loop-number : goal.invariant-loop-number
+invariant-loop-number g l =
     Settled (g.R.Registers.view l.initial.registers)
     (OnlyWatched (g.R.Registers.view l.initial.registers) (g.R.Registers.view l.registers)) (g.R.Registers.view l.registers)

@@ -45,9 +45,11 @@ returns-in-None-clause-written g c =
 
 pub returns-in-Some-clause-misused : goal.returns-in-Some-clause-misused
 returns-in-Some-clause-misused g c =
-    rw (c.writing.ensures.misused,
-    writing_sends c.args.self.now.state c.writing.new.self.state c.args.frame c.in-Some.command c.len.result c.args.self.now.wire.lines
-    c.writing.ensures.state c.in-Some.ensures.can) refl
+    rw (
+      c.writing.ensures.misused,
+      writing_sends c.args.self.now.state c.writing.new.self.state c.args.frame c.in-Some.command c.len.result c.args.self.now.wire.lines
+          c.writing.ensures.state c.in-Some.ensures.can,
+    ) refl
 
 pub returns-in-Some-clause-clock : goal.returns-in-Some-clause-clock
 returns-in-Some-clause-clock g c =
