@@ -158,14 +158,41 @@ static void of_host(const struct kelifandro_host *host, const uint8_t *record)
     }
 }
 
+enum { PRESENT_STATE = 0x24, CAPABILITIES = 0x40, THERE = 0x70000 };
+
+/* A register, of which a byte may be had by its word alone. A card that is always there is inserted, and that is stable. */
+static uint32_t read_register(const struct kelifandro_registers *registers, unsigned offset, unsigned size)
+{
+    unsigned at = size == 1 && registers->is_by_words ? offset % 4 : 0;
+    uint32_t value = registers->read(registers->context, offset - at, registers->is_by_words ? 4 : size) >> (8 * at);
+    if (offset == CAPABILITIES && registers->capabilities)
+        return registers->capabilities;
+    if (offset == PRESENT_STATE && registers->is_there)
+        value |= THERE;
+    return size == 1 ? value & 0xff : value;
+}
+
+/* The bytes beside one that is written by its word are written as they are: those of 28h and 2Ch, which keep what is written. */
+static void write_register(const struct kelifandro_registers *registers, unsigned offset, unsigned size, uint32_t value)
+{
+    unsigned at = offset % 4;
+    uint32_t word;
+    if (size != 1 || !registers->is_by_words) {
+        registers->write(registers->context, offset, size, value);
+        return;
+    }
+    word = registers->read(registers->context, offset - at, 4) & ~((uint32_t)0xff << (8 * at));
+    registers->write(registers->context, offset - at, 4, word | value << (8 * at));
+}
+
 static void of_registers(const struct kelifandro_registers *registers, const uint8_t *record)
 {
     switch (record[0]) {
     case READ_REGISTER:
-        answers_word(registers->read(registers->context, record[2], record[1]));
+        answers_word(read_register(registers, record[2], record[1]));
         break;
     case WRITE_REGISTER:
-        registers->write(registers->context, record[2], record[1], number(record + 3, 4));
+        write_register(registers, record[2], record[1], number(record + 3, 4));
         break;
     case PAUSE:
         registers->pause(registers->context, number(record + 1, 4));
@@ -376,7 +403,7 @@ static int32_t is_present(const struct kelifandro *kelifandro, int bit)
     const struct kelifandro_registers *registers = kelifandro->registers;
     if (kelifandro->host || !registers)
         return KELIFANDRO_NO_HOST;
-    return registers->read(registers->context, 0x24, 4) >> bit & 1;
+    return read_register(registers, PRESENT_STATE, 4) >> bit & 1;
 }
 
 int32_t kelifandro_is_inserted(const struct kelifandro *kelifandro)

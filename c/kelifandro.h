@@ -122,17 +122,22 @@ struct kelifandro_host {
 /* Why `send` heard no response; any other number but 0 is as a timeout. */
 enum kelifandro_fault { KELIFANDRO_TIMEOUT = 1, KELIFANDRO_BAD_CHECK, KELIFANDRO_BAD_END_BIT, KELIFANDRO_OTHER_INDEX };
 
-/* The registers of an SD host controller. Accesses have 1 or 4 bytes, and reach the controller in order. */
+/* The registers of an SD host controller. Accesses have 1 or 4 bytes, lie in one word of 4, and reach the controller in order. */
 struct kelifandro_registers {
     void *context;
     uint32_t (*read)(void *context, unsigned offset, unsigned size);
     void (*write)(void *context, unsigned offset, unsigned size, uint32_t value);
-    /* Waits so long at least. While a block or the end of a write is waited for it is asked for single microseconds, half a million
-       times at most: one that takes a tick of a clock for each makes that wait as much longer. */
+    /* Waits so long at least. While a block or the end of a write is waited for it is asked for a microsecond a thousand times, and
+       then for 50, ten thousand times at most: one that takes a tick of a clock for each makes that wait as much longer. */
     void (*pause)(void *context, uint32_t microseconds);
     /* May be 0. So many words through the Buffer Data Port (20h), the lowest byte of a word first in memory: as readsl and writesl. */
     void (*read_port)(void *context, void *bytes, size_t words);
     void (*write_port)(void *context, const void *bytes, size_t words);
+    /* What a board knows in place of its controller; 0 is as the registers say. */
+    uint8_t is_there;      /* 1: there is always a card: it is soldered, or the slot's switch isn't wired */
+    uint8_t is_by_words;   /* 1: the controller takes 32-bit accesses alone: `size` is 4 then, and `offset` a multiple of 4 */
+    uint32_t capabilities; /* in place of Capabilities (40h) that read 0: the base clock in MHz in bits 15 to 8, and bits 18 for eight
+                              lines, 21 for high speed, and 24 for 3.3 V */
 };
 
 /* What is known of a card between two calls. It may be copied, moved and stored as long as card and controller keep their power

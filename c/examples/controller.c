@@ -183,7 +183,10 @@ static void set_ios(struct controller *controller)
 static void reset(struct controller *controller, uint32_t lines)
 {
     if (lines & 1) {
-        controller_begin(controller, controller->host, controller->one_block);
+        struct controller was = *controller;
+        controller_begin(controller, was.host, was.one_block);
+        controller->is_bare = was.is_bare;
+        controller->misuses = was.misuses;
         set_ios(controller);
     }
     if (lines & 4) {
@@ -197,7 +200,7 @@ static void reset(struct controller *controller, uint32_t lines)
 
 static uint32_t present(struct controller *controller)
 {
-    uint32_t state = 0x000f0000; /* inserted, stable, not write protected */
+    uint32_t state = controller->is_bare ? 0x00080000 : 0x000f0000; /* inserted, stable, not write protected */
     if (controller->direction == KELIFANDRO_READ && controller->length)
         state |= 1 << 11;
     if (controller->direction == KELIFANDRO_WRITE && (!controller->is_waiting || !controller->one_block))
@@ -205,10 +208,27 @@ static uint32_t present(struct controller *controller)
     return state;
 }
 
+/* A word whose bytes are registers of their own: looked at as a whole, it is a poll of the card too. */
+static uint32_t read_bytes(struct controller *controller, unsigned offset)
+{
+    switch (offset) {
+    case 0x24:
+        return present(controller) | (controller->host->is_busy(controller->host->context, 0) ? 0 : 1 << 20);
+    case 0x28:
+        return controller->control | (uint32_t)controller->power << 8;
+    case 0xfc:
+        return 2 << 16;
+    default:
+        return 0;
+    }
+}
+
 static uint32_t read(void *context, unsigned offset, unsigned size)
 {
     struct controller *controller = context;
-    (void)size;
+    controller->misuses += controller->is_bare && (size != 4 || offset % 4);
+    if (controller->is_bare && (offset == 0x24 || offset == 0x28 || offset == 0xfc || offset == 0x40))
+        return read_bytes(controller, offset);
     switch (offset) {
     case 0x10:
     case 0x14:
@@ -264,8 +284,14 @@ static int is_misuse(const struct controller *controller, unsigned offset, uint3
 static void write(void *context, unsigned offset, unsigned size, uint32_t value)
 {
     struct controller *controller = context;
-    (void)size;
     controller->misuses += (unsigned long)is_misuse(controller, offset, value);
+    controller->misuses += controller->is_bare && (size != 4 || offset % 4);
+    if (controller->is_bare && offset == 0x28)
+        controller->power = (uint8_t)(value >> 8);
+    if (controller->is_bare && offset == 0x2c && value >> 24) {
+        reset(controller, value >> 24);
+        return;
+    }
     switch (offset) {
     case 0x04:
         controller->sizes = value;
@@ -326,5 +352,12 @@ static void pause(void *context, uint32_t microseconds)
 
 const struct kelifandro_registers port_registers = {
     .read = read, .write = write, .pause = pause, .read_port = read_port, .write_port = write_port};
+
+const struct kelifandro_registers board_registers = {.read = read,
+                                                     .write = write,
+                                                     .pause = pause,
+                                                     .is_there = 1,
+                                                     .is_by_words = 1,
+                                                     .capabilities = 1 << 24 | 1 << 21 | 1 << 18 | 50 << 8};
 
 const struct kelifandro_registers controller_registers = {.read = read, .write = write, .pause = pause};

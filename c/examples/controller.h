@@ -9,6 +9,8 @@ struct controller {
     /* Whether its buffer has room for one block alone. Otherwise it shows room for a block before the one in it has gone: that one stays
        until the next pushes it out, or the last one comes. */
     int one_block;
+    /* On a board that lacks bytes: accesses are of words alone, no card is seen, and Capabilities read 0. */
+    int is_bare;
     uint8_t control, power;
     uint32_t sizes, argument, response[4], clock, status, enabled;
     uint8_t buffer[512];
@@ -29,5 +31,7 @@ void controller_begin(struct controller *controller, const struct kelifandro_hos
 extern const struct kelifandro_registers controller_registers;
 /* The same with a block through the port by one call. */
 extern const struct kelifandro_registers port_registers;
+/* Those of a bare board, which says itself what they don't. */
+extern const struct kelifandro_registers board_registers;
 
 #endif

@@ -26,9 +26,10 @@ static void expect(int is_so, const char *what, unsigned long n)
         printf("wrong: %s (%lu)\n", what, n);
 }
 
-enum way { HOST, TRANSFERS, ONE_BLOCK, SEVERAL_BLOCKS, BY_PORT, WHOLE };
+enum way { HOST, TRANSFERS, ONE_BLOCK, SEVERAL_BLOCKS, BY_PORT, WHOLE, BARE };
 static const char *const ways[] = {"a host", "a host with transfers", "registers, room for one block", "registers, room for several",
-                                   "registers, room for one block, a call a block", "a host with transfers alone"};
+                                   "registers, room for one block, a call a block", "a host with transfers alone",
+                                   "registers of a bare board"};
 
 static void begin(int is_emmc, enum way way)
 {
@@ -37,7 +38,8 @@ static void begin(int is_emmc, enum way way)
         host = way == TRANSFERS ? transfer_host : way == WHOLE ? whole_host : card_host;
     host.context = &card;
     controller_begin(&controller, &host, one_block);
-    registers = way == BY_PORT ? port_registers : controller_registers;
+    controller.is_bare = way == BARE;
+    registers = way == BY_PORT ? port_registers : way == BARE ? board_registers : controller_registers;
     registers.context = &controller;
     memset(&sd, 0, sizeof sd);
     if (way == HOST || way == TRANSFERS || way == WHOLE)
@@ -169,14 +171,14 @@ int main(int words, char **word)
         profile(strtoul(word[1], 0, 10), strtoul(word[2], 0, 10), (enum way)(word[3][0] - '0'));
         return 0;
     }
-    for (int way = HOST; way <= WHOLE; way++)
+    for (int way = HOST; way <= BARE; way++)
         for (int is_emmc = 0; is_emmc < 2; is_emmc++) {
             unsigned long answers = whole(is_emmc, way, ~0ul);
             for (unsigned long lost = 0; lost < answers; lost++)
                 whole(is_emmc, way, lost);
             printf("%s by %s: each of %lu answers lost in turn\n", is_emmc ? "eMMC" : "SD", ways[way], answers);
         }
-    for (int way = HOST; way <= WHOLE; way++)
+    for (int way = HOST; way <= BARE; way++)
         refusals(way), long_requests(way), switches(way);
     lost_ways();
     junk(100000);

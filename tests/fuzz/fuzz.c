@@ -15,7 +15,7 @@
 #include "../../c/examples/controller.h"
 
 enum { CALLS = 12, PAGE = 4096, ROOM = 1024 * 1024, FAULTS_OF_A_FAILURE = 4 };
-enum way { BY_HOST, BY_TRANSFERS, BY_TRANSFERS_ALONE, BY_REGISTERS, BY_ONE_BLOCK, BY_PORT, WAYS };
+enum way { BY_HOST, BY_TRANSFERS, BY_TRANSFERS_ALONE, BY_REGISTERS, BY_ONE_BLOCK, BY_PORT, BY_WORDS, WAYS };
 
 static const uint8_t *input;
 static size_t input_left;
@@ -204,7 +204,8 @@ static void begin(void)
     if (way == BY_TRANSFERS || way == BY_TRANSFERS_ALONE)
         host.transfer = transfer;
     controller_begin(&controller, &host, way == BY_ONE_BLOCK || way == BY_PORT);
-    registers = way == BY_PORT ? port_registers : controller_registers;
+    controller.is_bare = way == BY_WORDS;
+    registers = way == BY_PORT ? port_registers : way == BY_WORDS ? board_registers : controller_registers;
     registers.read = read_register, registers.write = write_register, registers.context = &controller;
     memset(sd, 0, sizeof *sd);
     if (way >= BY_REGISTERS)
