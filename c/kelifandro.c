@@ -5,7 +5,33 @@
    the functions that the caller gave. No file is opened. */
 #include "kelifandro.h"
 
-enum { SEND = 1, READ_BLOCK, WRITE_BLOCK, LOOK, SET_IOS, PAUSE, LIMITS, READ_REGISTER, WRITE_REGISTER, READ_WITH, WRITE_WITH, READ_PORT, WRITE_PORT };
+/* The proved library reads and writes struct kelifandro_card by these places (crates/mmc_record/src/record.rt). */
+#define HAS_PLACE(field, place) _Static_assert(offsetof(struct kelifandro_card, field) == (place), #field)
+HAS_PLACE(state, 0);
+HAS_PLACE(cause, 11);
+HAS_PLACE(rca, 12);
+HAS_PLACE(cid, 14);
+HAS_PLACE(csd, 30);
+HAS_PLACE(user, 48);
+HAS_PLACE(gp4, 88);
+HAS_PLACE(erase_unit, 96);
+_Static_assert(sizeof(struct kelifandro_card) == 104, "struct kelifandro_card");
+
+enum {
+    SEND = 1,
+    READ_BLOCK,
+    WRITE_BLOCK,
+    LOOK,
+    SET_IOS,
+    PAUSE,
+    LIMITS,
+    READ_REGISTER,
+    WRITE_REGISTER,
+    READ_WITH,
+    WRITE_WITH,
+    READ_PORT,
+    WRITE_PORT
+};
 
 /* The card of the call that is made, and what comes next of its operation. */
 static const struct kelifandro *now;
@@ -69,6 +95,14 @@ static int read_alone(const struct kelifandro_host *host, uint8_t *bytes, size_t
     return answer;
 }
 
+/* Why no response was heard: what isn't named by `enum kelifandro_fault` is as a timeout. */
+static uint8_t fault_number(int fault)
+{
+    if (fault == 0)
+        return 0;
+    return fault > KELIFANDRO_TIMEOUT && fault <= KELIFANDRO_OTHER_INDEX ? (uint8_t)fault : KELIFANDRO_TIMEOUT;
+}
+
 static void send_command(const struct kelifandro_host *host, const uint8_t *record)
 {
     struct kelifandro_command command = {
@@ -93,7 +127,7 @@ static void send_command(const struct kelifandro_host *host, const uint8_t *reco
     else
         for (int i = 0; i < 4; i++)
             bytes[i] = (uint8_t)(response[0] >> (8 * i));
-    bytes[15] = (uint8_t)fault;
+    bytes[15] = fault_number(fault);
     bytes[16] = (uint8_t)moved.good;
     bytes[17] = (uint8_t)(moved.good >> 8);
     bytes[18] = moved.failed;
@@ -124,14 +158,41 @@ static void of_host(const struct kelifandro_host *host, const uint8_t *record)
     }
 }
 
+enum { PRESENT_STATE = 0x24, CAPABILITIES = 0x40, THERE = 0x70000 };
+
+/* A register, of which a byte may be had by its word alone. A card that is always there is inserted, and that is stable. */
+static uint32_t read_register(const struct kelifandro_registers *registers, unsigned offset, unsigned size)
+{
+    unsigned at = size == 1 && registers->is_by_words ? offset % 4 : 0;
+    uint32_t value = registers->read(registers->context, offset - at, registers->is_by_words ? 4 : size) >> (8 * at);
+    if (offset == CAPABILITIES && registers->capabilities)
+        return registers->capabilities;
+    if (offset == PRESENT_STATE && registers->is_there)
+        value |= THERE;
+    return size == 1 ? value & 0xff : value;
+}
+
+/* The bytes beside one that is written by its word are written as they are: those of 28h and 2Ch, which keep what is written. */
+static void write_register(const struct kelifandro_registers *registers, unsigned offset, unsigned size, uint32_t value)
+{
+    unsigned at = offset % 4;
+    uint32_t word;
+    if (size != 1 || !registers->is_by_words) {
+        registers->write(registers->context, offset, size, value);
+        return;
+    }
+    word = registers->read(registers->context, offset - at, 4) & ~((uint32_t)0xff << (8 * at));
+    registers->write(registers->context, offset - at, 4, word | value << (8 * at));
+}
+
 static void of_registers(const struct kelifandro_registers *registers, const uint8_t *record)
 {
     switch (record[0]) {
     case READ_REGISTER:
-        answers_word(registers->read(registers->context, record[2], record[1]));
+        answers_word(read_register(registers, record[2], record[1]));
         break;
     case WRITE_REGISTER:
-        registers->write(registers->context, record[2], record[1], number(record + 3, 4));
+        write_register(registers, record[2], record[1], number(record + 3, 4));
         break;
     case PAUSE:
         registers->pause(registers->context, number(record + 1, 4));
@@ -237,6 +298,18 @@ static int has_way(const struct kelifandro *kelifandro)
     return kelifandro->host || kelifandro->registers;
 }
 
+/* A number beyond all partitions names none. */
+static uint8_t part_number(enum kelifandro_part part)
+{
+    return (unsigned)part <= KELIFANDRO_GP4 ? (uint8_t)part : 255;
+}
+
+/* Where no sector is named the memory isn't looked at, and may be a null pointer; the library wants one that isn't. */
+static void *memory_of(const void *bytes, size_t count)
+{
+    return count ? (void *)bytes : one_block;
+}
+
 /* More blocks than a request may name are one more: it is refused before any is touched. */
 static size_t at_most(size_t count)
 {
@@ -264,8 +337,8 @@ int32_t kelifandro_read(struct kelifandro *kelifandro, enum kelifandro_part part
 {
     if (!has_way(kelifandro))
         return KELIFANDRO_NO_HOST;
-    memory = bytes;
-    return kelifandro_read_by(begin(kelifandro), &kelifandro->card, (uint8_t)part, start, bytes, at_most(count));
+    memory = memory_of(bytes, count);
+    return kelifandro_read_by(begin(kelifandro), &kelifandro->card, part_number(part), start, memory, at_most(count));
 }
 
 int32_t kelifandro_write(struct kelifandro *kelifandro, enum kelifandro_part part, uint64_t start, size_t count,
@@ -273,27 +346,82 @@ int32_t kelifandro_write(struct kelifandro *kelifandro, enum kelifandro_part par
 {
     if (!has_way(kelifandro))
         return KELIFANDRO_NO_HOST;
-    memory = (void *)bytes;
-    return kelifandro_write_by(begin(kelifandro), &kelifandro->card, (uint8_t)part, start, bytes, at_most(count));
+    memory = memory_of(bytes, count);
+    return kelifandro_write_by(begin(kelifandro), &kelifandro->card, part_number(part), start, memory, at_most(count));
 }
 
 int32_t kelifandro_erase(struct kelifandro *kelifandro, enum kelifandro_part part, uint64_t start, uint64_t count)
 {
     if (!has_way(kelifandro))
         return KELIFANDRO_NO_HOST;
-    return kelifandro_erase_by(begin(kelifandro), &kelifandro->card, (uint8_t)part, start, count);
+    return kelifandro_erase_by(begin(kelifandro), &kelifandro->card, part_number(part), start, count);
 }
 
 int32_t kelifandro_trim(struct kelifandro *kelifandro, enum kelifandro_part part, uint64_t start, uint64_t count)
 {
     if (!has_way(kelifandro))
         return KELIFANDRO_NO_HOST;
-    return kelifandro_trim_by(begin(kelifandro), &kelifandro->card, (uint8_t)part, start, count);
+    return kelifandro_trim_by(begin(kelifandro), &kelifandro->card, part_number(part), start, count);
+}
+
+enum { LONGEST_REQUEST = 1024 };
+
+/* Reads or writes any number of sectors, none where they don't all lie in the partition. */
+static int32_t in_parts(struct kelifandro *kelifandro, enum kelifandro_part part, uint64_t start, size_t count, uint8_t *bytes,
+                        int is_write, size_t *done)
+{
+    uint64_t size = kelifandro_sectors(kelifandro, part);
+    size_t sectors = 0;
+    int32_t result = size && (start > size || count > size - start) ? KELIFANDRO_OUT_OF_RANGE : KELIFANDRO_DONE;
+    while (result == KELIFANDRO_DONE && (sectors < count || count == 0)) {
+        size_t n = count - sectors < LONGEST_REQUEST ? count - sectors : LONGEST_REQUEST;
+        uint8_t *at = count ? bytes + 512 * sectors : bytes;
+        result = is_write ? kelifandro_write(kelifandro, part, start + sectors, n, at)
+                          : kelifandro_read(kelifandro, part, start + sectors, n, at);
+        sectors += result == KELIFANDRO_DONE ? n : 0;
+    }
+    if (done)
+        *done = sectors;
+    return result;
+}
+
+int32_t kelifandro_read_long(struct kelifandro *kelifandro, enum kelifandro_part part, uint64_t start, size_t count, void *bytes,
+                             size_t *done)
+{
+    return in_parts(kelifandro, part, start, count, bytes, 0, done);
+}
+
+int32_t kelifandro_write_long(struct kelifandro *kelifandro, enum kelifandro_part part, uint64_t start, size_t count,
+                              const void *bytes, size_t *done)
+{
+    return in_parts(kelifandro, part, start, count, (uint8_t *)bytes, 1, done);
+}
+
+/* A bit of Present State. */
+static int32_t is_present(const struct kelifandro *kelifandro, int bit)
+{
+    const struct kelifandro_registers *registers = kelifandro->registers;
+    if (kelifandro->host || !registers)
+        return KELIFANDRO_NO_HOST;
+    return read_register(registers, PRESENT_STATE, 4) >> bit & 1;
+}
+
+int32_t kelifandro_is_inserted(const struct kelifandro *kelifandro)
+{
+    return is_present(kelifandro, 16);
+}
+
+int32_t kelifandro_is_write_protected(const struct kelifandro *kelifandro)
+{
+    int32_t is_writable = is_present(kelifandro, 19);
+    return is_writable < 0 ? is_writable : !is_writable;
 }
 
 uint64_t kelifandro_sectors(const struct kelifandro *kelifandro, enum kelifandro_part part)
 {
     const struct kelifandro_card *card = &kelifandro->card;
+    if (card->state < 1 || card->state > 3)
+        return 0;
     switch (part) {
     case KELIFANDRO_USER:
         return card->user;
@@ -351,6 +479,10 @@ const char *kelifandro_text(int32_t result)
         return "the controller doesn't tell its base clock";
     case KELIFANDRO_NOT_INSERTED:
         return "no card is inserted";
+    case KELIFANDRO_CARD_VOLTAGE:
+        return "the card doesn't work at 3.3 V";
+    case KELIFANDRO_LOCKED:
+        return "the card is locked";
     default:
         return "no such result";
     }

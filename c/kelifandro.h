@@ -46,12 +46,15 @@ enum kelifandro_result {
     KELIFANDRO_FAILED_RECOVERY = -14,
     /* There is no card, or it doesn't answer. */
     KELIFANDRO_NO_CARD = -20,
-    /* The card says what no card that is served may say. */
+    /* The card says what no card that is served may say: a register, or how it is addressed. */
     KELIFANDRO_UNSUPPORTED = -21,
     /* The controller has no 3.3 V, or doesn't tell its base clock, or has no card in it. */
     KELIFANDRO_NO_VOLTAGE = -22,
     KELIFANDRO_NO_BASE_CLOCK = -23,
-    KELIFANDRO_NOT_INSERTED = -24
+    KELIFANDRO_NOT_INSERTED = -24,
+    /* The card doesn't work from 3.2 to 3.4 V, or is locked by a password. */
+    KELIFANDRO_CARD_VOLTAGE = -25,
+    KELIFANDRO_LOCKED = -26
 };
 
 const char *kelifandro_text(int32_t result);
@@ -103,6 +106,7 @@ struct kelifandro_host {
     int (*is_busy)(void *context, uint32_t microseconds);
     /* Sets how many data lines are in use, the timing, and the clock, to so many hertz at most. */
     void (*set_ios)(void *context, int lines, int high_speed, uint32_t hertz);
+    /* Waits so long at least. */
     void (*pause)(void *context, uint32_t microseconds);
     /* May be 0. A command and its blocks by one call: sends the command as `send` does, and answers as `send`. Where the response was
        heard it moves the first of the blocks, of command->block_length bytes, one after the other from `memory` on: reads them into
@@ -115,22 +119,30 @@ struct kelifandro_host {
                     struct kelifandro_moved *moved);
 };
 
-/* Why `send` heard no response. */
-enum { KELIFANDRO_TIMEOUT = 1, KELIFANDRO_BAD_CHECK, KELIFANDRO_BAD_END_BIT, KELIFANDRO_OTHER_INDEX };
+/* Why `send` heard no response; any other number but 0 is as a timeout. */
+enum kelifandro_fault { KELIFANDRO_TIMEOUT = 1, KELIFANDRO_BAD_CHECK, KELIFANDRO_BAD_END_BIT, KELIFANDRO_OTHER_INDEX };
 
-/* The registers of an SD host controller. Accesses have 1 or 4 bytes, and reach the controller in order. */
+/* The registers of an SD host controller. Accesses have 1 or 4 bytes, lie in one word of 4, and reach the controller in order. */
 struct kelifandro_registers {
     void *context;
     uint32_t (*read)(void *context, unsigned offset, unsigned size);
     void (*write)(void *context, unsigned offset, unsigned size, uint32_t value);
+    /* Waits so long at least. While a block or the end of a write is waited for it is asked for a microsecond a thousand times, and
+       then for 50, ten thousand times at most: one that takes a tick of a clock for each makes that wait as much longer. */
     void (*pause)(void *context, uint32_t microseconds);
     /* May be 0. So many words through the Buffer Data Port (20h), the lowest byte of a word first in memory: as readsl and writesl. */
     void (*read_port)(void *context, void *bytes, size_t words);
     void (*write_port)(void *context, const void *bytes, size_t words);
+    /* What a board knows in place of its controller; 0 is as the registers say. */
+    uint8_t is_there;      /* 1: there is always a card: it is soldered, or the slot's switch isn't wired */
+    uint8_t is_by_words;   /* 1: the controller takes 32-bit accesses alone: `size` is 4 then, and `offset` a multiple of 4 */
+    uint32_t capabilities; /* in place of Capabilities (40h) that read 0: the base clock in MHz in bits 15 to 8, and bits 18 for eight
+                              lines, 21 for high speed, and 24 for 3.3 V */
 };
 
-/* What is known of a card between two calls. It may be copied, moved and stored. A call reads it with a check, so bytes of any kind do
-   no harm; all zero is a card that isn't open. */
+/* What is known of a card between two calls. It may be copied, moved and stored as long as card and controller keep their power
+   and nothing else drives them; after a reset of either (a reboot, a suspend) call kelifandro_open. A call reads it with a check, so
+   bytes of any kind do no harm; all zero is a card that isn't open. */
 struct kelifandro_card {
     uint8_t state; /* 1 ready, 2 to be settled, 3 to be reset; anything else: not open */
     uint8_t kind;  /* 0 SD, 1 eMMC */
@@ -170,17 +182,33 @@ struct kelifandro {
 /* Opens the card, whatever became of it before. At most 294 exchanges. */
 int32_t kelifandro_open(struct kelifandro *kelifandro);
 
-/* The size of a partition in sectors of 512 bytes, 0 where there is no such one. */
+/* The size of a partition in sectors of 512 bytes, 0 where there is no such one, or the card isn't open. */
 uint64_t kelifandro_sectors(const struct kelifandro *kelifandro, enum kelifandro_part part);
 
-/* Reads or writes 1 to 1,024 sectors. */
+/* Reads or writes 1 to 1,024 sectors. `bytes` has room for all of them; of no sector (KELIFANDRO_COUNT) it may be null. */
 int32_t kelifandro_read(struct kelifandro *kelifandro, enum kelifandro_part part, uint64_t start, size_t count, void *bytes);
 int32_t kelifandro_write(struct kelifandro *kelifandro, enum kelifandro_part part, uint64_t start, size_t count,
                          const void *bytes);
 
+/* The same of any number of sectors, in requests of 1,024 at most, from the first on; of none where they don't all lie in the partition.
+   It ends with the first request that isn't done: `*done`, where it isn't null, says how many sectors are done before that one. Each
+   sector of that one is old or new then, of a write, and none after it has changed. */
+int32_t kelifandro_read_long(struct kelifandro *kelifandro, enum kelifandro_part part, uint64_t start, size_t count, void *bytes,
+                             size_t *done);
+int32_t kelifandro_write_long(struct kelifandro *kelifandro, enum kelifandro_part part, uint64_t start, size_t count,
+                              const void *bytes, size_t *done);
+
 /* Erases whole erase units, or trims sectors (eMMC). Each byte holds card.erased_byte then. */
 int32_t kelifandro_erase(struct kelifandro *kelifandro, enum kelifandro_part part, uint64_t start, uint64_t count);
 int32_t kelifandro_trim(struct kelifandro *kelifandro, enum kelifandro_part part, uint64_t start, uint64_t count);
+
+/* Nothing has to be flushed: what a call says is done is on the card, whose cache stays off (JESD84-B51 6.6.31). */
+
+/* What the switches of a slot say, by Present State of a controller whose registers are given (SD Host Controller 3.00, 2.2.9): 1 or 0;
+   KELIFANDRO_NO_HOST where none are. The library refuses a write only where the card itself is protected: whoever wants the switch
+   to count asks here first. */
+int32_t kelifandro_is_inserted(const struct kelifandro *kelifandro);
+int32_t kelifandro_is_write_protected(const struct kelifandro *kelifandro);
 
 #ifdef __cplusplus
 }

@@ -1,12 +1,13 @@
 #include "card.h"
 
 enum { IDLE, READY, IDENT, STBY, TRAN, DATA, RCV, PRG };
-enum { OUT_OF_RANGE = 1u << 31, ILLEGAL_COMMAND = 1u << 22, READY_FOR_DATA = 1u << 8, APP_CMD = 1u << 5 };
+enum { OUT_OF_RANGE = 1u << 31, ILLEGAL_COMMAND = 1u << 22, READY_FOR_DATA = 1u << 8 };
+enum { SWITCH_ERROR = 1u << 7, APP_CMD = 1u << 5 };
 enum { UNTIL_STOPPED = 0xffffffffu };
 
 /* Registers, without their checks, bits 127 to 8. */
 static const uint32_t CID[4] = {0x01000000, 0x4b454c49, 0x00000000, 0x00010000};
-static const uint32_t SD_CSD[4] = {0x40000000, 0x00090000, 0x00004000, 0x02400000};
+static const uint32_t SD_CSD[4] = {0x40000000, 0x00090000, 0x00014000, 0x02400000};
 static const uint32_t EMMC_CSD[4] = {0xd0000000, 0x00090000, 0x00000000, 0x00000000};
 static const uint8_t SCR[8] = {0x02, 0x05, 0x00, 0x02, 0, 0, 0, 0};
 
@@ -87,7 +88,10 @@ static void switch_byte(struct card *card, uint32_t argument)
     unsigned value = argument >> 8 & 7;
     switch (argument >> 16 & 0xff) {
     case 179:
-        card->part = (uint8_t)value;
+        if (value <= 2)
+            card->part = (uint8_t)value;
+        else
+            card->errors |= SWITCH_ERROR;
         break;
     case 183:
         card->lines = value == 2 ? 8 : value == 1 ? 4 : 1;
@@ -202,7 +206,8 @@ static int serve(struct card *card, const struct kelifandro_command *command, in
         return 1;
     case 24:
     case 25:
-        begin_transfer(card, argument, command->index == 24 ? 1 : count ? count : UNTIL_STOPPED, RCV);
+        card->is_single = command->index == 24;
+        begin_transfer(card, argument, card->is_single ? 1 : count ? count : UNTIL_STOPPED, RCV);
         return 1;
     case 32:
     case 35:
@@ -224,7 +229,7 @@ static int respond(struct card *card, const struct kelifandro_command *command, 
     unsigned was = card->state;
     int app = card->is_app;
     uint32_t count = card->count;
-    card->is_app = 0;
+    card->is_app = card->is_switching = 0;
     card->count = 0;
     if (was == PRG)
         was = card->state = TRAN;
@@ -296,13 +301,22 @@ static int write_block(void *context, const void *block)
 {
     struct card *card = context;
     const uint8_t *from = block;
-    if (!is_seen(card) || card->state != RCV || card->next >= size(card))
+    if (!is_seen(card) || card->state != RCV || card->left == 0 || card->next >= size(card))
         return 2;
     for (int i = 0; i < 512; i++)
         sectors(card)[card->next][i] = from[i];
     card->next++;
     block_passed(card, PRG);
     return is_lost(card) ? 2 : 0;
+}
+
+void card_reject(struct card *card)
+{
+    if (card->state != RCV)
+        return;
+    card->left = 0;
+    if (card->is_single)
+        card->state = TRAN;
 }
 
 static int is_busy(void *context, uint32_t microseconds)

@@ -3,7 +3,7 @@
 #define CARD_H
 #include "../kelifandro.h"
 
-enum { USER_SECTORS = 1024, BOOT_SECTORS = 256 };
+enum { USER_SECTORS = 2048, BOOT_SECTORS = 256 };
 
 struct card {
     int is_emmc;
@@ -16,6 +16,7 @@ struct card {
     uint8_t part;          /* of an eMMC device: 0 user, 1 and 2 boot */
     const uint8_t *source; /* bytes that are sent, or 0 where sectors are */
     uint32_t next, left;   /* the next sector, and how many are left; 0xffffffff until CMD12 */
+    int is_single;         /* a write of one block */
     uint32_t first, last;  /* of an erase */
     uint8_t register_block[512];
     /* data lines, timing and, for the host, clock, as the card and as the host behind it are set; they have to be the same */
@@ -27,6 +28,10 @@ struct card {
 };
 
 void card_begin(struct card *card, int is_emmc);
+
+/* Rejects the block that is offered next: a write of one is over by it, and of several all after it are ignored until CMD12 (SD Physical
+   Layer 6.00, section 4.3.4). */
+void card_reject(struct card *card);
 
 /* The controller that it is behind; its context is the card. */
 extern const struct kelifandro_host card_host;

@@ -1,16 +1,16 @@
 /* SD Host Controller Simplified Specification 3.00, section 2.2, as far as the library's driver goes. */
 #include "controller.h"
 
-enum { COMMAND_COMPLETE = 1, TRANSFER_COMPLETE = 2, BLOCK_GAP = 4, ERROR = 0x8000 };
+enum { COMMAND_COMPLETE = 1, TRANSFER_COMPLETE = 2, ERROR = 0x8000 };
 enum { COMMAND_TIMEOUT = 1 << 16, DATA_TIMEOUT = 1 << 20, DATA_CRC = 1 << 21 };
 enum { UNTIL_STOPPED = 0xffffffffu };
 
-void controller_begin(struct controller *controller, struct card *card, int one_block)
+void controller_begin(struct controller *controller, const struct kelifandro_host *host, int one_block)
 {
     uint8_t *bytes = (uint8_t *)controller;
     for (size_t i = 0; i < sizeof *controller; i++)
         bytes[i] = 0;
-    controller->card = card;
+    controller->host = host;
     controller->one_block = one_block;
 }
 
@@ -35,29 +35,54 @@ static void receive(struct controller *controller)
 {
     controller->at = 0;
     controller->length = controller->sizes & 0xfff;
-    switch (card_host.read_block(controller->card, controller->buffer, controller->length)) {
+    switch (controller->host->read_block(controller->host->context, controller->buffer, controller->length)) {
     case 0:
         break;
     case 1:
-        fail(controller, DATA_CRC);
+        controller->error = DATA_CRC;
         break;
     default:
         fail(controller, DATA_TIMEOUT);
     }
 }
 
+/* After the block that is bad some looks show nothing. */
+enum { LOOKS_BEFORE_AN_ERROR = 3 };
+
+static void block_taken(struct controller *controller)
+{
+    controller->length = 0;
+    if (controller->error) {
+        controller->looks = LOOKS_BEFORE_AN_ERROR;
+        return;
+    }
+    passed(controller);
+    if (controller->direction == KELIFANDRO_READ)
+        receive(controller);
+}
+
+/* What Interrupt Status shows at this look: the bits that are enabled. */
+static uint32_t status(struct controller *controller)
+{
+    if (controller->looks && --controller->looks == 0) {
+        fail(controller, controller->error);
+        controller->error = 0;
+    }
+    return controller->status & (controller->enabled | ERROR);
+}
+
 static void transmit(struct controller *controller)
 {
     controller->is_waiting = 0;
-    switch (card_host.write_block(controller->card, controller->buffer)) {
+    switch (controller->host->write_block(controller->host->context, controller->buffer)) {
     case 0:
         passed(controller);
         break;
     case 1:
-        fail(controller, DATA_CRC);
+        controller->error = DATA_CRC, controller->looks = 1;
         break;
     default:
-        fail(controller, DATA_TIMEOUT);
+        controller->error = DATA_TIMEOUT, controller->looks = 1;
     }
 }
 
@@ -86,6 +111,12 @@ static void show(struct controller *controller, int response, const uint32_t wor
     controller->response[3] = words[0] >> 8;
 }
 
+/* Whether the card has 3.3 V (Power Control), and a clock that was seen to be stable. */
+static int is_on(const struct controller *controller)
+{
+    return controller->power == 0x0f && (controller->clock & 7) == 7;
+}
+
 static void command(struct controller *controller, uint32_t word)
 {
     unsigned flags = word >> 16 & 0xff;
@@ -99,7 +130,7 @@ static void command(struct controller *controller, uint32_t word)
         .blocks = (uint16_t)(several ? counted ? controller->sizes >> 16 : 0 : 1),
     };
     uint32_t words[4] = {0, 0, 0, 0};
-    if (card_host.send(controller->card, &command, words) != 0) {
+    if (!is_on(controller) || controller->host->send(controller->host->context, &command, words) != 0) {
         controller->status |= ERROR | COMMAND_TIMEOUT;
         return;
     }
@@ -119,18 +150,14 @@ static uint32_t pop(struct controller *controller)
     uint32_t word = 0;
     for (int i = 0; i < 4 && controller->at < controller->length; i++)
         word |= (uint32_t)controller->buffer[controller->at++] << (8 * i);
-    if (controller->at == controller->length && controller->length) {
-        controller->length = 0;
-        passed(controller);
-        if (controller->direction == KELIFANDRO_READ)
-            receive(controller);
-    }
+    if (controller->at == controller->length && controller->length)
+        block_taken(controller);
     return word;
 }
 
 static void push(struct controller *controller, uint32_t word)
 {
-    if (controller->direction != KELIFANDRO_WRITE)
+    if (controller->direction != KELIFANDRO_WRITE || controller->error)
         return;
     if (controller->is_waiting)
         transmit(controller);
@@ -150,27 +177,30 @@ static void set_ios(struct controller *controller)
     uint32_t divisor = (controller->clock >> 8 & 0xff) | (controller->clock << 2 & 0x300);
     uint32_t hertz = divisor ? 50000000 / (2 * divisor) : 50000000;
     int lines = controller->control & 0x20 ? 8 : controller->control & 2 ? 4 : 1;
-    card_host.set_ios(controller->card, lines, controller->control >> 2 & 1, controller->clock & 4 ? hertz : 0);
+    controller->host->set_ios(controller->host->context, lines, controller->control >> 2 & 1, controller->clock & 4 ? hertz : 0);
 }
 
 static void reset(struct controller *controller, uint32_t lines)
 {
     if (lines & 1) {
-        controller_begin(controller, controller->card, controller->one_block);
+        struct controller was = *controller;
+        controller_begin(controller, was.host, was.one_block);
+        controller->is_bare = was.is_bare;
+        controller->misuses = was.misuses;
         set_ios(controller);
     }
     if (lines & 4) {
         controller->direction = KELIFANDRO_NO_DATA;
         controller->at = controller->length = 0;
-        controller->is_waiting = 0;
-        controller->gap = 0;
-        controller->status &= ~(uint32_t)(TRANSFER_COMPLETE | BLOCK_GAP);
+        controller->is_waiting = controller->looks = 0;
+        controller->error = 0;
+        controller->status &= ~(uint32_t)TRANSFER_COMPLETE;
     }
 }
 
 static uint32_t present(struct controller *controller)
 {
-    uint32_t state = 0x000f0000; /* inserted, stable, not write protected */
+    uint32_t state = controller->is_bare ? 0x00080000 : 0x000f0000; /* inserted, stable, not write protected */
     if (controller->direction == KELIFANDRO_READ && controller->length)
         state |= 1 << 11;
     if (controller->direction == KELIFANDRO_WRITE && (!controller->is_waiting || !controller->one_block))
@@ -178,10 +208,27 @@ static uint32_t present(struct controller *controller)
     return state;
 }
 
+/* A word whose bytes are registers of their own: looked at as a whole, it is a poll of the card too. */
+static uint32_t read_bytes(struct controller *controller, unsigned offset)
+{
+    switch (offset) {
+    case 0x24:
+        return present(controller) | (controller->host->is_busy(controller->host->context, 0) ? 0 : 1 << 20);
+    case 0x28:
+        return controller->control | (uint32_t)controller->power << 8;
+    case 0xfc:
+        return 2 << 16;
+    default:
+        return 0;
+    }
+}
+
 static uint32_t read(void *context, unsigned offset, unsigned size)
 {
     struct controller *controller = context;
-    (void)size;
+    controller->misuses += controller->is_bare && (size != 4 || offset % 4);
+    if (controller->is_bare && (offset == 0x24 || offset == 0x28 || offset == 0xfc || offset == 0x40))
+        return read_bytes(controller, offset);
     switch (offset) {
     case 0x10:
     case 0x14:
@@ -195,13 +242,14 @@ static uint32_t read(void *context, unsigned offset, unsigned size)
     case 0x25:
         return present(controller) >> 8 & 0xff;
     case 0x26:
-        return card_host.is_busy(controller->card, 0) ? 0x0f : 0x1f;
-    case 0x2a:
-        return controller->gap;
+        return controller->host->is_busy(controller->host->context, 0) ? 0x0f : 0x1f;
     case 0x2c:
-        return controller->clock & 1 ? controller->clock | 2 : controller->clock;
+        controller->clock |= (controller->clock & 1) << 1;
+        return controller->clock;
     case 0x30:
-        return controller->status;
+        return status(controller);
+    case 0x34:
+        return controller->enabled;
     case 0x40:
         return 1 << 24 | 1 << 21 | 1 << 18 | 50 << 8;
     case 0xfe:
@@ -211,10 +259,39 @@ static uint32_t read(void *context, unsigned offset, unsigned size)
     }
 }
 
+/* Sizes, lines, power, clock, and a command with data wait until no data is under way; the port wants data; and while data is under way
+   only a command's bits are cleared. */
+static int is_misuse(const struct controller *controller, unsigned offset, uint32_t value)
+{
+    int is_moving = controller->direction != KELIFANDRO_NO_DATA || controller->looks;
+    switch (offset) {
+    case 0x04:
+    case 0x28:
+    case 0x29:
+    case 0x2c:
+        return is_moving;
+    case 0x0c:
+        return is_moving && (value >> 16 & 0x20);
+    case 0x20:
+        return controller->direction != KELIFANDRO_WRITE;
+    case 0x30:
+        return is_moving && (value & ~0x000f0001u);
+    default:
+        return 0;
+    }
+}
+
 static void write(void *context, unsigned offset, unsigned size, uint32_t value)
 {
     struct controller *controller = context;
-    (void)size;
+    controller->misuses += (unsigned long)is_misuse(controller, offset, value);
+    controller->misuses += controller->is_bare && (size != 4 || offset % 4);
+    if (controller->is_bare && offset == 0x28)
+        controller->power = (uint8_t)(value >> 8);
+    if (controller->is_bare && offset == 0x2c && value >> 24) {
+        reset(controller, value >> 24);
+        return;
+    }
     switch (offset) {
     case 0x04:
         controller->sizes = value;
@@ -232,16 +309,14 @@ static void write(void *context, unsigned offset, unsigned size, uint32_t value)
         controller->control = (uint8_t)value;
         set_ios(controller);
         break;
-    case 0x2a:
-        controller->gap = value & 1;
-        if (controller->gap && controller->is_waiting) {
-            transmit(controller);
-            if (controller->direction == KELIFANDRO_WRITE)
-                controller->status |= TRANSFER_COMPLETE | BLOCK_GAP;
-        }
+    case 0x29:
+        controller->power = (uint8_t)value;
+        break;
+    case 0x34:
+        controller->enabled = value;
         break;
     case 0x2c:
-        controller->clock = value & 0xffff;
+        controller->clock = (value & 0xfffd) | (value & controller->clock & 1) << 1;
         set_ios(controller);
         break;
     case 0x2f:
@@ -277,5 +352,12 @@ static void pause(void *context, uint32_t microseconds)
 
 const struct kelifandro_registers port_registers = {
     .read = read, .write = write, .pause = pause, .read_port = read_port, .write_port = write_port};
+
+const struct kelifandro_registers board_registers = {.read = read,
+                                                     .write = write,
+                                                     .pause = pause,
+                                                     .is_there = 1,
+                                                     .is_by_words = 1,
+                                                     .capabilities = 1 << 24 | 1 << 21 | 1 << 18 | 50 << 8};
 
 const struct kelifandro_registers controller_registers = {.read = read, .write = write, .pause = pause};

@@ -4,24 +4,34 @@
 #include "card.h"
 
 struct controller {
-    struct card *card;
-    /* Whether its buffer has room for one block alone. Otherwise a block of a write stays in it until the next one pushes it out, the
-       controller is told to stop at a block gap, or the last one comes. */
+    /* The way to the card: a controller's own steps, each by one call. */
+    const struct kelifandro_host *host;
+    /* Whether its buffer has room for one block alone. Otherwise it shows room for a block before the one in it has gone: that one stays
+       until the next pushes it out, or the last one comes. */
     int one_block;
-    uint8_t control, gap, power;
-    uint32_t sizes, argument, response[4], clock, status;
+    /* On a board that lacks bytes: accesses are of words alone, no card is seen, and Capabilities read 0. */
+    int is_bare;
+    uint8_t control, power;
+    uint32_t sizes, argument, response[4], clock, status, enabled;
     uint8_t buffer[512];
     size_t at, length; /* in the buffer: what was moved of the block, and its length; 0 no block */
     int direction;     /* enum kelifandro_data */
     uint32_t left;     /* blocks; 0xffffffff until CMD12 */
     int is_waiting;    /* a block of a write is in the buffer */
+    /* An error that isn't shown yet, and after how many looks at the status it is. A bad block is in the buffer before its error shows. */
+    uint32_t error;
+    int looks;
+    /* how often it was told what its registers don't allow at that time */
+    unsigned long misuses;
 };
 
-void controller_begin(struct controller *controller, struct card *card, int one_block);
+void controller_begin(struct controller *controller, const struct kelifandro_host *host, int one_block);
 
 /* Its registers; their context is the controller. */
 extern const struct kelifandro_registers controller_registers;
 /* The same with a block through the port by one call. */
 extern const struct kelifandro_registers port_registers;
+/* Those of a bare board, which says itself what they don't. */
+extern const struct kelifandro_registers board_registers;
 
 #endif

@@ -26,18 +26,20 @@ static void expect(int is_so, const char *what, unsigned long n)
         printf("wrong: %s (%lu)\n", what, n);
 }
 
-enum way { HOST, TRANSFERS, ONE_BLOCK, SEVERAL_BLOCKS, BY_PORT, WHOLE };
+enum way { HOST, TRANSFERS, ONE_BLOCK, SEVERAL_BLOCKS, BY_PORT, WHOLE, BARE };
 static const char *const ways[] = {"a host", "a host with transfers", "registers, room for one block", "registers, room for several",
-                                   "registers, room for one block, a call a block", "a host with transfers alone"};
+                                   "registers, room for one block, a call a block", "a host with transfers alone",
+                                   "registers of a bare board"};
 
 static void begin(int is_emmc, enum way way)
 {
     card_begin(&card, is_emmc);
     int one_block = way == ONE_BLOCK || way == BY_PORT;
-    controller_begin(&controller, &card, one_block);
-    host = way == TRANSFERS ? transfer_host : way == WHOLE ? whole_host : card_host;
+        host = way == TRANSFERS ? transfer_host : way == WHOLE ? whole_host : card_host;
     host.context = &card;
-    registers = way == BY_PORT ? port_registers : controller_registers;
+    controller_begin(&controller, &host, one_block);
+    controller.is_bare = way == BARE;
+    registers = way == BY_PORT ? port_registers : way == BARE ? board_registers : controller_registers;
     registers.context = &controller;
     memset(&sd, 0, sizeof sd);
     if (way == HOST || way == TRANSFERS || way == WHOLE)
@@ -70,6 +72,7 @@ static unsigned long whole(int is_emmc, enum way way, unsigned long lost)
     }
     expect(card.user[8][0] == 0 && card.user[9][511] == 0, "erased sectors", lost);
     expect(memcmp(card.user[7], data, 512) == 0 && memcmp(card.user[10], data + 3 * 512, 512) == 0, "their neighbours", lost);
+    expect(controller.misuses == 0, "what the registers allow", lost);
     return card.answers;
 }
 
@@ -85,6 +88,8 @@ static void refusals(enum way way)
     expect(kelifandro_read(&sd, KELIFANDRO_USER, USER_SECTORS - 1, 2, back) == KELIFANDRO_OUT_OF_RANGE, "out of range", way);
     expect(kelifandro_write(&sd, KELIFANDRO_USER, 0, 0, data) == KELIFANDRO_COUNT, "no sector", way);
     expect(kelifandro_read(&sd, KELIFANDRO_USER, 0, (size_t)1 << 60, back) == KELIFANDRO_COUNT, "too many sectors", way);
+    expect(kelifandro_erase(&sd, (enum kelifandro_part)256, 0, 1) == KELIFANDRO_NO_PARTITION, "a number beyond a byte", way);
+    expect(kelifandro_write(&sd, KELIFANDRO_USER, 0, 0, 0) == KELIFANDRO_COUNT, "no sector and no memory", way);
     expect(kelifandro_trim(&sd, KELIFANDRO_USER, 0, 1) == KELIFANDRO_NOT_ERASABLE, "no trim", way);
     expect(card.answers == before, "nothing is sent", way);
     expect(card.told == told, "the host is told nothing", way);
@@ -99,6 +104,36 @@ static void lost_ways(void)
     sd.host = &host;
     card.state = 0;
     expect(kelifandro_read(&sd, KELIFANDRO_USER, 0, 1, back) == KELIFANDRO_DONE, "a card that has lost its power is opened again", 0);
+}
+
+/* More sectors than a request may name, in parts; none where they don't all lie in the partition. */
+static void long_requests(enum way way)
+{
+    enum { MANY = 1500 };
+    static uint8_t many[MANY][512], came[MANY][512];
+    size_t done = 0;
+    begin(0, way);
+    kelifandro_open(&sd);
+    for (int i = 0; i < MANY; i++)
+        many[i][0] = (uint8_t)i, many[i][511] = (uint8_t)(i >> 8);
+    expect(kelifandro_write_long(&sd, KELIFANDRO_USER, 100, MANY, many, &done) == KELIFANDRO_DONE && done == MANY, "long write", way);
+    expect(memcmp(card.user[100], many, sizeof many) == 0, "what a long write wrote", way);
+    expect(kelifandro_read_long(&sd, KELIFANDRO_USER, 100, MANY, came, &done) == KELIFANDRO_DONE && done == MANY, "long read", way);
+    expect(memcmp(came, many, sizeof many) == 0, "what a long read read", way);
+    unsigned long before = card.answers;
+    expect(kelifandro_write_long(&sd, KELIFANDRO_USER, USER_SECTORS - MANY + 1, MANY, many, &done) == KELIFANDRO_OUT_OF_RANGE && done == 0,
+           "long and out of range", way);
+    expect(kelifandro_write_long(&sd, KELIFANDRO_USER, 0, 0, 0, &done) == KELIFANDRO_COUNT, "long, and no sector", way);
+    expect(card.answers == before, "nothing is sent", way);
+}
+
+/* What the switches of the slot say. */
+static void switches(enum way way)
+{
+    begin(0, way);
+    int by_registers = sd.registers != 0;
+    expect(kelifandro_is_inserted(&sd) == (by_registers ? 1 : KELIFANDRO_NO_HOST), "inserted", way);
+    expect(kelifandro_is_write_protected(&sd) == (by_registers ? 0 : KELIFANDRO_NO_HOST), "write protected", way);
 }
 
 /* Bytes of any kind for a card: each call returns, and nothing outside of its room is touched (the card's own sectors apart). */
@@ -136,15 +171,15 @@ int main(int words, char **word)
         profile(strtoul(word[1], 0, 10), strtoul(word[2], 0, 10), (enum way)(word[3][0] - '0'));
         return 0;
     }
-    for (int way = HOST; way <= WHOLE; way++)
+    for (int way = HOST; way <= BARE; way++)
         for (int is_emmc = 0; is_emmc < 2; is_emmc++) {
             unsigned long answers = whole(is_emmc, way, ~0ul);
             for (unsigned long lost = 0; lost < answers; lost++)
                 whole(is_emmc, way, lost);
             printf("%s by %s: each of %lu answers lost in turn\n", is_emmc ? "eMMC" : "SD", ways[way], answers);
         }
-    for (int way = HOST; way <= WHOLE; way++)
-        refusals(way);
+    for (int way = HOST; way <= BARE; way++)
+        refusals(way), long_requests(way), switches(way);
     lost_ways();
     junk(100000);
     printf("junk for a card: 100000 calls\n%lu wrong\n", wrong);

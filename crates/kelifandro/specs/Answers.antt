@@ -7,6 +7,8 @@ use Rattle.mmc_direct.specs.declared.refused.NotDone.TheVariants.{Failed, Refuse
 use Rattle.mmc_direct.specs.declared.refused.Refused.{Refused}
 use Rattle.mmc_direct.specs.declared.refused.Refused.TheVariants.{Empty, NoSuchPartition, NoTrim, NotInPartition}
 use Rattle.mmc_direct.specs.declared.refused.Refused.TheVariants.{OutOfRange, ReadOnly, TooLong, Unaligned}
+use Rattle.mmc_identify.specs.declared.fault.IdentFault.{IdentFault}
+use Rattle.mmc_identify.specs.declared.fault.IdentFault.TheVariants.{Locked, Mismatch, NoAnswer, Register as IdentRegister, Voltage}
 use Rattle.mmc_sdhci.specs.declared.start.StartFault.{StartFault}
 use Rattle.mmc_sdhci.specs.declared.start.StartFault.TheVariants.{NoBaseClock, NoCard, NoVoltage}
 use Rattle.mmc_switch.specs.declared.fault.SwitchFault.TheVariants.{Exchange, Register}
@@ -39,8 +41,15 @@ answer_number (Ok done) = pos 0
 answer_number (Err (RefusedFor why)) = refused_number why
 answer_number (Err (Failed cause)) = cause_number cause
 
+abbrev pub unidentified_number : IdentFault → ℤ
+unidentified_number NoAnswer = minus 20
+unidentified_number IdentRegister = minus 21
+unidentified_number Mismatch = minus 21
+unidentified_number Voltage = minus 25
+unidentified_number Locked = minus 26
+
 abbrev pub unopened_number : InitializationFault → ℤ
-unopened_number (Identification fault) = minus 20
+unopened_number (Identification fault) = unidentified_number fault
 unopened_number (Widening Exchange) = minus 20
 unopened_number (Widening Register) = minus 21
 

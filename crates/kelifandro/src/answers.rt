@@ -1,9 +1,11 @@
 // The numbers that C knows of answers (`enum kelifandro_result`).
 ghost use Rattle.std.specs.Prelude.{◌≡◌};
-ghost use Rattle.kelifandro.specs.Answers.{answer_number, cause_number, opening_number, refused_number, start_number, unopened_number};
+ghost use Rattle.kelifandro.specs.Answers.{answer_number, cause_number, opening_number, refused_number, start_number};
+ghost use Rattle.kelifandro.specs.Answers.{unidentified_number, unopened_number};
 
 use mmc_bus::Cause;
 use mmc_direct::{NotDone, Refused};
+use mmc_identify::IdentFault;
 use mmc_sdhci::StartFault;
 use mmc_switch::{InitializationFault, SwitchFault};
 
@@ -53,13 +55,25 @@ pub fn answer_number(answer: Result<(), NotDone>) -> i32
     }
 }
 
+// Why a card isn't identified.
+fn unidentified_number(fault: IdentFault) -> i32
+    ensures { result ≡ unidentified_number fault }
+{
+    match fault {
+        IdentFault::NoAnswer => -20,
+        IdentFault::Register | IdentFault::Mismatch => -21,
+        IdentFault::Voltage => -25,
+        IdentFault::Locked => -26,
+    }
+}
+
 /// Why a card isn't opened.
 pub fn unopened_number(fault: InitializationFault) -> i32
     ensures { result ≡ unopened_number fault }
 {
     match fault {
-        InitializationFault::Identification(_)
-        | InitializationFault::Widening(SwitchFault::Exchange) => -20,
+        InitializationFault::Identification(fault) => unidentified_number(fault),
+        InitializationFault::Widening(SwitchFault::Exchange) => -20,
         InitializationFault::Widening(SwitchFault::Register) => -21,
     }
 }
