@@ -1,9 +1,9 @@
 // What a busy card is at.
-ghost use Rattle.std.specs.Prelude.{◌*◌, ◌≡◌, ◌≤◌, IsSome, Some};
+ghost use Rattle.std.specs.Prelude.{◌*◌, ◌≡◌, ◌≢◌, ◌≤◌, ◌⊎◌, IsNone, IsSome, Some};
 ghost use Rattle.mmc_card.specs.declared.command.Command.TheVariants as Command;
 ghost use Rattle.mmc_host.specs.Table.{response_of};
 ghost use Rattle.mmc_host.specs.declared.response.Response.TheVariants.{R1b};
-ghost use Rattle.mmc_host.specs.declared.work.Work.TheVariants.{Erase, Switch};
+ghost use Rattle.mmc_host.specs.declared.work.Work.TheVariants.{Erase, Switch, Write};
 
 use mmc_card::Command;
 
@@ -40,8 +40,10 @@ impl Work {
 /// What a command sets a card to, if anything.
 pub fn work_of(command: Command) -> Option<Work>
     ensures busy { response_of command ≡ R1b → IsSome result }
+    ensures write { (command ≡ Command.WriteBlock) ⊎ (command ≡ Command.WriteMultipleBlock) → result ≡ Some Write }
     ensures switch { command ≡ Command.Switch → result ≡ Some Switch }
     ensures erase { command ≡ Command.Erase → result ≡ Some Erase }
+    ensures other { response_of command ≢ R1b → command ≢ Command.WriteBlock → command ≢ Command.WriteMultipleBlock → IsNone result }
 {
     match command {
         Command::SelectCard => Some(Work::Settling),
