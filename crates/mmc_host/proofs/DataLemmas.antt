@@ -23,8 +23,8 @@ module _ (rest : Blocks → Data) (one : (count : ℕ) → less_one (rest (Count
   none_left zero all few = one all ∙ last_left all few
   none_left (suc done) all few =
       elim (cases_lt (suc done) all) [
-      | inl some ↦ ap less_one (some_left (suc done) all some) ∙ one (all - suc done) ∙ last_left (all - suc done) (omega (arith, few))
-      | inr none ↦ ap less_one (none_left done all none)
+        | inl some ↦ ap less_one (some_left (suc done) all some) ∙ one (all - suc done) ∙ last_left (all - suc done) (omega (arith, few))
+        | inr none ↦ ap less_one (none_left done all none)
       ]
 
   pub all_gone : (count all : ℕ) → (count ≡ 0 → ⊥) → all ≤ count → less_by count (rest (Counted all)) ≡ Nothing

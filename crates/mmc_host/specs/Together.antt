@@ -1,5 +1,5 @@
 -- A command with the blocks after it, by one call of a host.
-use Rattle.std.specs.Prelude.{◌+◌, ◌-◌, ◌<◌, ◌^◌, ◌≡◌, ◌≤◌, List, Result, Some, false, if◌then◌else◌, min, nat_lt, suc, true, zero, ℕ}
+use Rattle.std.specs.Prelude.{◌+◌, ◌-◌, ◌<◌, ◌^◌, ◌≡◌, ◌≤◌, List, Result, Some, false, if◌then◌else◌, min, nat_lt, suc, zero, ℕ}
 use Rattle.mmc_frame.specs.Frame.{command_in}
 use Rattle.mmc_card.specs.declared.exchange.Lines.{Lines}
 use Rattle.mmc_card.specs.declared.exchange.DataIn.{DataIn}
