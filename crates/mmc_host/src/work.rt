@@ -43,7 +43,8 @@ pub fn work_of(command: Command) -> Option<Work>
     ensures write { (command ≡ Command.WriteBlock) ⊎ (command ≡ Command.WriteMultipleBlock) → result ≡ Some Write }
     ensures switch { command ≡ Command.Switch → result ≡ Some Switch }
     ensures erase { command ≡ Command.Erase → result ≡ Some Erase }
-    ensures other { response_of command ≢ R1b → command ≢ Command.WriteBlock → command ≢ Command.WriteMultipleBlock → IsNone result }
+    ensures other { response_of command ≢ R1b → command ≢ Command.WriteBlock → command ≢ Command.WriteMultipleBlock
+        → IsNone result }
 {
     match command {
         Command::SelectCard => Some(Work::Settling),
