@@ -216,10 +216,11 @@ none_waits old left (Serving st attempt') stage attempt s some none =
     omega (arith, all, n, k, some, none)
 none_waits old left Taken stage attempt s some none = absurd s
 
--- Where nothing is in service after a start, no work was left.
+-- Where nothing is in service after a start, no work was left, and none is.
 pub no_work : (old left : List Entry) (service : Service) (link : Link) → HasStarted old service left (Idle link)
-    → TURNS_OF_A_REQUEST * length (waits_of old) + service_left service ≡ 0
-no_work old left (Idle last) link (inl s) = rw s.0 (omega arith)
+    → (TURNS_OF_A_REQUEST * length (waits_of old) + service_left service ≡ 0)
+    × (TURNS_OF_A_REQUEST * length (waits_of left) + service_left (Idle link) ≡ 0)
+no_work old left (Idle last) link (inl s) = (rw s.0 (omega arith), rw s.1 (omega arith))
 no_work old left (Idle last) link (inr s) = let e = s.1 in cc
 no_work old left (Serving st attempt') link s = let e = s.0 in cc
 no_work old left Taken link s = absurd s
@@ -279,14 +280,6 @@ pub few_exchanges : (service : Service) → most_exchanges Exchange service ≤ 
 few_exchanges (Idle up) = few_at (at.At up)
 few_exchanges (Serving stage attempt) = few_at stage
 few_exchanges Taken = omega arith
-
--- where nothing goes into service nothing is left
-pub nothing_left : (old left : List Entry) (service : Service) (link : Link) → HasStarted old service left (Idle link)
-    → TURNS_OF_A_REQUEST * length (waits_of left) + service_left (Idle link) ≡ 0
-nothing_left old left (Idle last) link (inl s) = rw s.1 (omega arith)
-nothing_left old left (Idle last) link (inr s) = let e = s.1 in cc
-nothing_left old left (Serving st attempt') link s = let e = s.0 in cc
-nothing_left old left Taken link s = absurd s
 
 pub cause_served : (old left : List Entry) (service new : Service) (stage : Stage) (attempt after : Attempt)
     (o : Progress Stage) (cs : List Completion) (view : BusView) → HasStarted old service left (Serving stage attempt)

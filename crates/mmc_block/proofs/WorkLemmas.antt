@@ -20,9 +20,7 @@ use Rattle.mmc_block.specs.declared.service.Stage.TheVariants.{At}
 use Rattle.mmc_block.specs.declared.work.TheConstants.{TURNS_OF_AN_ATTEMPT, TURNS_OF_A_REQUEST, TURNS_OF_A_RUN}
 use Rattle.mmc_block.specs.Entries.{waits_of}
 use Rattle.mmc_block.specs.Service.{AfterFailure, Concludes, HasStarted, IsFirstTry, IsNext, tries}
-use Rattle.mmc_card.specs.BusView.{BusView}
-use Rattle.mmc_recovery.specs.declared.settling.TheConstants.{EXCHANGES_OF_A_SETTLE}
-use Rattle.mmc_block.specs.Work.{Lowers, Pays, attempts_left, left_behind, is_on, service_left, split, stage_left}
+use Rattle.mmc_block.specs.Work.{attempts_left, is_on, left_behind, service_left, split, stage_left}
 
 -- Attempts.
 
@@ -58,34 +56,34 @@ next_left link (e ∷ es) service next =
     rw (next.1, next.2.members_are, next.2.others_are, next.2.failed) (omega (arith, most))
 
 -- what is left, where so much is in this attempt
-abbrev pub left_with : ℕ → Attempt → ℕ
+abbrev left_with : ℕ → Attempt → ℕ
 left_with left attempt = left + TURNS_OF_AN_ATTEMPT * attempts_left attempt
 
-failed_left : (left : ℕ) (broken : Broken) (members : List Entry) (again : ℕ) (others : List Entry) (service : Service)
-    (completions : List Completion) → 0 < left → AfterFailure broken members others service completions
-    → service_left service < left + TURNS_OF_AN_ATTEMPT * (again + split members + 4 * length others)
-failed_left left broken [] again others service completions some after = absurd after
-failed_left left broken (e ∷ []) again others service completions some after =
+failed_left : (broken : Broken) (members : List Entry) (again : ℕ) (others : List Entry) (service : Service)
+    (completions : List Completion) → AfterFailure broken members others service completions
+    → service_left service ≤ TURNS_OF_AN_ATTEMPT * (again + split members + 4 * length others)
+failed_left broken [] again others service completions after = absurd after
+failed_left broken (e ∷ []) again others service completions after =
     let next = next_left (Down broken) others service after.0 in
-    omega (arith, next, some)
-failed_left left broken (e ∷ f ∷ es) again others service completions some after =
+    omega (arith, next)
+failed_left broken (e ∷ f ∷ es) again others service completions after =
     let next = next_left (Down broken) (e ∷ f ∷ es) service after.0 in
-    omega (arith, next, some)
+    omega (arith, next)
 
-concluded_left : (left : ℕ) (outcome : Progress Stage) (attempt : Attempt) (service : Service) (completions : List Completion)
-    → Lowers left attempt.group.extent.part outcome → Concludes outcome attempt service completions
-    → service_left service < left_with left attempt
-concluded_left left (More stage) attempt service completions lowers after =
-    rw after.0 (omega (arith, lowers))
-concluded_left left (Done session) attempt service completions lowers after =
+concluded_left : (outcome : Progress Stage) (attempt : Attempt) (service : Service) (completions : List Completion)
+    → Concludes outcome attempt service completions
+    → service_left service ≤ left_with (left_behind attempt.group.extent.part outcome) attempt
+concluded_left (More stage) attempt service completions after = rw after.0 (omega arith)
+concluded_left (Done session) attempt service completions after =
     let next = next_left (Up session) attempt.others.items service after.0 in
-    omega (arith, next, lowers)
-concluded_left left (Failed broken) attempt service completions lowers (inl again) =
+    omega (arith, next)
+concluded_left (Failed broken) attempt service completions (inl again) =
     let less = one_less (tries attempt.group.members.items) attempt.failed again.0 in
-    rw again.1 (omega (arith, less, lowers))
-concluded_left left (Failed broken) attempt service completions lowers (inr last) =
-    failed_left left broken attempt.group.members.items (tries attempt.group.members.items - (attempt.failed + 1))
-    attempt.others.items service completions lowers last.1
+    rw again.1 (omega (arith, less))
+concluded_left (Failed broken) attempt service completions (inr last) =
+    let gone = failed_left broken attempt.group.members.items (tries attempt.group.members.items - (attempt.failed + 1))
+    attempt.others.items service completions last.1 in
+    omega (arith, gone)
 
 -- Starts.
 
@@ -131,7 +129,7 @@ fair_length old members left run fair =
     omega (arith, whole, group, parts, before, after)
 
 -- the work of a device in whose queue these wait
-abbrev pub work_with : List Entry → Service → ℕ
+abbrev work_with : List Entry → Service → ℕ
 work_with waits service = TURNS_OF_A_REQUEST * length (waits_of waits) + service_left service
 
 started_left : (old later : List Entry) (service : Service) (stage : Stage) (attempt : Attempt)
@@ -149,16 +147,6 @@ started_left old later (Serving before tried) stage attempt same =
     let waits : length (waits_of later) ≡ length (waits_of old) = ap (λ es. length (waits_of es)) same.1 in
     omega (arith, left, waits)
 started_left old later Taken stage attempt none = absurd none
-
--- where nothing goes into service nothing was left
-pub idle_work : (old later : List Entry) (service : Service) (link : Link) → HasStarted old service later (Idle link)
-    → TURNS_OF_A_REQUEST * length (waits_of old) + service_left service ≡ 0
-idle_work old later (Idle before) link (inl none) =
-    let waits : length (waits_of old) ≡ 0 = ap (λ es. length (waits_of es)) none.0 in
-    omega (arith, waits)
-idle_work old later (Idle before) link (inr new) = let e = new.1 in cc
-idle_work old later (Serving stage attempt) link same = let e = same.0 in cc
-idle_work old later Taken link none = absurd none
 
 -- A turn.
 
@@ -185,74 +173,18 @@ lent_attempts old new lent others failed =
     (lent_length old.group.members.items new.group.members.items lent) in
     rw (same.0, same.1, others, failed) refl
 
--- Each turn lowers the work that is left: where nothing was in service a group was taken; then one settle, one select,
--- or one exchange was made of the attempt, and it was decided what follows.
+-- The work that is left falls by as much as what was left of the attempt, or more: where nothing was in service a group was
+-- taken; then one settle, one select, or the exchanges of one turn of a run were made, and it was decided what follows.
 pub turn_work : (old later : List Entry) (service new : Service) (stage : Stage) (attempt turned : Attempt)
     (outcome : Progress Stage) (completions : List Completion) → HasStarted old service later (Serving stage attempt)
     → AreLent attempt.group.members.items turned.group.members.items → turned.group.extent ≡ attempt.group.extent
-    → turned.others ≡ attempt.others → turned.failed ≡ attempt.failed
-    → Lowers (stage_left stage attempt.group.extent.part) attempt.group.extent.part outcome
-    → Concludes outcome turned new completions
-    → TURNS_OF_A_REQUEST * length (waits_of later) + service_left new
-    < TURNS_OF_A_REQUEST * length (waits_of old) + service_left service
-turn_work old later service new stage attempt turned outcome completions started lent run others failed lowers after =
-    let left : ℕ = stage_left stage attempt.group.extent.part in
+    → turned.others ≡ attempt.others → turned.failed ≡ attempt.failed → Concludes outcome turned new completions
+    → work_with later new + stage_left stage attempt.group.extent.part
+    ≤ work_with old service + left_behind attempt.group.extent.part outcome
+turn_work old later service new stage attempt turned outcome completions started lent run others failed after =
     let at_start = started_left old later service stage attempt started in
     let count = lent_attempts attempt turned lent others failed in
-    let lowers' : Lowers left turned.group.extent.part outcome = rw run lowers in
-    let turn = concluded_left left outcome turned new completions lowers' after in
-    omega (arith, at_start, count, turn)
-
--- The exchanges of a turn are paid for: the work that is left falls by as much as what was left of the attempt, or more.
-
-failed_drops : (left d : ℕ) (broken : Broken) (members : List Entry) (again : ℕ) (others : List Entry) (service : Service)
-    (completions : List Completion) → d ≤ left → AfterFailure broken members others service completions
-    → service_left service + d ≤ left + TURNS_OF_AN_ATTEMPT * (again + split members + 4 * length others)
-failed_drops left d broken [] again others service completions few after = absurd after
-failed_drops left d broken (e ∷ []) again others service completions few after =
-    let next = next_left (Down broken) others service after.0 in
-    omega (arith, next, few)
-failed_drops left d broken (e ∷ f ∷ es) again others service completions few after =
-    let next = next_left (Down broken) (e ∷ f ∷ es) service after.0 in
-    omega (arith, next, few)
-
-concluded_drops : (left d : ℕ) (outcome : Progress Stage) (attempt : Attempt) (service : Service)
-    (completions : List Completion) → left_behind attempt.group.extent.part outcome + d ≤ left
-    → Concludes outcome attempt service completions → service_left service + d ≤ left_with left attempt
-concluded_drops left d (More stage) attempt service completions drops after = rw after.0 (omega (arith, drops))
-concluded_drops left d (Done session) attempt service completions drops after =
-    let next = next_left (Up session) attempt.others.items service after.0 in
-    omega (arith, next, drops)
-concluded_drops left d (Failed broken) attempt service completions drops (inl again) =
-    let less = one_less (tries attempt.group.members.items) attempt.failed again.0 in
-    rw again.1 (omega (arith, less, drops))
-concluded_drops left d (Failed broken) attempt service completions drops (inr last) =
-    failed_drops left d broken attempt.group.members.items (tries attempt.group.members.items - (attempt.failed + 1))
-    attempt.others.items service completions (omega (arith, drops)) last.1
-
-no_more : (left : ℕ) (part : Part) (o : Progress Stage) → Lowers left part o → left_behind part o ≤ left
-no_more left part (More stage) lowers = omega (arith, lowers)
-no_more left part (Done session) lowers = omega arith
-no_more left part (Failed broken) lowers = omega arith
-
-pub turn_paid : (old later : List Entry) (service new : Service) (stage : Stage) (attempt turned : Attempt)
-    (outcome : Progress Stage) (completions : List Completion) (was now : BusView)
-    → HasStarted old service later (Serving stage attempt)
-    → AreLent attempt.group.members.items turned.group.members.items → turned.group.extent ≡ attempt.group.extent
-    → turned.others ≡ attempt.others → turned.failed ≡ attempt.failed
-    → Lowers (stage_left stage attempt.group.extent.part) attempt.group.extent.part outcome
-    → Pays attempt.group.extent.part (stage_left stage attempt.group.extent.part) was outcome now
-    → Concludes outcome turned new completions
-    → now.exchanges + EXCHANGES_OF_A_SETTLE * (TURNS_OF_A_REQUEST * length (waits_of later) + service_left new)
-    ≤ was.exchanges + EXCHANGES_OF_A_SETTLE * (TURNS_OF_A_REQUEST * length (waits_of old) + service_left service)
-turn_paid old later service new stage attempt turned outcome completions was now started lent run others failed lowers paid
-    after =
-    let left : ℕ = stage_left stage attempt.group.extent.part in
-    let at_start = started_left old later service stage attempt started in
-    let count = lent_attempts attempt turned lent others failed in
-    let few = no_more left attempt.group.extent.part outcome lowers in
-    let d : ℕ = left - left_behind attempt.group.extent.part outcome in
-    let drops : left_behind turned.group.extent.part outcome + d ≤ left = rw run (omega (arith, few)) in
-    let turn = concluded_drops left d outcome turned new completions drops after in
-    let gone : left_behind attempt.group.extent.part outcome + d ≡ left = omega (arith, few) in
-    omega (arith, at_start, count, turn, paid, gone)
+    let same : left_behind turned.group.extent.part outcome ≡ left_behind attempt.group.extent.part outcome =
+    ap (λ (extent : Extent). left_behind extent.part outcome) run in
+    let turn = concluded_left outcome turned new completions after in
+    omega (arith, at_start, count, same, turn)

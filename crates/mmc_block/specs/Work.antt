@@ -51,11 +51,15 @@ abbrev pub IsElsewhere : Part → Link → Type 0
 IsElsewhere part (Up session) = is_on session.selected part ≡ false
 IsElsewhere part (Down broken) = Unit {0}
 
+-- what is left of it after a turn
+abbrev pub left_behind : Part → Progress Stage → ℕ
+left_behind part (More stage) = stage_left stage part
+left_behind part (Done session) = 0
+left_behind part (Failed broken) = 0
+
 -- an attempt of which so much was left is nearer to its end
 abbrev pub Lowers : ℕ → Part → Progress Stage → Type 0
-Lowers left part (More stage) = stage_left stage part < left
-Lowers left part (Done session) = 0 < left
-Lowers left part (Failed broken) = 0 < left
+Lowers left part outcome = left_behind part outcome < left
 
 -- the attempts that are left after this one: those at the group, and then those at each request of several alone
 abbrev pub split : List Entry → ℕ
@@ -82,11 +86,6 @@ service_left (Idle link) = 0
 service_left (Serving stage attempt) =
     stage_left stage attempt.group.extent.part + TURNS_OF_AN_ATTEMPT * attempts_left attempt
 service_left Taken = 0
-
--- what is left of an attempt behind a turn
-abbrev pub left_behind : Part → Progress Stage → ℕ
-left_behind part (More stage) = stage_left stage part
-left_behind part _ = 0
 
 -- Exchanges.
 

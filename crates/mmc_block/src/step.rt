@@ -81,7 +81,7 @@ fn move_on<B: Bus>(bus: &mut B, run: &mut Run, group: &mut Group, pace: Pace) ->
     }
 }
 
-// The next exchange of a run, which is advanced where it stands: a turn in the middle of a run moves no session.
+// The next exchanges of a run at this pace. The run is advanced where it stands: a turn in the middle of it moves no session.
 #[tactic(auto, using(crate::proofs::StepLemmas::same_lent))]
 fn exchange<B: Bus>(bus: &mut B, work: &mut Work, group: &mut Group, pace: Pace) -> Standing
     requires joined { IsJoined group.old.members.items group.old.extent }
@@ -172,7 +172,7 @@ fn end(phase: &mut Phase, standing: Standing)
     };
 }
 
-// One exchange of a run that is under way. In the middle of the run the phase isn't moved.
+// The next exchanges of a run that is under way. In the middle of the run the phase isn't moved.
 fn go_on<B: Bus>(bus: &mut B, phase: &mut Phase, group: &mut Group, pace: Pace)
     requires joined { IsJoined group.old.members.items group.old.extent }
     requires running { IfRunning phase.old (λ work. AreServable (info_of (session_of work)) group.old.members.items × IsWorkOf group.old work) }
@@ -214,7 +214,7 @@ fn begin_here(phase: &mut Phase, group: &Group)
     };
 }
 
-// The run begins, with its first exchange.
+// The run begins, with its first exchanges.
 #[inline(never)]
 fn set_out<B: Bus>(bus: &mut B, phase: &mut Phase, group: &mut Group, pace: Pace)
     requires joined { IsJoined group.old.members.items group.old.extent }
@@ -254,7 +254,7 @@ fn prepare<B: Bus>(bus: &mut B, phase: &mut Phase, group: &Group)
     };
 }
 
-/// One settle, one select, or one exchange, and the phase says what is left: the attempt, or the card where the attempt is over.
+/// One settle, one select, or the next exchanges of a run, and the phase says what is left: the attempt, or the card where the attempt is over.
 pub fn step<B: Bus>(bus: &mut B, phase: &mut Phase, group: &mut Group, pace: Pace)
     requires joined { IsJoined group.old.members.items group.old.extent }
     requires serving { IfServing phase.old (λ stage. AreServable (info_of_stage stage) group.old.members.items × IsStageOf group.old stage) }

@@ -123,12 +123,8 @@ writing_sends old new frame command count lines same can =
     (sym (ap (λ (s : HostState). s.transfer) same)
     ∙ with_blocks (λ d. AreAhead d count) (λ no. no) new.transfer command can.ahead can.free)
 
-passed_ios : (done : ℕ) (state : HostState) → (passed done state).ios ≡ state.ios
-passed_ios zero state = refl
-passed_ios (suc done) state = passed_ios done state
-
 moved_ios : {T : Type 0} (moved : Moved T) (state : HostState) → (passed_on moved state).ios ≡ state.ios
-moved_ios (Move.Good good) state = passed_ios good state
+moved_ios (Move.Good good) state = refl
 moved_ios (Move.Failed got) state = refl
 
 -- the clock stays as the command wanted it, whatever its blocks did
@@ -151,11 +147,6 @@ pub is_other_in : (got : DataIn) → (got ≡ Good → ⊥) → is_good got ≡ 
 is_other_in Received.Good not = absurd (not refl)
 is_other_in Received.Bad not = refl
 is_other_in Received.Nothing not = refl
-
--- a block that failed ends the data, however many came before it
-pub ended : (k : ℕ) (state : HostState) → block_passed (passed k state) false ≡ block_passed state false
-ended zero state = refl
-ended (suc k) state = ended k state
 
 module _ {S : Type 0} (blocks : S → List (List ℕ)) (leave : S → ℕ → List ℕ → S) (was : S) (behind : HostView)
     (wire : Wire) (misused : Bool) (lines : Where behind (lines_of behind.state.ios ≡ wire.lines)) where
@@ -240,8 +231,7 @@ module _ {S : Type 0} (blocks : S → List (List ℕ)) (leave : S → ℕ → Li
       let was = s.step.was_kept in (
         kept_in some view held all was,
         s.state ∙ ap (block_passed view.state) (is_other_in got not)
-            ∙ ap (λ (state : HostState). block_passed state false) (state_in some view held all was)
-            ∙ ended some behind.state,
+            ∙ ap (λ (state : HostState). block_passed state false) (state_in some view held all was),
         s.limits ∙ limits_in some view held all was,
       )
 
@@ -294,10 +284,6 @@ limits_noted (Move.Good good) wire = limits_of good wire
 limits_noted (Move.Failed got) wire = refl
 
 -- Writes.
-
-lines_passed : (k : ℕ) (state : HostState) → lines_of (passed k state).ios ≡ lines_of state.ios
-lines_passed zero state = refl
-lines_passed (suc k) state = lines_passed k state
 
 some_polled : (k : ℕ) (wire : Wire) → poll_noted (suc k) wire ≡ noted (Busy false) wire
 some_polled k wire = let less : nat_lt 0 (suc k) ≡ true = grind (arith, nat_tests) in rw less refl
@@ -381,7 +367,7 @@ module _ (blocks : List (List ℕ)) (behind : HostView) (wire : Wire) (misused :
   lines_out k view ready all rests kept =
       let r = rested_state k view ready rests kept in
       let so_far = state_out k view all r.0 in
-      ap (λ (state : HostState). lines_of state.ios) (r.1 ∙ so_far.1) ∙ lines_passed k behind.state ∙ lines so_far.0
+      ap (λ (state : HostState). lines_of state.ios) (r.1 ∙ so_far.1) ∙ lines so_far.0
       ∙ sym (lines_written k wire) ∙ sym (lines_polled k (writes_noted k wire))
 
   one_written : (ready next : HostView) (at then : Wire) (got : DataOut) (block : List ℕ)
@@ -445,7 +431,7 @@ module _ (blocks : List (List ℕ)) (behind : HostView) (wire : Wire) (misused :
       let so_far = state_out some view all r.0 in (
         so_far.0,
         s.state ∙ ap (block_passed ready.state) (is_other_out got not)
-            ∙ ap (λ (state : HostState). block_passed state false) (r.1 ∙ so_far.1) ∙ ended some behind.state,
+            ∙ ap (λ (state : HostState). block_passed state false) (r.1 ∙ so_far.1),
         s.limits ∙ r.2 ∙ so_far.2,
       )
 

@@ -1,7 +1,7 @@
 -- What a wire carries, told by command and answer.
 use Rattle.std.proofs.Common.{◌∙◌, ◌≡◌, Option, subst, sym, ℕ}
 use Rattle.mmc_card.specs.CardAnswer.{CardAnswer, Silent}
-use Rattle.mmc_card.specs.Faults.{IsFlipped, RepliesFlipped, Spells, brownout, fail_switch, faithful, flip_command, flip_reply, leave_over}
+use Rattle.mmc_card.specs.Faults.{IsFlipped, RepliesFlipped, brownout, fail_switch, faithful, flip_command, flip_reply, leave_over}
 use Rattle.mmc_card.specs.Faults.{lose_command, lose_reply, slow_inquiry}
 use Rattle.mmc_card.specs.Judged.{IsSaid}
 use Rattle.mmc_card.specs.Card.{Card}

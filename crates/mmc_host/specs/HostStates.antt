@@ -1,5 +1,5 @@
 -- What a host controller has been told so far, command by command.
-use Rattle.std.specs.Prelude.{◌%◌, ◌*◌, ◌+◌, ◌&&◌, ◌-◌, ◌<◌, ◌==◌, ◌||◌, ◌≡◌, ◌≤◌, ◌⊎◌, Bool, false, if◌then◌else◌, min, nat_lt, not, true, ℕ}
+use Rattle.std.specs.Prelude.{◌%◌, ◌*◌, ◌+◌, ◌&&◌, ◌-◌, ◌<◌, ◌==◌, ◌||◌, ◌≡◌, ◌≤◌, ◌⊎◌, Bool, false, if◌then◌else◌, min, nat_lt, not, suc, true, zero, ℕ}
 use Rattle.mmc_frame.specs.Field.{field}
 use Rattle.mmc_frame.specs.declared.commands.TheConstants as Index
 use Rattle.mmc_frame.specs.declared.kind.Kind.{Kind}
@@ -119,6 +119,11 @@ less_one (Data.Read size (Counted count)) = fewer count (λ blocks. Data.Read si
 less_one (Data.Read size UntilStopped) = Data.Read size UntilStopped
 less_one (Data.Write (Counted count)) = fewer count (λ blocks. Data.Write blocks)
 less_one (Data.Write UntilStopped) = Data.Write UntilStopped
+
+-- and so many fewer
+abbrev pub less_by : ℕ → Data → Data
+less_by zero transfer = transfer
+less_by (suc done) transfer = less_one (less_by done transfer)
 
 -- a controller moves blocks of whole words of 32 bits, of 512 bytes at most
 abbrev pub AreWords : ℕ → Type 0

@@ -1,5 +1,5 @@
 -- A command with the blocks after it, by one call of a host.
-use Rattle.std.specs.Prelude.{◌+◌, ◌-◌, ◌<◌, ◌^◌, ◌≡◌, ◌≤◌, List, Result, Some, false, if◌then◌else◌, min, nat_lt, suc, true, zero, ℕ}
+use Rattle.std.specs.Prelude.{◌+◌, ◌-◌, ◌<◌, ◌^◌, ◌≡◌, ◌≤◌, List, Result, Some, false, if◌then◌else◌, min, nat_lt, suc, zero, ℕ}
 use Rattle.mmc_frame.specs.Frame.{command_in}
 use Rattle.mmc_card.specs.declared.exchange.Lines.{Lines}
 use Rattle.mmc_card.specs.declared.exchange.DataIn.{DataIn}
@@ -13,7 +13,7 @@ use Rattle.mmc_bus.specs.Together.{ReadOn, WrittenOn}
 use Rattle.mmc_bus.specs.declared.moved.Moved.{Moved}
 use Rattle.mmc_bus.specs.declared.moved.Moved.TheVariants as Move
 use Rattle.mmc_bus.specs.declared.wire.Wire.{Wire}
-use Rattle.mmc_host.specs.HostStates.{AreMovable, IsFree, IsTold, block_passed, lines_of}
+use Rattle.mmc_host.specs.HostStates.{AreMovable, IsFree, IsTold, block_passed, less_by, lines_of}
 use Rattle.mmc_host.specs.Hosts.{HostView, IsSlowEnough, Looks, ReadsBlock, Sends, WritesBlock, answer_heard}
 use Rattle.mmc_host.specs.declared.response.Response.TheVariants as To
 use Rattle.mmc_host.specs.declared.data.Blocks.TheVariants.{Counted, UntilStopped}
@@ -82,8 +82,7 @@ pub record CanWrite (state : HostState) (frame : List ℕ) (command : HostComman
 
 -- after so many good blocks
 abbrev pub passed : ℕ → HostState → HostState
-passed zero state = state
-passed (suc done) state = block_passed (passed done state) true
+passed good state = record state { transfer = less_by good state.transfer }
 
 -- a block that failed ends the data, however many came before it
 abbrev pub passed_on : {T : Type 0} → Moved T → HostState → HostState

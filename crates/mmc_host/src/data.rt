@@ -1,7 +1,7 @@
 // The data behind commands.
 ghost use Rattle.std.specs.Prelude.{◌≡◌, ◌↔◌, IsTrue};
 ghost use Rattle.mmc_host.specs.Together.{AreAhead, AreBehind};
-ghost use Rattle.mmc_host.specs.HostStates.{less_one};
+ghost use Rattle.mmc_host.specs.HostStates.{less_by, less_one};
 ghost use Rattle.mmc_host.specs.Table.{blocks_of, data_of};
 
 use mmc_card::Command;
@@ -93,6 +93,33 @@ impl Data {
                 blocks: Blocks::Counted(_),
             } => Data::Nothing,
             endless => endless,
+        }
+    }
+
+    /// What is left of it after so many blocks.
+    pub fn less_by(self, count: usize) -> Data
+        ensures { result ≡ less_by count self }
+    {
+        if count == 0 {
+            return self;
+        }
+        match self {
+            Data::Nothing => self,
+            Data::Read { length, blocks } => match blocks {
+                Blocks::Counted(all) if count < all as usize => Data::Read {
+                    length,
+                    blocks: Blocks::Counted(all - count as u16),
+                },
+                Blocks::Counted(_) => Data::Nothing,
+                Blocks::UntilStopped => self,
+            },
+            Data::Write { blocks } => match blocks {
+                Blocks::Counted(all) if count < all as usize => Data::Write {
+                    blocks: Blocks::Counted(all - count as u16),
+                },
+                Blocks::Counted(_) => Data::Nothing,
+                Blocks::UntilStopped => self,
+            },
         }
     }
 }

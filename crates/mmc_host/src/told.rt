@@ -279,13 +279,10 @@ impl HostState {
     {
         match moved {
             Moved::Failed(_) => self.block_passed(false),
-            Moved::Good(good) => {
-                let mut state = self;
-                for _done in 0..good {
-                    state = state.block_passed(true);
-                }
-                state
-            }
+            Moved::Good(good) => HostState {
+                transfer: self.transfer.less_by(good),
+                ..self
+            },
         }
     }
 }

@@ -15,7 +15,7 @@ use Rattle.mmc_bus.specs.Together.{AreAccepted, AreGood, ReadOn, RestsBehind, Wr
 use Rattle.mmc_bus.specs.Together.{none_accepted, none_good, reads, reads_none, writes, writes_none}
 use Rattle.mmc_bus.specs.declared.moved.Moved.{Moved}
 use Rattle.mmc_bus.specs.declared.moved.Moved.TheVariants as Move
-use Rattle.mmc_host.proofs.TogetherLemmas.{ended, is_other_in, is_other_out}
+use Rattle.mmc_host.proofs.TogetherLemmas.{is_other_in, is_other_out}
 use Rattle.mmc_host.specs.HostStates.{block_passed, is_accepted, is_good, sent}
 use Rattle.mmc_host.specs.Hosts.{Answers, HostView, Steps, Where, WritesBlock, answer_heard, bus_of}
 use Rattle.mmc_host.specs.Together.{HostRead, HostRested, ReadsWith, WritesWith, passed, passed_on}
@@ -71,10 +71,6 @@ one_read : (old new : BusView) (state next : HostState) (got : DataIn) (left : L
     → HostRead (host_at old state) got left (host_at new next)
 one_read old new state next got left lines is_next is read =
     stepped (λ a b. ReadStep a 512 got left b) old new state next (block_passed state (is_good got)) lines is_next is read
-
-ios_passed : (k : ℕ) (state : HostState) → (passed k state).ios ≡ state.ios
-ios_passed zero state = refl
-ios_passed (suc k) state = ios_passed k state
 
 -- these are the first so many blocks that came
 abbrev AreRead : List (List ℕ) → BusView → ℕ → BusView → Type 0
@@ -195,8 +191,8 @@ module _ (behind : BusView) (state : HostState) (is : IsBusIn state behind) wher
           let count = so_far.count in
           reads_none some (host_at at (passed some state)) so_far.now now got left (host_at next (block_passed state false))
           so_far.good (omega (arith, below, held_count, full, count)) long not
-          (one_read at next (passed some state) (block_passed state false) got left (sym (ios_passed some state))
-          (sym (ap (block_passed (passed some state)) (is_other_in got not) ∙ ended some state)) so_far.bus read)
+          (one_read at next (passed some state) (block_passed state false) got left refl
+          (sym (ap (block_passed (passed some state)) (is_other_in got not))) so_far.bus read)
           (read_lent first was one _ driver now drove)
 
 -- Where the story isn't true nothing has to be shown.
@@ -284,8 +280,8 @@ module _ (blocks : List (List ℕ)) (behind : BusView) (state : HostState) (is :
       let rest = rested some at ready rests so_far.1 in
       writes_none some (host_at at (passed some state)) (host_at ready (passed some state)) got
       (host_at next (block_passed state false)) so_far.0 rest.0 below not
-      (one_written ready next (passed some state) (block_passed state false) got _ (sym (ios_passed some state))
-      (sym (ap (block_passed (passed some state)) (is_other_out got not) ∙ ended some state)) rest.1 written)
+      (one_written ready next (passed some state) (block_passed state false) got _ refl
+      (sym (ap (block_passed (passed some state)) (is_other_out got not))) rest.1 written)
 
 -- The whole call.
 

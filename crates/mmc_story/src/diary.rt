@@ -1,5 +1,5 @@
 // What a host did. It exists only in proofs: a diary has no bytes, and its functions do nothing at run time.
-ghost use Rattle.std.specs.Prelude.{◌≡◌, ◌∷◌, ◌++◌, [], List, ℕ};
+ghost use Rattle.std.specs.Prelude.{◌≡◌, ◌∷◌, [], List, ℕ};
 ghost use Rattle.std.specs.Borrow.{ftrue};
 ghost use Rattle.mmc_story.specs.Entry.{Entry};
 
@@ -32,27 +32,9 @@ impl Model for Seen {
 
 impl Seen {
     /// These blocks.
-    pub fn of<D: Blocks>(blocks: &D) -> Seen
-        ensures { result.blocks ≡ D.blocks blocks.now }
-    {
-        let mut seen = Seen::nothing();
-        for done in 0..blocks.len() {
-            seen = seen.and(blocks.block(done));
-        }
-        seen
-    }
-
-    // No block.
-    fn nothing() -> Seen
-        ensures { result.blocks ≡ [] }
-    {
-        Seen {}
-    }
-
-    // One block more.
     #[inline(always)]
-    fn and(&self, _block: &[u8; 512]) -> Seen
-        ensures { result.blocks ≡ self.now.blocks ++ (_block.now ∷ []) }
+    pub fn of<D: Blocks>(_blocks: &D) -> Seen
+        ensures { result.blocks ≡ D.blocks _blocks.now }
     {
         Seen {}
     }

@@ -12,11 +12,11 @@ use Rattle.mmc_block.specs.Service.Service.{Idle, Serving}
 use Rattle.mmc_block.specs.declared.service.Stage.{Stage}
 use Rattle.mmc_block.proofs.AnyLemmas.{Leaves, answers_none, answers_of, cause_served, concluded_leaves}
 use Rattle.mmc_block.proofs.AnyLemmas.{counted_answers}
-use Rattle.mmc_block.proofs.AnyLemmas.{left_length, no_work, none_waits, nothing_left, started_most}
+use Rattle.mmc_block.proofs.AnyLemmas.{left_length, no_work, none_waits, started_most}
 use Rattle.mmc_block.proofs.ComesLemmas.{turn_idle, turn_serves}
 use Rattle.mmc_block.proofs.EntryLemmas.{lent_are_all, lent_tries, lent_waits, servable_parts}
 use Rattle.mmc_block.proofs.ServiceLemmas.{concluded_ok, lent_ok, lent_served, started_ok}
-use Rattle.mmc_block.proofs.WorkLemmas.{turn_paid, turn_work}
+use Rattle.mmc_block.proofs.WorkLemmas.{turn_work}
 use Rattle.mmc_block.proofs.device.BlockDev.turn_at.Given.{Over}
 use Rattle.mmc_block.proofs.device.BlockDev.turn_at.Goals as goal
 use Rattle.mmc_block.proofs.device.BlockDev.turn_at.Goals.{After-conclude}
@@ -138,10 +138,10 @@ returns-in-Idle g c =
       kept = λ kept. kept;
       answers = answers_none c.self.inside.queue c.start.new.queue (service_of c.self.inside.phase c.self.inside.attempt) c.in-Idle.field-0 c.args.answers.now.items s c.requires;
       leaves = search rules;
-      lowers = λ some. absurd (omega (arith, none, some));
+      lowers = λ some. absurd (let before = none.0 in omega (arith, before, some));
       same = (refl, refl);
       idle = search rules;
-      paid = (let left = nothing_left c.self.inside.queue c.start.new.queue (service_of c.self.inside.phase c.self.inside.attempt) c.in-Idle.field-0 s in omega (arith, left));
+      paid = (let left = none.1 in omega (arith, left));
       by_stage = omega arith;
       cause = search rules;
     }
@@ -160,6 +160,9 @@ returns-in-Serving g c =
     let given = answers_of c.self.inside.queue c.start.new.queue (service_of c.self.inside.phase c.self.inside.attempt) (Serving c.in-Serving.field-0 attempt) (service_of c.conclude.new.phase c.conclude.new.attempt)
     c.conclude.new.answers.items c.self.inside.next (begun g c) (leaves g c) serves.3.in_order in
     let made = (stepped g c).advances.bounded in
+    let less = turn_work c.self.inside.queue c.start.new.queue (service_of c.self.inside.phase c.self.inside.attempt) (service_of c.conclude.new.phase c.conclude.new.attempt) c.in-Serving.field-0 attempt (after g c)
+    (outcome g c) c.conclude.new.answers.items (begun g c) (stepped g c).advances.lent (stepped g c).advances.extent refl refl
+    (c.conclude.ensures.concludes c.in-Serving.field-0) in
     let started = started_most c.args.pace c.self.inside.queue c.start.new.queue (service_of c.self.inside.phase c.self.inside.attempt) c.in-Serving.field-0 attempt (begun g c) in
     rw (← c.self.view_is) record {
       machine = λ kept. turn_serves g.B.Bus.view c.self.inside.bus c.step.new.bus c.self.inside.info (service_of c.self.inside.phase c.self.inside.attempt) (service_of c.conclude.new.phase c.conclude.new.attempt)
@@ -174,17 +177,11 @@ returns-in-Serving g c =
       answers = given;
       leaves = counted_answers (waits_of c.self.inside.queue) (in_service_of (service_of c.self.inside.phase c.self.inside.attempt))
           c.conclude.new.answers.items (waits_of c.start.new.queue) (in_service_of (service_of c.conclude.new.phase c.conclude.new.attempt)) given;
-      lowers = λ some. turn_work c.self.inside.queue c.start.new.queue (service_of c.self.inside.phase c.self.inside.attempt) (service_of c.conclude.new.phase c.conclude.new.attempt) c.in-Serving.field-0 attempt (after g c)
-          (outcome g c) c.conclude.new.answers.items (begun g c)
-          (stepped g c).advances.lent (stepped g c).advances.extent refl refl
-          (stepped g c).advances.lowers (c.conclude.ensures.concludes c.in-Serving.field-0);
+      lowers = λ some. (let lowers = (stepped g c).advances.lowers in omega (arith, less, lowers));
       same = (refl, refl);
       idle = λ none. absurd (none_waits c.self.inside.queue c.start.new.queue (service_of c.self.inside.phase c.self.inside.attempt) c.in-Serving.field-0 attempt
           (begun g c) attempt_ok.joined.some none);
-      paid = turn_paid c.self.inside.queue c.start.new.queue (service_of c.self.inside.phase c.self.inside.attempt) (service_of c.conclude.new.phase c.conclude.new.attempt) c.in-Serving.field-0 attempt (after g c)
-          (outcome g c) c.conclude.new.answers.items (g.B.Bus.view c.self.inside.bus) (g.B.Bus.view c.step.new.bus) (begun g c)
-          (stepped g c).advances.lent (stepped g c).advances.extent refl refl
-          (stepped g c).advances.lowers (stepped g c).advances.paid (c.conclude.ensures.concludes c.in-Serving.field-0);
+      paid = (let paid = (stepped g c).advances.paid in omega (arith, less, paid));
       by_stage = omega (arith, made, started);
       cause = cause_served c.self.inside.queue c.start.new.queue (service_of c.self.inside.phase c.self.inside.attempt) (service_of c.conclude.new.phase c.conclude.new.attempt) c.in-Serving.field-0 attempt (after g c)
           (outcome g c) c.conclude.new.answers.items (g.B.Bus.view c.step.new.bus)
