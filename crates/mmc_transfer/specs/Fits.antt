@@ -15,7 +15,7 @@ abbrev pub first_of : ℕ → Bool → Step
 first_of count cmd23 = if nat_lt 1 count && cmd23 then Preset else Command
 
 -- The phases of a run of so many blocks, with CMD23 or not: a count is preset where there are several blocks, no more
--- blocks than these are moved, and a card is polled so often; a pause is behind a block, behind the last one only where the
+-- blocks than these are moved, and a card is polled so often; a pause comes after a block, after the last one only where the
 -- card doesn't know that it was the last.
 abbrev pub step_fits : ℕ → Bool → Step → Bool
 step_fits count cmd23 Preset = cmd23 && nat_lt 1 count

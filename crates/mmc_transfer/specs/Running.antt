@@ -75,7 +75,7 @@ pub record IsTaking (done : ℕ) (job : Job) (blocks : List Sector) (card : Card
   pub values : card.values ≡ take done blocks
   pub left : card.left ≡ left_of job done
 
--- A card that ends a read: in tran it may be busy behind CMD12, and then it rests.
+-- A card that ends a read: in tran it may be busy after CMD12, and then it rests.
 abbrev pub HasStopped : Ending → Card → Type 0
 HasStopped (Wait polls) card =
     IsQuiet Tran 0 card × (card.is_busy ≡ true → IsBusyAfter polls card) × (card.lags ≡ false)

@@ -45,7 +45,7 @@ impl Job {
     }
 
     // Whether a card may say OUT_OF_RANGE at its end, and mean no error: it reads, and its last block is the last sector of the
-    // partition, behind which the card looks for one more (SD Physical Layer 6.00, section 4.3.3; JESD84-B51, section 6.6.7).
+    // partition, after which the card looks for one more (SD Physical Layer 6.00, section 4.3.3; JESD84-B51, section 6.6.7).
     pub(crate) fn may_run_out(&self) -> bool
         ensures { result ≡ may_run_out self.now.way (self.now.start + self.now.count == room_of self.now.session) }
     {
