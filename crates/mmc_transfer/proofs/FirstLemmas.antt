@@ -26,9 +26,8 @@ use Rattle.mmc_switch.specs.declared.session.Session.{Session}
 use Rattle.mmc_transfer.proofs.BeginLemmas.{Starts, begin_goes_on, can_start}
 use Rattle.mmc_transfer.proofs.TakeLemmas.{Received, take_ends, take_fails}
 use Rattle.mmc_transfer.proofs.WholeLemmas.{same_change}
-use Rattle.mmc_transfer.specs.Address.{is_counted_by}
 use Rattle.mmc_transfer.specs.First.{judged}
-use Rattle.mmc_transfer.specs.Fits.{phase_left}
+use Rattle.mmc_transfer.specs.Fits.{is_counted_by, phase_left}
 use Rattle.mmc_switch.specs.Turns.{left_after}
 use Rattle.mmc_transfer.specs.Moves.{after_read}
 use Rattle.mmc_transfer.specs.Running.{Exact, IsIn, Shown, Turned, change_of, is_counted}

@@ -39,8 +39,7 @@ use Rattle.mmc_transfer.proofs.FirstLemmas.{turn_none, turn_then}
 use Rattle.mmc_transfer.proofs.GiveLemmas.{Offered, give_ends, give_fails}
 use Rattle.mmc_transfer.proofs.PauseLemmas.{pause_ends}
 use Rattle.mmc_transfer.specs.Moves.{after_written, after_write_command}
-use Rattle.mmc_transfer.specs.Address.{is_counted_by}
-use Rattle.mmc_transfer.specs.Fits.{end_of, phase_fits, phase_left}
+use Rattle.mmc_transfer.specs.Fits.{end_of, is_counted_by, phase_fits, phase_left}
 use Rattle.mmc_switch.specs.declared.ending.TheConstants.{EXCHANGES_OF_AN_ENDING}
 use Rattle.mmc_switch.specs.declared.ending.Ending.TheVariants.{Wait}
 use Rattle.mmc_transfer.specs.declared.phase.Step.TheVariants.{End}

@@ -54,7 +54,7 @@ judged (Ok done) (Move.Good good) = Ok good
 judged (Err cause) (Move.Good zero) = Err cause
 judged (Err cause) (Move.Good (suc good)) = Err Why.Data
 
--- Each exchange brings a run nearer to its end.
+-- The exchanges that are made, and those that are left of the run then, come to no more than were left before.
 abbrev pub CostsAtMost : Job → Phase → BusView → Result (Option Phase) Cause → BusView → Type 0
 CostsAtMost job phase old (Ok next) new =
     new.exchanges + left_after (phase_left job.count job.session.info.cmd23) next
@@ -62,6 +62,7 @@ CostsAtMost job phase old (Ok next) new =
 CostsAtMost job phase old (Err cause) new =
     new.exchanges ≤ old.exchanges + phase_left job.count job.session.info.cmd23 phase
 
+-- the same of a turn
 abbrev pub Nears : Run → BusView → Progress Run → BusView → Type 0
 Nears run old (More next) new = new.exchanges + exchanges_left next ≤ old.exchanges + exchanges_left run
 Nears run old _ new = new.exchanges ≤ old.exchanges + exchanges_left run

@@ -1,14 +1,17 @@
 -- How a run goes over any bus: which phases there are, and how many exchanges are left.
-use Rattle.std.specs.Prelude.{◌&&◌, ◌*◌, ◌+◌, ◌-◌, Bool, if◌then◌else◌, nat_lt, true, ℕ}
+use Rattle.std.specs.Prelude.{◌&&◌, ◌*◌, ◌+◌, ◌-◌, ◌==◌, ◌||◌, Bool, if◌then◌else◌, nat_lt, true, ℕ}
 use Rattle.mmc_bus.specs.declared.wait.TheConstants.{MAX_POLLS}
 use Rattle.mmc_switch.specs.Ending.{ending_fits, ending_left}
 use Rattle.mmc_switch.specs.declared.ending.TheConstants.{EXCHANGES_OF_AN_ENDING}
-use Rattle.mmc_transfer.specs.Address.{is_counted_by}
 use Rattle.mmc_transfer.specs.declared.phase.Phase.{Phase}
 use Rattle.mmc_transfer.specs.declared.phase.Phase.TheVariants.{Block, Other}
 use Rattle.mmc_transfer.specs.declared.phase.Step.{Step}
 use Rattle.mmc_transfer.specs.declared.phase.Step.TheVariants.{Command, End, Pause, Preset, Stop}
 use Rattle.mmc_transfer.specs.declared.turns.TheConstants.{EXCHANGES_OF_A_BLOCK}
+
+-- The card knows how many blocks there are: one, or by CMD23.
+abbrev pub is_counted_by : ℕ → Bool → Bool
+is_counted_by count cmd23 = (count == 1) || cmd23
 
 -- A run begins with CMD23, where the card knows it and there are several blocks.
 abbrev pub first_of : ℕ → Bool → Step

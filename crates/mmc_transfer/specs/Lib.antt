@@ -1,4 +1,3 @@
-pub mod Address
 pub mod Commands
 pub mod First
 pub mod Fits

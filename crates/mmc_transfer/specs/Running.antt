@@ -14,7 +14,7 @@ use Rattle.mmc_switch.specs.UnderWay.{IsBusyAfter, IsCarriedOut, IsIdle, IsQuiet
 use Rattle.mmc_switch.specs.declared.ending.Ending.{Ending}
 use Rattle.mmc_switch.specs.declared.ending.Ending.TheVariants.{Confirm, Wait}
 use Rattle.mmc_switch.specs.declared.session.Session.{Session}
-use Rattle.mmc_transfer.specs.Address.{is_counted_by}
+use Rattle.mmc_transfer.specs.Fits.{is_counted_by}
 use Rattle.mmc_transfer.specs.declared.job.Job.{Job}
 use Rattle.mmc_transfer.specs.declared.phase.Phase.{Phase}
 use Rattle.mmc_transfer.specs.declared.phase.Phase.TheVariants.{Block, Other}

@@ -4,9 +4,8 @@ ghost use Rattle.mmc_switch.specs.Address.{address_of};
 ghost use Rattle.mmc_switch.specs.UnderWay.{room_of};
 ghost use Rattle.mmc_transfer.specs.declared.way.Way.TheVariants.{Write};
 ghost use Rattle.mmc_transfer.specs.declared.job.TheConstants.{MAX_BLOCKS};
-ghost use Rattle.mmc_transfer.specs.Address.{is_counted_by};
 ghost use Rattle.mmc_transfer.specs.Commands.{may_run_out};
-ghost use Rattle.mmc_transfer.specs.Fits.{first_of};
+ghost use Rattle.mmc_transfer.specs.Fits.{first_of, is_counted_by};
 
 use crate::phase::Step;
 use crate::way::Way;
