@@ -1,4 +1,4 @@
--- Attempts one behind the other, over any bus.
+-- Attempts one after the other, over any bus.
 use Rattle.std.proofs.Common.{◌*◌, ◌+◌, ◌∙◌, ◌≡◌, ◌≤◌, [], arith, subst, true, ℕ}
 use Rattle.std.specs.Prelude.{Err, IfErr, Ok, Result}
 use Rattle.mmc_card.specs.BusView.{BusView}

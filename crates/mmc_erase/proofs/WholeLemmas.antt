@@ -38,7 +38,7 @@ along_first begun session first given begins = record {
       (begins first (subst (λ s. IsReady s first) given ready));
 }
 
--- a turn behind what the run has led to, in terms of the run as it began
+-- a turn after what the run has led to, in terms of the run as it began
 then_turned : (begun run : EraseRun) (first now new : BusView) (result : Progress EraseRun) → run.job ≡ begun.job
     → IsSoFar (change_of begun.job) (IsRunning run) first now
     → ((faults : ℕ) → IsRunning run faults now → HasTurned run faults now result new)

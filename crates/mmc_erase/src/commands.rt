@@ -58,7 +58,7 @@ pub fn hold_first<B: Bus>(bus: &mut B, kind: Kind, address: u32) -> Result<(), C
     check_r1(kind, ask(bus, first_command(kind), address))
 }
 
-/// Names the last sector by its address (CMD33, CMD36), behind the first one.
+/// Names the last sector by its address (CMD33, CMD36), after the first one.
 ///
 /// # Errors
 /// `Answer` where no sound response was heard, `Status` where it shows an error.

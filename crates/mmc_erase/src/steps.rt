@@ -1,4 +1,4 @@
-// The exchanges of a run, and what comes behind each.
+// The exchanges of a run, and what comes after each.
 //
 // 1. CMD32 or CMD35 names the first sector, CMD33 or CMD36 the last one, and CMD38 erases or trims them.
 // 2. The run ends with polls and a clean status.
@@ -16,7 +16,7 @@ use crate::phase::Phase;
 use mmc_bus::{Bus, Cause, card_laws};
 use mmc_switch::Ending;
 
-/// The exchange of this phase, and the phase behind it, or `None` where the run is done.
+/// The exchange of this phase, and the phase after it, or `None` where the run is done.
 ///
 /// # Errors
 /// The cause of the exchange: `Answer`, `Status` or `Busy`.

@@ -16,7 +16,7 @@ use Rattle.mmc_switch.proofs.UnderWayLemmas.{no_error, part_in, quiet_by, room_i
 use Rattle.mmc_switch.proofs.AddressLemmas.{address_aligned, sector_named}
 use Rattle.mmc_switch.specs.UnderWay.{room_of}
 use Rattle.mmc_transfer.proofs.StepLemmas.{from_both, fails, goes_there}
-use Rattle.mmc_transfer.specs.Address.{is_counted_by}
+use Rattle.mmc_transfer.specs.Fits.{is_counted_by}
 use Rattle.mmc_switch.specs.Address.{address_of}
 use Rattle.mmc_transfer.specs.Commands.{CanStart, is_write, starts}
 use Rattle.mmc_transfer.specs.Running.{Exact, GoesOnAt, IsIn, IsSending, IsTaking, Turned, by_way, preset_of}

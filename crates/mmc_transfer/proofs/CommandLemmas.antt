@@ -8,7 +8,6 @@ use Rattle.mmc_frame.specs.declared.card_state.State.TheVariants.{Tran}
 use Rattle.mmc_frame.specs.declared.kind.Kind.{Kind}
 use Rattle.mmc_card.specs.BusView.{BusView}
 use Rattle.mmc_card.specs.Card.{Card, Held, IsCard, NoAddress}
-use Rattle.mmc_card.specs.CardAnswer.{status}
 use Rattle.mmc_card.specs.CardLaws.{HasNoError}
 use Rattle.mmc_card.specs.ErrorBits.{out_of_range}
 use Rattle.mmc_card.specs.Faults.{NoFault}
@@ -121,7 +120,7 @@ EndLaw =
     (kind : Kind) (told : ℕ) (card : Card) → IsCard card → Shows card told → HasNoError kind (record card { errors = 0 })
     → card.errors ≡ out_of_range → error_bits kind told ≡ 2 ^ 31
 
--- where OUT_OF_RANGE is an error too, no error is held behind a status that is judged good
+-- where OUT_OF_RANGE is an error too, no error is held after a status that is judged good
 pub shows_nothing : (kind : Kind) (at_end : Bool) (card : Card) (told : ℕ) → ErrorsLaw → IsCard card
     → Shows card told → at_end ≡ false
     → (error_bits kind told ≡ 0) ⊎ ((at_end ≡ true) × (error_bits kind told ≡ 2 ^ 31)) → card.errors ≡ 0

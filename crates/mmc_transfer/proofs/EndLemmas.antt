@@ -1,4 +1,4 @@
--- CMD12 behind the last block of a run.
+-- CMD12 after the last block of a run.
 use Rattle.std.proofs.Common.{◌+◌, ◌∙◌, ◌≡◌, ◌⊎◌, Bool, List, ap, false, inl, inr, length, refl, subst, sym, true, ℕ}
 use Rattle.std.specs.Prelude.{◌==◌, IsErr, Ok, Option, Result, Some, if◌then◌else◌}
 use Rattle.std.proofs.lemmas.Bool.{eq-eqb}
@@ -120,7 +120,7 @@ module _ (job : Job) (blocks : List Sector) (all : length blocks ≡ job.count) 
       fails job blocks (Other Stop) faults a b at work result err
       (λ exact same. cc (work.fine same (can_stop exact)))
 
-  -- a card that ended a transfer was selected, and behind a write it held no error
+  -- a card that ended a transfer was selected, and after a write it held no error
   is_there : IsMoving a.card → (at_end ≡ false → a.card.errors ≡ 0) → IsThere job.way a.card
   is_there moving none =
       each_way job.way (λ reads unit. moving_is_selected a.card moving)

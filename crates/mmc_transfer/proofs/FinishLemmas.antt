@@ -1,4 +1,4 @@
--- What ends a run: polls behind what ended the transfer, and CMD13.
+-- What ends a run: polls after what ended the transfer, and CMD13.
 use Rattle.std.proofs.Common.{◌+◌, ◌≡◌, List, [], arith, false, length, refl, subst, sym, ℕ}
 use Rattle.std.specs.Prelude.{Err, IsErr, IsSomeAnd, MatchOption, None, Ok, Option, Result, Some, slice_index_or}
 use Rattle.mmc_frame.specs.declared.card_state.State.TheVariants.{Tran}

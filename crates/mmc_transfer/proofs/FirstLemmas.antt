@@ -26,9 +26,8 @@ use Rattle.mmc_switch.specs.declared.session.Session.{Session}
 use Rattle.mmc_transfer.proofs.BeginLemmas.{Starts, begin_goes_on, can_start}
 use Rattle.mmc_transfer.proofs.TakeLemmas.{Received, take_ends, take_fails}
 use Rattle.mmc_transfer.proofs.WholeLemmas.{same_change}
-use Rattle.mmc_transfer.specs.Address.{is_counted_by}
 use Rattle.mmc_transfer.specs.First.{judged}
-use Rattle.mmc_transfer.specs.Fits.{phase_left}
+use Rattle.mmc_transfer.specs.Fits.{is_counted_by, phase_left}
 use Rattle.mmc_switch.specs.Turns.{left_after}
 use Rattle.mmc_transfer.specs.Moves.{after_read}
 use Rattle.mmc_transfer.specs.Running.{Exact, IsIn, Shown, Turned, change_of, is_counted}
@@ -38,7 +37,7 @@ use Rattle.mmc_transfer.specs.declared.phase.Phase.TheVariants.{Block, Other}
 use Rattle.mmc_transfer.specs.declared.phase.Step.TheVariants.{Command, Stop}
 use Rattle.mmc_transfer.specs.declared.way.Way.TheVariants.{Read}
 
--- Turns one behind the other.
+-- Turns one after the other.
 
 pub turn_none : (change : Change) (Left : ℕ → BusView → Type 0) (faults : ℕ) (a : BusView) → Left faults a
     → Turn change Left faults a a
@@ -110,7 +109,7 @@ judged_few (Err cause) (Move.Good zero) most n few is = cc
 judged_few (Err cause) (Move.Good (suc good)) most n few is = cc
 judged_few started (Move.Failed got) most n few is = cc
 
--- what is left behind so many blocks
+-- what is left after so many blocks
 left_moved : (count : ℕ) (cmd23 : Bool) (good : ℕ) (next known : Bool) → is_counted_by count cmd23 ≡ known
     → good ≤ count → 1 ≤ count
     → 1 + good + left_after (phase_left count cmd23) (if next then Some (Block good) else if known then None else Some (Other Stop))
@@ -119,10 +118,10 @@ left_moved count cmd23 good true known is few some = omega (arith, few)
 left_moved count cmd23 good false true is few some = omega (arith, few, some)
 left_moved count cmd23 good false false is few some = rw is (omega (arith, few, some))
 
-pub left_behind : (job : Job) (good : ℕ) → good ≤ job.count
+pub after_read_left : (job : Job) (good : ℕ) → good ≤ job.count
     → 1 + good + left_after (phase_left job.count job.session.info.cmd23) (after_read job good)
     ≤ phase_left job.count job.session.info.cmd23 (Other Command)
-left_behind job good few =
+after_read_left job good few =
     left_moved job.count job.session.info.cmd23 good (nat_lt good job.count) (is_counted job) refl few job.some
 
 pub some_left : (job : Job) → job.count + 1 ≤ phase_left job.count job.session.info.cmd23 (Other Command)
@@ -135,77 +134,77 @@ next_is job done more =
 module _ {S : Type 0} (blocks : S → List (List ℕ)) (leave : S → ℕ → List ℕ → S)
     (one : (s : S) (i : ℕ) (left : List ℕ) → i < length (blocks s) → length left ≡ 512
     → blocks (leave s i left) ≡ slice_set (blocks s) i left)
-    (job : Job) (way : job.way ≡ Read) (was : S) (full : length (blocks was) ≡ job.count) (behind : BusView) where
+    (job : Job) (way : job.way ≡ Read) (was : S) (full : length (blocks was) ≡ job.count) (between : BusView) where
   -- Any bus: a block is one exchange, and the last one where there was any.
-  pub counted : (k : ℕ) (view : BusView) (now : S) → AreGood BlockReceived blocks leave behind was k view now
-      → view.exchanges ≤ behind.exchanges + k
+  pub counted : (k : ℕ) (view : BusView) (now : S) → AreGood BlockReceived blocks leave between was k view now
+      → view.exchanges ≤ between.exchanges + k
   counted k view now none_good = omega arith
   counted k view now (good_one done from held left next before below long read) =
       let n = counted done from held before in
       let one_more = read.exchanges in
       omega (arith, n, one_more)
 
-  pub kept_behind : (k : ℕ) (view : BusView) (now : S) → AreGood BlockReceived blocks leave behind was k view now
-      → view.is_kept ≡ true → behind.is_kept ≡ true
-  kept_behind k view now none_good kept = kept
-  kept_behind k view now (good_one done from held left next before below long read) kept =
-      kept_behind done from held before (read.kept kept).was_kept
+  pub kept_between : (k : ℕ) (view : BusView) (now : S) → AreGood BlockReceived blocks leave between was k view now
+      → view.is_kept ≡ true → between.is_kept ≡ true
+  kept_between k view now none_good kept = kept
+  kept_between k view now (good_one done from held left next before below long read) kept =
+      kept_between done from held before (read.kept kept).was_kept
 
-  pub caused_by : (k : ℕ) (view : BusView) (now : S) → AreGood BlockReceived blocks leave behind was k view now
+  pub caused_by : (k : ℕ) (view : BusView) (now : S) → AreGood BlockReceived blocks leave between was k view now
       → 0 < k → cause_of view.last ≡ Some Why.Data
   caused_by k view now none_good some = absurd (omega (arith, some))
   caused_by k view now (good_one done from held left next before below long read) some = ap cause_of read.last
 
   -- none at all
-  pub none_moved : (k : ℕ) (view : BusView) (now : S) → AreGood BlockReceived blocks leave behind was k view now
-      → k ≡ 0 → (view ≡ behind) × (now ≡ was)
+  pub none_moved : (k : ℕ) (view : BusView) (now : S) → AreGood BlockReceived blocks leave between was k view now
+      → k ≡ 0 → (view ≡ between) × (now ≡ was)
   none_moved k view now none_good none = (refl, refl)
   none_moved k view now (good_one done from held left next before below long read) none = cc
 
-  count_in : (k : ℕ) (view : BusView) (now : S) → AreGood BlockReceived blocks leave behind was k view now
+  count_in : (k : ℕ) (view : BusView) (now : S) → AreGood BlockReceived blocks leave between was k view now
       → length (blocks now) ≡ job.count
-  count_in k view now all = good_count behind was one k view now all ∙ full
+  count_in k view now all = good_count between was one k view now all ∙ full
 
   -- The blocks that came are those that the sectors hold.
-  pub blocks_turned : (k : ℕ) (view : BusView) (now : S) → AreGood BlockReceived blocks leave behind was k view now
-      → view.is_kept ≡ true → (faults : ℕ) → IsIn job (blocks was) (Block 0) faults behind
-      → Turned job (blocks now) faults behind (Ok (after_read job k)) view
+  pub blocks_turned : (k : ℕ) (view : BusView) (now : S) → AreGood BlockReceived blocks leave between was k view now
+      → view.is_kept ≡ true → (faults : ℕ) → IsIn job (blocks was) (Block 0) faults between
+      → Turned job (blocks now) faults between (Ok (after_read job k)) view
   blocks_turned k view now none_good kept faults at =
       let some = job.some in
       let first = next_is job 0 (omega (arith, some)) in
-      rw first (turn_none (change_of job (blocks was)) (λ n v. IsIn job (blocks was) (Block 0) n v) faults behind at)
+      rw first (turn_none (change_of job (blocks was)) (λ n v. IsIn job (blocks was) (Block 0) n v) faults between at)
   blocks_turned k view now (good_one done from held left next before below long read) kept faults at =
       let count = count_in done from held before in
       let more : done < job.count = omega (arith, below, count) in
       let so_far = blocks_turned done from held before (read.kept kept).was_kept faults at in
-      let is_in : Turn (change_of job (blocks held)) (λ n v. IsIn job (blocks held) (Block done) n v) faults behind from =
+      let is_in : Turn (change_of job (blocks held)) (λ n v. IsIn job (blocks held) (Block done) n v) faults between from =
       rw (next_is job done more) at so_far in
       let same = same_change job (blocks held) (blocks (leave held done left)) way in
       turn_then (change_of job (blocks (leave held done left))) (λ n v. IsIn job (blocks held) (Block done) n v) _ faults
-      behind from next
-      (subst (λ change. Turn change (λ n v. IsIn job (blocks held) (Block done) n v) faults behind from) same is_in)
+      between from next
+      (subst (λ change. Turn change (λ n v. IsIn job (blocks held) (Block done) n v) faults between from) same is_in)
       (λ n here. take_ends job (blocks held) (blocks (leave held done left)) done n left way more count long
       (one held done left) from next here 512 (good_received from next left read kept) (after_read job (suc done))
       (ap (after_read job) (sym (add-one done))))
 
   pub blocks_lost : (k : ℕ) (view : BusView) (now : S) (news : List Sector)
-      → AreGood BlockReceived blocks leave behind was k view now
-      → view.is_kept ≡ true → (faults : ℕ) → IsLost job.session faults behind
-      → Turn (change_of job news) (λ n v. IsLost job.session n v) faults behind view
+      → AreGood BlockReceived blocks leave between was k view now
+      → view.is_kept ≡ true → (faults : ℕ) → IsLost job.session faults between
+      → Turn (change_of job news) (λ n v. IsLost job.session n v) faults between view
   blocks_lost k view now news none_good kept faults lost =
-      turn_none (change_of job news) (λ n v. IsLost job.session n v) faults behind lost
+      turn_none (change_of job news) (λ n v. IsLost job.session n v) faults between lost
   blocks_lost k view now news (good_one done from held left next before below long read) kept faults lost =
-      turn_then (change_of job news) (λ n v. IsLost job.session n v) _ faults behind from next
+      turn_then (change_of job news) (λ n v. IsLost job.session n v) _ faults between from next
       (blocks_lost done from held news before (read.kept kept).was_kept faults lost)
       (λ n here. lost_on job from next n news (good_received from next left read kept) here)
 
   -- Over any bus.
 
   pub first_costs : (moved : Moved DataIn) (new : BusView) (now : S)
-      → ReadOn BlockReceived blocks leave behind was moved new now → new.exchanges ≤ behind.exchanges + job.count
+      → ReadOn BlockReceived blocks leave between was moved new now → new.exchanges ≤ between.exchanges + job.count
   first_costs moved new now (reads good next held all) =
       let n = counted good next held all in
-      let few = good_few behind was one good next held all in
+      let few = good_few between was one good next held all in
       omega (arith, n, few, full)
   first_costs moved new now (reads_none some view held last got left next all below long not read lent) =
       let n = counted some view held all in
@@ -214,8 +213,8 @@ module _ {S : Type 0} (blocks : S → List (List ℕ)) (leave : S → ℕ → Li
       omega (arith, n, more, below, count)
 
   pub all_cost : (started : Result Unit Cause) (moved : Moved DataIn) (new : BusView) (now : S)
-      → ReadOn BlockReceived blocks leave behind was moved new now → (n : ℕ) → judged started moved ≡ Ok n
-      → new.exchanges ≤ behind.exchanges + n
+      → ReadOn BlockReceived blocks leave between was moved new now → (n : ℕ) → judged started moved ≡ Ok n
+      → new.exchanges ≤ between.exchanges + n
   all_cost (Ok done) moved new now (reads good next held all) n is =
       let cost = counted good next held all in let same : good ≡ n = cc in omega (arith, cost, same)
   all_cost (Err why) moved new now (reads zero next held all) n is = cc
@@ -223,14 +222,14 @@ module _ {S : Type 0} (blocks : S → List (List ℕ)) (leave : S → ℕ → Li
   all_cost started moved new now (reads_none some view held last got left next all below long not read lent) n is = cc
 
   pub first_kept : (moved : Moved DataIn) (new : BusView) (now : S)
-      → ReadOn BlockReceived blocks leave behind was moved new now → new.is_kept ≡ true → behind.is_kept ≡ true
-  first_kept moved new now (reads good next held all) kept = kept_behind good next held all kept
+      → ReadOn BlockReceived blocks leave between was moved new now → new.is_kept ≡ true → between.is_kept ≡ true
+  first_kept moved new now (reads good next held all) kept = kept_between good next held all kept
   first_kept moved new now (reads_none some view held last got left next all below long not read lent) kept =
-      kept_behind some view held all (read.kept kept).was_kept
+      kept_between some view held all (read.kept kept).was_kept
 
   pub first_caused : (started : Result Unit Cause) (moved : Moved DataIn) (new : BusView) (now : S)
-      → ReadOn BlockReceived blocks leave behind was moved new now
-      → IfErr started (λ cause. cause_of behind.last ≡ Some cause)
+      → ReadOn BlockReceived blocks leave between was moved new now
+      → IfErr started (λ cause. cause_of between.last ≡ Some cause)
       → (cause : Cause) → judged started moved ≡ Err cause → cause_of new.last ≡ Some cause
   first_caused (Ok done) moved new now (reads good next held all) ends cause is = cc
   first_caused (Err why) moved new now (reads zero next held all) ends cause is =
@@ -245,37 +244,37 @@ module _ {S : Type 0} (blocks : S → List (List ℕ)) (leave : S → ℕ → Li
       (faults : ℕ) (at : IsIn job (blocks was) (Other Command) faults a) where
     -- The command was answered well.
 
-    begun_with : (news : List Sector) → Starts kind job.way (job.count == 1) address true a behind
-        → Turn (change_of job news) (λ n v. IsIn job (blocks was) (Block 0) n v) faults a behind
+    begun_with : (news : List Sector) → Starts kind job.way (job.count == 1) address true a between
+        → Turn (change_of job news) (λ n v. IsIn job (blocks was) (Block 0) n v) faults a between
     begun_with news work =
-        subst (λ change. Turn change (λ n v. IsIn job (blocks was) (Block 0) n v) faults a behind)
+        subst (λ change. Turn change (λ n v. IsIn job (blocks was) (Block 0) n v) faults a between)
         (same_change job (blocks was) news way)
-        (begin_goes_on job (blocks was) faults kind address a behind addressed at work)
+        (begin_goes_on job (blocks was) faults kind address a between addressed at work)
 
-    pub all_came : (good : ℕ) (new : BusView) (now : S) → AreGood BlockReceived blocks leave behind was good new now
-        → new.is_kept ≡ true → Starts kind job.way (job.count == 1) address true a behind
+    pub all_came : (good : ℕ) (new : BusView) (now : S) → AreGood BlockReceived blocks leave between was good new now
+        → new.is_kept ≡ true → Starts kind job.way (job.count == 1) address true a between
         → Turned job (blocks now) faults a (Ok (after_read job good)) new
     all_came good new now all kept work =
-        turn_then (change_of job (blocks now)) (λ n v. IsIn job (blocks was) (Block 0) n v) _ faults a behind new
+        turn_then (change_of job (blocks now)) (λ n v. IsIn job (blocks was) (Block 0) n v) _ faults a between new
         (begun_with (blocks now) work) (λ n here. blocks_turned good new now all kept n here)
 
     pub one_failed : (good : ℕ) (view : BusView) (held : S) (got : DataIn) (left : List ℕ) (new : BusView)
-        → AreGood BlockReceived blocks leave behind was good view held → good < length (blocks held)
+        → AreGood BlockReceived blocks leave between was good view held → good < length (blocks held)
         → length left ≡ 512 → (got ≡ Good → ⊥) → BlockReceived view got left new
-        → new.is_kept ≡ true → Starts kind job.way (job.count == 1) address true a behind
+        → new.is_kept ≡ true → Starts kind job.way (job.count == 1) address true a between
         → Turned job (blocks (leave held good left)) faults a (Err Why.Data) new
     one_failed good view held got left new all below long not read kept work =
         let news : List Sector = blocks (leave held good left) in
         let count = count_in good view held all in
         let more : good < job.count = omega (arith, below, count) in
-        turn_then (change_of job news) (λ n v. IsIn job (blocks was) (Block 0) n v) _ faults a behind new
+        turn_then (change_of job news) (λ n v. IsIn job (blocks was) (Block 0) n v) _ faults a between new
         (begun_with news work)
         (λ n here.
         let came = blocks_turned good view held all (read.kept kept).was_kept n here in
-        let is_in : Turn (change_of job (blocks held)) (λ n v. IsIn job (blocks held) (Block good) n v) n behind view =
+        let is_in : Turn (change_of job (blocks held)) (λ n v. IsIn job (blocks held) (Block good) n v) n between view =
         rw (next_is job good more) at came in
-        turn_then (change_of job news) (λ n v. IsIn job (blocks held) (Block good) n v) _ n behind view new
-        (subst (λ change. Turn change (λ n v. IsIn job (blocks held) (Block good) n v) n behind view)
+        turn_then (change_of job news) (λ n v. IsIn job (blocks held) (Block good) n v) _ n between view new
+        (subst (λ change. Turn change (λ n v. IsIn job (blocks held) (Block good) n v) n between view)
         (same_change job (blocks held) news way) is_in)
         (λ m there. take_fails job (blocks held) news good m left way more count long (one held good left) view new there
         512 Why.Data (Err Why.Data) refl refl (none_received view new got left not read kept)))
@@ -292,15 +291,15 @@ module _ {S : Type 0} (blocks : S → List (List ℕ)) (leave : S → ℕ → Li
 
     -- It wasn't.
 
-    lost_begun : (news : List Sector) → Starts kind job.way (job.count == 1) address false a behind
-        → Turn (change_of job news) (λ n v. IsLost job.session n v) faults a behind
+    lost_begun : (news : List Sector) → Starts kind job.way (job.count == 1) address false a between
+        → Turn (change_of job news) (λ n v. IsLost job.session n v) faults a between
     lost_begun news work = record {
       stays = work.stays;
       within = λ part s value h.
           old_maybe (change_of job news) (holds a.card) part s value (work.sectors part s value h);
-      left = goes_on job.session (Shown job.way (Other Command)) (Exact job (blocks was) (Other Command)) faults a behind
+      left = goes_on job.session (Shown job.way (Other Command)) (Exact job (blocks was) (Other Command)) faults a between
           at.under_way work Never Never (λ s. absurd s) (λ exact s. s)
-          (λ exact same. cc (work.fine same (can_start job (blocks was) faults kind address a behind addressed at exact)));
+          (λ exact same. cc (work.fine same (can_start job (blocks was) faults kind address a between addressed at exact)));
     }
 
     lost_failed : (news : List Sector) (cause : Cause) (new : BusView)
@@ -312,33 +311,33 @@ module _ {S : Type 0} (blocks : S → List (List ℕ)) (leave : S → ℕ → Li
       left = lost_fails job.session cause (faults_then faults a new) new lost.left;
     }
 
-    pub none_came : (cause : Cause) (new : BusView) (now : S) → AreGood BlockReceived blocks leave behind was 0 new now
-        → new.is_kept ≡ true → Starts kind job.way (job.count == 1) address false a behind
+    pub none_came : (cause : Cause) (new : BusView) (now : S) → AreGood BlockReceived blocks leave between was 0 new now
+        → new.is_kept ≡ true → Starts kind job.way (job.count == 1) address false a between
         → Turned job (blocks now) faults a (Err cause) new
     none_came cause new now all kept work =
         lost_failed (blocks now) cause new
-        (turn_then (change_of job (blocks now)) (λ n v. IsLost job.session n v) _ faults a behind new
+        (turn_then (change_of job (blocks now)) (λ n v. IsLost job.session n v) _ faults a between new
         (lost_begun (blocks now) work) (λ n here. blocks_lost 0 new now (blocks now) all kept n here))
 
-    pub some_came : (good : ℕ) (new : BusView) (now : S) → AreGood BlockReceived blocks leave behind was good new now
-        → new.is_kept ≡ true → Starts kind job.way (job.count == 1) address false a behind
+    pub some_came : (good : ℕ) (new : BusView) (now : S) → AreGood BlockReceived blocks leave between was good new now
+        → new.is_kept ≡ true → Starts kind job.way (job.count == 1) address false a between
         → Turned job (blocks now) faults a (Err Why.Data) new
     some_came good new now all kept work =
         lost_failed (blocks now) Why.Data new
-        (turn_then (change_of job (blocks now)) (λ n v. IsLost job.session n v) _ faults a behind new
+        (turn_then (change_of job (blocks now)) (λ n v. IsLost job.session n v) _ faults a between new
         (lost_begun (blocks now) work) (λ n here. blocks_lost good new now (blocks now) all kept n here))
 
     pub some_failed : (good : ℕ) (view : BusView) (held : S) (got : DataIn) (left : List ℕ) (new : BusView)
-        → AreGood BlockReceived blocks leave behind was good view held → (got ≡ Good → ⊥)
+        → AreGood BlockReceived blocks leave between was good view held → (got ≡ Good → ⊥)
         → BlockReceived view got left new
-        → new.is_kept ≡ true → Starts kind job.way (job.count == 1) address false a behind
+        → new.is_kept ≡ true → Starts kind job.way (job.count == 1) address false a between
         → Turned job (blocks (leave held good left)) faults a (Err Why.Data) new
     some_failed good view held got left new all not read kept work =
         let news : List Sector = blocks (leave held good left) in
         lost_failed news Why.Data new
-        (turn_then (change_of job news) (λ n v. IsLost job.session n v) _ faults a behind new
+        (turn_then (change_of job news) (λ n v. IsLost job.session n v) _ faults a between new
         (lost_begun news work)
-        (λ n here. turn_then (change_of job news) (λ n v. IsLost job.session n v) _ n behind view new
+        (λ n here. turn_then (change_of job news) (λ n v. IsLost job.session n v) _ n between view new
         (blocks_lost good view held news all (read.kept kept).was_kept n here)
         (λ m there. lost_on job view new m news (none_received view new got left not read kept) there)))
 
@@ -348,30 +347,30 @@ module _ {S : Type 0} (blocks : S → List (List ℕ)) (leave : S → ℕ → Li
     outcome (Err cause) = Err cause
 
     pub first_turned : (started : Result Unit Cause) (moved : Moved DataIn) (new : BusView) (now : S)
-        → ReadOn BlockReceived blocks leave behind was moved new now → new.is_kept ≡ true
-        → (behind.is_kept ≡ true → Starts kind job.way (job.count == 1) address (is_ok started) a behind)
+        → ReadOn BlockReceived blocks leave between was moved new now → new.is_kept ≡ true
+        → (between.is_kept ≡ true → Starts kind job.way (job.count == 1) address (is_ok started) a between)
         → (r : Result (Option Phase) Cause) → r ≡ outcome (judged started moved)
         → Turned job (blocks now) faults a r new
     first_turned (Ok done) moved new now (reads good next held all) kept work r is =
-        rw is (all_came good next held all kept (work (kept_behind good next held all kept)))
+        rw is (all_came good next held all kept (work (kept_between good next held all kept)))
     first_turned (Ok done) moved new now
         (reads_none some view held last got left next all below long not read lent) kept work r is =
         rw is (failed_as (blocks (leave held some left)) (blocks last) Why.Data next
         (one_failed some view held got left next all below long not read kept
-        (work (kept_behind some view held all (read.kept kept).was_kept))))
+        (work (kept_between some view held all (read.kept kept).was_kept))))
     first_turned (Err cause) moved new now (reads zero next held all) kept work r is =
-        rw is (none_came cause next held all kept (work (kept_behind 0 next held all kept)))
+        rw is (none_came cause next held all kept (work (kept_between 0 next held all kept)))
     first_turned (Err cause) moved new now (reads (suc good) next held all) kept work r is =
-        rw is (some_came (suc good) next held all kept (work (kept_behind (suc good) next held all kept)))
+        rw is (some_came (suc good) next held all kept (work (kept_between (suc good) next held all kept)))
     first_turned (Err cause) moved new now
         (reads_none some view held last got left next all below long not read lent) kept work r is =
         rw is (failed_as (blocks (leave held some left)) (blocks last) Why.Data next
         (some_failed some view held got left next all not read kept
-        (work (kept_behind some view held all (read.kept kept).was_kept))))
+        (work (kept_between some view held all (read.kept kept).was_kept))))
 
     pub first_goes_on : (started : Result Unit Cause) (moved : Moved DataIn) (new : BusView) (now : S)
-        → ReadOn BlockReceived blocks leave behind was moved new now → new.is_kept ≡ true
-        → (behind.is_kept ≡ true → Starts kind job.way (job.count == 1) address (is_ok started) a behind)
+        → ReadOn BlockReceived blocks leave between was moved new now → new.is_kept ≡ true
+        → (between.is_kept ≡ true → Starts kind job.way (job.count == 1) address (is_ok started) a between)
         → (n : ℕ) → judged started moved ≡ Ok n → (next : Option Phase) → next ≡ after_read job n
         → Turned job (blocks now) faults a (Ok next) new
     first_goes_on started moved new now read kept work n is next to =
@@ -379,8 +378,8 @@ module _ {S : Type 0} (blocks : S → List (List ℕ)) (leave : S → ℕ → Li
         (ap (λ (x : Option Phase). Ok x) to ∙ ap outcome (sym is))
 
     pub first_fails : (started : Result Unit Cause) (moved : Moved DataIn) (new : BusView) (now : S)
-        → ReadOn BlockReceived blocks leave behind was moved new now → new.is_kept ≡ true
-        → (behind.is_kept ≡ true → Starts kind job.way (job.count == 1) address (is_ok started) a behind)
+        → ReadOn BlockReceived blocks leave between was moved new now → new.is_kept ≡ true
+        → (between.is_kept ≡ true → Starts kind job.way (job.count == 1) address (is_ok started) a between)
         → (cause : Cause) → judged started moved ≡ Err cause
         → Turned job (blocks now) faults a (Err cause) new
     first_fails started moved new now read kept work cause is =

@@ -74,7 +74,7 @@ awaits_by false count done more = refl
 all_then : (b : Bool) (count done : ℕ) → ((done + 1 == count) && b) ≡ true → count ≡ done + 1
 all_then b count done h = grind (arith, nat_tests)
 
--- behind a block that was written a card shows itself by holding no error
+-- after a block that was written a card shows itself by holding no error
 none_shown : (way : Way) (last : Bool) (done : ℕ) (card : Card) → way ≡ Write
     → Shown way (Other (if last then End (Wait 0) else Pause done 0)) card → card.errors ≡ 0
 none_shown Read last done card is h = cc
@@ -97,7 +97,7 @@ module _ (job : Job) (blocks : List Sector) (done faults : ℕ) (block : Sector)
       ap (λ xs. xs ++ block ∷ []) x.values ∙ ap (λ v. take done blocks ++ v ∷ []) is
       ∙ sym (take_more blocks done [] (omega (arith, more, full)))
 
-  -- behind the block it is in the phase that comes next
+  -- after the block it is in the phase that comes next
   given_by : (b : Bool) (card : Card) → ((done + 1 == job.count) && is_counted job) ≡ b
       → IsTaking done job blocks card
       → WriteExact job blocks (Other (if b then End (Wait 0) else Pause (done + 1) 0)) (accepted block card)
@@ -184,7 +184,7 @@ module _ (job : Job) (blocks : List Sector) (done faults : ℕ) (block : Sector)
           (λ exact same. cc (offer.fine same (accepts exact)).0);
     }
 
-    -- where the block behind it goes
+    -- where the block after it goes
     place_then : (last : Bool) → next_written b.card ≡ next_written a.card + 1 → is_in a.card.state Rcv ≡ true
         → IsPlaced job (Other (if last then End (Wait 0) else Pause (done + 1) 0)) b.card
     place_then true is rcv = tt

@@ -107,7 +107,7 @@ module _ (job : Job) (blocks : List Sector) (faults done polls : ℕ) (a b : Bus
       (λ writes taking. accepts_by (work.own.fine same refl) taking.0) exact)
       (goes_on_there work.own)
 
-  -- behind the last block
+  -- after the last block
   all_accepted : done ≡ job.count → IsTaking done job blocks b.card × (b.card.is_busy ≡ false)
       → IsTaking job.count job blocks b.card × (b.card.is_busy ≡ false)
   all_accepted last taking =

@@ -90,7 +90,7 @@ uncounted : (b c : Bool) → c ≡ false → (b && c) ≡ false
 uncounted true c is = is
 uncounted false c is = refl
 
--- Error bits behind a block: none, or OUT_OF_RANGE behind the last sector of an uncounted read.
+-- Error bits after a block: none, or OUT_OF_RANGE after the last sector of an uncounted read.
 errors_by : (none says last counted : Bool) (errors : ℕ) (Ends : Type 0) → errors ≡ 0
     → (none ≡ true → counted ≡ false) → (last ≡ true → Ends)
     → (bit_or errors (if none && (says && last) then out_of_range else 0) ≡ 0)

@@ -51,7 +51,7 @@ along_first begun session blocks first given count begins = record {
 pub same_change : (job : Job) (blocks other : List Sector) → (job.way ≡ Read) → change_of job blocks ≡ change_of job other
 same_change job blocks other reads = rw reads refl
 
--- a turn behind what the run has led to, in terms of the run as it began
+-- a turn after what the run has led to, in terms of the run as it began
 then_turned : (begun run : Run) (was blocks : List Sector) (first now new : BusView) (result : Progress Run)
     → change_of begun.job was ≡ change_of begun.job blocks → run.job ≡ begun.job
     → IsSoFar (change_of begun.job was) (IsRunning run was) first now

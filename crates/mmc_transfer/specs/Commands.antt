@@ -1,14 +1,17 @@
 -- What the commands of a run do, and where they can be sent.
-use Rattle.std.specs.Prelude.{◌≡◌, ◌⊎◌, Bool, Some, false, if◌then◌else◌, true, ℕ}
+use Rattle.std.specs.Prelude.{◌≡◌, ◌⊎◌, Bool, IsOk, Result, Some, false, if◌then◌else◌, true, ℕ}
 use Rattle.mmc_frame.specs.declared.card_state.State.{State}
 use Rattle.mmc_frame.specs.declared.card_state.State.TheVariants.{Data, Rcv, Tran}
 use Rattle.mmc_frame.specs.declared.commands.TheConstants as Index
 use Rattle.mmc_frame.specs.declared.kind.Kind.{Kind}
+use Rattle.mmc_card.specs.BusView.{BusView}
 use Rattle.mmc_card.specs.Card.{Card, NoAddress}
 use Rattle.mmc_card.specs.CardLaws.{HasNoError}
 use Rattle.mmc_card.specs.ErrorBits.{out_of_range}
 use Rattle.mmc_card.specs.Made.{has_cmd23}
 use Rattle.mmc_card.specs.RowsTransfer.{begun, preset, transfer_errors}
+use Rattle.mmc_bus.specs.Work.{Narrows, Works}
+use Rattle.mmc_bus.specs.declared.cause.Cause.{Cause}
 use Rattle.mmc_transfer.specs.declared.way.Way.{Way}
 use Rattle.mmc_transfer.specs.declared.way.Way.TheVariants.{Read, Write}
 
@@ -47,11 +50,18 @@ pub record CanStart (kind : Kind) (way : Way) (card : Card) (address : ℕ) : Ty
   pub obeys : CanObey kind card
   pub allowed : transfer_errors (is_write way) card address ≡ 0
 
+-- The command that begins a transfer, judged: its response is good only where it has begun, and is good where it can.
+abbrev pub Begins : Kind → Way → Bool → ℕ → BusView → Result Unit Cause → BusView → Type 0
+Begins kind way is_single address old started =
+    Works Narrows
+    (λ old new. IsOk started → old.card.erase ≡ NoAddress → new.card ≡ starts way is_single old.card address)
+    (λ old new. CanStart kind way old.card address → IsOk started) old
+
 -- A transfer is under way.
 abbrev pub IsMoving : Card → Type 0
 IsMoving card = (card.state ≡ Data) ⊎ (card.state ≡ Rcv)
 
--- OUT_OF_RANGE alone is no error of CMD12 behind a read that ends with the partition's last sector, and is one behind a write
+-- OUT_OF_RANGE alone is no error of CMD12 after a read that ends with the partition's last sector, and is one after a write
 -- (SD Physical Layer 6.00, section 4.3.3; JESD84-B51, section 6.6.7)
 abbrev pub may_run_out : Way → Bool → Bool
 may_run_out Read at_end = at_end

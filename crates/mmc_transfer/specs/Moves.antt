@@ -1,4 +1,4 @@
--- What comes behind a block.
+-- What comes after a block.
 use Rattle.std.specs.Prelude.{◌&&◌, ◌==◌, None, Option, Some, if◌then◌else◌, nat_lt, suc, zero, ℕ}
 use Rattle.mmc_switch.specs.declared.ending.Ending.TheVariants.{Wait}
 use Rattle.mmc_transfer.specs.Running.{is_counted}
@@ -13,9 +13,9 @@ abbrev pub after_written : Job → ℕ → Step
 after_written job done = if (done == job.count) && is_counted job then End (Wait 0) else Pause done 0
 
 -- once so many blocks were written with the command
-abbrev pub phase_behind : Job → ℕ → Phase
-phase_behind job zero = Block 0
-phase_behind job (suc done) = Other (after_written job (suc done))
+abbrev pub after_write_command : Job → ℕ → Phase
+after_write_command job zero = Block 0
+after_write_command job (suc done) = Other (after_written job (suc done))
 
 -- once so many blocks are read
 abbrev pub after_read : Job → ℕ → Option Phase

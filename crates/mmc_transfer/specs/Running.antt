@@ -14,7 +14,7 @@ use Rattle.mmc_switch.specs.UnderWay.{IsBusyAfter, IsCarriedOut, IsIdle, IsQuiet
 use Rattle.mmc_switch.specs.declared.ending.Ending.{Ending}
 use Rattle.mmc_switch.specs.declared.ending.Ending.TheVariants.{Confirm, Wait}
 use Rattle.mmc_switch.specs.declared.session.Session.{Session}
-use Rattle.mmc_transfer.specs.Address.{is_counted_by}
+use Rattle.mmc_transfer.specs.Fits.{is_counted_by}
 use Rattle.mmc_transfer.specs.declared.job.Job.{Job}
 use Rattle.mmc_transfer.specs.declared.phase.Phase.{Phase}
 use Rattle.mmc_transfer.specs.declared.phase.Phase.TheVariants.{Block, Other}
@@ -75,7 +75,7 @@ pub record IsTaking (done : ℕ) (job : Job) (blocks : List Sector) (card : Card
   pub values : card.values ≡ take done blocks
   pub left : card.left ≡ left_of job done
 
--- A card that ends a read: in tran it may be busy behind CMD12, and then it rests.
+-- A card that ends a read: in tran it may be busy after CMD12, and then it rests.
 abbrev pub HasStopped : Ending → Card → Type 0
 HasStopped (Wait polls) card =
     IsQuiet Tran 0 card × (card.is_busy ≡ true → IsBusyAfter polls card) × (card.lags ≡ false)

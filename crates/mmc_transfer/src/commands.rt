@@ -8,7 +8,7 @@ ghost use Rattle.mmc_bus.specs.Heard.{cause_of_response, is_inquiry_index};
 ghost use Rattle.mmc_bus.specs.Lending.{IsRewritten};
 ghost use Rattle.mmc_bus.specs.Together.{MovesAtMost};
 ghost use Rattle.mmc_bus.specs.Work.{Ends, Narrows, Works};
-ghost use Rattle.mmc_transfer.specs.Commands.{CanPreset, CanStart, CanStop, IsMoving, index_of, starts};
+ghost use Rattle.mmc_transfer.specs.Commands.{Begins, CanPreset, CanStop, IsMoving, index_of};
 ghost use Rattle.mmc_transfer.specs.First.{StartedReading, StartedWriting};
 
 use crate::way::Way;
@@ -65,10 +65,7 @@ pub fn start<B: Bus>(
     address: u32,
 ) -> Result<(), Cause>
     ensures ends { Ends 1 (B.view bus.old) result (B.view bus.new) }
-    ensures works { Works Narrows
-        (λ old new. IsOk result → old.card.erase ≡ NoAddress → new.card ≡ starts way is_single old.card address)
-        (λ old new. CanStart kind way old.card address → IsOk result)
-        (B.view bus.old) (B.view bus.new) }
+    ensures works { Begins kind way is_single address (B.view bus.old) result (B.view bus.new) }
 {
     transfer_laws::cmd17_begins_a_read();
     transfer_laws::cmd18_begins_a_read_of_blocks();

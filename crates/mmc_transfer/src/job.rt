@@ -4,9 +4,8 @@ ghost use Rattle.mmc_switch.specs.Address.{address_of};
 ghost use Rattle.mmc_switch.specs.UnderWay.{room_of};
 ghost use Rattle.mmc_transfer.specs.declared.way.Way.TheVariants.{Write};
 ghost use Rattle.mmc_transfer.specs.declared.job.TheConstants.{MAX_BLOCKS};
-ghost use Rattle.mmc_transfer.specs.Address.{is_counted_by};
 ghost use Rattle.mmc_transfer.specs.Commands.{may_run_out};
-ghost use Rattle.mmc_transfer.specs.Fits.{first_of};
+ghost use Rattle.mmc_transfer.specs.Fits.{first_of, is_counted_by};
 
 use crate::phase::Step;
 use crate::way::Way;
@@ -45,7 +44,7 @@ impl Job {
     }
 
     // Whether a card may say OUT_OF_RANGE at its end, and mean no error: it reads, and its last block is the last sector of the
-    // partition, behind which the card looks for one more (SD Physical Layer 6.00, section 4.3.3; JESD84-B51, section 6.6.7).
+    // partition, after which the card looks for one more (SD Physical Layer 6.00, section 4.3.3; JESD84-B51, section 6.6.7).
     pub(crate) fn may_run_out(&self) -> bool
         ensures { result ≡ may_run_out self.now.way (self.now.start + self.now.count == room_of self.now.session) }
     {

@@ -1,14 +1,12 @@
-// The phases of a run that move a block: one exchange each, and what comes behind it. The block is moved in place.
-ghost use Rattle.std.specs.Prelude.{◌≡◌, ◌+◌, ◌<◌, ◌≤◌, IfErr, IfOk, IfSome, IsTrue, List, Some, length, true, ℕ};
+// The phases of a run that move a block: one exchange each, and what comes after it. The block is moved in place.
+ghost use Rattle.std.specs.Prelude.{◌≡◌, ◌<◌, IfErr, Some, length, true, ℕ};
 ghost use Rattle.mmc_bus.specs.Heard.{cause_of};
 ghost use Rattle.mmc_bus.specs.Lending.{IsRewritten};
 ghost use Rattle.mmc_bus.specs.Together.{MovesAtMost};
 ghost use Rattle.mmc_bus.specs.Work.{Ends};
-ghost use Rattle.mmc_card.specs.Sectors.{Sector};
-ghost use Rattle.mmc_switch.specs.Turns.{left_after};
 ghost use Rattle.mmc_transfer.specs.First.{CostsAtMost, judged};
-ghost use Rattle.mmc_transfer.specs.Fits.{phase_fits, phase_left};
-ghost use Rattle.mmc_transfer.specs.Moves.{after_read, after_written, phase_behind};
+ghost use Rattle.mmc_transfer.specs.Moves.{after_read, after_written, after_write_command};
+ghost use Rattle.mmc_transfer.specs.Next.{NextFits, NextIsNearer};
 ghost use Rattle.mmc_transfer.specs.Running.{IsIn, Turned};
 ghost use Rattle.mmc_transfer.specs.declared.job.TheConstants.{MAX_BLOCKS};
 ghost use Rattle.mmc_transfer.specs.declared.phase.Phase.TheVariants.{Block, Other};
@@ -60,8 +58,8 @@ pub fn give<B: Bus, D: Blocks>(
     requires count { length (D.blocks blocks.now) ≡ job.now.count }
     ensures ends { Ends 1 (B.view bus.old) result (B.view bus.new) }
     ensures kept { (B.view bus.new).is_kept ≡ true → (B.view bus.old).is_kept ≡ true }
-    ensures fits { IfOk result (λ next. IfSome next (λ phase. IsTrue (phase_fits job.now.count job.now.session.info.cmd23 phase))) }
-    ensures lowers { let left = phase_left job.now.count job.now.session.info.cmd23 in IfOk result (λ next. left_after left next < left (Block done)) }
+    ensures fits { NextFits job.now result }
+    ensures lowers { NextIsNearer job.now (Block done) result }
     ensures turned { (B.view bus.new).is_kept ≡ true → (faults : ℕ) → IsIn job.now (D.blocks blocks.now) (Block done) faults (B.view bus.old)
         → Turned job.now (D.blocks blocks.now) faults (B.view bus.old) result (B.view bus.new) }
 {
@@ -86,8 +84,8 @@ pub fn take<B: Bus, D: BlocksMut>(
     ensures kept { (B.view bus.new).is_kept ≡ true → (B.view bus.old).is_kept ≡ true }
     ensures count { length (D.blocks blocks.new) ≡ length (D.blocks blocks.old) }
     ensures lent { IsRewritten D.blocks D.with blocks.old blocks.new }
-    ensures fits { IfOk result (λ next. IfSome next (λ phase. IsTrue (phase_fits job.now.count job.now.session.info.cmd23 phase))) }
-    ensures lowers { let left = phase_left job.now.count job.now.session.info.cmd23 in IfOk result (λ next. left_after left next < left (Block done)) }
+    ensures fits { NextFits job.now result }
+    ensures lowers { NextIsNearer job.now (Block done) result }
     ensures turned { (B.view bus.new).is_kept ≡ true → (faults : ℕ) → IsIn job.now (D.blocks blocks.old) (Block done) faults (B.view bus.old)
         → Turned job.now (D.blocks blocks.new) faults (B.view bus.old) result (B.view bus.new) }
 {
@@ -125,8 +123,8 @@ pub fn take_first<B: Bus, D: BlocksMut>(
     ensures kept { (B.view bus.new).is_kept ≡ true → (B.view bus.old).is_kept ≡ true }
     ensures count { length (D.blocks blocks.new) ≡ length (D.blocks blocks.old) }
     ensures lent { IsRewritten D.blocks D.with blocks.old blocks.new }
-    ensures fits { IfOk result (λ next. IfSome next (λ phase. IsTrue (phase_fits job.now.count job.now.session.info.cmd23 phase))) }
-    ensures lowers { let left = phase_left job.now.count job.now.session.info.cmd23 in IfOk result (λ next. left_after left next < left (Other Command)) }
+    ensures fits { NextFits job.now result }
+    ensures lowers { NextIsNearer job.now (Other Command) result }
     ensures turned { (B.view bus.new).is_kept ≡ true → (faults : ℕ) → IsIn job.now (D.blocks blocks.old) (Other Command) faults (B.view bus.old)
         → Turned job.now (D.blocks blocks.new) faults (B.view bus.old) result (B.view bus.new) }
 {
@@ -144,8 +142,8 @@ pub fn take_first<B: Bus, D: BlocksMut>(
 }
 
 // What comes once so many blocks were written with the command.
-fn phase_behind(job: &Job, done: u32) -> Phase
-    ensures { result ≡ phase_behind job.now done }
+fn after_write_command(job: &Job, done: u32) -> Phase
+    ensures { result ≡ after_write_command job.now done }
 {
     if done == 0 {
         Phase::Block { done: 0 }
@@ -168,8 +166,8 @@ pub fn give_first<B: Bus, D: Blocks>(
     ensures costs { CostsAtMost job.now (Other Command) (B.view bus.old) result (B.view bus.new) }
     ensures cause { IfErr result (λ cause. cause_of (B.view bus.new).last ≡ Some cause) }
     ensures kept { (B.view bus.new).is_kept ≡ true → (B.view bus.old).is_kept ≡ true }
-    ensures fits { IfOk result (λ next. IfSome next (λ phase. IsTrue (phase_fits job.now.count job.now.session.info.cmd23 phase))) }
-    ensures lowers { let left = phase_left job.now.count job.now.session.info.cmd23 in IfOk result (λ next. left_after left next < left (Other Command)) }
+    ensures fits { NextFits job.now result }
+    ensures lowers { NextIsNearer job.now (Other Command) result }
     ensures turned { (B.view bus.new).is_kept ≡ true → (faults : ℕ) → IsIn job.now (D.blocks blocks.now) (Other Command) faults (B.view bus.old)
         → Turned job.now (D.blocks blocks.now) faults (B.view bus.old) result (B.view bus.new) }
 {
@@ -181,7 +179,7 @@ pub fn give_first<B: Bus, D: Blocks>(
         blocks,
     );
     match judge(started, moved) {
-        Ok(good) => Ok(Some(phase_behind(job, good))),
+        Ok(good) => Ok(Some(after_write_command(job, good))),
         Err(cause) => Err(cause),
     }
 }

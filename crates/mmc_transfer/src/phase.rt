@@ -17,7 +17,7 @@ pub enum Step {
     Preset,
     /// The command that begins the transfer.
     Command,
-    /// A poll between the blocks of a write: after so many blocks, and so many polls behind the last one.
+    /// A poll between the blocks of a write: after so many blocks, and so many polls after the last one.
     Pause { done: u32, polls: u64 },
     /// CMD12.
     Stop,

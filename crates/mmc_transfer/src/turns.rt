@@ -1,5 +1,5 @@
 // Runs of blocks, a turn at a time: each turn is one exchange.
-ghost use Rattle.std.specs.Prelude.{◌≡◌, ◌*◌, ◌+◌, ◌<◌, ◌≤◌, IfOk, IfSome, IsSome, IsTrue, List, false, length, true, ℕ};
+ghost use Rattle.std.specs.Prelude.{◌≡◌, ◌*◌, ◌+◌, ◌<◌, ◌≤◌, IsSome, IsTrue, List, false, length, true, ℕ};
 ghost use Rattle.mmc_card.specs.BusView.{BusView};
 ghost use Rattle.mmc_card.specs.Sectors.{Sector};
 ghost use Rattle.mmc_bus.specs.Lending.{IsRewritten};
@@ -11,6 +11,7 @@ ghost use Rattle.mmc_transfer.specs.declared.way.Way.TheVariants.{Read, Write};
 ghost use Rattle.mmc_transfer.specs.Run.{HasProgressed, HasTurned, IsRunning, IsSameRun, Lowers, exchanges_left, run_then};
 ghost use Rattle.mmc_transfer.specs.First.{Nears};
 ghost use Rattle.mmc_transfer.specs.Fits.{phase_fits, phase_left};
+ghost use Rattle.mmc_transfer.specs.Next.{NextFits};
 
 use crate::job::{Job, MAX_BLOCKS};
 use crate::moves::{give, give_first, take, take_first};
@@ -22,7 +23,7 @@ use crate::way::Way;
 use mmc_bus::{Blocks, BlocksMut, Bus, Cause, MAX_POLLS};
 use mmc_switch::{EXCHANGES_OF_AN_ENDING, Session, Standing};
 
-/// The most exchanges of a block: the block itself, and the polls behind it.
+/// The most exchanges of a block: the block itself, and the polls after it.
 pub const EXCHANGES_OF_A_BLOCK: u64 = MAX_POLLS + 1;
 
 /// The most exchanges of a run beside those of its blocks: two commands, and those that end it.
@@ -178,7 +179,7 @@ impl Run {
 
     // What an exchange makes of it.
     fn stand(&mut self, outcome: Result<Option<Phase>, Cause>) -> Standing
-        requires fits { IfOk outcome (λ next. IfSome next (λ phase. IsTrue (phase_fits self.old.job.count self.old.job.session.info.cmd23 phase))) }
+        requires fits { NextFits self.old.job outcome }
         ensures { HasProgressed self.old.job outcome (run_then self.new result) }
     {
         match outcome {

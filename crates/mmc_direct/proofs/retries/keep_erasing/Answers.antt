@@ -4,6 +4,7 @@ use Rattle.mmc_direct.specs.Attempts.{erasing}
 use Rattle.mmc_direct.specs.Changes.{erased_at}
 use Rattle.mmc_direct.specs.Refusal.{action_of}
 use Rattle.mmc_direct.specs.Stands.{info_of}
+use Rattle.mmc_direct.specs.declared.attempts.TheConstants.{ATTEMPTS}
 use Rattle.mmc_direct.proofs.ServeLemmas.{still_served}
 use Rattle.mmc_direct.proofs.TriesLemmas.{one_erase, one_try, tries_again, tries_all, tries_enough}
 use Rattle.mmc_direct.proofs.retries.keep_erasing.Goals as goal
@@ -15,7 +16,7 @@ returns-in-Ok g c =
     let b = g.B.Bus.view c.try_erase.new.bus in
     let e = c.in-Ok.ensures in
     record {
-      tries = tries_enough 1 4 erasing change c.args.stands c.in-Ok.session a b (omega arith)
+      tries = tries_enough 1 ATTEMPTS erasing change c.args.stands c.in-Ok.session a b (omega arith)
           (one_try erasing change c.args.stands a (Ok c.in-Ok.session) b e.info e.bounded e.kept e.cause e.tried);
     }
 
@@ -43,7 +44,7 @@ returns-in-Ok-try_erase g c =
     let few = c.loop-failed-test.true in
     let e = c.in-Ok-try_erase.ensures in
     record {
-      tries = tries_enough (c.loop-failed._failed + 1) 4 erasing change c.args.stands c.in-Ok-try_erase.session a new
+      tries = tries_enough (c.loop-failed._failed + 1) ATTEMPTS erasing change c.args.stands c.in-Ok-try_erase.session a new
           (omega (arith, few))
           (tries_again c.loop-failed._failed erasing change c.args.stands c.loop-failed.broken a b result new
           c.loop-failed.invariant
@@ -66,7 +67,7 @@ loop-failed-preserved g c =
 pub returns : goal.returns
 returns g c =
     record {
-      tries = tries_all c.loop-failed._failed 4 erasing (erased_at (info_of c.args.stands) c.args.part c.args.start c.args.count)
+      tries = tries_all c.loop-failed._failed ATTEMPTS erasing (erased_at (info_of c.args.stands) c.args.part c.args.start c.args.count)
           c.args.stands (Err c.loop-failed.broken) (g.B.Bus.view c.args.bus.now) (g.B.Bus.view c.loop-failed.bus)
           c.loop-failed-test.false (c.loop-failed.auto._failed-end (omega arith)) c.loop-failed.invariant;
     }

@@ -5,6 +5,7 @@ use Rattle.mmc_direct.specs.Changes.{written_at}
 use Rattle.mmc_direct.specs.Refusal.{refusal}
 use Rattle.mmc_direct.specs.Stands.{info_of}
 use Rattle.mmc_direct.specs.declared.action.Action.TheVariants.{Read}
+use Rattle.mmc_direct.specs.declared.attempts.TheConstants.{ATTEMPTS}
 use Rattle.mmc_direct.proofs.LentLemmas.{lent_then}
 use Rattle.mmc_direct.proofs.ServeLemmas.{still_served}
 use Rattle.mmc_direct.proofs.TriesLemmas.{one_read, one_try, tries_again, tries_all, tries_enough}
@@ -17,7 +18,7 @@ returns-in-Ok-clause-tries g c =
     let a = g.B.Bus.view c.args.bus.now in
     let b = g.B.Bus.view c.try_read.new.bus in
     let e = c.in-Ok.ensures in
-    tries_enough 1 4 each change c.args.stands c.in-Ok.session a b (omega arith)
+    tries_enough 1 ATTEMPTS each change c.args.stands c.in-Ok.session a b (omega arith)
     (one_try each change c.args.stands a (Ok c.in-Ok.session) b e.info e.bounded e.kept e.cause e.tried)
 
 pub loop-failed-init : goal.loop-failed-init
@@ -53,7 +54,7 @@ returns-in-Ok-try_read-clause-tries g c =
     let result = Ok c.in-Ok-try_read.session in
     let few = c.loop-failed-test.true in
     let e = c.in-Ok-try_read.ensures in
-    tries_enough (c.loop-failed._failed + 1) 4 (moving was) change c.args.stands c.in-Ok-try_read.session a new
+    tries_enough (c.loop-failed._failed + 1) ATTEMPTS (moving was) change c.args.stands c.in-Ok-try_read.session a new
     (omega (arith, few))
     (tries_again c.loop-failed._failed (moving was) change c.args.stands broken a b result new c.loop-failed.invariant.0
     (one_read was (length (g.D.Blocks.blocks c.loop-failed.blocks)) broken c.args.part c.args.start b result new
@@ -77,7 +78,7 @@ loop-failed-preserved g c =
 
 pub returns-clause-tries : goal.returns-clause-tries
 returns-clause-tries g c =
-    tries_all c.loop-failed._failed 4 (moving (length (g.D.Blocks.blocks c.args.blocks.now)))
+    tries_all c.loop-failed._failed ATTEMPTS (moving (length (g.D.Blocks.blocks c.args.blocks.now)))
     (written_at c.args.part c.args.start []) c.args.stands (Err c.loop-failed.broken) (g.B.Bus.view c.args.bus.now)
     (g.B.Bus.view c.loop-failed.bus) c.loop-failed-test.false (c.loop-failed.auto._failed-end (omega arith))
     c.loop-failed.invariant.0

@@ -5,6 +5,7 @@ use Rattle.mmc_direct.specs.Changes.{written_at}
 use Rattle.mmc_direct.specs.Stands.{info_of}
 use Rattle.mmc_direct.specs.declared.action.Action.TheVariants.{Write}
 use Rattle.mmc_direct.specs.declared.stands.Stands.TheVariants.{Loose}
+use Rattle.mmc_direct.specs.declared.attempts.TheConstants.{ATTEMPTS}
 use Rattle.mmc_direct.proofs.ServeLemmas.{still_served}
 use Rattle.mmc_direct.proofs.TriesLemmas.{one_try, tries_again, tries_all, tries_enough}
 use Rattle.mmc_direct.proofs.retries.keep_writing.Goals as goal
@@ -18,7 +19,7 @@ returns-in-Ok g c =
     let b = g.B.Bus.view c.try_write.new.bus in
     let e = c.in-Ok.ensures in
     record {
-      tries = tries_enough 1 4 each change c.args.stands c.in-Ok.session a b (omega arith)
+      tries = tries_enough 1 ATTEMPTS each change c.args.stands c.in-Ok.session a b (omega arith)
           (one_try each change c.args.stands a (Ok c.in-Ok.session) b e.info e.bounded e.kept e.cause e.tried);
     }
 
@@ -49,7 +50,7 @@ returns-in-Ok-try_write g c =
     let few = c.loop-failed-test.true in
     let e = c.in-Ok-try_write.ensures in
     record {
-      tries = tries_enough (c.loop-failed._failed + 1) 4 each change c.args.stands c.in-Ok-try_write.session a new
+      tries = tries_enough (c.loop-failed._failed + 1) ATTEMPTS each change c.args.stands c.in-Ok-try_write.session a new
           (omega (arith, few))
           (tries_again c.loop-failed._failed each change c.args.stands c.loop-failed.broken a b result new
           c.loop-failed.invariant
@@ -73,7 +74,7 @@ pub returns : goal.returns
 returns g c =
     let blocks = g.D.Blocks.blocks c.args.blocks.now in
     record {
-      tries = tries_all c.loop-failed._failed 4 (moving (length blocks)) (written_at c.args.part c.args.start blocks)
+      tries = tries_all c.loop-failed._failed ATTEMPTS (moving (length blocks)) (written_at c.args.part c.args.start blocks)
           c.args.stands (Err c.loop-failed.broken) (g.B.Bus.view c.args.bus.now) (g.B.Bus.view c.loop-failed.bus)
           c.loop-failed-test.false (c.loop-failed.auto._failed-end (omega arith)) c.loop-failed.invariant;
     }

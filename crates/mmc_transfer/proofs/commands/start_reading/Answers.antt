@@ -17,7 +17,7 @@ returns-clause-started g c =
     let count = asked.exchanged.exchanges in
     let few : all.behind.exchanges ≤ old.exchanges + 1 = omega (arith, count) in
     record {
-      behind = all.behind;
+      between = all.behind;
       ends = (
         few,
         caused c.check_r1.result (cause_of_response c.ask_reading-heard.result.0) (cause_of all.behind.last)

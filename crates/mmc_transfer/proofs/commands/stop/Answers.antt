@@ -1,7 +1,6 @@
-use Rattle.std.proofs.Common.{◌∙◌, ap, false, refl}
-use Rattle.std.specs.Prelude.{Ok}
+use Rattle.std.proofs.Common.{refl}
 use Rattle.mmc_card.proofs.CardAll.{card_left}
-use Rattle.mmc_card.specs.CardAnswer.{left_with, status}
+use Rattle.mmc_card.specs.CardAnswer.{left_with}
 use Rattle.mmc_bus.proofs.WorkLemmas.{command_worked}
 use Rattle.mmc_transfer.proofs.CommandLemmas.{shows_it_stops, shows_nothing}
 use Rattle.mmc_transfer.proofs.commands.stop.Goals as goal
