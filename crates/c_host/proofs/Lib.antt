@@ -1,3 +1,4 @@
 pub mod MovedLemmas
 pub mod Walks
 pub mod WritesLemmas
+pub mod WaysLemmas

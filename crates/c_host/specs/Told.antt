@@ -53,6 +53,10 @@ abbrev pub TellsLook : ℕ → Bool → List Talk → List Talk → Type 0
 TellsLook micros busy old new =
     (new ≡ Asked (look_record micros) (last_answer new) ∷ old) × (busy ≡ is_busy_by (last_answer new))
 
+-- that the block in the Buffer Data Port is wanted, and it is what came
+abbrev pub TellsPort : List ℕ → List Talk → List Talk → Type 0
+TellsPort block old new = new ≡ Came (last_count new) block ∷ Told (12 ∷ []) ∷ old
+
 abbrev pub TellsPause : ℕ → List Talk → List Talk → Type 0
 TellsPause micros old new = new ≡ Told (pause_record micros) ∷ old
 

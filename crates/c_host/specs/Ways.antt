@@ -1,10 +1,12 @@
 -- What C is told by a host of either kind.
-use Rattle.std.specs.Prelude.{◌*◌, ◌∷◌, ◌≡◌, ◌≤◌, Bool, List, [], ℕ}
+use Rattle.std.specs.Prelude.{◌*◌, ◌∷◌, ◌≡◌, ◌≤◌, Bool, List, [], true, ℕ}
 use Rattle.mmc_card.specs.declared.exchange.Lines.{Lines}
-use Rattle.mmc_host.specs.HostStates.{begun}
+use Rattle.mmc_host.specs.HostStates.{begun, micros_of, resting}
+use Rattle.mmc_host.specs.Hosts.{HostView, Where, unkept_host}
+use Rattle.mmc_host.specs.declared.told.HostState.{HostState}
 use Rattle.mmc_host.specs.declared.told.Ios.{Ios}
 use Rattle.mmc_host.specs.declared.work.Work.{Work}
-use Rattle.mmc_host.specs.declared.work.Work.TheVariants as At
+use Rattle.mmc_sdhci.specs.Controller.{ControllerView}
 use Rattle.c_host.specs.Records.{lines_by}
 use Rattle.c_host.specs.Talk.{Talk, last_answer}
 use Rattle.c_host.specs.Talk.Talk.{Asked}
@@ -14,47 +16,65 @@ use Rattle.c_host.specs.declared.way.Given.TheVariants as Gives
 use Rattle.c_host.specs.declared.way.Way.{Way}
 use Rattle.c_host.specs.declared.way.Way.TheVariants.{Host, Registers}
 
+-- by functions the proofs know no card; by registers the host is what its driver is
+abbrev pub view_of : {H : Type 0} → (H → HostView) → Way H → HostView
+view_of view (Host functions) = unkept_host
+view_of view (Registers driver) = view driver
+
 -- by functions: this became of the talk, and the limits are the same; by registers: the controller's driver says
-abbrev pub Speaks : Way → Way → (List Talk → List Talk → Type 0) → Type 0
+abbrev pub Speaks : {H : Type 0} → Way H → Way H → (List Talk → List Talk → Type 0) → Type 0
 Speaks (Host old) (Host new) Tells = Tells old.stream.diary.past new.stream.diary.past × (new.limits ≡ old.limits)
 Speaks (Registers old) (Registers new) Tells = Unit {0}
 Speaks _ _ Tells = ⊥
 
-abbrev pub HasTold : Way → Ios → Type 0
-HasTold (Host functions) ios = EndsWithIos ios functions.stream.diary.past
-HasTold (Registers driver) ios = Unit {0}
+-- by functions C was told so last; by registers the driver has told them so
+abbrev pub HasTold : {H : Type 0} → (H → Ios → Type 0) → Way H → Ios → Type 0
+HasTold Told (Host functions) ios = EndsWithIos ios functions.stream.diary.past
+HasTold Told (Registers driver) ios = Told driver ios
 
--- sixteen looks are as long as the work may take
-abbrev pub IsLongEnough : Work → ℕ → Type 0
-IsLongEnough work micros =
-    (500000 ≤ 16 * micros) × ((work ≡ At.Switch → 2550000 ≤ 16 * micros) × (work ≡ At.Erase → 60000000 ≤ 16 * micros))
-
+-- as long as the work wants
 abbrev pub TellsLookFor : Work → Bool → List Talk → List Talk → Type 0
-TellsLookFor work busy old new = (micros : ℕ) × (IsLongEnough work micros × TellsLook micros busy old new)
+TellsLookFor work busy old new = TellsLook (micros_of work) busy old new
 
--- C was asked for its limits alone, and these came
-abbrev pub HasAsked : Lines → List Talk → Type 0
-HasAsked limits past = (past ≡ Asked (7 ∷ []) (last_answer past) ∷ []) × (limits ≡ lines_by (last_answer past))
+-- C was asked for its limits, and these came
+abbrev pub HasAsked : Lines → List Talk → List Talk → Type 0
+HasAsked limits old new = (new ≡ Asked (7 ∷ []) (last_answer new) ∷ old) × (limits ≡ lines_by (last_answer new))
 
 abbrev pub all_but_last : List Talk → List Talk
 all_but_last [] = []
 all_but_last (talk ∷ past) = past
 
--- the way that was given: by functions C was asked for its limits, and told of one line and the clock of identification
-abbrev pub Begins : Given → Way → Type 0
-Begins Gives.Host (Host functions) =
-    TellsIos begun.ios (all_but_last functions.stream.diary.past) functions.stream.diary.past
-    × HasAsked functions.limits (all_but_last functions.stream.diary.past)
-Begins Gives.Registers (Registers driver) = Unit {0}
-Begins _ _ = ⊥
+-- what holds of functions that are given, or of registers
+abbrev pub IfFunctions : {R : Type 0} → Given R → Type 0 → Type 0
+IfFunctions (Gives.Host stream) Holds = Holds
+IfFunctions (Gives.Registers registers) Holds = Unit {0}
 
--- the same without being told anything yet
-abbrev pub Resumes : Given → Way → Type 0
-Resumes Gives.Host (Host functions) = HasAsked functions.limits functions.stream.diary.past
-Resumes Gives.Registers (Registers driver) = Unit {0}
-Resumes _ _ = ⊥
+abbrev pub IfRegisters : {R : Type 0} → Given R → (R → Type 0) → Type 0
+IfRegisters given Holds = (registers : _) → given ≡ Gives.Registers registers → Holds registers
+
+-- the host has the controller's card, and was told this; it is kept only where the controller is
+abbrev pub IsOver : ControllerView → HostState → HostView → Type 0
+IsOver controller told host =
+    Where host ((controller.is_kept ≡ true) × ((host.card ≡ controller.card) × (host.state ≡ told)))
+
+-- The way that was given. By functions C was asked for its limits, and told of one line and the clock of identification; by registers
+-- the host has their card, to which no command was sent.
+abbrev pub Begins : {R H : Type 0} → (R → ControllerView) → (H → HostView) → Given R → Way H → Type 0
+Begins of view (Gives.Host stream) (Host functions) =
+    TellsIos begun.ios (all_but_last functions.stream.diary.past) functions.stream.diary.past
+    × HasAsked functions.limits stream.diary.past (all_but_last functions.stream.diary.past)
+Begins of view (Gives.Registers registers) (Registers driver) = IsOver (of registers) begun (view driver)
+Begins of view _ _ = ⊥
+
+-- The same without being told anything yet, between two commands on these lines.
+abbrev pub Resumes : {R H : Type 0} → (R → ControllerView) → (H → HostView) → Lines → Given R → Way H → Type 0
+Resumes of view lines (Gives.Host stream) (Host functions) =
+    HasAsked functions.limits stream.diary.past functions.stream.diary.past
+Resumes of view lines (Gives.Registers registers) (Registers driver) =
+    IsOver (of registers) (resting lines) (view driver)
+Resumes of view lines _ _ = ⊥
 
 -- by functions these are the limits that came
-abbrev pub HasLimits : Way → Lines → Type 0
+abbrev pub HasLimits : {H : Type 0} → Way H → Lines → Type 0
 HasLimits (Host functions) limits = limits ≡ functions.limits
 HasLimits (Registers driver) limits = Unit {0}

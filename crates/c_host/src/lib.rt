@@ -12,5 +12,6 @@ mod way;
 
 pub use diary::{Call, Diary, Note};
 pub use lent::{Sectors, SectorsMut};
+pub use registers::CRegisters;
 pub use stream::Stream;
-pub use way::{Given, Way};
+pub use way::{CFunctions, CWay, Given, Way};

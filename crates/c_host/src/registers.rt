@@ -2,10 +2,10 @@ ghost use Rattle.std.specs.Prelude.{◌%◌, ◌∷◌, ◌≡◌, []};
 ghost use Rattle.std.specs.Int.{from_le_bytes, to_le_bytes, w32};
 ghost use Rattle.mmc_sdhci.specs.Accesses.{Passes, Reads, Reads8, Writes, Writes8};
 ghost use Rattle.mmc_sdhci.specs.Driver.{unkept_controller};
-ghost use Rattle.mmc_sdhci.specs.Moving.{Puts};
+ghost use Rattle.mmc_sdhci.specs.Moving.{Puts, Takes};
 ghost use Rattle.c_host.specs.Talk.Talk.{Asked, Told};
 ghost use Rattle.c_host.specs.Talk.{last_answer};
-ghost use Rattle.c_host.specs.Told.{TellsPause};
+ghost use Rattle.c_host.specs.Told.{TellsPause, TellsPort};
 
 use crate::stream::Stream;
 use mmc_sdhci::Registers;
@@ -13,6 +13,7 @@ use mmc_sdhci::Registers;
 /// Registers of an SD host controller that C reads and writes.
 #[derive(Drop)]
 pub struct CRegisters {
+    /// Where C is told.
     pub stream: Stream,
 }
 
@@ -52,7 +53,10 @@ impl Registers for CRegisters {
         self.stream.write_register(1, offset, u32::from(value));
     }
 
-    fn read_port(&mut self, block: &mut [u8]) {
+    fn read_port(&mut self, block: &mut [u8])
+        ensures takes { Takes unkept_controller block.new unkept_controller }
+        ensures told { TellsPort block.new self.old.stream.diary.past self.new.stream.diary.past }
+    {
         self.stream.read_port(block);
     }
 

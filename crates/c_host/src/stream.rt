@@ -7,7 +7,7 @@ ghost use Rattle.c_host.specs.Talk.{last_answer};
 ghost use Rattle.c_host.specs.Records.{blocks_number, command_record, count_number, data_number, failed_by, fault_by, good_by};
 ghost use Rattle.c_host.specs.Records.{heard_by, heard_in, ios_record, is_word, length_number, lines_by, lines_number, moved_by};
 ghost use Rattle.c_host.specs.Records.{refused_by, response_number, timing_number, touched_by, with_record};
-ghost use Rattle.c_host.specs.Told.{TellsCommand, TellsIos, TellsLook, TellsPause, TellsRead, TellsReadWith, TellsWrite};
+ghost use Rattle.c_host.specs.Told.{TellsCommand, TellsIos, TellsLook, TellsPause, TellsPort, TellsRead, TellsReadWith, TellsWrite};
 ghost use Rattle.c_host.specs.Told.{TellsWriteWith};
 ghost use Rattle.mmc_card.specs.CardAnswer.{Silent};
 ghost use Rattle.mmc_host.specs.Hosts.{answer_heard, unkept_host};
@@ -463,7 +463,8 @@ impl Stream {
 
     /// Reads a block from the Buffer Data Port.
     pub fn read_port(&mut self, block: &mut [u8])
-        ensures { length block.new ≡ length block.old }
+        ensures length { length block.new ≡ length block.old }
+        ensures tells { TellsPort block.new self.old.diary.past self.new.diary.past }
     {
         self.tell(&[READ_PORT]);
         let _ = self.take(block);

@@ -1,27 +1,31 @@
 // The two ways in for C.
-ghost use Rattle.std.specs.Prelude.{◌<◌, ◌≡◌, IfOk, IsOk, length};
-ghost use Rattle.mmc_host.specs.HostStates.{AreMovable, begun};
-ghost use Rattle.mmc_host.specs.Hosts.{Looks, ReadsBlock, Sends, SetsIos, Waits, Where, WritesBlock, unkept_host};
-ghost use Rattle.mmc_host.specs.Together.{ReadsWith, WritesWith};
+ghost use Rattle.std.specs.Prelude.{◌<◌, ◌≡◌, IfOk, IsOk, false, length};
+ghost use Rattle.mmc_host.specs.HostStates.{AreMovable, IsFree, IsTold, IsToCome, IsToGo, begun, lines_of};
+ghost use Rattle.mmc_host.specs.Hosts.{IsSlowEnough, IsUnused, IsWithin, Looks, ReadsBlock, Sends, SetsIos, Waits, Where};
+ghost use Rattle.mmc_host.specs.Hosts.{WritesBlock};
+ghost use Rattle.mmc_host.specs.Together.{AreAhead, AreBehind, ReadsWith, WritesWith};
 ghost use Rattle.mmc_host.specs.declared.response.Response.TheVariants.{R1};
+ghost use Rattle.mmc_sdhci.specs.Controller.{IsAtMost, lines_in};
+ghost use Rattle.mmc_sdhci.specs.Driver.{IsNew, IsReady, speed_limit};
+ghost use Rattle.mmc_sdhci.specs.Moving.{WhereKept};
 ghost use Rattle.c_host.specs.Told.{TellsCommand, TellsIos, TellsPause, TellsRead, TellsReadWith, TellsWrite, TellsWriteWith};
-ghost use Rattle.c_host.specs.Ways.{Begins, HasLimits, HasTold, Resumes, Speaks, TellsLookFor};
-ghost use Rattle.c_host.specs.declared.way.Given.TheVariants as Gives;
+ghost use Rattle.c_host.specs.Ways.{Begins, HasLimits, HasTold, IfFunctions, IfRegisters, Resumes, Speaks, TellsLookFor};
+ghost use Rattle.c_host.specs.Ways.{view_of};
 
 use crate::registers::CRegisters;
 use crate::stream::Stream;
 use mmc_bus::{Blocks, BlocksMut, Moved};
 use mmc_card::{DataIn, DataOut, Lines, Timing, Width};
 use mmc_host::{Heard, Host, HostCommand, Ios, ResponseFault, Work};
-use mmc_sdhci::{Sdhci, StartFault};
+use mmc_sdhci::{Registers, Sdhci, StartFault};
 
 /// What C gives.
-#[derive(Clone, Copy, Debug, PartialEq, Eq)]
-pub enum Given {
-    /// A host.
-    Host,
+#[derive(Drop)]
+pub enum Given<R> {
+    /// A host, which is told of decoded commands over this stream.
+    Host(Stream),
     /// The registers of an SD host controller.
-    Registers,
+    Registers(R),
 }
 
 /// Functions of C that are told of decoded commands.
@@ -35,26 +39,32 @@ pub struct CFunctions {
 
 /// A host that C implements.
 #[derive(Drop)]
-pub enum Way {
+pub enum Way<H> {
     /// By functions that are told of decoded commands.
     Host(CFunctions),
-    /// By its registers.
-    Registers(Sdhci<CRegisters>),
+    /// By its registers, which this driver has.
+    Registers(H),
 }
 
-impl Way {
+/// A host over functions of C, or over registers that C reads and writes.
+pub type CWay = Way<Sdhci<CRegisters>>;
+
+impl<R: Registers + Drop> Way<Sdhci<R>> {
     /// A host that begins with a card: on one line, at the clock of identification.
     ///
     /// # Errors
     /// Why the controller with these registers isn't ready for use.
-    pub fn begin(number: i32, given: Given) -> Result<Way, StartFault>
-        ensures told { IfOk result (λ way. HasTold way begun.ios) }
-        ensures begins { IfOk result (λ way. Begins given way) }
-        ensures functions { given ≡ Gives.Host → IsOk result }
+    pub fn begin(given: Given<R>) -> Result<Way<Sdhci<R>>, StartFault>
+        requires new { IfRegisters given (λ registers. IsNew (R.view registers)) }
+        ensures told { IfOk result (λ way. HasTold ⟦<Sdhci<R> as Host>⟧.has_told way begun.ios) }
+        ensures begins { IfOk result (λ way. Begins R.view ⟦<Sdhci<R> as Host>⟧.view given way) }
+        ensures unkept { ((registers : R) → (R.view registers).is_kept ≡ false)
+            → IfOk result (λ way. (view_of ⟦<Sdhci<R> as Host>⟧.view way).is_kept ≡ false) }
+        ensures functions { IfFunctions given (IsOk result) }
     {
-        let mut stream = Stream::new(number);
         match given {
-            Given::Host => {
+            Given::Host(stream) => {
+                let mut stream = stream;
                 let limits = stream.limits();
                 stream.set_ios(Ios {
                     width: Width::One,
@@ -63,7 +73,7 @@ impl Way {
                 });
                 Ok(Way::Host(CFunctions { stream, limits }))
             }
-            Given::Registers => match Sdhci::new(CRegisters { stream }) {
+            Given::Registers(registers) => match Sdhci::new(registers) {
                 Ok(driver) => Ok(Way::Registers(driver)),
                 Err((_, fault)) => Err(fault),
             },
@@ -74,17 +84,24 @@ impl Way {
     ///
     /// # Errors
     /// Why the controller with these registers isn't ready for use.
-    pub fn resume(number: i32, given: Given, lines: Lines) -> Result<Way, StartFault>
-        ensures resumes { IfOk result (λ way. Resumes given way) }
-        ensures functions { given ≡ Gives.Host → IsOk result }
+    pub fn resume(given: Given<R>, lines: Lines) -> Result<Way<Sdhci<R>>, StartFault>
+        requires ready { IfRegisters given (λ registers. IsReady (R.view registers)) }
+        requires lines { IfRegisters given (λ registers. WhereKept (R.view registers)
+            (lines_in (R.view registers).settings.control ≡ lines)) }
+        requires clock { IfRegisters given (λ registers. WhereKept (R.view registers)
+            (IsAtMost (speed_limit lines.timing) (R.view registers))) }
+        ensures resumes { IfOk result (λ way. Resumes R.view ⟦<Sdhci<R> as Host>⟧.view lines given way) }
+        ensures unkept { ((registers : R) → (R.view registers).is_kept ≡ false)
+            → IfOk result (λ way. (view_of ⟦<Sdhci<R> as Host>⟧.view way).is_kept ≡ false) }
+        ensures functions { IfFunctions given (IsOk result) }
     {
-        let mut stream = Stream::new(number);
         match given {
-            Given::Host => {
+            Given::Host(stream) => {
+                let mut stream = stream;
                 let limits = stream.limits();
                 Ok(Way::Host(CFunctions { stream, limits }))
             }
-            Given::Registers => match Sdhci::resume(CRegisters { stream }, lines) {
+            Given::Registers(registers) => match Sdhci::resume(registers, lines) {
                 Ok(driver) => Ok(Way::Registers(driver)),
                 Err((_, fault)) => Err(fault),
             },
@@ -92,15 +109,13 @@ impl Way {
     }
 }
 
-impl Host for Way {
-    // The proofs know no card behind C.
-    ghost view = { λ _. unkept_host };
+impl<H: Host> Host for Way<H> {
+    ghost view = { view_of H.view };
 
-    // By functions, C was told so last.
-    ghost has_told = { HasTold };
+    ghost has_told = { HasTold H.has_told };
 
     fn limits(&self) -> Lines
-        ensures limits { Where unkept_host (result ≡ unkept_host.limits) }
+        ensures limits { Where (view_of H.view self.now) (result ≡ (view_of H.view self.now).limits) }
         ensures come { HasLimits self.now result }
     {
         match self {
@@ -110,8 +125,9 @@ impl Host for Way {
     }
 
     fn set_ios(&mut self, ios: Ios)
-        ensures sets { SetsIos unkept_host ios unkept_host }
-        ensures told { HasTold self.new ios }
+        requires { Where (view_of H.view self.old) (IsWithin (lines_of ios) (view_of H.view self.old).limits) }
+        ensures sets { SetsIos (view_of H.view self.old) ios (view_of H.view self.new) }
+        ensures told { HasTold H.has_told self.new ios }
         ensures speaks { Speaks self.old self.new (TellsIos ios) }
     {
         match self {
@@ -123,7 +139,10 @@ impl Host for Way {
     fn send(&mut self, command: HostCommand) -> Result<Heard, ResponseFault>
         requires index { command.index < 64 }
         requires movable { AreMovable command.transfer }
-        ensures sends { Sends unkept_host command result unkept_host }
+        requires free { Where (view_of H.view self.old) (IsFree (view_of H.view self.old).state.transfer command) }
+        requires told { Where (view_of H.view self.old) (IsTold (view_of H.view self.old).state command) }
+        requires clock { Where (view_of H.view self.old) (IsSlowEnough (view_of H.view self.old).state command) }
+        ensures sends { Sends (view_of H.view self.old) command result (view_of H.view self.new) }
         ensures speaks { Speaks self.old self.new (TellsCommand command result) }
     {
         match self {
@@ -139,12 +158,17 @@ impl Host for Way {
     ) -> (Result<Heard, ResponseFault>, Moved<DataIn>)
         requires index { command.index < 64 }
         requires movable { AreMovable command.transfer }
-        ensures reads { ReadsWith D.blocks D.with unkept_host command blocks.old result.0 result.1 blocks.new unkept_host }
+        requires free { Where (view_of H.view self.old) (IsFree (view_of H.view self.old).state.transfer command) }
+        requires told { Where (view_of H.view self.old) (IsTold (view_of H.view self.old).state command) }
+        requires clock { Where (view_of H.view self.old) (IsSlowEnough (view_of H.view self.old).state command) }
+        requires behind { AreBehind command.transfer (length (D.blocks blocks.old)) }
+        ensures reads { ReadsWith D.blocks D.with (view_of H.view self.old) command blocks.old result.0 result.1 blocks.new
+            (view_of H.view self.new) }
         ensures speaks { Speaks self.old self.new (TellsReadWith command (D.blocks blocks.new) result.0 result.1) }
     {
         match self {
             Way::Host(functions) => functions.stream.read_with(command, blocks),
-            Way::Registers(driver) => (driver.send(command), Moved::Good(0)),
+            Way::Registers(driver) => driver.read_with(command, blocks),
         }
     }
 
@@ -155,18 +179,24 @@ impl Host for Way {
     ) -> (Result<Heard, ResponseFault>, Moved<DataOut>)
         requires index { command.index < 64 }
         requires movable { AreMovable command.transfer }
+        requires free { Where (view_of H.view self.old) (IsFree (view_of H.view self.old).state.transfer command) }
+        requires told { Where (view_of H.view self.old) (IsTold (view_of H.view self.old).state command) }
+        requires clock { Where (view_of H.view self.old) (IsSlowEnough (view_of H.view self.old).state command) }
+        requires ahead { AreAhead command.transfer (length (D.blocks blocks.now)) }
         requires response { command.response ≡ R1 }
-        ensures writes { WritesWith unkept_host command (D.blocks blocks.now) result.0 result.1 unkept_host }
+        ensures writes { WritesWith (view_of H.view self.old) command (D.blocks blocks.now) result.0 result.1
+            (view_of H.view self.new) }
         ensures speaks { Speaks self.old self.new (TellsWriteWith command (length (D.blocks blocks.now)) result.0 result.1) }
     {
         match self {
             Way::Host(functions) => functions.stream.write_with(command, blocks),
-            Way::Registers(driver) => (driver.send(command), Moved::Good(0)),
+            Way::Registers(driver) => driver.write_with(command, blocks),
         }
     }
 
     fn read_block(&mut self, block: &mut [u8]) -> DataIn
-        ensures reads { ReadsBlock unkept_host (length block.old) result block.new unkept_host }
+        requires { Where (view_of H.view self.old) (IsToCome (view_of H.view self.old).state (length block.old)) }
+        ensures reads { ReadsBlock (view_of H.view self.old) (length block.old) result block.new (view_of H.view self.new) }
         ensures speaks { Speaks self.old self.new (TellsRead (length block.old) result block.new) }
     {
         match self {
@@ -176,7 +206,8 @@ impl Host for Way {
     }
 
     fn write_block(&mut self, block: &[u8; 512]) -> DataOut
-        ensures writes { WritesBlock unkept_host block.now result unkept_host }
+        requires { Where (view_of H.view self.old) (IsToGo (view_of H.view self.old).state) }
+        ensures writes { WritesBlock (view_of H.view self.old) block.now result (view_of H.view self.new) }
         ensures speaks { Speaks self.old self.new (TellsWrite block.now result) }
     {
         match self {
@@ -186,7 +217,8 @@ impl Host for Way {
     }
 
     fn is_busy(&mut self, work: Work) -> bool
-        ensures looks { Looks unkept_host result unkept_host }
+        requires { Where (view_of H.view self.old) (work ≡ (view_of H.view self.old).state.work) }
+        ensures looks { Looks (view_of H.view self.old) result (view_of H.view self.new) }
         ensures speaks { Speaks self.old self.new (TellsLookFor work result) }
     {
         match self {
@@ -196,7 +228,7 @@ impl Host for Way {
     }
 
     fn pause(&mut self, micros: u32)
-        ensures waits { Waits unkept_host unkept_host }
+        ensures waits { Waits (view_of H.view self.old) micros (view_of H.view self.new) }
         ensures speaks { Speaks self.old self.new (TellsPause micros) }
     {
         match self {

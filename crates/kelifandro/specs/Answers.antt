@@ -57,7 +57,3 @@ abbrev pub start_number : StartFault → ℤ
 start_number NoVoltage = minus 22
 start_number NoBaseClock = minus 23
 start_number NoCard = minus 24
-
-abbrev pub opening_number : Result Unit InitializationFault → ℤ
-opening_number (Ok done) = pos 0
-opening_number (Err fault) = unopened_number fault

@@ -1,5 +1,6 @@
 -- What a call begins with.
-use Rattle.std.specs.Prelude.{◌==◌, ◌≡◌, Result, if◌then◌else◌, ℕ}
+use Rattle.std.specs.Prelude.{◌≡◌, Result, ℕ}
+use Rattle.c_host.specs.declared.registers.CRegisters.{CRegisters}
 use Rattle.c_host.specs.declared.way.Given.{Given}
 use Rattle.c_host.specs.declared.way.Given.TheVariants.{Host, Registers}
 use Rattle.mmc_direct.specs.Stands.{stands_of}
@@ -13,5 +14,7 @@ use Rattle.mmc_switch.specs.declared.session.Session.{Session}
 abbrev pub IsAsNoted : Stands → CardRecord → Type 0
 IsAsNoted stands note = (how : Result Session Broken) → IsNoteOf how note → stands ≡ stands_of how
 
-abbrev pub given_of : ℕ → Given
-given_of way = if way == 0 then Host else Registers
+-- 0 is a host, anything else registers
+abbrev pub IsGiven : ℕ → Given CRegisters → Type 0
+IsGiven way (Host stream) = way ≡ 0
+IsGiven way (Registers registers) = way ≡ 0 → ⊥

@@ -1,7 +1,7 @@
 // The numbers that C knows of answers (`enum kelifandro_result`).
-ghost use Rattle.std.specs.Prelude.{◌≡◌};
-ghost use Rattle.kelifandro.specs.Answers.{answer_number, cause_number, opening_number, refused_number, start_number};
-ghost use Rattle.kelifandro.specs.Answers.{unidentified_number, unopened_number};
+ghost use Rattle.std.specs.Prelude.{◌≡◌, pos};
+ghost use Rattle.kelifandro.specs.Answers.{answer_number, cause_number, refused_number, start_number, unidentified_number};
+ghost use Rattle.kelifandro.specs.Answers.{unopened_number};
 
 use mmc_bus::Cause;
 use mmc_direct::{NotDone, Refused};
@@ -69,7 +69,8 @@ fn unidentified_number(fault: IdentFault) -> i32
 
 /// Why a card isn't opened.
 pub fn unopened_number(fault: InitializationFault) -> i32
-    ensures { result ≡ unopened_number fault }
+    ensures number { result ≡ unopened_number fault }
+    ensures not_done { result ≡ pos 0 → ⊥ }
 {
     match fault {
         InitializationFault::Identification(fault) => unidentified_number(fault),
@@ -86,15 +87,5 @@ pub fn start_number(fault: StartFault) -> i32
         StartFault::NoVoltage => -22,
         StartFault::NoBaseClock => -23,
         StartFault::NoCard => -24,
-    }
-}
-
-/// What became of an opening.
-pub fn opening_number(opened: Result<(), InitializationFault>) -> i32
-    ensures { result ≡ opening_number opened }
-{
-    match opened {
-        Ok(()) => DONE,
-        Err(fault) => unopened_number(fault),
     }
 }

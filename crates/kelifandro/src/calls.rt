@@ -1,27 +1,33 @@
 // What a call of C begins with: the way to the card, and how a card of which a record was kept stands.
-ghost use Rattle.std.specs.Prelude.{◌≡◌, [], Err, IfOk, IsSome, None, Some, false};
+ghost use Rattle.std.specs.Prelude.{◌≡◌, [], Err, IfErr, IfOk, IsOk, IsSome, None, Result, Some, false, pos};
 ghost use Rattle.mmc_record.specs.Numbers.{part_of};
-ghost use Rattle.mmc_record.specs.Note.{is_note};
+ghost use Rattle.mmc_record.specs.Note.{IsNoteOf, is_note};
 ghost use Rattle.mmc_host.specs.HostStates.{resting};
 ghost use Rattle.mmc_calls.specs.Noted.{lines_in};
+ghost use Rattle.mmc_switch.specs.declared.broken.Broken.{Broken};
+ghost use Rattle.mmc_switch.specs.declared.session.Session.{Session};
 ghost use Rattle.kelifandro.specs.Answers.{minus};
-ghost use Rattle.kelifandro.specs.Calls.{IsAsNoted, given_of};
+ghost use Rattle.kelifandro.specs.Calls.{IsAsNoted, IsGiven};
 
 use crate::answers::{NO_PARTITION, NOT_OPEN, start_number};
-use c_host::{Given, Way};
+use c_host::{CRegisters, CWay, Given, Stream, Way};
 use mmc_bus::{Lines, Part};
 use mmc_calls::stands_by;
 use mmc_direct::Stands;
 use mmc_record::{CardRecord, part_of};
 use mmc_story::{HasStory, StoryHost};
 
-/// The way that C means by this number: 0 a host, anything else registers.
-pub fn given_of(way: u8) -> Given
-    ensures { result ≡ given_of way }
+/// A host of C's, with a diary that begins with a call.
+pub type CHost<S> = StoryHost<CWay, S>;
+
+/// What C gives by this number: 0 a host, anything else registers.
+pub fn given_of(way: u8) -> Given<CRegisters>
+    ensures { IsGiven way result }
 {
+    let stream = Stream::new(0);
     match way {
-        0 => Given::Host,
-        _ => Given::Registers,
+        0 => Given::Host(stream),
+        _ => Given::Registers(CRegisters { stream }),
     }
 }
 
@@ -34,13 +40,15 @@ pub fn go_back<S: HasStory>(
     way: u8,
     card: &CardRecord,
     part: u8,
-) -> Result<(Stands, StoryHost<Way, S>, Part), i32>
+) -> Result<(Stands, CHost<S>, Part), i32>
     ensures stands { IfOk result (λ r. IsAsNoted r.0 card.now) }
     ensures past { IfOk result (λ r. r.1.diary.past ≡ []) }
     ensures state { IfOk result (λ r. r.1.state ≡ resting (lines_in r.0)) }
     ensures part { IfOk result (λ r. part_of part ≡ Some r.2) }
     ensures no_partition { part_of part ≡ None → result ≡ Err (minus 2) }
     ensures not_open { IsSome (part_of part) → is_note card.now ≡ false → result ≡ Err (minus 1) }
+    ensures fault { IfErr result (λ number. number ≡ pos 0 → ⊥) }
+    ensures functions { way ≡ 0 → IsSome (part_of part) → (how : Result Session Broken) → IsNoteOf how card.now → IsOk result }
 {
     let Some(part) = part_of(part) else {
         return Err(NO_PARTITION);
@@ -53,7 +61,7 @@ pub fn go_back<S: HasStory>(
         width: info.width,
         timing: info.timing,
     };
-    match Way::resume(0, given_of(way), lines) {
+    match Way::resume(given_of(way), lines) {
         Ok(host) => Ok((stands, StoryHost::resume(host, lines), part)),
         Err(fault) => Err(start_number(fault)),
     }

@@ -1,5 +1,6 @@
 -- The driver as a host, and what it knows of its controller.
 use Rattle.std.specs.Prelude.{[], ◌%◌, ◌==◌, ◌≡◌, Bool, None, false, if◌then◌else◌, true, ℕ}
+use Rattle.mmc_frame.specs.Field.{field}
 use Rattle.mmc_card.specs.Card.{powered_on}
 use Rattle.mmc_card.specs.declared.exchange.Lines.{Lines}
 use Rattle.mmc_card.specs.declared.exchange.Timing.{Timing}
@@ -12,6 +13,8 @@ use Rattle.mmc_host.specs.declared.told.Ios.{Ios}
 use Rattle.mmc_sdhci.specs.Controller.{ControllerView, IsAtMost, Settled, base_clock, clock_runs, is_set, is_still}
 use Rattle.mmc_sdhci.specs.Accesses.{is_at_rest, restarted}
 use Rattle.mmc_sdhci.specs.Moving.{WhereKept}
+use Rattle.mmc_sdhci.specs.declared.start.StartFault.{StartFault}
+use Rattle.mmc_sdhci.specs.declared.start.StartFault.TheVariants.{NoBaseClock, NoCard, NoVoltage}
 
 -- a host with this controller: its card, what it was told so far, and its limits
 abbrev pub host_over : ControllerView → HostState → Lines → HostView
@@ -72,6 +75,15 @@ started view =
 
 abbrev pub Restarts : ControllerView → ControllerView → Type 0
 Restarts old new = Settled old (new ≡ started old) new
+
+-- Why a controller isn't ready: it has no 3.3 V (bit 24 of Capabilities), it doesn't tell its base clock, or, where it has both, its
+-- slot is empty, of which nothing is said here.
+abbrev pub IsUnready : StartFault → ControllerView → Type 0
+IsUnready NoVoltage view = WhereKept view (field 24 24 view.built.capabilities ≡ 0)
+IsUnready NoBaseClock view = WhereKept view (base_clock view.built.capabilities view.built.version ≡ 0)
+IsUnready NoCard view =
+    WhereKept view
+    ((field 24 24 view.built.capabilities ≡ 1) × (base_clock view.built.capabilities view.built.version ≡ 0 → ⊥))
 
 -- the card is as before, and so is what is built in
 pub record IsSameCard (old new : ControllerView) : Type 0 where

@@ -1,10 +1,11 @@
-ghost use Rattle.std.specs.Prelude.{◌<◌, ◌≡◌, IfOk, true};
+ghost use Rattle.std.specs.Prelude.{◌<◌, ◌≡◌, IfErr, IfOk, true};
 ghost use Rattle.mmc_host.specs.HostStates.{lines_of, resting};
-ghost use Rattle.mmc_host.specs.Hosts.{IsUnused};
+ghost use Rattle.mmc_host.specs.Hosts.{IsUnused, Rests};
 ghost use Rattle.mmc_sdhci.specs.Controller.{IsAtMost, Settled, limits_in, lines_in};
 ghost use Rattle.mmc_sdhci.specs.Accesses.{IsAtRest};
 ghost use Rattle.mmc_sdhci.specs.Commands.{IsSet};
-ghost use Rattle.mmc_sdhci.specs.Driver.{IsBaseClock, IsNew, IsReady, IsSameCard, are_words, clock_limit, host_over, speed_limit};
+ghost use Rattle.mmc_sdhci.specs.Driver.{IsBaseClock, IsNew, IsReady, IsSameCard, IsUnready, are_words, clock_limit, host_over, speed_limit};
+ghost use Rattle.mmc_sdhci.specs.declared.start.StartFault.TheVariants.{NoBaseClock};
 ghost use Rattle.mmc_sdhci.specs.Moving.{WhereKept};
 
 use crate::busy::is_busy;
@@ -60,6 +61,7 @@ impl<R: Registers> Sdhci<R> {
         ensures limits { IfOk result (λ host. WhereKept (R.view host.registers)
             (host.limits ≡ limits_in (R.view host.registers).built.capabilities)) }
         ensures unused { IfOk result (λ host. IsUnused (host_over (R.view host.registers) host.state host.limits)) }
+        ensures unready { IfErr result (λ failed. IsUnready failed.1 (R.view failed.0)) }
     {
         let mut registers = registers;
         restart(&mut registers);
@@ -100,6 +102,8 @@ impl<R: Registers> Sdhci<R> {
         ensures same { IfOk result (λ host. Settled (R.view registers)
             (IsSameCard (R.view registers) (R.view host.registers)) (R.view host.registers)) }
         ensures resting { IfOk result (λ host. host.state ≡ resting lines) }
+        ensures fault { IfErr result (λ failed. failed.1 ≡ NoBaseClock) }
+        ensures unready { IfErr result (λ failed. IsUnready failed.1 (R.view failed.0)) }
     {
         let mut registers = registers;
         let capabilities = registers.read32(CAPABILITIES);
@@ -117,14 +121,20 @@ impl<R: Registers> Sdhci<R> {
         })
     }
 
-    /// Whether a card is inserted now.
-    pub fn has_card(&mut self) -> bool {
+    /// Whether a card is inserted now. The card isn't asked.
+    pub fn has_card(&mut self) -> bool
+        ensures { Rests (host_over (R.view self.old.registers) self.old.state self.old.limits)
+            (host_over (R.view self.new.registers) self.new.state self.new.limits) }
+    {
         has_card(&mut self.registers)
     }
 
     /// Whether the switch of the slot protects the card against writes. This is the slot's, not the card's: the device doesn't know
     /// it.
-    pub fn is_write_protected(&mut self) -> bool {
+    pub fn is_write_protected(&mut self) -> bool
+        ensures { Rests (host_over (R.view self.old.registers) self.old.state self.old.limits)
+            (host_over (R.view self.new.registers) self.new.state self.new.limits) }
+    {
         self.registers.read32(PRESENT) / 0x8_0000 % 2 == 0
     }
 
