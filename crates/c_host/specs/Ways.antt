@@ -1,5 +1,5 @@
 -- What C is told by a host of either kind.
-use Rattle.std.specs.Prelude.{◌*◌, ◌∷◌, ◌≡◌, ◌≤◌, Bool, List, [], true, ℕ}
+use Rattle.std.specs.Prelude.{◌∷◌, ◌≡◌, Bool, List, [], true}
 use Rattle.mmc_card.specs.declared.exchange.Lines.{Lines}
 use Rattle.mmc_host.specs.HostStates.{begun, micros_of, resting}
 use Rattle.mmc_host.specs.Hosts.{HostView, Where, unkept_host}

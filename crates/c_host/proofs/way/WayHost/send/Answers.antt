@@ -1,4 +1,4 @@
-use Rattle.std.proofs.Common.{◌≡◌, subst, sym}
+use Rattle.std.proofs.Common.{subst, sym}
 use Rattle.mmc_host.specs.Hosts.{Sends}
 use Rattle.c_host.specs.Ways.{view_of}
 use Rattle.c_host.proofs.way.WayHost.send.Goals as goal
