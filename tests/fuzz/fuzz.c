@@ -239,6 +239,8 @@ static struct call next_call(void)
         call.count = (size_t)next_byte() << (shape / 8);
     else if (shape % 8 == 3)
         call.count = shape / 8;
+    else if (shape % 4 == 0 && (call.kind == READ_LONG || call.kind == WRITE_LONG))
+        call.count += 1010; /* around the most of one request */
     return call;
 }
 
