@@ -1,5 +1,5 @@
 -- What a call begins with.
-use Rattle.std.specs.Prelude.{◌≡◌, Result, ℕ}
+use Rattle.std.specs.Prelude.{◌≡◌, [], Result, ℕ}
 use Rattle.c_host.specs.declared.registers.CRegisters.{CRegisters}
 use Rattle.c_host.specs.declared.way.Given.{Given}
 use Rattle.c_host.specs.declared.way.Given.TheVariants.{Host, Registers}
@@ -14,7 +14,7 @@ use Rattle.mmc_switch.specs.declared.session.Session.{Session}
 abbrev pub IsAsNoted : Stands → CardRecord → Type 0
 IsAsNoted stands note = (how : Result Session Broken) → IsNoteOf how note → stands ≡ stands_of how
 
--- 0 is a host, anything else registers
+-- 0 is a host, anything else registers; C was told nothing over it yet
 abbrev pub IsGiven : ℕ → Given CRegisters → Type 0
-IsGiven way (Host stream) = way ≡ 0
-IsGiven way (Registers registers) = way ≡ 0 → ⊥
+IsGiven way (Host stream) = (way ≡ 0) × (stream.diary.past ≡ [])
+IsGiven way (Registers registers) = (way ≡ 0 → ⊥) × (registers.stream.diary.past ≡ [])
