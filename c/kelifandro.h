@@ -10,8 +10,9 @@
    or new and all others unchanged. What is trusted: kelifandro.c, your functions, that each of them returns, and that pointers lead to room
    which is there.
 
-   The library takes no memory, needs memcpy and memset alone, and less than 8 KiB of stack. Its calls must not overlap: not
-   from two threads, and not from a function that it calls. */
+   The library takes no memory, needs memcpy and memset alone, and less than 8 KiB of stack. It uses SSE registers and the red zone
+   below the stack pointer: an interrupt has to keep the former and run on another stack, or leave 128 bytes alone. Its calls
+   must not overlap: not from two threads, and not from a function that it calls. */
 #ifndef KELIFANDRO_H
 #define KELIFANDRO_H
 #include <stddef.h>
