@@ -1,4 +1,4 @@
-// A bus with fewer lines than its host could drive, as on a board that wires one.
+// A bus with fewer lines than its host could drive, or slower, as on a board that wires one.
 use mmc_bus::{Bus, DataIn, DataOut, Exchange, Lines, Reply, Timing, Want, Width, Wire};
 
 /// It is never kept to a card.
@@ -9,15 +9,12 @@ pub struct Narrow<B: Bus> {
 }
 
 impl<B: Bus> Narrow<B> {
-    /// This bus, of which so many lines are wired at most.
-    pub fn new(bus: B, width: Width) -> Narrow<B> {
-        let Lines {
-            width: most,
-            timing,
-        } = bus.limits();
+    /// This bus, of which so many lines are wired at most, and which is so fast at most.
+    pub fn new(bus: B, most: Lines) -> Narrow<B> {
+        let Lines { width, timing } = bus.limits();
         let limits = Lines {
-            width: most.fewer(width),
-            timing,
+            width: width.fewer(most.width),
+            timing: timing.slower(most.timing),
         };
         Narrow {
             bus,

@@ -24,15 +24,15 @@ struct Served {
     exchanges: u64,
 }
 
-// Opens the card behind the model, over so many lines at most.
-fn open(alloc: Global, card: SimCard, width: Width) -> Option<Device> {
+// Opens the card behind the model, over such lines at most.
+fn open(alloc: Global, card: SimCard, most: Lines) -> Option<Device> {
     let controller = Controller {
         card,
         is_slow: false,
         was_too_fast: false,
     };
     match driver::<Controller, Brand>(controller, CAPABILITIES, 2) {
-        Ok(host) => BlockDev::open(alloc, Narrow::new(HostBus::new(host), width)).ok(),
+        Ok(host) => BlockDev::open(alloc, Narrow::new(HostBus::new(host), most)).ok(),
         Err(_) => None,
     }
 }
@@ -92,13 +92,13 @@ fn holds(contents: &[u8]) -> bool {
 fn serve(
     alloc: Global,
     spec: CardSpec,
-    width: Width,
+    most: Lines,
     exchange: u64,
     fault: Fault,
 ) -> Result<Served, Fail> {
     let mut card = SimCard::build(alloc, spec).ok().ok_or("no card")?;
     card.plan(exchange, fault).ok().ok_or("not planned")?;
-    let mut device = open(alloc, card, width).ok_or("no device")?;
+    let mut device = open(alloc, card, most).ok_or("no device")?;
     submit(alloc, &mut device)?;
     let answers = device.run(alloc)?;
     let lines = Lines {
@@ -147,28 +147,38 @@ fn spec_of(which: Which) -> CardSpec {
 // No run is so long.
 const NEVER: u64 = 1000;
 
-// Each answer of the controller is lost once: a response, a block that is read, and the status of a block that was rejected.
-fn lose_each(alloc: Global, which: Which, width: Width) -> Result<Lines, Fail> {
-    let whole = serve(alloc, spec_of(which), width, NEVER, Fault::LoseReply)?;
-    let lost = [
-        Fault::LoseReply,
-        Fault::NoBlock,
-        Fault::LoseStatus(Outcome::Old),
-    ];
+// At each exchange once: the command or its response is lost; a block that is read doesn't come, or comes with a bad check; one that is
+// written is rejected, alone or with all after it, or its status is lost; and the power fails.
+const FAULTS: [Fault; 8] = [
+    Fault::LoseCommand,
+    Fault::LoseReply,
+    Fault::NoBlock,
+    Fault::BadBlock,
+    Fault::Reject,
+    Fault::RejectAll,
+    Fault::LoseStatus(Outcome::Old),
+    Fault::Brownout(Outcome::Old),
+];
+
+fn fail_each(alloc: Global, which: Which, most: Lines) -> Result<Lines, Fail> {
+    let whole = serve(alloc, spec_of(which), most, NEVER, Fault::LoseReply)?;
     for exchange in 0..whole.exchanges {
-        for fault in lost {
-            serve(alloc, spec_of(which), width, exchange, fault)?;
+        for fault in FAULTS {
+            serve(alloc, spec_of(which), most, exchange, fault)?;
         }
     }
     Ok(whole.lines)
 }
 
 #[test]
-fn loses_each_answer_on_a_strict_controller(rt: HostRuntime) -> Result<(), Fail> {
-    for which in [Which::Sd, Which::Mmc] {
-        for width in [Width::One, Width::Four] {
-            let lines = lose_each(rt.alloc(), which, width)?;
-            assert!(rt; lines.width == width);
+fn each_exchange_fails_on_a_strict_controller(rt: HostRuntime) -> Result<(), Fail> {
+    for timing in [Timing::Default, Timing::High] {
+        for width in [Width::One, Width::Four, Width::Eight] {
+            let most = Lines { width, timing };
+            let mmc = fail_each(rt.alloc(), Which::Mmc, most)?;
+            assert!(rt; mmc == most);
+            let sd = fail_each(rt.alloc(), Which::Sd, most)?;
+            assert!(rt; sd.width == width.fewer(Width::Four));
         }
     }
     Ok(())
@@ -176,11 +186,12 @@ fn loses_each_answer_on_a_strict_controller(rt: HostRuntime) -> Result<(), Fail>
 
 #[test]
 fn serves_cards_on_a_strict_controller(rt: HostRuntime) -> Result<(), Fail> {
-    let open_ended = serve(rt.alloc(), sdsc(), Width::Four, NEVER, Fault::LoseReply)?;
+    let most = Lines::all();
+    let open_ended = serve(rt.alloc(), sdsc(), most, NEVER, Fault::LoseReply)?;
     assert!(rt; open_ended.lines.timing == Timing::Default);
-    let four = serve(rt.alloc(), sdhc(), Width::Four, NEVER, Fault::LoseReply)?;
+    let four = serve(rt.alloc(), sdhc(), most, NEVER, Fault::LoseReply)?;
     assert!(rt; four.lines.timing == Timing::High);
-    let eight = serve(rt.alloc(), emmc(), Width::Eight, NEVER, Fault::LoseReply)?;
+    let eight = serve(rt.alloc(), emmc(), most, NEVER, Fault::LoseReply)?;
     assert!(rt; eight.lines.width == Width::Eight);
     Ok(())
 }
