@@ -264,6 +264,8 @@ impl<D: Host, S: HasStory> Model<D, S> {
     pub fn new(host: D, capabilities: u32, version: u8) -> Model<D, S>
         requires { (D.view host).is_kept ≡ false }
         ensures past { result.diary.past ≡ [] }
+        ensures capabilities { result.state.capabilities ≡ capabilities }
+        ensures version { result.state.version ≡ version }
         ensures new { IsNew (controller S.story result.diary.past result.state) }
         ensures sound { result.state.is_sound ≡ true }
     {

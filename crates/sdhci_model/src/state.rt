@@ -66,6 +66,8 @@ impl State {
         ensures rest { (outcome : Outcome) → is_at_rest (shown outcome result) ≡ true }
         ensures transfer { result.transfer ≡ Nothing }
         ensures power { result.power ≡ 0 }
+        ensures capabilities { result.capabilities ≡ capabilities }
+        ensures version { result.version ≡ version }
         ensures sound { result.is_sound ≡ true }
     {
         State {
