@@ -1,14 +1,23 @@
--- What a call begins with.
-use Rattle.std.specs.Prelude.{◌≡◌, [], Result, ℕ}
+-- What a call begins with, and what becomes of it.
+use Rattle.std.specs.Prelude.{◌≡◌, [], None, Option, Result, Some, pos, ℕ, ℤ}
 use Rattle.c_host.specs.declared.registers.CRegisters.{CRegisters}
 use Rattle.c_host.specs.declared.way.Given.{Given}
 use Rattle.c_host.specs.declared.way.Given.TheVariants.{Host, Registers}
+use Rattle.mmc_calls.specs.Noted.{lines_in}
+use Rattle.mmc_card.specs.declared.exchange.Lines.{Lines}
+use Rattle.mmc_card.specs.declared.part.Part.{Part}
 use Rattle.mmc_direct.specs.Stands.{stands_of}
+use Rattle.mmc_direct.specs.declared.refused.Refused.{Refused}
 use Rattle.mmc_direct.specs.declared.stands.Stands.{Stands}
+use Rattle.mmc_host.specs.HostStates.{resting}
+use Rattle.mmc_host.specs.Hosts.{HostView}
 use Rattle.mmc_record.specs.Note.{IsNoteOf}
+use Rattle.mmc_record.specs.Numbers.{part_of}
 use Rattle.mmc_record.specs.declared.record.CardRecord.{CardRecord}
+use Rattle.mmc_story.specs.Story.{Story, host_with}
 use Rattle.mmc_switch.specs.declared.broken.Broken.{Broken}
 use Rattle.mmc_switch.specs.declared.session.Session.{Session}
+use Rattle.kelifandro.specs.Answers.{refused_number}
 
 -- the card stands as was noted
 abbrev pub IsAsNoted : Stands → CardRecord → Type 0
@@ -18,3 +27,18 @@ IsAsNoted stands note = (how : Result Session Broken) → IsNoteOf how note → 
 abbrev pub IsGiven : ℕ → Given CRegisters → Type 0
 IsGiven way (Host stream) = (way ≡ 0) × (stream.diary.past ≡ [])
 IsGiven way (Registers registers) = (way ≡ 0 → ⊥) × (registers.stream.diary.past ≡ [])
+
+-- where a card is noted, and there is a partition of this number, this holds of how it stands and of the partition
+abbrev pub IfNoted : CardRecord → ℕ → (Stands → Part → Type 0) → Type 0
+IfNoted note number Holds =
+    (how : Result Session Broken) (part : Part) → IsNoteOf how note → part_of number ≡ Some part → Holds (stands_of how) part
+
+-- the host that a call goes on with: the card of the story, between two commands, on the lines that are noted
+abbrev pub host_of : Story → Stands → Lines → HostView
+host_of story stands limits = host_with (story.outcome []) (resting (lines_in stands)) limits
+
+-- A request that may not be made is never told as done. By functions it is told by the number of why; by registers the controller may
+-- not be ready, which comes first.
+abbrev pub TellsWhy : ℕ → Option Refused → ℤ → Type 0
+TellsWhy way None number = Unit {0}
+TellsWhy way (Some why) number = (number ≡ pos 0 → ⊥) × (way ≡ 0 → number ≡ refused_number why)

@@ -1,13 +1,11 @@
 // What a call of C begins with: the way to the card, and how a card of which a record was kept stands.
-ghost use Rattle.std.specs.Prelude.{◌≡◌, [], Err, IfErr, IfOk, IsOk, IsSome, None, Result, Some, false, pos};
+ghost use Rattle.std.specs.Prelude.{◌≡◌, [], Err, IfErr, IfOk, IsOk, IsSome, None, Some, false, pos};
 ghost use Rattle.mmc_record.specs.Numbers.{part_of};
-ghost use Rattle.mmc_record.specs.Note.{IsNoteOf, is_note};
+ghost use Rattle.mmc_record.specs.Note.{is_note};
 ghost use Rattle.mmc_host.specs.HostStates.{resting};
 ghost use Rattle.mmc_calls.specs.Noted.{lines_in};
-ghost use Rattle.mmc_switch.specs.declared.broken.Broken.{Broken};
-ghost use Rattle.mmc_switch.specs.declared.session.Session.{Session};
 ghost use Rattle.kelifandro.specs.Answers.{minus};
-ghost use Rattle.kelifandro.specs.Calls.{IsAsNoted, IsGiven};
+ghost use Rattle.kelifandro.specs.Calls.{IfNoted, IsAsNoted, IsGiven};
 
 use crate::answers::{NO_PARTITION, NOT_OPEN, start_number};
 use c_host::{CRegisters, CWay, Given, Stream, Way};
@@ -48,7 +46,7 @@ pub fn go_back<S: HasStory>(
     ensures no_partition { part_of part ≡ None → result ≡ Err (minus 2) }
     ensures not_open { IsSome (part_of part) → is_note card.now ≡ false → result ≡ Err (minus 1) }
     ensures fault { IfErr result (λ number. number ≡ pos 0 → ⊥) }
-    ensures functions { way ≡ 0 → IsSome (part_of part) → (how : Result Session Broken) → IsNoteOf how card.now → IsOk result }
+    ensures functions { way ≡ 0 → IfNoted card.now part (λ stands part. IsOk result) }
 {
     let Some(part) = part_of(part) else {
         return Err(NO_PARTITION);

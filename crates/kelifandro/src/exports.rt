@@ -1,16 +1,17 @@
 // What C calls. Nothing is required of the numbers and bytes that it passes; what it passes pointers to has to be there. Each is one
-// call of `mmc_calls`, over the host that C has given, with a diary. What is proved of that call holds for every story that is true of
-// the diary: `Brand` picks none. What C can see of it stands here.
-ghost use Rattle.std.specs.Prelude.{◌≡◌, IsSome, None, false, pos};
+// call of `opening` or `requests`, whose promises of the card hold for every story: `Brand` picks none. What C can see of it stands here
+// again.
+ghost use Rattle.std.specs.Prelude.{◌≡◌, IsSome, None, false, length, pos};
+ghost use Rattle.mmc_direct.specs.Refusal.{refusal};
+ghost use Rattle.mmc_direct.specs.Stands.{info_of};
+ghost use Rattle.mmc_direct.specs.declared.action.Action.TheVariants.{Erase, Read, Trim, Write};
 ghost use Rattle.mmc_record.specs.Note.{is_note};
 ghost use Rattle.mmc_record.specs.Numbers.{part_of};
 ghost use Rattle.kelifandro.specs.Answers.{minus};
+ghost use Rattle.kelifandro.specs.Calls.{IfNoted, TellsWhy};
 
-use crate::answers::answer_number;
-use crate::calls::go_back;
 use crate::opening::open_by;
-use c_host::{Sectors, SectorsMut};
-use mmc_calls::{erase_over, read_over, trim_over, write_over};
+use crate::requests::{erase_by, read_by, told, trim_by, write_by};
 use mmc_record::CardRecord;
 use std::marker::Brand;
 
@@ -33,13 +34,10 @@ pub extern "C" fn kelifandro_read_by(
 ) -> i32
     ensures no_partition { part_of part ≡ None → result ≡ minus 2 }
     ensures not_open { IsSome (part_of part) → is_note card.old ≡ false → result ≡ minus 1 }
+    ensures judged { IfNoted card.old part (λ stands part.
+        TellsWhy way (refusal Read (info_of stands) part start (length blocks.old)) result) }
 {
-    match go_back::<Brand>(way, card, part) {
-        Ok((stands, host, part)) => answer_number(
-            read_over(host, card, stands, part, start, &mut SectorsMut { blocks }).0,
-        ),
-        Err(number) => number,
-    }
+    told(read_by::<Brand>(way, card, part, start, blocks))
 }
 
 /// Writes sectors.
@@ -53,13 +51,10 @@ pub extern "C" fn kelifandro_write_by(
 ) -> i32
     ensures no_partition { part_of part ≡ None → result ≡ minus 2 }
     ensures not_open { IsSome (part_of part) → is_note card.old ≡ false → result ≡ minus 1 }
+    ensures judged { IfNoted card.old part (λ stands part.
+        TellsWhy way (refusal Write (info_of stands) part start (length blocks.now)) result) }
 {
-    match go_back::<Brand>(way, card, part) {
-        Ok((stands, host, part)) => answer_number(
-            write_over(host, card, stands, part, start, &Sectors { blocks }).0,
-        ),
-        Err(number) => number,
-    }
+    told(write_by::<Brand>(way, card, part, start, blocks))
 }
 
 /// Erases sectors.
@@ -73,13 +68,10 @@ pub extern "C" fn kelifandro_erase_by(
 ) -> i32
     ensures no_partition { part_of part ≡ None → result ≡ minus 2 }
     ensures not_open { IsSome (part_of part) → is_note card.old ≡ false → result ≡ minus 1 }
+    ensures judged { IfNoted card.old part (λ stands part.
+        TellsWhy way (refusal Erase (info_of stands) part start count) result) }
 {
-    match go_back::<Brand>(way, card, part) {
-        Ok((stands, host, part)) => answer_number(
-            erase_over(host, card, stands, part, start, count).0,
-        ),
-        Err(number) => number,
-    }
+    told(erase_by::<Brand>(way, card, part, start, count))
 }
 
 /// Trims sectors.
@@ -93,11 +85,8 @@ pub extern "C" fn kelifandro_trim_by(
 ) -> i32
     ensures no_partition { part_of part ≡ None → result ≡ minus 2 }
     ensures not_open { IsSome (part_of part) → is_note card.old ≡ false → result ≡ minus 1 }
+    ensures judged { IfNoted card.old part (λ stands part.
+        TellsWhy way (refusal Trim (info_of stands) part start count) result) }
 {
-    match go_back::<Brand>(way, card, part) {
-        Ok((stands, host, part)) => answer_number(
-            trim_over(host, card, stands, part, start, count).0,
-        ),
-        Err(number) => number,
-    }
+    told(trim_by::<Brand>(way, card, part, start, count))
 }

@@ -1,0 +1,102 @@
+-- What C is told of a request, and what was promised of it.
+use Rattle.std.proofs.Common.{◌∙◌, ◌≡◌, ap, refl, subst, sym}
+use Rattle.std.proofs.lemmas.Bool.{false≢true}
+use Rattle.std.specs.Prelude.{[], Err, IfErr, IfOk, IsOk, List, None, Ok, Option, Result, Some, pos, slice_set, true, ℕ, ℤ}
+use Rattle.c_host.specs.declared.lent.SectorsMut.{SectorsMut}
+use Rattle.mmc_bus.specs.Lending.{IsRewritten, block, nothing}
+use Rattle.mmc_calls.specs.Noted.{Notes, lines_in}
+use Rattle.mmc_card.specs.declared.exchange.Lines.{Lines}
+use Rattle.mmc_card.specs.declared.part.Part.{Part}
+use Rattle.mmc_direct.specs.Stands.{IfRefused, refusal_in}
+use Rattle.mmc_direct.specs.declared.refused.NotDone.{NotDone}
+use Rattle.mmc_direct.specs.declared.refused.NotDone.TheVariants.{Failed, Refused as RefusedFor}
+use Rattle.mmc_direct.specs.declared.refused.Refused.{Refused}
+use Rattle.mmc_direct.specs.declared.refused.Refused.TheVariants.{Empty, NoSuchPartition, NoTrim, NotInPartition}
+use Rattle.mmc_direct.specs.declared.refused.Refused.TheVariants.{OutOfRange, ReadOnly, TooLong, Unaligned}
+use Rattle.mmc_direct.specs.declared.stands.Stands.{Stands}
+use Rattle.mmc_host.specs.HostStates.{resting}
+use Rattle.mmc_host.specs.Hosts.{HostView}
+use Rattle.mmc_host.specs.declared.told.HostState.{HostState}
+use Rattle.mmc_record.specs.Numbers.{part_of}
+use Rattle.mmc_record.specs.declared.record.CardRecord.{CardRecord}
+use Rattle.mmc_story.specs.Entry.{Entry}
+use Rattle.mmc_story.specs.Story.{IsTrueOf, Story, host_with}
+use Rattle.kelifandro.specs.Answers.{answer_number, refused_number}
+use Rattle.kelifandro.specs.Calls.{IfNoted, IsAsNoted, TellsWhy, host_of}
+
+-- no number of a refusal is that of what is done
+not_done : (why : Refused) → refused_number why ≡ pos 0 → ⊥
+not_done NoSuchPartition is = cc
+not_done OutOfRange is = cc
+not_done Empty is = cc
+not_done TooLong is = cc
+not_done ReadOnly is = cc
+not_done NotInPartition is = cc
+not_done NoTrim is = cc
+not_done Unaligned is = cc
+
+-- the number of an answer that refuses
+refused_answer : (answer : Result Unit NotDone) (why : Refused) → refusal_in answer ≡ Some why
+    → answer_number answer ≡ refused_number why
+refused_answer (Ok done) why is = absurd (cc)
+refused_answer (Err (RefusedFor other)) why is =
+    let same : other ≡ why = cc in
+    ap (λ (w : Refused). refused_number w) same
+refused_answer (Err (Failed cause)) why is = absurd (cc)
+
+-- a refusal is told by its number; where the call came to no host, by another than that of what is done
+pub tells_why : {A : Type 0} (answer : A → Result Unit NotDone) (way : ℕ) (why : Option Refused) (called : Result A ℤ) (number : ℤ)
+    → IfOk called (λ did. number ≡ answer_number (answer did)) → IfErr called (λ other. number ≡ other)
+    → IfErr called (λ other. other ≡ pos 0 → ⊥) → (way ≡ 0 → IsOk called)
+    → IfOk called (λ did. refusal_in (answer did) ≡ why) → TellsWhy way why number
+tells_why answer way None called number told other fault comes judged = tt
+tells_why answer way (Some why) (Ok did) number told other fault comes judged =
+    let is : number ≡ refused_number why = told ∙ refused_answer (answer did) why judged in
+    (λ done. not_done why (sym is ∙ done), λ host. is)
+tells_why answer way (Some why) (Err not) number told other fault comes judged =
+    (λ done. fault (sym other ∙ done), λ host. absurd (false≢true (comes host)))
+
+-- what holds of the host that a call goes on with holds of the story's, where the card was noted
+pub holds_as_noted : (story : Story) (note : CardRecord) (number : ℕ) (stands : Stands) (part : Part) (past : List Entry)
+    (state : HostState) (own limits : Lines) → IsAsNoted stands note → part_of number ≡ Some part → past ≡ []
+    → state ≡ resting (lines_in stands)
+    → ((host_with (story.outcome past) state own).is_kept ≡ true → limits ≡ own)
+    → (Holds : Stands → Part → HostView → Type 0) → Holds stands part (host_with (story.outcome past) state own)
+    → IsTrueOf story [] → IfNoted note number (λ s p. Holds s p (host_of story s limits))
+holds_as_noted story note number stands part past state own limits noted meant none rests within Holds holds so how other is says =
+    let same : part ≡ other = cc in
+    let able : own ≡ limits = sym (within (ap (λ (p : List Entry). (story.outcome p).conformed) none ∙ so)) in
+    let goes : host_with (story.outcome past) state own ≡ host_of story stands limits =
+    ap (λ (p : List Entry). host_with (story.outcome p) state own) none
+    ∙ ap (λ (s : HostState). host_with (story.outcome []) s own) rests
+    ∙ ap (λ (l : Lines). host_with (story.outcome []) (resting (lines_in stands)) l) able in
+    subst (λ (s : Stands). Holds s other (host_of story s limits)) (noted how is)
+    (subst (λ (p : Part). Holds stands p (host_of story stands limits)) same
+    (subst (λ (h : HostView). Holds stands part h) goes holds))
+
+-- of a request that is refused the record notes the card as it was noted
+pub noted_again : (P : Type 0) (note new : CardRecord) (number : ℕ) (stands : Stands) (answer : Result Unit NotDone)
+    → IsAsNoted stands note → IfRefused answer (P × Notes stands new)
+    → IfNoted note number (λ s p. IfRefused answer (Notes s new))
+noted_again P note new number stands (Ok done) noted holds how part is says = tt
+noted_again P note new number stands (Err (RefusedFor why)) noted holds how part is says =
+    subst (λ (s : Stands). Notes s new) (noted how is) holds.1
+noted_again P note new number stands (Err (Failed cause)) noted holds how part is says = tt
+
+-- the same of a read, whose memory is as it was
+pub unread_again : (P : Type 0) (note new : CardRecord) (number : ℕ) (stands : Stands) (answer : Result Unit NotDone)
+    (given left : SectorsMut) → IsAsNoted stands note → IfRefused answer (P × (left ≡ given) × Notes stands new)
+    → IfNoted note number (λ s p. IfRefused answer ((left.blocks.now ≡ given.blocks.now) × Notes s new))
+unread_again P note new number stands (Ok done) given left noted holds how part is says = tt
+unread_again P note new number stands (Err (RefusedFor why)) given left noted holds how part is says =
+    (ap (λ (lent : SectorsMut). lent.blocks.now) holds.1, subst (λ (s : Stands). Notes s new) (noted how is) holds.2)
+unread_again P note new number stands (Err (Failed cause)) given left noted holds how part is says = tt
+
+-- sectors that were lent are the same memory
+pub same_memory : (given left : SectorsMut)
+    → IsRewritten (λ (lent : SectorsMut). lent.blocks.now)
+    (λ (lent : SectorsMut) (i : ℕ) (bytes : List ℕ).
+    record lent { blocks = record lent.blocks { now = slice_set lent.blocks.now i bytes } }) given left
+    → left.blocks.ghost_name ≡ given.blocks.ghost_name
+same_memory given left nothing = refl
+same_memory given left (block now i bytes before inside long) = same_memory given now before

@@ -1,0 +1,16 @@
+use Rattle.std.proofs.Common.{rules, subst, sym, w32}
+use Rattle.std.proofs.lemmas.Int.{to_z-of_z}
+use Rattle.mmc_direct.specs.Refusal.{refusal}
+use Rattle.mmc_direct.specs.Stands.{info_of, stands_of}
+use Rattle.mmc_direct.specs.declared.action.Action.TheVariants.{Trim}
+use Rattle.kelifandro.specs.Calls.{TellsWhy}
+use Rattle.kelifandro.proofs.CallLemmas.{tells_why}
+use Rattle.kelifandro.proofs.exports.kelifandro_trim_by.Goals as goal
+
+pub returns-clause-judged : goal.returns-clause-judged
+returns-clause-judged c = λ how part is says.
+    let why = refusal Trim (info_of (stands_of how)) part c.args.start c.args.count in
+    subst (λ number. TellsWhy c.args.way why number) (sym (to_z-of_z w32 c.told.result (search rules)))
+    (tells_why (λ did. did.answer) c.args.way why c.trim_by.result c.told.result c.told.ensures.answer c.told.ensures.why
+    c.trim_by.ensures.fault (λ host. c.trim_by.ensures.functions host how part is says)
+    (c.trim_by.ensures.judged how part is says))

@@ -1,0 +1,30 @@
+use Rattle.std.proofs.lemmas.Bool.{false≢true}
+use Rattle.std.specs.Prelude.{IfOk}
+use Rattle.mmc_calls.specs.Noted.{IsServed}
+use Rattle.mmc_direct.specs.Changes.{erased_at}
+use Rattle.mmc_direct.specs.Requests.{HasChanged}
+use Rattle.mmc_direct.specs.Stands.{info_of}
+use Rattle.mmc_host.specs.Hosts.{bus_over}
+use Rattle.mmc_story.specs.Story.{host_with}
+use Rattle.kelifandro.proofs.CallLemmas.{holds_as_noted, noted_again}
+use Rattle.kelifandro.proofs.requests.erase_by.Goals as goal
+
+pub returns-in_err-stands-clause-functions : goal.returns-in_err-stands-clause-functions
+returns-in_err-stands-clause-functions g c =
+    λ host how part is says. absurd (false≢true (c.in_err-stands.ensures.functions host how part is says))
+
+pub returns-clause-served : goal.returns-clause-served
+returns-clause-served g c =
+    holds_as_noted g.S.HasStory.story c.args.card.now c.args.part c.in_ok-stands.stands c.in_ok-stands.part
+    c.in_ok-stands.host.diary.past c.in_ok-stands.host.state c.in_ok-stands.host.limits c.limits-limits.result
+    c.in_ok-stands.ensures.stands c.in_ok-stands.ensures.part c.in_ok-stands.ensures.past c.in_ok-stands.ensures.state
+    c.limits-limits.ensures
+    (λ stands part host. IfOk c.erase_over-answer.result.1 (λ bus.
+    IsServed (HasChanged (erased_at (info_of stands) part c.args.start c.args.count)) stands host c.erase_over-answer.result.0 c.erase_over-answer.new.card
+    (bus_over (host_with (g.S.HasStory.story.outcome bus.host.diary.past) bus.host.state bus.host.limits) bus.wire bus.is_misused)))
+    c.erase_over-answer.ensures.served
+
+pub returns-clause-untouched : goal.returns-clause-untouched
+returns-clause-untouched g c =
+    noted_again _ c.args.card.now _ c.args.part c.in_ok-stands.stands c.erase_over-answer.result.0 c.in_ok-stands.ensures.stands
+    c.erase_over-answer.ensures.untouched
