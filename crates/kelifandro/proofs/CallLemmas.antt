@@ -1,8 +1,9 @@
 -- What C is told of a request, and what was promised of it.
 use Rattle.std.proofs.Common.{◌∙◌, ◌≡◌, ap, refl, subst, sym}
 use Rattle.std.proofs.lemmas.Bool.{false≢true}
-use Rattle.std.specs.Prelude.{[], Err, IfErr, IfOk, IsOk, List, None, Ok, Option, Result, Some, pos, slice_set, true, ℕ, ℤ}
+use Rattle.std.specs.Prelude.{[], Bool, Err, IfErr, IfOk, IsOk, List, None, Ok, Option, Result, Some, false, nat_lt, negsuc, pos, slice_set, true, ℕ, ℤ}
 use Rattle.c_host.specs.declared.lent.SectorsMut.{SectorsMut}
+use Rattle.mmc_bus.specs.declared.cause.Cause.TheVariants.{Answer, Busy, Data, Recovery, Status}
 use Rattle.mmc_bus.specs.Lending.{IsRewritten, block, nothing}
 use Rattle.mmc_calls.specs.Noted.{Notes, lines_in}
 use Rattle.mmc_card.specs.declared.exchange.Lines.{Lines}
@@ -24,16 +25,32 @@ use Rattle.mmc_story.specs.Story.{IsTrueOf, Story, host_with}
 use Rattle.kelifandro.specs.Answers.{answer_number, refused_number}
 use Rattle.kelifandro.specs.Calls.{IfNoted, IsAsNoted, TellsWhy, host_of}
 
--- no number of a refusal is that of what is done
+-- a number of a refusal, and of nothing else
+abbrev is_refusal : ℤ → Bool
+is_refusal (pos n) = false
+is_refusal (negsuc n) = nat_lt n 9
+
+refusals : (why : Refused) → is_refusal (refused_number why) ≡ true
+refusals NoSuchPartition = refl
+refusals OutOfRange = refl
+refusals Empty = refl
+refusals TooLong = refl
+refusals ReadOnly = refl
+refusals NotInPartition = refl
+refusals NoTrim = refl
+refusals Unaligned = refl
+
+others : (answer : Result Unit NotDone) → refusal_in answer ≡ None → is_refusal (answer_number answer) ≡ false
+others (Ok done) is = refl
+others (Err (RefusedFor why)) is = absurd (cc)
+others (Err (Failed Answer)) is = refl
+others (Err (Failed Data)) is = refl
+others (Err (Failed Status)) is = refl
+others (Err (Failed Busy)) is = refl
+others (Err (Failed Recovery)) is = refl
+
 not_done : (why : Refused) → refused_number why ≡ pos 0 → ⊥
-not_done NoSuchPartition is = cc
-not_done OutOfRange is = cc
-not_done Empty is = cc
-not_done TooLong is = cc
-not_done ReadOnly is = cc
-not_done NotInPartition is = cc
-not_done NoTrim is = cc
-not_done Unaligned is = cc
+not_done why is = false≢true (sym (ap (λ (n : ℤ). is_refusal n) is) ∙ refusals why)
 
 -- the number of an answer that refuses
 refused_answer : (answer : Result Unit NotDone) (why : Refused) → refusal_in answer ≡ Some why
@@ -49,7 +66,9 @@ pub tells_why : {A : Type 0} (answer : A → Result Unit NotDone) (way : ℕ) (w
     → IfOk called (λ did. number ≡ answer_number (answer did)) → IfErr called (λ other. number ≡ other)
     → IfErr called (λ other. other ≡ pos 0 → ⊥) → (way ≡ 0 → IsOk called)
     → IfOk called (λ did. refusal_in (answer did) ≡ why) → TellsWhy way why number
-tells_why answer way None called number told other fault comes judged = tt
+tells_why answer way None (Ok did) number told other fault comes judged = λ host why is.
+    false≢true (sym (others (answer did) judged) ∙ ap (λ (n : ℤ). is_refusal n) (sym told ∙ is) ∙ refusals why)
+tells_why answer way None (Err not) number told other fault comes judged = λ host why is. absurd (false≢true (comes host))
 tells_why answer way (Some why) (Ok did) number told other fault comes judged =
     let is : number ≡ refused_number why = told ∙ refused_answer (answer did) why judged in
     (λ done. not_done why (sym is ∙ done), λ host. is)

@@ -37,8 +37,8 @@ IfNoted note number Holds =
 abbrev pub host_of : Story → Stands → Lines → HostView
 host_of story stands limits = host_with (story.outcome []) (resting (lines_in stands)) limits
 
--- A request that may not be made is never told as done. By functions it is told by the number of why; by registers the controller may
--- not be ready, which comes first.
+-- A request that may not be made is never told as done. By functions it is told by the number of why, and no other request is told as
+-- refused; by registers the controller may not be ready, which comes first.
 abbrev pub TellsWhy : ℕ → Option Refused → ℤ → Type 0
-TellsWhy way None number = Unit {0}
+TellsWhy way None number = way ≡ 0 → (why : Refused) → number ≡ refused_number why → ⊥
 TellsWhy way (Some why) number = (number ≡ pos 0 → ⊥) × (way ≡ 0 → number ≡ refused_number why)
