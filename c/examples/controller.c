@@ -268,8 +268,9 @@ static int is_misuse(const struct controller *controller, unsigned offset, uint3
     case 0x04:
     case 0x28:
     case 0x29:
-    case 0x2c:
         return is_moving;
+    case 0x2c: /* by its word it is written as it is, with a reset */
+        return is_moving && ((value ^ controller->clock) & 0xfffd);
     case 0x0c:
         return is_moving && (value >> 16 & 0x20);
     case 0x20:
