@@ -80,7 +80,7 @@ struct kelifandro_command {
     uint8_t data;          /* enum kelifandro_data */
     uint32_t argument;
     uint16_t block_length; /* bytes: 8, 64 or 512 */
-    uint16_t blocks;       /* how many; 0: until CMD12 */
+    uint16_t blocks;       /* how many are moved: 1 of a register; an open CMD18 or CMD25 is ended by CMD12 after them */
 };
 
 /* What became of blocks: how many were good or accepted, and what read_block or write_block would have answered to the one that failed, 1

@@ -3,7 +3,6 @@
 
 enum { COMMAND_COMPLETE = 1, TRANSFER_COMPLETE = 2, ERROR = 0x8000 };
 enum { COMMAND_TIMEOUT = 1 << 16, DATA_TIMEOUT = 1 << 20, DATA_CRC = 1 << 21 };
-enum { UNTIL_STOPPED = 0xffffffffu };
 
 void controller_begin(struct controller *controller, const struct kelifandro_host *host, int one_block)
 {
@@ -24,7 +23,7 @@ static void fail(struct controller *controller, uint32_t error)
 /* A block has passed. */
 static void passed(struct controller *controller)
 {
-    if (controller->left != UNTIL_STOPPED && --controller->left == 0) {
+    if (--controller->left == 0) {
         controller->status |= TRANSFER_COMPLETE;
         controller->direction = KELIFANDRO_NO_DATA;
     }
@@ -120,14 +119,13 @@ static int is_on(const struct controller *controller)
 static void command(struct controller *controller, uint32_t word)
 {
     unsigned flags = word >> 16 & 0xff;
-    int several = word & 0x20, counted = word & 2;
     struct kelifandro_command command = {
         .index = word >> 24 & 63,
         .response = (uint8_t)response_of(flags),
         .data = flags & 0x20 ? word & 0x10 ? KELIFANDRO_READ : KELIFANDRO_WRITE : KELIFANDRO_NO_DATA,
         .argument = controller->argument,
         .block_length = controller->sizes & 0xfff,
-        .blocks = (uint16_t)(several ? counted ? controller->sizes >> 16 : 0 : 1),
+        .blocks = (uint16_t)(word & 0x20 ? controller->sizes >> 16 : 1),
     };
     uint32_t words[4] = {0, 0, 0, 0};
     if (!is_on(controller) || controller->host->send(controller->host->context, &command, words) != 0) {
@@ -139,7 +137,7 @@ static void command(struct controller *controller, uint32_t word)
     if (command.data == KELIFANDRO_NO_DATA)
         return;
     controller->direction = command.data;
-    controller->left = command.blocks ? command.blocks : UNTIL_STOPPED;
+    controller->left = command.blocks;
     controller->at = controller->length = 0;
     if (command.data == KELIFANDRO_READ)
         receive(controller);
@@ -259,7 +257,7 @@ static uint32_t read(void *context, unsigned offset, unsigned size)
     }
 }
 
-/* Sizes, lines, power, clock, and a command with data wait until no data is under way; the port wants data; and while data is under way
+/* Sizes, lines, power, clock, and a command with data wait until no data is under way; several blocks are counted; the port wants data; and while data is under way
    only a command's bits are cleared. */
 static int is_misuse(const struct controller *controller, unsigned offset, uint32_t value)
 {
@@ -272,7 +270,7 @@ static int is_misuse(const struct controller *controller, unsigned offset, uint3
     case 0x2c: /* by its word it is written as it is, with a reset */
         return is_moving && ((value ^ controller->clock) & 0xfffd);
     case 0x0c:
-        return is_moving && (value >> 16 & 0x20);
+        return (is_moving && (value >> 16 & 0x20)) || !(value & 0x20) != !(value & 2);
     case 0x20:
         return controller->direction != KELIFANDRO_WRITE;
     case 0x30:

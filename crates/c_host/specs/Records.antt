@@ -12,8 +12,6 @@ use Rattle.mmc_card.specs.declared.exchange.Width.{Width}
 use Rattle.mmc_card.specs.declared.exchange.Width.TheVariants.{Eight, Four, One}
 use Rattle.mmc_bus.specs.declared.moved.Moved.{Moved}
 use Rattle.mmc_bus.specs.declared.moved.Moved.TheVariants as Move
-use Rattle.mmc_host.specs.declared.data.Blocks.{Blocks}
-use Rattle.mmc_host.specs.declared.data.Blocks.TheVariants.{Counted, UntilStopped}
 use Rattle.mmc_host.specs.declared.data.Data.{Data}
 use Rattle.mmc_host.specs.declared.data.Data.TheVariants as Behind
 use Rattle.mmc_host.specs.declared.response.Response.{Response}
@@ -25,7 +23,7 @@ use Rattle.mmc_host.specs.declared.told.Ios.{Ios}
 use Rattle.mmc_host.specs.declared.told.ResponseFault.{ResponseFault}
 use Rattle.mmc_host.specs.declared.told.ResponseFault.TheVariants.{Check, EndBit, Index, Timeout}
 
--- A command: `enum kelifandro_response`, `enum kelifandro_data`, the argument, the length of a block, and how many; 0 until CMD12.
+-- A command: `enum kelifandro_response`, `enum kelifandro_data`, the argument, the length of a block, and how many.
 
 abbrev pub response_number : Response → ℕ
 response_number To.Nothing = 0
@@ -35,10 +33,6 @@ response_number To.R2 = 3
 response_number To.R3 = 4
 response_number To.R6 = 5
 response_number To.R7 = 6
-
-abbrev pub blocks_number : Blocks → ℕ
-blocks_number (Counted count) = count
-blocks_number UntilStopped = 0
 
 abbrev pub data_number : Data → ℕ
 data_number Behind.Nothing = 0
@@ -52,8 +46,8 @@ length_number (Behind.Write blocks) = 512
 
 abbrev pub count_number : Data → ℕ
 count_number Behind.Nothing = 0
-count_number (Behind.Read size blocks) = blocks_number blocks
-count_number (Behind.Write blocks) = blocks_number blocks
+count_number (Behind.Read size blocks) = blocks
+count_number (Behind.Write blocks) = blocks
 
 abbrev pub command_bytes : HostCommand → List ℕ
 command_bytes command =

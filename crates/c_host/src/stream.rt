@@ -4,7 +4,7 @@ ghost use Rattle.std.specs.Prelude.{◌≡◌, ◌∷◌, ◌≤◌, [], length,
 ghost use Rattle.std.specs.Int.{from_le_bytes, to_le_bytes, w32};
 ghost use Rattle.c_host.specs.Talk.Talk.{Asked, Came, Told};
 ghost use Rattle.c_host.specs.Talk.{last_answer};
-ghost use Rattle.c_host.specs.Records.{blocks_number, command_record, count_number, data_number, failed_by, fault_by, good_by};
+ghost use Rattle.c_host.specs.Records.{command_record, count_number, data_number, failed_by, fault_by, good_by};
 ghost use Rattle.c_host.specs.Records.{heard_by, heard_in, ios_record, is_word, length_number, lines_by, lines_number, moved_by};
 ghost use Rattle.c_host.specs.Records.{refused_by, response_number, timing_number, touched_by, with_record};
 ghost use Rattle.c_host.specs.Told.{TellsCommand, TellsIos, TellsLook, TellsPause, TellsPort, TellsRead, TellsReadWith, TellsWrite};
@@ -17,7 +17,7 @@ ghost use Rattle.mmc_host.specs.declared.response.Response.TheVariants.{R1};
 use crate::diary::{Call, Diary, Note};
 use mmc_bus::{BlocksMut, Moved};
 use mmc_card::{DataIn, DataOut, Lines, Timing, Width};
-use mmc_host::{Blocks, Data, Heard, HostCommand, Ios, Response, ResponseFault};
+use mmc_host::{Data, Heard, HostCommand, Ios, Response, ResponseFault};
 
 const SEND: u8 = 1;
 
@@ -70,16 +70,6 @@ fn response_number(response: Response) -> u8
     }
 }
 
-// How many blocks, 0 until CMD12.
-fn number_of(blocks: Blocks) -> u16
-    ensures { result ≡ blocks_number blocks }
-{
-    match blocks {
-        Blocks::Counted(count) => count,
-        Blocks::UntilStopped => 0,
-    }
-}
-
 // The data behind a command: 0 none, 1 it is read, 2 it is written; the length of a block, and how many.
 fn data_numbers(transfer: Data) -> (u8, u16, u16)
     ensures direction { result.0 ≡ data_number transfer }
@@ -88,8 +78,8 @@ fn data_numbers(transfer: Data) -> (u8, u16, u16)
 {
     match transfer {
         Data::Nothing => (0, 0, 0),
-        Data::Read { length, blocks } => (1, length, number_of(blocks)),
-        Data::Write { blocks } => (2, 512, number_of(blocks)),
+        Data::Read { length, blocks } => (1, length, blocks),
+        Data::Write { blocks } => (2, 512, blocks),
     }
 }
 

@@ -91,6 +91,17 @@ impl<B: Bus, W: Write> Bus for WaveBus<B, W> {
         reply
     }
 
+    fn begin(&mut self, frame: [u8; 6], want: Want, blocks: u16) -> Reply
+        ensures exchanged { Commanded (B.view self.old.bus) frame want result (B.view self.new.bus) }
+        ensures shown { Shows W.contents self.old (command_samples frame want result) self.new }
+    {
+        let reply = self.bus.begin(frame, want, blocks);
+        if self.fault.is_ok() {
+            self.fault = self.wave.draw_command(&frame, want, reply);
+        }
+        reply
+    }
+
     fn read_data(&mut self, buffer: &mut [u8]) -> DataIn
         ensures exchanged { DataRead (B.view self.old.bus) (length buffer.old) result buffer.new (B.view self.new.bus) }
         // Of a block with a bad check the bytes that are in the buffer are drawn, with inverted checks.

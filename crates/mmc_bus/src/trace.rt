@@ -124,6 +124,16 @@ impl<B: Bus> Bus for TraceBus<B> {
         reply
     }
 
+    fn begin(&mut self, frame: [u8; 6], want: Want, blocks: u16) -> Reply
+        ensures exchanged { Commanded (B.view self.old.bus) frame want result (B.view self.new.bus) }
+        ensures traced { Traces self.old (Command frame want result) self.new }
+    {
+        let reply = self.bus.begin(frame, want, blocks);
+        self.last
+            .push_back(Exchange::Command { frame, want, reply });
+        reply
+    }
+
     fn read_data(&mut self, buffer: &mut [u8]) -> DataIn
         ensures exchanged { DataRead (B.view self.old.bus) (length buffer.old) result buffer.new (B.view self.new.bus) }
         ensures traced { Traces self.old (In (length buffer.old) result) self.new }

@@ -29,7 +29,6 @@ use Rattle.mmc_host.specs.declared.response.Response.TheVariants as To
 use Rattle.mmc_card.specs.CardAnswer.{refused, shown}
 use Rattle.mmc_card.specs.Made.{HasRegisters, Made}
 use Rattle.mmc_frame.specs.declared.card_state.State.TheVariants as In
-use Rattle.mmc_host.specs.declared.data.Blocks.TheVariants.{Counted, UntilStopped}
 use Rattle.mmc_host.specs.declared.data.Data.{Data}
 use Rattle.mmc_host.specs.Fits.{AreSent, AreToCome, Begins, HasDataBehind, IsAnswered, IsBusyBehind}
 use Rattle.mmc_card.specs.Wanted.{response_to}
@@ -218,188 +217,190 @@ answer_told choice kind app card index argument below =
 
 -- Data.
 
-abbrev Moves : Command → Card → Card → Type 0
-Moves command old new = HasDataBehind (data_of command old.count) old new
+-- so many blocks will be moved where none are preset
+module _ (moved : ℕ) where
+  abbrev Moves : Command → Card → Card → Type 0
+  Moves command old new = HasDataBehind (data_of command old.count moved) old new
 
--- it neither sends nor accepts blocks that it didn't before
-stays : (told : Data) (old new : Card) → new.state ≡ old.state → HasDataBehind told old new
-stays told old new same = record {
-  sends = λ now before. cc (ap (λ s. is_in s In.Data) same, now, before);
-  accepts = λ now before. cc (ap (λ s. is_in s In.Rcv) same, now, before);
-}
+  -- it neither sends nor accepts blocks that it didn't before
+  stays : (told : Data) (old new : Card) → new.state ≡ old.state → HasDataBehind told old new
+  stays told old new same = record {
+    sends = λ now before. cc (ap (λ s. is_in s In.Data) same, now, before);
+    accepts = λ now before. cc (ap (λ s. is_in s In.Rcv) same, now, before);
+  }
 
-leaves : (told : Data) (old new : Card) → is_in new.state In.Data ≡ false → is_in new.state In.Rcv ≡ false
-    → HasDataBehind told old new
-leaves told old new no_data no_rcv = record {
-  sends = λ now before. cc (now, no_data);
-  accepts = λ now before. cc (now, no_rcv);
-}
+  leaves : (told : Data) (old new : Card) → is_in new.state In.Data ≡ false → is_in new.state In.Rcv ≡ false
+      → HasDataBehind told old new
+  leaves told old new no_data no_rcv = record {
+    sends = λ now before. cc (now, no_data);
+    accepts = λ now before. cc (now, no_rcv);
+  }
 
--- as many blocks as are preset
-preset_blocks : (is_none : Bool) (count : ℕ)
-    → AreToCome (if is_none then UntilStopped else Counted count) (if is_none then None else Some count)
-preset_blocks true count = refl
-preset_blocks false count = refl
+  -- as many blocks as are preset
+  preset_blocks : (is_none : Bool) (count : ℕ)
+      → AreToCome (if is_none then moved else count) (if is_none then None else Some count)
+  preset_blocks true count = tt
+  preset_blocks false count = refl
 
-begins_to_send : (told : Data) (old new : Card) → is_in new.state In.Rcv ≡ false → Begins told new → HasDataBehind told old new
-begins_to_send told old new no_rcv begins =
-    record { sends = λ now before. begins; accepts = λ now before. cc (now, no_rcv) }
+  begins_to_send : (told : Data) (old new : Card) → is_in new.state In.Rcv ≡ false → Begins told new → HasDataBehind told old new
+  begins_to_send told old new no_rcv begins =
+      record { sends = λ now before. begins; accepts = λ now before. cc (now, no_rcv) }
 
-begins_to_accept : (told : Data) (old new : Card) → is_in new.state In.Data ≡ false → Begins told new
-    → HasDataBehind told old new
-begins_to_accept told old new no_data begins =
-    record { sends = λ now before. cc (now, no_data); accepts = λ now before. begins }
+  begins_to_accept : (told : Data) (old new : Card) → is_in new.state In.Data ≡ false → Begins told new
+      → HasDataBehind told old new
+  begins_to_accept told old new no_data begins =
+      record { sends = λ now before. cc (now, no_data); accepts = λ now before. begins }
 
--- registers of the length that the table says, where a command sends one
-abbrev AreSized : Command → Card → Type 0
-AreSized SendScr card = length card.made.scr ≡ 8
-AreSized SwitchFunc card = length card.made.switch_status ≡ 64
-AreSized SendExtCsd card = length card.made.ext_csd ≡ 512
-AreSized _ card = Unit {0}
+  -- registers of the length that the table says, where a command sends one
+  abbrev AreSized : Command → Card → Type 0
+  AreSized SendScr card = length card.made.scr ≡ 8
+  AreSized SwitchFunc card = length card.made.switch_status ≡ 64
+  AreSized SendExtCsd card = length card.made.ext_csd ≡ 512
+  AreSized _ card = Unit {0}
 
-move_first : (index : ℕ) (card : Card) (argument : ℕ) (held : Held)
-    → Moves EraseStart card (hold_first index card argument held).0
-move_first index card argument NoAddress = stays _ card _ refl
-move_first index card argument _ = stays _ card _ refl
+  move_first : (index : ℕ) (card : Card) (argument : ℕ) (held : Held)
+      → Moves EraseStart card (hold_first index card argument held).0
+  move_first index card argument NoAddress = stays _ card _ refl
+  move_first index card argument _ = stays _ card _ refl
 
-move_last : (index : ℕ) (card : Card) (argument : ℕ) (held : Held) → Moves EraseEnd card (hold_last index card argument held).0
-move_last index card argument (First first) = stays _ card _ refl
-move_last index card argument _ = stays _ card _ refl
+  move_last : (index : ℕ) (card : Card) (argument : ℕ) (held : Held) → Moves EraseEnd card (hold_last index card argument held).0
+  move_last index card argument (First first) = stays _ card _ refl
+  move_last index card argument _ = stays _ card _ refl
 
-move_erase : (card : Card) (argument : ℕ) (held : Held) → Moves Erase card (erase_held card argument held).0
-move_erase card argument (Both first last) =
-    first_by_cond (Moves Erase card) (is_no_range card first last) _ _ (λ _. stays _ card _ refl)
-    (λ _. leaves _ card _ refl refl)
-move_erase card argument _ = stays _ card _ refl
+  move_erase : (card : Card) (argument : ℕ) (held : Held) → Moves Erase card (erase_held card argument held).0
+  move_erase card argument (Both first last) =
+      first_by_cond (Moves Erase card) (is_no_range card first last) _ _ (λ _. stays _ card _ refl)
+      (λ _. leaves _ card _ refl refl)
+  move_erase card argument _ = stays _ card _ refl
 
-move_switch : (late : Bool) (card : Card) (to : Option Card) → Moves Switch card (switch_row late card to).0
-move_switch late card (Some after) = leaves _ card _ refl refl
-move_switch late card None = leaves _ card _ refl refl
+  move_switch : (late : Bool) (card : Card) (to : Option Card) → Moves Switch card (switch_row late card to).0
+  move_switch late card (Some after) = leaves _ card _ refl refl
+  move_switch late card None = leaves _ card _ refl refl
 
-move_transfer : (command : Command) (index errors : ℕ) (card after : Card) → Moves command card after
-    → Moves command card (transferred index errors card after).0
-move_transfer command index errors card after begins =
-    first_by_cond (Moves command card) (errors == 0) _ _ (λ _. begins) (λ _. stays _ card (shown card) refl)
+  move_transfer : (command : Command) (index errors : ℕ) (card after : Card) → Moves command card after
+      → Moves command card (transferred index errors card after).0
+  move_transfer command index errors card after begins =
+      first_by_cond (Moves command card) (errors == 0) _ _ (λ _. begins) (λ _. stays _ card (shown card) refl)
 
-status_length : (choice : Choice) (card : Card) (argument : ℕ) → length card.made.switch_status ≡ 64
-    → AreSent 64 (Counted 1) (switch_source choice card argument) card.left
-status_length choice card argument size =
-    by_cond (λ source. AreSent 64 (Counted 1) source card.left) (is_to_speed_up card argument && choice.refuses_speed)
-    (λ _. (length-set card.made.switch_status 16 _ ∙ size, refl)) (λ _. (size, refl))
+  status_length : (choice : Choice) (card : Card) (argument : ℕ) → length card.made.switch_status ≡ 64
+      → AreSent 64 1 (switch_source choice card argument) card.left
+  status_length choice card argument size =
+      by_cond (λ source. AreSent 64 1 source card.left) (is_to_speed_up card argument && choice.refuses_speed)
+      (λ _. (length-set card.made.switch_status 16 _ ∙ size, refl)) (λ _. (size, refl))
 
-ext_csd_length : (card : Card) → length card.made.ext_csd ≡ 512 → length (ext_csd_now card) ≡ 512
-ext_csd_length card size = simp length-set size
+  ext_csd_length : (card : Card) → length card.made.ext_csd ≡ 512 → length (ext_csd_now card) ≡ 512
+  ext_csd_length card size = simp length-set size
 
-move_row : (choice : Choice) (command : Command) (card : Card) (index argument : ℕ) → AreSized command card
-    → Moves command card (row choice command card index argument).0
-move_row choice GoIdleState card index argument sized = leaves _ card _ refl refl
-move_row choice SendOpCond card index argument sized =
-    first_by_cond (Moves SendOpCond card) (not choice.is_slow) _ _ (λ _. leaves _ card _ refl refl) (λ _. stays _ card _ refl)
-move_row choice SdSendOpCond card index argument sized =
-    first_by_cond (Moves SdSendOpCond card) (is_served card argument && not choice.is_slow) _ _
-    (λ _. leaves _ card _ refl refl) (λ _. stays _ card _ refl)
-move_row choice AllSendCid card index argument sized = leaves _ card _ refl refl
-move_row choice SendRelativeAddr card index argument sized = leaves _ card _ refl refl
-move_row choice SetRelativeAddr card index argument sized = leaves _ card _ refl refl
-move_row choice SelectCard card index argument sized = leaves _ card _ refl refl
-move_row choice StopTransmission card index argument sized =
-    by_cond (Moves StopTransmission card) (is_in card.state In.Rcv) (λ _. leaves _ card _ refl refl)
-    (λ _. by_cond (Moves StopTransmission card) choice.stays_busy (λ _. leaves _ card _ refl refl)
-    (λ _. leaves _ card _ refl refl))
-move_row choice SendStatus card index argument sized =
-    first_by_cond (Moves SendStatus card) (may_lag card && choice.is_behind) _ _ (λ _. stays _ card _ refl)
-    (λ _. stays _ card _ refl)
-move_row choice SetBlocklen card index argument sized =
-    first_by_cond (Moves SetBlocklen card) (argument == 512) _ _ (λ _. stays _ card _ refl) (λ _. stays _ card _ refl)
-move_row choice ReadSingleBlock card index argument sized =
-    let after = begun In.Data true (Some 1) card argument in
-    move_transfer ReadSingleBlock 17 (transfer_errors false card argument) card after
-    (begins_to_send (data_of ReadSingleBlock card.count) card after refl (refl, (refl, refl)))
-move_row choice ReadMultipleBlock card index argument sized =
-    let after = begun In.Data false (preset card) card argument in
-    move_transfer ReadMultipleBlock 18 (transfer_errors false card argument) card after
-    (begins_to_send (data_of ReadMultipleBlock card.count) card after refl (refl, (refl, preset_blocks (card.count == 0) card.count)))
-move_row choice WriteBlock card index argument sized =
-    let after = begun In.Rcv true (Some 1) card argument in
-    move_transfer WriteBlock 24 (transfer_errors true card argument) card after
-    (begins_to_accept (data_of WriteBlock card.count) card after refl (refl, refl))
-move_row choice WriteMultipleBlock card index argument sized =
-    let after = begun In.Rcv false (preset card) card argument in
-    move_transfer WriteMultipleBlock 25 (transfer_errors true card argument) card after
-    (begins_to_accept (data_of WriteMultipleBlock card.count) card after refl (refl, preset_blocks (card.count == 0) card.count))
-move_row choice EraseStart card index argument sized = move_first index card argument card.erase
-move_row choice EraseEnd card index argument sized = move_last index card argument card.erase
-move_row choice Erase card index argument sized = move_erase card argument card.erase
-move_row choice Switch card index argument sized =
-    move_switch choice.says_late card (if choice.fails_switch then None else switched card argument)
-move_row choice SwitchFunc card index argument sized =
-    let after = sending_from (switch_source choice card argument) card in
-    begins_to_send (data_of SwitchFunc card.count) card after refl (refl, status_length choice card argument sized)
-move_row choice SendScr card index argument sized =
-    let after = sending card.made.scr card.timing card in
-    begins_to_send (data_of SendScr card.count) card after refl (refl, (sized, refl))
-move_row choice SendExtCsd card index argument sized =
-    let bytes = reread choice.unread (ext_csd_now card) in
-    let after = sending bytes card.timing card in
-    let size : length bytes ≡ 512 = reread_length choice.unread (ext_csd_now card) ∙ ext_csd_length card sized in
-    begins_to_send (data_of SendExtCsd card.count) card after refl (refl, (size, refl))
-move_row choice _ card index argument sized = stays _ card _ refl
+  move_row : (choice : Choice) (command : Command) (card : Card) (index argument : ℕ) → AreSized command card
+      → Moves command card (row choice command card index argument).0
+  move_row choice GoIdleState card index argument sized = leaves _ card _ refl refl
+  move_row choice SendOpCond card index argument sized =
+      first_by_cond (Moves SendOpCond card) (not choice.is_slow) _ _ (λ _. leaves _ card _ refl refl) (λ _. stays _ card _ refl)
+  move_row choice SdSendOpCond card index argument sized =
+      first_by_cond (Moves SdSendOpCond card) (is_served card argument && not choice.is_slow) _ _
+      (λ _. leaves _ card _ refl refl) (λ _. stays _ card _ refl)
+  move_row choice AllSendCid card index argument sized = leaves _ card _ refl refl
+  move_row choice SendRelativeAddr card index argument sized = leaves _ card _ refl refl
+  move_row choice SetRelativeAddr card index argument sized = leaves _ card _ refl refl
+  move_row choice SelectCard card index argument sized = leaves _ card _ refl refl
+  move_row choice StopTransmission card index argument sized =
+      by_cond (Moves StopTransmission card) (is_in card.state In.Rcv) (λ _. leaves _ card _ refl refl)
+      (λ _. by_cond (Moves StopTransmission card) choice.stays_busy (λ _. leaves _ card _ refl refl)
+      (λ _. leaves _ card _ refl refl))
+  move_row choice SendStatus card index argument sized =
+      first_by_cond (Moves SendStatus card) (may_lag card && choice.is_behind) _ _ (λ _. stays _ card _ refl)
+      (λ _. stays _ card _ refl)
+  move_row choice SetBlocklen card index argument sized =
+      first_by_cond (Moves SetBlocklen card) (argument == 512) _ _ (λ _. stays _ card _ refl) (λ _. stays _ card _ refl)
+  move_row choice ReadSingleBlock card index argument sized =
+      let after = begun In.Data true (Some 1) card argument in
+      move_transfer ReadSingleBlock 17 (transfer_errors false card argument) card after
+      (begins_to_send (data_of ReadSingleBlock card.count moved) card after refl (refl, (refl, refl)))
+  move_row choice ReadMultipleBlock card index argument sized =
+      let after = begun In.Data false (preset card) card argument in
+      move_transfer ReadMultipleBlock 18 (transfer_errors false card argument) card after
+      (begins_to_send (data_of ReadMultipleBlock card.count moved) card after refl (refl, (refl, preset_blocks (card.count == 0) card.count)))
+  move_row choice WriteBlock card index argument sized =
+      let after = begun In.Rcv true (Some 1) card argument in
+      move_transfer WriteBlock 24 (transfer_errors true card argument) card after
+      (begins_to_accept (data_of WriteBlock card.count moved) card after refl (refl, refl))
+  move_row choice WriteMultipleBlock card index argument sized =
+      let after = begun In.Rcv false (preset card) card argument in
+      move_transfer WriteMultipleBlock 25 (transfer_errors true card argument) card after
+      (begins_to_accept (data_of WriteMultipleBlock card.count moved) card after refl (refl, preset_blocks (card.count == 0) card.count))
+  move_row choice EraseStart card index argument sized = move_first index card argument card.erase
+  move_row choice EraseEnd card index argument sized = move_last index card argument card.erase
+  move_row choice Erase card index argument sized = move_erase card argument card.erase
+  move_row choice Switch card index argument sized =
+      move_switch choice.says_late card (if choice.fails_switch then None else switched card argument)
+  move_row choice SwitchFunc card index argument sized =
+      let after = sending_from (switch_source choice card argument) card in
+      begins_to_send (data_of SwitchFunc card.count moved) card after refl (refl, status_length choice card argument sized)
+  move_row choice SendScr card index argument sized =
+      let after = sending card.made.scr card.timing card in
+      begins_to_send (data_of SendScr card.count moved) card after refl (refl, (sized, refl))
+  move_row choice SendExtCsd card index argument sized =
+      let bytes = reread choice.unread (ext_csd_now card) in
+      let after = sending bytes card.timing card in
+      let size : length bytes ≡ 512 = reread_length choice.unread (ext_csd_now card) ∙ ext_csd_length card sized in
+      begins_to_send (data_of SendExtCsd card.count moved) card after refl (refl, (size, refl))
+  move_row choice _ card index argument sized = stays _ card _ refl
 
-as_before : (told : Data) (old before new : Card) → before.state ≡ old.state → HasDataBehind told before new
-    → HasDataBehind told old new
-as_before told old before new same moves = record {
-  sends = λ now was. moves.sends now (ap (λ s. is_in s In.Data) same ∙ was);
-  accepts = λ now was. moves.accepts now (ap (λ s. is_in s In.Rcv) same ∙ was);
-}
+  as_before : (told : Data) (old before new : Card) → before.state ≡ old.state → HasDataBehind told before new
+      → HasDataBehind told old new
+  as_before told old before new same moves = record {
+    sends = λ now was. moves.sends now (ap (λ s. is_in s In.Data) same ∙ was);
+    accepts = λ now was. moves.accepts now (ap (λ s. is_in s In.Rcv) same ∙ was);
+  }
 
-sized_as : (command : Command) (old now : Card) → now.made ≡ old.made → AreSized command old → AreSized command now
-sized_as SendScr old now same sized = ap (λ (m : Made). length m.scr) same ∙ sized
-sized_as SwitchFunc old now same sized = ap (λ (m : Made). length m.switch_status) same ∙ sized
-sized_as SendExtCsd old now same sized = ap (λ (m : Made). length m.ext_csd) same ∙ sized
-sized_as _ old now same sized = tt
+  sized_as : (command : Command) (old now : Card) → now.made ≡ old.made → AreSized command old → AreSized command now
+  sized_as SendScr old now same sized = ap (λ (m : Made). length m.scr) same ∙ sized
+  sized_as SwitchFunc old now same sized = ap (λ (m : Made). length m.switch_status) same ∙ sized
+  sized_as SendExtCsd old now same sized = ap (λ (m : Made). length m.ext_csd) same ∙ sized
+  sized_as _ old now same sized = tt
 
-pub data_behind : (choice : Choice) (command : Command) (card : Card) (index argument : ℕ) → AreSized command card
-    → HasDataBehind (data_of command card.count) card (responded choice command card index argument).0
-data_behind choice command card index argument sized =
-    let now = reached command card in
-    let like = like_reached command card in
-    after_response (Moves command card) choice command card index argument (stays _ card card refl)
-    (λ _. as_before _ card now _ like.state
-    (subst (λ n. HasDataBehind (data_of command n) now (row choice command now index argument).0) like.count
-    (move_row choice command now index argument (sized_as command card now like.made sized))))
-    (stays _ card (refused now) like.state)
+  pub data_behind : (choice : Choice) (command : Command) (card : Card) (index argument : ℕ) → AreSized command card
+      → HasDataBehind (data_of command card.count moved) card (responded choice command card index argument).0
+  data_behind choice command card index argument sized =
+      let now = reached command card in
+      let like = like_reached command card in
+      after_response (Moves command card) choice command card index argument (stays _ card card refl)
+      (λ _. as_before _ card now _ like.state
+      (subst (λ n. HasDataBehind (data_of command n moved) now (row choice command now index argument).0) like.count
+      (move_row choice command now index argument (sized_as command card now like.made sized))))
+      (stays _ card (refused now) like.state)
 
--- each kind sends its own registers
-abbrev is_of : Kind → Command → Bool
-is_of Sd SendExtCsd = false
-is_of Mmc SendScr = false
-is_of Mmc SwitchFunc = false
-is_of _ _ = true
+  -- each kind sends its own registers
+  abbrev is_of : Kind → Command → Bool
+  is_of Sd SendExtCsd = false
+  is_of Mmc SendScr = false
+  is_of Mmc SwitchFunc = false
+  is_of _ _ = true
 
-means_its_own : (kind : Kind) (app : Bool) (index : ℕ) → index < 64 → is_of kind (command_of kind app index) ≡ true
-means_its_own Sd true index below = agree_below_at (λ i. is_of Sd (command_of Sd true i)) (λ i. true) 64 index refl below
-means_its_own Sd false index below = agree_below_at (λ i. is_of Sd (command_of Sd false i)) (λ i. true) 64 index refl below
-means_its_own Mmc true index below = agree_below_at (λ i. is_of Mmc (command_of Mmc true i)) (λ i. true) 64 index refl below
-means_its_own Mmc false index below =
-    agree_below_at (λ i. is_of Mmc (command_of Mmc false i)) (λ i. true) 64 index refl below
+  means_its_own : (kind : Kind) (app : Bool) (index : ℕ) → index < 64 → is_of kind (command_of kind app index) ≡ true
+  means_its_own Sd true index below = agree_below_at (λ i. is_of Sd (command_of Sd true i)) (λ i. true) 64 index refl below
+  means_its_own Sd false index below = agree_below_at (λ i. is_of Sd (command_of Sd false i)) (λ i. true) 64 index refl below
+  means_its_own Mmc true index below = agree_below_at (λ i. is_of Mmc (command_of Mmc true i)) (λ i. true) 64 index refl below
+  means_its_own Mmc false index below =
+      agree_below_at (λ i. is_of Mmc (command_of Mmc false i)) (λ i. true) 64 index refl below
 
-sized_of : (kind : Kind) (command : Command) (card : Card) → card.made.kind ≡ kind → HasRegisters card.made
-    → is_of kind command ≡ true → AreSized command card
-sized_of Sd SendScr card is registers own = registers.scr is
-sized_of Sd SwitchFunc card is registers own = registers.switch_status is
-sized_of Mmc SendExtCsd card is registers own = registers.ext_csd is
-sized_of Sd SendExtCsd card is registers own = cc own
-sized_of Mmc SendScr card is registers own = cc own
-sized_of Mmc SwitchFunc card is registers own = cc own
-sized_of _ _ card is registers own = tt
+  sized_of : (kind : Kind) (command : Command) (card : Card) → card.made.kind ≡ kind → HasRegisters card.made
+      → is_of kind command ≡ true → AreSized command card
+  sized_of Sd SendScr card is registers own = registers.scr is
+  sized_of Sd SwitchFunc card is registers own = registers.switch_status is
+  sized_of Mmc SendExtCsd card is registers own = registers.ext_csd is
+  sized_of Sd SendExtCsd card is registers own = cc own
+  sized_of Mmc SendScr card is registers own = cc own
+  sized_of Mmc SwitchFunc card is registers own = cc own
+  sized_of _ _ card is registers own = tt
 
-pub blocks_told : (choice : Choice) (kind : Kind) (app : Bool) (card : Card) (index argument : ℕ) → index < 64
-    → card.made.kind ≡ kind → HasRegisters card.made
-    → HasDataBehind (data_of (command_of kind app index) card.count) card
-    (responded choice (command_of kind app index) card index argument).0
-blocks_told choice kind app card index argument below is registers =
-    data_behind choice (command_of kind app index) card index argument
-    (sized_of kind (command_of kind app index) card is registers (means_its_own kind app index below))
+  pub blocks_told : (choice : Choice) (kind : Kind) (app : Bool) (card : Card) (index argument : ℕ) → index < 64
+      → card.made.kind ≡ kind → HasRegisters card.made
+      → HasDataBehind (data_of (command_of kind app index) card.count moved) card
+      (responded choice (command_of kind app index) card index argument).0
+  blocks_told choice kind app card index argument below is registers =
+      data_behind choice (command_of kind app index) card index argument
+      (sized_of kind (command_of kind app index) card is registers (means_its_own kind app index below))
 
 -- Lengths.
 

@@ -25,10 +25,10 @@ use Rattle.mmc_bus.specs.declared.moved.Moved.{Moved}
 use Rattle.mmc_bus.specs.declared.moved.Moved.TheVariants as Move
 use Rattle.mmc_bus.specs.declared.wire.Wire.{Wire}
 use Rattle.mmc_host.proofs.BusLemmas.{does_command, does_poll, does_read, does_write, exchanged, replied}
-use Rattle.mmc_host.specs.HostStates.{IsFree, block_passed, is_accepted, is_good, lines_of, sent}
+use Rattle.mmc_host.specs.HostStates.{IsCounted, IsFree, block_passed, blocks_in, is_accepted, is_good, lines_of, sent}
 use Rattle.mmc_card.specs.BusView.{BusView}
 use Rattle.mmc_host.specs.Hosts.{Does, HostView, OnlySets, Rests, Where, WritesBlock, answer_heard, bus_over}
-use Rattle.mmc_host.specs.Together.{AreAhead, AreBehind, CanRead, CanWrite, HostRead, HostRested, ReadsWith, WritesWith, all_noted, all_writes_noted}
+use Rattle.mmc_host.specs.Together.{AreAhead, AreBehind, CanRead, CanWrite, HostRead, IsBegun, IsUnderWay, HostRested, ReadsWith, WritesWith, all_noted, all_writes_noted}
 use Rattle.mmc_host.specs.Together.{blocks_noted, noted, passed, passed_on, poll_noted, writes_noted}
 use Rattle.mmc_host.specs.Misuse.{can_send}
 use Rattle.mmc_host.specs.Pace.{IsClocked, IsTimed}
@@ -494,3 +494,14 @@ module _ (blocks : List (List ℕ)) (v0 v1 : HostView)
       let all = state_on_out blocks write.behind w1 misused write_lines moved new write.written kept in
       let s = write.sent all.0 in
       all.2 ∙ s.limits ∙ within s.step.was_kept
+
+-- what a command that is under way was told is how it has begun
+pub begun_as : (frame : List ℕ) (old : HostState) (moved : ℕ) (command : HostCommand) (new : HostState)
+    → command_in frame ≡ Some (command.index, command.argument) → IsUnderWay command new
+    → IsCounted old.count moved command.index command.transfer → IsBegun old frame moved new
+begun_as frame old moved command new holds (inl none) counted = inl none
+begun_as frame old moved command new holds (inr behind) counted =
+    let is_counted : IsCounted old.count moved command.index new.transfer =
+    λ several. ap blocks_in behind ∙ counted several in
+    inr (subst (λ (o : Option (ℕ × ℕ)). IfSome o (λ told. IsCounted old.count moved told.0 new.transfer)) (sym holds)
+    is_counted)

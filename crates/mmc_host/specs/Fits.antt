@@ -3,8 +3,6 @@ use Rattle.std.specs.Prelude.{◌≡◌, ◌⊎◌, None, Option, Some, false, l
 use Rattle.mmc_frame.specs.declared.card_state.State.TheVariants as In
 use Rattle.mmc_card.specs.Card.{Card, FromBytes, FromSectors, Source, is_in}
 use Rattle.mmc_card.specs.CardAnswer.{CardAnswer, Checked, Silent, R2, R3}
-use Rattle.mmc_host.specs.declared.data.Blocks.{Blocks}
-use Rattle.mmc_host.specs.declared.data.Blocks.TheVariants.{Counted, UntilStopped}
 use Rattle.mmc_host.specs.declared.data.Data.{Data}
 use Rattle.mmc_host.specs.declared.data.Data.TheVariants as Behind
 use Rattle.mmc_host.specs.declared.response.Response.{Response}
@@ -25,15 +23,15 @@ IsAnswered response index answer = ⊥
 abbrev pub IsBusyBehind : Response → Card → Card → Type 0
 IsBusyBehind response old new = new.is_busy ≡ true → (old.is_busy ≡ true) ⊎ (response ≡ To.R1b)
 
--- so many blocks are to come
-abbrev pub AreToCome : Blocks → Option ℕ → Type 0
-AreToCome (Counted count) left = left ≡ Some count
-AreToCome UntilStopped left = left ≡ None
+-- so many blocks are to come, or more until the card is stopped
+abbrev pub AreToCome : ℕ → Option ℕ → Type 0
+AreToCome count None = Unit {0}
+AreToCome count (Some left) = left ≡ count
 
 -- the card sends blocks of this length, so many
-abbrev pub AreSent : ℕ → Blocks → Source → Option ℕ → Type 0
+abbrev pub AreSent : ℕ → ℕ → Source → Option ℕ → Type 0
 AreSent size blocks FromSectors left = (size ≡ 512) × AreToCome blocks left
-AreSent size blocks (FromBytes bytes timing) left = (length bytes ≡ size) × (blocks ≡ Counted 1)
+AreSent size blocks (FromBytes bytes timing) left = (length bytes ≡ size) × (blocks ≡ 1)
 
 -- The data behind the command: a card begins to send just these blocks, or to accept just these.
 abbrev pub Begins : Data → Card → Type 0

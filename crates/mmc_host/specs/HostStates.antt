@@ -5,7 +5,7 @@ use Rattle.mmc_frame.specs.declared.commands.TheConstants as Index
 use Rattle.mmc_frame.specs.declared.kind.Kind.{Kind}
 use Rattle.mmc_card.specs.Rows.{command_of}
 use Rattle.mmc_host.specs.Meaning.{IsSentTo}
-use Rattle.mmc_host.specs.Table.{data_of, response_of}
+use Rattle.mmc_host.specs.Table.{blocks_of, data_of, moves_several, response_of}
 use Rattle.mmc_card.specs.declared.exchange.DataIn.{DataIn}
 use Rattle.mmc_card.specs.declared.exchange.DataIn.TheVariants as Received
 use Rattle.mmc_card.specs.declared.exchange.DataOut.{DataOut}
@@ -13,8 +13,6 @@ use Rattle.mmc_card.specs.declared.exchange.DataOut.TheVariants as Sent
 use Rattle.mmc_card.specs.declared.exchange.Lines.{Lines}
 use Rattle.mmc_card.specs.declared.exchange.Timing.TheVariants.{Default}
 use Rattle.mmc_card.specs.declared.exchange.Width.TheVariants.{One}
-use Rattle.mmc_host.specs.declared.data.Blocks.{Blocks}
-use Rattle.mmc_host.specs.declared.data.Blocks.TheVariants.{Counted, UntilStopped}
 use Rattle.mmc_host.specs.declared.data.Data.{Data}
 use Rattle.mmc_host.specs.declared.told.HostCommand.{HostCommand}
 use Rattle.mmc_host.specs.declared.told.HostState.{HostState}
@@ -110,15 +108,13 @@ sent state command is_answered =
     }
 
 -- one block fewer to come
-abbrev pub fewer : ℕ → (Blocks → Data) → Data
-fewer count rest = if nat_lt 1 count then rest (Counted (count - 1)) else Data.Nothing
+abbrev pub fewer : ℕ → (ℕ → Data) → Data
+fewer count rest = if nat_lt 1 count then rest (count - 1) else Data.Nothing
 
 abbrev pub less_one : Data → Data
 less_one Data.Nothing = Data.Nothing
-less_one (Data.Read size (Counted count)) = fewer count (λ blocks. Data.Read size blocks)
-less_one (Data.Read size UntilStopped) = Data.Read size UntilStopped
-less_one (Data.Write (Counted count)) = fewer count (λ blocks. Data.Write blocks)
-less_one (Data.Write UntilStopped) = Data.Write UntilStopped
+less_one (Data.Read size blocks) = fewer blocks (λ left. Data.Read size left)
+less_one (Data.Write blocks) = fewer blocks (λ left. Data.Write left)
 
 -- and so many fewer
 abbrev pub less_by : ℕ → Data → Data
@@ -132,10 +128,8 @@ AreWords size = (size ≤ 512) × (size % 4 ≡ 0)
 -- blocks that a controller can move: 1 to 65,535
 abbrev pub AreMovable : Data → Type 0
 AreMovable Data.Nothing = Unit {0}
-AreMovable (Data.Read size (Counted count)) = AreWords size × ((1 ≤ count) × (count < 0x10000))
-AreMovable (Data.Read size UntilStopped) = AreWords size
-AreMovable (Data.Write (Counted count)) = (1 ≤ count) × (count < 0x10000)
-AreMovable (Data.Write UntilStopped) = Unit {0}
+AreMovable (Data.Read size blocks) = AreWords size × ((1 ≤ blocks) × (blocks < 0x10000))
+AreMovable (Data.Write blocks) = (1 ≤ blocks) × (blocks < 0x10000)
 
 -- behind a block; one that failed ends the data
 abbrev pub block_passed : HostState → Bool → HostState
@@ -151,17 +145,28 @@ is_accepted _ = false
 
 -- a block of this length is to come, or one of 512 bytes is to go
 abbrev pub IsToCome : HostState → ℕ → Type 0
-IsToCome state size = (blocks : Blocks) × (state.transfer ≡ Data.Read size blocks)
+IsToCome state size = (blocks : ℕ) × (state.transfer ≡ Data.Read size blocks)
 
 abbrev pub IsToGo : HostState → Type 0
-IsToGo state = (blocks : Blocks) × (state.transfer ≡ Data.Write blocks)
+IsToGo state = (blocks : ℕ) × (state.transfer ≡ Data.Write blocks)
 
--- response and data are those of the table, whichever kind the card is
+-- how many blocks there are
+abbrev pub blocks_in : Data → ℕ
+blocks_in Data.Nothing = 0
+blocks_in (Data.Read size blocks) = blocks
+blocks_in (Data.Write blocks) = blocks
+
+-- CMD18 and CMD25 are told with as many blocks as are preset, and where none are, as will be moved.
+abbrev pub IsCounted : ℕ → ℕ → ℕ → Data → Type 0
+IsCounted count moved index transfer = moves_several index ≡ true → blocks_in transfer ≡ blocks_of count moved
+
+-- response and data are those of the table, whichever kind the card is; a card that wasn't told how many blocks there are takes any
+-- number
 abbrev pub IsTold : HostState → HostCommand → Type 0
 IsTold state command =
     (kind : Kind) → IsSentTo kind state.is_app command.index command.argument
     → (command.response ≡ response_of (command_of kind state.is_app command.index))
-    × (command.transfer ≡ data_of (command_of kind state.is_app command.index) state.count)
+    × (command.transfer ≡ data_of (command_of kind state.is_app command.index) state.count (blocks_in command.transfer))
 
 -- a command with data is sent only where none is under way
 abbrev pub IsFree : Data → HostCommand → Type 0

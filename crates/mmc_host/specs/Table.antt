@@ -1,6 +1,7 @@
 -- The one table of what a controller is told of a command (SD Physical Layer 6.00, sections 4.7.4 and 4.9; JESD84-B51, sections
 -- 6.10.4 and 6.12).
-use Rattle.std.specs.Prelude.{◌==◌, if◌then◌else◌, ℕ}
+use Rattle.std.specs.Prelude.{◌==◌, ◌||◌, Bool, if◌then◌else◌, ℕ}
+use Rattle.mmc_frame.specs.declared.commands.TheConstants as Index
 use Rattle.mmc_card.specs.declared.command.Command.{Command}
 use Rattle.mmc_card.specs.declared.command.Command.TheVariants.{AllSendCid, Erase, GoIdleState, ReadMultipleBlock}
 use Rattle.mmc_card.specs.declared.command.Command.TheVariants.{ReadSingleBlock, SdSendOpCond, SelectCard, SendCsd}
@@ -9,8 +10,6 @@ use Rattle.mmc_card.specs.declared.command.Command.TheVariants.{SendScr, StopTra
 use Rattle.mmc_card.specs.declared.command.Command.TheVariants.{WriteBlock, WriteMultipleBlock}
 use Rattle.mmc_card.specs.declared.exchange.Want.{Want}
 use Rattle.mmc_card.specs.declared.exchange.Want.TheVariants.{Long, Nothing, Short}
-use Rattle.mmc_host.specs.declared.data.Blocks.{Blocks}
-use Rattle.mmc_host.specs.declared.data.Blocks.TheVariants.{Counted, UntilStopped}
 use Rattle.mmc_host.specs.declared.data.Data.{Data}
 use Rattle.mmc_host.specs.declared.response.Response.{Response}
 
@@ -34,16 +33,20 @@ want_of Response.Nothing = Nothing
 want_of Response.R2 = Long
 want_of _ = Short
 
--- a count of 0 is none
-abbrev pub blocks_of : ℕ → Blocks
-blocks_of count = if count == 0 then UntilStopped else Counted count
+-- as many blocks as are preset, and where that is 0, which is none, as many as will be moved
+abbrev pub blocks_of : ℕ → ℕ → ℕ
+blocks_of count moved = if count == 0 then moved else count
 
-abbrev pub data_of : Command → ℕ → Data
-data_of SendScr count = Data.Read 8 (Counted 1)
-data_of SwitchFunc count = Data.Read 64 (Counted 1)
-data_of SendExtCsd count = Data.Read 512 (Counted 1)
-data_of ReadSingleBlock count = Data.Read 512 (Counted 1)
-data_of ReadMultipleBlock count = Data.Read 512 (blocks_of count)
-data_of WriteBlock count = Data.Write (Counted 1)
-data_of WriteMultipleBlock count = Data.Write (blocks_of count)
-data_of _ count = Data.Nothing
+-- CMD18 and CMD25
+abbrev pub moves_several : ℕ → Bool
+moves_several index = (index == Index.READ_MULTIPLE_BLOCK) || (index == Index.WRITE_MULTIPLE_BLOCK)
+
+abbrev pub data_of : Command → ℕ → ℕ → Data
+data_of SendScr count moved = Data.Read 8 1
+data_of SwitchFunc count moved = Data.Read 64 1
+data_of SendExtCsd count moved = Data.Read 512 1
+data_of ReadSingleBlock count moved = Data.Read 512 1
+data_of ReadMultipleBlock count moved = Data.Read 512 (blocks_of count moved)
+data_of WriteBlock count moved = Data.Write 1
+data_of WriteMultipleBlock count moved = Data.Write (blocks_of count moved)
+data_of _ count moved = Data.Nothing

@@ -1,5 +1,5 @@
 -- A command with the blocks after it, by one call of a host.
-use Rattle.std.specs.Prelude.{◌+◌, ◌-◌, ◌<◌, ◌^◌, ◌≡◌, ◌≤◌, List, Result, Some, false, if◌then◌else◌, min, nat_lt, suc, zero, ℕ}
+use Rattle.std.specs.Prelude.{◌⊎◌, ◌+◌, ◌-◌, ◌<◌, ◌^◌, ◌≡◌, ◌≤◌, IfSome, List, Result, Some, false, if◌then◌else◌, max, min, nat_lt, suc, zero, ℕ}
 use Rattle.mmc_frame.specs.Frame.{command_in}
 use Rattle.mmc_card.specs.declared.exchange.Lines.{Lines}
 use Rattle.mmc_card.specs.declared.exchange.DataIn.{DataIn}
@@ -13,10 +13,9 @@ use Rattle.mmc_bus.specs.Together.{ReadOn, WrittenOn}
 use Rattle.mmc_bus.specs.declared.moved.Moved.{Moved}
 use Rattle.mmc_bus.specs.declared.moved.Moved.TheVariants as Move
 use Rattle.mmc_bus.specs.declared.wire.Wire.{Wire}
-use Rattle.mmc_host.specs.HostStates.{AreMovable, IsFree, IsTold, block_passed, less_by, lines_of}
+use Rattle.mmc_host.specs.HostStates.{AreMovable, IsCounted, IsFree, IsTold, block_passed, less_by, lines_of}
 use Rattle.mmc_host.specs.Hosts.{HostView, IsSlowEnough, Looks, ReadsBlock, Sends, WritesBlock, answer_heard}
 use Rattle.mmc_host.specs.declared.response.Response.TheVariants as To
-use Rattle.mmc_host.specs.declared.data.Blocks.TheVariants.{Counted, UntilStopped}
 use Rattle.mmc_host.specs.declared.data.Data.{Data}
 use Rattle.mmc_host.specs.declared.data.Data.TheVariants as Behind
 use Rattle.mmc_host.specs.declared.told.Heard.{Heard}
@@ -26,14 +25,12 @@ use Rattle.mmc_host.specs.declared.told.ResponseFault.{ResponseFault}
 
 -- so many blocks of 512 bytes are to come, or more
 abbrev pub AreBehind : Data → ℕ → Type 0
-AreBehind (Behind.Read size (Counted all)) count = (size ≡ 512) × (count ≤ all)
-AreBehind (Behind.Read size UntilStopped) count = size ≡ 512
+AreBehind (Behind.Read size all) count = (size ≡ 512) × (count ≤ all)
 AreBehind _ count = ⊥
 
 -- so many blocks are to go, or more
 abbrev pub AreAhead : Data → ℕ → Type 0
-AreAhead (Behind.Write (Counted all)) count = count ≤ all
-AreAhead (Behind.Write UntilStopped) count = Unit {0}
+AreAhead (Behind.Write all) count = count ≤ all
 AreAhead _ count = ⊥
 
 abbrev pub HostRead : HostView → DataIn → List ℕ → HostView → Type 0
@@ -56,6 +53,20 @@ pub record WritesWith (old : HostView) (command : HostCommand) (blocks : List (L
   pub sent : Sends old command heard behind
   pub unheard : answer_heard command.response command.index heard ≡ Silent → moved ≡ Move.Good 0
   pub written : WrittenOn WritesBlock HostRested blocks behind moved new
+
+-- A controller counts 1 to 65,535 blocks.
+abbrev pub number_of : ℕ → ℕ
+number_of count = min (max count 1) 0xffff
+
+-- After a command its data is under way, or none is.
+abbrev pub IsUnderWay : HostCommand → HostState → Type 0
+IsUnderWay command new = (new.transfer ≡ Behind.Nothing) ⊎ (new.transfer ≡ command.transfer)
+
+-- After the command of a frame nothing is under way, or it is counted so.
+abbrev pub IsBegun : HostState → List ℕ → ℕ → HostState → Type 0
+IsBegun old frame moved new =
+    (new.transfer ≡ Behind.Nothing)
+    ⊎ IfSome (command_in frame) (λ command. IsCounted old.count moved command.0 new.transfer)
 
 -- the command of a frame can be sent, and so many blocks come behind it on these lines
 pub record CanRead (state : HostState) (frame : List ℕ) (command : HostCommand) (count : ℕ) (lines : Lines) : Type 0 where

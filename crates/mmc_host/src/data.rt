@@ -6,15 +6,6 @@ ghost use Rattle.mmc_host.specs.Table.{blocks_of, data_of};
 
 use mmc_card::Command;
 
-/// How many blocks come behind a command.
-#[derive(Clone, Copy, Debug, PartialEq, Eq)]
-pub enum Blocks {
-    /// So many.
-    Counted(u16),
-    /// As many as come until CMD12.
-    UntilStopped,
-}
-
 /// The data behind a command, over the data lines.
 #[derive(Clone, Copy, Debug, PartialEq, Eq)]
 pub enum Data {
@@ -24,13 +15,13 @@ pub enum Data {
     Read {
         /// The length of each block in bytes: 8, 64 or 512.
         length: u16,
-        /// How many come.
-        blocks: Blocks,
+        /// How many are read: a card that wasn't told sends more until it is stopped.
+        blocks: u16,
     },
     /// The host sends blocks of 512 bytes.
     Write {
         /// How many it sends.
-        blocks: Blocks,
+        blocks: u16,
     },
 }
 
@@ -40,14 +31,7 @@ impl Data {
         ensures { IsTrue result ↔ AreBehind self count }
     {
         match self {
-            Data::Read {
-                length,
-                blocks: Blocks::Counted(all),
-            } => length == 512 && count <= all as usize,
-            Data::Read {
-                length,
-                blocks: Blocks::UntilStopped,
-            } => length == 512,
+            Data::Read { length, blocks } => length == 512 && count <= blocks as usize,
             Data::Nothing | Data::Write { .. } => false,
         }
     }
@@ -57,12 +41,7 @@ impl Data {
         ensures { IsTrue result ↔ AreAhead self count }
     {
         match self {
-            Data::Write {
-                blocks: Blocks::Counted(all),
-            } => count <= all as usize,
-            Data::Write {
-                blocks: Blocks::UntilStopped,
-            } => true,
+            Data::Write { blocks } => count <= blocks as usize,
             Data::Nothing | Data::Read { .. } => false,
         }
     }
@@ -72,27 +51,12 @@ impl Data {
         ensures { result ≡ less_one self }
     {
         match self {
-            Data::Read {
+            Data::Read { length, blocks } if blocks > 1 => Data::Read {
                 length,
-                blocks: Blocks::Counted(count),
-            } if count > 1 => Data::Read {
-                length,
-                blocks: Blocks::Counted(count - 1),
+                blocks: blocks - 1,
             },
-            Data::Write {
-                blocks: Blocks::Counted(count),
-            } if count > 1 => Data::Write {
-                blocks: Blocks::Counted(count - 1),
-            },
-            Data::Nothing
-            | Data::Read {
-                blocks: Blocks::Counted(_),
-                ..
-            }
-            | Data::Write {
-                blocks: Blocks::Counted(_),
-            } => Data::Nothing,
-            endless => endless,
+            Data::Write { blocks } if blocks > 1 => Data::Write { blocks: blocks - 1 },
+            Data::Nothing | Data::Read { .. } | Data::Write { .. } => Data::Nothing,
         }
     }
 
@@ -105,61 +69,55 @@ impl Data {
         }
         match self {
             Data::Nothing => self,
-            Data::Read { length, blocks } => match blocks {
-                Blocks::Counted(all) if count < all as usize => Data::Read {
-                    length,
-                    blocks: Blocks::Counted(all - count as u16),
-                },
-                Blocks::Counted(_) => Data::Nothing,
-                Blocks::UntilStopped => self,
+            Data::Read { length, blocks } if count < blocks as usize => Data::Read {
+                length,
+                blocks: blocks - count as u16,
             },
-            Data::Write { blocks } => match blocks {
-                Blocks::Counted(all) if count < all as usize => Data::Write {
-                    blocks: Blocks::Counted(all - count as u16),
-                },
-                Blocks::Counted(_) => Data::Nothing,
-                Blocks::UntilStopped => self,
+            Data::Read { .. } => Data::Nothing,
+            Data::Write { blocks } if count < blocks as usize => Data::Write {
+                blocks: blocks - count as u16,
             },
+            Data::Write { .. } => Data::Nothing,
         }
     }
 }
 
-// How many blocks a transfer of several has, by the count that CMD23 has preset, if it has one.
-fn blocks_of(count: u16) -> Blocks
-    ensures { result ≡ blocks_of count }
+// How many blocks a transfer of several has: as many as CMD23 has preset, or where it has preset none, as many as will be moved.
+fn blocks_of(count: u16, moved: u16) -> u16
+    ensures { result ≡ blocks_of count moved }
 {
     match count {
-        0 => Blocks::UntilStopped,
-        count => Blocks::Counted(count),
+        0 => moved,
+        count => count,
     }
 }
 
-/// The data behind each command, with the count that CMD23 has preset for it, 0 where none is (SD Physical Layer 6.00, sections
-/// 4.3.3, 4.3.4, 4.3.10 and 4.7.4; JESD84-B51, sections 6.6.7, 6.6.8 and 6.10.4).
-pub fn data_of(command: Command, count: u16) -> Data
-    ensures { result ≡ data_of command count }
+/// The data behind each command, with the count that CMD23 has preset for it, 0 where none is, and how many blocks will be moved
+/// where the card isn't told (SD Physical Layer 6.00, sections 4.3.3, 4.3.4, 4.3.10 and 4.7.4; JESD84-B51, sections 6.6.7, 6.6.8
+/// and 6.10.4).
+pub fn data_of(command: Command, count: u16, moved: u16) -> Data
+    ensures { result ≡ data_of command count moved }
 {
-    let one = Blocks::Counted(1);
     match command {
         Command::SendScr => Data::Read {
             length: 8,
-            blocks: one,
+            blocks: 1,
         },
         Command::SwitchFunc => Data::Read {
             length: 64,
-            blocks: one,
+            blocks: 1,
         },
         Command::SendExtCsd | Command::ReadSingleBlock => Data::Read {
             length: 512,
-            blocks: one,
+            blocks: 1,
         },
         Command::ReadMultipleBlock => Data::Read {
             length: 512,
-            blocks: blocks_of(count),
+            blocks: blocks_of(count, moved),
         },
-        Command::WriteBlock => Data::Write { blocks: one },
+        Command::WriteBlock => Data::Write { blocks: 1 },
         Command::WriteMultipleBlock => Data::Write {
-            blocks: blocks_of(count),
+            blocks: blocks_of(count, moved),
         },
         _ => Data::Nothing,
     }

@@ -1,4 +1,4 @@
-ghost use Rattle.std.specs.Prelude.{◌<◌, ◌==◌, ◌||◌, ◌≡◌, IfSome, IsNone, None, false, length, not, true};
+ghost use Rattle.std.specs.Prelude.{◌<◌, ◌==◌, ◌||◌, ◌≡◌, ◌≤◌, IfSome, IsNone, None, false, length, not, true};
 ghost use Rattle.mmc_bus.specs.Exchanges.{Commanded, DataRead, DataWritten, Polled, SetsLines};
 ghost use Rattle.mmc_bus.specs.Together.{ReadWith, WrittenWith};
 ghost use Rattle.mmc_card.specs.Faults.{CommandStep, PollStep, ReadStep, Spells, WriteStep};
@@ -9,8 +9,8 @@ ghost use Rattle.mmc_host.specs.Misuse.{can_send};
 ghost use Rattle.mmc_host.specs.Pace.{IsClocked, IsPaced, IsTimed, pause_after, shows_work};
 ghost use Rattle.mmc_frame.specs.declared.commands.TheConstants.{GO_IDLE_STATE};
 ghost use Rattle.mmc_host.specs.Hosts.{Where, WritesBlock, answer_heard, bus_over};
-ghost use Rattle.mmc_host.specs.Together.{CanRead, CanWrite, all_noted, all_writes_noted, poll_noted, writes_noted};
-ghost use Rattle.mmc_host.specs.HostStates.{AreMovable, IsBetween, IsFree, IsTold, IsToCome, IsToGo, lines_of, resting};
+ghost use Rattle.mmc_host.specs.Together.{CanRead, CanWrite, IsBegun, IsUnderWay, number_of, all_noted, all_writes_noted, poll_noted, writes_noted};
+ghost use Rattle.mmc_host.specs.HostStates.{AreMovable, IsBetween, IsCounted, IsFree, IsTold, IsToCome, IsToGo, lines_of, resting};
 
 use crate::host::Host;
 use crate::response::Response;
@@ -93,6 +93,14 @@ fn are_within(lines: Lines, limits: Lines) -> bool
     ensures can { IsWithin lines limits → result ≡ true }
 {
     limited(lines, limits) == lines
+}
+
+// How many blocks a controller is told to count.
+fn number_of(count: usize) -> u16
+    ensures number { result ≡ number_of count }
+    ensures some { 1 ≤ result }
+{
+    count.clamp(1, MOST_BLOCKS as usize) as u16
 }
 
 // Keeps the exchanges of these blocks; where one failed, of it alone, since nobody tells how many came before it.
@@ -248,6 +256,7 @@ impl<H: Host> HostBus<H> {
         ensures misused { self.new.is_misused ≡ self.old.is_misused }
         ensures clock { IsClocked self.old.state command.index self.new.state }
         ensures pace { IsPaced self.old.state.is_app command result self.new.state.paused }
+        ensures data { IsUnderWay command self.new.state }
         ensures sent { Replies (H.view self.old.host) command.index command.argument result (H.view self.new.host) }
     {
         self.set_ios(self.state.is_identifying || command.index == GO_IDLE_STATE);
@@ -258,20 +267,22 @@ impl<H: Host> HostBus<H> {
         spelled(command, heard)
     }
 
-    // Sends the command of a frame. A controller can't send a frame that holds none, nor a command with data where data is under
-    // way.
-    fn carry(&mut self, frame: &[u8; 6]) -> Reply
+    // Sends the command of a frame, after which so many blocks will be moved. A controller can't send a frame that holds none, nor a
+    // command with data where data is under way.
+    fn carry(&mut self, frame: &[u8; 6], moved: u16) -> Reply
+        requires some { 1 ≤ moved }
         ensures wire { self.new.wire ≡ self.old.wire }
         ensures sent { Does (H.view self.old.host) self.old.wire self.old.is_misused
             (λ old new. CommandStep old frame.now result new) (H.view self.new.host) self.new.is_misused }
         ensures misused { self.new.is_misused ≡ (not (can_send self.old.state frame.now) || self.old.is_misused) }
         ensures timed { can_send self.old.state frame.now ≡ true → IsTimed self.old.state frame.now result self.new.state }
+        ensures counted { can_send self.old.state frame.now ≡ true → IsBegun self.old.state frame.now moved self.new.state }
     {
         let Some((index, argument)) = read_command(frame) else {
             self.is_misused = true;
             return Reply::Silent;
         };
-        let command = self.state.command(index, argument);
+        let command = self.state.command(index, argument, moved);
         if index >= 64 || !self.state.is_free(command) {
             self.is_misused = true;
             return Reply::Silent;
@@ -288,11 +299,12 @@ impl<H: Host> HostBus<H> {
         ensures cannot { IsNone result → self.new ≡ self.old }
         ensures clock { IfSome result (λ command. IsClocked self.old.state command.index self.new.state) }
         ensures can { IfSome result (λ command. CanRead self.new.state frame.now command count self.old.wire.lines) }
+        ensures counted { IfSome result (λ command. IsCounted self.old.state.count (number_of count) command.index command.transfer) }
     {
         let Some((index, argument)) = read_command(frame) else {
             return None;
         };
-        let command = self.state.command(index, argument);
+        let command = self.state.command(index, argument, number_of(count));
         let lines = self.wire.lines;
         if index >= 64
             || !self.state.is_free(command)
@@ -314,11 +326,12 @@ impl<H: Host> HostBus<H> {
         ensures cannot { IsNone result → self.new ≡ self.old }
         ensures clock { IfSome result (λ command. IsClocked self.old.state command.index self.new.state) }
         ensures can { IfSome result (λ command. CanWrite self.new.state frame.now command count self.old.wire.lines) }
+        ensures counted { IfSome result (λ command. IsCounted self.old.state.count (number_of count) command.index command.transfer) }
     {
         let Some((index, argument)) = read_command(frame) else {
             return None;
         };
-        let command = self.state.command(index, argument);
+        let command = self.state.command(index, argument, number_of(count));
         let lines = self.wire.lines;
         if index >= 64
             || command.response != Response::R1
@@ -426,6 +439,9 @@ impl<H: Host> HostBus<H> {
 
 const READY: u32 = 0x8000_0000;
 
+// The most blocks that a controller counts.
+const MOST_BLOCKS: u16 = 0xffff;
+
 const BETWEEN_INQUIRIES: u32 = 64_000;
 
 const BETWEEN_STATUSES: u32 = 32_000;
@@ -443,7 +459,18 @@ impl<H: Host> Bus for HostBus<H> {
         ensures misused { self.new.is_misused ≡ (not (can_send self.old.state frame) || self.old.is_misused) }
         ensures timed { can_send self.old.state frame ≡ true → IsTimed self.old.state frame result self.new.state }
     {
-        let reply = self.carry(&frame);
+        self.begin(frame, want, MOST_BLOCKS)
+    }
+
+    fn begin(&mut self, frame: [u8; 6], want: Want, blocks: u16) -> Reply
+        ensures commanded { Commanded (bus_over (H.view self.old.host) self.old.wire self.old.is_misused) frame want result
+            (bus_over (H.view self.new.host) self.new.wire self.new.is_misused) }
+        ensures misused { self.new.is_misused ≡ (not (can_send self.old.state frame) || self.old.is_misused) }
+        ensures timed { can_send self.old.state frame ≡ true → IsTimed self.old.state frame result self.new.state }
+        ensures counted { can_send self.old.state frame ≡ true
+            → IsBegun self.old.state frame (number_of blocks) self.new.state }
+    {
+        let reply = self.carry(&frame, number_of(blocks as usize));
         self.wire.note(Exchange::Command { frame, want, reply });
         reply
     }
@@ -469,7 +496,10 @@ impl<H: Host> Bus for HostBus<H> {
                 note_blocks(&mut self.wire, moved);
                 (reply, moved)
             }
-            None => (self.command(frame, want), Moved::Good(0)),
+            None => {
+                let blocks = number_of(blocks.len());
+                (self.begin(frame, want, blocks), Moved::Good(0))
+            }
         }
     }
 
@@ -494,7 +524,10 @@ impl<H: Host> Bus for HostBus<H> {
                 note_written(&mut self.wire, moved);
                 (reply, moved)
             }
-            None => (self.command(frame, want), Moved::Good(0)),
+            None => {
+                let blocks = number_of(blocks.len());
+                (self.begin(frame, want, blocks), Moved::Good(0))
+            }
         }
     }
 

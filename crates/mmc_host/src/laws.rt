@@ -12,15 +12,15 @@ ghost use Rattle.mmc_host.specs.WireLaws.{FaithfulIsHeard, UnsoundIsLost};
 
 /// Whatever a card does with a command, by its kind, its state and behind CMD55 or not: its answer is the response of the
 /// table to this index, or none, and as long as a host wants; it is busy only where it was, or behind an R1b; and where it begins to send or to accept
-/// blocks, they are the data of the table, by the count that it holds preset.
+/// blocks, they are the data of the table, by the count that it holds preset, and where it holds none by any number.
 pub fn a_card_does_as_the_table_says()
     ensures answer { (choice : Choice) (card : Card) (index argument : ℕ) → index < 64
         → IsAnswered (response_of (command_of card.made.kind card.app index)) index (respond choice card index argument).1 }
     ensures length { (command : Command) → want_of (response_of command) ≡ response_to command }
     ensures busy { (choice : Choice) (card : Card) (index argument : ℕ)
         → IsBusyBehind (response_of (command_of card.made.kind card.app index)) card (respond choice card index argument).0 }
-    ensures blocks { (choice : Choice) (card : Card) (index argument : ℕ) → index < 64 → IsCard card
-        → HasDataBehind (data_of (command_of card.made.kind card.app index) card.count) card
+    ensures blocks { (choice : Choice) (card : Card) (index argument moved : ℕ) → index < 64 → IsCard card
+        → HasDataBehind (data_of (command_of card.made.kind card.app index) card.count moved) card
         (respond choice card index argument).0 }
 {}
 

@@ -13,7 +13,7 @@ mod response;
 mod told;
 mod work;
 
-pub use data::{Blocks, Data, data_of};
+pub use data::{Data, data_of};
 pub use host::Host;
 pub use host_bus::HostBus;
 pub use meaning::meant;

@@ -1,10 +1,11 @@
 // Which command a frame holds.
-ghost use Rattle.std.specs.Prelude.{◌≡◌, ℕ};
+ghost use Rattle.std.specs.Prelude.{◌≡◌, true, ℕ};
 ghost use Rattle.mmc_frame.specs.declared.kind.Kind.TheVariants.{Mmc, Sd};
 ghost use Rattle.mmc_card.specs.Rows.{command_of};
 ghost use Rattle.mmc_host.specs.Meaning.{IsSentTo};
 ghost use Rattle.mmc_host.specs.Misuse.{carries_data, has_data};
-ghost use Rattle.mmc_host.specs.Table.{data_of};
+ghost use Rattle.mmc_host.specs.HostStates.{blocks_in};
+ghost use Rattle.mmc_host.specs.Table.{blocks_of, data_of, moves_several};
 
 use mmc_card::Command;
 use mmc_frame::commands::*;
@@ -16,7 +17,8 @@ use mmc_frame::commands::*;
 pub fn meant(index: u8, argument: u32, is_app: bool) -> Command
     ensures sd { IsSentTo Sd is_app index argument → result ≡ command_of Sd is_app index }
     ensures mmc { IsSentTo Mmc is_app index argument → result ≡ command_of Mmc is_app index }
-    ensures data { (count : ℕ) → has_data (data_of result count) ≡ carries_data is_app index argument }
+    ensures data { (count moved : ℕ) → has_data (data_of result count moved) ≡ carries_data is_app index argument }
+    ensures several { (count moved : ℕ) → moves_several index ≡ true → blocks_in (data_of result count moved) ≡ blocks_of count moved }
 {
     match index {
         GO_IDLE_STATE => Command::GoIdleState,

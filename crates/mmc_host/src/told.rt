@@ -1,7 +1,7 @@
 // What a host controller is told, and what it says.
-ghost use Rattle.std.specs.Prelude.{◌≡◌, ◌↔◌, IsTrue, false, true};
+ghost use Rattle.std.specs.Prelude.{◌≡◌, ◌↔◌, ◌≤◌, IsTrue, false, true};
 ghost use Rattle.mmc_card.specs.declared.exchange.Timing.TheVariants.{Default, High};
-ghost use Rattle.mmc_host.specs.HostStates.{AreMovable, IsFree, IsTold, IsToCome, IsToGo, begun, block_passed, lines_of, resting, sent, work_after};
+ghost use Rattle.mmc_host.specs.HostStates.{AreMovable, IsCounted, IsFree, IsTold, IsToCome, IsToGo, begun, block_passed, lines_of, resting, sent, work_after};
 ghost use Rattle.mmc_host.specs.Misuse.{carries_data, has_data};
 ghost use Rattle.mmc_host.specs.Together.{passed_on};
 
@@ -171,20 +171,23 @@ impl HostState {
         }
     }
 
-    /// The command with this index and argument, as a host is told of it now.
-    pub fn command(self, index: u8, argument: u32) -> HostCommand
+    /// The command with this index and argument, as a host is told of it now; so many blocks will be moved after it, 1 to 65,535,
+    /// where the card isn't told how many.
+    pub fn command(self, index: u8, argument: u32, moved: u16) -> HostCommand
+        requires some { 1 ≤ moved }
         ensures index { result.index ≡ index }
         ensures argument { result.argument ≡ argument }
         ensures told { IsTold self result }
         ensures movable { AreMovable result.transfer }
         ensures data { has_data result.transfer ≡ carries_data self.is_app index argument }
+        ensures counted { IsCounted self.count moved index result.transfer }
     {
         let meaning = meant(index, argument, self.is_app);
         HostCommand {
             index,
             argument,
             response: response_of(meaning),
-            transfer: data_of(meaning, self.count),
+            transfer: data_of(meaning, self.count, moved),
         }
     }
 

@@ -6,8 +6,6 @@ use Rattle.std.specs.Prelude.{◌&&◌, ◌==◌, ◌||◌, if◌then◌else◌,
 use Rattle.mmc_frame.specs.Field.{field}
 use Rattle.mmc_frame.specs.declared.commands.TheConstants as Index
 use Rattle.mmc_host.specs.HostStates.{AreMovable, IsFree}
-use Rattle.mmc_host.specs.declared.data.Blocks.{Blocks}
-use Rattle.mmc_host.specs.declared.data.Blocks.TheVariants.{Counted, UntilStopped}
 use Rattle.mmc_host.specs.declared.data.Data.{Data}
 use Rattle.mmc_host.specs.declared.response.Response.{Response}
 use Rattle.mmc_host.specs.declared.response.Response.TheVariants as To
@@ -50,66 +48,57 @@ flags command =
 abbrev word : ℕ → ℕ → ℕ → ℕ
 word index byte mode = index * 0x1000000 + byte * 0x10000 + mode
 
-abbrev blocks_from : ℕ → ℕ → ℕ → Blocks
-blocks_from several counted count =
-    if several == 0 then Counted 1 else (if counted == 0 then UntilStopped else Counted count)
+abbrev blocks_from : ℕ → ℕ → ℕ
+blocks_from several count = if several == 0 then 1 else count
 
 -- what these bits ask for
-abbrev data_from : ℕ → ℕ → ℕ → ℕ → ℕ → ℕ → Data
-data_from present reads several counted size count =
+abbrev data_from : ℕ → ℕ → ℕ → ℕ → ℕ → Data
+data_from present reads several size count =
     if present == 0 then Data.Nothing
-    else (if reads == 1 then Data.Read size (blocks_from several counted count)
-    else Data.Write (blocks_from several counted count))
+    else (if reads == 1 then Data.Read size (blocks_from several count) else Data.Write (blocks_from several count))
 
 -- the bits of a word whose parts are these
-by_bits : (t : Data) (i f m sizes present reads several counted size count : ℕ) → f / 32 % 2 ≡ present → m / 16 % 2 ≡ reads
-    → m / 32 % 2 ≡ several → m / 2 % 2 ≡ counted → sizes % 4096 ≡ size → sizes / 0x10000 % 0x10000 ≡ count → m < 0x10000
-    → data_from present reads several counted size count ≡ t → data_asked sizes (word i f m) ≡ t
-by_bits t i f m sizes present reads several counted size count p r s c z n small is =
+by_bits : (t : Data) (i f m sizes present reads several size count : ℕ) → f / 32 % 2 ≡ present → m / 16 % 2 ≡ reads
+    → m / 32 % 2 ≡ several → sizes % 4096 ≡ size → sizes / 0x10000 % 0x10000 ≡ count → m < 0x10000
+    → data_from present reads several size count ≡ t → data_asked sizes (word i f m) ≡ t
+by_bits t i f m sizes present reads several size count p r s z n small is =
     let w = word i f m in
     let e21 : field 21 21 w ≡ present = omega (arith, p, small) in
     let e4 : field 4 4 w ≡ reads = omega (arith, r, small) in
     let e5 : field 5 5 w ≡ several = omega (arith, s, small) in
-    let e1 : field 1 1 w ≡ counted = omega (arith, c, small) in
     let size_is : field 11 0 sizes ≡ size = omega (arith, z) in
     let count_is : field 31 16 sizes ≡ count = omega (arith, n) in
-    ap (λ x. data_from x (field 4 4 w) (field 5 5 w) (field 1 1 w) (field 11 0 sizes) (field 31 16 sizes)) e21
-    ∙ (ap (λ x. data_from present x (field 5 5 w) (field 1 1 w) (field 11 0 sizes) (field 31 16 sizes)) e4
-    ∙ (ap (λ x. data_from present reads x (field 1 1 w) (field 11 0 sizes) (field 31 16 sizes)) e5
-    ∙ (ap (λ x. data_from present reads several x (field 11 0 sizes) (field 31 16 sizes)) e1
-    ∙ (ap (λ x. data_from present reads several counted x (field 31 16 sizes)) size_is
-    ∙ (ap (λ x. data_from present reads several counted size x) count_is ∙ is)))))
+    ap (λ x. data_from x (field 4 4 w) (field 5 5 w) (field 11 0 sizes) (field 31 16 sizes)) e21
+    ∙ (ap (λ x. data_from present x (field 5 5 w) (field 11 0 sizes) (field 31 16 sizes)) e4
+    ∙ (ap (λ x. data_from present reads x (field 11 0 sizes) (field 31 16 sizes)) e5
+    ∙ (ap (λ x. data_from present reads several x (field 31 16 sizes)) size_is
+    ∙ (ap (λ x. data_from present reads several size x) count_is ∙ is))))
 
 -- one block, or several that are counted
 asked_to_read : (size count i f : ℕ) (one : Bool) → (count == 1) ≡ one → size ≤ 512 → count < 0x10000 → f / 32 % 2 ≡ 1
-    → data_asked (size + 0x10000 * count) (word i f (0x10 + (if one then 0 else 0x22))) ≡ Data.Read size (Counted count)
+    → data_asked (size + 0x10000 * count) (word i f (0x10 + (if one then 0 else 0x22))) ≡ Data.Read size count
 asked_to_read size count i f true single short few is =
-    by_bits _ i f 0x10 (size + 0x10000 * count) 1 1 0 0 size count is refl refl refl (omega (arith, short))
-    (omega (arith, short, few)) (omega arith) (ap (λ n. Data.Read size (Counted n)) (sym (eqb-true count 1 single)))
+    by_bits _ i f 0x10 (size + 0x10000 * count) 1 1 0 size count is refl refl (omega (arith, short))
+    (omega (arith, short, few)) (omega arith) (ap (λ n. Data.Read size n) (sym (eqb-true count 1 single)))
 asked_to_read size count i f false several short few is =
-    by_bits _ i f 0x32 (size + 0x10000 * count) 1 1 1 1 size count is refl refl refl (omega (arith, short))
+    by_bits _ i f 0x32 (size + 0x10000 * count) 1 1 1 size count is refl refl (omega (arith, short))
     (omega (arith, short, few)) (omega arith) refl
 
 asked_to_write : (count i f : ℕ) (one : Bool) → (count == 1) ≡ one → count < 0x10000 → f / 32 % 2 ≡ 1
-    → data_asked (512 + 0x10000 * count) (word i f (if one then 0 else 0x22)) ≡ Data.Write (Counted count)
+    → data_asked (512 + 0x10000 * count) (word i f (if one then 0 else 0x22)) ≡ Data.Write count
 asked_to_write count i f true single few is =
-    by_bits _ i f 0 (512 + 0x10000 * count) 1 0 0 0 512 count is refl refl refl (omega arith)
-    (omega (arith, few)) (omega arith) (ap (λ n. Data.Write (Counted n)) (sym (eqb-true count 1 single)))
+    by_bits _ i f 0 (512 + 0x10000 * count) 1 0 0 512 count is refl refl (omega arith)
+    (omega (arith, few)) (omega arith) (ap (λ n. Data.Write n) (sym (eqb-true count 1 single)))
 asked_to_write count i f false several few is =
-    by_bits _ i f 0x22 (512 + 0x10000 * count) 1 0 1 1 512 count is refl refl refl (omega arith)
+    by_bits _ i f 0x22 (512 + 0x10000 * count) 1 0 1 512 count is refl refl (omega arith)
     (omega (arith, few)) (omega arith) refl
 
 asked : (t : Data) (i f : ℕ) → AreMovable t → f / 32 % 2 ≡ (if has_data t then 1 else 0)
     → data_asked (sizes_of t) (word i f (mode_of t)) ≡ t
-asked Data.Nothing i f movable is = by_bits Data.Nothing i f 0 0 0 0 0 0 0 0 is refl refl refl refl refl (omega arith) refl
-asked (Data.Read size UntilStopped) i f movable is =
-    by_bits _ i f 0x30 (size + 0x10000 * 0) 1 1 1 0 size 0 is refl refl refl (omega (arith, movable.0))
-    (omega (arith, movable.0)) (omega arith) refl
-asked (Data.Read size (Counted count)) i f movable is =
+asked Data.Nothing i f movable is = by_bits Data.Nothing i f 0 0 0 0 0 0 0 is refl refl refl refl (omega arith) refl
+asked (Data.Read size count) i f movable is =
     asked_to_read size count i f (count == 1) refl movable.0.0 movable.1.1 is
-asked (Data.Write UntilStopped) i f movable is =
-    by_bits _ i f 0x20 (512 + 0x10000 * 0) 1 0 1 0 512 0 is refl refl refl refl refl (omega arith) refl
-asked (Data.Write (Counted count)) i f movable is = asked_to_write count i f (count == 1) refl movable.1 is
+asked (Data.Write count) i f movable is = asked_to_write count i f (count == 1) refl movable.1 is
 
 no_bits : (n : ℕ) → bit_and n 0 ≡ 0
 no_bits n = search rules
@@ -178,7 +167,7 @@ record IsWord (command : HostCommand) (value : ℕ) : Type 0 where
 asked_after : (t : Data) (sizes i f : ℕ) → AreMovable t → f / 32 % 2 ≡ (if has_data t then 1 else 0)
     → data_asked (sizes_after sizes t) (word i f (mode_of t)) ≡ t
 asked_after Data.Nothing sizes i f movable is =
-    by_bits Data.Nothing i f 0 sizes 0 0 0 0 (sizes % 4096) (sizes / 0x10000 % 0x10000) is refl refl refl refl refl (omega arith) refl
+    by_bits Data.Nothing i f 0 sizes 0 0 0 (sizes % 4096) (sizes / 0x10000 % 0x10000) is refl refl refl refl (omega arith) refl
 asked_after (Data.Read size blocks) sizes i f movable is = asked (Data.Read size blocks) i f movable is
 asked_after (Data.Write blocks) sizes i f movable is = asked (Data.Write blocks) i f movable is
 
@@ -192,22 +181,25 @@ no_bit_two To.R3 = refl
 no_bit_two To.R6 = refl
 no_bit_two To.R7 = refl
 
-cond_bits : (one : Bool) → ((if one then 0 else 0x22) % 2 ≡ 0)
-    × (((if one then 0 else 0x22) / 4 % 4 ≡ 0) × ((if one then 0 else 0x22) < 0x40))
-cond_bits true = (refl, (refl, omega arith))
-cond_bits false = (refl, (refl, omega arith))
+-- Transfer Mode has none of bits 0, 2, 3 and 6 up, and counts where there are several
+record IsMode (mode : ℕ) : Type 0 where
+  even : mode % 2 ≡ 0
+  plain : mode / 4 % 4 ≡ 0
+  small : mode < 0x40
+  counted : mode / 32 % 2 ≡ mode / 2 % 2
 
-read_bits : (one : Bool) → ((0x10 + (if one then 0 else 0x22)) % 2 ≡ 0)
-    × (((0x10 + (if one then 0 else 0x22)) / 4 % 4 ≡ 0) × (0x10 + (if one then 0 else 0x22) < 0x40))
-read_bits true = (refl, (refl, omega arith))
-read_bits false = (refl, (refl, omega arith))
+write_mode : (one : Bool) → IsMode (if one then 0 else 0x22)
+write_mode true = record { even = refl; plain = refl; small = omega arith; counted = refl }
+write_mode false = record { even = refl; plain = refl; small = omega arith; counted = refl }
 
-mode_bits : (t : Data) → (mode_of t % 2 ≡ 0) × ((mode_of t / 4 % 4 ≡ 0) × (mode_of t < 0x40))
-mode_bits Data.Nothing = (refl, (refl, omega arith))
-mode_bits (Data.Read size UntilStopped) = (refl, (refl, omega arith))
-mode_bits (Data.Read size (Counted count)) = read_bits (count == 1)
-mode_bits (Data.Write UntilStopped) = (refl, (refl, omega arith))
-mode_bits (Data.Write (Counted count)) = cond_bits (count == 1)
+read_mode : (one : Bool) → IsMode (0x10 + (if one then 0 else 0x22))
+read_mode true = record { even = refl; plain = refl; small = omega arith; counted = refl }
+read_mode false = record { even = refl; plain = refl; small = omega arith; counted = refl }
+
+mode_bits : (t : Data) → IsMode (mode_of t)
+mode_bits Data.Nothing = write_mode true
+mode_bits (Data.Read size count) = read_mode (count == 1)
+mode_bits (Data.Write count) = write_mode (count == 1)
 
 all_six : (a b c d e f : Bool) → a ≡ true → b ≡ true → c ≡ true → d ≡ true → e ≡ true → f ≡ true
     → (a && (b && (c && (d && (e && f))))) ≡ true
@@ -242,6 +234,12 @@ stop_bits : (abort : Bool) → (if abort then 0xc0 else 0) % 0x40 ≡ 0
 stop_bits true = refl
 stop_bits false = refl
 
+abbrev asked_but_counted : ℕ → Bool
+asked_but_counted w =
+    (field 0 0 w == 0)
+    && ((field 3 2 w == 0)
+    && ((field 15 6 w == 0) && ((field 18 18 w == 0) && ((field 31 30 w == 0) && asked_type w))))
+
 is_word : (command : HostCommand) → command.index < 64 → AreMovable command.transfer
     → IsWord command (word command.index (flags_of command) (mode_of command.transfer))
 is_word command small movable =
@@ -254,19 +252,23 @@ is_word command small movable =
     (if command.index == Index.STOP_TRANSMISSION then 0xc0 else 0) s (no_bit_two command.response) p.1
     (stop_bits (command.index == Index.STOP_TRANSMISSION)) in
     let w = word command.index (flags_of command) (mode_of command.transfer) in
-    let b0 : field 0 0 w ≡ 0 = omega (arith, m.0) in
-    let b2 : field 3 2 w ≡ 0 = omega (arith, m.1.0, m.1.1) in
-    let b6 : field 15 6 w ≡ 0 = omega (arith, m.1.1) in
-    let b18 : field 18 18 w ≡ 0 = omega (arith, two, m.1.1) in
-    let b30 : field 31 30 w ≡ 0 = omega (arith, small, f.0, m.1.1) in
+    let b0 : field 0 0 w ≡ 0 = omega (arith, m.even) in
+    let e5 : field 5 5 w ≡ mode_of command.transfer / 32 % 2 = omega (arith, m.small) in
+    let e1 : field 1 1 w ≡ mode_of command.transfer / 2 % 2 = omega (arith, m.small) in
+    let b5 : field 5 5 w ≡ field 1 1 w = e5 ∙ m.counted ∙ sym e1 in
+    let b2 : field 3 2 w ≡ 0 = omega (arith, m.plain, m.small) in
+    let b6 : field 15 6 w ≡ 0 = omega (arith, m.small) in
+    let b18 : field 18 18 w ≡ 0 = omega (arith, two, m.small) in
+    let b30 : field 31 30 w ≡ 0 = omega (arith, small, f.0, m.small) in
     record {
-      index = omega (arith, small, f.0, m.1.1);
-      flags = omega (arith, small, f.0, m.1.1);
+      index = omega (arith, small, f.0, m.small);
+      flags = omega (arith, small, f.0, m.small);
       asks = λ sizes. asked_after command.transfer sizes command.index (flags_of command) movable f.1.0;
-      present = omega (arith, small, f.0, f.1.0, m.1.1);
-      asked = all_six _ _ _ _ _ _ (eq-eqb _ 0 b0) (eq-eqb _ 0 b2) (eq-eqb _ 0 b6) (eq-eqb _ 0 b18) (eq-eqb _ 0 b30)
+      present = omega (arith, small, f.0, f.1.0, m.small);
+      asked = ap (λ (b : Bool). b && asked_but_counted w) (eq-eqb _ _ b5)
+          ∙ all_six _ _ _ _ _ _ (eq-eqb _ 0 b0) (eq-eqb _ 0 b2) (eq-eqb _ 0 b6) (eq-eqb _ 0 b18) (eq-eqb _ 0 b30)
           (type_by command.index (response_flags command.response) (if has_data command.transfer then 0x20 else 0)
-          (mode_of command.transfer) (command.index == Index.STOP_TRANSMISSION) refl small s p.0 p.1 m.1.1);
+          (mode_of command.transfer) (command.index == Index.STOP_TRANSMISSION) refl small s p.0 p.1 m.small);
     }
 
 same_word : (command : HostCommand) (flag mode : ℕ) → flag ≡ flags_of command → mode ≡ mode_of command.transfer
@@ -347,10 +349,8 @@ may_argue v1 v2 command rests sets kept =
 
 small_sizes : (t : Data) → AreMovable t → field 15 0 (sizes_of t) < 0x1000
 small_sizes Data.Nothing movable = omega arith
-small_sizes (Data.Read size UntilStopped) movable = omega (arith, movable.0)
-small_sizes (Data.Read size (Counted count)) movable = omega (arith, movable.0.0)
-small_sizes (Data.Write UntilStopped) movable = omega arith
-small_sizes (Data.Write (Counted count)) movable = omega arith
+small_sizes (Data.Read size count) movable = omega (arith, movable.0.0)
+small_sizes (Data.Write count) movable = omega arith
 
 pub may_size : (view : ControllerView) (transfer : Data) (sizes : ℕ) → IsAtRest view → AreMovable transfer → IsIdleFor view transfer
     → has_data transfer ≡ true → sizes ≡ sizes_of transfer → IsAllowed view 0x04 sizes

@@ -7,7 +7,6 @@ use Rattle.mmc_card.specs.BusView.{BusView}
 use Rattle.mmc_card.specs.Faults.{WriteStep}
 use Rattle.mmc_bus.specs.Exchanges.{Kept}
 use Rattle.mmc_card.specs.declared.exchange.DataOut.TheVariants as Went
-use Rattle.mmc_host.specs.declared.data.Blocks.{Blocks}
 use Rattle.mmc_host.specs.declared.data.Data.{Data}
 use Rattle.mmc_sdhci.specs.Commands.{Moves, ResetsData}
 use Rattle.mmc_sdhci.specs.Controller.{ControllerView, Running, Settled}
@@ -133,7 +132,7 @@ untold_from view after last status ready same untold block offered =
     subst (λ (b : BusView). Kept (seen view) (WriteStep (seen view) block Went.Nothing b) b) (sym same) (untold block offered)
 
 -- where nothing was found the data line's reset drops it
-write_dropped : (v0 v2 : ControllerView) (status : ℕ) (ready : Bool) (blocks : Blocks) → IsClear v0
+write_dropped : (v0 v2 : ControllerView) (status : ℕ) (ready : Bool) (blocks : ℕ) → IsClear v0
     → v0.transfer ≡ Data.Write blocks → DataDropped (looked_so v0 status ready) v0.transfer v2 → IsLostWrite v0 v2
 write_dropped v0 v2 status ready blocks clear is dropped =
     let d : IsUntold (looked_so v0 status ready) v2 × (v2 ≡ cleared (moved (looked_so v0 status ready) v2)) =
@@ -148,7 +147,7 @@ write_dropped v0 v2 status ready blocks clear is dropped =
 
 -- where a block is to go
 abbrev pub IsWriting : ControllerView → Type 0
-IsWriting view = WhereKept view (IsClear view × ((blocks : Blocks) × (view.transfer ≡ Data.Write blocks)))
+IsWriting view = WhereKept view (IsClear view × ((blocks : ℕ) × (view.transfer ≡ Data.Write blocks)))
 
 pub write_lost : (s : Sought) (v0 v1 v2 : ControllerView) (result : Option Glance)
     → ((x : Glance) → result ≡ Some x → ⊥) → IsWriting v0

@@ -9,7 +9,6 @@ use Rattle.mmc_card.specs.declared.exchange.DataIn.{DataIn}
 use Rattle.mmc_card.specs.declared.exchange.DataIn.TheVariants as Came
 use Rattle.mmc_bus.specs.Exchanges.{Kept}
 use Rattle.mmc_host.specs.HostStates.{is_good, less_one}
-use Rattle.mmc_host.specs.declared.data.Blocks.{Blocks}
 use Rattle.mmc_host.specs.declared.data.Data.{Data}
 use Rattle.mmc_sdhci.specs.Commands.{Moves, ResetsData}
 use Rattle.mmc_sdhci.specs.Controller.{ControllerView, Settled, Steps}
@@ -35,10 +34,10 @@ pub record IsLostRead (old : ControllerView) (size : ℕ) (got : DataIn) (block 
 
 -- blocks of this length are read
 abbrev pub IsReading : ℕ → ControllerView → Type 0
-IsReading size view = WhereKept view (IsClear view × ((blocks : Blocks) × (view.transfer ≡ Data.Read size blocks)))
+IsReading size view = WhereKept view (IsClear view × ((blocks : ℕ) × (view.transfer ≡ Data.Read size blocks)))
 
 -- where none was found the data line's reset drops it
-dropped_by : (v0 v2 : ControllerView) (status size : ℕ) (ready : Bool) (blocks : Blocks) (block : List ℕ) → IsClear v0
+dropped_by : (v0 v2 : ControllerView) (status size : ℕ) (ready : Bool) (blocks : ℕ) (block : List ℕ) → IsClear v0
     → v0.transfer ≡ Data.Read size blocks → DataDropped (looked_so v0 status ready) v0.transfer v2
     → IsLostRead v0 size Came.Nothing block v2
 dropped_by v0 v2 status size ready blocks block clear is dropped =
@@ -261,8 +260,8 @@ seen_good following v0 v1 result x is fine seeking watched kept =
     let found : is_good_by following x.is_ready x.bits ≡ true = found_or_error (is_error x.bits) _ w.1.0 fine in
     let no_error : field 15 15 x.bits ≡ 1 → ⊥ =
     λ (one : field 15 15 x.bits ≡ 1). false≢true (sym fine ∙ ap (λ (n : ℕ). n == 1) one) in
-    let good : (size : ℕ) (blocks : Blocks) → v0.transfer ≡ Data.Read size blocks → IsSeenGood v0 size x.bits v1 =
-    λ (size : ℕ) (blocks : Blocks) (carried : v0.transfer ≡ Data.Read size blocks).
+    let good : (size blocks : ℕ) → v0.transfer ≡ Data.Read size blocks → IsSeenGood v0 size x.bits v1 =
+    λ (size blocks : ℕ) (carried : v0.transfer ≡ Data.Read size blocks).
     good_by v0 v1 size x.bits x.is_ready following s.1.1.0.0 s.1.1.0.1 s.1.1.1.0 s.1.1.1.1 no_error found
     (subst (λ (d : Data). DataLooked (looking v0 x) d x.bits v1) carried w.1.1) in
     let one = good s.1.0.0 s.1.0.1 s.1.0.2 in (

@@ -77,17 +77,18 @@ is_clean view value =
     if field 21 21 value == 1 then view.status == 0 else bit_and view.status of_a_command == 0
 
 -- Sizes are set where no data is under way. What Transfer Mode and Command may ask for: no DMA and no command of the controller's own
--- (bits 0, 2 and 3 of Transfer Mode), no suspending (bits 22 and 23, but for CMD12).
+-- (bits 0, 2 and 3 of Transfer Mode), no suspending (bits 22 and 23, but for CMD12); several blocks are counted (bits 5 and 1).
 abbrev pub is_idle : ControllerView → Bool
 is_idle view = is_none view.running && not (has_data view.transfer)
 
 abbrev pub is_asked : ℕ → Bool
 is_asked value =
-    (field 0 0 value == 0)
+    (field 5 5 value == field 1 1 value)
+    && ((field 0 0 value == 0)
     && ((field 3 2 value == 0)
     && ((field 15 6 value == 0)
     && ((field 18 18 value == 0)
-    && ((field 31 30 value == 0) && ((field 23 22 value == 0) || (field 29 22 value == 0x33))))))
+    && ((field 31 30 value == 0) && ((field 23 22 value == 0) || (field 29 22 value == 0x33)))))))
 
 -- The card's clock is turned on once the internal one, whose divider it keeps, is stable; no reset is begun beside it.
 abbrev pub is_clock : Settings → ℕ → Bool

@@ -6,16 +6,12 @@ use Rattle.mmc_frame.specs.Field.{field}
 use Rattle.mmc_frame.specs.RegisterFrame.{with_check}
 use Rattle.mmc_card.specs.CardAnswer.{CardAnswer, Checked, R2, R3, Silent}
 use Rattle.mmc_host.specs.Hosts.{Answers}
-use Rattle.mmc_host.specs.declared.data.Blocks.{Blocks}
-use Rattle.mmc_host.specs.declared.data.Blocks.TheVariants.{Counted, UntilStopped}
 use Rattle.mmc_host.specs.declared.data.Data.{Data}
 use Rattle.mmc_sdhci.specs.Controller.{ControllerView, Running, Steps, moved, seen}
 
--- the blocks that Transfer Mode asks for: bit 5 several, bit 1 counted
-abbrev pub blocks_asked : ℕ → ℕ → Blocks
-blocks_asked sizes mode =
-    if field 5 5 mode == 0 then Counted 1
-    else (if field 1 1 mode == 0 then UntilStopped else Counted (field 31 16 sizes))
+-- the blocks that Transfer Mode asks for: bit 5 several, as many as Block Count says
+abbrev pub blocks_asked : ℕ → ℕ → ℕ
+blocks_asked sizes mode = if field 5 5 mode == 0 then 1 else field 31 16 sizes
 
 -- the data that Transfer Mode and Command ask for: bit 21 there is some, bit 4 it is read
 abbrev pub data_asked : ℕ → ℕ → Data

@@ -4,8 +4,6 @@ use Rattle.mmc_card.specs.CardAnswer.{CardAnswer}
 use Rattle.mmc_frame.specs.Field.{field}
 use Rattle.mmc_frame.specs.declared.commands.TheConstants as Index
 use Rattle.mmc_host.specs.Hosts.{Answers, answer_heard}
-use Rattle.mmc_host.specs.declared.data.Blocks.{Blocks}
-use Rattle.mmc_host.specs.declared.data.Blocks.TheVariants.{Counted, UntilStopped}
 use Rattle.mmc_host.specs.declared.data.Data.{Data}
 use Rattle.mmc_host.specs.declared.response.Response.{Response}
 use Rattle.mmc_host.specs.declared.response.Response.TheVariants as To
@@ -42,9 +40,8 @@ run_of command =
     }
 
 -- Transfer Mode: bit 5 several blocks, bit 1 counted, bit 4 read
-abbrev pub several : Blocks → ℕ
-several (Counted count) = if count == 1 then 0 else 0x22
-several UntilStopped = 0x20
+abbrev pub several : ℕ → ℕ
+several blocks = if blocks == 1 then 0 else 0x22
 
 abbrev pub mode_of : Data → ℕ
 mode_of Data.Nothing = 0
@@ -52,14 +49,10 @@ mode_of (Data.Read size blocks) = 0x10 + several blocks
 mode_of (Data.Write blocks) = several blocks
 
 -- Block Size, and Block Count above it
-abbrev pub count_of : Blocks → ℕ
-count_of (Counted count) = count
-count_of UntilStopped = 0
-
 abbrev pub sizes_of : Data → ℕ
 sizes_of Data.Nothing = 0
-sizes_of (Data.Read size blocks) = size + 0x10000 * count_of blocks
-sizes_of (Data.Write blocks) = 512 + 0x10000 * count_of blocks
+sizes_of (Data.Read size blocks) = size + 0x10000 * blocks
+sizes_of (Data.Write blocks) = 512 + 0x10000 * blocks
 
 -- they are set where there is data
 abbrev pub sizes_after : ℕ → Data → ℕ

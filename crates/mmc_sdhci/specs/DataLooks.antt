@@ -7,10 +7,9 @@ use Rattle.mmc_card.specs.declared.exchange.DataIn.TheVariants as Came
 use Rattle.mmc_card.specs.declared.exchange.DataOut.TheVariants as Went
 use Rattle.mmc_card.specs.Faults.{ReadStep, WriteStep}
 use Rattle.mmc_host.specs.HostStates.{less_one}
-use Rattle.mmc_host.specs.declared.data.Blocks.TheVariants.{Counted, UntilStopped}
 use Rattle.mmc_host.specs.declared.data.Data.{Data}
 use Rattle.mmc_sdhci.specs.declared.following.Following.{Following}
-use Rattle.mmc_sdhci.specs.declared.following.Following.TheVariants.{Another, End, Unknown}
+use Rattle.mmc_sdhci.specs.declared.following.Following.TheVariants.{Another, End}
 use Rattle.mmc_sdhci.specs.Controller.{ControllerView, Steps, moved, seen}
 
 abbrev pub is_empty : List ℕ → Bool
@@ -23,10 +22,8 @@ following_counted count = if count == 1 then End else Another
 
 abbrev pub following_of : Data → Following
 following_of Data.Nothing = End
-following_of (Data.Read size (Counted count)) = following_counted count
-following_of (Data.Read size UntilStopped) = Unknown
-following_of (Data.Write (Counted count)) = following_counted count
-following_of (Data.Write UntilStopped) = Unknown
+following_of (Data.Read size blocks) = following_counted blocks
+following_of (Data.Write blocks) = following_counted blocks
 
 -- Transfer Complete
 abbrev pub is_complete : ℕ → Bool
@@ -41,13 +38,11 @@ broken view bits =
 abbrev pub came : ℕ → DataIn
 came bits = if (field 21 21 bits == 1) || (field 22 22 bits == 1) then Came.Bad else Came.Nothing
 
--- Nothing can be wrong any more with a block that was taken out of the buffer: Transfer Complete has come after the last one, and
--- the next one is there after any other. Where nobody said how many come, it is the first look after it: a controller that shows a
--- block before it has judged its check must be told how many.
+-- Nothing can be wrong any more with a block that was taken out of the buffer: Transfer Complete has come after the last one that is
+-- counted, and the next one is there after any other.
 abbrev pub is_good_by : Following → Bool → ℕ → Bool
 is_good_by End ready bits = is_complete bits
 is_good_by Another ready bits = ready
-is_good_by Unknown ready bits = true
 
 -- a look finds something new: a block in the buffer, or that the one that was in it is good
 abbrev pub has_news : ControllerView → Option (List ℕ) → ℕ → Bool
@@ -84,7 +79,7 @@ is_whole bytes = length bytes == 512
 
 abbrev pub is_gone_by : Following → Bool → ℕ → Bool
 is_gone_by End ready bits = is_complete bits
-is_gone_by following ready bits = ready
+is_gone_by Another ready bits = ready
 
 abbrev pub is_gone : ControllerView → ℕ → Bool
 is_gone view bits = is_whole view.outgoing && is_gone_by (following_of view.transfer) view.is_ready bits

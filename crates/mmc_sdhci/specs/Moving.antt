@@ -6,7 +6,6 @@ use Rattle.mmc_card.specs.declared.exchange.DataIn.{DataIn}
 use Rattle.mmc_card.specs.declared.exchange.DataOut.{DataOut}
 use Rattle.mmc_card.specs.declared.exchange.DataOut.TheVariants as Went
 use Rattle.mmc_host.specs.HostStates.{is_accepted, is_good, less_one}
-use Rattle.mmc_host.specs.declared.data.Blocks.{Blocks}
 use Rattle.mmc_host.specs.declared.data.Data.{Data}
 use Rattle.mmc_sdhci.specs.Commands.{Moves}
 use Rattle.mmc_sdhci.specs.Controller.{ControllerView, Settled, Steps, seen}
@@ -22,10 +21,10 @@ WhereKept view Rule = view.is_kept ≡ true → Rule
 
 -- blocks are read, or written
 abbrev pub AreRead : Data → Type 0
-AreRead transfer = (size : ℕ) × (blocks : Blocks) × (transfer ≡ Data.Read size blocks)
+AreRead transfer = (size : ℕ) × (blocks : ℕ) × (transfer ≡ Data.Read size blocks)
 
 abbrev pub AreWritten : Data → Type 0
-AreWritten transfer = (blocks : Blocks) × (transfer ≡ Data.Write blocks)
+AreWritten transfer = (blocks : ℕ) × (transfer ≡ Data.Write blocks)
 
 -- where the driver looks for this: for a block, or that the one that was taken is good; for room, or that the block in the buffer has
 -- gone
@@ -100,7 +99,7 @@ HasRoom view =
 abbrev pub IsComing : Data → ℕ → ControllerView → Type 0
 IsComing under_way size view =
     WhereKept view
-    ((view.transfer ≡ under_way) × ((blocks : Blocks) × (under_way ≡ Data.Read size blocks) × (size % 4 ≡ 0)))
+    ((view.transfer ≡ under_way) × ((blocks : ℕ) × (under_way ≡ Data.Read size blocks) × (size % 4 ≡ 0)))
 
 abbrev pub IsGoing : Data → ControllerView → Type 0
 IsGoing under_way view = WhereKept view ((view.transfer ≡ under_way) × AreWritten under_way)
@@ -140,6 +139,6 @@ SeesGone old got new =
 abbrev pub SeesGood : ControllerView → DataIn → ControllerView → Type 0
 SeesGood old got new =
     Settled old
-    (((size : ℕ) (blocks : Blocks) (block : List ℕ) → old.transfer ≡ Data.Read size blocks → old.unjudged ≡ Some block
+    (((size blocks : ℕ) (block : List ℕ) → old.transfer ≡ Data.Read size blocks → old.unjudged ≡ Some block
     → Moves old (ReadStep (seen old) size got block (seen new)) (if is_good got then less_one old.transfer else Data.Nothing) new)
     × (is_at_rest new ≡ true)) new

@@ -1,7 +1,7 @@
 // Commands and their responses.
 ghost use Rattle.std.specs.Prelude.{◌≡◌, ◌<◌};
 ghost use Rattle.mmc_host.specs.HostStates.{AreMovable, IsFree};
-ghost use Rattle.mmc_sdhci.specs.Commands.{Begins, Clears, Ends, IsIdleFor, IsRunning, IsSet, ReadsWord, ResetsData, ResetsLine, SetsSizes, Tells, count_of, flags_of, mode_of};
+ghost use Rattle.mmc_sdhci.specs.Commands.{Begins, Clears, Ends, IsIdleFor, IsRunning, IsSet, ReadsWord, ResetsData, ResetsLine, SetsSizes, Tells, flags_of, mode_of};
 ghost use Rattle.mmc_sdhci.specs.Commands.{IsUnderWay, Sends, fault_in, older_bits, response_flags, several, sizes_of};
 ghost use Rattle.mmc_host.specs.declared.response.Response.TheVariants.{R2};
 ghost use Rattle.mmc_sdhci.specs.Controller.{has_data};
@@ -13,7 +13,7 @@ use crate::offsets::{ARGUMENT, COMMAND, INTERRUPTS, RESET, RESPONSE, SIZES};
 use crate::registers::Registers;
 use crate::settling::{pause, settle_reset};
 use mmc_frame::commands::STOP_TRANSMISSION;
-use mmc_host::{Blocks, Data, Heard, HostCommand, Response, ResponseFault};
+use mmc_host::{Data, Heard, HostCommand, Response, ResponseFault};
 
 const ALL: u32 = 0xffff_ffff;
 
@@ -63,15 +63,11 @@ fn flags_of(command: HostCommand) -> u32
     response_flags(command.response) + data + abort
 }
 
-// Transfer Mode of a number of blocks.
-fn several(blocks: Blocks) -> u32
+// Transfer Mode of a number of blocks: several are counted, also where the card would go on until it is stopped.
+fn several(blocks: u16) -> u32
     ensures { result ≡ several blocks }
 {
-    match blocks {
-        Blocks::Counted(1) => 0,
-        Blocks::Counted(_) => 0x22,
-        Blocks::UntilStopped => 0x20,
-    }
+    if blocks == 1 { 0 } else { 0x22 }
 }
 
 // Transfer Mode.
@@ -85,25 +81,14 @@ fn mode_of(transfer: Data) -> u32
     }
 }
 
-// Block Count.
-fn count_of(blocks: Blocks) -> u32
-    ensures value { result ≡ count_of blocks }
-    ensures small { result < 0x10000 }
-{
-    match blocks {
-        Blocks::Counted(count) => count as u32,
-        Blocks::UntilStopped => 0,
-    }
-}
-
 // Block Size and Block Count.
 fn sizes_of(transfer: Data) -> u32
     ensures { result ≡ sizes_of transfer }
 {
     match transfer {
         Data::Nothing => 0,
-        Data::Read { length, blocks } => length as u32 + 0x1_0000 * count_of(blocks),
-        Data::Write { blocks } => 512 + 0x1_0000 * count_of(blocks),
+        Data::Read { length, blocks } => length as u32 + 0x1_0000 * blocks as u32,
+        Data::Write { blocks } => 512 + 0x1_0000 * blocks as u32,
     }
 }
 

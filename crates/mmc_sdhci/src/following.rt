@@ -2,17 +2,15 @@
 ghost use Rattle.std.specs.Prelude.{◌≡◌};
 ghost use Rattle.mmc_sdhci.specs.DataLooks.{following_counted, following_of};
 
-use mmc_host::{Blocks, Data};
+use mmc_host::Data;
 
 /// What comes after a block.
 #[derive(Clone, Copy, Debug, PartialEq, Eq)]
 pub enum Following {
-    /// Nothing: it is the last one.
+    /// Nothing: it is the last one that is counted.
     End,
     /// Another block.
     Another,
-    /// Blocks come until they are stopped.
-    Unknown,
 }
 
 fn following_counted(count: u16) -> Following
@@ -31,19 +29,7 @@ pub fn following_of(transfer: Data) -> Following
 {
     match transfer {
         Data::Nothing => Following::End,
-        Data::Read {
-            blocks: Blocks::Counted(count),
-            ..
-        } => following_counted(count),
-        Data::Write {
-            blocks: Blocks::Counted(count),
-        } => following_counted(count),
-        Data::Read {
-            blocks: Blocks::UntilStopped,
-            ..
-        } => Following::Unknown,
-        Data::Write {
-            blocks: Blocks::UntilStopped,
-        } => Following::Unknown,
+        Data::Read { length: _, blocks } => following_counted(blocks),
+        Data::Write { blocks } => following_counted(blocks),
     }
 }

@@ -60,7 +60,6 @@ impl Following {
         match self {
             Following::End => seen.bits / 2 % 2 == 1,
             Following::Another => seen.is_ready,
-            Following::Unknown => true,
         }
     }
 
@@ -70,7 +69,7 @@ impl Following {
     {
         match self {
             Following::End => seen.bits / 2 % 2 == 1,
-            Following::Another | Following::Unknown => seen.is_ready,
+            Following::Another => seen.is_ready,
         }
     }
 }

@@ -1,6 +1,6 @@
 // Rows of the table of what a host controller is told, as the standards have them.
 use mmc_card::Command;
-use mmc_host::{Blocks, Data, Response, data_of, meant, response_of};
+use mmc_host::{Data, Response, data_of, meant, response_of};
 
 #[test]
 fn tells_commands_of_one_index_apart(rt: HostRuntime) {
@@ -44,28 +44,23 @@ fn tells_the_data_behind_a_command(rt: HostRuntime) {
         length: 512,
         blocks,
     };
-    assert!(rt; data_of(Command::SendStatus, 0) == Data::Nothing);
-    assert!(rt; data_of(Command::ReadSingleBlock, 0) == sectors(Blocks::Counted(1)));
-    assert!(rt; data_of(Command::ReadMultipleBlock, 16) == sectors(Blocks::Counted(16)));
-    assert!(rt; data_of(Command::ReadMultipleBlock, 0) == sectors(Blocks::UntilStopped));
+    assert!(rt; data_of(Command::SendStatus, 0, 8) == Data::Nothing);
+    assert!(rt; data_of(Command::ReadSingleBlock, 0, 8) == sectors(1));
+    assert!(rt; data_of(Command::ReadMultipleBlock, 16, 8) == sectors(16));
+    assert!(rt; data_of(Command::ReadMultipleBlock, 0, 8) == sectors(8));
+    assert!(rt; data_of(Command::WriteMultipleBlock, 0, 8) == Data::Write { blocks: 8 });
     assert!(rt;
-        data_of(Command::WriteMultipleBlock, 0)
-            == Data::Write {
-                blocks: Blocks::UntilStopped
-            }
-    );
-    assert!(rt;
-        data_of(Command::SwitchFunc, 0)
+        data_of(Command::SwitchFunc, 0, 8)
             == Data::Read {
                 length: 64,
-                blocks: Blocks::Counted(1)
+                blocks: 1
             }
     );
     assert!(rt;
-        data_of(Command::SendScr, 0)
+        data_of(Command::SendScr, 0, 8)
             == Data::Read {
                 length: 8,
-                blocks: Blocks::Counted(1)
+                blocks: 1
             }
     );
 }

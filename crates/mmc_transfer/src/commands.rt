@@ -14,7 +14,7 @@ ghost use Rattle.mmc_transfer.specs.First.{StartedReading, StartedWriting};
 use crate::way::Way;
 use bitflags::Flags;
 use mmc_bus::{
-    Blocks, BlocksMut, Bus, Cause, DataIn, DataOut, Moved, Unheard, ask, ask_reading, ask_writing,
+    Blocks, BlocksMut, Bus, Cause, DataIn, DataOut, Moved, Unheard, ask, ask_moving, ask_reading, ask_writing,
     card_laws, check_r1, transfer_laws,
 };
 use mmc_frame::commands::{
@@ -53,7 +53,7 @@ fn command_of(way: Way, is_single: bool) -> u8
     }
 }
 
-/// Begins a transfer at this address, of one block (CMD17, CMD24) or of several (CMD18, CMD25).
+/// Begins a transfer at this address, of one block (CMD17, CMD24) or of several (CMD18, CMD25). So many will be moved.
 ///
 /// # Errors
 /// `Answer` where no sound response was heard, `Status` where it shows an error.
@@ -63,6 +63,7 @@ pub fn start<B: Bus>(
     way: Way,
     is_single: bool,
     address: u32,
+    count: u16,
 ) -> Result<(), Cause>
     ensures ends { Ends 1 (B.view bus.old) result (B.view bus.new) }
     ensures works { Begins kind way is_single address (B.view bus.old) result (B.view bus.new) }
@@ -72,7 +73,10 @@ pub fn start<B: Bus>(
     transfer_laws::cmd24_begins_a_write();
     transfer_laws::cmd25_begins_a_write_of_blocks();
     card_laws::a_status_tells_of_its_card();
-    check_r1(kind, ask(bus, command_of(way, is_single), address))
+    check_r1(
+        kind,
+        ask_moving(bus, command_of(way, is_single), address, count),
+    )
 }
 
 /// Begins a read, of one block (CMD17) or of several (CMD18), and reads the first of its blocks into their places, as many as the

@@ -41,7 +41,8 @@ pub fn step<B: Bus>(bus: &mut B, job: &Job, phase: Step) -> Result<Option<Phase>
             Ok(Some(Phase::Other(Step::Command)))
         }
         Step::Command => {
-            start(bus, kind, job.way, job.count == 1, job.address())?;
+            let count = job.count as u16;
+            start(bus, kind, job.way, job.count == 1, job.address(), count)?;
             Ok(Some(Phase::Block { done: 0 }))
         }
         Step::Pause { done, polls } => {

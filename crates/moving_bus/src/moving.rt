@@ -30,6 +30,10 @@ impl<B: Bus> Bus for MovingBus<B> {
         self.bus.command(frame, want)
     }
 
+    fn begin(&mut self, frame: [u8; 6], want: Want, blocks: u16) -> Reply {
+        self.bus.begin(frame, want, blocks)
+    }
+
     fn read_data(&mut self, buffer: &mut [u8]) -> DataIn {
         self.bus.read_data(buffer)
     }

@@ -38,6 +38,12 @@ impl<B: Bus> Bus for Narrow<B> {
         reply
     }
 
+    fn begin(&mut self, frame: [u8; 6], want: Want, blocks: u16) -> Reply {
+        let reply = self.bus.begin(frame, want, blocks);
+        self.wire.note(Exchange::Command { frame, want, reply });
+        reply
+    }
+
     fn read_data(&mut self, buffer: &mut [u8]) -> DataIn {
         let len = buffer.len();
         let got = self.bus.read_data(buffer);

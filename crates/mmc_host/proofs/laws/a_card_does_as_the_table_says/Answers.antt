@@ -10,6 +10,6 @@ returns c = record {
   length = as_long;
   busy = λ choice card index argument.
       busy_behind choice (command_of card.made.kind card.app index) card index argument;
-  blocks = λ choice card index argument below is.
-      blocks_told choice card.made.kind card.app card index argument below refl is.registers;
+  blocks = λ choice card index argument moved below is.
+      blocks_told moved choice card.made.kind card.app card index argument below refl is.registers;
 }

@@ -10,7 +10,7 @@ returns-clause-works g c kept =
     let is_single = c.args.is_single in
     let address = c.args.address in
     let old = g.B.Bus.view c.args.bus.now in
-    let asked = asked_as c.command_of.ensures.named c.ask.ensures.asked in
+    let asked = asked_as c.command_of.ensures.named c.ask_moving.ensures.asked in
     let k = asked.exchanged.kept kept in
     let begins = begin_law c.cmd17_begins_a_read.ensures c.cmd18_begins_a_read_of_blocks.ensures
     c.cmd24_begins_a_write.ensures c.cmd25_begins_a_write_of_blocks.ensures way is_single old _ address _ k.step

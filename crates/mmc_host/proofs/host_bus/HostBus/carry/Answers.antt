@@ -1,4 +1,6 @@
-use Rattle.std.proofs.Common.{◌∙◌, ◌≡◌, Bool, Some, refl, subst, sym}
+use Rattle.std.proofs.Common.{◌∙◌, ◌≡◌, Bool, Some, ap, refl, subst, sym}
+use Rattle.mmc_host.proofs.TogetherLemmas.{begun_as}
+use Rattle.mmc_host.specs.Table.{moves_several}
 use Rattle.mmc_host.specs.Hosts.{Does}
 use Rattle.mmc_card.specs.Faults.{CommandStep}
 use Rattle.mmc_host.proofs.BusLemmas.{does_command}
@@ -15,3 +17,12 @@ returns-clause-sent g c =
     (λ old new. CommandStep old c.args.frame.now c.send.result new) v1 misused) (sym c.send.ensures.misused)
     (does_command v0 v1 c.args.self.now.wire c.args.self.now.is_misused told.index told.argument c.args.frame.now
     c.send.result (sym c.read_command.ensures ∙ (c.in-Some.is ∙ same)) c.send.ensures.sent)
+
+pub returns-clause-counted : goal.returns-clause-counted
+returns-clause-counted g c = λ can.
+    let told = c.command-command.result in
+    let same : Some (c.in-Some.index, c.in-Some.argument) ≡ Some (told.index, told.argument) =
+    rw (c.command-command.ensures.index, c.command-command.ensures.argument) refl in
+    begun_as c.args.frame.now c.args.self.now.state c.args.moved told c.send.new.self.state
+    (sym c.read_command.ensures ∙ (c.in-Some.is ∙ same)) c.send.ensures.data
+    (λ several. c.command-command.ensures.counted (ap moves_several (sym c.command-command.ensures.index) ∙ several))

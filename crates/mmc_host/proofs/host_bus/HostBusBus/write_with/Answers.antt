@@ -37,8 +37,8 @@ returns-in-Some-clause-written g c =
 pub returns-in-None-clause-written : goal.returns-in-None-clause-written
 returns-in-None-clause-written g c =
     rw (sym (c.in-None.ensures.cannot refl)) (record {
-      behind = bus_over (g.H.Host.view c.command.new.self.host) c.command.new.self.wire c.command.new.self.is_misused;
-      commanded = c.command.ensures.commanded;
+      behind = bus_over (g.H.Host.view c.begin.new.self.host) c.begin.new.self.wire c.begin.new.self.is_misused;
+      commanded = c.begin.ensures.commanded;
       unheard = λ command is err. refl;
       written = writes 0 _ none_accepted;
     })
@@ -61,8 +61,8 @@ returns-in-Some-clause-clock g c =
 
 pub returns-in-None-clause-clock : goal.returns-in-None-clause-clock
 returns-in-None-clause-clock g c =
-    rw (sym (c.in-None.ensures.cannot refl)) (λ can. timed_clock c.writing.new.self.state c.command.new.self.state c.args.frame
-    c.command.result (c.command.ensures.timed can))
+    rw (sym (c.in-None.ensures.cannot refl)) (λ can. timed_clock c.writing.new.self.state c.begin.new.self.state c.args.frame
+    c.begin.result (c.begin.ensures.timed can))
 
 pub invariant_of-self : goal.invariant_of-self
 invariant_of-self g c =

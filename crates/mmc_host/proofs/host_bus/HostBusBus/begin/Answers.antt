@@ -1,7 +1,7 @@
 use Rattle.mmc_card.specs.Faults.{CommandStep}
 use Rattle.mmc_card.specs.declared.exchange.Exchange.TheVariants.{Command}
 use Rattle.mmc_host.proofs.BusLemmas.{exchanged}
-use Rattle.mmc_host.proofs.host_bus.HostBusBus.command.Goals as goal
+use Rattle.mmc_host.proofs.host_bus.HostBusBus.begin.Goals as goal
 
 pub returns-clause-commanded : goal.returns-clause-commanded
 returns-clause-commanded g c =
