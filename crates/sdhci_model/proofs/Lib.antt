@@ -1,5 +1,6 @@
 pub mod Accessing
 pub mod Commanding
+pub mod Dropping
 pub mod Lengths
 pub mod Moving
 pub mod Telling

@@ -144,7 +144,7 @@ broken_state s bits s' =
       is_unjudged = false;
     }
 
-kept_any : (old new : BusView) (size : ℕ) (got : DataIn) (block other : List ℕ) → is_good got ≡ false
+pub kept_any : (old new : BusView) (size : ℕ) (got : DataIn) (block other : List ℕ) → is_good got ≡ false
     → Kept old (ReadStep old size got block new) new → Kept old (ReadStep old size got other new) new
 kept_any old new size got block other bad step =
     record {
@@ -226,20 +226,20 @@ write_accepted story past after s s' bits tells goes noted =
     (write_accepted_by story past s s' bits tells goes)
 
 -- a block that was rejected, or whose status didn't come, is one whose status didn't come
-is_rejected : DataOut → Bool
+pub is_rejected : DataOut → Bool
 is_rejected Went.Rejected = true
 is_rejected Went.Accepted = false
 is_rejected Went.Nothing = false
 
-rejected_is : Went.Rejected ≡ Went.Accepted → ⊥
+pub rejected_is : Went.Rejected ≡ Went.Accepted → ⊥
 unfolding is_rejected
 rejected_is e = false≢true (sym (ap (λ (d : DataOut). is_rejected d) e))
 
-rejected_is_none : Went.Rejected ≡ Went.Nothing → ⊥
+pub rejected_is_none : Went.Rejected ≡ Went.Nothing → ⊥
 unfolding is_rejected
 rejected_is_none e = false≢true (sym (ap (λ (d : DataOut). is_rejected d) e))
 
-lost_by : (accepted_was : Bool) (got : DataOut) → got ≡ Went.Rejected → got ≡ (if accepted_was then Went.Accepted else Went.Nothing) → ⊥
+pub lost_by : (accepted_was : Bool) (got : DataOut) → got ≡ Went.Rejected → got ≡ (if accepted_was then Went.Accepted else Went.Nothing) → ⊥
 lost_by true got is other = rejected_is (sym is ∙ other)
 lost_by false got is other = rejected_is_none (sym is ∙ other)
 
@@ -309,7 +309,7 @@ write_went story past after s s' bits block Went.Accepted taken is tells goes no
 write_went story past after s s' bits block Went.Rejected taken is tells goes noted = absurd (false≢true taken)
 write_went story past after s s' bits block Went.Nothing taken is tells goes noted = absurd (false≢true taken)
 
-some_bytes : (l : List ℕ) → length l ≡ 512 → is_empty l ≡ false
+pub some_bytes : (l : List ℕ) → length l ≡ 512 → is_empty l ≡ false
 some_bytes [] is = absurd (omega (arith, is))
 some_bytes (x ∷ xs) is = refl
 

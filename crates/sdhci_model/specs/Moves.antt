@@ -1,12 +1,14 @@
 -- What the model's registers do while blocks are moved.
 use Rattle.std.specs.Prelude.{[], List, Some, false, true, ℕ, ◌≡◌}
 use Rattle.mmc_frame.specs.Field.{field}
+use Rattle.mmc_card.specs.declared.exchange.DataOut.{DataOut}
+use Rattle.mmc_card.specs.declared.exchange.DataOut.TheVariants as Went
 use Rattle.mmc_host.specs.HostStates.{less_one}
 use Rattle.mmc_host.specs.declared.data.Data.{Data}
 use Rattle.mmc_story.specs.Story.{Outcome}
 use Rattle.mmc_sdhci.specs.Accesses.{ClockSeen, Pops, ResetSeen, is_ready_in, written}
 use Rattle.mmc_sdhci.specs.Controller.{ControllerView}
-use Rattle.mmc_sdhci.specs.DataLooks.{has_news, is_gone}
+use Rattle.mmc_sdhci.specs.DataLooks.{has_news, is_empty, is_gone}
 use Rattle.sdhci_model.specs.Shown.{shown}
 use Rattle.sdhci_model.specs.declared.state.State.{State}
 
@@ -45,6 +47,19 @@ pub record Breaks (old : State) (bits : ℕ) (new : State) : Type 0 where
         is_ready = false;
         is_unjudged = false;
       }
+
+-- what a bus shows of it is as before: whether the rules were kept, lines, and limits
+pub record HasSameBus (old new : State) : Type 0 where
+  pub sound : new.is_sound ≡ old.is_sound
+  pub control : new.control ≡ old.control
+  pub capabilities : new.capabilities ≡ old.capabilities
+
+-- A block that was to go, and is lost: one that was never sent is noted as one that the card rejected, since it took none; of one that
+-- was sent the card's status is lost.
+abbrev pub IsLostAs : List ℕ → List ℕ → DataOut → Type 0
+IsLostAs outgoing block Went.Rejected = Unit {0}
+IsLostAs outgoing block Went.Nothing = (block ≡ outgoing) × (is_empty outgoing ≡ false)
+IsLostAs outgoing block Went.Accepted = ⊥
 
 -- whatever became of the card, the registers are written so
 abbrev pub WritesTo : State → ℕ → ℕ → State → Type 0

@@ -4,6 +4,7 @@ use Rattle.mmc_host.specs.Hosts.{answer_heard}
 use Rattle.mmc_host.specs.declared.data.Data.{Data}
 use Rattle.mmc_host.specs.declared.response.Response.{Response}
 use Rattle.mmc_host.specs.declared.told.Heard.{Heard}
+use Rattle.mmc_host.specs.declared.told.HostCommand.{HostCommand}
 use Rattle.mmc_host.specs.declared.told.HostState.{HostState}
 use Rattle.mmc_host.specs.declared.work.Work.TheVariants.{Settling}
 use Rattle.mmc_story.specs.Entry.{Entry, Event}
@@ -12,6 +13,7 @@ use Rattle.mmc_sdhci.specs.CommandLooks.{IsShown}
 use Rattle.mmc_sdhci.specs.Commands.{response_flags}
 use Rattle.mmc_sdhci.specs.Controller.{ControllerView, Running, limits_in, lines_in}
 use Rattle.sdhci_model.specs.declared.commands.Run.{Run}
+use Rattle.sdhci_model.specs.declared.commands.Told.{Told}
 use Rattle.sdhci_model.specs.declared.state.State.{State}
 
 abbrev pub running_of : Run → Running
@@ -76,11 +78,21 @@ told_of control =
       paused = 0;
     }
 
+-- the command that runs, as a host is told it
+abbrev pub command_of : Run → Response → HostCommand
+command_of run response =
+    record { index = run.index; argument = run.argument; response = response; transfer = run.transfer }
+
 -- the words show what was heard
 abbrev pub Fits : Response → Heard → List ℕ → Type 0
 Fits response heard words =
     (flags index : ℕ) → flags % 32 ≡ response_flags response
     → IsShown flags index words (answer_heard response index (Ok heard))
+
+-- so does what was told of a command that runs
+pub record IsTold (run : Run) (told : Told) : Type 0 where
+  pub type : run.flags % 32 ≡ response_flags told.response
+  pub fits : Fits told.response told.heard told.words
 
 -- what is noted of a call
 abbrev pub entry_for : State → Event → Entry

@@ -1,14 +1,14 @@
 // Commands and their responses.
-ghost use Rattle.std.specs.Prelude.{◌%◌, ◌≡◌, IfSome, None, true};
+ghost use Rattle.std.specs.Prelude.{◌%◌, ◌≡◌, IfSome, None, Some, false, true};
 ghost use Rattle.mmc_host.specs.HostStates.{AreMovable};
 ghost use Rattle.mmc_host.specs.declared.data.Data.TheVariants.{Nothing};
 ghost use Rattle.mmc_sdhci.specs.CommandLooks.{blocks_asked, bytes_shown, command_errors, data_asked};
 ghost use Rattle.mmc_sdhci.specs.Commands.{response_flags};
 ghost use Rattle.sdhci_model.specs.Moves.{WritesTo};
-ghost use Rattle.sdhci_model.specs.Shown.{Fits};
+ghost use Rattle.sdhci_model.specs.Shown.{Fits, command_of};
 
 use crate::state::State;
-use mmc_host::{Blocks, Data, Heard, Response, ResponseFault};
+use mmc_host::{Blocks, Data, Heard, HostCommand, Response, ResponseFault};
 use mmc_sdhci::{has_data, register_in};
 
 /// A command that runs: what its registers held when Command was written.
@@ -19,6 +19,28 @@ pub struct Run {
     /// The lower byte of Command.
     pub flags: u8,
     pub transfer: Data,
+}
+
+impl Run {
+    /// The command as a host is told it, with this response.
+    pub fn command(self, response: Response) -> HostCommand
+        ensures { result ≡ command_of self response }
+    {
+        HostCommand {
+            index: self.index,
+            argument: self.argument,
+            response,
+            transfer: self.transfer,
+        }
+    }
+}
+
+/// What was heard, and the words of Response that show it.
+#[derive(Clone, Copy, Debug, PartialEq, Eq)]
+pub struct Told {
+    pub response: Response,
+    pub heard: Heard,
+    pub words: [u32; 4],
 }
 
 // The blocks that Transfer Mode asks for, with Block Count.
@@ -181,5 +203,22 @@ impl State {
         self.status = bits;
         self.is_stuck = true;
         self.transfer = Data::Nothing;
+    }
+
+    /// Software Reset For CMD Line, by which the command that ran is lost.
+    pub fn drop_command(&mut self)
+        ensures { self.new ≡ record self.old {
+          running = None;
+          status = 0xffffffff;
+          is_stuck = false;
+          transfer = Nothing;
+          resetting = Some 0;
+        } }
+    {
+        self.running = None;
+        self.status = 0xffff_ffff;
+        self.is_stuck = false;
+        self.transfer = Data::Nothing;
+        self.resetting = Some(0);
     }
 }

@@ -1,10 +1,12 @@
 //! A strict SD host controller in memory, over any host with its card: registers that do as `mmc_sdhci`'s definition of a controller
 //! says, which is proved. It judges what a driver writes, and sends to the card only where lines, power and clock are set. Each
-//! thing is over at the first look at it: a command, a block, a reset, and the wait for the internal clock.
+//! thing is over at the first look at it, a command, a block, a reset, and the wait for the internal clock, unless it is told to be
+//! silent or late.
 #![tactic(auto)]
 
 mod commands;
 mod data;
+mod manner;
 mod model;
 mod reading;
 mod rules;
@@ -14,4 +16,5 @@ mod state;
 mod writes;
 mod writing;
 
+pub use manner::{Manner, Silence, Silent};
 pub use model::{Model, driver};

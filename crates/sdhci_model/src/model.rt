@@ -1,24 +1,30 @@
-ghost use Rattle.std.specs.Prelude.{[], IfOk, ◌==◌, ◌≡◌, ◌≤◌, ◌∷◌, ◌<◌, false, true};
+ghost use Rattle.std.specs.Prelude.{[], Err, IfOk, ◌==◌, ◌≡◌, ◌∷◌, false, true, ℕ};
+ghost use Rattle.mmc_host.specs.declared.data.Blocks.{Blocks};
 ghost use Rattle.mmc_host.specs.declared.data.Data.TheVariants as Data;
 ghost use Rattle.mmc_frame.specs.Field.{field};
+ghost use Rattle.mmc_card.specs.declared.exchange.DataIn.TheVariants as Came;
 ghost use Rattle.mmc_sdhci.specs.Driver.{IsNew};
+ghost use Rattle.mmc_host.specs.HostStates.{is_good};
 ghost use Rattle.mmc_host.specs.Hosts.{IsUnused};
+ghost use Rattle.mmc_host.specs.declared.response.Response.TheVariants.{Nothing};
+ghost use Rattle.mmc_host.specs.declared.told.ResponseFault.TheVariants.{Timeout};
 ghost use Rattle.mmc_sdhci.specs.Accesses.{Does8, Looked, Polls};
 ghost use Rattle.mmc_sdhci.specs.DataLooks.{DataLooked, ReadLook, WriteLook};
 ghost use Rattle.mmc_story.specs.Noted.{event_of};
-ghost use Rattle.mmc_host.specs.HostStates.{AreMovable};
 ghost use Rattle.mmc_sdhci.specs.Controller.{Settled};
 ghost use Rattle.mmc_sdhci.specs.CommandLooks.{Look};
-ghost use Rattle.mmc_story.specs.Entry.Event.{Sent};
-ghost use Rattle.sdhci_model.specs.Shown.{controller, entry_for, running_in, running_of};
+ghost use Rattle.mmc_story.specs.Entry.Event.{Read, Sent, Written};
+ghost use Rattle.sdhci_model.specs.Moves.{IsLostAs, SeesBuffer};
+ghost use Rattle.sdhci_model.specs.Shown.{IsTold, command_of, controller, entry_for, running_in, running_of};
 
-use crate::commands::{Run, bits_of, is_movable, response_in, words_in};
+use crate::commands::{Run, Told, bits_of, is_movable, response_in, words_in};
+use crate::manner::Manner;
 use crate::reading::{bits_of_read, is_good};
 use crate::settings::told_on;
 use crate::state::State;
 use crate::writing::is_accepted;
-use mmc_card::DataIn;
-use mmc_host::{Blocks, Data, Heard, Host, HostCommand, ResponseFault, Work};
+use mmc_card::{DataIn, DataOut};
+use mmc_host::{Blocks, Data, Heard, Host, Response, ResponseFault, Work};
 use mmc_sdhci::{Registers, Sdhci, StartFault, limits_in};
 use mmc_story::{Call, Diary, HasStory, Note};
 use std::marker::PhantomData;
@@ -31,6 +37,14 @@ pub struct Model<D: Host, S: HasStory> {
     host: D,
     diary: Diary,
     state: State,
+    manner: Manner,
+    // how many exchanges were noted, and how many of them were lost by a reset
+    exchanges: u64,
+    lost: u64,
+    // what became of the block that is shown
+    came: DataIn,
+    // a block was rejected, which the driver learns with the next one
+    has_rejected: bool,
     of: PhantomData<S>,
     ghost unkept: { (D.view host).is_kept ≡ true → ⊥ },
 }
@@ -53,23 +67,45 @@ impl<D: Host, S: HasStory> Model<D, S> {
         ensures state { self.new.state ≡ self.old.state }
     {
         self.diary = noted(&self.diary, &self.state, call);
+        self.exchanges = self.exchanges.saturating_add(1);
     }
 
-    // Sends a command.
-    fn exchange(&mut self, command: HostCommand) -> Result<Heard, ResponseFault>
-        requires index { command.index < 64 }
-        requires movable { AreMovable command.transfer }
-        ensures past { self.new.diary.past ≡ entry_for self.old.state (Sent command result) ∷ self.old.diary.past }
+    // Sends the command that runs, and tells what was heard. Where no host sends it, or the response is of another kind, it is lost.
+    fn send(&mut self, run: Run) -> Result<Told, ResponseFault>
+        ensures told { IfOk result (λ told. IsTold run told) }
+        ensures past { self.new.diary.past ≡ self.old.diary.past }
         ensures state { self.new.state ≡ self.old.state }
     {
+        let Some(response) = response_in(run.flags) else {
+            return Err(ResponseFault::Timeout);
+        };
+        if run.index >= 64 || !is_movable(run.transfer) {
+            return Err(ResponseFault::Timeout);
+        }
         self.host.set_ios(self.state.ios());
-        let heard = self.host.send(command);
-        self.note(Call::Send { command, heard });
-        heard
+        let heard = self.host.send(run.command(response))?;
+        let Some(words) = words_in(response, heard) else {
+            return Err(ResponseFault::Timeout);
+        };
+        Ok(Told {
+            response,
+            heard,
+            words,
+        })
     }
 
-    // The driver did what the rules forbid, or what this model doesn't follow: a reset while a command runs or data is under way, and
-    // a command with a response of no known type. From now on the controller isn't kept.
+    // Notes the command that runs, with what was heard.
+    fn note_command(&mut self, run: Run, response: Response, heard: Result<Heard, ResponseFault>)
+        ensures past { self.new.diary.past ≡ entry_for self.old.state (Sent (command_of run response) heard) ∷ self.old.diary.past }
+        ensures state { self.new.state ≡ self.old.state }
+    {
+        self.note(Call::Send {
+            command: run.command(response),
+            heard,
+        });
+    }
+
+    // The driver did what the rules forbid, or reads a register that this model hasn't. From now on the controller isn't kept.
     fn break_off(&mut self)
         ensures { self.new.state.is_sound ≡ false }
     {
@@ -82,36 +118,22 @@ impl<D: Host, S: HasStory> Model<D, S> {
             (Look (controller S.story self.old.diary.past self.old.state) (running_of run) result
             (controller S.story self.new.diary.past self.new.state)) (controller S.story self.new.diary.past self.new.state) }
     {
-        let Some(response) = response_in(run.flags) else {
-            self.break_off();
-            return 0;
-        };
-        if run.index >= 64 || !is_movable(run.transfer) {
-            self.break_off();
+        if self.manner.is_silent(self.exchanges, true) {
+            self.state.see_nothing();
             return 0;
         }
-        let command = HostCommand {
-            index: run.index,
-            argument: run.argument,
-            response,
-            transfer: run.transfer,
-        };
-        match self.exchange(command) {
+        match self.send(run) {
             Err(fault) => {
+                self.note_command(run, Response::Nothing, Err(fault));
                 let bits = bits_of(fault);
                 self.state.fail_command(bits);
                 bits
             }
-            Ok(heard) => match words_in(response, heard) {
-                None => {
-                    self.break_off();
-                    0
-                }
-                Some(words) => {
-                    self.state.complete(words, run.transfer);
-                    1
-                }
-            },
+            Ok(told) => {
+                self.note_command(run, told.response, Ok(told.heard));
+                self.state.complete(told.words, run.transfer);
+                1
+            }
         }
     }
 
@@ -123,62 +145,83 @@ impl<D: Host, S: HasStory> Model<D, S> {
             (controller S.story self.new.diary.past self.new.state)) (controller S.story self.new.diary.past self.new.state) }
     {
         if self.state.is_unjudged {
-            let Some(bits) = self.state.good_bits() else {
-                self.state.see_nothing();
-                return 0;
-            };
-            let Some(block) = self.state.copied() else {
-                self.break_off();
-                return 0;
-            };
-            self.note(Call::ReadBlock {
-                length: length as usize,
-                got: DataIn::Good,
-                block: block.as_slice(),
-            });
-            self.state.judge(bits);
-            return bits;
+            return self.see_shown(length);
         }
         if !self.state.is_ready {
             self.state.see_nothing();
             return 0;
         }
-        if length > 512 {
-            self.break_off();
+        self.fetch(length)
+    }
+
+    // A look where a block is shown that isn't judged yet.
+    fn see_shown(&mut self, length: u16) -> u32
+        requires { self.old.state.is_unjudged ≡ true }
+        ensures { Settled (controller S.story self.old.diary.past self.old.state)
+            (ReadLook (controller S.story self.old.diary.past self.old.state) length result
+            (controller S.story self.new.diary.past self.new.state)) (controller S.story self.new.diary.past self.new.state) }
+    {
+        if !is_good(self.came) {
+            return self.fail_read(length, self.came);
+        }
+        let is_silent = self.manner.is_silent(self.exchanges, true);
+        if self.state.is_held_back(is_silent) {
+            self.state.see_nothing();
             return 0;
         }
-        self.fetch(length)
+        let Some(bits) = self.state.good_bits() else {
+            self.state.see_nothing();
+            return 0;
+        };
+        let block = self.state.copied();
+        self.note(Call::ReadBlock {
+            length: length as usize,
+            got: DataIn::Good,
+            block: block.as_slice(),
+        });
+        self.state.judge(bits);
+        bits
     }
 
     // A block comes over the lines, or not.
     fn fetch(&mut self, length: u16) -> u32
-        requires short { length ≤ 512 }
         requires none { self.old.state.is_unjudged ≡ false }
         requires ready { self.old.state.is_ready ≡ true }
         ensures { Settled (controller S.story self.old.diary.past self.old.state)
             (ReadLook (controller S.story self.old.diary.past self.old.state) length result
             (controller S.story self.new.diary.past self.new.state)) (controller S.story self.new.diary.past self.new.state) }
     {
+        if length > 512 {
+            return self.fail_read(length, DataIn::Nothing);
+        }
         self.host.set_ios(self.state.ios());
         let mut buffer = [0; 512];
         let block = &mut buffer[..length as usize];
         let got = self.host.read_block(block);
-        if is_good(got) {
-            if block.len() != length as usize {
-                self.break_off();
-                return 0;
-            }
-            if !self.state.come(block) {
-                self.break_off();
-                return 0;
-            }
-            return 0x20;
+        let is_late = self.manner.has_late_errors && got == DataIn::Bad;
+        if !is_good(got) && !is_late {
+            return self.fail_read(length, got);
         }
+        if block.len() != length as usize {
+            return self.fail_read(length, DataIn::Nothing);
+        }
+        self.came = got;
+        self.state.come(block);
+        0x20
+    }
+
+    // No good block has come.
+    fn fail_read(&mut self, length: u16, got: DataIn) -> u32
+        requires { is_good got ≡ false }
+        ensures { Settled (controller S.story self.old.diary.past self.old.state)
+            (ReadLook (controller S.story self.old.diary.past self.old.state) length result
+            (controller S.story self.new.diary.past self.new.state)) (controller S.story self.new.diary.past self.new.state) }
+    {
         let bits = bits_of_read(got);
         self.note(Call::ReadBlock {
             length: length as usize,
             got,
-            block,
+            block: &[],
         });
         self.state.break_data(bits);
         bits
@@ -190,16 +233,20 @@ impl<D: Host, S: HasStory> Model<D, S> {
             (WriteLook (controller S.story self.old.diary.past self.old.state) result
             (controller S.story self.new.diary.past self.new.state)) (controller S.story self.new.diary.past self.new.state) }
     {
+        let is_silent = self.manner.is_silent(self.exchanges, true);
+        if self.state.is_held_back(is_silent) {
+            self.state.see_nothing();
+            return 0;
+        }
         let Some(bits) = self.state.gone_bits() else {
             self.state.see_nothing();
             return 0;
         };
         let Some(block) = self.state.whole() else {
-            self.break_off();
+            self.state.see_nothing();
             return 0;
         };
-        self.host.set_ios(self.state.ios());
-        let got = self.host.write_block(&block);
+        let got = self.offer(&block);
         self.note(Call::WriteBlock { block: &block, got });
         if is_accepted(got) {
             self.state.go(bits);
@@ -207,6 +254,26 @@ impl<D: Host, S: HasStory> Model<D, S> {
         }
         self.state.break_data(0x0020_8000);
         0x0020_8000
+    }
+
+    // Offers a block to the card. Where errors come late, one that isn't the last and is rejected is taken for accepted, and the next
+    // one isn't sent: the card ignores all after it.
+    fn offer(&mut self, block: &[u8; 512]) -> DataOut
+        ensures past { self.new.diary.past ≡ self.old.diary.past }
+        ensures state { self.new.state ≡ self.old.state }
+    {
+        if self.has_rejected {
+            self.has_rejected = false;
+            return DataOut::Nothing;
+        }
+        self.host.set_ios(self.state.ios());
+        let got = self.host.write_block(block);
+        let is_late = self.manner.has_late_errors && !self.state.is_last();
+        if is_late && got == DataOut::Rejected {
+            self.has_rejected = true;
+            return DataOut::Accepted;
+        }
+        got
     }
 
     // A look while no command runs.
@@ -234,18 +301,114 @@ impl<D: Host, S: HasStory> Model<D, S> {
         }
     }
 
-    // A reset, where nothing is lost by it.
+    // The command that runs is lost by a reset of the command line. The card may have got it.
+    fn lose_command(&mut self, run: Run)
+        ensures past { self.new.diary.past ≡ entry_for self.old.state (Sent (command_of run Nothing) (Err Timeout)) ∷ self.old.diary.past }
+        ensures state { self.new.state ≡ self.old.state }
+    {
+        if self.manner.is_sent(self.exchanges) {
+            let _ = self.send(run);
+        }
+        self.note_command(run, Response::Nothing, Err(ResponseFault::Timeout));
+    }
+
+    // The block of this length that was to come is lost by a reset of the data line.
+    fn lose_read(&mut self, length: u16, blocks: Blocks)
+        requires { self.old.state.transfer ≡ Data.Read length blocks }
+        ensures past { (size : ℕ) (counted : Blocks) → self.old.state.transfer ≡ Data.Read size counted
+            → self.new.diary.past ≡ entry_for self.old.state (Read size Came.Nothing []) ∷ self.old.diary.past }
+        ensures state { self.new.state ≡ self.old.state }
+    {
+        self.note(Call::ReadBlock {
+            length: length as usize,
+            got: DataIn::Nothing,
+            block: &[],
+        });
+    }
+
+    // The block that was to go is lost by a reset of the data line. The card may have got it, where all of it was in the buffer. The
+    // answer is what was noted.
+    fn lose_block(&mut self) -> ([u8; 512], DataOut)
+        ensures lost { IsLostAs self.old.state.outgoing.items result.0 result.1 }
+        ensures past { self.new.diary.past ≡ entry_for self.old.state (Written result.0 result.1) ∷ self.old.diary.past }
+        ensures state { self.new.state ≡ self.old.state }
+    {
+        if self.manner.is_sent(self.exchanges)
+            && let Some(block) = self.state.whole()
+        {
+            let _ = self.offer(&block);
+            let got = DataOut::Nothing;
+            self.note(Call::WriteBlock { block: &block, got });
+            return (block, got);
+        }
+        let block = [0; 512];
+        let got = DataOut::Rejected;
+        self.note(Call::WriteBlock { block: &block, got });
+        (block, got)
+    }
+
+    // Software Reset For CMD Line.
+    fn reset_command(&mut self)
+        ensures { Settled (controller S.story self.old.diary.past self.old.state)
+            (Does8 (controller S.story self.old.diary.past self.old.state) 0x2f 2
+            (controller S.story self.new.diary.past self.new.state)) (controller S.story self.new.diary.past self.new.state) }
+    {
+        match self.state.running {
+            None => self.state.reset_command(),
+            Some(run) => {
+                self.lost = self.lost.saturating_add(1);
+                self.lose_command(run);
+                self.state.drop_command();
+            }
+        }
+    }
+
+    // Software Reset For DAT Line: a block that was to come or to go is lost.
+    fn reset_data(&mut self)
+        ensures { Settled (controller S.story self.old.diary.past self.old.state)
+            (Does8 (controller S.story self.old.diary.past self.old.state) 0x2f 4
+            (controller S.story self.new.diary.past self.new.state)) (controller S.story self.new.diary.past self.new.state) }
+    {
+        self.has_rejected = false;
+        match self.state.transfer {
+            Data::Nothing => self.state.reset_data(),
+            Data::Read { length, blocks } => {
+                self.lost = self.lost.saturating_add(1);
+                self.lose_read(length, blocks);
+                self.state.reset_data();
+            }
+            Data::Write { .. } => {
+                self.lost = self.lost.saturating_add(1);
+                self.lose_block();
+                self.state.reset_data();
+            }
+        }
+    }
+
+    // A reset.
     fn reset(&mut self, value: u8)
         ensures { Settled (controller S.story self.old.diary.past self.old.state)
             (Does8 (controller S.story self.old.diary.past self.old.state) 0x2f value
             (controller S.story self.new.diary.past self.new.state)) (controller S.story self.new.diary.past self.new.state) }
     {
-        match (value, self.state.running, self.state.transfer) {
-            (1, _, _) if !self.state.is_unjudged => self.state.restart(),
-            (2, None, _) => self.state.reset_command(),
-            (4, _, Data::Nothing) => self.state.reset_data(),
+        match value {
+            1 if !self.state.is_unjudged => self.state.restart(),
+            2 => self.reset_command(),
+            4 => self.reset_data(),
             _ => self.break_off(),
         }
+    }
+
+    // A look at the buffer.
+    fn see_buffer(&mut self) -> u8
+        ensures past { self.new.diary.past ≡ self.old.diary.past }
+        ensures buffer { SeesBuffer self.old.state result self.new.state }
+    {
+        let has_begun = self.state.has_begun();
+        if self.manner.is_silent(self.exchanges, has_begun) {
+            return self.state.see_no_buffer();
+        }
+        self.state.see_buffer()
     }
 
     // A poll of the card.
@@ -261,7 +424,7 @@ impl<D: Host, S: HasStory> Model<D, S> {
     }
 
     /// A controller with these Capabilities over a host, before any access.
-    pub fn new(host: D, capabilities: u32, version: u8) -> Model<D, S>
+    pub fn new(host: D, capabilities: u32, version: u8, manner: Manner) -> Model<D, S>
         requires { (D.view host).is_kept ≡ false }
         ensures past { result.diary.past ≡ [] }
         ensures capabilities { result.state.capabilities ≡ capabilities }
@@ -273,15 +436,30 @@ impl<D: Host, S: HasStory> Model<D, S> {
             host,
             diary: Diary::new(),
             state: State::new(capabilities, version),
+            manner,
+            exchanges: 0,
+            lost: 0,
+            came: DataIn::Nothing,
+            has_rejected: false,
             of: PhantomData,
         }
     }
 
-    /// Whether the driver has kept to the rules so far, and reset nothing that was under way.
+    /// Whether the driver has kept to the rules so far.
     pub fn is_sound(&self) -> bool
         ensures { result ≡ self.now.state.is_sound }
     {
         self.state.is_sound
+    }
+
+    /// How many exchanges there were: commands, blocks and polls, also those that were lost.
+    pub fn exchanges(&self) -> u64 {
+        self.exchanges
+    }
+
+    /// How many commands and blocks were lost by resets.
+    pub fn lost(&self) -> u64 {
+        self.lost
     }
 
     /// The host.
@@ -324,7 +502,7 @@ impl<D: Host, S: HasStory> Registers for Model<D, S> {
 
     fn read8(&mut self, offset: u8) -> u8 {
         match offset {
-            0x25 => self.state.see_buffer(),
+            0x25 => self.see_buffer(),
             0x26 => self.poll(),
             0x2c => self.state.see_clock(),
             0x2f => self.state.see_reset(),
@@ -363,9 +541,10 @@ pub fn driver<D: Host, S: HasStory>(
     host: D,
     capabilities: u32,
     version: u8,
+    manner: Manner,
 ) -> Result<Sdhci<Model<D, S>>, (Model<D, S>, StartFault)>
     requires { (D.view host).is_kept ≡ false }
     ensures unused { IfOk result (λ host. IsUnused (⟦<Sdhci<Model<D, S>> as Host>⟧.view host)) }
 {
-    Sdhci::new(Model::new(host, capabilities, version))
+    Sdhci::new(Model::new(host, capabilities, version, manner))
 }

@@ -1,5 +1,5 @@
 // Blocks that are read.
-ghost use Rattle.std.specs.Prelude.{◌≡◌, IfNone, IfSome, drop, false, length, true};
+ghost use Rattle.std.specs.Prelude.{◌≡◌, ◌≤◌, IfNone, IfSome, drop, false, length};
 ghost use Rattle.mmc_frame.specs.Field.{field};
 ghost use Rattle.mmc_host.specs.HostStates.{is_good, less_one};
 ghost use Rattle.mmc_sdhci.specs.DataLooks.{came, is_empty};
@@ -31,6 +31,16 @@ pub fn bits_of_read(got: DataIn) -> u32
     }
 }
 
+// A block of these bytes.
+fn block_of(bytes: &[u8]) -> ArrayVec<u8, 512>
+    requires { length bytes.now ≤ 512 }
+    ensures { result.items ≡ bytes.now }
+{
+    let mut block = ArrayVec::new();
+    let _ = block.try_extend_from_slice(bytes);
+    block
+}
+
 impl State {
     // The block in the buffer was taken out of it.
     fn is_taken(&self) -> bool
@@ -56,30 +66,22 @@ impl State {
     }
 
     /// A copy of the block that came.
-    pub fn copied(&self) -> Option<ArrayVec<u8, 512>>
-        ensures { IfSome result (λ block. block.items ≡ self.now.block.items) }
+    pub fn copied(&self) -> ArrayVec<u8, 512>
+        ensures { result.items ≡ self.now.block.items }
     {
-        let mut block = ArrayVec::new();
-        if block.try_extend_from_slice(self.block.as_slice()).is_err() {
-            return None;
-        }
-        Some(block)
+        block_of(self.block.as_slice())
     }
 
-    /// A block has come, with Buffer Read Ready. It tells whether there was room for it.
-    pub fn come(&mut self, bytes: &[u8]) -> bool
-        ensures { result ≡ true → Comes self.old bytes.now self.new }
+    /// A block has come, with Buffer Read Ready.
+    pub fn come(&mut self, bytes: &[u8])
+        requires { length bytes.now ≤ 512 }
+        ensures { Comes self.old bytes.now self.new }
     {
-        let mut block = ArrayVec::new();
-        if block.try_extend_from_slice(bytes).is_err() {
-            return false;
-        }
-        self.block = block;
+        self.block = block_of(bytes);
         self.taken = 0;
         self.is_unjudged = true;
         self.is_ready = false;
         self.status = 0x20;
-        true
     }
 
     /// The block that was taken is good.

@@ -2,7 +2,7 @@
 ghost use Rattle.std.specs.Prelude.{◌≡◌, Some, false, true};
 ghost use Rattle.mmc_sdhci.specs.Accesses.{passed, restarted};
 ghost use Rattle.mmc_sdhci.specs.DataLooks.{cleared};
-ghost use Rattle.sdhci_model.specs.Moves.{ChangesTo, SeesClock, SeesReset};
+ghost use Rattle.sdhci_model.specs.Moves.{ChangesTo, HasSameBus, SeesClock, SeesReset};
 
 use crate::state::State;
 use arrayvec::ArrayVec;
@@ -37,7 +37,8 @@ impl State {
 
     /// Software Reset For DAT Line.
     pub fn reset_data(&mut self)
-        ensures { ChangesTo self.old (λ view. record (cleared view) { resetting = Some 0 }) self.new }
+        ensures changes { ChangesTo self.old (λ view. record (cleared view) { resetting = Some 0 }) self.new }
+        ensures bus { HasSameBus self.old self.new }
     {
         self.status = 0xffff_ffff;
         self.transfer = Data::Nothing;

@@ -37,7 +37,8 @@ impl State {
 
     /// The block in the buffer, if all of it is there.
     pub fn whole(&self) -> Option<[u8; 512]>
-        ensures { IfSome result (λ block. (block ≡ self.now.outgoing.items) × (length self.now.outgoing.items ≡ 512)) }
+        ensures whole { IfSome result (λ block. (block ≡ self.now.outgoing.items) × (length self.now.outgoing.items ≡ 512)) }
+        ensures none { IfNone result (AwaitsGone self.now) }
     {
         if self.outgoing.len() != 512 {
             return None;

@@ -7,8 +7,9 @@ use mmc_card_sim::example_cards::{emmc, emmc_with, ext_csd_of_emmc, sdhc, sdsc, 
 use mmc_card_sim::{CardSpec, Fault, Outcome, SimCard};
 use mmc_host::HostBus;
 use mmc_sdhci::Sdhci;
-use sdhci_model::{Model, driver};
+use sdhci_model::{Manner, Model, Silence, Silent, driver};
 use std::alloc::Global;
+use std::default::Default;
 use std::marker::Brand;
 use std::test::Fail;
 
@@ -17,21 +18,32 @@ const CAPABILITIES: u32 = 0x0124_3200;
 
 type Device = BlockDev<Narrow<HostBus<Sdhci<Model<Controller, Brand>>>>>;
 
-// What came of a run: the lines that the card was opened on, and how many exchanges it took.
+// What came of a run: the lines that the card was opened on, how many exchanges it took, by the card's count and the controller's, and
+// how many were lost by resets.
 #[derive(Clone, Copy)]
 struct Served {
     lines: Lines,
     exchanges: u64,
+    noted: u64,
+    lost: u64,
+}
+
+// What goes wrong: a fault of the card at this exchange, and what the controller does late or never.
+#[derive(Clone, Copy)]
+struct Trouble {
+    exchange: u64,
+    fault: Fault,
+    manner: Manner,
 }
 
 // Opens the card behind the model, over such lines at most.
-fn open(alloc: Global, card: SimCard, most: Lines) -> Option<Device> {
+fn open(alloc: Global, card: SimCard, most: Lines, manner: Manner) -> Option<Device> {
     let controller = Controller {
         card,
         is_slow: false,
         was_too_fast: false,
     };
-    match driver::<Controller, Brand>(controller, CAPABILITIES, 2) {
+    match driver::<Controller, Brand>(controller, CAPABILITIES, 2, manner) {
         Ok(host) => BlockDev::open(alloc, Narrow::new(HostBus::new(host), most)).ok(),
         Err(_) => None,
     }
@@ -88,17 +100,13 @@ fn holds(contents: &[u8]) -> bool {
     contents.len() >= 1536
 }
 
-// The driver over a card with this fault at this exchange opens it, writes and reads back, and keeps to the rules.
-fn serve(
-    alloc: Global,
-    spec: CardSpec,
-    most: Lines,
-    exchange: u64,
-    fault: Fault,
-) -> Result<Served, Fail> {
+// The driver over a card and a controller with this trouble opens it, writes and reads back, and keeps to the rules.
+fn serve(alloc: Global, spec: CardSpec, most: Lines, trouble: Trouble) -> Result<Served, Fail> {
     let mut card = SimCard::build(alloc, spec).ok().ok_or("no card")?;
-    card.plan(exchange, fault).ok().ok_or("not planned")?;
-    let mut device = open(alloc, card, most).ok_or("no device")?;
+    card.plan(trouble.exchange, trouble.fault)
+        .ok()
+        .ok_or("not planned")?;
+    let mut device = open(alloc, card, most, trouble.manner).ok_or("no device")?;
     submit(alloc, &mut device)?;
     let answers = device.run(alloc)?;
     let lines = Lines {
@@ -120,6 +128,8 @@ fn serve(
     Ok(Served {
         lines,
         exchanges: controller.card.exchanges(),
+        noted: model.exchanges(),
+        lost: model.lost(),
     })
 }
 
@@ -147,6 +157,31 @@ fn spec_of(which: Which) -> CardSpec {
 // No run is so long.
 const NEVER: u64 = 1000;
 
+// Nothing goes wrong.
+fn no_trouble() -> Trouble {
+    Trouble {
+        exchange: NEVER,
+        fault: Fault::LoseReply,
+        manner: Manner::default(),
+    }
+}
+
+// At this exchange so many looks find nothing.
+fn silent_at(exchange: u64, looks: u64, silence: Silence) -> Trouble {
+    let silent = Silent {
+        exchange,
+        looks,
+        silence,
+    };
+    Trouble {
+        manner: Manner {
+            silent: Some(silent),
+            has_late_errors: false,
+        },
+        ..no_trouble()
+    }
+}
+
 // At each exchange once: the command or its response is lost; a block that is read doesn't come, or comes with a bad check; one that is
 // written is rejected, alone or with all after it, or its status is lost; and the power fails.
 const FAULTS: [Fault; 8] = [
@@ -161,13 +196,60 @@ const FAULTS: [Fault; 8] = [
 ];
 
 fn fail_each(alloc: Global, which: Which, most: Lines) -> Result<Lines, Fail> {
-    let whole = serve(alloc, spec_of(which), most, NEVER, Fault::LoseReply)?;
+    let whole = serve(alloc, spec_of(which), most, no_trouble())?;
     for exchange in 0..whole.exchanges {
         for fault in FAULTS {
-            serve(alloc, spec_of(which), most, exchange, fault)?;
+            let trouble = Trouble {
+                exchange,
+                fault,
+                ..no_trouble()
+            };
+            serve(alloc, spec_of(which), most, trouble)?;
         }
     }
     Ok(whole.lines)
+}
+
+// At each exchange once the controller is silent, for a few looks or for good. For good: the command is never over, whether the card
+// heard it or not; a block or room for one is never shown, or, once a block was, Transfer Complete isn't nor what is next. So the
+// driver gives up, and resets what runs.
+fn silence_each(alloc: Global, which: Which, most: Lines) -> Result<(), Fail> {
+    let whole = serve(alloc, spec_of(which), most, no_trouble())?;
+    for silence in [Silence::Before, Silence::After, Silence::Unsent] {
+        let mut lost = 0;
+        for exchange in 0..whole.noted {
+            let slow = silent_at(exchange, 5, silence);
+            if serve(alloc, spec_of(which), most, slow)?.lost != 0 {
+                return Err("a slow controller was given up".into());
+            }
+            let silent = silent_at(exchange, u64::MAX, silence);
+            lost += serve(alloc, spec_of(which), most, silent)?.lost.min(1);
+        }
+        if 2 * lost < whole.noted {
+            return Err("silence was not heard".into());
+        }
+    }
+    Ok(())
+}
+
+// At each exchange once a block is damaged or lost, and the controller's error comes a look after it has shown the block, or with the
+// next one.
+fn fail_each_late(alloc: Global, which: Which, most: Lines) -> Result<(), Fail> {
+    let whole = serve(alloc, spec_of(which), most, no_trouble())?;
+    for exchange in 0..whole.exchanges {
+        for fault in FAULTS {
+            let trouble = Trouble {
+                exchange,
+                fault,
+                manner: Manner {
+                    silent: None,
+                    has_late_errors: true,
+                },
+            };
+            serve(alloc, spec_of(which), most, trouble)?;
+        }
+    }
+    Ok(())
 }
 
 #[test]
@@ -185,13 +267,32 @@ fn each_exchange_fails_on_a_strict_controller(rt: HostRuntime) -> Result<(), Fai
 }
 
 #[test]
+fn each_exchange_is_silent_on_a_strict_controller(rt: HostRuntime) -> Result<(), Fail> {
+    let one = Lines {
+        width: Width::One,
+        timing: Timing::Default,
+    };
+    for most in [one, Lines::all()] {
+        silence_each(rt.alloc(), Which::Mmc, most)?;
+        silence_each(rt.alloc(), Which::Sd, most)?;
+    }
+    Ok(())
+}
+
+#[test]
+fn errors_come_late_on_a_strict_controller(rt: HostRuntime) -> Result<(), Fail> {
+    fail_each_late(rt.alloc(), Which::Mmc, Lines::all())?;
+    fail_each_late(rt.alloc(), Which::Sd, Lines::all())
+}
+
+#[test]
 fn serves_cards_on_a_strict_controller(rt: HostRuntime) -> Result<(), Fail> {
     let most = Lines::all();
-    let open_ended = serve(rt.alloc(), sdsc(), most, NEVER, Fault::LoseReply)?;
+    let open_ended = serve(rt.alloc(), sdsc(), most, no_trouble())?;
     assert!(rt; open_ended.lines.timing == Timing::Default);
-    let four = serve(rt.alloc(), sdhc(), most, NEVER, Fault::LoseReply)?;
+    let four = serve(rt.alloc(), sdhc(), most, no_trouble())?;
     assert!(rt; four.lines.timing == Timing::High);
-    let eight = serve(rt.alloc(), emmc(), most, NEVER, Fault::LoseReply)?;
+    let eight = serve(rt.alloc(), emmc(), most, no_trouble())?;
     assert!(rt; eight.lines.width == Width::Eight);
     Ok(())
 }

@@ -1,0 +1,58 @@
+// What a controller does late, or never.
+
+/// Where a controller is silent.
+#[derive(Clone, Copy, Debug, PartialEq, Eq)]
+pub enum Silence {
+    /// Before anything: the card doesn't hear the command, no block is shown, and no room for one.
+    Before,
+    /// After the card has heard the command, sent the block that is shown, or taken the one in the buffer: nothing tells that it is over.
+    After,
+    /// So it is, and the card doesn't get the block in the buffer.
+    Unsent,
+}
+
+/// At one exchange so many looks find nothing.
+#[derive(Clone, Copy, Debug, PartialEq, Eq)]
+pub struct Silent {
+    /// Its number: each command, block and poll is one, and the first one's is 0.
+    pub exchange: u64,
+    /// How many looks.
+    pub looks: u64,
+    /// Where.
+    pub silence: Silence,
+}
+
+/// How a controller does what the definition leaves open.
+#[derive(Clone, Copy, Debug, Default, PartialEq, Eq)]
+pub struct Manner {
+    /// Where it is silent; otherwise each thing is over at the first look at it.
+    pub silent: Option<Silent>,
+    /// That a block is bad comes after it has been shown, and that one that isn't the last was rejected with the next one.
+    pub has_late_errors: bool,
+}
+
+impl Manner {
+    /// Whether a look at this exchange finds nothing, of which something has begun or not. The looks are counted.
+    pub fn is_silent(&mut self, exchange: u64, has_begun: bool) -> bool {
+        let Some(silent) = self.silent else {
+            return false;
+        };
+        let is_meant = has_begun || silent.silence == Silence::Before;
+        if silent.exchange != exchange || silent.looks == 0 || !is_meant {
+            return false;
+        }
+        self.silent = Some(Silent {
+            looks: silent.looks - 1,
+            ..silent
+        });
+        true
+    }
+
+    /// Whether the card gets what is lost at this exchange.
+    pub fn is_sent(&self, exchange: u64) -> bool {
+        match self.silent {
+            Some(silent) => silent.exchange == exchange && silent.silence == Silence::After,
+            None => false,
+        }
+    }
+}
