@@ -27,7 +27,9 @@ pub use bytes::{Bytes, lent_bytes_keep_their_length};
 pub use cause::Cause;
 pub use data::{offer, receive};
 pub use exchange_text::write_exchange;
-pub use host::{Unheard, ask, ask_moving, ask_ocr, ask_register, poll, read_block, tell, write_block};
+pub use host::{
+    Unheard, ask, ask_moving, ask_ocr, ask_register, poll, read_block, tell, write_block,
+};
 pub use memory::NoMemory;
 pub use mmc_card::{DataIn, DataOut, Exchange, Lines, Part, Reply, Timing, Want, Width, card_laws};
 pub use moved::Moved;

@@ -1,5 +1,5 @@
 pub mod BusLemmas
-mod DataLemmas
+pub mod DataLemmas
 pub mod TableLemmas
 pub mod TogetherLemmas
 pub mod WireLemmas

@@ -10,7 +10,7 @@ use Rattle.mmc_card.specs.declared.exchange.DataOut.TheVariants as Went
 use Rattle.mmc_host.specs.declared.data.Data.{Data}
 use Rattle.mmc_sdhci.specs.Commands.{Moves, ResetsData}
 use Rattle.mmc_sdhci.specs.Controller.{ControllerView, Running, Settled}
-use Rattle.mmc_sdhci.specs.DataLooks.{DataDropped, DataLooked, following_of, is_gone_by, is_whole}
+use Rattle.mmc_sdhci.specs.DataLooks.{DataDropped, DataLooked, following_of, is_over_by, is_whole}
 use Rattle.mmc_sdhci.specs.declared.following.Following.{Following}
 use Rattle.mmc_sdhci.specs.declared.watching.Sought.TheVariants.{Gone}
 use Rattle.mmc_sdhci.proofs.Glancing.{gone_news}
@@ -227,7 +227,7 @@ not_gone v0 v2 lost kept =
 
 -- the block has gone
 accepted_by : (v0 v1 : ControllerView) (bits : ℕ) (ready : Bool) (following : Following) → IsClear v0 → v0.unjudged ≡ None
-    → is_whole v0.outgoing ≡ true → following_of v0.transfer ≡ following → (field 15 15 bits ≡ 1 → ⊥) → is_gone_by following ready bits ≡ true
+    → is_whole v0.outgoing ≡ true → following_of v0.transfer ≡ following → (field 15 15 bits ≡ 1 → ⊥) → is_over_by following ready bits ≡ true
     → WriteLook (record v0 { is_ready = ready }) bits v1
     → Moves v0 (WriteStep (seen v0) v0.outgoing Went.Accepted (seen v1)) (less_one v0.transfer) v1 × (is_at_rest v1 ≡ true)
 accepted_by v0 v1 bits ready following clear judged whole is fine found (write_waits zero not same) =

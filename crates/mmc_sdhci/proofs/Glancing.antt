@@ -5,7 +5,7 @@ use Rattle.std.proofs.lemmas.Bool.{false≢true}
 use Rattle.mmc_frame.specs.Field.{field}
 use Rattle.mmc_host.specs.declared.data.Data.{Data}
 use Rattle.mmc_sdhci.specs.Controller.{ControllerView, Settled}
-use Rattle.mmc_sdhci.specs.DataLooks.{DataLooked, ReadLook, WriteLook, following_of, has_news, is_empty, is_gone, is_gone_by, is_good_by, is_whole}
+use Rattle.mmc_sdhci.specs.DataLooks.{DataLooked, ReadLook, WriteLook, following_of, has_news, is_empty, is_gone, is_over_by, is_whole}
 use Rattle.mmc_sdhci.specs.Accesses.{Stays}
 use Rattle.mmc_sdhci.specs.DataLooks.ReadLook.{comes as read_comes, failed as read_failed, good as read_good, waits as read_waits}
 use Rattle.mmc_sdhci.specs.DataLooks.WriteLook.{accepted as write_accepted, failed as write_failed, waits as write_waits}
@@ -88,18 +88,18 @@ read_again view after size bits ready none fine (read_failed error step same) = 
 -- what is new where a block was taken
 pub good_news : (view : ControllerView) (ready : Bool) (bits : ℕ) (block : List ℕ) (following : Following) → view.unjudged ≡ Some block
     → view.incoming ≡ [] → following_of view.transfer ≡ following
-    → has_news (record view { is_ready = ready }) view.unjudged bits ≡ is_good_by following ready bits
+    → has_news (record view { is_ready = ready }) view.unjudged bits ≡ is_over_by following ready bits
 good_news view ready bits block following some empty is =
     ap (λ (o : Option (List ℕ)). has_news (record view { is_ready = ready }) o bits) some
-    ∙ (ap (λ (l : List ℕ). is_empty l && is_good_by (following_of view.transfer) ready bits) empty
-    ∙ ap (λ (b : Following). is_good_by b ready bits) is)
+    ∙ (ap (λ (l : List ℕ). is_empty l && is_over_by (following_of view.transfer) ready bits) empty
+    ∙ ap (λ (b : Following). is_over_by b ready bits) is)
 
 -- and where one was written
 pub gone_news : (view : ControllerView) (ready : Bool) (bits : ℕ) (following : Following) → is_whole view.outgoing ≡ true
-    → following_of view.transfer ≡ following → is_gone (record view { is_ready = ready }) bits ≡ is_gone_by following ready bits
+    → following_of view.transfer ≡ following → is_gone (record view { is_ready = ready }) bits ≡ is_over_by following ready bits
 gone_news view ready bits following whole is =
-    ap (λ (b : Bool). b && is_gone_by (following_of view.transfer) ready bits) whole
-    ∙ ap (λ (b : Following). is_gone_by b ready bits) is
+    ap (λ (b : Bool). b && is_over_by (following_of view.transfer) ready bits) whole
+    ∙ ap (λ (b : Following). is_over_by b ready bits) is
 
 write_again : (view after : ControllerView) (bits : ℕ) (ready : Bool) → is_gone (record view { is_ready = ready }) bits ≡ false
     → (field 15 15 bits ≡ 1 → ⊥) → WriteLook (record view { is_ready = ready }) bits after → OnlyWatched view after
@@ -122,7 +122,7 @@ still_there (sought.Good following) view after seen seeks none fine look =
     (subst (λ (t : Data). DataLooked (looking view seen) t seen.bits after) seeks.0.2 look)
 still_there sought.Room view after seen seeks none fine look =
     write_again view after seen.bits seen.is_ready
-    (ap (λ (bytes : List ℕ). is_whole bytes && is_gone_by (following_of view.transfer) seen.is_ready seen.bits) seeks.1)
+    (ap (λ (bytes : List ℕ). is_whole bytes && is_over_by (following_of view.transfer) seen.is_ready seen.bits) seeks.1)
     fine (subst (λ (t : Data). DataLooked (looking view seen) t seen.bits after) seeks.0.1 look)
 still_there (sought.Gone following) view after seen seeks none fine look =
     write_again view after seen.bits seen.is_ready

@@ -8,3 +8,4 @@ pub mod Reading
 pub mod Sending
 pub mod Telling
 pub mod Waiting
+pub mod Together

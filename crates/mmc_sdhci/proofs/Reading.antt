@@ -12,7 +12,7 @@ use Rattle.mmc_host.specs.HostStates.{is_good, less_one}
 use Rattle.mmc_host.specs.declared.data.Data.{Data}
 use Rattle.mmc_sdhci.specs.Commands.{Moves, ResetsData}
 use Rattle.mmc_sdhci.specs.Controller.{ControllerView, Settled, Steps}
-use Rattle.mmc_sdhci.specs.DataLooks.{DataDropped, DataLooked, ReadLook, following_of, came, cleared, has_news, is_good_by}
+use Rattle.mmc_sdhci.specs.DataLooks.{DataDropped, DataLooked, ReadLook, following_of, came, cleared, has_news, is_over_by}
 use Rattle.mmc_sdhci.specs.Accesses.{IsAtRest, is_at_rest}
 use Rattle.mmc_sdhci.specs.Controller.{moved, seen}
 use Rattle.mmc_sdhci.specs.DataLooks.ReadLook.{comes as read_comes, failed as read_failed, good as read_good, waits as read_waits}
@@ -227,7 +227,7 @@ record IsSeenGood (old : ControllerView) (size bits : ℕ) (new : ControllerView
   }
 
 good_by : (v0 v1 : ControllerView) (size bits : ℕ) (ready : Bool) (following : Following) (block : List ℕ) → v0.unjudged ≡ Some block
-    → v0.incoming ≡ [] → following_of v0.transfer ≡ following → (field 15 15 bits ≡ 1 → ⊥) → is_good_by following ready bits ≡ true
+    → v0.incoming ≡ [] → following_of v0.transfer ≡ following → (field 15 15 bits ≡ 1 → ⊥) → is_over_by following ready bits ≡ true
     → ReadLook (record v0 { is_ready = ready }) size bits v1 → IsSeenGood v0 size bits v1
 good_by v0 v1 size bits ready following block some empty is fine found (read_waits zero not same) =
     absurd (false≢true (sym not ∙ (good_news v0 ready bits block following some empty is ∙ found)))
@@ -257,7 +257,7 @@ pub seen_good : (following : Following) (v0 v1 : ControllerView) (result : Optio
 seen_good following v0 v1 result x is fine seeking watched kept =
     let w = one_found (Good following) v0 v1 result x is watched kept in
     let s = seeking w.0 in
-    let found : is_good_by following x.is_ready x.bits ≡ true = found_or_error (is_error x.bits) _ w.1.0 fine in
+    let found : is_over_by following x.is_ready x.bits ≡ true = found_or_error (is_error x.bits) _ w.1.0 fine in
     let no_error : field 15 15 x.bits ≡ 1 → ⊥ =
     λ (one : field 15 15 x.bits ≡ 1). false≢true (sym fine ∙ ap (λ (n : ℕ). n == 1) one) in
     let good : (size blocks : ℕ) → v0.transfer ≡ Data.Read size blocks → IsSeenGood v0 size x.bits v1 =

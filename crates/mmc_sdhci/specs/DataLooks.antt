@@ -38,17 +38,17 @@ broken view bits =
 abbrev pub came : ℕ → DataIn
 came bits = if (field 21 21 bits == 1) || (field 22 22 bits == 1) then Came.Bad else Came.Nothing
 
--- Nothing can be wrong any more with a block that was taken out of the buffer: Transfer Complete has come after the last one that is
--- counted, and the next one is there after any other.
-abbrev pub is_good_by : Following → Bool → ℕ → Bool
-is_good_by End ready bits = is_complete bits
-is_good_by Another ready bits = ready
+-- A block is over, one that was taken out of the buffer or one that has gone: nothing can be wrong with it any more. Transfer Complete
+-- has come after the last one that is counted, and the next one, or room for it, is there after any other.
+abbrev pub is_over_by : Following → Bool → ℕ → Bool
+is_over_by End ready bits = is_complete bits
+is_over_by Another ready bits = ready
 
 -- a look finds something new: a block in the buffer, or that the one that was in it is good
 abbrev pub has_news : ControllerView → Option (List ℕ) → ℕ → Bool
 has_news view None bits = view.is_ready
 has_news view (Some block) bits =
-    is_empty view.incoming && is_good_by (following_of view.transfer) view.is_ready bits
+    is_empty view.incoming && is_over_by (following_of view.transfer) view.is_ready bits
 
 -- A look at the interrupt status while blocks of this length are read.
 pub data ReadLook (old : ControllerView) (size bits : ℕ) (new : ControllerView) : Type 0 where
@@ -71,18 +71,13 @@ pub data ReadLook (old : ControllerView) (size bits : ℕ) (new : ControllerView
       → new ≡ broken (moved old new) bits
       → ReadLook old size bits new
 
--- A whole block has been written to the buffer, and has gone: Transfer Complete says so after the last one, and room for the next
--- one after any other. Where the buffer has room for several, the card may still reject the block, which the next look says
--- (`WriteStep`, `turn_out`).
+-- A whole block has been written to the buffer, and has gone. Where the buffer has room for several, the card may still reject a
+-- block that isn't the last, which the next look says (`WriteStep`, `turn_out`).
 abbrev pub is_whole : List ℕ → Bool
 is_whole bytes = length bytes == 512
 
-abbrev pub is_gone_by : Following → Bool → ℕ → Bool
-is_gone_by End ready bits = is_complete bits
-is_gone_by Another ready bits = ready
-
 abbrev pub is_gone : ControllerView → ℕ → Bool
-is_gone view bits = is_whole view.outgoing && is_gone_by (following_of view.transfer) view.is_ready bits
+is_gone view bits = is_whole view.outgoing && is_over_by (following_of view.transfer) view.is_ready bits
 
 -- the block that was offered: the one in the buffer, or any where none is
 abbrev pub IsOffered : List ℕ → List ℕ → Type 0

@@ -9,7 +9,7 @@ use Rattle.mmc_host.specs.HostStates.{is_accepted, is_good, less_one}
 use Rattle.mmc_host.specs.declared.data.Data.{Data}
 use Rattle.mmc_sdhci.specs.Commands.{Moves}
 use Rattle.mmc_sdhci.specs.Controller.{ControllerView, Settled, Steps, seen}
-use Rattle.mmc_sdhci.specs.DataLooks.{DataLooked, following_of, is_gone_by, is_good_by, is_whole}
+use Rattle.mmc_sdhci.specs.DataLooks.{DataLooked, following_of, is_over_by, is_whole}
 use Rattle.mmc_sdhci.specs.Accesses.{is_at_rest}
 use Rattle.mmc_sdhci.specs.declared.watching.Glance.{Glance}
 use Rattle.mmc_sdhci.specs.declared.watching.Sought.{Sought}
@@ -56,8 +56,8 @@ is_error bits = field 15 15 bits == 1
 abbrev pub is_found : Sought → Glance → Bool
 is_found sought.Block seen = seen.is_ready
 is_found sought.Room seen = seen.is_ready
-is_found (sought.Good following) seen = is_good_by following seen.is_ready seen.bits
-is_found (sought.Gone following) seen = is_gone_by following seen.is_ready seen.bits
+is_found (sought.Good following) seen = is_over_by following seen.is_ready seen.bits
+is_found (sought.Gone following) seen = is_over_by following seen.is_ready seen.bits
 
 -- a look at the buffer, and then at the interrupt status
 abbrev pub looking : ControllerView → Glance → ControllerView

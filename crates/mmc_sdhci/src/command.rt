@@ -1,9 +1,11 @@
 // Commands and their responses.
-ghost use Rattle.std.specs.Prelude.{◌≡◌, ◌<◌};
+ghost use Rattle.std.specs.Prelude.{◌≡◌, ◌<◌, is_ok, true, ℕ};
+ghost use Rattle.mmc_card.specs.CardAnswer.{Silent};
+ghost use Rattle.mmc_host.specs.Hosts.{answer_heard};
 ghost use Rattle.mmc_host.specs.HostStates.{AreMovable, IsFree};
 ghost use Rattle.mmc_sdhci.specs.Commands.{Begins, Clears, Ends, IsIdleFor, IsRunning, IsSet, ReadsWord, ResetsData, ResetsLine, SetsSizes, Tells, flags_of, mode_of};
 ghost use Rattle.mmc_sdhci.specs.Commands.{IsUnderWay, Sends, fault_in, older_bits, response_flags, several, sizes_of};
-ghost use Rattle.mmc_host.specs.declared.response.Response.TheVariants.{R2};
+ghost use Rattle.mmc_host.specs.declared.response.Response.TheVariants.{R1, R2};
 ghost use Rattle.mmc_sdhci.specs.Controller.{has_data};
 ghost use Rattle.mmc_sdhci.specs.CommandLooks.{bytes_shown};
 ghost use Rattle.mmc_sdhci.specs.Accesses.{IsAtRest, IsStill};
@@ -38,6 +40,21 @@ fn response_flags(response: Response) -> u32
         Response::R3 => 0x02,
         Response::R1 | Response::R1b | Response::R6 | Response::R7 => 0x1a,
     }
+}
+
+/// Whether a response was heard.
+pub fn is_ok(heard: Result<Heard, ResponseFault>) -> bool
+    ensures { result ≡ is_ok heard }
+{
+    heard.is_ok()
+}
+
+/// Whether a word was heard, as that of an R1.
+pub fn is_word(heard: Result<Heard, ResponseFault>) -> bool
+    ensures heard { result ≡ true → (index : ℕ) → answer_heard R1 index heard ≡ Silent → ⊥ }
+    ensures ok { result ≡ true → is_ok heard ≡ true }
+{
+    matches!(heard, Ok(Heard::Word(_)))
 }
 
 /// Whether there is any data.

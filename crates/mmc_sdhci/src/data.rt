@@ -1,5 +1,7 @@
 // Blocks, by programmed I/O through the Buffer Data Port.
-ghost use Rattle.std.specs.Prelude.{◌≡◌, length};
+ghost use Rattle.std.specs.Prelude.{◌≡◌, false, length, true};
+ghost use Rattle.mmc_card.specs.declared.exchange.DataIn.TheVariants as Came;
+ghost use Rattle.mmc_card.specs.declared.exchange.DataOut.TheVariants as Went;
 ghost use Rattle.mmc_sdhci.specs.declared.watching.Sought.TheVariants as Sought;
 ghost use Rattle.mmc_sdhci.specs.DataLooks.{came};
 ghost use Rattle.mmc_sdhci.specs.Accesses.{IsAtRest};
@@ -12,6 +14,28 @@ use crate::registers::Registers;
 use crate::watching::{Sought, watch};
 use mmc_card::{DataIn, DataOut};
 use mmc_host::Data;
+
+/// Whether it is a good block.
+pub fn is_good(got: DataIn) -> bool
+    ensures yes { result ≡ true → got ≡ Came.Good }
+    ensures no { result ≡ false → got ≡ Came.Good → ⊥ }
+{
+    match got {
+        DataIn::Good => true,
+        DataIn::Bad | DataIn::Nothing => false,
+    }
+}
+
+/// Whether the block was accepted.
+pub fn is_accepted(got: DataOut) -> bool
+    ensures yes { result ≡ true → got ≡ Went.Accepted }
+    ensures no { result ≡ false → got ≡ Went.Accepted → ⊥ }
+{
+    match got {
+        DataOut::Accepted => true,
+        DataOut::Rejected | DataOut::Nothing => false,
+    }
+}
 
 // Why no good block came, by the error interrupts.
 fn came(bits: u32) -> DataIn

@@ -10,12 +10,13 @@ ghost use Rattle.mmc_sdhci.specs.Moving.{WhereKept};
 
 use crate::busy::is_busy;
 use crate::clock::{base_clock, set_clock};
-use crate::command::send;
-use crate::data::{read_block, write_block};
+use crate::command::{is_ok, is_word, send};
+use crate::data::{is_accepted, is_good, read_block, write_block};
 use crate::offsets::{CAPABILITIES, CONTROL, POWER, PRESENT, VERSION};
 use crate::registers::Registers;
 use crate::settling::pause;
 use crate::start::{StartFault, control_of, has_card, limits_in, restart};
+use mmc_bus::{Blocks, BlocksMut, Moved};
 use mmc_card::{DataIn, DataOut, Lines};
 use mmc_host::{Heard, Host, HostCommand, HostState, Ios, ResponseFault, Work};
 
@@ -171,6 +172,43 @@ impl<R: Registers> Host for Sdhci<R> {
         let heard = send(&mut self.registers, self.state.transfer, command);
         self.state = self.state.sent(command, heard.is_ok());
         heard
+    }
+
+    // All blocks come with the command, one after the other.
+    fn read_with<D: BlocksMut>(
+        &mut self,
+        command: HostCommand,
+        blocks: &mut D,
+    ) -> (Result<Heard, ResponseFault>, Moved<DataIn>) {
+        let heard = self.send(command);
+        if !is_ok(heard) {
+            return (heard, Moved::Good(0));
+        }
+        let count = blocks.len();
+        for done in 0..count {
+            let got = self.read_block(blocks.block_mut(done));
+            if !is_good(got) {
+                return (heard, Moved::Failed(got));
+            }
+        }
+        (heard, Moved::Good(count))
+    }
+
+    // The first block goes with the command: before each other one the card is polled, which is an exchange of its own.
+    fn write_with<D: Blocks>(
+        &mut self,
+        command: HostCommand,
+        blocks: &D,
+    ) -> (Result<Heard, ResponseFault>, Moved<DataOut>) {
+        let heard = self.send(command);
+        if !is_word(heard) || blocks.len() == 0 {
+            return (heard, Moved::Good(0));
+        }
+        let got = self.write_block(blocks.block(0));
+        if !is_accepted(got) {
+            return (heard, Moved::Failed(got));
+        }
+        (heard, Moved::Good(1))
     }
 
     fn read_block(&mut self, block: &mut [u8]) -> DataIn {

@@ -1,6 +1,6 @@
 // Looks at the buffer and at the interrupts, while data is under way.
 ghost use Rattle.std.specs.Prelude.{◌≡◌, ◌||◌};
-ghost use Rattle.mmc_sdhci.specs.DataLooks.{is_gone_by, is_good_by};
+ghost use Rattle.mmc_sdhci.specs.DataLooks.{is_over_by};
 ghost use Rattle.mmc_sdhci.specs.Moving.{Glances, IsSeeking, Watches, is_error, is_found};
 
 use crate::following::Following;
@@ -53,19 +53,9 @@ impl Glance {
 }
 
 impl Following {
-    // Whether this shows that nothing can be wrong any more with a block that was taken.
-    fn is_good(self, seen: Glance) -> bool
-        ensures { result ≡ is_good_by self seen.is_ready seen.bits }
-    {
-        match self {
-            Following::End => seen.bits / 2 % 2 == 1,
-            Following::Another => seen.is_ready,
-        }
-    }
-
-    // Whether this shows that the block in the buffer has gone.
-    fn is_gone(self, seen: Glance) -> bool
-        ensures { result ≡ is_gone_by self seen.is_ready seen.bits }
+    // Whether this shows that the block is over: nothing can be wrong with it any more.
+    fn is_over(self, seen: Glance) -> bool
+        ensures { result ≡ is_over_by self seen.is_ready seen.bits }
     {
         match self {
             Following::End => seen.bits / 2 % 2 == 1,
@@ -81,8 +71,7 @@ impl Sought {
     {
         match self {
             Sought::Block | Sought::Room => seen.is_ready,
-            Sought::Good(following) => following.is_good(seen),
-            Sought::Gone(following) => following.is_gone(seen),
+            Sought::Good(following) | Sought::Gone(following) => following.is_over(seen),
         }
     }
 

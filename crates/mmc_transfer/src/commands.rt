@@ -14,8 +14,8 @@ ghost use Rattle.mmc_transfer.specs.First.{StartedReading, StartedWriting};
 use crate::way::Way;
 use bitflags::Flags;
 use mmc_bus::{
-    Blocks, BlocksMut, Bus, Cause, DataIn, DataOut, Moved, Unheard, ask, ask_moving, ask_reading, ask_writing,
-    card_laws, check_r1, transfer_laws,
+    Blocks, BlocksMut, Bus, Cause, DataIn, DataOut, Moved, Unheard, ask, ask_moving, ask_reading,
+    ask_writing, card_laws, check_r1, transfer_laws,
 };
 use mmc_frame::commands::{
     READ_MULTIPLE_BLOCK, READ_SINGLE_BLOCK, SET_BLOCK_COUNT, STOP_TRANSMISSION, WRITE_BLOCK,

@@ -8,7 +8,6 @@ use Rattle.mmc_card.specs.Faults.WriteStep.{brownout, faithful, fall_short, lose
 use Rattle.mmc_card.specs.declared.exchange.DataIn.TheVariants as Came
 use Rattle.mmc_card.specs.declared.exchange.DataOut.{DataOut}
 use Rattle.mmc_card.specs.declared.exchange.DataOut.TheVariants as Went
-use Rattle.mmc_host.specs.declared.data.Blocks.{Blocks}
 use Rattle.mmc_host.specs.declared.data.Data.{Data}
 use Rattle.mmc_sdhci.specs.Accesses.{Does8}
 use Rattle.mmc_sdhci.specs.Controller.{ControllerView, Settled, moved, seen}
@@ -70,7 +69,7 @@ drops_data story past s s' event changes same drops kept =
     )
 
 -- No block came.
-pub loses_read : (story : Story) (past after : List Entry) (s s1 s2 : State) (size : ℕ) (blocks : Blocks) (block : List ℕ)
+pub loses_read : (story : Story) (past after : List Entry) (s s1 s2 : State) (size : ℕ) (blocks : ℕ) (block : List ℕ)
     → s.transfer ≡ Data.Read size blocks → after ≡ entry_for s (Read size Came.Nothing block) ∷ past → s1 ≡ s
     → ChangesTo s1 reset_from s2 → HasSameBus s1 s2
     → Settled (controller story past s) (Does8 (controller story past s) 0x2f 4 (controller story after s2)) (controller story after s2)
@@ -117,7 +116,7 @@ kept_lost old new outgoing block other got lost offered step =
     }
 
 -- The block didn't go.
-pub loses_write : (story : Story) (past after : List Entry) (s s1 s2 : State) (blocks : Blocks) (block : List ℕ) (got : DataOut)
+pub loses_write : (story : Story) (past after : List Entry) (s s1 s2 : State) (blocks : ℕ) (block : List ℕ) (got : DataOut)
     → s.transfer ≡ Data.Write blocks → IsLostAs s.outgoing.items block got → after ≡ entry_for s (Written block got) ∷ past → s1 ≡ s
     → ChangesTo s1 reset_from s2 → HasSameBus s1 s2
     → Settled (controller story past s) (Does8 (controller story past s) 0x2f 4 (controller story after s2)) (controller story after s2)

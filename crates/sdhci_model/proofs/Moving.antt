@@ -13,7 +13,6 @@ use Rattle.mmc_card.specs.declared.exchange.DataIn.TheVariants as Came
 use Rattle.mmc_card.specs.declared.exchange.DataOut.{DataOut}
 use Rattle.mmc_card.specs.declared.exchange.DataOut.TheVariants as Went
 use Rattle.mmc_host.specs.HostStates.{is_accepted, is_good, less_one}
-use Rattle.mmc_host.specs.declared.data.Blocks.{Blocks}
 use Rattle.mmc_host.specs.declared.data.Data.{Data}
 use Rattle.mmc_sdhci.specs.Controller.{ControllerView, Settled, seen}
 use Rattle.mmc_sdhci.specs.DataLooks.{DataLooked, ReadLook, WriteLook, came, has_news, is_empty}
@@ -32,7 +31,7 @@ Looks story past s bits after s' =
     Settled (controller story past s) (DataLooked (controller story past s) s.transfer bits (controller story after s'))
     (controller story after s')
 
-pub reads : (story : Story) (past after : List Entry) (s s' : State) (bits size : ℕ) (blocks : Blocks)
+pub reads : (story : Story) (past after : List Entry) (s s' : State) (bits size : ℕ) (blocks : ℕ)
     → s.transfer ≡ Data.Read size blocks
     → Settled (controller story past s) (ReadLook (controller story past s) size bits (controller story after s')) (controller story after s')
     → Looks story past s bits after s'
@@ -40,7 +39,7 @@ reads story past after s s' bits size blocks is look kept =
     let l = look kept in
     (l.0, subst (λ (t : Data). DataLooked (controller story past s) t bits (controller story after s')) (sym is) l.1)
 
-pub writes : (story : Story) (past after : List Entry) (s s' : State) (bits : ℕ) (blocks : Blocks)
+pub writes : (story : Story) (past after : List Entry) (s s' : State) (bits : ℕ) (blocks : ℕ)
     → s.transfer ≡ Data.Write blocks
     → Settled (controller story past s) (WriteLook (controller story past s) bits (controller story after s')) (controller story after s')
     → Looks story past s bits after s'

@@ -8,7 +8,7 @@ ghost use Rattle.sdhci_model.specs.Moves.{WritesTo};
 ghost use Rattle.sdhci_model.specs.Shown.{Fits, command_of};
 
 use crate::state::State;
-use mmc_host::{Blocks, Data, Heard, HostCommand, Response, ResponseFault};
+use mmc_host::{Data, Heard, HostCommand, Response, ResponseFault};
 use mmc_sdhci::{has_data, register_in};
 
 /// A command that runs: what its registers held when Command was written.
@@ -44,15 +44,13 @@ pub struct Told {
 }
 
 // The blocks that Transfer Mode asks for, with Block Count.
-fn blocks_asked(sizes: u32, mode: u32) -> Blocks
+fn blocks_asked(sizes: u32, mode: u32) -> u16
     ensures { result ≡ blocks_asked sizes mode }
 {
     if mode / 32 % 2 == 0 {
-        Blocks::Counted(1)
-    } else if mode / 2 % 2 == 0 {
-        Blocks::UntilStopped
+        1
     } else {
-        Blocks::Counted((sizes / 0x1_0000) as u16)
+        (sizes / 0x1_0000) as u16
     }
 }
 
@@ -80,20 +78,8 @@ pub fn is_movable(transfer: Data) -> bool
 {
     match transfer {
         Data::Nothing => true,
-        Data::Read {
-            length,
-            blocks: Blocks::Counted(count),
-        } => length <= 512 && length % 4 == 0 && count >= 1,
-        Data::Read {
-            length,
-            blocks: Blocks::UntilStopped,
-        } => length <= 512 && length % 4 == 0,
-        Data::Write {
-            blocks: Blocks::Counted(count),
-        } => count >= 1,
-        Data::Write {
-            blocks: Blocks::UntilStopped,
-        } => true,
+        Data::Read { length, blocks } => length <= 512 && length % 4 == 0 && blocks >= 1,
+        Data::Write { blocks } => blocks >= 1,
     }
 }
 

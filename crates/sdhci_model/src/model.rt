@@ -1,5 +1,4 @@
 ghost use Rattle.std.specs.Prelude.{[], Err, IfOk, ◌==◌, ◌≡◌, ◌∷◌, false, true, ℕ};
-ghost use Rattle.mmc_host.specs.declared.data.Blocks.{Blocks};
 ghost use Rattle.mmc_host.specs.declared.data.Data.TheVariants as Data;
 ghost use Rattle.mmc_frame.specs.Field.{field};
 ghost use Rattle.mmc_card.specs.declared.exchange.DataIn.TheVariants as Came;
@@ -24,7 +23,7 @@ use crate::settings::told_on;
 use crate::state::State;
 use crate::writing::is_accepted;
 use mmc_card::{DataIn, DataOut};
-use mmc_host::{Blocks, Data, Heard, Host, Response, ResponseFault, Work};
+use mmc_host::{Data, Heard, Host, Response, ResponseFault, Work};
 use mmc_sdhci::{Registers, Sdhci, StartFault, limits_in};
 use mmc_story::{Call, Diary, HasStory, Note};
 use std::marker::PhantomData;
@@ -138,7 +137,7 @@ impl<D: Host, S: HasStory> Model<D, S> {
     }
 
     // A look while blocks of this length are read.
-    fn see_read(&mut self, length: u16, blocks: Blocks) -> u32
+    fn see_read(&mut self, length: u16, blocks: u16) -> u32
         requires { self.old.state.transfer ≡ Data.Read length blocks }
         ensures { Settled (controller S.story self.old.diary.past self.old.state)
             (ReadLook (controller S.story self.old.diary.past self.old.state) length result
@@ -313,9 +312,9 @@ impl<D: Host, S: HasStory> Model<D, S> {
     }
 
     // The block of this length that was to come is lost by a reset of the data line.
-    fn lose_read(&mut self, length: u16, blocks: Blocks)
+    fn lose_read(&mut self, length: u16, blocks: u16)
         requires { self.old.state.transfer ≡ Data.Read length blocks }
-        ensures past { (size : ℕ) (counted : Blocks) → self.old.state.transfer ≡ Data.Read size counted
+        ensures past { (size : ℕ) (counted : ℕ) → self.old.state.transfer ≡ Data.Read size counted
             → self.new.diary.past ≡ entry_for self.old.state (Read size Came.Nothing []) ∷ self.old.diary.past }
         ensures state { self.new.state ≡ self.old.state }
     {

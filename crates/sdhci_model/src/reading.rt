@@ -61,7 +61,7 @@ impl State {
         match following_of(self.transfer) {
             Following::End => Some(2),
             Following::Another if !self.is_ready => None,
-            Following::Another | Following::Unknown => Some(0x20),
+            Following::Another => Some(0x20),
         }
     }
 

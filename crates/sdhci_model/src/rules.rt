@@ -24,11 +24,13 @@ fn either(a: bool, b: bool) -> bool
     a || b
 }
 
-// Whether these flags and this mode are what a command may ask for: no DMA, no command of the controller's own, no suspending.
+// Whether these flags and this mode are what a command may ask for: no DMA, no command of the controller's own, no suspending, and
+// several blocks only where they are counted.
 fn is_asked(value: u32) -> bool
     ensures { result ≡ is_asked value }
 {
-    value % 2 == 0
+    value / 32 % 2 == value / 2 % 2
+        && value % 2 == 0
         && value / 4 % 4 == 0
         && value / 64 % 1024 == 0
         && value / 0x4_0000 % 2 == 0

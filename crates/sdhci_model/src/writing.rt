@@ -59,8 +59,8 @@ impl State {
         }
         match following_of(self.transfer) {
             Following::End => Some(2),
-            Following::Another | Following::Unknown if !self.is_ready => None,
-            Following::Another | Following::Unknown => Some(0x10),
+            Following::Another if !self.is_ready => None,
+            Following::Another => Some(0x10),
         }
     }
 

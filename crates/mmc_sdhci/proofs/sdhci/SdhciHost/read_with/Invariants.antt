@@ -1,0 +1,15 @@
+use Rattle.std.proofs.Common.{◌≡◌, length}
+use Rattle.mmc_bus.specs.Together.{AreGood}
+use Rattle.mmc_host.specs.HostStates.{less_by}
+use Rattle.mmc_host.specs.Hosts.{Where}
+use Rattle.mmc_host.specs.Together.{HostRead}
+use Rattle.mmc_sdhci.specs.Driver.{host_over}
+use Rattle.mmc_sdhci.proofs.sdhci.SdhciHost.read_with.Given as goal
+
+abbrev pub invariant-loop-done : goal.invariant-loop-done
+invariant-loop-done g l =
+    let old = host_over (g.R.Registers.view l.initial.self.registers) l.initial.self.state l.initial.self.limits in
+    let now = host_over (g.R.Registers.view l.self.registers) l.self.state l.self.limits in
+    AreGood HostRead g.D.Blocks.blocks g.D.BlocksMut.with old l.initial.blocks l.done now l.blocks
+    × (length (g.D.Blocks.blocks l.blocks) ≡ l.count)
+    × Where now (l.self.state.transfer ≡ less_by l.done l.fn.command.transfer)
