@@ -1,6 +1,7 @@
 ghost use Rattle.std.specs.Prelude.{◌%◌, ◌∷◌, ◌≡◌, []};
 ghost use Rattle.std.specs.Int.{from_le_bytes, to_le_bytes, w32};
 ghost use Rattle.mmc_sdhci.specs.Accesses.{Passes, Reads, Reads8, Writes, Writes8};
+ghost use Rattle.mmc_sdhci.specs.Beside.{untold};
 ghost use Rattle.mmc_sdhci.specs.Driver.{unkept_controller};
 ghost use Rattle.mmc_sdhci.specs.Moving.{Puts, Takes};
 ghost use Rattle.c_host.specs.Talk.Talk.{Asked, Told};
@@ -20,6 +21,8 @@ pub struct CRegisters {
 impl Registers for CRegisters {
     // The proofs know no card behind C.
     ghost view = { λ _. unkept_controller };
+
+    ghost beside = { λ _. untold };
 
     fn read32(&mut self, offset: u8) -> u32
         ensures reads { Reads unkept_controller offset result unkept_controller }

@@ -2,6 +2,7 @@ pub mod Beginning
 pub mod Blocks
 pub mod Glancing
 pub mod Hosting
+pub mod Limits
 pub mod Looking
 pub mod Putting
 pub mod Reading

@@ -117,11 +117,18 @@ may_write view offset value =
 abbrev pub IsAllowed : ControllerView → ℕ → ℕ → Type 0
 IsAllowed view offset value = view.is_kept ≡ true → may_write view offset value ≡ true
 
--- And of 8 bits: lines and high speed alone (28h), 3.3 V (29h), and resets (2Fh) of the command line and of the data line. The whole
+-- Host Control 1 asks for eight lines and for high speed only where Capabilities have them (bits 18 and 21).
+abbrev pub is_able : ℕ → ℕ → Bool
+is_able capabilities control =
+    (not (field 5 5 control == 1) || (field 18 18 capabilities == 1))
+    && (not (field 2 2 control == 1) || (field 21 21 capabilities == 1))
+
+-- And of 8 bits: lines and high speed alone, as far as there are such (28h), 3.3 V (29h), and resets (2Fh) of the command line and of the data line. The whole
 -- controller is reset before the card has power, for the card loses it.
 abbrev pub may_write8 : ControllerView → ℕ → ℕ → Bool
 may_write8 view offset value =
-    if offset == 0x28 then is_none view.running && (is_still view && (bit_and value 0x26 == value))
+    if offset == 0x28 then
+    is_none view.running && (is_still view && ((bit_and value 0x26 == value) && is_able view.built.capabilities value))
     else (if offset == 0x29 then is_idle view && (value == 0x0f)
     else (if offset == 0x2f then
     (value == 2) || ((value == 4) || ((value == 1) && (is_at_rest view && (is_idle view && (view.settings.power == 0)))))

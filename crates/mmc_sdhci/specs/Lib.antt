@@ -1,4 +1,5 @@
 pub mod Accesses
+pub mod Beside
 pub mod Busy
 pub mod CommandLooks
 pub mod Commands

@@ -1,6 +1,9 @@
 // The card's busy signal: it holds DAT0 low.
+ghost use Rattle.std.specs.Prelude.{◌+◌, ◌≡◌, ◌≤◌, true};
+ghost use Rattle.mmc_sdhci.specs.Beside.{HasWaited};
 ghost use Rattle.mmc_sdhci.specs.Busy.{IsPolled};
 ghost use Rattle.mmc_sdhci.specs.Accesses.{IsAtRest, IsStill, Stays};
+ghost use Rattle.mmc_sdhci.specs.Moving.{WhereKept};
 
 use crate::offsets::{DATA_LEVELS, PRESENT};
 use crate::registers::Registers;
@@ -8,17 +11,20 @@ use crate::settling::pause;
 
 const BETWEEN_LOOKS: u32 = 10;
 
-// Waits until DAT0 is high, for so many microseconds at most.
-fn wait<R: Registers>(registers: &mut R, micros: u32)
+// Waits until DAT0 is high, for so many microseconds at most, and tells how many are left.
+fn wait<R: Registers>(registers: &mut R, micros: u32) -> u32
     requires { IsStill (R.view registers.old) }
-    ensures { Stays (R.view registers.old) (R.view registers.new) }
+    ensures stays { Stays (R.view registers.old) (R.view registers.new) }
+    ensures left { WhereKept (R.view registers.new)
+        ((R.beside registers.old).waited + micros ≤ (R.beside registers.new).waited + result) }
 {
-    for _ in 0..micros / BETWEEN_LOOKS {
+    for look in 0..micros / BETWEEN_LOOKS {
         if registers.read32(PRESENT) / 0x10_0000 % 2 == 1 {
-            return;
+            return micros - BETWEEN_LOOKS * look;
         }
         pause(registers, BETWEEN_LOOKS);
     }
+    micros % BETWEEN_LOOKS
 }
 
 /// Whether the card is still busy after so many microseconds. The answer comes at once where it isn't. It is one poll: the last look
@@ -27,7 +33,12 @@ pub fn is_busy<R: Registers>(registers: &mut R, micros: u32) -> bool
     requires { IsAtRest (R.view registers.old) }
     ensures rest { IsAtRest (R.view registers.new) }
     ensures polled { IsPolled (R.view registers.old) result (R.view registers.new) }
+    ensures waited { result ≡ true → HasWaited (R.view registers.new) micros (R.beside registers.old) (R.beside registers.new) }
 {
-    wait(registers, micros);
-    registers.read8(DATA_LEVELS) / 0x10 % 2 == 0
+    let left = wait(registers, micros);
+    if registers.read8(DATA_LEVELS) / 0x10 % 2 == 1 {
+        return false;
+    }
+    pause(registers, left);
+    true
 }

@@ -9,6 +9,7 @@ ghost use Rattle.mmc_host.specs.declared.response.Response.TheVariants.{R1, R2};
 ghost use Rattle.mmc_sdhci.specs.Controller.{has_data};
 ghost use Rattle.mmc_sdhci.specs.CommandLooks.{bytes_shown};
 ghost use Rattle.mmc_sdhci.specs.Accesses.{IsAtRest, IsStill};
+ghost use Rattle.mmc_sdhci.specs.Beside.{HasWaited};
 ghost use Rattle.mmc_sdhci.specs.Moving.{WhereKept};
 
 use crate::offsets::{ARGUMENT, COMMAND, INTERRUPTS, RESET, RESPONSE, SIZES};
@@ -164,9 +165,10 @@ fn begin<R: Registers>(registers: &mut R, under_way: Data, command: HostCommand)
 fn wait<R: Registers>(registers: &mut R) -> u32
     requires still { IsStill (R.view registers.old) }
     requires running { IsRunning (R.view registers.old) }
-    ensures { Ends (R.view registers.old) result (R.view registers.new) }
+    ensures ends { Ends (R.view registers.old) result (R.view registers.new) }
+    ensures late { result ≡ 0 → HasWaited (R.view registers.new) 10000 (R.beside registers.old) (R.beside registers.new) }
 {
-    for _ in 0..LOOKS {
+    for _look in 0..LOOKS {
         let bits = registers.read32(INTERRUPTS);
         if bits % 2 == 1 || bits / 0x1_0000 % 16 != 0 {
             return bits;

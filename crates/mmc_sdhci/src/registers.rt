@@ -1,4 +1,5 @@
 ghost use Rattle.mmc_sdhci.specs.Controller.{ControllerView};
+ghost use Rattle.mmc_sdhci.specs.Beside.{Beside, IsBeside, read_on, waited_on};
 ghost use Rattle.mmc_sdhci.specs.Accesses.{IsAllowed, IsAllowed8, Passes, Reads, Reads8, Writes, Writes8};
 ghost use Rattle.mmc_sdhci.specs.Moving.{HasRoom, Puts, Takes};
 
@@ -9,23 +10,30 @@ pub trait Registers {
     // What contracts see of a controller and its card.
     ghost view: { Self → ControllerView };
 
+    // And of whoever drives it: how long it has waited, and what Present State showed.
+    ghost beside: { Self → Beside };
+
     /// Reads 32 bits.
     fn read32(&mut self, offset: u8) -> u32
-        ensures { Reads (view self.old) offset result (view self.new) };
+        ensures reads { Reads (view self.old) offset result (view self.new) }
+        ensures aside { IsBeside (view self.new) (read_on (beside self.old) offset result) (beside self.new) };
 
     /// Writes 32 bits.
     fn write32(&mut self, offset: u8, value: u32)
         requires { IsAllowed (view self.old) offset value }
-        ensures { Writes (view self.old) offset value (view self.new) };
+        ensures writes { Writes (view self.old) offset value (view self.new) }
+        ensures aside { IsBeside (view self.new) (beside self.old) (beside self.new) };
 
     /// Reads 8 bits.
     fn read8(&mut self, offset: u8) -> u8
-        ensures { Reads8 (view self.old) offset result (view self.new) };
+        ensures reads { Reads8 (view self.old) offset result (view self.new) }
+        ensures aside { IsBeside (view self.new) (beside self.old) (beside self.new) };
 
     /// Writes 8 bits.
     fn write8(&mut self, offset: u8, value: u8)
         requires { IsAllowed8 (view self.old) offset value }
-        ensures { Writes8 (view self.old) offset value (view self.new) };
+        ensures writes { Writes8 (view self.old) offset value (view self.new) }
+        ensures aside { IsBeside (view self.new) (beside self.old) (beside self.new) };
 
     /// Fills this block, of whole words, from the Buffer Data Port: reads of 32 bits at 20h, the lowest byte first. Who has a faster way
     /// makes them by one call.
@@ -59,5 +67,6 @@ pub trait Registers {
 
     /// Waits for so many microseconds.
     fn pause(&mut self, micros: u32)
-        ensures { Passes (view self.old) micros (view self.new) };
+        ensures passes { Passes (view self.old) micros (view self.new) }
+        ensures aside { IsBeside (view self.new) (waited_on (beside self.old) micros) (beside self.new) };
 }

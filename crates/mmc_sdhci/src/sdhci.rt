@@ -3,6 +3,7 @@ ghost use Rattle.mmc_host.specs.HostStates.{lines_of, resting};
 ghost use Rattle.mmc_host.specs.Hosts.{IsUnused, Rests};
 ghost use Rattle.mmc_sdhci.specs.Controller.{IsAtMost, Settled, limits_in, lines_in};
 ghost use Rattle.mmc_sdhci.specs.Accesses.{IsAtRest};
+ghost use Rattle.mmc_sdhci.specs.Beside.{is_inserted, is_protected};
 ghost use Rattle.mmc_sdhci.specs.Commands.{IsSet};
 ghost use Rattle.mmc_sdhci.specs.Driver.{IsBaseClock, IsNew, IsReady, IsSameCard, IsUnready, are_words, clock_limit, host_over, speed_limit};
 ghost use Rattle.mmc_sdhci.specs.declared.start.StartFault.TheVariants.{NoBaseClock};
@@ -122,9 +123,10 @@ impl<R: Registers> Sdhci<R> {
         })
     }
 
-    /// Whether a card is inserted now. The card isn't asked.
+    /// Whether a card is inserted now, by Present State. The card isn't asked.
     pub fn has_card(&mut self) -> bool
-        ensures { Rests (host_over (R.view self.old.registers) self.old.state self.old.limits)
+        ensures card { WhereKept (R.view self.new.registers) (result ≡ is_inserted (R.beside self.new.registers).present) }
+        ensures rests { Rests (host_over (R.view self.old.registers) self.old.state self.old.limits)
             (host_over (R.view self.new.registers) self.new.state self.new.limits) }
     {
         has_card(&mut self.registers)
@@ -133,7 +135,8 @@ impl<R: Registers> Sdhci<R> {
     /// Whether the switch of the slot protects the card against writes. This is the slot's, not the card's: the device doesn't know
     /// it.
     pub fn is_write_protected(&mut self) -> bool
-        ensures { Rests (host_over (R.view self.old.registers) self.old.state self.old.limits)
+        ensures protected { WhereKept (R.view self.new.registers) (result ≡ is_protected (R.beside self.new.registers).present) }
+        ensures rests { Rests (host_over (R.view self.old.registers) self.old.state self.old.limits)
             (host_over (R.view self.new.registers) self.new.state self.new.limits) }
     {
         self.registers.read32(PRESENT) / 0x8_0000 % 2 == 0

@@ -1,5 +1,6 @@
 // Waits until a reset is over, and until the internal clock is stable.
 ghost use Rattle.mmc_sdhci.specs.Accesses.{IsStill, Stays};
+ghost use Rattle.mmc_sdhci.specs.Beside.{IsBeside, waited_on};
 ghost use Rattle.mmc_sdhci.specs.Settling.{IsResetting, IsStabilizing, ResetEnds, Stabilizes};
 
 use crate::offsets::{CLOCK, RESET};
@@ -43,7 +44,8 @@ pub fn settle_clock<R: Registers>(registers: &mut R)
 /// Waits for so many microseconds, where nothing settles.
 pub fn pause<R: Registers>(registers: &mut R, micros: u32)
     requires { IsStill (R.view registers.old) }
-    ensures { Stays (R.view registers.old) (R.view registers.new) }
+    ensures stays { Stays (R.view registers.old) (R.view registers.new) }
+    ensures waited { IsBeside (R.view registers.new) (waited_on (R.beside registers.old) micros) (R.beside registers.new) }
 {
     registers.pause(micros);
 }

@@ -1,9 +1,11 @@
 // How a controller begins.
-ghost use Rattle.std.specs.Prelude.{◌≡◌, bit_and};
+ghost use Rattle.std.specs.Prelude.{◌+◌, ◌≡◌, ◌≤◌, bit_and, false};
 ghost use Rattle.mmc_card.specs.declared.exchange.Width.TheVariants as Width;
 ghost use Rattle.mmc_sdhci.specs.Controller.{limits_in, lines_in};
 ghost use Rattle.mmc_sdhci.specs.Accesses.{IsStill, Stays};
+ghost use Rattle.mmc_sdhci.specs.Beside.{is_inserted, is_sure};
 ghost use Rattle.mmc_sdhci.specs.Driver.{IsNew, Restarts};
+ghost use Rattle.mmc_sdhci.specs.Moving.{WhereKept};
 
 use crate::offsets::{PRESENT, RESET, SHOWN_INTERRUPTS, SIGNALS};
 use crate::registers::Registers;
@@ -80,9 +82,12 @@ pub fn restart<R: Registers>(registers: &mut R)
 /// Whether a card is inserted, once the controller is sure of it, or after 100 ms.
 pub fn has_card<R: Registers>(registers: &mut R) -> bool
     requires { IsStill (R.view registers.old) }
-    ensures { Stays (R.view registers.old) (R.view registers.new) }
+    ensures stays { Stays (R.view registers.old) (R.view registers.new) }
+    ensures card { WhereKept (R.view registers.new) (result ≡ is_inserted (R.beside registers.new).present) }
+    ensures late { WhereKept (R.view registers.new) (is_sure (R.beside registers.new).present ≡ false
+        → (R.beside registers.old).waited + 100000 ≤ (R.beside registers.new).waited) }
 {
-    for _ in 0..LOOKS {
+    for _look in 0..LOOKS {
         let state = registers.read32(PRESENT);
         if state / 0x2_0000 % 2 == 1 {
             return state / 0x1_0000 % 2 == 1;

@@ -1,5 +1,6 @@
 // Looks at the buffer and at the interrupts, while data is under way.
-ghost use Rattle.std.specs.Prelude.{◌≡◌, ◌||◌};
+ghost use Rattle.std.specs.Prelude.{◌<◌, ◌≡◌, ◌≤◌, ◌||◌, IfNone};
+ghost use Rattle.mmc_sdhci.specs.Beside.{HasWaited, IsBeside, looks_for, time_for};
 ghost use Rattle.mmc_sdhci.specs.DataLooks.{is_over_by};
 ghost use Rattle.mmc_sdhci.specs.Moving.{Glances, IsSeeking, Watches, is_error, is_found};
 
@@ -17,7 +18,10 @@ const LOOKS_FOR_A_BLOCK: u32 = FIRST_LOOKS + 1980;
 const LOOKS_FOR_A_WRITE: u32 = FIRST_LOOKS + 9980;
 
 // For how many microseconds nobody looks after this look.
-fn between(look: u32) -> u32 {
+fn between(look: u32) -> u32
+    ensures first { look < 1000 → result ≡ 1 }
+    ensures then { 1000 ≤ look → result ≡ 50 }
+{
     if look < FIRST_LOOKS { 1 } else { 50 }
 }
 
@@ -82,7 +86,9 @@ impl Sought {
         seen.is_error() || self.is_found(seen)
     }
 
-    fn looks(self) -> u32 {
+    fn looks(self) -> u32
+        ensures { result ≡ looks_for self }
+    {
         match self {
             Sought::Block | Sought::Good(_) => LOOKS_FOR_A_BLOCK,
             Sought::Room | Sought::Gone(_) => LOOKS_FOR_A_WRITE,
@@ -92,7 +98,8 @@ impl Sought {
 
 // One look: first at the buffer, so that an error that came with a block is seen with it.
 fn look<R: Registers>(registers: &mut R, sought: Sought) -> Glance
-    ensures { Glances (R.view registers.old) sought result (R.view registers.new) }
+    ensures glances { Glances (R.view registers.old) sought result (R.view registers.new) }
+    ensures aside { IsBeside (R.view registers.new) (R.beside registers.old) (R.beside registers.new) }
 {
     let buffers = registers.read8(BUFFERS);
     let is_ready = match sought {
@@ -108,7 +115,8 @@ fn look<R: Registers>(registers: &mut R, sought: Sought) -> Glance
 /// Looks until it is found or there is an error; `None` where there is neither for too long.
 pub fn watch<R: Registers>(registers: &mut R, sought: Sought) -> Option<Glance>
     requires { IsSeeking sought (R.view registers.old) }
-    ensures { Watches (R.view registers.old) sought result (R.view registers.new) }
+    ensures watches { Watches (R.view registers.old) sought result (R.view registers.new) }
+    ensures late { IfNone result (HasWaited (R.view registers.new) (time_for sought) (R.beside registers.old) (R.beside registers.new)) }
 {
     for number in 0..sought.looks() {
         let seen = look(registers, sought);

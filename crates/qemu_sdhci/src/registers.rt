@@ -1,3 +1,4 @@
+ghost use Rattle.mmc_sdhci.specs.Beside.{untold};
 ghost use Rattle.mmc_sdhci.specs.Driver.{unkept_controller};
 
 use crate::protocol::Conversation;
@@ -15,6 +16,8 @@ pub struct QemuRegisters {
 impl Registers for QemuRegisters {
     // The proofs know no card behind QEMU.
     ghost view = { λ _. unkept_controller };
+
+    ghost beside = { λ _. untold };
 
     fn read32(&mut self, offset: u8) -> u32 {
         self.conversation.read(b"readl", BASE + u32::from(offset))

@@ -6,6 +6,7 @@
 
 mod commands;
 mod data;
+mod engine;
 mod manner;
 mod model;
 mod reading;

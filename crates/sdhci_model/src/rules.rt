@@ -1,7 +1,7 @@
 // The rules: what a driver may write. They are those of `mmc_sdhci`, one function for each register.
 ghost use Rattle.std.specs.Prelude.{◌&&◌, ◌||◌, ◌≡◌, is_none};
 ghost use Rattle.mmc_frame.specs.Field.{field};
-ghost use Rattle.mmc_sdhci.specs.Accesses.{can_put, is_asked, is_at_rest, is_clean, is_clock, is_idle, may_write, may_write8};
+ghost use Rattle.mmc_sdhci.specs.Accesses.{can_put, is_able, is_asked, is_at_rest, is_clean, is_clock, is_idle, may_write, may_write8};
 ghost use Rattle.mmc_sdhci.specs.Controller.{is_set, is_still};
 ghost use Rattle.mmc_story.specs.Story.{Outcome};
 ghost use Rattle.sdhci_model.specs.Shown.{shown};
@@ -36,6 +36,16 @@ fn is_asked(value: u32) -> bool
         && value / 0x4_0000 % 2 == 0
         && value / 0x4000_0000 == 0
         && (value / 0x40_0000 % 4 == 0 || value / 0x40_0000 % 256 == 0x33)
+}
+
+// Whether Capabilities have what Host Control 1 asks for: eight lines, and high speed.
+fn is_able(capabilities: u32, control: u8) -> bool
+    ensures { result ≡ is_able capabilities control }
+{
+    both(
+        either(!(control / 32 % 2 == 1), capabilities / 0x4_0000 % 2 == 1),
+        either(!(control / 4 % 2 == 1), capabilities / 0x20_0000 % 2 == 1),
+    )
 }
 
 // Block Size, which stands below Block Count.
@@ -169,7 +179,10 @@ impl State {
     {
         both(
             self.is_none_running(),
-            both(self.is_still(), value & 0x26 == value),
+            both(
+                self.is_still(),
+                both(value & 0x26 == value, is_able(self.capabilities, value)),
+            ),
         )
     }
 

@@ -54,7 +54,11 @@ impl<R: Registers, S: HasRegisterStory> StoryRegisters<R, S> {
 }
 
 impl<R: Registers, S: HasRegisterStory> Registers for StoryRegisters<R, S> {
+    ghost use Rattle.sdhci_story.specs.Access.{beside_of};
+
     ghost view = { λ s. S.story.controller s.diary.past };
+
+    ghost beside = { λ s. beside_of s.diary.past };
 
     fn read32(&mut self, offset: u8) -> u32 {
         let value = self.registers.read32(offset);

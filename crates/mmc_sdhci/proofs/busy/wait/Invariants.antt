@@ -1,5 +1,12 @@
+use Rattle.std.proofs.Common.{◌*◌, ◌+◌, ◌≤◌}
 use Rattle.mmc_sdhci.specs.Accesses.{Stays}
+use Rattle.mmc_sdhci.specs.Moving.{WhereKept}
 use Rattle.mmc_sdhci.proofs.busy.wait.Given as goal
 
-abbrev pub invariant-loop : goal.invariant-loop
-invariant-loop g l = Stays (g.R.Registers.view l.initial.registers) (g.R.Registers.view l.registers)
+abbrev pub invariant-loop-look : goal.invariant-loop-look
+invariant-loop-look g l =
+    record {
+      stays : Stays (g.R.Registers.view l.initial.registers) (g.R.Registers.view l.registers);
+      waited : WhereKept (g.R.Registers.view l.registers)
+          ((g.R.Registers.beside l.initial.registers).waited + 10 * l.look ≤ (g.R.Registers.beside l.registers).waited);
+    }

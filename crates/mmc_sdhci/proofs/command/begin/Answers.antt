@@ -22,12 +22,12 @@ write32-requires-2 g c =
     may_begin (g.R.Registers.view c.args.registers.now) (g.R.Registers.view c.clear.new.registers)
     (g.R.Registers.view c.set_sizes.new.registers) (g.R.Registers.view c.write32.new.self) c.args.under_way c.args.command
     c.flags_of.result c.mode_of.result c.requires.rest c.requires.index c.requires.movable c.requires.free c.requires.set
-    c.clear.ensures c.set_sizes.ensures c.write32.ensures c.flags_of.ensures c.mode_of.ensures
+    c.clear.ensures c.set_sizes.ensures c.write32.ensures.writes c.flags_of.ensures c.mode_of.ensures
 
 pub returns : goal.returns
 returns g c =
     begins (g.R.Registers.view c.args.registers.now) (g.R.Registers.view c.clear.new.registers)
     (g.R.Registers.view c.set_sizes.new.registers) (g.R.Registers.view c.write32.new.self)
     (g.R.Registers.view c.write32-2.new.self) c.args.under_way c.args.command c.flags_of.result c.mode_of.result
-    c.requires.index c.requires.movable c.clear.ensures c.set_sizes.ensures c.write32.ensures c.write32-2.ensures
+    c.requires.index c.requires.movable c.clear.ensures c.set_sizes.ensures c.write32.ensures.writes c.write32-2.ensures.writes
     c.flags_of.ensures c.mode_of.ensures

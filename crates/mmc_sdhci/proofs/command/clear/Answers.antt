@@ -9,4 +9,4 @@ write32-requires g c =
 pub returns : goal.returns
 returns g c =
     clears (g.R.Registers.view c.args.registers.now) (g.R.Registers.view c.write32.new.self) c.args.under_way
-    c.older_bits.result c.older_bits.ensures c.write32.ensures
+    c.older_bits.result c.older_bits.ensures c.write32.ensures.writes

@@ -12,14 +12,14 @@ returns-then-bits-eq0-clause-sent g c =
       | then-bits-eq0-via-then-bits-eq0 w ↦ inl (omega (arith, w.if-bits-eq0))
       | then-bits-eq0-via-else-bits-eq0+then-bits-ne0 w ↦ inr w.if-bits-ne0.true
     ])
-    c.begin.ensures c.wait-bits.ensures c.reset_command.ensures c.reset_data.ensures
+    c.begin.ensures c.wait-bits.ensures.ends c.reset_command.ensures c.reset_data.ensures
 
 pub returns-then-not-has_data-clause-sent : goal.returns-then-not-has_data-clause-sent
 returns-then-not-has_data-clause-sent g c =
     sent (g.R.Registers.view c.args.registers.now) (g.R.Registers.view c.begin.new.registers)
     (g.R.Registers.view c.wait-bits.new.registers) (g.R.Registers.view c.hear-heard.new.registers) c.args.command
     c.wait-bits.result c.hear-heard.result (λ h. omega (arith, h, c.if-bits-eq0.false))
-    (omega (arith, c.if-bits-ne0.false)) c.begin.ensures c.wait-bits.ensures c.hear-heard.ensures
+    (omega (arith, c.if-bits-ne0.false)) c.begin.ensures c.wait-bits.ensures.ends c.hear-heard.ensures
 
 pub returns-clause-sent : goal.returns-clause-sent
 returns-clause-sent g c =
@@ -27,7 +27,7 @@ returns-clause-sent g c =
     (g.R.Registers.view c.wait-bits.new.registers) (g.R.Registers.view c.hear-heard.new.registers)
     (g.R.Registers.view c.reset_data-2.new.registers) c.args.under_way c.args.command c.wait-bits.result c.hear-heard.result
     (λ h. omega (arith, h, c.if-bits-eq0.false)) (omega (arith, c.if-bits-ne0.false)) (sym c.has_data.ensures ∙ c.if-not-has_data.false) c.requires.free
-    c.begin.ensures c.wait-bits.ensures c.hear-heard.ensures c.reset_data-2.ensures
+    c.begin.ensures c.wait-bits.ensures.ends c.hear-heard.ensures c.reset_data-2.ensures
 
 pub returns-then-bits-eq0-clause-rest : goal.returns-then-bits-eq0-clause-rest
 returns-then-bits-eq0-clause-rest g c =
@@ -38,4 +38,4 @@ returns-then-bits-eq0-clause-rest g c =
       | then-bits-eq0-via-then-bits-eq0 w ↦ inl (omega (arith, w.if-bits-eq0))
       | then-bits-eq0-via-else-bits-eq0+then-bits-ne0 w ↦ inr w.if-bits-ne0.true
     ])
-    c.requires.rest c.begin.ensures c.wait-bits.ensures c.reset_command.ensures c.reset_data.ensures
+    c.requires.rest c.begin.ensures c.wait-bits.ensures.ends c.reset_command.ensures c.reset_data.ensures

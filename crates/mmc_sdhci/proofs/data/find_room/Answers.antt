@@ -8,7 +8,7 @@ returns-in_default g c =
     let v0 = g.R.Registers.view c.args.registers.now in
     no_room v0 _ (λ k. (c.requires k).1.1)
     (write_lost Room v0 (g.R.Registers.view c.watch.new.registers) (g.R.Registers.view c.reset_data.new.registers)
-    c.watch.result c.in_default.not-Some (λ k. ((c.requires k).0, (c.requires k).1.0)) c.watch.ensures c.reset_data.ensures)
+    c.watch.result c.in_default.not-Some (λ k. ((c.requires k).0, (c.requires k).1.0)) c.watch.ensures.watches c.reset_data.ensures)
 
 pub returns-then-is_error : goal.returns-then-is_error
 returns-then-is_error g c =
@@ -16,5 +16,5 @@ returns-then-is_error g c =
     no_room v0 _ (λ k. (c.requires k).1.1)
     (write_failed_by Room v0 (g.R.Registers.view c.watch.new.registers)
     (g.R.Registers.view c.reset_data-then-is_error.new.registers) c.watch.result c.in-Some.seen c.in-Some.is
-    (sym c.is_error.ensures ∙ c.if-is_error.true) (λ k. ((c.requires k).0, (c.requires k).1.0)) c.watch.ensures
+    (sym c.is_error.ensures ∙ c.if-is_error.true) (λ k. ((c.requires k).0, (c.requires k).1.0)) c.watch.ensures.watches
     c.reset_data-then-is_error.ensures)

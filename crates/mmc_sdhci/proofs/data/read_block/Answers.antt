@@ -12,7 +12,7 @@ returns-in_default-clause-read g c =
     (read_lost Block (g.R.Registers.view c.args.registers.now) (g.R.Registers.view c.watch.new.registers)
     (g.R.Registers.view c.reset_data.new.registers) _ c.args.block.now c.watch.result c.in_default.not-Some
     (coming_reads (g.R.Registers.view c.args.registers.now) c.args.under_way _ c.requires.rest c.requires.coming)
-    c.watch.ensures c.reset_data.ensures)
+    c.watch.ensures.watches c.reset_data.ensures)
 
 pub returns-then-is_error-clause-read : goal.returns-then-is_error-clause-read
 returns-then-is_error-clause-read g c =
@@ -26,7 +26,7 @@ returns-then-is_error-clause-read g c =
     (g.R.Registers.view c.reset_data-then-is_error.new.registers) _ c.args.block.now c.watch.result
     c.in-Some.seen c.in-Some.is (sym c.is_error.ensures ∙ c.if-is_error.true)
     (coming_reads (g.R.Registers.view c.args.registers.now) c.args.under_way _ c.requires.rest c.requires.coming)
-    c.watch.ensures c.reset_data-then-is_error.ensures))
+    c.watch.ensures.watches c.reset_data-then-is_error.ensures))
 
 pub see_good-requires : goal.see_good-requires
 see_good-requires g c =
@@ -35,7 +35,7 @@ see_good-requires g c =
     (taken (g.R.Registers.view c.args.registers.now) (g.R.Registers.view c.watch.new.registers)
     (g.R.Registers.view c.read_port.new.self) c.args.under_way (length c.args.block.now) c.read_port.new.block c.watch.result
     c.in-Some.seen c.in-Some.is (sym c.is_error.ensures ∙ c.if-is_error.false) c.requires.rest c.requires.coming
-    (omega arith) c.watch.ensures c.read_port.ensures)
+    (omega arith) c.watch.ensures.watches c.read_port.ensures)
 
 pub returns-clause-read : goal.returns-clause-read
 returns-clause-read g c =
@@ -45,5 +45,5 @@ returns-clause-read g c =
     (taken (g.R.Registers.view c.args.registers.now) (g.R.Registers.view c.watch.new.registers)
     (g.R.Registers.view c.read_port.new.self) c.args.under_way (length c.args.block.now) c.read_port.new.block c.watch.result
     c.in-Some.seen c.in-Some.is (sym c.is_error.ensures ∙ c.if-is_error.false) c.requires.rest c.requires.coming
-    (omega arith) c.watch.ensures c.read_port.ensures)
+    (omega arith) c.watch.ensures.watches c.read_port.ensures)
     c.see_good.ensures

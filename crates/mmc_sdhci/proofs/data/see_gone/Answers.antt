@@ -9,7 +9,7 @@ returns-in_default g c =
     not_gone v0 _
     (write_lost (Gone c.args.following) v0 (g.R.Registers.view c.watch.new.registers)
     (g.R.Registers.view c.reset_data.new.registers) c.watch.result c.in_default.not-Some
-    (λ k. ((c.requires k).0, (c.requires k).1.0)) c.watch.ensures c.reset_data.ensures)
+    (λ k. ((c.requires k).0, (c.requires k).1.0)) c.watch.ensures.watches c.reset_data.ensures)
 
 pub returns-then-is_error : goal.returns-then-is_error
 returns-then-is_error g c =
@@ -17,10 +17,10 @@ returns-then-is_error g c =
     not_gone v0 _
     (write_failed_by (Gone c.args.following) v0 (g.R.Registers.view c.watch.new.registers)
     (g.R.Registers.view c.reset_data-then-is_error.new.registers) c.watch.result c.in-Some.seen c.in-Some.is
-    (sym c.is_error.ensures ∙ c.if-is_error.true) (λ k. ((c.requires k).0, (c.requires k).1.0)) c.watch.ensures
+    (sym c.is_error.ensures ∙ c.if-is_error.true) (λ k. ((c.requires k).0, (c.requires k).1.0)) c.watch.ensures.watches
     c.reset_data-then-is_error.ensures)
 
 pub returns : goal.returns
 returns g c =
     seen_gone c.args.following (g.R.Registers.view c.args.registers.now) (g.R.Registers.view c.watch.new.registers) c.watch.result
-    c.in-Some.seen c.in-Some.is (sym c.is_error.ensures ∙ c.if-is_error.false) c.requires c.watch.ensures
+    c.in-Some.seen c.in-Some.is (sym c.is_error.ensures ∙ c.if-is_error.false) c.requires c.watch.ensures.watches

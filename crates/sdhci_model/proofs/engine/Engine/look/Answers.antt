@@ -1,5 +1,5 @@
 use Rattle.sdhci_model.proofs.Commanding.{looks}
-use Rattle.sdhci_model.proofs.model.Model.look.Goals as goal
+use Rattle.sdhci_model.proofs.engine.Engine.look.Goals as goal
 
 pub returns-in-Some : goal.returns-in-Some
 returns-in-Some g c =

@@ -1,4 +1,4 @@
-use Rattle.sdhci_model.proofs.model.Model.new.Goals as goal
+use Rattle.sdhci_model.proofs.engine.Engine.new.Goals as goal
 
 pub returns-clause-new : goal.returns-clause-new
 returns-clause-new g c kept =

@@ -1,7 +1,7 @@
 use Rattle.std.proofs.Common.{[], refl}
 use Rattle.sdhci_model.proofs.Accessing.{resets_data}
 use Rattle.sdhci_model.proofs.Dropping.{loses_read, loses_write}
-use Rattle.sdhci_model.proofs.model.Model.reset_data.Goals as goal
+use Rattle.sdhci_model.proofs.engine.Engine.reset_data.Goals as goal
 
 pub returns-in-Nothing : goal.returns-in-Nothing
 returns-in-Nothing g c =

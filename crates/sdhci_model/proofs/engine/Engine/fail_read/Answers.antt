@@ -2,7 +2,7 @@ use Rattle.std.proofs.Common.{subst}
 use Rattle.sdhci_model.specs.Moves.{Breaks}
 use Rattle.sdhci_model.specs.declared.state.State.{State}
 use Rattle.sdhci_model.proofs.Moving.{read_failed}
-use Rattle.sdhci_model.proofs.model.Model.fail_read.Goals as goal
+use Rattle.sdhci_model.proofs.engine.Engine.fail_read.Goals as goal
 
 pub returns : goal.returns
 returns g c =

@@ -1,5 +1,5 @@
 use Rattle.sdhci_model.proofs.Moving.{reads}
-use Rattle.sdhci_model.proofs.model.Model.see_data.Goals as goal
+use Rattle.sdhci_model.proofs.engine.Engine.see_data.Goals as goal
 
 pub returns-in-Read : goal.returns-in-Read
 returns-in-Read g c =

@@ -1,5 +1,5 @@
 use Rattle.sdhci_model.proofs.Accessing.{shows_word}
-use Rattle.sdhci_model.proofs.model.ModelRegisters.read32.Goals as goal
+use Rattle.sdhci_model.proofs.engine.Engine.read32.Goals as goal
 
 pub returns-in-32 : goal.returns-in-32
 returns-in-32 g c =

@@ -3,7 +3,7 @@ use Rattle.mmc_card.specs.declared.exchange.DataIn.TheVariants as Came
 use Rattle.mmc_host.specs.declared.data.Data.{Data}
 use Rattle.mmc_story.specs.Entry.Event.{Read}
 use Rattle.sdhci_model.specs.Shown.{entry_for}
-use Rattle.sdhci_model.proofs.model.Model.lose_read.Goals as goal
+use Rattle.sdhci_model.proofs.engine.Engine.lose_read.Goals as goal
 
 pub returns-clause-past : goal.returns-clause-past
 returns-clause-past g c size counted is =

@@ -3,7 +3,7 @@ use Rattle.sdhci_model.specs.Moves.{Breaks, Goes}
 use Rattle.sdhci_model.specs.declared.state.State.{State}
 use Rattle.sdhci_model.proofs.Commanding.{noted_after}
 use Rattle.sdhci_model.proofs.Moving.{write_failed, write_waits, write_went}
-use Rattle.sdhci_model.proofs.model.Model.see_write.Goals as goal
+use Rattle.sdhci_model.proofs.engine.Engine.see_write.Goals as goal
 
 pub returns-then-is_held_back : goal.returns-then-is_held_back
 returns-then-is_held_back g c =

@@ -4,7 +4,7 @@ use Rattle.mmc_story.specs.Entry.Event.{Read}
 use Rattle.sdhci_model.specs.Shown.{entry_for}
 use Rattle.sdhci_model.specs.declared.state.State.{State}
 use Rattle.sdhci_model.proofs.Moving.{judged_state, not_good_yet, read_good, read_waits}
-use Rattle.sdhci_model.proofs.model.Model.see_shown.Goals as goal
+use Rattle.sdhci_model.proofs.engine.Engine.see_shown.Goals as goal
 
 pub returns-then-is_held_back : goal.returns-then-is_held_back
 returns-then-is_held_back g c =

@@ -1,6 +1,6 @@
 use Rattle.std.proofs.Common.{arith}
 use Rattle.sdhci_model.proofs.Moving.{read_comes}
-use Rattle.sdhci_model.proofs.model.Model.fetch.Goals as goal
+use Rattle.sdhci_model.proofs.engine.Engine.fetch.Goals as goal
 
 pub returns : goal.returns
 returns g c =

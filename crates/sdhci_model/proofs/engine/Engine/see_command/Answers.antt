@@ -1,7 +1,7 @@
 use Rattle.std.proofs.Common.{◌∙◌}
 use Rattle.mmc_host.specs.declared.response.Response.TheVariants as To
 use Rattle.sdhci_model.proofs.Commanding.{completes, fails, noted_after, runs_on}
-use Rattle.sdhci_model.proofs.model.Model.see_command.Goals as goal
+use Rattle.sdhci_model.proofs.engine.Engine.see_command.Goals as goal
 
 pub returns-then-is_silent : goal.returns-then-is_silent
 returns-then-is_silent g c =

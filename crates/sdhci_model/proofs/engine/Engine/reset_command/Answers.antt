@@ -1,7 +1,7 @@
 use Rattle.std.proofs.Common.{refl}
 use Rattle.sdhci_model.proofs.Accessing.{resets_command}
 use Rattle.sdhci_model.proofs.Commanding.{drops}
-use Rattle.sdhci_model.proofs.model.Model.reset_command.Goals as goal
+use Rattle.sdhci_model.proofs.engine.Engine.reset_command.Goals as goal
 
 pub returns-in-None : goal.returns-in-None
 returns-in-None g c =
