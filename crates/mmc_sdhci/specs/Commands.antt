@@ -129,6 +129,16 @@ ResetsLine old new = Settled old (Dropped old old.running new) new
 abbrev pub ResetsData : ControllerView → ControllerView → Type 0
 ResetsData old new = Settled old (DataDropped old old.transfer new) new
 
+-- first the one, then the other
+abbrev pub LosesAll : ControllerView → ControllerView → Type 0
+LosesAll old new = (between : ControllerView) × ResetsLine old between × ResetsData between new
+
+-- nothing is under way, and what is set and built in is as before
+abbrev pub KeepsSettings : ControllerView → ControllerView → Type 0
+KeepsSettings old new =
+    Settled old
+    ((new.transfer ≡ Data.Nothing) × (new.settings ≡ old.settings) × (new.built ≡ old.built)) new
+
 -- why no response was heard: bits 17, 18 and 19 of the interrupts
 abbrev pub fault_in : ℕ → ResponseFault
 fault_in bits =

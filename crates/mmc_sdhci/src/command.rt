@@ -3,7 +3,7 @@ ghost use Rattle.std.specs.Prelude.{◌≡◌, ◌<◌, is_ok, true, ℕ};
 ghost use Rattle.mmc_card.specs.CardAnswer.{Silent};
 ghost use Rattle.mmc_host.specs.Hosts.{answer_heard};
 ghost use Rattle.mmc_host.specs.HostStates.{AreMovable, IsFree};
-ghost use Rattle.mmc_sdhci.specs.Commands.{Begins, Clears, Ends, IsIdleFor, IsRunning, IsSet, ReadsWord, ResetsData, ResetsLine, SetsSizes, Tells, flags_of, mode_of};
+ghost use Rattle.mmc_sdhci.specs.Commands.{Begins, Clears, Ends, IsIdleFor, IsRunning, IsSet, KeepsSettings, LosesAll, ReadsWord, ResetsData, ResetsLine, SetsSizes, Tells, flags_of, mode_of};
 ghost use Rattle.mmc_sdhci.specs.Commands.{IsUnderWay, Sends, fault_in, older_bits, response_flags, several, sizes_of};
 ghost use Rattle.mmc_host.specs.declared.response.Response.TheVariants.{R1, R2};
 ghost use Rattle.mmc_sdhci.specs.Controller.{has_data};
@@ -234,6 +234,17 @@ pub fn reset_data<R: Registers>(registers: &mut R)
 {
     registers.write8(RESET, DATA_LINE);
     settle_reset(registers);
+}
+
+/// Resets command line and data line: what is under way is lost.
+pub fn lose_all<R: Registers>(registers: &mut R)
+    requires { IsStill (R.view registers.old) }
+    ensures lost { LosesAll (R.view registers.old) (R.view registers.new) }
+    ensures keeps { KeepsSettings (R.view registers.old) (R.view registers.new) }
+    ensures rest { IsAtRest (R.view registers.new) }
+{
+    reset_command(registers);
+    reset_data(registers);
 }
 
 // Why no response was heard, by the error interrupts.

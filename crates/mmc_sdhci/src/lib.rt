@@ -17,6 +17,7 @@ mod watching;
 pub use clock::base_clock;
 pub use command::{has_data, register_in};
 pub use following::{Following, following_of};
+pub use offsets::{CAPABILITIES, PRESENT};
 pub use registers::Registers;
 pub use sdhci::Sdhci;
 pub use start::{StartFault, limits_in};

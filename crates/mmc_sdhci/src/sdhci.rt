@@ -2,16 +2,16 @@ ghost use Rattle.std.specs.Prelude.{◌<◌, ◌≡◌, IfErr, IfOk, true};
 ghost use Rattle.mmc_host.specs.HostStates.{lines_of, resting};
 ghost use Rattle.mmc_host.specs.Hosts.{IsUnused, Rests};
 ghost use Rattle.mmc_sdhci.specs.Controller.{IsAtMost, Settled, limits_in, lines_in};
-ghost use Rattle.mmc_sdhci.specs.Accesses.{IsAtRest};
+ghost use Rattle.mmc_sdhci.specs.Accesses.{IsAtRest, IsStill};
 ghost use Rattle.mmc_sdhci.specs.Beside.{is_inserted, is_protected};
-ghost use Rattle.mmc_sdhci.specs.Commands.{IsSet};
-ghost use Rattle.mmc_sdhci.specs.Driver.{IsBaseClock, IsNew, IsReady, IsSameCard, IsUnready, are_words, clock_limit, host_over, speed_limit};
+ghost use Rattle.mmc_sdhci.specs.Commands.{IsSet, LosesAll};
+ghost use Rattle.mmc_sdhci.specs.Driver.{IsAtEase, IsBaseClock, IsNew, IsSameCard, IsUnready, are_words, clock_limit, host_over, speed_limit};
 ghost use Rattle.mmc_sdhci.specs.declared.start.StartFault.TheVariants.{NoBaseClock};
 ghost use Rattle.mmc_sdhci.specs.Moving.{WhereKept};
 
 use crate::busy::is_busy;
 use crate::clock::{base_clock, set_clock};
-use crate::command::{is_ok, is_word, send};
+use crate::command::{is_ok, is_word, lose_all, send};
 use crate::data::{is_accepted, is_good, read_block, write_block};
 use crate::offsets::{CAPABILITIES, CONTROL, POWER, PRESENT, VERSION};
 use crate::registers::Registers;
@@ -92,22 +92,25 @@ impl<R: Registers> Sdhci<R> {
         })
     }
 
-    /// Goes on with a controller that is between two commands to a card that is selected, on these lines, as a driver left it that is
-    /// there no more. Nothing is set anew.
+    /// Goes on with a controller whose card is selected, on these lines, as a driver left it that is there no more. Command line and
+    /// data line are reset: what was under way, or was left in the buffer, is lost (section 2.2.16). Nothing else is set anew.
     ///
     /// # Errors
     /// `NoBaseClock` where the controller doesn't say how fast its clock is. The registers are given back.
     pub fn resume(registers: R, lines: Lines) -> Result<Sdhci<R>, (R, StartFault)>
-        requires ready { IsReady (R.view registers) }
+        requires still { IsStill (R.view registers) }
+        requires set { IsSet (R.view registers) }
         requires lines { WhereKept (R.view registers) (lines_in (R.view registers).settings.control ≡ lines) }
         requires clock { WhereKept (R.view registers) (IsAtMost (speed_limit lines.timing) (R.view registers)) }
+        ensures lost { IfOk result (λ host. LosesAll (R.view registers) (R.view host.registers)) }
         ensures same { IfOk result (λ host. Settled (R.view registers)
-            (IsSameCard (R.view registers) (R.view host.registers)) (R.view host.registers)) }
+            (IsAtEase (R.view registers) → IsSameCard (R.view registers) (R.view host.registers)) (R.view host.registers)) }
         ensures resting { IfOk result (λ host. host.state ≡ resting lines) }
         ensures fault { IfErr result (λ failed. failed.1 ≡ NoBaseClock) }
         ensures unready { IfErr result (λ failed. IsUnready failed.1 (R.view failed.0)) }
     {
         let mut registers = registers;
+        lose_all(&mut registers);
         let capabilities = registers.read32(CAPABILITIES);
         let version = registers.read8(VERSION);
         let base = base_clock(capabilities, version);

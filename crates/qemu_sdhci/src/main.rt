@@ -1,5 +1,6 @@
 //! Opens QEMU's SD card through the registers of QEMU's SD host controller, and writes and reads random runs of sectors, each
-//! compared with a copy of what the card should hold. `tests/qemu/run` starts QEMU and this program.
+//! compared with a copy of what the card should hold; with `--words` by accesses of 32 bits alone. `tests/qemu/run` starts QEMU and this
+//! program.
 #![tactic(auto)]
 
 mod copy;
@@ -13,16 +14,14 @@ use crate::runs::Card;
 use anyhow::{Result, anyhow};
 use mmc_block::{BlockDev, Part};
 use mmc_host::HostBus;
-use mmc_sdhci::Sdhci;
+use mmc_sdhci::{Registers, Sdhci};
+use sdhci_board::{Board, Slot};
 use std::env;
 
-const USAGE: &str = "usage: qemu_sdhci RUNS SEED";
+const USAGE: &str = "usage: qemu_sdhci RUNS SEED [--words]";
 
 // Opens the card.
-fn open(rt: &impl AllocGlobal) -> Result<Card> {
-    let registers = QemuRegisters {
-        conversation: Conversation::new(),
-    };
+fn open<R: Registers + Drop>(rt: &impl AllocGlobal, registers: R) -> Result<Card<R>> {
     match Sdhci::new(registers) {
         Err((_, fault)) => Err(fault.into()),
         Ok(host) => match BlockDev::open(rt.alloc(), HostBus::new(host)) {
@@ -33,8 +32,13 @@ fn open(rt: &impl AllocGlobal) -> Result<Card> {
 }
 
 // Serves so many rounds of runs.
-fn serve(rt: &(impl Eprint + AllocGlobal), rounds: u64, seed: u64) -> Result<()> {
-    let mut card = open(rt)?;
+fn serve<R: Registers + Drop>(
+    rt: &(impl Eprint + AllocGlobal),
+    registers: R,
+    rounds: u64,
+    seed: u64,
+) -> Result<()> {
+    let mut card = open(rt, registers)?;
     let sectors = card.info().sectors(Part::User).unwrap_or(0);
     let _ = eprintln!(rt;
         "opened {sectors} sectors, {} exchanges",
@@ -50,8 +54,22 @@ fn serve(rt: &(impl Eprint + AllocGlobal), rounds: u64, seed: u64) -> Result<()>
 
 fn main(rt: HostRuntime) -> Result<()> {
     let words = env::args(&rt)?.collect::<Vec<String>>(rt.alloc())?;
+    let registers = QemuRegisters {
+        conversation: Conversation::new(),
+    };
     match words.as_slice() {
-        [_, rounds, seed] => serve(&rt, rounds.parse::<u64>()?, seed.parse::<u64>()?),
+        [_, rounds, seed] => serve(
+            &rt,
+            registers,
+            rounds.parse::<u64>()?,
+            seed.parse::<u64>()?,
+        ),
+        [_, rounds, seed, way] if way.as_str() == "--words" => serve(
+            &rt,
+            Board::new(registers, Slot::AlwaysThere, None),
+            rounds.parse::<u64>()?,
+            seed.parse::<u64>()?,
+        ),
         _ => Ok(println!(rt; "{USAGE}")?),
     }
 }

@@ -1,17 +1,16 @@
 // Rounds of random runs: four requests wait at once, and each is compared with what the card should hold by then.
 
 use crate::copy::Copy;
-use crate::registers::QemuRegisters;
 use anyhow::{Result, anyhow};
 use mmc_block::{Answer, BlockDev, Bytes, Completion, Part, Request};
 use mmc_host::HostBus;
-use mmc_sdhci::Sdhci;
+use mmc_sdhci::{Registers, Sdhci};
 use rand_core::{Rng, SeedableRng};
 use rand_xoshiro::Xoshiro256PlusPlus;
 use std::alloc::Global;
 
 /// A device over QEMU's controller.
-pub type Card = BlockDev<HostBus<Sdhci<QemuRegisters>>>;
+pub type Card<R> = BlockDev<HostBus<Sdhci<R>>>;
 
 // What a ticket's answer has to be: the bytes of a read; of a write none.
 #[derive(Drop)]
@@ -48,11 +47,11 @@ fn next(
 }
 
 // Submits four requests.
-fn submit(
+fn submit<R: Registers>(
     rt: &(impl Eprint + AllocGlobal),
     random: &mut Xoshiro256PlusPlus,
     copy: &mut Copy,
-    card: &mut Card,
+    card: &mut Card<R>,
 ) -> Result<Vec<Wanted>> {
     let mut wanted = Vec::new(rt.alloc());
     for client in 0..4 {
@@ -78,9 +77,9 @@ fn is_wanted(wanted: &[Wanted], completion: &Completion) -> bool {
 }
 
 /// Serves so many rounds.
-pub fn serve(
+pub fn serve<R: Registers>(
     rt: &(impl Eprint + AllocGlobal),
-    card: &mut Card,
+    card: &mut Card<R>,
     sectors: u64,
     rounds: u64,
     seed: u64,
