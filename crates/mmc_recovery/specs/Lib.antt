@@ -1,1 +1,2 @@
+pub mod Healed
 pub mod Settled

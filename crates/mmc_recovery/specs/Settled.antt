@@ -1,12 +1,15 @@
 -- What settling does with the card of a broken session, and what it leaves.
-use Rattle.std.specs.Prelude.{◌≡◌, IsOk, MatchResult, None, Result, true}
+use Rattle.std.specs.Prelude.{◌+◌, ◌≡◌, ◌≤◌, Bool, Err, IfSome, IsOk, MatchResult, None, Ok, Option, Result, Some}
+use Rattle.std.specs.Prelude.{false, true}
 use Rattle.mmc_card.specs.BusView.{BusView}
+use Rattle.mmc_card.specs.declared.part.Part.TheVariants.{User}
 use Rattle.mmc_bus.specs.declared.cause.Cause.{Cause}
 use Rattle.mmc_bus.specs.declared.cause.Cause.TheVariants.{Recovery}
 use Rattle.mmc_switch.specs.Place.{IsLoose, IsReady, Knows, StandsAs}
 use Rattle.mmc_switch.specs.declared.broken.Broken.{Broken}
 use Rattle.mmc_switch.specs.declared.info.Info.{Info}
 use Rattle.mmc_switch.specs.declared.session.Session.{Session}
+use Rattle.mmc_recovery.specs.declared.order.TheConstants.{EXCHANGES_OF_A_RESTORATION}
 
 -- A card that stood as its session says, with this known of it, is ready for that session if this is a success.
 abbrev pub Restores : Info → Result Unit Cause → BusView → BusView → Type 0
@@ -22,3 +25,17 @@ Leaves result new = MatchResult result (λ session. IsReady session new) (λ lef
 abbrev pub given_up : Broken → Broken
 given_up broken =
     record { session = record broken.session { selected = None }; cause = Recovery; must_reset = true }
+
+-- the session of a card that goes on
+abbrev pub session_of : Result Session Broken → Option Session
+session_of (Ok session) = Some session
+session_of (Err left) = None
+
+-- Whether a card was reset, by the session with which it goes on, if it does: it wasn't only where it goes on as it was, and was
+-- no more than restored where it stood.
+pub record TellsReset (broken : Broken) (was : BusView) (session : Option Session) (was_reset : Bool)
+    (now : BusView) : Type 0 where
+  pub needed : broken.must_reset ≡ true → was_reset ≡ true
+  pub as_it_was : was_reset ≡ false → session ≡ Some broken.session
+  pub few : was_reset ≡ false → now.exchanges ≤ was.exchanges + EXCHANGES_OF_A_RESTORATION
+  pub anew : was_reset ≡ true → IfSome session (λ s. s.selected ≡ Some User)

@@ -1,8 +1,11 @@
 //! Recovery: bringing a card back in order after a failure.
 #![tactic(auto)]
 
+mod healed;
 mod order;
 mod reopening;
 mod settling;
 
-pub use settling::{EXCHANGES_OF_A_SETTLE, settle};
+pub use healed::Healed;
+pub use order::EXCHANGES_OF_A_RESTORATION;
+pub use settling::{EXCHANGES_OF_A_SETTLE, settle, settle_telling};

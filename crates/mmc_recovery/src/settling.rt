@@ -16,7 +16,7 @@ ghost use Rattle.mmc_bus.specs.Learned.{Stays};
 ghost use Rattle.mmc_bus.specs.Work.{Narrows};
 ghost use Rattle.mmc_switch.specs.Info.{lasting};
 ghost use Rattle.mmc_switch.specs.Place.{IsLoose};
-ghost use Rattle.mmc_recovery.specs.Settled.{Leaves, given_up};
+ghost use Rattle.mmc_recovery.specs.Settled.{Leaves, TellsReset, given_up, session_of};
 
 use crate::order::{EXCHANGES_OF_A_RESTORATION, restore};
 use crate::reopening::reset;
@@ -44,11 +44,32 @@ pub fn settle<B: Bus>(bus: &mut B, broken: Broken) -> Result<Session, Broken>
     ensures refused { (B.view bus.new).is_kept ≡ true → IsLoose broken (B.view bus.old)
         → InProfile (B.view bus.old).card.made → IsErr result → (B.view bus.old).faults < (B.view bus.new).faults }
 {
+    settle_telling(bus, broken).0
+}
+
+/// The same, and whether the card was reset, which a host counts.
+///
+/// # Errors
+/// Those of `settle`; the card was reset then.
+pub fn settle_telling<B: Bus>(bus: &mut B, broken: Broken) -> (Result<Session, Broken>, bool)
+    ensures bounded { (B.view bus.new).exchanges ≤ (B.view bus.old).exchanges + EXCHANGES_OF_A_SETTLE }
+    ensures ok { IfOk result.0 (λ session. (lasting session.info ≡ lasting broken.session.info)
+        × ((session ≡ broken.session) ⊎ (session.selected ≡ Some User))) }
+    ensures err { IfErr result.0 (λ left. left ≡ given_up broken) }
+    ensures told { TellsReset broken (B.view bus.old) (session_of result.0) result.1 (B.view bus.new) }
+
+    ensures kept { (B.view bus.new).is_kept ≡ true → (B.view bus.old).is_kept ≡ true }
+    ensures stays { (B.view bus.new).is_kept ≡ true
+        → Stays (B.view bus.old) (B.view bus.new) × Narrows (B.view bus.old) (B.view bus.new) }
+    ensures settled { (B.view bus.new).is_kept ≡ true → IsLoose broken (B.view bus.old) → Leaves result.0 (B.view bus.new) }
+    ensures refused { (B.view bus.new).is_kept ≡ true → IsLoose broken (B.view bus.old)
+        → InProfile (B.view bus.old).card.made → IsErr result.0 → (B.view bus.old).faults < (B.view bus.new).faults }
+{
     if broken.must_reset() {
-        return reset(bus, broken);
+        return (reset(bus, broken), true);
     }
     match restore(bus, broken.info()) {
-        Ok(()) => Ok(broken.into_session()),
-        Err(_) => reset(bus, broken),
+        Ok(()) => (Ok(broken.into_session()), false),
+        Err(_) => (reset(bus, broken), true),
     }
 }

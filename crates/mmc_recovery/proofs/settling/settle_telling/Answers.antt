@@ -1,6 +1,6 @@
 use Rattle.std.proofs.Common.{◌∙◌, sym}
 use Rattle.mmc_recovery.proofs.SettleLemmas.{resets_fell, resets_stays, resets_then, restored_ready}
-use Rattle.mmc_recovery.proofs.settling.settle.Goals as goal
+use Rattle.mmc_recovery.proofs.settling.settle_telling.Goals as goal
 
 pub returns-then-must_reset-clause-stays : goal.returns-then-must_reset-clause-stays
 returns-then-must_reset-clause-stays g c kept =
