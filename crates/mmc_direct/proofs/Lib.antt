@@ -1,4 +1,5 @@
 pub mod AttemptLemmas
+pub mod CauseLemmas
 pub mod LentLemmas
 pub mod RequestLemmas
 pub mod ServeLemmas

@@ -1,5 +1,5 @@
 -- Attempts one after the other, over any bus.
-use Rattle.std.proofs.Common.{◌*◌, ◌+◌, ◌∙◌, ◌≡◌, ◌≤◌, [], arith, subst, true, ℕ}
+use Rattle.std.proofs.Common.{◌*◌, ◌+◌, ◌-◌, ◌∙◌, ◌≡◌, ◌≤◌, [], arith, subst, true, ℕ}
 use Rattle.std.specs.Prelude.{Err, IfErr, Ok, Result}
 use Rattle.mmc_card.specs.BusView.{BusView}
 use Rattle.mmc_card.specs.Sectors.{Change}
@@ -16,19 +16,36 @@ use Rattle.mmc_direct.specs.declared.stands.Stands.{Stands}
 use Rattle.mmc_direct.specs.declared.stands.Stands.TheVariants.{Loose}
 use Rattle.mmc_direct.proofs.AttemptLemmas.{tried_again, tried_enough}
 
+-- a cause after so many exchanges more
+caused_later : (less more : ℕ) (a b : BusView) (result : Result Session Broken) (c : BusView)
+    → b.exchanges + less ≤ a.exchanges + more → IfErr result (λ broken. IsCausedIn less broken b c)
+    → IfErr result (λ broken. IsCausedIn more broken a c)
+caused_later less more a b (Ok session) c later cause = tt
+caused_later less more a b (Err broken) c later cause = record {
+  heard = cause.heard;
+  unsettled = cause.unsettled;
+  settles = λ is. let l = cause.settles is in omega (arith, l, later);
+}
+
 -- what one attempt does
 pub one_try : (each : ℕ) (change : Change) (stands : Stands) (a : BusView) (result : Result Session Broken) (b : BusView)
     → lasting (info_of (stands_of result)) ≡ lasting (info_of stands) → b.exchanges ≤ a.exchanges + each
-    → (b.is_kept ≡ true → a.is_kept ≡ true) → IfErr result (λ broken. IsCausedIn broken.cause b)
+    → (b.is_kept ≡ true → a.is_kept ≡ true) → IfErr result (λ broken. IsCausedIn 0 broken a b)
     → (b.is_kept ≡ true → StandsIn stands a → HasTried 1 change a result b) → Tries 1 each change stands a result b
 one_try each change stands a result b info bounded kept cause tried =
-    record { info = info; bounded = omega (arith, bounded); kept = kept; cause = cause; tried = tried }
+    record {
+      info = info;
+      bounded = omega (arith, bounded);
+      kept = kept;
+      cause = caused_later 0 ((1 - 1) * each) a a result b (omega arith) cause;
+      tried = tried;
+    }
 
 -- the same of an erase or a trim, in terms of what was known of the card before
 pub one_erase : (info : Info) (broken : Broken) (part : Part) (start count : ℕ) (a : BusView) (result : Result Session Broken)
     (b : BusView) → lasting broken.session.info ≡ lasting info
     → lasting (info_of (stands_of result)) ≡ lasting broken.session.info → b.exchanges ≤ a.exchanges + erasing
-    → (b.is_kept ≡ true → a.is_kept ≡ true) → IfErr result (λ left. IsCausedIn left.cause b)
+    → (b.is_kept ≡ true → a.is_kept ≡ true) → IfErr result (λ left. IsCausedIn 0 left a b)
     → (b.is_kept ≡ true → IsLoose broken a → HasTried 1 (erased_at broken.session.info part start count) a result b)
     → Tries 1 erasing (erased_at info part start count) (Loose broken) a result b
 one_erase info broken part start count a result b same now bounded kept cause tried =
@@ -39,7 +56,7 @@ one_erase info broken part start count a result b same now bounded kept cause tr
 pub one_read : (was now : ℕ) (broken : Broken) (part : Part) (start : ℕ) (a : BusView) (result : Result Session Broken)
     (b : BusView) → now ≡ was
     → lasting (info_of (stands_of result)) ≡ lasting broken.session.info → b.exchanges ≤ a.exchanges + moving now
-    → (b.is_kept ≡ true → a.is_kept ≡ true) → IfErr result (λ left. IsCausedIn left.cause b)
+    → (b.is_kept ≡ true → a.is_kept ≡ true) → IfErr result (λ left. IsCausedIn 0 left a b)
     → (b.is_kept ≡ true → IsLoose broken a → HasTried 1 (written_at part start []) a result b)
     → Tries 1 (moving was) (written_at part start []) (Loose broken) a result b
 one_read was now broken part start a result b count info bounded kept cause tried =
@@ -55,7 +72,12 @@ tries_again attempts most change stands broken a b result c p q = record {
   info = q.info ∙ p.info;
   bounded = let l = p.bounded in let m = q.bounded in omega (arith, l, m);
   kept = λ kept. p.kept (q.kept kept);
-  cause = q.cause;
+  cause =
+      let l = p.bounded in
+      let same : attempts ≡ attempts + 1 - 1 = omega arith in
+      let later : b.exchanges + (1 - 1) * most ≤ a.exchanges + attempts * most = omega (arith, l) in
+      caused_later ((1 - 1) * most) ((attempts + 1 - 1) * most) a b result c
+      (subst (λ n. b.exchanges + (1 - 1) * most ≤ a.exchanges + n * most) same later) q.cause;
   tried = λ kept at.
       let was = p.tried (q.kept kept) at in
       tried_again attempts change broken a b result c was (q.tried kept was.stands);
@@ -71,7 +93,7 @@ tries_enough attempts most each change stands session a b few p = record {
       let m : attempts * each ≤ most * each = grind (arith, few) in
       omega (arith, l, m);
   kept = p.kept;
-  cause = p.cause;
+  cause = tt;
   tried = λ kept at. tried_enough attempts most change session a b (p.tried kept at);
 }
 

@@ -1,5 +1,5 @@
 -- What attempts at a request do with the card.
-use Rattle.std.specs.Prelude.{◌*◌, ◌+◌, ◌<◌, ◌≡◌, ◌≤◌, IfErr, IfOk, Result, true, ℕ}
+use Rattle.std.specs.Prelude.{◌*◌, ◌+◌, ◌-◌, ◌<◌, ◌≡◌, ◌≤◌, IfErr, IfOk, Result, true, ℕ}
 use Rattle.mmc_card.specs.BusView.{BusView}
 use Rattle.mmc_card.specs.Card.{holds}
 use Rattle.mmc_card.specs.Profile.{InProfile}
@@ -46,5 +46,5 @@ pub record Tries (attempts most : ℕ) (change : Change) (stands : Stands) (old 
   pub info : lasting (info_of (stands_of result)) ≡ lasting (info_of stands)
   pub bounded : new.exchanges ≤ old.exchanges + attempts * most
   pub kept : new.is_kept ≡ true → old.is_kept ≡ true
-  pub cause : IfErr result (λ broken. IsCausedIn broken.cause new)
+  pub cause : IfErr result (λ broken. IsCausedIn ((attempts - 1) * most) broken old new)
   pub tried : new.is_kept ≡ true → StandsIn stands old → HasTried attempts change old result new

@@ -1,9 +1,10 @@
 -- How a card stands between two requests, and what came of one.
-use Rattle.std.specs.Prelude.{◌≡◌, ◌⊎◌, Err, None, Ok, Option, Result, Some}
+use Rattle.std.specs.Prelude.{◌+◌, ◌≡◌, ◌≢◌, ◌≤◌, Err, None, Ok, Option, Result, Some, true, ℕ}
 use Rattle.mmc_card.specs.BusView.{BusView}
 use Rattle.mmc_bus.specs.Heard.{cause_of}
 use Rattle.mmc_bus.specs.declared.cause.Cause.{Cause}
 use Rattle.mmc_bus.specs.declared.cause.Cause.TheVariants.{Recovery}
+use Rattle.mmc_recovery.specs.declared.settling.TheConstants.{EXCHANGES_OF_A_SETTLE}
 use Rattle.mmc_switch.specs.Place.{IsLoose, IsReady}
 use Rattle.mmc_switch.specs.declared.broken.Broken.{Broken}
 use Rattle.mmc_switch.specs.declared.info.Info.{Info}
@@ -63,6 +64,21 @@ AnswersBy (Err (RefusedFor why)) stands = Unit {0}
 AnswersBy (Err (Failed cause)) (Ready session) = ⊥
 AnswersBy (Err (Failed cause)) (Loose broken) = cause ≡ broken.cause
 
--- the cause is that of the last exchange, or the card couldn't be settled
-abbrev pub IsCausedIn : Cause → BusView → Type 0
-IsCausedIn cause view = (cause_of view.last ≡ Some cause) ⊎ (cause ≡ Recovery)
+-- where its attempts have failed, this holds of what they left
+abbrev pub IfLeft : Result Unit NotDone → Stands → (Broken → Type 0) → Type 0
+IfLeft (Err (Failed cause)) (Loose broken) Holds = Holds broken
+IfLeft _ _ Holds = Unit {0}
+
+-- Why attempts have failed.
+
+-- What a settle leaves that failed: the card has to be reset, and which partition is selected isn't known.
+pub record IsUnsettled (broken : Broken) : Type 0 where
+  pub must_reset : broken.must_reset ≡ true
+  pub unknown : broken.session.selected ≡ None
+
+-- The cause is that of the last exchange. It is Recovery only where the last attempt made no run, since the card couldn't be settled:
+-- those before it made so many exchanges at most, and it made those of a settle.
+pub record IsCausedIn (before : ℕ) (broken : Broken) (old new : BusView) : Type 0 where
+  pub heard : broken.cause ≢ Recovery → cause_of new.last ≡ Some broken.cause
+  pub unsettled : broken.cause ≡ Recovery → IsUnsettled broken
+  pub settles : broken.cause ≡ Recovery → new.exchanges ≤ old.exchanges + (before + EXCHANGES_OF_A_SETTLE)

@@ -31,7 +31,7 @@ fn settled<B: Bus>(bus: &mut B, stands: Stands) -> Result<Session, Broken>
     ensures info { lasting (info_of (stands_of result)) ≡ lasting (info_of stands) }
     ensures bounded { (B.view bus.new).exchanges ≤ (B.view bus.old).exchanges + EXCHANGES_OF_A_SETTLE }
     ensures kept { (B.view bus.new).is_kept ≡ true → (B.view bus.old).is_kept ≡ true }
-    ensures cause { IfErr result (λ broken. IsCausedIn broken.cause (B.view bus.new)) }
+    ensures cause { IfErr result (λ broken. IsCausedIn 0 broken (B.view bus.old) (B.view bus.new)) }
     ensures prepared { (B.view bus.new).is_kept ≡ true → StandsIn stands (B.view bus.old)
         → HasPrepared (B.view bus.old) result (B.view bus.new) }
 {
@@ -48,7 +48,7 @@ fn prepared<B: Bus>(bus: &mut B, stands: Stands, part: Part) -> Result<Session, 
     ensures selected { IfOk result (λ session. session.selected ≡ Some part) }
     ensures bounded { (B.view bus.new).exchanges ≤ (B.view bus.old).exchanges + EXCHANGES_BESIDE_A_RUN }
     ensures kept { (B.view bus.new).is_kept ≡ true → (B.view bus.old).is_kept ≡ true }
-    ensures cause { IfErr result (λ broken. IsCausedIn broken.cause (B.view bus.new)) }
+    ensures cause { IfErr result (λ broken. IsCausedIn 0 broken (B.view bus.old) (B.view bus.new)) }
     ensures prepared { (B.view bus.new).is_kept ≡ true → StandsIn stands (B.view bus.old)
         → HasPrepared (B.view bus.old) result (B.view bus.new) }
 {
@@ -74,7 +74,7 @@ pub fn try_read<B: Bus, D: BlocksMut>(
     ensures count { length (D.blocks blocks.new) ≡ length (D.blocks blocks.old) }
     ensures lent { IsRewritten D.blocks D.with blocks.old blocks.new }
     ensures kept { (B.view bus.new).is_kept ≡ true → (B.view bus.old).is_kept ≡ true }
-    ensures cause { IfErr result (λ broken. IsCausedIn broken.cause (B.view bus.new)) }
+    ensures cause { IfErr result (λ broken. IsCausedIn 0 broken (B.view bus.old) (B.view bus.new)) }
     ensures tried { (B.view bus.new).is_kept ≡ true → StandsIn stands (B.view bus.old)
         → HasTried 1 (written_at part start []) (B.view bus.old) result (B.view bus.new) }
     ensures read { (B.view bus.new).is_kept ≡ true → StandsIn stands (B.view bus.old)
@@ -99,7 +99,7 @@ pub fn try_write<B: Bus, D: Blocks>(
     ensures info { lasting (info_of (stands_of result)) ≡ lasting (info_of stands) }
     ensures bounded { (B.view bus.new).exchanges ≤ (B.view bus.old).exchanges + moving (length (D.blocks blocks.now)) }
     ensures kept { (B.view bus.new).is_kept ≡ true → (B.view bus.old).is_kept ≡ true }
-    ensures cause { IfErr result (λ broken. IsCausedIn broken.cause (B.view bus.new)) }
+    ensures cause { IfErr result (λ broken. IsCausedIn 0 broken (B.view bus.old) (B.view bus.new)) }
     ensures tried { (B.view bus.new).is_kept ≡ true → StandsIn stands (B.view bus.old)
         → HasTried 1 (written_at part start (D.blocks blocks.now)) (B.view bus.old) result (B.view bus.new) }
 {
@@ -123,7 +123,7 @@ pub fn try_erase<B: Bus>(
     ensures info { lasting (info_of (stands_of result)) ≡ lasting (info_of stands) }
     ensures bounded { (B.view bus.new).exchanges ≤ (B.view bus.old).exchanges + erasing }
     ensures kept { (B.view bus.new).is_kept ≡ true → (B.view bus.old).is_kept ≡ true }
-    ensures cause { IfErr result (λ broken. IsCausedIn broken.cause (B.view bus.new)) }
+    ensures cause { IfErr result (λ broken. IsCausedIn 0 broken (B.view bus.old) (B.view bus.new)) }
     ensures tried { (B.view bus.new).is_kept ≡ true → StandsIn stands (B.view bus.old)
         → HasTried 1 (erased_at (info_of stands) part start count) (B.view bus.old) result (B.view bus.new) }
 {

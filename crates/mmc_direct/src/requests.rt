@@ -1,5 +1,5 @@
 // Requests, one at a time.
-ghost use Rattle.std.specs.Prelude.{◌≡◌, ◌*◌, ◌+◌, ◌≤◌, length, true};
+ghost use Rattle.std.specs.Prelude.{◌≡◌, ◌*◌, ◌+◌, ◌-◌, ◌≤◌, length, true};
 ghost use Rattle.mmc_bus.specs.Lending.{IsRewritten};
 ghost use Rattle.mmc_erase.specs.declared.how.How.{How};
 ghost use Rattle.mmc_switch.specs.Info.{lasting};
@@ -7,7 +7,7 @@ ghost use Rattle.mmc_direct.specs.Attempts.{erasing, moving};
 ghost use Rattle.mmc_direct.specs.Changes.{erased_at, written_at};
 ghost use Rattle.mmc_direct.specs.Refusal.{action_of, refusal};
 ghost use Rattle.mmc_direct.specs.Requests.{HasChanged, HasRead};
-ghost use Rattle.mmc_direct.specs.Stands.{AnswersBy, IfFailed, IfRefused, IsCausedIn, StandsIn, info_of, refusal_in};
+ghost use Rattle.mmc_direct.specs.Stands.{AnswersBy, IfLeft, IfRefused, IsCausedIn, StandsIn, info_of, refusal_in};
 ghost use Rattle.mmc_direct.specs.declared.action.Action.TheVariants.{Erase, Read, Trim, Write};
 ghost use Rattle.mmc_direct.specs.declared.attempts.TheConstants.{ATTEMPTS};
 
@@ -35,7 +35,8 @@ pub fn read<B: Bus, D: BlocksMut>(
     ensures count { length (D.blocks blocks.new) ≡ length (D.blocks blocks.old) }
     ensures lent { IsRewritten D.blocks D.with blocks.old blocks.new }
     ensures bounded { (B.view bus.new).exchanges ≤ (B.view bus.old).exchanges + ATTEMPTS * moving (length (D.blocks blocks.old)) }
-    ensures cause { IfFailed result.answer (λ cause. IsCausedIn cause (B.view bus.new)) }
+    ensures cause { IfLeft result.answer result.stands (λ broken. IsCausedIn ((ATTEMPTS - 1) * moving (length (D.blocks blocks.old))) broken
+        (B.view bus.old) (B.view bus.new)) }
 
     ensures kept { (B.view bus.new).is_kept ≡ true → (B.view bus.old).is_kept ≡ true }
     ensures served { (B.view bus.new).is_kept ≡ true → StandsIn stands (B.view bus.old)
@@ -67,7 +68,8 @@ pub fn write<B: Bus, D: Blocks>(
     ensures answer { AnswersBy result.answer result.stands }
     ensures info { lasting (info_of result.stands) ≡ lasting (info_of stands) }
     ensures bounded { (B.view bus.new).exchanges ≤ (B.view bus.old).exchanges + ATTEMPTS * moving (length (D.blocks blocks.now)) }
-    ensures cause { IfFailed result.answer (λ cause. IsCausedIn cause (B.view bus.new)) }
+    ensures cause { IfLeft result.answer result.stands (λ broken. IsCausedIn ((ATTEMPTS - 1) * moving (length (D.blocks blocks.now))) broken
+        (B.view bus.old) (B.view bus.new)) }
 
     ensures kept { (B.view bus.new).is_kept ≡ true → (B.view bus.old).is_kept ≡ true }
     ensures served { (B.view bus.new).is_kept ≡ true → StandsIn stands (B.view bus.old)
@@ -109,7 +111,8 @@ fn give_up<B: Bus>(
     ensures answer { AnswersBy result.answer result.stands }
     ensures info { lasting (info_of result.stands) ≡ lasting (info_of stands) }
     ensures bounded { (B.view bus.new).exchanges ≤ (B.view bus.old).exchanges + ATTEMPTS * erasing }
-    ensures cause { IfFailed result.answer (λ cause. IsCausedIn cause (B.view bus.new)) }
+    ensures cause { IfLeft result.answer result.stands (λ broken. IsCausedIn ((ATTEMPTS - 1) * erasing) broken
+        (B.view bus.old) (B.view bus.new)) }
     ensures kept { (B.view bus.new).is_kept ≡ true → (B.view bus.old).is_kept ≡ true }
     ensures served { (B.view bus.new).is_kept ≡ true → StandsIn stands (B.view bus.old)
         → HasChanged (erased_at (info_of stands) part start count) (B.view bus.old) result (B.view bus.new) }
@@ -129,7 +132,8 @@ pub fn erase<B: Bus>(bus: &mut B, stands: Stands, part: Part, start: u64, count:
     ensures answer { AnswersBy result.answer result.stands }
     ensures info { lasting (info_of result.stands) ≡ lasting (info_of stands) }
     ensures bounded { (B.view bus.new).exchanges ≤ (B.view bus.old).exchanges + ATTEMPTS * erasing }
-    ensures cause { IfFailed result.answer (λ cause. IsCausedIn cause (B.view bus.new)) }
+    ensures cause { IfLeft result.answer result.stands (λ broken. IsCausedIn ((ATTEMPTS - 1) * erasing) broken
+        (B.view bus.old) (B.view bus.new)) }
 
     ensures kept { (B.view bus.new).is_kept ≡ true → (B.view bus.old).is_kept ≡ true }
     ensures served { (B.view bus.new).is_kept ≡ true → StandsIn stands (B.view bus.old)
@@ -145,7 +149,8 @@ pub fn trim<B: Bus>(bus: &mut B, stands: Stands, part: Part, start: u64, count: 
     ensures answer { AnswersBy result.answer result.stands }
     ensures info { lasting (info_of result.stands) ≡ lasting (info_of stands) }
     ensures bounded { (B.view bus.new).exchanges ≤ (B.view bus.old).exchanges + ATTEMPTS * erasing }
-    ensures cause { IfFailed result.answer (λ cause. IsCausedIn cause (B.view bus.new)) }
+    ensures cause { IfLeft result.answer result.stands (λ broken. IsCausedIn ((ATTEMPTS - 1) * erasing) broken
+        (B.view bus.old) (B.view bus.new)) }
 
     ensures kept { (B.view bus.new).is_kept ≡ true → (B.view bus.old).is_kept ≡ true }
     ensures served { (B.view bus.new).is_kept ≡ true → StandsIn stands (B.view bus.old)

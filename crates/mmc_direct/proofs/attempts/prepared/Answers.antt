@@ -1,6 +1,7 @@
 use Rattle.std.proofs.Common.{subst, sym}
 use Rattle.std.specs.Prelude.{IsSome}
 use Rattle.mmc_direct.proofs.AttemptLemmas.{selected_prepared}
+use Rattle.mmc_direct.proofs.CauseLemmas.{caused_by_exchange}
 use Rattle.mmc_switch.specs.Info.{sectors_of}
 use Rattle.mmc_direct.proofs.attempts.prepared.Goals as goal
 
@@ -15,3 +16,7 @@ returns-clause-prepared g c kept at =
     selected_prepared c.in_ok-session.session (g.B.Bus.view c.args.bus.now) (g.B.Bus.view c.settled.new.bus)
     c.select.result (g.B.Bus.view c.select.new.bus) was (done.stays kept was.stands) (done.ready kept was.stands)
     (done.loose kept was.stands)
+
+pub returns-clause-cause : goal.returns-clause-cause
+returns-clause-cause g c =
+    caused_by_exchange 0 (g.B.Bus.view c.args.bus.now) c.select.result (g.B.Bus.view c.select.new.bus) c.select.ensures.cause

@@ -1,5 +1,6 @@
 use Rattle.std.proofs.Common.{subst}
 use Rattle.mmc_direct.proofs.AttemptLemmas.{settled_prepared}
+use Rattle.mmc_direct.proofs.CauseLemmas.{caused_by_settle}
 use Rattle.mmc_direct.specs.Stands.{StandsIn}
 use Rattle.mmc_direct.proofs.attempts.settled.Goals as goal
 
@@ -10,3 +11,8 @@ returns-in-Loose-clause-prepared g c kept at =
     let loose = subst (λ s. StandsIn s a) c.in-Loose.is at in
     settled_prepared a c.in-Loose.broken c.settle.result (g.B.Bus.view c.settle.new.bus) (done.stays kept)
     (done.settled kept loose) (done.refused kept loose)
+
+pub returns-in-Loose-clause-cause : goal.returns-in-Loose-clause-cause
+returns-in-Loose-clause-cause g c =
+    caused_by_settle c.in-Loose.broken (g.B.Bus.view c.args.bus.now) c.settle.result (g.B.Bus.view c.settle.new.bus)
+    c.settle.ensures.bounded c.settle.ensures.err

@@ -1,4 +1,5 @@
 use Rattle.mmc_direct.proofs.AttemptLemmas.{made_erase, tried, tried_in_vain}
+use Rattle.mmc_direct.proofs.CauseLemmas.{caused_by_exchange}
 use Rattle.mmc_direct.proofs.ServeLemmas.{can_erase, can_write, erases_nothing_else, room_holds}
 use Rattle.mmc_direct.specs.Changes.{erased_at}
 use Rattle.mmc_direct.specs.Refusal.{action_of}
@@ -43,3 +44,7 @@ returns-clause-tried g c kept at =
     c.erase_run.result new was
     (made_erase session info c.args.part c.args.start c.args.count b c.erase_run.result new
     c.in_ok-session.ensures.selected c.in_ok-session.ensures.info (c.erase_run.ensures.run kept was.stands))
+
+pub returns-clause-cause : goal.returns-clause-cause
+returns-clause-cause g c =
+    caused_by_exchange 0 (g.B.Bus.view c.args.bus.now) c.erase_run.result (g.B.Bus.view c.erase_run.new.bus) c.erase_run.ensures.cause

@@ -1,6 +1,7 @@
 use Rattle.std.proofs.Common.{[], length}
 use Rattle.mmc_bus.specs.Lending.IsRewritten.{nothing}
 use Rattle.mmc_direct.proofs.AttemptLemmas.{made_read, tried, tried_in_vain, was_read}
+use Rattle.mmc_direct.proofs.CauseLemmas.{caused_by_exchange}
 use Rattle.mmc_direct.proofs.ServeLemmas.{room_holds}
 use Rattle.mmc_direct.specs.Changes.{written_at}
 use Rattle.mmc_direct.specs.Stands.{info_of}
@@ -38,3 +39,7 @@ returns-clause-read g c kept at =
     was_read c.in_ok-session.session c.args.part c.args.start (g.D.Blocks.blocks c.read_run.new.blocks)
     (g.B.Bus.view c.prepared.new.bus) c.read_run.result (g.B.Bus.view c.read_run.new.bus)
     c.in_ok-session.ensures.selected (c.read_run.ensures.run kept was.stands)
+
+pub returns-clause-cause : goal.returns-clause-cause
+returns-clause-cause g c =
+    caused_by_exchange 0 (g.B.Bus.view c.args.bus.now) c.read_run.result (g.B.Bus.view c.read_run.new.bus) c.read_run.ensures.cause

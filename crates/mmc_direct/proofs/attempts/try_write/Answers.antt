@@ -1,5 +1,6 @@
 use Rattle.std.proofs.Common.{length, refl}
 use Rattle.mmc_direct.proofs.AttemptLemmas.{made_write, tried, tried_in_vain}
+use Rattle.mmc_direct.proofs.CauseLemmas.{caused_by_exchange}
 use Rattle.mmc_direct.proofs.ServeLemmas.{can_write, room_holds}
 use Rattle.mmc_direct.specs.Changes.{written_at}
 use Rattle.mmc_direct.specs.Stands.{info_of}
@@ -33,3 +34,7 @@ returns-clause-tried g c kept at =
     tried (written_at c.args.part c.args.start blocks) session (g.B.Bus.view c.args.bus.now) b c.write_run.result new was
     (made_write session c.args.part c.args.start blocks b c.write_run.result new c.in_ok-session.ensures.selected
     (c.write_run.ensures.run kept was.stands))
+
+pub returns-clause-cause : goal.returns-clause-cause
+returns-clause-cause g c =
+    caused_by_exchange 0 (g.B.Bus.view c.args.bus.now) c.write_run.result (g.B.Bus.view c.write_run.new.bus) c.write_run.ensures.cause

@@ -1,5 +1,10 @@
+use Rattle.std.proofs.Common.{◌*◌, ◌-◌, length}
 use Rattle.mmc_bus.specs.Lending.IsRewritten.{nothing}
+use Rattle.mmc_direct.proofs.CauseLemmas.{left_by}
 use Rattle.mmc_direct.proofs.RequestLemmas.{has_read}
+use Rattle.mmc_direct.specs.Attempts.{moving}
+use Rattle.mmc_direct.specs.Stands.{IsCausedIn}
+use Rattle.mmc_direct.specs.declared.attempts.TheConstants.{ATTEMPTS}
 use Rattle.mmc_direct.proofs.requests.read.Goals as goal
 
 pub returns-in-Some-clause-lent : goal.returns-in-Some-clause-lent
@@ -11,3 +16,9 @@ returns-in-None-clause-served g c kept at =
     has_read c.args.part c.args.start (g.D.Blocks.blocks c.keep_reading.new.blocks) (g.B.Bus.view c.args.bus.now)
     c.of.result c.keep_reading.result (g.B.Bus.view c.keep_reading.new.bus) c.of.ensures.stands c.of.ensures.answer
     (done.tries.tried kept at) (done.read kept at)
+
+pub returns-in-None-clause-cause : goal.returns-in-None-clause-cause
+returns-in-None-clause-cause g c =
+    left_by (λ broken. IsCausedIn ((ATTEMPTS - 1) * moving (length (g.D.Blocks.blocks c.args.blocks.now))) broken (g.B.Bus.view c.args.bus.now)
+    (g.B.Bus.view c.keep_reading.new.bus)) c.of.result c.keep_reading.result c.of.ensures.stands c.of.ensures.answer
+    c.keep_reading.ensures.tries.cause

@@ -82,3 +82,8 @@ returns-clause-tries g c =
     (written_at c.args.part c.args.start []) c.args.stands (Err c.loop-failed.broken) (g.B.Bus.view c.args.bus.now)
     (g.B.Bus.view c.loop-failed.bus) c.loop-failed-test.false (c.loop-failed.auto._failed-end (omega arith))
     c.loop-failed.invariant.0
+
+pub returns-in-Ok-try_read-clause-read : goal.returns-in-Ok-try_read-clause-read
+returns-in-Ok-try_read-clause-read g c kept at =
+    let e = c.in-Ok-try_read.ensures in
+    e.read kept (c.loop-failed.invariant.0.tried (e.kept kept) at).stands
