@@ -1,5 +1,6 @@
 -- What a board shows of its controller, and how a byte is had by its word (SD Host Controller Simplified Specification 3.00, section 2.1).
-use Rattle.std.specs.Prelude.{◌%◌, ◌*◌, ◌+◌, ◌-◌, ◌/◌, ◌==◌, ◌^◌, ◌≡◌, ◌∷◌, List, None, Option, Some, bit_or, if◌then◌else◌, ℕ}
+use Rattle.std.specs.Int.{from_le_bytes, to_le_bytes, w32}
+use Rattle.std.specs.Prelude.{◌%◌, ◌-◌, ◌==◌, ◌≡◌, ◌∷◌, List, None, Option, Some, bit_or, if◌then◌else◌, slice_index_or, slice_set, ℕ}
 use Rattle.sdhci_board.specs.Accesses.Access.{WordRead, WordWritten}
 use Rattle.sdhci_board.specs.Accesses.{Access}
 use Rattle.sdhci_board.specs.declared.board.Slot.{Slot}
@@ -25,15 +26,12 @@ shown slot known offset value =
 abbrev pub word_at : ℕ → ℕ
 word_at offset = offset - offset % 4
 
-abbrev pub scale : ℕ → ℕ
-scale offset = 2 ^ (8 * (offset % 4))
-
 abbrev pub byte_in : ℕ → ℕ → ℕ
-byte_in offset word = word / scale offset % 256
+byte_in offset word = slice_index_or (to_le_bytes w32 word) (offset % 4) 0
 
 -- the word with this byte, and its others as they were
 abbrev pub with_byte : ℕ → ℕ → ℕ → ℕ
-with_byte offset word value = word - byte_in offset word * scale offset + value * scale offset
+with_byte offset word value = from_le_bytes w32 (slice_set (to_le_bytes w32 word) (offset % 4) value)
 
 -- its word is read, and this is shown of it
 abbrev pub ReadsWord : Slot → Option ℕ → ℕ → ℕ → List Access → List Access → Type 0

@@ -1,9 +1,9 @@
-ghost use Rattle.std.specs.Prelude.{◌%◌, ◌-◌, ◌<◌, ◌≡◌, ◌∷◌, ◌^◌, ◌*◌};
+ghost use Rattle.std.specs.Prelude.{◌%◌, ◌≡◌, ◌∷◌};
 ghost use Rattle.mmc_sdhci.specs.Beside.{untold};
 ghost use Rattle.mmc_sdhci.specs.Driver.{unkept_controller};
 ghost use Rattle.sdhci_board.specs.Accesses.Access.{Waited, WordWritten};
 ghost use Rattle.sdhci_board.specs.Accesses.{Tells};
-ghost use Rattle.sdhci_board.specs.Boards.{ReadsByte, ReadsWord, WritesByte, byte_in, scale, shown, with_byte, word_at};
+ghost use Rattle.sdhci_board.specs.Boards.{ReadsByte, ReadsWord, WritesByte, byte_in, shown, with_byte, word_at};
 
 use crate::words::Words;
 use mmc_sdhci::{CAPABILITIES, PRESENT, Registers};
@@ -39,31 +39,20 @@ fn word_at(offset: u8) -> u8
     offset - offset % 4
 }
 
-// How much a byte counts in its word.
-fn scale(offset: u8) -> u32
-    ensures { result ≡ scale offset }
-{
-    match offset % 4 {
-        0 => 1,
-        1 => 0x100,
-        2 => 0x1_0000,
-        _ => 0x100_0000,
-    }
-}
-
 // A byte of its word.
 fn byte_in(offset: u8, word: u32) -> u8
     ensures { result ≡ byte_in offset word }
 {
-    (word / scale(offset) % 256) as u8
+    word.to_le_bytes()[usize::from(offset % 4)]
 }
 
 // The word with this byte.
 fn with_byte(offset: u8, word: u32, value: u8) -> u32
     ensures { result ≡ with_byte offset word value }
 {
-    let scale = scale(offset);
-    word - word / scale % 256 * scale + u32::from(value) * scale
+    let mut bytes = word.to_le_bytes();
+    bytes[usize::from(offset % 4)] = value;
+    u32::from_le_bytes(bytes)
 }
 
 impl<W: Words> Board<W> {
