@@ -36,7 +36,7 @@ impl Run {
 }
 
 /// What was heard, and the words of Response that show it.
-#[derive(Clone, Copy, Debug, PartialEq, Eq)]
+#[derive(Clone, Copy)]
 pub struct Told {
     pub response: Response,
     pub heard: Heard,

@@ -216,16 +216,18 @@ fn fail_each(alloc: Global, which: Which, most: Lines) -> Result<Lines, Fail> {
 fn silence_each(alloc: Global, which: Which, most: Lines) -> Result<(), Fail> {
     let whole = serve(alloc, spec_of(which), most, no_trouble())?;
     for silence in [Silence::Before, Silence::After, Silence::Unsent] {
-        let mut lost = 0;
+        let mut lost: u64 = 0;
         for exchange in 0..whole.noted {
             let slow = silent_at(exchange, 5, silence);
             if serve(alloc, spec_of(which), most, slow)?.lost != 0 {
                 return Err("a slow controller was given up".into());
             }
             let silent = silent_at(exchange, u64::MAX, silence);
-            lost += serve(alloc, spec_of(which), most, silent)?.lost.min(1);
+            if serve(alloc, spec_of(which), most, silent)?.lost > 0 {
+                lost = lost.saturating_add(1);
+            }
         }
-        if 2 * lost < whole.noted {
+        if lost < whole.noted / 2 {
             return Err("silence was not heard".into());
         }
     }

@@ -8,5 +8,5 @@ invariant-loop-look g l =
     record {
       stays : Stays (g.R.Registers.view l.initial.registers) (g.R.Registers.view l.registers);
       waited : WhereKept (g.R.Registers.view l.registers)
-          ((g.R.Registers.beside l.initial.registers).waited + 10 * l.look ≤ (g.R.Registers.beside l.registers).waited);
+          ((g.R.Registers.beside l.initial.registers).waited + 10 * l._look ≤ (g.R.Registers.beside l.registers).waited);
     }
