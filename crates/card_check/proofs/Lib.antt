@@ -1,1 +1,4 @@
+pub mod CheckLemmas
 pub mod FindingLemmas
+pub mod PrintLemmas
+pub mod WrongLineLemmas

@@ -1,5 +1,5 @@
 -- What is said of the lines of a card file that are wrong.
-use Rattle.std.specs.Prelude.{ℕ, ◌+◌, ◌&&◌, Bool, List, [], ◌∷◌, ◌++◌, Option, None, Some, codes, if◌then◌else◌, length, min, nat_le}
+use Rattle.std.specs.Prelude.{ℕ, ◌&&◌, List, [], ◌∷◌, ◌++◌, codes, if◌then◌else◌, length, min, nat_le}
 use Rattle.std.specs.Prelude.{drop, nat_lt, take}
 use Rattle.std.specs.Fmt.{decimal}
 use Rattle.text_out.specs.Hex.{hex_text}

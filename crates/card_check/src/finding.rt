@@ -1,7 +1,7 @@
 // The lines that say what is wrong.
 ghost use Rattle.std.specs.Prelude.{IfOk, OnOk, codes, ◌++◌, ◌≡◌};
-ghost use Rattle.std.specs.Io.KnownBytes.{Appends};
 ghost use Rattle.card_check.specs.Findings.{byte_text, cause_words, end_words, found_text, place_text, quoted_text, wrong_line};
+ghost use Rattle.text_out.specs.Writing.{Writes};
 
 use crate::cause::Cause;
 use crate::fault::CheckFault;
@@ -137,7 +137,7 @@ pub(crate) fn put_wrong_line<W: Write>(
     found: &[u8],
     words: &[u8],
 ) -> Result<(), CheckFault>
-    ensures { OnOk result (Appends (W.contents out.old) (W.contents out.new) (wrong_line file.now number found.now words.now)) }
+    ensures { Writes (W.contents out.old) (W.contents out.new) result (wrong_line file.now number found.now words.now) }
 {
     let line = wrong_line(alloc, file, number, found, words)?;
     put(out, line.as_slice())?;
@@ -153,8 +153,8 @@ pub fn put_finding<W: Write>(
     out: &mut W,
     finding: &Finding<'_>,
 ) -> Result<(), CheckFault>
-    ensures { OnOk result (Appends (W.contents out.old) (W.contents out.new)
-        (wrong_line (codes "card") finding.now.line finding.now.found.now (cause_words finding.now.cause))) }
+    ensures { Writes (W.contents out.old) (W.contents out.new) result
+        (wrong_line (codes "card") finding.now.line finding.now.found.now (cause_words finding.now.cause)) }
 {
     let words = cause_words(finding.cause);
     put_wrong_line(alloc, out, b"card", finding.line, finding.found, words)

@@ -1,7 +1,9 @@
 // Whatever is wrong with a script.
 ghost use Rattle.std.specs.Prelude.{IfOk, IsSome, false, true, ℕ, ◌≡◌};
-ghost use Rattle.card_text.specs.Script.{IsFirstBadLine, events_in, lines};
+ghost use Rattle.card_text.specs.Script.{IsFirstBadLine, events_in, line_of, lines};
+ghost use Rattle.text_out.specs.Writing.{Writes};
 ghost use Rattle.card_check.specs.Scripts.{event_words};
+ghost use Rattle.card_check.specs.WrongLines.{Prints, bad_text, bad_texts};
 
 use crate::cause::ends_with_return;
 use crate::fault::CheckFault;
@@ -24,17 +26,35 @@ fn event_words(line: &[u8]) -> &'static [u8]
     }
 }
 
+// A line for the line of this number, where it isn't of the grammar.
+fn put_if_bad<W: Write>(
+    alloc: Global,
+    out: &mut W,
+    number: u64,
+    line: &[u8],
+) -> Result<(), CheckFault>
+    ensures { Writes (W.contents out.old) (W.contents out.new) result (bad_text number line.now (line_of line.now)) }
+{
+    match script_line(alloc, line)? {
+        Line::Bad => {
+            let words = event_words(line);
+            put_wrong_line(alloc, out, b"script", number, line, words)
+        }
+        Line::Skipped => Ok(()),
+        Line::Says(_) => Ok(()),
+    }
+}
+
 // A line for each line that is wrong.
-fn put_findings<W: Write>(alloc: Global, text: &[u8], out: &mut W) -> Result<(), CheckFault> {
+fn put_findings<W: Write>(alloc: Global, text: &[u8], out: &mut W) -> Result<(), CheckFault>
+    ensures { Writes (W.contents out.old) (W.contents out.new) result (bad_texts 1 (lines text.now)) }
+{
     let mut rest = Some(text);
     let mut number = 0u64;
     while let Some(text) = rest {
         let (first, others) = cut(text, b'\n');
-        number = number.saturating_add(1);
-        if let Line::Bad = script_line(alloc, first)? {
-            let words = event_words(first);
-            put_wrong_line(alloc, out, b"script", number, first, words)?;
-        }
+        number += 1;
+        put_if_bad(alloc, out, number, first)?;
         rest = others;
     }
     Ok(())
@@ -48,6 +68,7 @@ fn put_findings<W: Write>(alloc: Global, text: &[u8], out: &mut W) -> Result<(),
 pub fn check_script<W: Write>(alloc: Global, text: &[u8], out: &mut W) -> Result<bool, CheckFault>
     ensures good { IfOk result (λ good. good ≡ true → IsSome (events_in (lines text.now))) }
     ensures bad { IfOk result (λ good. good ≡ false → (n : ℕ) × IsFirstBadLine (lines text.now) n) }
+    ensures said { Prints (W.contents out.old) (W.contents out.new) result (bad_texts 1 (lines text.now)) }
 {
     put_findings(alloc, text, out)?;
     match read_script(alloc, text) {

@@ -1,5 +1,5 @@
 -- The bit at a place, and those after it.
-use Rattle.std.proofs.Common.{◌≡◌, ◌<◌, ◌+◌, ℕ, List, ◌∷◌, ◌++◌, length, drop, get_or, sym, ap, ◌∙◌, drop-cons, add-one}
+use Rattle.std.proofs.Common.{◌≡◌, ◌<◌, ◌+◌, ℕ, List, ◌++◌, length, drop, get_or, sym, ap, ◌∙◌, drop-cons, add-one}
 use Rattle.exchange_words.specs.Statuses.{bit_words, errors_words}
 
 pub errors_at : (errors : ℕ) (bits : List ℕ) (i : ℕ) → i < length bits → errors_words errors (drop i bits)

@@ -1,5 +1,5 @@
 -- Exchanges in words.
-use Rattle.std.specs.Prelude.{ℕ, ◌==◌, Bool, false, true, List, [], ◌++◌, codes, Option, None, Some, Result, Ok, Err}
+use Rattle.std.specs.Prelude.{ℕ, ◌==◌, Bool, false, true, List, ◌++◌, codes, Option, None, Some, Result, Ok, Err}
 use Rattle.mmc_frame.specs.Field.{field}
 use Rattle.mmc_frame.specs.Frame.{command_in, response_in}
 use Rattle.mmc_frame.specs.declared.commands.TheConstants as Index

@@ -1,8 +1,9 @@
 -- A frame of 48 bits, field by field (SD Physical Layer 6.00, sections 4.7.2 and 4.9; JESD84-B51, sections 6.10.1 and 6.12).
-use Rattle.std.specs.Prelude.{ℕ, ◌/◌, ◌==◌, List, [], ◌∷◌, ◌++◌, codes, false, if◌then◌else◌, slice_index, slice_range}
+use Rattle.std.specs.Prelude.{ℕ, ◌/◌, ◌%◌, ◌==◌, List, [], ◌∷◌, ◌++◌, codes, false, if◌then◌else◌, replicate, slice_index, slice_range}
 use Rattle.std.specs.Fmt.{decimal}
 use Rattle.text_out.specs.Hex.{hex_text}
 use Rattle.mmc_card.specs.Rows.{command_of}
+use Rattle.mmc_frame.specs.Check.{bits_of, remainder}
 use Rattle.mmc_frame.specs.Field.{field}
 use Rattle.std.specs.Int.{from_be_bytes, w32}
 use Rattle.mmc_frame.specs.declared.kind.Kind.{Kind}
@@ -52,3 +53,22 @@ fields_text kind frame =
     head_text (slice_index frame 0)
     ++ tail_text kind (slice_index frame 0) (slice_range frame 1 5) (from_be_bytes w32 (slice_range frame 1 5))
     (slice_index frame 5)
+
+-- the first five bytes, which the check covers, with a start bit of 0
+abbrev pub covered : List ℕ → List ℕ
+covered frame =
+    (slice_index frame 0 % 128) ∷ slice_index frame 1 ∷ slice_index frame 2 ∷ slice_index frame 3 ∷ slice_index frame 4 ∷ []
+
+-- the check that fits them: the remainder of their bits with seven zeros behind them
+unfoldable pub right_check : List ℕ → ℕ
+right_check frame = remainder (bits_of (covered frame) ++ replicate 7 false)
+
+-- whether a check is the right one
+abbrev pub check_text : ℕ → ℕ → List ℕ
+check_text check right =
+    if check == right then codes "check: it fits\n"
+    else codes "check: it doesn't fit; 0x" ++ (hex_text (right ∷ []) ++ codes " would\n")
+
+-- all of a frame: its fields, and whether the check in the last byte fits
+abbrev pub frame_text : Kind → List ℕ → List ℕ
+frame_text kind frame = fields_text kind frame ++ check_text (slice_index frame 5 / 2) (right_check frame)

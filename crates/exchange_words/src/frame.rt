@@ -1,12 +1,13 @@
 // A frame of 48 bits, field by field.
 ghost use Rattle.std.specs.Prelude.{OnOk, ◌++◌, ◌<◌, ◌≡◌};
-ghost use Rattle.exchange_words.specs.Frames.{argument_text, back_text, direction_words, fields_text, head_text, index_text, meaning_words, start_text, tail_text, transmission_text};
+ghost use Rattle.exchange_words.specs.Frames.{argument_text, back_text, check_text, direction_words, fields_text, frame_text};
+ghost use Rattle.exchange_words.specs.Frames.{head_text, index_text, meaning_words, right_check, start_text, tail_text, transmission_text};
 
 use crate::command::put_command;
 use crate::named::named;
 use crate::status::put_status;
 use crate::words::say;
-use mmc_frame::{Kind, encode, encode_response};
+use mmc_frame::{Kind, with_check};
 use std::alloc::AllocError;
 use text_out::Piece;
 
@@ -146,27 +147,23 @@ fn put_fields(out: &mut Vec<u8>, kind: Kind, frame: &[u8; 6]) -> Result<(), Allo
     put_tail(out, kind, frame[0], &frame[1..5], argument, frame[5])
 }
 
-// The check that fits a frame's first five bytes.
-fn right_check(frame: &[u8; 6]) -> u8 {
-    let index = frame[0] % 64;
-    let argument = u32::from_be_bytes([frame[1], frame[2], frame[3], frame[4]]);
-    let sound = if frame[0] / 64 % 2 == 1 {
-        encode(index, argument)
-    } else {
-        encode_response(index, argument)
-    };
-    sound[5] / 2
+// The check that fits a frame's first five bytes with a start bit of 0. Zeros before them change no remainder.
+fn right_check(frame: &[u8; 6]) -> u8
+    ensures { result ≡ right_check frame.now }
+{
+    let first = frame[0] % 128;
+    let bytes = [
+        0, 0, 0, 0, 0, 0, 0, 0, 0, 0, first, frame[1], frame[2], frame[3], frame[4],
+    ];
+    let register = with_check(&bytes);
+    register[15] / 2
 }
 
-/// Writes the fields of a frame of 48 bits, a line each, with its command, or with the card status that it has as an R1; and behind
-/// them whether its check fits (SD Physical Layer 6.00, sections 4.7.2 and 4.9; JESD84-B51, sections 6.10.1 and 6.12).
-///
-/// # Errors
-/// `AllocError` where memory is refused.
-pub fn put_frame(out: &mut Vec<u8>, kind: Kind, frame: &[u8; 6]) -> Result<(), AllocError> {
-    put_fields(out, kind, frame)?;
-    let right = right_check(frame);
-    if frame[5] / 2 == right {
+// Whether a check is the right one.
+fn put_check(out: &mut Vec<u8>, check: u8, right: u8) -> Result<(), AllocError>
+    ensures { OnOk result (out.new.items ≡ out.old.items ++ check_text check right) }
+{
+    if check == right {
         return say(out, &[Piece::Text(b"check: it fits\n")]);
     }
     let right = [right];
@@ -178,4 +175,16 @@ pub fn put_frame(out: &mut Vec<u8>, kind: Kind, frame: &[u8; 6]) -> Result<(), A
             Piece::Text(b" would\n"),
         ],
     )
+}
+
+/// Writes the fields of a frame of 48 bits, a line each, with its command, or with the card status that it has as an R1; and behind
+/// them whether its check fits (SD Physical Layer 6.00, sections 4.7.2 and 4.9; JESD84-B51, sections 6.10.1 and 6.12).
+///
+/// # Errors
+/// `AllocError` where memory is refused.
+pub fn put_frame(out: &mut Vec<u8>, kind: Kind, frame: &[u8; 6]) -> Result<(), AllocError>
+    ensures { OnOk result (out.new.items ≡ out.old.items ++ frame_text kind frame.now) }
+{
+    put_fields(out, kind, frame)?;
+    put_check(out, frame[5] / 2, right_check(frame))
 }

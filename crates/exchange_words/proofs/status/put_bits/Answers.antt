@@ -1,6 +1,6 @@
-use Rattle.std.proofs.Common.{◌<◌, ◌+◌, ◌++◌, length, drop, get_or, arith, sym, ap, ◌∙◌, append_assoc}
+use Rattle.std.proofs.Common.{◌<◌, ◌+◌, ◌++◌, length, drop, arith, sym, ap, ◌∙◌, append_assoc}
 use Rattle.std.proofs.lemmas.List.Elements.{All-get_or}
-use Rattle.exchange_words.specs.Statuses.{bit_words, errors_words}
+use Rattle.exchange_words.specs.Statuses.{errors_words}
 use Rattle.exchange_words.proofs.StatusLemmas.{errors_at}
 use Rattle.exchange_words.proofs.status.put_bits.Goals as goal
 
