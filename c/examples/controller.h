@@ -16,7 +16,7 @@ struct controller {
     uint8_t buffer[512];
     size_t at, length; /* in the buffer: what was moved of the block, and its length; 0 no block */
     int direction;     /* enum kelifandro_data */
-    uint32_t left;     /* blocks; 0xffffffff until CMD12 */
+    uint32_t left;     /* blocks */
     int is_waiting;    /* a block of a write is in the buffer */
     /* An error that isn't shown yet, and after how many looks at the status it is. A bad block is in the buffer before its error shows. */
     uint32_t error;
