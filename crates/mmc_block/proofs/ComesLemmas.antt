@@ -12,6 +12,7 @@ use Rattle.mmc_bus.proofs.WorkLemmas.{stays_same}
 use Rattle.mmc_queue.specs.Group.{IsFair}
 use Rattle.mmc_queue.specs.Requests.{room_of}
 use Rattle.mmc_queue.specs.declared.entry.Entry.{Entry}
+use Rattle.mmc_recovery.specs.declared.healed.Healed.{Healed}
 use Rattle.mmc_queue.specs.declared.request.Request.{Request}
 use Rattle.mmc_queue.specs.declared.request.Request.TheVariants.{Erase, Read, Trim, Write}
 use Rattle.mmc_switch.specs.Place.{IsReady}
@@ -193,9 +194,9 @@ serve_comes info fell k next m in_profile own c (Failed broken) attempt service 
 
 -- Starts.
 
-abbrev pub view_of : {B : Type 0} → B → Info → Service → List Entry → ℕ → DeviceView B
-view_of bus info service entries next =
-    record { bus = bus; info = info; service = service; waits = waits_of entries; next = next }
+abbrev pub view_of : {B : Type 0} → B → Info → Service → List Entry → ℕ → Healed → DeviceView B
+view_of bus info service entries next healed =
+    record { bus = bus; info = info; service = service; waits = waits_of entries; next = next; healed = healed }
 
 -- the same with another machine
 abbrev pub counted_with : Counted → Machine → Counted
@@ -212,10 +213,10 @@ some_in_service [] os some e = omega (arith, some)
 some_in_service (m ∷ ms) os some e = cc
 
 pub begins : {B : Type 0} (view : B → BusView) (bus : B) (info : Info) (service new : Service) (old left : List Entry)
-    (next : ℕ) (c : Counted) → DeviceOk info old service next → HasStarted old service left new
-    → AgreesCounted view (view_of bus info service old next) c
-    → Began view c (view_of bus info new left next)
-begins view bus info (Idle link) new old left next c ok (inl s) a =
+    (next : ℕ) (healed : Healed) (c : Counted) → DeviceOk info old service next → HasStarted old service left new
+    → AgreesCounted view (view_of bus info service old next healed) c
+    → Began view c (view_of bus info new left next healed)
+begins view bus info (Idle link) new old left next healed c ok (inl s) a =
     rw (s.1, s.2) (record {
       started = c.machine;
       start = inr (refl, λ idle. a.agrees.waits ∙ ap waits_of s.0);
@@ -233,7 +234,7 @@ begins view bus info (Idle link) new old left next c ok (inl s) a =
         own = λ p. tt;
       };
     })
-begins view bus info (Idle link) new old left next c ok (inr s) a =
+begins view bus info (Idle link) new old left next healed c ok (inr s) a =
     let attempt : Attempt = s.0 in
     let members : List Entry = attempt.group.members.items in
     let fair : IsFair old members attempt.group.extent left = s.3 in
@@ -277,7 +278,7 @@ begins view bus info (Idle link) new old left next c ok (inr s) a =
         own = λ p. rw s.2.failed (counted_first ms c.own_faults);
       };
     })
-begins view bus info (Serving stage attempt) new old left next c ok s a =
+begins view bus info (Serving stage attempt) new old left next healed c ok s a =
     let joined = ok.serves.2.joined in
     rw (s.0, s.1) (record {
       started = c.machine;
@@ -288,7 +289,7 @@ begins view bus info (Serving stage attempt) new old left next c ok s a =
       );
       agrees = a;
     })
-begins view bus info Taken new old left next c ok s a = absurd s
+begins view bus info Taken new old left next healed c ok s a = absurd s
 
 -- Turns.
 
@@ -297,11 +298,11 @@ TurnComes view old cs new = Comes view old (λ (c n : Counted). CountedSteps old
 
 -- nothing is in service and nothing waits
 pub turn_idle : {B : Type 0} (view : B → BusView) (bus : B) (info : Info) (service : Service) (link : Link)
-    (old left : List Entry) (next : ℕ) (cs : List Completion)
+    (old left : List Entry) (next : ℕ) (healed : Healed) (cs : List Completion)
     → DeviceOk info old service next → HasStarted old service left (Idle link) → cs ≡ []
-    → TurnComes view (view_of bus info service old next) cs (view_of bus info (Idle link) left next)
-turn_idle view bus info service link old left next cs ok s none c a =
-    let b = begins view bus info service (Idle link) old left next c ok s a in
+    → TurnComes view (view_of bus info service old next healed) cs (view_of bus info (Idle link) left next healed)
+turn_idle view bus info service link old left next healed cs ok s none c a =
+    let b = begins view bus info service (Idle link) old left next healed c ok s a in
     rw none (
       stays_same (view bus) (view bus).lines,
       (
@@ -330,8 +331,8 @@ in_profile_still old new stays profile = subst (λ (made : Made). InProfile made
 
 -- a settle, a select or an exchange
 pub turn_serves : {B : Type 0} (view : B → BusView) (bus bus' : B) (info : Info) (service new : Service)
-    (old left : List Entry) (next : ℕ) (stage : Stage) (attempt after : Attempt) (change : Change) (o : Progress Stage)
-    (cs : List Completion)
+    (old left : List Entry) (next : ℕ) (healed counted : Healed) (stage : Stage) (attempt after : Attempt) (change : Change)
+    (o : Progress Stage) (cs : List Completion)
     → DeviceOk info old service next → HasStarted old service left (Serving stage attempt) → AttemptOk info after
     → AreServed (waits_of attempt.group.members.items ++ waits_of attempt.others.items) (waits_of left) next
     → waits_of after.group.members.items ≡ waits_of attempt.group.members.items → after.others ≡ attempt.others
@@ -340,12 +341,12 @@ pub turn_serves : {B : Type 0} (view : B → BusView) (bus bus' : B) (info : Inf
     → ((k : ℕ) → IsAt stage attempt.group k (view bus)
     → Did change after.group (k + ((view bus').faults - (view bus).faults)) (view bus) o (view bus'))
     → Concludes o after new cs
-    → TurnComes view (view_of bus info service old next) cs (view_of bus' info new left next)
-turn_serves view bus bus' info service new old left next stage attempt after change o cs ok s after_ok served same
+    → TurnComes view (view_of bus info service old next healed) cs (view_of bus' info new left next counted)
+turn_serves view bus bus' info service new old left next healed counted stage attempt after change o cs ok s after_ok served same
     others failed is_change decides did concludes c a =
     let fell : ℕ = (view bus').faults - (view bus).faults in
-    let b = begins view bus info service (Serving stage attempt) old left next c ok s a in
-    let x : AgreesCounted view (view_of bus info (Serving stage attempt) left next) (counted_with c b.started) =
+    let b = begins view bus info service (Serving stage attempt) old left next healed c ok s a in
+    let x : AgreesCounted view (view_of bus info (Serving stage attempt) left next healed) (counted_with c b.started) =
     b.agrees in
     let n : Machine = b.started in
     let waits : n.waits ≡ waits_of left = x.agrees.waits in

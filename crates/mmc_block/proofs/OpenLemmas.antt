@@ -17,6 +17,7 @@ use Rattle.mmc_switch.specs.Place.{IsReady}
 use Rattle.mmc_switch.specs.declared.session.Session.{Session}
 use Rattle.mmc_switch.specs.declared.info.Info.{Info}
 use Rattle.mmc_card.specs.Card.{holds}
+use Rattle.mmc_recovery.specs.declared.healed.Healed.{Healed}
 use Rattle.mmc_block.specs.Device.{AgreesCounted, IsOpened, opened}
 use Rattle.mmc_block.specs.Machine.{Machine}
 use Rattle.mmc_block.specs.Execution.{Counted}
@@ -113,10 +114,17 @@ stays_as_is a = (
 )
 
 -- A device of which nothing waits agrees with a machine of its own.
-pub opens_agreed : {B : Type 0} (view : B → BusView) (bus : B) (info : Info) (session : Session) (c : Counted)
-    → IsReady session (view bus) → IsOpened (view bus) c
-    → AgreesCounted view (record { bus = bus; info = info; service = Idle (Up session); waits = []; next = 0 }) c
-opens_agreed view bus info session c ready new =
+pub opens_agreed : {B : Type 0} (view : B → BusView) (bus : B) (info : Info) (session : Session) (healed : Healed)
+    (c : Counted) → IsReady session (view bus) → IsOpened (view bus) c
+    → AgreesCounted view (record {
+      bus = bus;
+      info = info;
+      service = Idle (Up session);
+      waits = [];
+      next = 0;
+      healed = healed;
+    }) c
+opens_agreed view bus info session healed c ready new =
     let is : c.machine ≡ opened (holds (view bus).card) = new.machine in
     record {
       agrees = record {

@@ -186,6 +186,14 @@ IsOutcomeOf group (More stage) = IsStageOf group stage
 IsOutcomeOf group (Done session) = Unit {0}
 IsOutcomeOf group (Failed broken) = Unit {0}
 
+-- what goes on isn't a card that is to be settled: one that something failed with has failed the attempt
+abbrev pub GoesOnUp : Progress Stage → Type 0
+GoesOnUp (More (At (Up session))) = Unit {0}
+GoesOnUp (More (At (Down broken))) = ⊥
+GoesOnUp (More (Running work)) = Unit {0}
+GoesOnUp (Done session) = Unit {0}
+GoesOnUp (Failed broken) = Unit {0}
+
 -- the blocks that a group lends to a run which moves blocks this way
 abbrev pub lent_for : Way → Group → List Sector
 lent_for way.Read group = blocks_of group

@@ -10,7 +10,7 @@ use Rattle.mmc_switch.specs.UnderWay.{faults_then}
 use Rattle.mmc_block.specs.Entries.{AreServable}
 use Rattle.mmc_switch.specs.Place.{IsReady}
 use Rattle.mmc_switch.specs.declared.session.Session.{Session}
-use Rattle.mmc_block.specs.Service.{Did, IsAt, IsOutcomeOf, IsUnderWay, IsWorkOf, change_of_group, info_of_outcome}
+use Rattle.mmc_block.specs.Service.{Did, GoesOnUp, IsAt, IsOutcomeOf, IsUnderWay, IsWorkOf, change_of_group, info_of_outcome}
 use Rattle.mmc_block.specs.Service.{info_of_stage, session_of}
 use Rattle.mmc_transfer.specs.declared.pace.Pace.{Pace}
 use Rattle.mmc_block.specs.Work.{IsCausedBy, Lowers, Pays, is_down, most_at, run_left, stage_left}
@@ -35,6 +35,7 @@ pub record Advances (info : Info) (down : Bool) (most left : ℕ) (old : Group) 
   pub joined : IsJoined new.members.items new.extent
   -- what is still to be done is for them, on the same card, and less than before
   pub of : IsOutcomeOf new outcome
+  pub goes_on : GoesOnUp outcome
   pub info_is : info_of_outcome outcome ≡ info
   pub lowers : Lowers left old.extent.part outcome
   -- so many exchanges at most, and where it fails their cause

@@ -8,6 +8,7 @@ use Rattle.mmc_block.specs.Device.{Comes, DeviceView, unanswered_of, work_of}
 use Rattle.mmc_block.specs.Execution.{Counted, CountedSteps}
 use Rattle.mmc_block.specs.Execution.Event.{Turn}
 use Rattle.mmc_block.specs.Execution.Reply.{Answers as Gives}
+use Rattle.mmc_block.specs.Healing.{TurnHeals}
 use Rattle.mmc_block.specs.Service.{in_service_of}
 use Rattle.mmc_transfer.specs.declared.pace.Pace.{Pace}
 use Rattle.mmc_block.specs.Work.{IsCauseAfter, most_exchanges}
@@ -30,3 +31,4 @@ pub record IsTurn {B : Type 0} (view : B → BusView) (pace : Pace) (old : Devic
       ≤ (view old.bus).exchanges + EXCHANGES_OF_A_SETTLE * work_of old
   pub by_stage : (view new.bus).exchanges ≤ (view old.bus).exchanges + most_exchanges pace old.service
   pub cause : IfEachFailed completions (λ (cause : Cause). IsCauseAfter (holds_broken old.service) cause (view new.bus))
+  pub healed : 0 < unanswered_of old → TurnHeals view old completions new

@@ -16,6 +16,7 @@ ghost use Rattle.mmc_block.specs.Entries.{AreServable};
 ghost use Rattle.mmc_block.specs.Service.{Did, IfAt, IfReady, IfRunning, IfServing, IsHere, IsStageOf, IsUnderWay, IsWorkOf};
 ghost use Rattle.mmc_block.specs.Service.{change_of_group, info_of, info_of_link, info_of_stage, lent_for, outcome_of, session_of};
 ghost use Rattle.mmc_block.specs.Service.{work_then};
+ghost use Rattle.mmc_block.specs.Healing.{StepHeals};
 ghost use Rattle.mmc_block.specs.Step.{Advances, HasBegun, Stepped};
 ghost use Rattle.mmc_block.specs.Work.{IsElsewhere, is_on, most_of_run, run_left, stage_left};
 ghost use Rattle.mmc_block.specs.declared.service.Link.{Link};
@@ -33,7 +34,7 @@ use mmc_queue::laws::{
     a_group_lends_the_blocks_of_its_members, a_lent_group_keeps_its_requests,
 };
 use mmc_queue::{Group, Kind};
-use mmc_recovery::settle;
+use mmc_recovery::{Healed, settle_telling};
 use mmc_switch::{Broken, Progress, Session, Standing, select};
 use mmc_transfer::{Pace, Run, Way};
 use std::mem;
@@ -120,16 +121,19 @@ fn change_over<B: Bus>(bus: &mut B, session: Session, group: &Group) -> Progress
     }
 }
 
-// From a card that something failed with: the settle, for whatever group.
+// From a card that something failed with: the settle, for whatever group. It is counted.
 #[inline(never)]
-fn restore<B: Bus>(bus: &mut B, broken: Broken) -> Progress<Stage>
+fn restore<B: Bus>(bus: &mut B, broken: Broken, healed: &mut Healed) -> Progress<Stage>
     ensures advances { (group : Group) → IsJoined group.members.items group.extent
         → Advances (info_of broken.session) true EXCHANGES_OF_A_SETTLE (stage_left (At (Down broken)) group.extent.part) group (B.view bus.old) result group (B.view bus.new) }
     ensures did { (B.view bus.new).is_kept ≡ true → IsLoose broken (B.view bus.old) → (group : Group) (faults : ℕ)
         → Did (change_of_group (info_of broken.session) group) group (faults_then faults (B.view bus.old) (B.view bus.new))
         (B.view bus.old) result (B.view bus.new) }
+    ensures healed { StepHeals (At (Down broken)) (B.view bus.old) healed.old result (B.view bus.new) healed.new }
 {
-    match settle(bus, broken) {
+    let (settled, was_reset) = settle_telling(bus, broken);
+    *healed = healed.settled(was_reset);
+    match settled {
         Ok(session) => Progress::More(Stage::At(Link::Up(session))),
         Err(broken) => Progress::Failed(broken),
     }
@@ -228,38 +232,48 @@ fn set_out<B: Bus>(bus: &mut B, phase: &mut Phase, group: &mut Group, pace: Pace
 }
 
 // From a card that no run can begin with yet.
-fn depart<B: Bus>(bus: &mut B, link: Link, group: &Group) -> Progress<Stage>
+fn depart<B: Bus>(bus: &mut B, link: Link, group: &Group, healed: &mut Healed) -> Progress<Stage>
     requires joined { IsJoined group.now.members.items group.now.extent }
     requires servable { AreServable (info_of_link link) group.now.members.items }
     requires elsewhere { IsElsewhere group.now.extent.part link }
     ensures stepped { (pace : Pace) → Stepped pace (At link) group.now (B.view bus.old) result group.now (B.view bus.new) }
+    ensures healed { StepHeals (At link) (B.view bus.old) healed.old result (B.view bus.new) healed.new }
 {
     match link {
         Link::Up(session) => change_over(bus, session, group),
-        Link::Down(broken) => restore(bus, broken),
+        Link::Down(broken) => restore(bus, broken, healed),
     }
 }
 
 // A settle or a select.
 #[inline(never)]
-fn prepare<B: Bus>(bus: &mut B, phase: &mut Phase, group: &Group)
+fn prepare<B: Bus>(bus: &mut B, phase: &mut Phase, group: &Group, healed: &mut Healed)
     requires joined { IsJoined group.now.members.items group.now.extent }
     requires at { IfAt phase.old (λ link. AreServable (info_of_link link) group.now.members.items × IsElsewhere group.now.extent.part link) }
     ensures held { IsHere phase.new }
     ensures stepped { (pace : Pace) → IfServing phase.old (λ stage. Stepped pace stage group.now (B.view bus.old) (outcome_of stage phase.new) group.now (B.view bus.new)) }
+    ensures healed { IfServing phase.old (λ stage. StepHeals stage (B.view bus.old) healed.old (outcome_of stage phase.new) (B.view bus.new) healed.new) }
 {
     *phase = match mem::replace(phase, Phase::Taken) {
-        Phase::Serving(Stage::At(link)) => left(depart(bus, link, group)),
+        Phase::Serving(Stage::At(link)) => left(depart(bus, link, group, healed)),
         Phase::Idle(_) | Phase::Serving(Stage::Running(_)) | Phase::Taken => unreachable!(),
     };
 }
 
 /// One settle, one select, or the next exchanges of a run, and the phase says what is left: the attempt, or the card where the attempt is over.
-pub fn step<B: Bus>(bus: &mut B, phase: &mut Phase, group: &mut Group, pace: Pace)
+/// A settle is counted.
+pub fn step<B: Bus>(
+    bus: &mut B,
+    phase: &mut Phase,
+    group: &mut Group,
+    pace: Pace,
+    healed: &mut Healed,
+)
     requires joined { IsJoined group.old.members.items group.old.extent }
     requires serving { IfServing phase.old (λ stage. AreServable (info_of_stage stage) group.old.members.items × IsStageOf group.old stage) }
     ensures held { IsHere phase.new }
     ensures stepped { IfServing phase.old (λ stage. Stepped pace stage group.old (B.view bus.old) (outcome_of stage phase.new) group.new (B.view bus.new)) }
+    ensures healed { IfServing phase.old (λ stage. StepHeals stage (B.view bus.old) healed.old (outcome_of stage phase.new) (B.view bus.new) healed.new) }
 {
     match phase {
         Phase::Serving(Stage::Running(_)) => go_on(bus, phase, group, pace),
@@ -267,7 +281,7 @@ pub fn step<B: Bus>(bus: &mut B, phase: &mut Phase, group: &mut Group, pace: Pac
             if can_begin(phase, group.extent.part) {
                 set_out(bus, phase, group, pace);
             } else {
-                prepare(bus, phase, group);
+                prepare(bus, phase, group, healed);
             }
         }
     }

@@ -31,9 +31,10 @@ abbrev pub session_of : Result Session Broken → Option Session
 session_of (Ok session) = Some session
 session_of (Err left) = None
 
--- Whether a card was reset, by the session with which it goes on, if it does: it wasn't only where it goes on as it was, and was no
--- more than restored where it stood.
-pub record TellsReset (broken : Broken) (was : BusView) (session : Option Session) (was_reset : Bool) (now : BusView) : Type 0 where
+-- Whether a card was reset, by the session with which it goes on, if it does: it wasn't only where it goes on as it was, and was
+-- no more than restored where it stood.
+pub record TellsReset (broken : Broken) (was : BusView) (session : Option Session) (was_reset : Bool)
+    (now : BusView) : Type 0 where
   pub needed : broken.must_reset ≡ true → was_reset ≡ true
   pub as_it_was : was_reset ≡ false → session ≡ Some broken.session
   pub few : was_reset ≡ false → now.exchanges ≤ was.exchanges + EXCHANGES_OF_A_RESTORATION

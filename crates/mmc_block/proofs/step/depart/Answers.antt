@@ -1,4 +1,4 @@
-use Rattle.std.proofs.Common.{ap, arith, refl}
+use Rattle.std.proofs.Common.{ap, arith, false, refl}
 use Rattle.mmc_switch.specs.declared.mmc.TheConstants.{EXCHANGES_OF_A_SWITCH}
 use Rattle.mmc_block.specs.Work.{most_ready}
 use Rattle.mmc_block.specs.declared.service.Stage.TheVariants.{At}
@@ -15,6 +15,7 @@ returns-in-Up g c = record {
         up_turned (At c.args.link) c.in-Up.session c.args.group.now c.args.group.now faults (g.B.Bus.view c.args.bus.now)
         (g.B.Bus.view c.change_over.new.bus) c.change_over.result (ap At c.in-Up.is) (λ ready. c.change_over.ensures.did kept ready) at;
   };
+  healed = rw c.in-Up.is (record { was_reset = false; tells = tt; healed = refl });
 }
 
 pub returns-in-Down : goal.returns-in-Down
@@ -27,4 +28,5 @@ returns-in-Down g c = record {
         (g.B.Bus.view c.restore.new.bus) c.restore.result (ap At c.in-Down.is)
         (λ loose. c.restore.ensures.did kept loose c.args.group.now faults) at;
   };
+  healed = rw c.in-Down.is c.restore.ensures.healed;
 }

@@ -1,4 +1,5 @@
 use Rattle.std.proofs.Common.{subst, sym}
+use Rattle.mmc_block.specs.Healing.{StepHeals}
 use Rattle.mmc_block.specs.Step.{Stepped}
 use Rattle.mmc_switch.specs.declared.progress.Progress.{Progress}
 use Rattle.mmc_block.specs.declared.service.Stage.{Stage}
@@ -11,3 +12,10 @@ returns-clause-stepped g c pace =
     rw (← c.replace.ensures.value, c.in-Serving-At.is, c.in-Serving-At.field-0-is)
     (subst (λ (o : Progress Stage). Stepped pace stage c.args.group.now (g.B.Bus.view c.args.bus.now) o c.args.group.now
     (g.B.Bus.view c.depart.new.bus)) (sym (c.left.ensures.left stage)) (c.depart.ensures.stepped pace))
+
+pub returns-clause-healed : goal.returns-clause-healed
+returns-clause-healed g c =
+    let stage : Stage = At c.in-Serving-At.link in
+    rw (← c.replace.ensures.value, c.in-Serving-At.is, c.in-Serving-At.field-0-is)
+    (subst (λ (o : Progress Stage). StepHeals stage (g.B.Bus.view c.args.bus.now) c.args.healed.now o
+    (g.B.Bus.view c.depart.new.bus) c.depart.new.healed) (sym (c.left.ensures.left stage)) c.depart.ensures.healed)

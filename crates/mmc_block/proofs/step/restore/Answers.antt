@@ -8,11 +8,12 @@ returns-in-Ok-clause-advances g c group joined = record {
   extent = refl;
   joined = joined;
   of = tt;
-  info_is = c.in-Ok.ensures.ok.0;
+  goes_on = tt;
+  info_is = (rw c.in-Ok.is at c.settle_telling-settled.ensures.ok).0;
   lowers = search rules;
-  bounded = c.settle.ensures.bounded;
-  paid = (settle_paid c.in-Ok.session c.args.broken group.extent.part (g.B.Bus.view c.args.bus.now) (g.B.Bus.view c.settle.new.bus) c.settle.ensures.bounded).0;
-  kept = c.settle.ensures.kept;
+  bounded = c.settle_telling-settled.ensures.bounded;
+  paid = (settle_paid c.in-Ok.session c.args.broken group.extent.part (g.B.Bus.view c.args.bus.now) (g.B.Bus.view c.settle_telling-settled.new.bus) c.settle_telling-settled.ensures.bounded).0;
+  kept = c.settle_telling-settled.ensures.kept;
   cause = tt;
 }
 
@@ -22,19 +23,36 @@ returns-in-Err-clause-advances g c group joined = record {
   extent = refl;
   joined = joined;
   of = tt;
+  goes_on = tt;
   info_is = search rules;
   lowers = omega arith;
-  bounded = c.settle.ensures.bounded;
-  paid = (settle_paid c.in-Err.broken.session c.in-Err.broken group.extent.part (g.B.Bus.view c.args.bus.now) (g.B.Bus.view c.settle.new.bus) c.settle.ensures.bounded).1;
-  kept = c.settle.ensures.kept;
+  bounded = c.settle_telling-settled.ensures.bounded;
+  paid = (settle_paid c.in-Err.broken.session c.in-Err.broken group.extent.part (g.B.Bus.view c.args.bus.now) (g.B.Bus.view c.settle_telling-settled.new.bus) c.settle_telling-settled.ensures.bounded).1;
+  kept = c.settle_telling-settled.ensures.kept;
   cause = search rules;
 }
 
 pub returns-in-Ok-clause-did : goal.returns-in-Ok-clause-did
 returns-in-Ok-clause-did g c kept loose group faults =
-    up_did _ group _ c.in-Ok.session _ _ (c.in-Ok.ensures.stays kept) (c.in-Ok.ensures.settled kept loose)
+    up_did _ group _ c.in-Ok.session _ _ (c.settle_telling-settled.ensures.stays kept)
+    (rw c.in-Ok.is at (c.settle_telling-settled.ensures.settled kept loose))
 
 pub returns-in-Err-clause-did : goal.returns-in-Err-clause-did
 returns-in-Err-clause-did g c kept loose group faults =
-    down_did _ group _ c.in-Err.broken _ _ (c.in-Err.ensures.stays kept) (c.in-Err.ensures.settled kept loose)
-    (λ made. let fell = c.in-Err.ensures.refused kept loose made refl in omega (arith, fell))
+    down_did _ group _ c.in-Err.broken _ _ (c.settle_telling-settled.ensures.stays kept)
+    (rw c.in-Err.is at (c.settle_telling-settled.ensures.settled kept loose))
+    (λ made. let fell = c.settle_telling-settled.ensures.refused kept loose made (rw c.in-Err.is refl) in omega (arith, fell))
+
+pub returns-in-Ok-clause-healed : goal.returns-in-Ok-clause-healed
+returns-in-Ok-clause-healed g c = record {
+  was_reset = c.settle_telling-settled.result.1;
+  tells = rw c.in-Ok.is at c.settle_telling-settled.ensures.told;
+  healed = c.settled.ensures;
+}
+
+pub returns-in-Err-clause-healed : goal.returns-in-Err-clause-healed
+returns-in-Err-clause-healed g c = record {
+  was_reset = c.settle_telling-settled.result.1;
+  tells = rw c.in-Err.is at c.settle_telling-settled.ensures.told;
+  healed = c.settled.ensures;
+}

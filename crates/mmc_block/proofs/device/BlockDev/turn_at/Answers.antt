@@ -4,6 +4,7 @@ use Rattle.mmc_switch.specs.declared.info.Info.{Info}
 use Rattle.mmc_block.specs.Device.{DeviceOk, work_of}
 use Rattle.mmc_block.specs.Entries.{AreServable, waits_of}
 use Rattle.mmc_block.specs.Groups.{IsChangeOf}
+use Rattle.mmc_block.specs.Healing.{StepHeals}
 use Rattle.mmc_block.specs.Service.{AttemptOk, HasStarted, change_of_group, in_service_of, info_of_stage, outcome_of, service_of}
 use Rattle.mmc_block.specs.Step.{Stepped}
 use Rattle.mmc_switch.specs.declared.progress.Progress.{Progress}
@@ -15,6 +16,7 @@ use Rattle.mmc_block.proofs.AnyLemmas.{counted_answers}
 use Rattle.mmc_block.proofs.AnyLemmas.{left_length, no_work, none_waits, started_most}
 use Rattle.mmc_block.proofs.ComesLemmas.{turn_idle, turn_serves}
 use Rattle.mmc_block.proofs.EntryLemmas.{lent_are_all, lent_tries, lent_waits, servable_parts}
+use Rattle.mmc_block.proofs.HealingLemmas.{idle_heals, turn_heals}
 use Rattle.mmc_block.proofs.ServiceLemmas.{concluded_ok, lent_ok, lent_served, started_ok}
 use Rattle.mmc_block.proofs.WorkLemmas.{turn_work}
 use Rattle.mmc_block.proofs.device.BlockDev.turn_at.Given.{Over}
@@ -70,6 +72,11 @@ leaves g c =
     (concluded_leaves c.self.inside.info (outcome g c) (after g c) (service_of c.conclude.new.phase c.conclude.new.attempt)
     c.conclude.new.answers.items (waits_of c.start.new.queue) (after_ok g c) served.passes_none
     (c.conclude.ensures.concludes c.in-Serving.field-0))
+
+heals : (g : Over) (c : After-conclude g)
+    → StepHeals c.in-Serving.field-0 (g.B.Bus.view c.self.inside.bus) c.self.inside.healed (outcome g c)
+    (g.B.Bus.view c.step.new.bus) c.step.new.healed
+heals g c = rw c.in-Serving.is at c.step.ensures.healed
 
 pub step-requires-clause-serving : goal.step-requires-clause-serving
 step-requires-clause-serving g c =
@@ -134,7 +141,7 @@ returns-in-Idle g c =
     let none = no_work c.self.inside.queue c.start.new.queue (service_of c.self.inside.phase c.self.inside.attempt) c.in-Idle.field-0 s in
     rw (← c.self.view_is, c.in-Idle.is) record {
       machine = λ kept. turn_idle g.B.Bus.view c.self.inside.bus c.self.inside.info (service_of c.self.inside.phase c.self.inside.attempt) c.in-Idle.field-0
-          c.self.inside.queue c.start.new.queue c.self.inside.next c.args.answers.now.items c.self.invariant.ok s c.requires;
+          c.self.inside.queue c.start.new.queue c.self.inside.next c.self.inside.healed c.args.answers.now.items c.self.invariant.ok s c.requires;
       kept = λ kept. kept;
       answers = answers_none c.self.inside.queue c.start.new.queue (service_of c.self.inside.phase c.self.inside.attempt) c.in-Idle.field-0 c.args.answers.now.items s c.requires;
       leaves = search rules;
@@ -144,6 +151,7 @@ returns-in-Idle g c =
       paid = (let left = none.1 in omega (arith, left));
       by_stage = omega arith;
       cause = search rules;
+      healed = idle_heals g.B.Bus.view _ _ c.self.inside.queue c.start.new.queue c.in-Idle.field-0 c.args.answers.now.items s refl;
     }
 
 pub returns-in-Serving : goal.returns-in-Serving
@@ -166,7 +174,7 @@ returns-in-Serving g c =
     let started = started_most c.args.pace c.self.inside.queue c.start.new.queue (service_of c.self.inside.phase c.self.inside.attempt) c.in-Serving.field-0 attempt (begun g c) in
     rw (← c.self.view_is) record {
       machine = λ kept. turn_serves g.B.Bus.view c.self.inside.bus c.step.new.bus c.self.inside.info (service_of c.self.inside.phase c.self.inside.attempt) (service_of c.conclude.new.phase c.conclude.new.attempt)
-          c.self.inside.queue c.start.new.queue c.self.inside.next c.in-Serving.field-0 attempt (after g c) change
+          c.self.inside.queue c.start.new.queue c.self.inside.next c.self.inside.healed c.note.new.healed c.in-Serving.field-0 attempt (after g c) change
           (outcome g c) c.conclude.new.answers.items c.self.invariant.ok (begun g c) (after_ok g c)
           serves.3
           (lent_waits attempt.group.members.items c.step.new.group.members.items
@@ -186,4 +194,8 @@ returns-in-Serving g c =
       cause = cause_served c.self.inside.queue c.start.new.queue (service_of c.self.inside.phase c.self.inside.attempt) (service_of c.conclude.new.phase c.conclude.new.attempt) c.in-Serving.field-0 attempt (after g c)
           (outcome g c) c.conclude.new.answers.items (g.B.Bus.view c.step.new.bus)
           (begun g c) (c.conclude.ensures.concludes c.in-Serving.field-0) (stepped g c).advances.cause;
+      healed = λ some. turn_heals g.B.Bus.view _ _ c.self.inside.queue c.start.new.queue c.in-Serving.field-0 attempt (after g c)
+          (outcome g c) c.conclude.new.answers.items c.step.new.healed (begun g c) (after_ok g c).joined.some
+          (stepped g c).advances.goes_on (c.conclude.ensures.concludes c.in-Serving.field-0) (heals g c)
+          (c.note.ensures c.in-Serving.field-0);
     }
