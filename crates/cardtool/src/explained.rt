@@ -1,7 +1,8 @@
-// The trace with words behind each of its lines.
+// The trace with words behind each of its lines, and what was met and healed.
 use crate::fault::ServeFault;
 use crate::watched::WatchedCard;
 use exchange_words::{KnownCard, Note, put_lines};
+use mmc_block::Healed;
 use mmc_bus::{Bus, Exchange, TraceBus};
 use mmc_card_sim::{CardSpec, Fault};
 use mmc_frame::Addressing;
@@ -21,6 +22,15 @@ pub fn known_card(spec: &CardSpec) -> KnownCard {
         kind: spec.registers.kind(),
         addressing,
     }
+}
+
+/// What is explained behind the answers.
+#[derive(Drop)]
+pub struct Kept {
+    /// The exchanges, the oldest first.
+    pub exchanges: Vec<Exchange>,
+    /// What was met and healed.
+    pub healed: Healed,
 }
 
 /// The exchanges that a bus has kept, the oldest first.
@@ -76,28 +86,59 @@ fn put_all<W: Write>(out: &mut W, count: u64, lines: &[u8]) -> io::Result<()> {
     put(out, lines)
 }
 
-/// Writes `trace K` and a line for each of the exchanges that were kept, with words behind it and the fault that was planned for it.
+// Writes what was met and healed: attempts, those that failed by each cause, settlings, and resets.
+fn put_healed<W: Write>(out: &mut W, healed: &Healed) -> io::Result<()> {
+    put_pieces(
+        out,
+        &[
+            Piece::Text(b"attempts "),
+            Piece::Number(healed.attempts),
+            Piece::Text(b", failed by Answer "),
+            Piece::Number(healed.by_answer),
+            Piece::Text(b", Data "),
+            Piece::Number(healed.by_data),
+            Piece::Text(b", Status "),
+            Piece::Number(healed.by_status),
+            Piece::Text(b", Busy "),
+            Piece::Number(healed.by_busy),
+            Piece::Text(b", Recovery "),
+            Piece::Number(healed.by_recovery),
+            Piece::Text(b"; settled "),
+            Piece::Number(healed.settlings),
+            Piece::Text(b", reset "),
+            Piece::Number(healed.resets),
+            Piece::Text(b"\n"),
+        ],
+    )
+}
+
+/// Writes `trace K` and a line for each of the exchanges that were kept, with words behind it and the fault that was planned for it;
+/// then what was met and healed.
 ///
 /// # Errors
 /// `NoMemory`; `Write` where a write failed, and a front of the lines went out then.
 pub fn put_explained<W: Write>(
     alloc: Global,
     known: KnownCard,
-    kept: &[Exchange],
+    kept: &Kept,
     watched: &WatchedCard,
     plan: &[(u64, Fault)],
     out: &mut W,
 ) -> Result<(), ServeFault> {
     let noted = with_notes(
         alloc,
-        kept,
+        kept.exchanges.as_slice(),
         watched.card.exchanges(),
         plan,
         watched.fell.as_slice(),
     )?;
     let mut lines = Vec::new(alloc);
     put_lines(alloc, &mut lines, known, noted.as_slice())?;
-    match put_all(out, noted.len() as u64, lines.as_slice()) {
+    let written = match put_all(out, noted.len() as u64, lines.as_slice()) {
+        Ok(()) => put_healed(out, &kept.healed),
+        Err(error) => Err(error),
+    };
+    match written {
         Ok(()) => Ok(()),
         Err(_) => Err(ServeFault::Write),
     }

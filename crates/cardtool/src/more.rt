@@ -5,14 +5,14 @@ ghost use Rattle.mmc_card_sim.specs.SimView.{sim_bus_view};
 ghost use Rattle.cardtool.specs.More.{IsShown, trace_of};
 ghost use Rattle.cardtool.specs.Whole.{IsServedOver};
 
-use crate::explained::kept_exchanges;
+use crate::explained::{Kept, kept_exchanges};
 use crate::fault::ServeFault;
-use crate::serve::{serve_traced, serve_untraced};
+use crate::serve::{serve_counting, serve_traced, serve_untraced};
 use crate::trace::traced;
 use crate::watched::WatchedCard;
 use card_text::script::Script;
 use card_wave::WaveBus;
-use mmc_bus::{Bus, Exchange};
+use mmc_bus::Bus;
 use std::alloc::Global;
 use std::io::{self, Write};
 
@@ -32,8 +32,8 @@ pub enum Shown {
 pub struct Served<B: Drop> {
     /// The bus.
     pub bus: B,
-    /// The exchanges that are to be explained, or nothing where memory was refused for them.
-    pub kept: Option<Vec<Exchange>>,
+    /// What is to be explained, or nothing where memory was refused for it.
+    pub kept: Option<Kept>,
     /// The exit status.
     pub status: Result<u8, ServeFault>,
 }
@@ -60,8 +60,11 @@ fn serve_kept<B: Bus + Drop, W: Write>(
             };
         }
     };
-    let (bus, status) = serve_untraced(alloc, bus, script, out);
-    let kept = kept_exchanges(alloc, &bus).ok();
+    let (bus, healed, status) = serve_counting(alloc, bus, script, out);
+    let kept = match kept_exchanges(alloc, &bus) {
+        Ok(exchanges) => Some(Kept { exchanges, healed }),
+        Err(_) => None,
+    };
     let bus = bus.into_inner();
     Served { bus, kept, status }
 }

@@ -16,7 +16,7 @@ use mmc_block::laws::{
     a_card_at_rest_is_decided, a_counted_execution_is_an_execution, a_failure_takes_four_faults,
     answers_are_in_order, contents_are_in_order,
 };
-use mmc_block::{BlockDev, OpenFault};
+use mmc_block::{BlockDev, Healed, OpenFault};
 use mmc_bus::Bus;
 use mmc_card_sim::{CardSpec, Fault};
 use std::alloc::Global;
@@ -51,7 +51,31 @@ fn of_opening(fault: OpenFault) -> ServeFault
     }
 }
 
-/// Serves a script on the card of a bus, without a trace.
+/// Serves a script on the card of a bus, without a trace, and gives what the device met and healed meanwhile.
+pub fn serve_counting<B: Bus + Drop, W: Write>(
+    alloc: Global,
+    bus: B,
+    script: Script,
+    out: &mut W,
+) -> (B, Healed, Result<u8, ServeFault>)
+    ensures served { IsServedOver (B.view bus) (B.view result.0) script None (W.contents out.old) (W.contents out.new) result.2 }
+    ensures unwritten { IfErr result.2 (λ fault. IsUnwritten (W.contents out.old) (W.contents out.new) fault) }
+{
+    a_counted_execution_is_an_execution();
+    a_failure_takes_four_faults();
+    answers_are_in_order();
+    contents_are_in_order();
+    let mut device = match BlockDev::open(alloc, bus) {
+        Ok(device) => device,
+        Err((bus, fault)) => return (bus, Healed::new(), Err(of_opening(fault))),
+    };
+    let served = play(alloc, &mut device, script, out);
+    let healed = device.healed();
+    let bus = device.close();
+    (bus, healed, outcome(served))
+}
+
+/// The same without the counts.
 pub fn serve_untraced<B: Bus + Drop, W: Write>(
     alloc: Global,
     bus: B,
@@ -61,17 +85,8 @@ pub fn serve_untraced<B: Bus + Drop, W: Write>(
     ensures served { IsServedOver (B.view bus) (B.view result.0) script None (W.contents out.old) (W.contents out.new) result.1 }
     ensures unwritten { IfErr result.1 (λ fault. IsUnwritten (W.contents out.old) (W.contents out.new) fault) }
 {
-    a_counted_execution_is_an_execution();
-    a_failure_takes_four_faults();
-    answers_are_in_order();
-    contents_are_in_order();
-    let mut device = match BlockDev::open(alloc, bus) {
-        Ok(device) => device,
-        Err((bus, fault)) => return (bus, Err(of_opening(fault))),
-    };
-    let served = play(alloc, &mut device, script, out);
-    let bus = device.close();
-    (bus, outcome(served))
+    let (bus, _, status) = serve_counting(alloc, bus, script, out);
+    (bus, status)
 }
 
 /// Serves a script, and writes the last `n` exchanges.

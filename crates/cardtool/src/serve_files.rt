@@ -125,14 +125,7 @@ fn serve_more<R: Files + Print + AllocGlobal, C: Read, S: Read, I: Read>(
     let (served, drawn) = serve_drawn(alloc, card, script, shown(options), wave, &mut out);
     let Served { bus, kept, status } = served;
     let explained = match (kept, &status) {
-        (Some(kept), Ok(_)) => put_explained(
-            alloc,
-            known,
-            kept.as_slice(),
-            &bus,
-            plan.as_slice(),
-            &mut out,
-        ),
+        (Some(kept), Ok(_)) => put_explained(alloc, known, &kept, &bus, plan.as_slice(), &mut out),
         _ => Ok(()),
     };
     let flushed = out.flush();

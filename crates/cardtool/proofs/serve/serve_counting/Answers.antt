@@ -1,7 +1,7 @@
 use Rattle.std.proofs.Common.{◌-◌}
 use Rattle.mmc_card.specs.Card.{holds}
 use Rattle.cardtool.proofs.WholeLemmas.{Laws, bounded_device, is_served, kept_at_end, served_device, unopened, unwritten}
-use Rattle.cardtool.proofs.serve.serve_untraced.Goals as goal
+use Rattle.cardtool.proofs.serve.serve_counting.Goals as goal
 
 pub returns-clause-served : goal.returns-clause-served
 returns-clause-served g c = λ kept decided.
