@@ -273,7 +273,9 @@ static int send(void *context, const struct kelifandro_command *command, uint32_
 {
     struct card *card = context;
     int is_heard = is_heard_of(card) && respond(card, command, response);
-    return is_lost(card) || !is_heard ? KELIFANDRO_TIMEOUT : 0;
+    if (is_lost(card) || !is_heard)
+        return card->is_damaged && is_heard ? KELIFANDRO_BAD_CHECK : KELIFANDRO_TIMEOUT;
+    return 0;
 }
 
 static void block_passed(struct card *card, unsigned behind)
@@ -294,7 +296,11 @@ static int read_block(void *context, void *block, size_t length)
     for (size_t i = 0; i < length; i++)
         to[i] = from[i];
     block_passed(card, TRAN);
-    return is_lost(card) ? 1 : 0;
+    if (!is_lost(card))
+        return 0;
+    for (size_t i = 0; card->is_damaged && i < length; i++)
+        to[i] ^= 0xa5;
+    return 1;
 }
 
 static int write_block(void *context, const void *block)
@@ -303,6 +309,11 @@ static int write_block(void *context, const void *block)
     const uint8_t *from = block;
     if (!is_seen(card) || card->state != RCV || card->left == 0 || card->next >= size(card))
         return 2;
+    if (card->is_damaged && card->answers == card->lost) {
+        card->answers++;
+        card_reject(card);
+        return 1;
+    }
     for (int i = 0; i < 512; i++)
         sectors(card)[card->next][i] = from[i];
     card->next++;

@@ -23,8 +23,10 @@ struct card {
     int lines, high_speed, host_lines, host_high_speed, is_switching;
     uint32_t hertz;
     unsigned long told; /* how often the host behind it was told lines, timing or clock */
-    /* how many answers there were, and which of them is lost */
+    /* how many answers there were, and which of them is lost; or damaged: a response comes with a bad check, a block that is read with
+       other bytes and a bad check, and one that is written is rejected */
     unsigned long answers, lost;
+    int is_damaged;
 };
 
 void card_begin(struct card *card, int is_emmc);

@@ -11,6 +11,7 @@ void controller_begin(struct controller *controller, const struct kelifandro_hos
         bytes[i] = 0;
     controller->host = host;
     controller->one_block = one_block;
+    controller->capabilities = 1 << 24 | 1 << 21 | 1 << 18 | 50 << 8;
 }
 
 static void fail(struct controller *controller, uint32_t error)
@@ -184,6 +185,7 @@ static void reset(struct controller *controller, uint32_t lines)
         struct controller was = *controller;
         controller_begin(controller, was.host, was.one_block);
         controller->is_bare = was.is_bare;
+        controller->capabilities = was.capabilities;
         controller->misuses = was.misuses;
         set_ios(controller);
     }
@@ -249,7 +251,7 @@ static uint32_t read(void *context, unsigned offset, unsigned size)
     case 0x34:
         return controller->enabled;
     case 0x40:
-        return 1 << 24 | 1 << 21 | 1 << 18 | 50 << 8;
+        return controller->capabilities;
     case 0xfe:
         return 2;
     default:
@@ -257,14 +259,17 @@ static uint32_t read(void *context, unsigned offset, unsigned size)
     }
 }
 
-/* Sizes, lines, power, clock, and a command with data wait until no data is under way; several blocks are counted; the port wants data; and while data is under way
+/* Sizes, lines, power, clock, and a command with data wait until no data is under way; several blocks are counted; eight lines and high speed are
+   in Capabilities; the port wants data; and while data is under way
    only a command's bits are cleared. */
 static int is_misuse(const struct controller *controller, unsigned offset, uint32_t value)
 {
     int is_moving = controller->direction != KELIFANDRO_NO_DATA || controller->looks;
     switch (offset) {
-    case 0x04:
     case 0x28:
+        return is_moving || (value & 0x20 && !(controller->capabilities & 1 << 18))
+               || (value & 4 && !(controller->capabilities & 1 << 21));
+    case 0x04:
     case 0x29:
         return is_moving;
     case 0x2c: /* by its word it is written as it is, with a reset */

@@ -1,5 +1,5 @@
 /* Tries the library over a card in memory, by a host and by registers: an SD card and an eMMC device are opened, written, read, erased
-   and trimmed; each answer is lost in turn; and bytes of any kind are given for a card. Prints what it has tried, and ends with status 0 where nothing was wrong.
+   and trimmed, on one, four and eight lines, at default and high speed; each answer is lost and damaged in turn; and bytes of any kind are given for a card. Prints what it has tried, and ends with status 0 where nothing was wrong.
 
        try             all of it
        try runs N      writes and reads N runs of 16 sectors, for a profiler
@@ -31,30 +31,44 @@ static const char *const ways[] = {"a host", "a host with transfers", "registers
                                    "registers, room for one block, a call a block", "a host with transfers alone",
                                    "registers of a bare board"};
 
+static int has_registers(enum way way)
+{
+    return way != HOST && way != TRANSFERS && way != WHOLE;
+}
+
+/* How many lines are wired, and whether there is high speed. */
+static int lines = 8, high_speed = 1;
+
 static void begin(int is_emmc, enum way way)
 {
     card_begin(&card, is_emmc);
     int one_block = way == ONE_BLOCK || way == BY_PORT;
-        host = way == TRANSFERS ? transfer_host : way == WHOLE ? whole_host : card_host;
+    host = way == TRANSFERS ? transfer_host : way == WHOLE ? whole_host : card_host;
     host.context = &card;
+    host.lines = (uint8_t)lines;
+    host.high_speed = (uint8_t)high_speed;
     controller_begin(&controller, &host, one_block);
     controller.is_bare = way == BARE;
+    controller.capabilities = 1u << 24 | (uint32_t)high_speed << 21 | (uint32_t)(lines == 8) << 18 | 50 << 8;
     registers = way == BY_PORT ? port_registers : way == BARE ? board_registers : controller_registers;
     registers.context = &controller;
+    if (way == BARE)
+        registers.capabilities = controller.capabilities;
     memset(&sd, 0, sizeof sd);
-    if (way == HOST || way == TRANSFERS || way == WHOLE)
-        sd.host = &host;
-    else
+    if (has_registers(way))
         sd.registers = &registers;
+    else
+        sd.host = &host;
     for (size_t i = 0; i < sizeof data; i++)
         data[i] = (uint8_t)(i * 5 + i / 512);
 }
 
 /* One of everything; answers how many answers the card gave. */
-static unsigned long whole(int is_emmc, enum way way, unsigned long lost)
+static unsigned long whole(int is_emmc, enum way way, unsigned long lost, int is_damaged)
 {
     begin(is_emmc, way);
     card.lost = lost;
+    card.is_damaged = is_damaged;
     expect(kelifandro_open(&sd) == KELIFANDRO_DONE, "open", lost);
     expect(kelifandro_sectors(&sd, KELIFANDRO_USER) == USER_SECTORS, "size", lost);
     expect(kelifandro_write(&sd, KELIFANDRO_USER, 7, RUN, data) == KELIFANDRO_DONE, "write", lost);
@@ -74,6 +88,22 @@ static unsigned long whole(int is_emmc, enum way way, unsigned long lost)
     expect(memcmp(card.user[7], data, 512) == 0 && memcmp(card.user[10], data + 3 * 512, 512) == 0, "their neighbours", lost);
     expect(controller.misuses == 0, "what the registers allow", lost);
     return card.answers;
+}
+
+/* Each answer lost, and damaged, in turn, on one, four and eight lines (a controller has four at least), at default and high speed. */
+static void each_in_turn(int is_emmc, enum way way)
+{
+    unsigned long tried = 0;
+    for (lines = has_registers(way) ? 4 : 1; lines <= 8; lines *= lines == 1 ? 4 : 2)
+        for (high_speed = 0; high_speed < 2; high_speed++) {
+            unsigned long answers = whole(is_emmc, way, ~0ul, 0);
+            for (unsigned long lost = 0; lost < answers; lost++)
+                whole(is_emmc, way, lost, 0), whole(is_emmc, way, lost, 1);
+            tried += answers;
+        }
+    lines = 8;
+    high_speed = 1;
+    printf("%s by %s: each of %lu answers lost and damaged in turn\n", is_emmc ? "eMMC" : "SD", ways[way], tried);
 }
 
 /* What is refused is told neither to the card nor to its host. */
@@ -172,12 +202,8 @@ int main(int words, char **word)
         return 0;
     }
     for (int way = HOST; way <= BARE; way++)
-        for (int is_emmc = 0; is_emmc < 2; is_emmc++) {
-            unsigned long answers = whole(is_emmc, way, ~0ul);
-            for (unsigned long lost = 0; lost < answers; lost++)
-                whole(is_emmc, way, lost);
-            printf("%s by %s: each of %lu answers lost in turn\n", is_emmc ? "eMMC" : "SD", ways[way], answers);
-        }
+        for (int is_emmc = 0; is_emmc < 2; is_emmc++)
+            each_in_turn(is_emmc, way);
     for (int way = HOST; way <= BARE; way++)
         refusals(way), long_requests(way), switches(way);
     lost_ways();
