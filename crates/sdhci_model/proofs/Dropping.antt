@@ -1,6 +1,5 @@
 -- Blocks that are lost by a reset of the data line.
-use Rattle.std.proofs.Common.{◌∙◌, ◌≡◌, ◌∷◌, Bool, List, None, Option, Some, ap, arith, false, length, refl, subst, sym, true, ℕ}
-use Rattle.std.specs.Prelude.{[]}
+use Rattle.std.proofs.Common.{◌∙◌, ◌≡◌, ◌∷◌, Bool, List, None, Option, Some, ap, arith, false, length, refl, subst, sym, ℕ}
 use Rattle.mmc_bus.specs.Exchanges.{Kept}
 use Rattle.mmc_card.specs.BusView.{BusView}
 use Rattle.mmc_card.specs.Faults.{ReadStep, WriteStep}
@@ -11,7 +10,7 @@ use Rattle.mmc_card.specs.declared.exchange.DataOut.TheVariants as Went
 use Rattle.mmc_host.specs.declared.data.Data.{Data}
 use Rattle.mmc_sdhci.specs.Accesses.{Does8}
 use Rattle.mmc_sdhci.specs.Controller.{ControllerView, Settled, moved, seen}
-use Rattle.mmc_sdhci.specs.DataLooks.{DataDropped, IsOffered, cleared, is_empty}
+use Rattle.mmc_sdhci.specs.DataLooks.{DataDropped, IsOffered, cleared}
 use Rattle.mmc_story.specs.Entry.{Entry, Event}
 use Rattle.mmc_story.specs.Entry.Event.{Read, Written}
 use Rattle.mmc_story.specs.Story.{Allows, Outcome, Story}
