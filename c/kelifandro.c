@@ -316,6 +316,21 @@ static size_t at_most(size_t count)
     return count > 1024 ? 1025 : count;
 }
 
+enum { SOFTWARE_RESET = 0x2f, RESET_COMMAND_AND_DATA = 6 };
+
+/* A call that failed may leave a command or data under way in a controller, whose registers are given: its command and data lines are
+   reset, so that the next call finds it as the driver wants it (SD Host Controller 3.00, section 2.2.16). */
+static int32_t ended(const struct kelifandro *kelifandro, int32_t result)
+{
+    const struct kelifandro_registers *registers = kelifandro->registers;
+    if (kelifandro->host || result > KELIFANDRO_FAILED_ANSWER || result < KELIFANDRO_FAILED_RECOVERY)
+        return result;
+    write_register(registers, SOFTWARE_RESET, 1, RESET_COMMAND_AND_DATA);
+    for (int look = 0; look < 1000 && read_register(registers, SOFTWARE_RESET, 1) & RESET_COMMAND_AND_DATA; look++)
+        registers->pause(registers->context, 100);
+    return result;
+}
+
 static uint8_t begin(const struct kelifandro *kelifandro)
 {
     now = kelifandro;
@@ -338,7 +353,8 @@ int32_t kelifandro_read(struct kelifandro *kelifandro, enum kelifandro_part part
     if (!has_way(kelifandro))
         return KELIFANDRO_NO_HOST;
     memory = memory_of(bytes, count);
-    return kelifandro_read_by(begin(kelifandro), &kelifandro->card, part_number(part), start, memory, at_most(count));
+    return ended(kelifandro,
+                 kelifandro_read_by(begin(kelifandro), &kelifandro->card, part_number(part), start, memory, at_most(count)));
 }
 
 int32_t kelifandro_write(struct kelifandro *kelifandro, enum kelifandro_part part, uint64_t start, size_t count,
@@ -347,21 +363,22 @@ int32_t kelifandro_write(struct kelifandro *kelifandro, enum kelifandro_part par
     if (!has_way(kelifandro))
         return KELIFANDRO_NO_HOST;
     memory = memory_of(bytes, count);
-    return kelifandro_write_by(begin(kelifandro), &kelifandro->card, part_number(part), start, memory, at_most(count));
+    return ended(kelifandro,
+                 kelifandro_write_by(begin(kelifandro), &kelifandro->card, part_number(part), start, memory, at_most(count)));
 }
 
 int32_t kelifandro_erase(struct kelifandro *kelifandro, enum kelifandro_part part, uint64_t start, uint64_t count)
 {
     if (!has_way(kelifandro))
         return KELIFANDRO_NO_HOST;
-    return kelifandro_erase_by(begin(kelifandro), &kelifandro->card, part_number(part), start, count);
+    return ended(kelifandro, kelifandro_erase_by(begin(kelifandro), &kelifandro->card, part_number(part), start, count));
 }
 
 int32_t kelifandro_trim(struct kelifandro *kelifandro, enum kelifandro_part part, uint64_t start, uint64_t count)
 {
     if (!has_way(kelifandro))
         return KELIFANDRO_NO_HOST;
-    return kelifandro_trim_by(begin(kelifandro), &kelifandro->card, part_number(part), start, count);
+    return ended(kelifandro, kelifandro_trim_by(begin(kelifandro), &kelifandro->card, part_number(part), start, count));
 }
 
 enum { LONGEST_REQUEST = 1024 };

@@ -6,9 +6,7 @@ ghost use Rattle.mmc_host.specs.Hosts.{WritesBlock};
 ghost use Rattle.mmc_host.specs.Together.{AreAhead, AreBehind, ReadsWith, WritesWith};
 ghost use Rattle.mmc_host.specs.declared.response.Response.TheVariants.{R1};
 ghost use Rattle.mmc_sdhci.specs.Controller.{IsAtMost, lines_in};
-ghost use Rattle.mmc_sdhci.specs.Driver.{IsAtEase, IsNew, speed_limit};
-ghost use Rattle.mmc_sdhci.specs.Accesses.{IsStill};
-ghost use Rattle.mmc_sdhci.specs.Commands.{IsSet};
+ghost use Rattle.mmc_sdhci.specs.Driver.{IsNew, IsReady, speed_limit};
 ghost use Rattle.mmc_sdhci.specs.Moving.{WhereKept};
 ghost use Rattle.c_host.specs.Told.{TellsCommand, TellsIos, TellsPause, TellsRead, TellsReadWith, TellsWrite, TellsWriteWith};
 ghost use Rattle.c_host.specs.Ways.{Begins, HasLimits, HasTold, IfFunctions, IfRegisters, Resumes, Speaks, TellsLookFor};
@@ -87,9 +85,7 @@ impl<R: Registers + Drop> Way<Sdhci<R>> {
     /// # Errors
     /// Why the controller with these registers isn't ready for use.
     pub fn resume(given: Given<R>, lines: Lines) -> Result<Way<Sdhci<R>>, StartFault>
-        requires still { IfRegisters given (λ registers. IsStill (R.view registers)) }
-        requires set { IfRegisters given (λ registers. IsSet (R.view registers)) }
-        requires ease { IfRegisters given (λ registers. WhereKept (R.view registers) (IsAtEase (R.view registers))) }
+        requires ready { IfRegisters given (λ registers. IsReady (R.view registers)) }
         requires lines { IfRegisters given (λ registers. WhereKept (R.view registers)
             (lines_in (R.view registers).settings.control ≡ lines)) }
         requires clock { IfRegisters given (λ registers. WhereKept (R.view registers)

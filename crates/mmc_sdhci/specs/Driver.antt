@@ -60,6 +60,11 @@ abbrev pub IsNew : ControllerView → Type 0
 IsNew view =
     WhereKept view ((is_at_rest view ≡ true) × ((view.transfer ≡ Data.Nothing) × (view.settings.power ≡ 0)))
 
+-- between two commands, with all set that they need
+abbrev pub IsReady : ControllerView → Type 0
+IsReady view =
+    WhereKept view ((is_at_rest view ≡ true) × ((view.transfer ≡ Data.Nothing) × (is_set view.settings ≡ true)))
+
 -- no command runs, and no data is under way
 abbrev pub IsAtEase : ControllerView → Type 0
 IsAtEase view = (view.running ≡ None) × (view.transfer ≡ Data.Nothing)

@@ -5,7 +5,7 @@ ghost use Rattle.mmc_sdhci.specs.Controller.{IsAtMost, Settled, limits_in, lines
 ghost use Rattle.mmc_sdhci.specs.Accesses.{IsAtRest, IsStill};
 ghost use Rattle.mmc_sdhci.specs.Beside.{is_inserted, is_protected};
 ghost use Rattle.mmc_sdhci.specs.Commands.{IsSet, LosesAll};
-ghost use Rattle.mmc_sdhci.specs.Driver.{IsAtEase, IsBaseClock, IsNew, IsSameCard, IsUnready, are_words, clock_limit, host_over, speed_limit};
+ghost use Rattle.mmc_sdhci.specs.Driver.{IsAtEase, IsBaseClock, IsNew, IsReady, IsSameCard, IsUnready, are_words, clock_limit, host_over, speed_limit};
 ghost use Rattle.mmc_sdhci.specs.declared.start.StartFault.TheVariants.{NoBaseClock};
 ghost use Rattle.mmc_sdhci.specs.Moving.{WhereKept};
 
@@ -92,12 +92,43 @@ impl<R: Registers> Sdhci<R> {
         })
     }
 
-    /// Goes on with a controller whose card is selected, on these lines, as a driver left it that is there no more. Command line and
-    /// data line are reset: what was under way, or was left in the buffer, is lost (section 2.2.16). Nothing else is set anew.
+    /// Goes on with a controller that is between two commands to a card that is selected, on these lines, as a driver left it that is
+    /// there no more. Nothing is set anew.
     ///
     /// # Errors
     /// `NoBaseClock` where the controller doesn't say how fast its clock is. The registers are given back.
     pub fn resume(registers: R, lines: Lines) -> Result<Sdhci<R>, (R, StartFault)>
+        requires ready { IsReady (R.view registers) }
+        requires lines { WhereKept (R.view registers) (lines_in (R.view registers).settings.control ≡ lines) }
+        requires clock { WhereKept (R.view registers) (IsAtMost (speed_limit lines.timing) (R.view registers)) }
+        ensures same { IfOk result (λ host. Settled (R.view registers)
+            (IsSameCard (R.view registers) (R.view host.registers)) (R.view host.registers)) }
+        ensures resting { IfOk result (λ host. host.state ≡ resting lines) }
+        ensures fault { IfErr result (λ failed. failed.1 ≡ NoBaseClock) }
+        ensures unready { IfErr result (λ failed. IsUnready failed.1 (R.view failed.0)) }
+    {
+        let mut registers = registers;
+        let capabilities = registers.read32(CAPABILITIES);
+        let version = registers.read8(VERSION);
+        let base = base_clock(capabilities, version);
+        if base == 0 {
+            return Err((registers, StartFault::NoBaseClock));
+        }
+        Ok(Sdhci {
+            registers,
+            state: HostState::resting(lines),
+            limits: limits_in(capabilities),
+            base,
+            version,
+        })
+    }
+
+    /// Goes on with a controller whose card is selected, on these lines, as a driver left it that has failed. Command line and data line
+    /// are reset: what was under way, or was left in the buffer, is lost (section 2.2.16). Nothing else is set anew.
+    ///
+    /// # Errors
+    /// As `resume`.
+    pub fn take_over(registers: R, lines: Lines) -> Result<Sdhci<R>, (R, StartFault)>
         requires still { IsStill (R.view registers) }
         requires set { IsSet (R.view registers) }
         requires lines { WhereKept (R.view registers) (lines_in (R.view registers).settings.control ≡ lines) }
