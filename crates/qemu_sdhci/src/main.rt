@@ -8,6 +8,8 @@ mod protocol;
 mod registers;
 mod runs;
 
+ghost use Rattle.mmc_sdhci.specs.Driver.{IsNew};
+
 use crate::protocol::Conversation;
 use crate::registers::QemuRegisters;
 use crate::runs::Card;
@@ -21,7 +23,9 @@ use std::env;
 const USAGE: &str = "usage: qemu_sdhci RUNS SEED [--words]";
 
 // Opens the card.
-fn open<R: Registers + Drop>(rt: &impl AllocGlobal, registers: R) -> Result<Card<R>> {
+fn open<R: Registers + Drop>(rt: &impl AllocGlobal, registers: R) -> Result<Card<R>>
+    requires { IsNew (R.view registers) }
+{
     match Sdhci::new(registers) {
         Err((_, fault)) => Err(fault.into()),
         Ok(host) => match BlockDev::open(rt.alloc(), HostBus::new(host)) {
@@ -37,7 +41,9 @@ fn serve<R: Registers + Drop>(
     registers: R,
     rounds: u64,
     seed: u64,
-) -> Result<()> {
+) -> Result<()>
+    requires { IsNew (R.view registers) }
+{
     let mut card = open(rt, registers)?;
     let sectors = card.info().sectors(Part::User).unwrap_or(0);
     let _ = eprintln!(rt;
@@ -58,12 +64,7 @@ fn main(rt: HostRuntime) -> Result<()> {
         conversation: Conversation::new(),
     };
     match words.as_slice() {
-        [_, rounds, seed] => serve(
-            &rt,
-            registers,
-            rounds.parse::<u64>()?,
-            seed.parse::<u64>()?,
-        ),
+        [_, rounds, seed] => serve(&rt, registers, rounds.parse::<u64>()?, seed.parse::<u64>()?),
         [_, rounds, seed, way] if way.as_str() == "--words" => serve(
             &rt,
             Board::new(registers, Slot::AlwaysThere, None),
