@@ -15,6 +15,8 @@ pub tells_both : (First Second Then : List Access → List Access → Type 0)
     → (old between new : Option (List Access)) → Tells First old between → Tells Second between new → Tells Then old new
 tells_both First Second Then both old between None first second = tt
 tells_both First Second Then both old None (Some new) first second = absurd (cc (second.1))
-tells_both First Second Then both old (Some middle) (Some new) first second =
-    (first.0, first.1,
-    both first.0 middle new first.2 (subst (λ (xs : List Access). Second xs new) (sym (some_is middle second.0 second.1)) second.2))
+tells_both First Second Then both old (Some middle) (Some new) first second = (
+  first.0,
+  first.1,
+  both first.0 middle new first.2 (subst (λ (xs : List Access). Second xs new) (sym (some_is middle second.0 second.1)) second.2),
+)
