@@ -5,7 +5,8 @@
    the functions that the caller gave. No file is opened. */
 #include "kelifandro.h"
 
-/* The proved library reads and writes struct kelifandro_card by these places (crates/mmc_record/src/record.rt). */
+/* The proved library reads and writes struct kelifandro_card by these places (crates/mmc_record/src/record.rt), and counts in eight
+   numbers (crates/mmc_recovery/src/healed.rt). */
 #define HAS_PLACE(field, place) _Static_assert(offsetof(struct kelifandro_card, field) == (place), #field)
 HAS_PLACE(state, 0);
 HAS_PLACE(cause, 11);
@@ -16,6 +17,9 @@ HAS_PLACE(user, 48);
 HAS_PLACE(gp4, 88);
 HAS_PLACE(erase_unit, 96);
 _Static_assert(sizeof(struct kelifandro_card) == 104, "struct kelifandro_card");
+_Static_assert(offsetof(struct kelifandro_healed, by_recovery) == 40, "by_recovery");
+_Static_assert(offsetof(struct kelifandro_healed, resets) == 56, "resets");
+_Static_assert(sizeof(struct kelifandro_healed) == 64, "struct kelifandro_healed");
 
 enum {
     SEND = 1,
@@ -285,13 +289,15 @@ long kelifandro_get(int stream, uint8_t *bytes, size_t n)
 }
 
 /* The proved library. `way` is 0 for a host, 1 for registers. */
-int32_t kelifandro_open_by(uint8_t way, struct kelifandro_card *card);
-int32_t kelifandro_read_by(uint8_t way, struct kelifandro_card *card, uint8_t part, uint64_t start, uint8_t (*blocks)[512],
-                           size_t count);
-int32_t kelifandro_write_by(uint8_t way, struct kelifandro_card *card, uint8_t part, uint64_t start,
-                            const uint8_t (*blocks)[512], size_t count);
-int32_t kelifandro_erase_by(uint8_t way, struct kelifandro_card *card, uint8_t part, uint64_t start, uint64_t count);
-int32_t kelifandro_trim_by(uint8_t way, struct kelifandro_card *card, uint8_t part, uint64_t start, uint64_t count);
+int32_t kelifandro_open_by(uint8_t way, struct kelifandro_card *card, struct kelifandro_healed *healed);
+int32_t kelifandro_read_by(uint8_t way, struct kelifandro_card *card, struct kelifandro_healed *healed, uint8_t part,
+                           uint64_t start, uint8_t (*blocks)[512], size_t count);
+int32_t kelifandro_write_by(uint8_t way, struct kelifandro_card *card, struct kelifandro_healed *healed, uint8_t part,
+                            uint64_t start, const uint8_t (*blocks)[512], size_t count);
+int32_t kelifandro_erase_by(uint8_t way, struct kelifandro_card *card, struct kelifandro_healed *healed, uint8_t part,
+                            uint64_t start, uint64_t count);
+int32_t kelifandro_trim_by(uint8_t way, struct kelifandro_card *card, struct kelifandro_healed *healed, uint8_t part,
+                           uint64_t start, uint64_t count);
 
 static int has_way(const struct kelifandro *kelifandro)
 {
@@ -345,7 +351,7 @@ int32_t kelifandro_open(struct kelifandro *kelifandro)
 {
     if (!has_way(kelifandro))
         return KELIFANDRO_NO_HOST;
-    return kelifandro_open_by(begin(kelifandro), &kelifandro->card);
+    return kelifandro_open_by(begin(kelifandro), &kelifandro->card, &kelifandro->healed);
 }
 
 int32_t kelifandro_read(struct kelifandro *kelifandro, enum kelifandro_part part, uint64_t start, size_t count, void *bytes)
@@ -353,8 +359,8 @@ int32_t kelifandro_read(struct kelifandro *kelifandro, enum kelifandro_part part
     if (!has_way(kelifandro))
         return KELIFANDRO_NO_HOST;
     memory = memory_of(bytes, count);
-    return ended(kelifandro,
-                 kelifandro_read_by(begin(kelifandro), &kelifandro->card, part_number(part), start, memory, at_most(count)));
+    return ended(kelifandro, kelifandro_read_by(begin(kelifandro), &kelifandro->card, &kelifandro->healed, part_number(part), start,
+                                              memory, at_most(count)));
 }
 
 int32_t kelifandro_write(struct kelifandro *kelifandro, enum kelifandro_part part, uint64_t start, size_t count,
@@ -363,22 +369,24 @@ int32_t kelifandro_write(struct kelifandro *kelifandro, enum kelifandro_part par
     if (!has_way(kelifandro))
         return KELIFANDRO_NO_HOST;
     memory = memory_of(bytes, count);
-    return ended(kelifandro,
-                 kelifandro_write_by(begin(kelifandro), &kelifandro->card, part_number(part), start, memory, at_most(count)));
+    return ended(kelifandro, kelifandro_write_by(begin(kelifandro), &kelifandro->card, &kelifandro->healed, part_number(part), start,
+                                               memory, at_most(count)));
 }
 
 int32_t kelifandro_erase(struct kelifandro *kelifandro, enum kelifandro_part part, uint64_t start, uint64_t count)
 {
     if (!has_way(kelifandro))
         return KELIFANDRO_NO_HOST;
-    return ended(kelifandro, kelifandro_erase_by(begin(kelifandro), &kelifandro->card, part_number(part), start, count));
+    return ended(kelifandro, kelifandro_erase_by(begin(kelifandro), &kelifandro->card, &kelifandro->healed, part_number(part),
+                                            start, count));
 }
 
 int32_t kelifandro_trim(struct kelifandro *kelifandro, enum kelifandro_part part, uint64_t start, uint64_t count)
 {
     if (!has_way(kelifandro))
         return KELIFANDRO_NO_HOST;
-    return ended(kelifandro, kelifandro_trim_by(begin(kelifandro), &kelifandro->card, part_number(part), start, count));
+    return ended(kelifandro, kelifandro_trim_by(begin(kelifandro), &kelifandro->card, &kelifandro->healed, part_number(part),
+                                           start, count));
 }
 
 enum { LONGEST_REQUEST = 1024 };

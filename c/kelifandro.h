@@ -173,14 +173,24 @@ enum kelifandro_part {
     KELIFANDRO_GP4
 };
 
+/* What was met and healed since the card was opened, counted: by the answers alone a card that fails at every tenth command looks
+   healthy. Each count stays at its largest number once it is there. */
+struct kelifandro_healed {
+    uint64_t attempts; /* at requests, four at most each, with success or without */
+    uint64_t by_answer, by_data, by_status, by_busy, by_recovery; /* how many of them failed, by cause, as KELIFANDRO_FAILED_.. */
+    uint64_t settlings; /* how often the card was settled, which an attempt after a failure begins with */
+    uint64_t resets;    /* how many of these settlings reset the card */
+};
+
 /* A card and the way to it: one of the two pointers is set. */
 struct kelifandro {
     const struct kelifandro_host *host;
     const struct kelifandro_registers *registers;
     struct kelifandro_card card;
+    struct kelifandro_healed healed;
 };
 
-/* Opens the card, whatever became of it before. At most 294 exchanges. */
+/* Opens the card, whatever became of it before, and counts from zero. At most 294 exchanges. */
 int32_t kelifandro_open(struct kelifandro *kelifandro);
 
 /* The size of a partition in sectors of 512 bytes, 0 where there is no such one, or the card isn't open. */

@@ -63,13 +63,30 @@ static void begin(int is_emmc, enum way way)
         data[i] = (uint8_t)(i * 5 + i / 512);
 }
 
+static uint64_t failures(void)
+{
+    const struct kelifandro_healed *healed = &sd.healed;
+    return healed->by_answer + healed->by_data + healed->by_status + healed->by_busy + healed->by_recovery;
+}
+
+/* What was counted of so many requests that are all done: each failure was settled, and what has fallen was met. */
+static void counts(unsigned long requests, int has_fallen, unsigned long lost)
+{
+    expect(sd.healed.attempts == requests + failures(), "attempts that were counted", lost);
+    expect(sd.healed.settlings == failures(), "settlings that were counted", lost);
+    expect(sd.healed.resets <= sd.healed.settlings, "resets that were counted", lost);
+    expect((failures() > 0) == has_fallen, "failures that were counted", lost);
+}
+
 /* One of everything; answers how many answers the card gave. */
 static unsigned long whole(int is_emmc, enum way way, unsigned long lost, int is_damaged)
 {
+    unsigned long opened;
     begin(is_emmc, way);
     card.lost = lost;
     card.is_damaged = is_damaged;
     expect(kelifandro_open(&sd) == KELIFANDRO_DONE, "open", lost);
+    opened = card.answers;
     expect(kelifandro_sectors(&sd, KELIFANDRO_USER) == USER_SECTORS, "size", lost);
     expect(kelifandro_write(&sd, KELIFANDRO_USER, 7, RUN, data) == KELIFANDRO_DONE, "write", lost);
     expect(memcmp(card.user[7], data, RUN * 512) == 0, "what was written", lost);
@@ -87,6 +104,7 @@ static unsigned long whole(int is_emmc, enum way way, unsigned long lost, int is
     expect(card.user[8][0] == 0 && card.user[9][511] == 0, "erased sectors", lost);
     expect(memcmp(card.user[7], data, 512) == 0 && memcmp(card.user[10], data + 3 * 512, 512) == 0, "their neighbours", lost);
     expect(controller.misuses == 0, "what the registers allow", lost);
+    counts(is_emmc ? 5 : 3, lost >= opened && lost < card.answers, lost);
     return card.answers;
 }
 

@@ -343,6 +343,28 @@ static int has_failed(int32_t result)
     return result <= KELIFANDRO_FAILED_ANSWER && result >= KELIFANDRO_FAILED_RECOVERY;
 }
 
+static uint64_t failures_in(const struct kelifandro_healed *healed)
+{
+    return healed->by_answer + healed->by_data + healed->by_status + healed->by_busy + healed->by_recovery;
+}
+
+/* What a call adds to the counts: an attempt by which it is done, or four that failed; each failure but the last is settled. A long
+   one makes a request for each 1,024 sectors. */
+static void judge_counts(struct call call, int32_t result, const struct kelifandro_healed *then)
+{
+    uint64_t failures = failures_in(&sd->healed) - failures_in(then), attempts = sd->healed.attempts - then->attempts;
+    uint64_t settlings = sd->healed.settlings - then->settlings;
+    int is_done = result == KELIFANDRO_DONE;
+    if (is_refusal(result)) {
+        check(memcmp(&sd->healed, then, sizeof *then) == 0, "what is refused isn't counted", result);
+        return;
+    }
+    check(call.count > 1024 || attempts - failures == (uint64_t)is_done, "attempts that were counted", result);
+    check(is_done || failures >= 4, "failures that were counted", result);
+    check(settlings + !is_done >= failures && settlings <= failures + 1, "settlings that were counted", result);
+    check(sd->healed.resets - then->resets <= settlings, "resets that were counted", result);
+}
+
 static void judge_effect(struct call call, int32_t result, const uint8_t *bytes)
 {
     int is_changing = !(call.kind == READ || call.kind == READ_LONG);
@@ -362,6 +384,7 @@ static void request(struct call call)
     size_t room = is_moving(call) && call.count * 512 <= ROOM && call.count < ROOM ? call.count * 512 : 512;
     uint8_t *bytes = call.count == 0 ? 0 : guarded + ROOM - room;
     unsigned long faults_then = faults, answers = card.answers, told = card.told, writes = register_writes;
+    struct kelifandro_healed healed_then = sd->healed;
     int right = is_right(call);
     /* what a record of any kind, or a hostile card, says of its size may be more than there is room for */
     if ((is_hostile || is_wild) && is_moving(call) && call.count > ROOM / 512)
@@ -375,6 +398,7 @@ static void request(struct call call)
     if (is_hostile || is_wild)
         return;
     check(controller.misuses == 0, "what the registers allow", result);
+    judge_counts(call, result, &healed_then);
     if (is_refusal(result)) {
         check(right != 1, "what is right isn't refused", result);
         check(card.answers == answers && card.told == told && register_writes == writes, "what is refused isn't told", result);

@@ -5,6 +5,7 @@ ghost use Rattle.std.specs.Prelude.{◌≡◌, IsSome, None, false, length, pos}
 ghost use Rattle.mmc_direct.specs.Refusal.{refusal};
 ghost use Rattle.mmc_direct.specs.Stands.{info_of};
 ghost use Rattle.mmc_direct.specs.declared.action.Action.TheVariants.{Erase, Read, Trim, Write};
+ghost use Rattle.mmc_recovery.specs.Healed.{none_met};
 ghost use Rattle.mmc_record.specs.Note.{is_note};
 ghost use Rattle.mmc_record.specs.Numbers.{part_of};
 ghost use Rattle.kelifandro.specs.Answers.{minus};
@@ -13,14 +14,16 @@ ghost use Rattle.kelifandro.specs.Calls.{IfNoted, TellsWhy};
 use crate::opening::open_by;
 use crate::requests::{erase_by, read_by, told, trim_by, write_by};
 use mmc_record::CardRecord;
+use mmc_recovery::Healed;
 use std::marker::Brand;
 
 /// Opens a card.
 #[unsafe(no_mangle)]
-pub extern "C" fn kelifandro_open_by(way: u8, card: &mut CardRecord) -> i32
-    ensures { (result ≡ pos 0 → ⊥) → card.new.state ≡ 0 }
+pub extern "C" fn kelifandro_open_by(way: u8, card: &mut CardRecord, healed: &mut Healed) -> i32
+    ensures healed { healed.new ≡ none_met }
+    ensures not_open { (result ≡ pos 0 → ⊥) → card.new.state ≡ 0 }
 {
-    open_by::<Brand>(way, card).0
+    open_by::<Brand>(way, card, healed).0
 }
 
 /// Reads sectors.
@@ -28,6 +31,7 @@ pub extern "C" fn kelifandro_open_by(way: u8, card: &mut CardRecord) -> i32
 pub extern "C" fn kelifandro_read_by(
     way: u8,
     card: &mut CardRecord,
+    healed: &mut Healed,
     part: u8,
     start: u64,
     blocks: &mut [[u8; 512]],
@@ -37,7 +41,7 @@ pub extern "C" fn kelifandro_read_by(
     ensures judged { IfNoted card.old part (λ stands part.
         TellsWhy way (refusal Read (info_of stands) part start (length blocks.old)) result) }
 {
-    told(read_by::<Brand>(way, card, part, start, blocks))
+    told(read_by::<Brand>(way, card, healed, part, start, blocks))
 }
 
 /// Writes sectors.
@@ -45,6 +49,7 @@ pub extern "C" fn kelifandro_read_by(
 pub extern "C" fn kelifandro_write_by(
     way: u8,
     card: &mut CardRecord,
+    healed: &mut Healed,
     part: u8,
     start: u64,
     blocks: &[[u8; 512]],
@@ -54,7 +59,7 @@ pub extern "C" fn kelifandro_write_by(
     ensures judged { IfNoted card.old part (λ stands part.
         TellsWhy way (refusal Write (info_of stands) part start (length blocks.now)) result) }
 {
-    told(write_by::<Brand>(way, card, part, start, blocks))
+    told(write_by::<Brand>(way, card, healed, part, start, blocks))
 }
 
 /// Erases sectors.
@@ -62,6 +67,7 @@ pub extern "C" fn kelifandro_write_by(
 pub extern "C" fn kelifandro_erase_by(
     way: u8,
     card: &mut CardRecord,
+    healed: &mut Healed,
     part: u8,
     start: u64,
     count: u64,
@@ -71,7 +77,7 @@ pub extern "C" fn kelifandro_erase_by(
     ensures judged { IfNoted card.old part (λ stands part.
         TellsWhy way (refusal Erase (info_of stands) part start count) result) }
 {
-    told(erase_by::<Brand>(way, card, part, start, count))
+    told(erase_by::<Brand>(way, card, healed, part, start, count))
 }
 
 /// Trims sectors.
@@ -79,6 +85,7 @@ pub extern "C" fn kelifandro_erase_by(
 pub extern "C" fn kelifandro_trim_by(
     way: u8,
     card: &mut CardRecord,
+    healed: &mut Healed,
     part: u8,
     start: u64,
     count: u64,
@@ -88,5 +95,5 @@ pub extern "C" fn kelifandro_trim_by(
     ensures judged { IfNoted card.old part (λ stands part.
         TellsWhy way (refusal Trim (info_of stands) part start count) result) }
 {
-    told(trim_by::<Brand>(way, card, part, start, count))
+    told(trim_by::<Brand>(way, card, healed, part, start, count))
 }

@@ -2,6 +2,7 @@
 // the diary, whose bus is handed out with the number that C is told.
 ghost use Rattle.std.specs.Prelude.{◌≡◌, ◌≤◌, ◌+◌, IfNone, IfSome, [], pos, true};
 ghost use Rattle.mmc_card.specs.Profile.{InProfile};
+ghost use Rattle.mmc_recovery.specs.Healed.{none_met};
 ghost use Rattle.mmc_calls.specs.Opened.{IsReadyAs};
 
 use crate::answers::{DONE, start_number, unopened_number};
@@ -11,11 +12,17 @@ use mmc_bus::Bus;
 use mmc_calls::open;
 use mmc_host::HostBus;
 use mmc_record::CardRecord;
+use mmc_recovery::Healed;
 use mmc_story::{HasStory, StoryHost};
 
 /// Opens a card.
-pub fn open_by<S: HasStory>(way: u8, card: &mut CardRecord) -> (i32, Option<HostBus<CHost<S>>>)
+pub fn open_by<S: HasStory>(
+    way: u8,
+    card: &mut CardRecord,
+    healed: &mut Healed,
+) -> (i32, Option<HostBus<CHost<S>>>)
     ensures not_open { (result.0 ≡ pos 0 → ⊥) → card.new.state ≡ 0 }
+    ensures healed { healed.new ≡ none_met }
     ensures no_host { IfNone result.1 (card.new ≡ record card.old { state = 0 }) }
     ensures opened { IfSome result.1 (λ bus. (⟦<HostBus<CHost<S>> as Bus>⟧.view bus).is_kept ≡ true → result.0 ≡ pos 0
         → IsReadyAs card.new (⟦<HostBus<CHost<S>> as Bus>⟧.view bus)) }
@@ -24,10 +31,11 @@ pub fn open_by<S: HasStory>(way: u8, card: &mut CardRecord) -> (i32, Option<Host
         → (S.story.outcome []).faults + 3 ≤ (⟦<HostBus<CHost<S>> as Bus>⟧.view bus).faults) }
 {
     card.state = 0;
+    *healed = Healed::new();
     match Way::begin(given_of(way)) {
         Ok(host) => {
             let mut bus = HostBus::new(StoryHost::new(host));
-            match open(&mut bus, card) {
+            match open(&mut bus, card, healed) {
                 Ok(()) => (DONE, Some(bus)),
                 Err(fault) => (unopened_number(fault), Some(bus)),
             }

@@ -1,11 +1,11 @@
 // Each request of C: one call of `mmc_calls`, over the host that C has given, with a diary. What is promised of the card holds for every
 // story that is true of the diary. What is left of the host is handed out, since by it the contract says what became of the card.
 ghost use Rattle.std.specs.Prelude.{◌≡◌, Err, IfErr, IfOk, IsOk, IsSome, None, [], false, is_err, is_some, length, pos};
-ghost use Rattle.mmc_calls.specs.Noted.{IsServed, Notes};
+ghost use Rattle.mmc_calls.specs.Noted.{IsCounted, IsServed, Notes};
 ghost use Rattle.mmc_direct.specs.Changes.{erased_at, written_at};
 ghost use Rattle.mmc_direct.specs.Refusal.{refusal};
 ghost use Rattle.mmc_direct.specs.Requests.{HasChanged, HasRead};
-ghost use Rattle.mmc_direct.specs.Stands.{IfRefused, info_of, refusal_in};
+ghost use Rattle.mmc_direct.specs.Stands.{IfRefused, IfServed, info_of, refusal_in};
 ghost use Rattle.mmc_direct.specs.declared.action.Action.TheVariants.{Erase, Read, Trim, Write};
 ghost use Rattle.mmc_record.specs.Note.{is_note};
 ghost use Rattle.mmc_record.specs.Numbers.{part_of};
@@ -21,6 +21,7 @@ use mmc_calls::{Left, erase_over, read_over, trim_over, write_over};
 use mmc_direct::NotDone;
 use mmc_host::{Host, HostBus};
 use mmc_record::CardRecord;
+use mmc_recovery::Healed;
 use mmc_story::HasStory;
 
 /// What became of a request that came to a host.
@@ -52,6 +53,7 @@ pub fn told<H: Host + Drop>(called: Result<Called<H>, i32>) -> i32
 pub fn read_by<S: HasStory>(
     way: u8,
     card: &mut CardRecord,
+    healed: &mut Healed,
     part: u8,
     start: u64,
     blocks: &mut [[u8; 512]],
@@ -60,19 +62,22 @@ pub fn read_by<S: HasStory>(
     ensures not_open { IsSome (part_of part) → is_note card.old ≡ false → result ≡ Err (minus 1) }
     ensures functions { way ≡ 0 → IfNoted card.old part (λ stands part. IsOk result) }
     ensures fault { IfErr result (λ number. number ≡ pos 0 → ⊥) }
-    ensures no_host { IfErr result (λ number. (card.new ≡ card.old) × (blocks.new ≡ blocks.old)) }
+    ensures no_host { IfErr result (λ number. (card.new ≡ card.old) × (blocks.new ≡ blocks.old) × (healed.new ≡ healed.old)) }
     ensures judged { IfNoted card.old part (λ stands part. IfOk result (λ did.
         refusal_in did.answer ≡ refusal Read (info_of stands) part start (length blocks.old))) }
     ensures left { IfOk result (λ did. is_err did.left ≡ is_some (refusal_in did.answer)) }
     ensures untouched { IfNoted card.old part (λ stands part. IfOk result (λ did. IfRefused did.answer
         ((blocks.new ≡ blocks.old) × Notes stands card.new))) }
+    ensures uncounted { IfOk result (λ did. IfRefused did.answer (healed.new ≡ healed.old)) }
+    ensures counted { IfNoted card.old part (λ stands part. IfOk result (λ did. IfServed did.answer
+        (IsCounted stands healed.old did.answer card.new healed.new))) }
     ensures served { IsTrueOf S.story [] → IfNoted card.old part (λ stands part. IfOk result (λ did. IfOk did.left (λ bus.
         IsServed (HasRead part start blocks.new) stands (host_of S.story stands did.limits)
         did.answer card.new (⟦<HostBus<CHost<S>> as Bus>⟧.view bus)))) }
 {
     let (stands, host, part) = go_back(way, card, part)?;
     let limits = host.limits();
-    let (answer, left) = read_over(host, card, stands, part, start, &mut SectorsMut { blocks });
+    let (answer, left) = read_over(host, card, healed, stands, part, start, &mut SectorsMut { blocks });
     Ok(Called {
         answer,
         limits,
@@ -87,6 +92,7 @@ pub fn read_by<S: HasStory>(
 pub fn write_by<S: HasStory>(
     way: u8,
     card: &mut CardRecord,
+    healed: &mut Healed,
     part: u8,
     start: u64,
     blocks: &[[u8; 512]],
@@ -95,18 +101,21 @@ pub fn write_by<S: HasStory>(
     ensures not_open { IsSome (part_of part) → is_note card.old ≡ false → result ≡ Err (minus 1) }
     ensures functions { way ≡ 0 → IfNoted card.old part (λ stands part. IsOk result) }
     ensures fault { IfErr result (λ number. number ≡ pos 0 → ⊥) }
-    ensures no_host { IfErr result (λ number. card.new ≡ card.old) }
+    ensures no_host { IfErr result (λ number. (card.new ≡ card.old) × (healed.new ≡ healed.old)) }
     ensures judged { IfNoted card.old part (λ stands part. IfOk result (λ did.
         refusal_in did.answer ≡ refusal Write (info_of stands) part start (length blocks.now))) }
     ensures left { IfOk result (λ did. is_err did.left ≡ is_some (refusal_in did.answer)) }
     ensures untouched { IfNoted card.old part (λ stands part. IfOk result (λ did. IfRefused did.answer (Notes stands card.new))) }
+    ensures uncounted { IfOk result (λ did. IfRefused did.answer (healed.new ≡ healed.old)) }
+    ensures counted { IfNoted card.old part (λ stands part. IfOk result (λ did. IfServed did.answer
+        (IsCounted stands healed.old did.answer card.new healed.new))) }
     ensures served { IsTrueOf S.story [] → IfNoted card.old part (λ stands part. IfOk result (λ did. IfOk did.left (λ bus.
         IsServed (HasChanged (written_at part start blocks.now)) stands (host_of S.story stands did.limits)
         did.answer card.new (⟦<HostBus<CHost<S>> as Bus>⟧.view bus)))) }
 {
     let (stands, host, part) = go_back(way, card, part)?;
     let limits = host.limits();
-    let (answer, left) = write_over(host, card, stands, part, start, &Sectors { blocks });
+    let (answer, left) = write_over(host, card, healed, stands, part, start, &Sectors { blocks });
     Ok(Called {
         answer,
         limits,
@@ -121,6 +130,7 @@ pub fn write_by<S: HasStory>(
 pub fn erase_by<S: HasStory>(
     way: u8,
     card: &mut CardRecord,
+    healed: &mut Healed,
     part: u8,
     start: u64,
     count: u64,
@@ -129,18 +139,21 @@ pub fn erase_by<S: HasStory>(
     ensures not_open { IsSome (part_of part) → is_note card.old ≡ false → result ≡ Err (minus 1) }
     ensures functions { way ≡ 0 → IfNoted card.old part (λ stands part. IsOk result) }
     ensures fault { IfErr result (λ number. number ≡ pos 0 → ⊥) }
-    ensures no_host { IfErr result (λ number. card.new ≡ card.old) }
+    ensures no_host { IfErr result (λ number. (card.new ≡ card.old) × (healed.new ≡ healed.old)) }
     ensures judged { IfNoted card.old part (λ stands part. IfOk result (λ did.
         refusal_in did.answer ≡ refusal Erase (info_of stands) part start count)) }
     ensures left { IfOk result (λ did. is_err did.left ≡ is_some (refusal_in did.answer)) }
     ensures untouched { IfNoted card.old part (λ stands part. IfOk result (λ did. IfRefused did.answer (Notes stands card.new))) }
+    ensures uncounted { IfOk result (λ did. IfRefused did.answer (healed.new ≡ healed.old)) }
+    ensures counted { IfNoted card.old part (λ stands part. IfOk result (λ did. IfServed did.answer
+        (IsCounted stands healed.old did.answer card.new healed.new))) }
     ensures served { IsTrueOf S.story [] → IfNoted card.old part (λ stands part. IfOk result (λ did. IfOk did.left (λ bus.
         IsServed (HasChanged (erased_at (info_of stands) part start count)) stands (host_of S.story stands did.limits)
         did.answer card.new (⟦<HostBus<CHost<S>> as Bus>⟧.view bus)))) }
 {
     let (stands, host, part) = go_back(way, card, part)?;
     let limits = host.limits();
-    let (answer, left) = erase_over(host, card, stands, part, start, count);
+    let (answer, left) = erase_over(host, card, healed, stands, part, start, count);
     Ok(Called {
         answer,
         limits,
@@ -155,6 +168,7 @@ pub fn erase_by<S: HasStory>(
 pub fn trim_by<S: HasStory>(
     way: u8,
     card: &mut CardRecord,
+    healed: &mut Healed,
     part: u8,
     start: u64,
     count: u64,
@@ -163,18 +177,21 @@ pub fn trim_by<S: HasStory>(
     ensures not_open { IsSome (part_of part) → is_note card.old ≡ false → result ≡ Err (minus 1) }
     ensures functions { way ≡ 0 → IfNoted card.old part (λ stands part. IsOk result) }
     ensures fault { IfErr result (λ number. number ≡ pos 0 → ⊥) }
-    ensures no_host { IfErr result (λ number. card.new ≡ card.old) }
+    ensures no_host { IfErr result (λ number. (card.new ≡ card.old) × (healed.new ≡ healed.old)) }
     ensures judged { IfNoted card.old part (λ stands part. IfOk result (λ did.
         refusal_in did.answer ≡ refusal Trim (info_of stands) part start count)) }
     ensures left { IfOk result (λ did. is_err did.left ≡ is_some (refusal_in did.answer)) }
     ensures untouched { IfNoted card.old part (λ stands part. IfOk result (λ did. IfRefused did.answer (Notes stands card.new))) }
+    ensures uncounted { IfOk result (λ did. IfRefused did.answer (healed.new ≡ healed.old)) }
+    ensures counted { IfNoted card.old part (λ stands part. IfOk result (λ did. IfServed did.answer
+        (IsCounted stands healed.old did.answer card.new healed.new))) }
     ensures served { IsTrueOf S.story [] → IfNoted card.old part (λ stands part. IfOk result (λ did. IfOk did.left (λ bus.
         IsServed (HasChanged (erased_at (info_of stands) part start count)) stands (host_of S.story stands did.limits)
         did.answer card.new (⟦<HostBus<CHost<S>> as Bus>⟧.view bus)))) }
 {
     let (stands, host, part) = go_back(way, card, part)?;
     let limits = host.limits();
-    let (answer, left) = trim_over(host, card, stands, part, start, count);
+    let (answer, left) = trim_over(host, card, healed, stands, part, start, count);
     Ok(Called {
         answer,
         limits,

@@ -10,7 +10,8 @@ use Rattle.mmc_card.specs.Card.{Card, IsCard}
 use Rattle.mmc_card.specs.Laws.{Stands as IsSetTo, setting_of}
 use Rattle.mmc_card.specs.Made.{HasRegisters, Made}
 use Rattle.mmc_card.specs.declared.exchange.Lines.{Lines}
-use Rattle.mmc_direct.specs.Stands.{IfRefused, StandsIn, stands_of}
+use Rattle.mmc_direct.specs.Healing.{HasHealed}
+use Rattle.mmc_direct.specs.Stands.{AnswersBy, IfRefused, IfServed, StandsIn, stands_of}
 use Rattle.mmc_direct.specs.declared.refused.NotDone.{NotDone}
 use Rattle.mmc_direct.specs.declared.refused.NotDone.TheVariants.{Failed, Refused as RefusedFor}
 use Rattle.mmc_direct.specs.declared.stands.Served.{Served}
@@ -19,6 +20,7 @@ use Rattle.mmc_direct.specs.declared.stands.Stands.TheVariants.{Loose, Ready}
 use Rattle.mmc_host.specs.Hosts.{HostView, bus_over}
 use Rattle.mmc_bus.specs.declared.wire.Wire.{Wire}
 use Rattle.mmc_record.specs.Note.{IsNoteOf, given_up, what_is_left}
+use Rattle.mmc_recovery.specs.declared.healed.Healed.{Healed}
 use Rattle.mmc_record.specs.declared.record.CardRecord.{CardRecord}
 use Rattle.mmc_switch.specs.Info.{IsInfo}
 use Rattle.mmc_switch.specs.Place.{IsLoose, IsPartOf, IsReady, Knows, setting_in}
@@ -26,7 +28,7 @@ use Rattle.mmc_switch.specs.Stages.{IsAtRest}
 use Rattle.mmc_switch.specs.declared.broken.Broken.{Broken}
 use Rattle.mmc_switch.specs.declared.info.Info.{Info}
 use Rattle.mmc_switch.specs.declared.session.Session.{Session}
-use Rattle.mmc_calls.specs.Noted.{HasServed, IsNoted, IsNotedOf, Notes, bus_going_on, lines_in}
+use Rattle.mmc_calls.specs.Noted.{IsCounted, HasServed, IsNoted, IsNotedOf, Notes, bus_going_on, lines_in}
 
 -- what a note says of a card whose registers have their checks
 abbrev pub IfItsCard : Info → (Result Session Broken) → CardRecord → Type 0
@@ -81,6 +83,15 @@ pub refused_read_noted : (P Q : Type 0) (answer : Result Unit NotDone) (left sta
 refused_read_noted P Q (Ok done) left stands note h n = tt
 refused_read_noted P Q (Err (RefusedFor why)) left stands note h n = (h.0, h.2, subst (λ s. Notes s note) h.1 n)
 refused_read_noted P Q (Err (Failed cause)) left stands note h n = tt
+
+-- what was counted of a request that isn't refused
+pub counted_by : (stands : Stands) (old : Healed) (answer : Result Unit NotDone) (left : Stands) (note : CardRecord)
+    (new : Healed) → AnswersBy answer left → Notes left note → IfServed answer (HasHealed stands old left new)
+    → IfServed answer (IsCounted stands old answer note new)
+counted_by stands old (Ok done) left note new fits notes h = record { left = left; fits = fits; notes = notes; healed = h }
+counted_by stands old (Err (RefusedFor why)) left note new fits notes h = tt
+counted_by stands old (Err (Failed cause)) left note new fits notes h =
+    record { left = left; fits = fits; notes = notes; healed = h }
 
 -- What a view says of a session lies in its card, its lines and its limits.
 

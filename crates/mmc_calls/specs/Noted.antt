@@ -2,12 +2,14 @@
 use Rattle.std.specs.Prelude.{◌≡◌, Result, true}
 use Rattle.mmc_card.specs.BusView.{BusView}
 use Rattle.mmc_card.specs.declared.exchange.Lines.{Lines}
+use Rattle.mmc_direct.specs.Healing.{HasHealed}
 use Rattle.mmc_direct.specs.Stands.{AnswersBy, StandsIn, info_of, stands_of}
 use Rattle.mmc_direct.specs.declared.refused.NotDone.{NotDone}
 use Rattle.mmc_direct.specs.declared.stands.Served.{Served}
 use Rattle.mmc_direct.specs.declared.stands.Stands.{Stands}
 use Rattle.mmc_host.specs.Hosts.{HostView, bus_of}
 use Rattle.mmc_record.specs.Note.{IsNoteOf}
+use Rattle.mmc_recovery.specs.declared.healed.Healed.{Healed}
 use Rattle.mmc_record.specs.declared.record.CardRecord.{CardRecord}
 use Rattle.mmc_switch.specs.declared.broken.Broken.{Broken}
 use Rattle.mmc_switch.specs.declared.session.Session.{Session}
@@ -43,6 +45,14 @@ pub record HasServed (Has : Served → Type 0) (answer : Result Unit NotDone) (n
   pub fits : AnswersBy served.answer served.stands
   pub notes : Notes served.stands note
   pub has : Has served
+
+-- A request that was answered so is counted by its attempts, after which the card stands as the record notes.
+pub record IsCounted (stands : Stands) (old : Healed) (answer : Result Unit NotDone) (note : CardRecord) (new : Healed)
+    : Type 0 where
+  pub left : Stands
+  pub fits : AnswersBy answer left
+  pub notes : Notes left note
+  pub healed : HasHealed stands old left new
 
 -- where the card of a host stood so, and the bus over the host was kept to its end, this holds
 abbrev pub WhereStood : Stands → HostView → BusView → Type 0 → Type 0

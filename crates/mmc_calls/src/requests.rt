@@ -5,15 +5,16 @@ ghost use Rattle.mmc_direct.specs.Attempts.{erasing, moving};
 ghost use Rattle.mmc_direct.specs.Changes.{erased_at, written_at};
 ghost use Rattle.mmc_direct.specs.Refusal.{refusal};
 ghost use Rattle.mmc_direct.specs.Requests.{HasChanged, HasRead};
-ghost use Rattle.mmc_direct.specs.Stands.{IfRefused, StandsIn, info_of, refusal_in};
+ghost use Rattle.mmc_direct.specs.Stands.{IfRefused, IfServed, StandsIn, info_of, refusal_in};
 ghost use Rattle.mmc_direct.specs.declared.action.Action.TheVariants.{Erase, Read, Trim, Write};
 ghost use Rattle.mmc_direct.specs.declared.attempts.TheConstants.{ATTEMPTS};
-ghost use Rattle.mmc_calls.specs.Noted.{HasServed, Notes};
+ghost use Rattle.mmc_calls.specs.Noted.{HasServed, IsCounted, Notes};
 
 use crate::noting::noted;
 use mmc_bus::{Blocks, BlocksMut, Bus, Part};
 use mmc_direct::{NotDone, Stands};
 use mmc_record::CardRecord;
+use mmc_recovery::Healed;
 
 /// Reads these blocks, as `mmc_direct::read`, and notes how the card stands.
 ///
@@ -22,6 +23,7 @@ use mmc_record::CardRecord;
 pub fn read<B: Bus, D: BlocksMut>(
     bus: &mut B,
     card: &mut CardRecord,
+    healed: &mut Healed,
     stands: Stands,
     part: Part,
     start: u64,
@@ -29,6 +31,8 @@ pub fn read<B: Bus, D: BlocksMut>(
 ) -> Result<(), NotDone>
     ensures refused { refusal_in result ≡ refusal Read (info_of stands) part start (length (D.blocks blocks.old)) }
     ensures untouched { IfRefused result ((bus.new ≡ bus.old) × (blocks.new ≡ blocks.old) × Notes stands card.new) }
+    ensures uncounted { IfRefused result (healed.new ≡ healed.old) }
+    ensures healed { IfServed result (IsCounted stands healed.old result card.new healed.new) }
     ensures count { length (D.blocks blocks.new) ≡ length (D.blocks blocks.old) }
     ensures lent { IsRewritten D.blocks D.with blocks.old blocks.new }
     ensures bounded { (B.view bus.new).exchanges ≤ (B.view bus.old).exchanges + ATTEMPTS * moving (length (D.blocks blocks.old)) }
@@ -37,7 +41,7 @@ pub fn read<B: Bus, D: BlocksMut>(
         → HasRead part start (D.blocks blocks.new)
         (B.view bus.old) served (B.view bus.new)) result card.new }
 {
-    let served = mmc_direct::read(bus, stands, part, start, blocks);
+    let served = mmc_direct::read(bus, healed, stands, part, start, blocks);
     *card = noted(&served.stands);
     served.answer
 }
@@ -49,6 +53,7 @@ pub fn read<B: Bus, D: BlocksMut>(
 pub fn write<B: Bus, D: Blocks>(
     bus: &mut B,
     card: &mut CardRecord,
+    healed: &mut Healed,
     stands: Stands,
     part: Part,
     start: u64,
@@ -56,13 +61,15 @@ pub fn write<B: Bus, D: Blocks>(
 ) -> Result<(), NotDone>
     ensures refused { refusal_in result ≡ refusal Write (info_of stands) part start (length (D.blocks blocks.now)) }
     ensures untouched { IfRefused result ((bus.new ≡ bus.old) × Notes stands card.new) }
+    ensures uncounted { IfRefused result (healed.new ≡ healed.old) }
+    ensures healed { IfServed result (IsCounted stands healed.old result card.new healed.new) }
     ensures bounded { (B.view bus.new).exchanges ≤ (B.view bus.old).exchanges + ATTEMPTS * moving (length (D.blocks blocks.now)) }
     ensures kept { (B.view bus.new).is_kept ≡ true → (B.view bus.old).is_kept ≡ true }
     ensures served { HasServed (λ served. (B.view bus.new).is_kept ≡ true → StandsIn stands (B.view bus.old)
         → HasChanged (written_at part start (D.blocks blocks.now))
         (B.view bus.old) served (B.view bus.new)) result card.new }
 {
-    let served = mmc_direct::write(bus, stands, part, start, blocks);
+    let served = mmc_direct::write(bus, healed, stands, part, start, blocks);
     *card = noted(&served.stands);
     served.answer
 }
@@ -74,6 +81,7 @@ pub fn write<B: Bus, D: Blocks>(
 pub fn erase<B: Bus>(
     bus: &mut B,
     card: &mut CardRecord,
+    healed: &mut Healed,
     stands: Stands,
     part: Part,
     start: u64,
@@ -81,13 +89,15 @@ pub fn erase<B: Bus>(
 ) -> Result<(), NotDone>
     ensures refused { refusal_in result ≡ refusal Erase (info_of stands) part start count }
     ensures untouched { IfRefused result ((bus.new ≡ bus.old) × Notes stands card.new) }
+    ensures uncounted { IfRefused result (healed.new ≡ healed.old) }
+    ensures healed { IfServed result (IsCounted stands healed.old result card.new healed.new) }
     ensures bounded { (B.view bus.new).exchanges ≤ (B.view bus.old).exchanges + ATTEMPTS * erasing }
     ensures kept { (B.view bus.new).is_kept ≡ true → (B.view bus.old).is_kept ≡ true }
     ensures served { HasServed (λ served. (B.view bus.new).is_kept ≡ true → StandsIn stands (B.view bus.old)
         → HasChanged (erased_at (info_of stands) part start count)
         (B.view bus.old) served (B.view bus.new)) result card.new }
 {
-    let served = mmc_direct::erase(bus, stands, part, start, count);
+    let served = mmc_direct::erase(bus, healed, stands, part, start, count);
     *card = noted(&served.stands);
     served.answer
 }
@@ -99,6 +109,7 @@ pub fn erase<B: Bus>(
 pub fn trim<B: Bus>(
     bus: &mut B,
     card: &mut CardRecord,
+    healed: &mut Healed,
     stands: Stands,
     part: Part,
     start: u64,
@@ -106,13 +117,15 @@ pub fn trim<B: Bus>(
 ) -> Result<(), NotDone>
     ensures refused { refusal_in result ≡ refusal Trim (info_of stands) part start count }
     ensures untouched { IfRefused result ((bus.new ≡ bus.old) × Notes stands card.new) }
+    ensures uncounted { IfRefused result (healed.new ≡ healed.old) }
+    ensures healed { IfServed result (IsCounted stands healed.old result card.new healed.new) }
     ensures bounded { (B.view bus.new).exchanges ≤ (B.view bus.old).exchanges + ATTEMPTS * erasing }
     ensures kept { (B.view bus.new).is_kept ≡ true → (B.view bus.old).is_kept ≡ true }
     ensures served { HasServed (λ served. (B.view bus.new).is_kept ≡ true → StandsIn stands (B.view bus.old)
         → HasChanged (erased_at (info_of stands) part start count)
         (B.view bus.old) served (B.view bus.new)) result card.new }
 {
-    let served = mmc_direct::trim(bus, stands, part, start, count);
+    let served = mmc_direct::trim(bus, healed, stands, part, start, count);
     *card = noted(&served.stands);
     served.answer
 }

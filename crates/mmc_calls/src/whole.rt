@@ -5,11 +5,11 @@ ghost use Rattle.mmc_bus.specs.Lending.{IsRewritten};
 ghost use Rattle.mmc_direct.specs.Changes.{erased_at, written_at};
 ghost use Rattle.mmc_direct.specs.Refusal.{refusal};
 ghost use Rattle.mmc_direct.specs.Requests.{HasChanged, HasRead};
-ghost use Rattle.mmc_direct.specs.Stands.{IfRefused, info_of, refusal_in};
+ghost use Rattle.mmc_direct.specs.Stands.{IfRefused, IfServed, info_of, refusal_in};
 ghost use Rattle.mmc_direct.specs.declared.action.Action.TheVariants.{Erase, Read, Trim, Write};
 ghost use Rattle.mmc_host.specs.HostStates.{IsBetween};
 ghost use Rattle.mmc_host.specs.Hosts.{Where};
-ghost use Rattle.mmc_calls.specs.Noted.{IsNotedOf, IsServed, Notes, WhereStood};
+ghost use Rattle.mmc_calls.specs.Noted.{IsCounted, IsNotedOf, IsServed, Notes, WhereStood};
 
 use crate::going_on::go_on;
 use crate::noting::noted;
@@ -18,6 +18,7 @@ use mmc_bus::{Blocks, BlocksMut, Bus, Part};
 use mmc_direct::{Action, NotDone, Stands, refusal};
 use mmc_host::{Host, HostBus};
 use mmc_record::CardRecord;
+use mmc_recovery::Healed;
 
 /// What is left of the host of a call: the bus over it, by which the request was attempted; or, where the request was refused, the
 /// host as it came, which was told nothing.
@@ -30,6 +31,7 @@ pub type Left<H> = Result<HostBus<H>, H>;
 pub fn read_over<H: Host, D: BlocksMut>(
     host: H,
     card: &mut CardRecord,
+    healed: &mut Healed,
     stands: Stands,
     part: Part,
     start: u64,
@@ -39,6 +41,8 @@ pub fn read_over<H: Host, D: BlocksMut>(
     ensures refused { refusal_in result.0 ≡ refusal Read (info_of stands) part start (length (D.blocks blocks.old)) }
     ensures left { is_err result.1 ≡ is_some (refusal_in result.0) }
     ensures untouched { IfRefused result.0 ((result.1 ≡ Err host) × (blocks.new ≡ blocks.old) × Notes stands card.new) }
+    ensures uncounted { IfRefused result.0 (healed.new ≡ healed.old) }
+    ensures healed { IfServed result.0 (IsCounted stands healed.old result.0 card.new healed.new) }
     ensures count { length (D.blocks blocks.new) ≡ length (D.blocks blocks.old) }
     ensures lent { IsRewritten D.blocks D.with blocks.old blocks.new }
     ensures served { IfOk result.1 (λ bus. IsServed (HasRead part start (D.blocks blocks.new)) stands (H.view host)
@@ -57,7 +61,7 @@ pub fn read_over<H: Host, D: BlocksMut>(
         return (Err(NotDone::Refused(why)), Err(host));
     }
     let mut bus = go_on(host, &stands);
-    let answer = read(&mut bus, card, stands, part, start, blocks);
+    let answer = read(&mut bus, card, healed, stands, part, start, blocks);
     (answer, Ok(bus))
 }
 
@@ -68,6 +72,7 @@ pub fn read_over<H: Host, D: BlocksMut>(
 pub fn write_over<H: Host, D: Blocks>(
     host: H,
     card: &mut CardRecord,
+    healed: &mut Healed,
     stands: Stands,
     part: Part,
     start: u64,
@@ -77,6 +82,8 @@ pub fn write_over<H: Host, D: Blocks>(
     ensures refused { refusal_in result.0 ≡ refusal Write (info_of stands) part start (length (D.blocks blocks.now)) }
     ensures left { is_err result.1 ≡ is_some (refusal_in result.0) }
     ensures untouched { IfRefused result.0 ((result.1 ≡ Err host) × Notes stands card.new) }
+    ensures uncounted { IfRefused result.0 (healed.new ≡ healed.old) }
+    ensures healed { IfServed result.0 (IsCounted stands healed.old result.0 card.new healed.new) }
     ensures served { IfOk result.1 (λ bus. IsServed (HasChanged (written_at part start (D.blocks blocks.now))) stands (H.view host)
         result.0 card.new (⟦<HostBus<H> as Bus>⟧.view bus)) }
     ensures noted { IfOk result.1 (λ bus. WhereStood stands (H.view host) (⟦<HostBus<H> as Bus>⟧.view bus)
@@ -93,7 +100,7 @@ pub fn write_over<H: Host, D: Blocks>(
         return (Err(NotDone::Refused(why)), Err(host));
     }
     let mut bus = go_on(host, &stands);
-    let answer = write(&mut bus, card, stands, part, start, blocks);
+    let answer = write(&mut bus, card, healed, stands, part, start, blocks);
     (answer, Ok(bus))
 }
 
@@ -104,6 +111,7 @@ pub fn write_over<H: Host, D: Blocks>(
 pub fn erase_over<H: Host>(
     host: H,
     card: &mut CardRecord,
+    healed: &mut Healed,
     stands: Stands,
     part: Part,
     start: u64,
@@ -113,6 +121,8 @@ pub fn erase_over<H: Host>(
     ensures refused { refusal_in result.0 ≡ refusal Erase (info_of stands) part start count }
     ensures left { is_err result.1 ≡ is_some (refusal_in result.0) }
     ensures untouched { IfRefused result.0 ((result.1 ≡ Err host) × Notes stands card.new) }
+    ensures uncounted { IfRefused result.0 (healed.new ≡ healed.old) }
+    ensures healed { IfServed result.0 (IsCounted stands healed.old result.0 card.new healed.new) }
     ensures served { IfOk result.1 (λ bus. IsServed (HasChanged (erased_at (info_of stands) part start count)) stands (H.view host)
         result.0 card.new (⟦<HostBus<H> as Bus>⟧.view bus)) }
     ensures noted { IfOk result.1 (λ bus. WhereStood stands (H.view host) (⟦<HostBus<H> as Bus>⟧.view bus)
@@ -123,7 +133,7 @@ pub fn erase_over<H: Host>(
         return (Err(NotDone::Refused(why)), Err(host));
     }
     let mut bus = go_on(host, &stands);
-    let answer = erase(&mut bus, card, stands, part, start, count);
+    let answer = erase(&mut bus, card, healed, stands, part, start, count);
     (answer, Ok(bus))
 }
 
@@ -134,6 +144,7 @@ pub fn erase_over<H: Host>(
 pub fn trim_over<H: Host>(
     host: H,
     card: &mut CardRecord,
+    healed: &mut Healed,
     stands: Stands,
     part: Part,
     start: u64,
@@ -143,6 +154,8 @@ pub fn trim_over<H: Host>(
     ensures refused { refusal_in result.0 ≡ refusal Trim (info_of stands) part start count }
     ensures left { is_err result.1 ≡ is_some (refusal_in result.0) }
     ensures untouched { IfRefused result.0 ((result.1 ≡ Err host) × Notes stands card.new) }
+    ensures uncounted { IfRefused result.0 (healed.new ≡ healed.old) }
+    ensures healed { IfServed result.0 (IsCounted stands healed.old result.0 card.new healed.new) }
     ensures served { IfOk result.1 (λ bus. IsServed (HasChanged (erased_at (info_of stands) part start count)) stands (H.view host)
         result.0 card.new (⟦<HostBus<H> as Bus>⟧.view bus)) }
     ensures noted { IfOk result.1 (λ bus. WhereStood stands (H.view host) (⟦<HostBus<H> as Bus>⟧.view bus)
@@ -153,6 +166,6 @@ pub fn trim_over<H: Host>(
         return (Err(NotDone::Refused(why)), Err(host));
     }
     let mut bus = go_on(host, &stands);
-    let answer = trim(&mut bus, card, stands, part, start, count);
+    let answer = trim(&mut bus, card, healed, stands, part, start, count);
     (answer, Ok(bus))
 }

@@ -1,5 +1,6 @@
 pub mod AttemptLemmas
 pub mod CauseLemmas
+pub mod HealingLemmas
 pub mod LentLemmas
 pub mod RequestLemmas
 pub mod ServeLemmas

@@ -20,6 +20,11 @@ abbrev pub info_of : Stands → Info
 info_of (Ready session) = session.info
 info_of (Loose broken) = broken.session.info
 
+-- where the card is loose, this holds of its failure
+abbrev pub IfLoose : Stands → (Broken → Type 0) → Type 0
+IfLoose (Ready session) Holds = Unit {0}
+IfLoose (Loose broken) Holds = Holds broken
+
 -- the card is ready as its session says, or loose after a failure
 abbrev pub StandsIn : Stands → BusView → Type 0
 StandsIn (Ready session) view = IsReady session view
@@ -49,6 +54,11 @@ abbrev pub IfRefused : Result Unit NotDone → Type 0 → Type 0
 IfRefused (Ok done) Holds = Unit {0}
 IfRefused (Err (RefusedFor why)) Holds = Holds
 IfRefused (Err (Failed cause)) Holds = Unit {0}
+
+-- it was not refused, and this holds
+abbrev pub IfServed : Result Unit NotDone → Type 0 → Type 0
+IfServed (Err (RefusedFor why)) Holds = Unit {0}
+IfServed _ Holds = Holds
 
 -- where its attempts have failed, this holds of their cause
 abbrev pub IfFailed : Result Unit NotDone → (Cause → Type 0) → Type 0

@@ -1,22 +1,25 @@
 // Attempts at a request. Each settles the card where something has failed, selects the partition where another one is selected,
 // and makes the run. A request has four.
-ghost use Rattle.std.specs.Prelude.{◌≡◌, ◌+◌, ◌≤◌, [], IfErr, IfOk, IsSome, None, Some, length, true};
+ghost use Rattle.std.specs.Prelude.{◌≡◌, ◌+◌, ◌≤◌, [], Bool, IfErr, IfOk, IsSome, None, Some, length, true};
 ghost use Rattle.mmc_card.specs.Card.{holds};
 ghost use Rattle.mmc_card.specs.Sectors.{AreRead};
 ghost use Rattle.mmc_bus.specs.Lending.{IsRewritten};
 ghost use Rattle.mmc_erase.specs.declared.how.How.{How};
 ghost use Rattle.mmc_switch.specs.Info.{lasting, sectors_of};
+ghost use Rattle.mmc_recovery.specs.Healed.{with_settling};
+ghost use Rattle.mmc_recovery.specs.Settled.{TellsReset, session_of};
 ghost use Rattle.mmc_direct.specs.Attempts.{HasPrepared, HasTried, erasing, moving};
 ghost use Rattle.mmc_direct.specs.Changes.{erased_at, written_at};
+ghost use Rattle.mmc_direct.specs.Healing.{HasSettled};
 ghost use Rattle.mmc_direct.specs.Refusal.{action_of, refusal};
-ghost use Rattle.mmc_direct.specs.Stands.{IsCausedIn, StandsIn, info_of, stands_of};
+ghost use Rattle.mmc_direct.specs.Stands.{IfLoose, IsCausedIn, StandsIn, info_of, stands_of};
 ghost use Rattle.mmc_direct.specs.declared.action.Action.TheVariants.{Read, Write};
 ghost use Rattle.mmc_direct.specs.declared.attempts.TheConstants.{EXCHANGES_BESIDE_A_RUN};
 
 use crate::stands::Stands;
 use mmc_bus::{Blocks, BlocksMut, Bus, Part};
 use mmc_erase::{How, erase_run};
-use mmc_recovery::{EXCHANGES_OF_A_SETTLE, settle};
+use mmc_recovery::{EXCHANGES_OF_A_SETTLE, Healed, settle_telling};
 use mmc_switch::{Broken, EXCHANGES_OF_A_SWITCH, Session, select};
 use mmc_transfer::{read_run, write_run};
 
@@ -27,32 +30,45 @@ pub const ATTEMPTS: u64 = 4;
 pub const EXCHANGES_BESIDE_A_RUN: u64 = EXCHANGES_OF_A_SETTLE + EXCHANGES_OF_A_SWITCH;
 
 // Settles the card where something has failed.
-fn settled<B: Bus>(bus: &mut B, stands: Stands) -> Result<Session, Broken>
+fn settled<B: Bus>(bus: &mut B, healed: &mut Healed, stands: Stands) -> Result<Session, Broken>
     ensures info { lasting (info_of (stands_of result)) ≡ lasting (info_of stands) }
     ensures bounded { (B.view bus.new).exchanges ≤ (B.view bus.old).exchanges + EXCHANGES_OF_A_SETTLE }
     ensures kept { (B.view bus.new).is_kept ≡ true → (B.view bus.old).is_kept ≡ true }
     ensures cause { IfErr result (λ broken. IsCausedIn 0 broken (B.view bus.old) (B.view bus.new)) }
+    ensures told { IfLoose stands (λ broken. (was_reset : Bool) × (healed.new ≡ with_settling was_reset healed.old)
+        × TellsReset broken (B.view bus.old) (session_of result) was_reset (B.view bus.new)) }
+    ensures healed { HasSettled stands healed.old healed.new }
     ensures prepared { (B.view bus.new).is_kept ≡ true → StandsIn stands (B.view bus.old)
         → HasPrepared (B.view bus.old) result (B.view bus.new) }
 {
     match stands {
         Stands::Ready(session) => Ok(session),
-        Stands::Loose(broken) => settle(bus, broken),
+        Stands::Loose(broken) => {
+            let (outcome, was_reset) = settle_telling(bus, broken);
+            *healed = healed.settled(was_reset);
+            outcome
+        }
     }
 }
 
 // The same, and then selects the partition.
-fn prepared<B: Bus>(bus: &mut B, stands: Stands, part: Part) -> Result<Session, Broken>
+fn prepared<B: Bus>(
+    bus: &mut B,
+    healed: &mut Healed,
+    stands: Stands,
+    part: Part,
+) -> Result<Session, Broken>
     requires exists { IsSome (sectors_of (info_of stands) part) }
     ensures info { lasting (info_of (stands_of result)) ≡ lasting (info_of stands) }
     ensures selected { IfOk result (λ session. session.selected ≡ Some part) }
     ensures bounded { (B.view bus.new).exchanges ≤ (B.view bus.old).exchanges + EXCHANGES_BESIDE_A_RUN }
     ensures kept { (B.view bus.new).is_kept ≡ true → (B.view bus.old).is_kept ≡ true }
     ensures cause { IfErr result (λ broken. IsCausedIn 0 broken (B.view bus.old) (B.view bus.new)) }
+    ensures healed { HasSettled stands healed.old healed.new }
     ensures prepared { (B.view bus.new).is_kept ≡ true → StandsIn stands (B.view bus.old)
         → HasPrepared (B.view bus.old) result (B.view bus.new) }
 {
-    let session = settled(bus, stands)?;
+    let session = settled(bus, healed, stands)?;
     select(bus, session, part)
 }
 
@@ -63,6 +79,7 @@ fn prepared<B: Bus>(bus: &mut B, stands: Stands, part: Part) -> Result<Session, 
 /// `Broken` where the card couldn't be settled or selected, or the run failed; its cause is that of the exchange.
 pub fn try_read<B: Bus, D: BlocksMut>(
     bus: &mut B,
+    healed: &mut Healed,
     stands: Stands,
     part: Part,
     start: u64,
@@ -75,12 +92,13 @@ pub fn try_read<B: Bus, D: BlocksMut>(
     ensures lent { IsRewritten D.blocks D.with blocks.old blocks.new }
     ensures kept { (B.view bus.new).is_kept ≡ true → (B.view bus.old).is_kept ≡ true }
     ensures cause { IfErr result (λ broken. IsCausedIn 0 broken (B.view bus.old) (B.view bus.new)) }
+    ensures healed { HasSettled stands healed.old healed.new }
     ensures tried { (B.view bus.new).is_kept ≡ true → StandsIn stands (B.view bus.old)
         → HasTried 1 (written_at part start []) (B.view bus.old) result (B.view bus.new) }
     ensures read { (B.view bus.new).is_kept ≡ true → StandsIn stands (B.view bus.old)
         → IfOk result (λ session. AreRead (holds (B.view bus.new).card) part start (D.blocks blocks.new)) }
 {
-    let session = prepared(bus, stands, part)?;
+    let session = prepared(bus, healed, stands, part)?;
     read_run(bus, session, start, blocks)
 }
 
@@ -90,6 +108,7 @@ pub fn try_read<B: Bus, D: BlocksMut>(
 /// As `try_read`; each of the sectors is old or new then.
 pub fn try_write<B: Bus, D: Blocks>(
     bus: &mut B,
+    healed: &mut Healed,
     stands: Stands,
     part: Part,
     start: u64,
@@ -100,10 +119,11 @@ pub fn try_write<B: Bus, D: Blocks>(
     ensures bounded { (B.view bus.new).exchanges ≤ (B.view bus.old).exchanges + moving (length (D.blocks blocks.now)) }
     ensures kept { (B.view bus.new).is_kept ≡ true → (B.view bus.old).is_kept ≡ true }
     ensures cause { IfErr result (λ broken. IsCausedIn 0 broken (B.view bus.old) (B.view bus.new)) }
+    ensures healed { HasSettled stands healed.old healed.new }
     ensures tried { (B.view bus.new).is_kept ≡ true → StandsIn stands (B.view bus.old)
         → HasTried 1 (written_at part start (D.blocks blocks.now)) (B.view bus.old) result (B.view bus.new) }
 {
-    let session = prepared(bus, stands, part)?;
+    let session = prepared(bus, healed, stands, part)?;
     write_run(bus, session, start, blocks)
 }
 
@@ -113,6 +133,7 @@ pub fn try_write<B: Bus, D: Blocks>(
 /// As `try_read`; each of the sectors is as before or erased then.
 pub fn try_erase<B: Bus>(
     bus: &mut B,
+    healed: &mut Healed,
     stands: Stands,
     part: Part,
     start: u64,
@@ -124,9 +145,10 @@ pub fn try_erase<B: Bus>(
     ensures bounded { (B.view bus.new).exchanges ≤ (B.view bus.old).exchanges + erasing }
     ensures kept { (B.view bus.new).is_kept ≡ true → (B.view bus.old).is_kept ≡ true }
     ensures cause { IfErr result (λ broken. IsCausedIn 0 broken (B.view bus.old) (B.view bus.new)) }
+    ensures healed { HasSettled stands healed.old healed.new }
     ensures tried { (B.view bus.new).is_kept ≡ true → StandsIn stands (B.view bus.old)
         → HasTried 1 (erased_at (info_of stands) part start count) (B.view bus.old) result (B.view bus.new) }
 {
-    let session = prepared(bus, stands, part)?;
+    let session = prepared(bus, healed, stands, part)?;
     erase_run(bus, session, start, count, how)
 }

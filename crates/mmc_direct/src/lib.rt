@@ -11,6 +11,7 @@ mod stands;
 
 pub use action::Action;
 pub use attempts::{ATTEMPTS, EXCHANGES_BESIDE_A_RUN};
+pub use mmc_recovery::Healed;
 pub use refused::{NotDone, Refused};
 pub use requests::{erase, read, trim, write};
 pub use rules::refusal;

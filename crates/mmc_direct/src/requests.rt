@@ -5,9 +5,10 @@ ghost use Rattle.mmc_erase.specs.declared.how.How.{How};
 ghost use Rattle.mmc_switch.specs.Info.{lasting};
 ghost use Rattle.mmc_direct.specs.Attempts.{erasing, moving};
 ghost use Rattle.mmc_direct.specs.Changes.{erased_at, written_at};
+ghost use Rattle.mmc_direct.specs.Healing.{HasHealed};
 ghost use Rattle.mmc_direct.specs.Refusal.{action_of, refusal};
 ghost use Rattle.mmc_direct.specs.Requests.{HasChanged, HasRead};
-ghost use Rattle.mmc_direct.specs.Stands.{AnswersBy, IfLeft, IfRefused, IsCausedIn, StandsIn, info_of, refusal_in};
+ghost use Rattle.mmc_direct.specs.Stands.{AnswersBy, IfLeft, IfRefused, IfServed, IsCausedIn, StandsIn, info_of, refusal_in};
 ghost use Rattle.mmc_direct.specs.declared.action.Action.TheVariants.{Erase, Read, Trim, Write};
 ghost use Rattle.mmc_direct.specs.declared.attempts.TheConstants.{ATTEMPTS};
 
@@ -17,12 +18,14 @@ use crate::rules::refusal;
 use crate::stands::{Served, Stands};
 use mmc_bus::{Blocks, BlocksMut, Bus, Part};
 use mmc_erase::How;
+use mmc_recovery::Healed;
 
 /// Reads these blocks, 1 to 1,024, from this sector of a partition on, in at most four attempts: each settles the card where
 /// something has failed, selects the partition where another one is selected, and makes the run. What the blocks hold is open
 /// unless it is done.
 pub fn read<B: Bus, D: BlocksMut>(
     bus: &mut B,
+    healed: &mut Healed,
     stands: Stands,
     part: Part,
     start: u64,
@@ -31,6 +34,8 @@ pub fn read<B: Bus, D: BlocksMut>(
     ensures refused { refusal_in result.answer ≡ refusal Read (info_of stands) part start (length (D.blocks blocks.old)) }
     ensures untouched { IfRefused result.answer ((bus.new ≡ bus.old) × (result.stands ≡ stands) × (blocks.new ≡ blocks.old)) }
     ensures answer { AnswersBy result.answer result.stands }
+    ensures uncounted { IfRefused result.answer (healed.new ≡ healed.old) }
+    ensures healed { IfServed result.answer (HasHealed stands healed.old result.stands healed.new) }
     ensures info { lasting (info_of result.stands) ≡ lasting (info_of stands) }
     ensures count { length (D.blocks blocks.new) ≡ length (D.blocks blocks.old) }
     ensures lent { IsRewritten D.blocks D.with blocks.old blocks.new }
@@ -50,7 +55,7 @@ pub fn read<B: Bus, D: BlocksMut>(
         blocks.len() as u64,
     ) {
         Some(refused) => Served::refused(stands, refused),
-        None => Served::of(keep_reading(bus, stands, part, start, blocks)),
+        None => Served::of(keep_reading(bus, healed, stands, part, start, blocks)),
     }
 }
 
@@ -58,6 +63,7 @@ pub fn read<B: Bus, D: BlocksMut>(
 /// that is named is old or new. No other may hold more than it might before.
 pub fn write<B: Bus, D: Blocks>(
     bus: &mut B,
+    healed: &mut Healed,
     stands: Stands,
     part: Part,
     start: u64,
@@ -66,6 +72,8 @@ pub fn write<B: Bus, D: Blocks>(
     ensures refused { refusal_in result.answer ≡ refusal Write (info_of stands) part start (length (D.blocks blocks.now)) }
     ensures untouched { IfRefused result.answer ((bus.new ≡ bus.old) × (result.stands ≡ stands)) }
     ensures answer { AnswersBy result.answer result.stands }
+    ensures uncounted { IfRefused result.answer (healed.new ≡ healed.old) }
+    ensures healed { IfServed result.answer (HasHealed stands healed.old result.stands healed.new) }
     ensures info { lasting (info_of result.stands) ≡ lasting (info_of stands) }
     ensures bounded { (B.view bus.new).exchanges ≤ (B.view bus.old).exchanges + ATTEMPTS * moving (length (D.blocks blocks.now)) }
     ensures cause { IfLeft result.answer result.stands (λ broken. IsCausedIn ((ATTEMPTS - 1) * moving (length (D.blocks blocks.now))) broken
@@ -83,7 +91,7 @@ pub fn write<B: Bus, D: Blocks>(
         blocks.len() as u64,
     ) {
         Some(refused) => Served::refused(stands, refused),
-        None => Served::of(keep_writing(bus, stands, part, start, blocks)),
+        None => Served::of(keep_writing(bus, healed, stands, part, start, blocks)),
     }
 }
 
@@ -100,6 +108,7 @@ fn action_of(how: How) -> Action
 // Erases or trims so many sectors.
 fn give_up<B: Bus>(
     bus: &mut B,
+    healed: &mut Healed,
     stands: Stands,
     part: Part,
     start: u64,
@@ -109,6 +118,8 @@ fn give_up<B: Bus>(
     ensures refused { refusal_in result.answer ≡ refusal (action_of how) (info_of stands) part start count }
     ensures untouched { IfRefused result.answer ((bus.new ≡ bus.old) × (result.stands ≡ stands)) }
     ensures answer { AnswersBy result.answer result.stands }
+    ensures uncounted { IfRefused result.answer (healed.new ≡ healed.old) }
+    ensures healed { IfServed result.answer (HasHealed stands healed.old result.stands healed.new) }
     ensures info { lasting (info_of result.stands) ≡ lasting (info_of stands) }
     ensures bounded { (B.view bus.new).exchanges ≤ (B.view bus.old).exchanges + ATTEMPTS * erasing }
     ensures cause { IfLeft result.answer result.stands (λ broken. IsCausedIn ((ATTEMPTS - 1) * erasing) broken
@@ -119,17 +130,26 @@ fn give_up<B: Bus>(
 {
     match refusal(stands.info(), action_of(how), part, start, count) {
         Some(refused) => Served::refused(stands, refused),
-        None => Served::of(keep_erasing(bus, stands, part, start, count, how)),
+        None => Served::of(keep_erasing(bus, healed, stands, part, start, count, how)),
     }
 }
 
 /// Erases so many sectors, 1 or more, by whole erase units, the last of which may end with the partition; in attempts as `read`.
 /// They hold the card's erased byte then. Where it has failed each of them is as before or erased. No other may hold
 /// more than it might before.
-pub fn erase<B: Bus>(bus: &mut B, stands: Stands, part: Part, start: u64, count: u64) -> Served
+pub fn erase<B: Bus>(
+    bus: &mut B,
+    healed: &mut Healed,
+    stands: Stands,
+    part: Part,
+    start: u64,
+    count: u64,
+) -> Served
     ensures refused { refusal_in result.answer ≡ refusal Erase (info_of stands) part start count }
     ensures untouched { IfRefused result.answer ((bus.new ≡ bus.old) × (result.stands ≡ stands)) }
     ensures answer { AnswersBy result.answer result.stands }
+    ensures uncounted { IfRefused result.answer (healed.new ≡ healed.old) }
+    ensures healed { IfServed result.answer (HasHealed stands healed.old result.stands healed.new) }
     ensures info { lasting (info_of result.stands) ≡ lasting (info_of stands) }
     ensures bounded { (B.view bus.new).exchanges ≤ (B.view bus.old).exchanges + ATTEMPTS * erasing }
     ensures cause { IfLeft result.answer result.stands (λ broken. IsCausedIn ((ATTEMPTS - 1) * erasing) broken
@@ -139,14 +159,23 @@ pub fn erase<B: Bus>(bus: &mut B, stands: Stands, part: Part, start: u64, count:
     ensures served { (B.view bus.new).is_kept ≡ true → StandsIn stands (B.view bus.old)
         → HasChanged (erased_at (info_of stands) part start count) (B.view bus.old) result (B.view bus.new) }
 {
-    give_up(bus, stands, part, start, count, How::Erase)
+    give_up(bus, healed, stands, part, start, count, How::Erase)
 }
 
 /// Trims so many sectors, 1 or more, each by itself, of a card that trims; otherwise as `erase`.
-pub fn trim<B: Bus>(bus: &mut B, stands: Stands, part: Part, start: u64, count: u64) -> Served
+pub fn trim<B: Bus>(
+    bus: &mut B,
+    healed: &mut Healed,
+    stands: Stands,
+    part: Part,
+    start: u64,
+    count: u64,
+) -> Served
     ensures refused { refusal_in result.answer ≡ refusal Trim (info_of stands) part start count }
     ensures untouched { IfRefused result.answer ((bus.new ≡ bus.old) × (result.stands ≡ stands)) }
     ensures answer { AnswersBy result.answer result.stands }
+    ensures uncounted { IfRefused result.answer (healed.new ≡ healed.old) }
+    ensures healed { IfServed result.answer (HasHealed stands healed.old result.stands healed.new) }
     ensures info { lasting (info_of result.stands) ≡ lasting (info_of stands) }
     ensures bounded { (B.view bus.new).exchanges ≤ (B.view bus.old).exchanges + ATTEMPTS * erasing }
     ensures cause { IfLeft result.answer result.stands (λ broken. IsCausedIn ((ATTEMPTS - 1) * erasing) broken
@@ -156,5 +185,5 @@ pub fn trim<B: Bus>(bus: &mut B, stands: Stands, part: Part, start: u64, count: 
     ensures served { (B.view bus.new).is_kept ≡ true → StandsIn stands (B.view bus.old)
         → HasChanged (erased_at (info_of stands) part start count) (B.view bus.old) result (B.view bus.new) }
 {
-    give_up(bus, stands, part, start, count, How::Trim)
+    give_up(bus, healed, stands, part, start, count, How::Trim)
 }

@@ -5,8 +5,9 @@ ghost use Rattle.mmc_card.specs.Sectors.{AreRead};
 ghost use Rattle.mmc_bus.specs.Lending.{IsRewritten};
 ghost use Rattle.mmc_direct.specs.Attempts.{Tries, erasing, moving};
 ghost use Rattle.mmc_direct.specs.Changes.{erased_at, written_at};
+ghost use Rattle.mmc_direct.specs.Healing.{HasHealed};
 ghost use Rattle.mmc_direct.specs.Refusal.{action_of, refusal};
-ghost use Rattle.mmc_direct.specs.Stands.{StandsIn, info_of};
+ghost use Rattle.mmc_direct.specs.Stands.{StandsIn, info_of, stands_of};
 ghost use Rattle.mmc_direct.specs.declared.action.Action.TheVariants.{Read, Write};
 ghost use Rattle.mmc_direct.specs.declared.attempts.TheConstants.{ATTEMPTS};
 
@@ -14,11 +15,13 @@ use crate::attempts::{ATTEMPTS, try_erase, try_read, try_write};
 use crate::stands::Stands;
 use mmc_bus::{Blocks, BlocksMut, Bus, Part};
 use mmc_erase::How;
+use mmc_recovery::Healed;
 use mmc_switch::{Broken, Session};
 
 /// Reads these blocks.
 pub fn keep_reading<B: Bus, D: BlocksMut>(
     bus: &mut B,
+    healed: &mut Healed,
     stands: Stands,
     part: Part,
     start: u64,
@@ -27,19 +30,32 @@ pub fn keep_reading<B: Bus, D: BlocksMut>(
     requires served { refusal Read (info_of stands) part start (length (D.blocks blocks.old)) ≡ None }
     ensures count { length (D.blocks blocks.new) ≡ length (D.blocks blocks.old) }
     ensures lent { IsRewritten D.blocks D.with blocks.old blocks.new }
+    ensures healed { HasHealed stands healed.old (stands_of result) healed.new }
     ensures tries { Tries ATTEMPTS (moving (length (D.blocks blocks.old))) (written_at part start []) stands
         (B.view bus.old) result (B.view bus.new) }
     ensures read { (B.view bus.new).is_kept ≡ true → StandsIn stands (B.view bus.old)
         → IfOk result (λ session. AreRead (holds (B.view bus.new).card) part start (D.blocks blocks.new)) }
 {
-    let mut broken = match try_read(bus, stands, part, start, blocks) {
-        Ok(session) => return Ok(session),
-        Err(broken) => broken,
+    let mut broken = match try_read(bus, healed, stands, part, start, blocks) {
+        Ok(session) => {
+            *healed = healed.attempted();
+            return Ok(session);
+        }
+        Err(broken) => {
+            *healed = healed.attempted().met(broken.cause());
+            broken
+        }
     };
     for _failed in 1..ATTEMPTS {
-        match try_read(bus, Stands::Loose(broken), part, start, blocks) {
-            Ok(session) => return Ok(session),
-            Err(left) => broken = left,
+        match try_read(bus, healed, Stands::Loose(broken), part, start, blocks) {
+            Ok(session) => {
+                *healed = healed.attempted();
+                return Ok(session);
+            }
+            Err(left) => {
+                *healed = healed.attempted().met(left.cause());
+                broken = left;
+            }
         }
     }
     Err(broken)
@@ -48,23 +64,37 @@ pub fn keep_reading<B: Bus, D: BlocksMut>(
 /// Writes these blocks.
 pub fn keep_writing<B: Bus, D: Blocks>(
     bus: &mut B,
+    healed: &mut Healed,
     stands: Stands,
     part: Part,
     start: u64,
     blocks: &D,
 ) -> Result<Session, Broken>
     requires served { refusal Write (info_of stands) part start (length (D.blocks blocks.now)) ≡ None }
+    ensures healed { HasHealed stands healed.old (stands_of result) healed.new }
     ensures tries { Tries ATTEMPTS (moving (length (D.blocks blocks.now))) (written_at part start (D.blocks blocks.now)) stands
         (B.view bus.old) result (B.view bus.new) }
 {
-    let mut broken = match try_write(bus, stands, part, start, blocks) {
-        Ok(session) => return Ok(session),
-        Err(broken) => broken,
+    let mut broken = match try_write(bus, healed, stands, part, start, blocks) {
+        Ok(session) => {
+            *healed = healed.attempted();
+            return Ok(session);
+        }
+        Err(broken) => {
+            *healed = healed.attempted().met(broken.cause());
+            broken
+        }
     };
     for _failed in 1..ATTEMPTS {
-        match try_write(bus, Stands::Loose(broken), part, start, blocks) {
-            Ok(session) => return Ok(session),
-            Err(left) => broken = left,
+        match try_write(bus, healed, Stands::Loose(broken), part, start, blocks) {
+            Ok(session) => {
+                *healed = healed.attempted();
+                return Ok(session);
+            }
+            Err(left) => {
+                *healed = healed.attempted().met(left.cause());
+                broken = left;
+            }
         }
     }
     Err(broken)
@@ -73,6 +103,7 @@ pub fn keep_writing<B: Bus, D: Blocks>(
 /// Erases or trims these sectors.
 pub fn keep_erasing<B: Bus>(
     bus: &mut B,
+    healed: &mut Healed,
     stands: Stands,
     part: Part,
     start: u64,
@@ -80,17 +111,30 @@ pub fn keep_erasing<B: Bus>(
     how: How,
 ) -> Result<Session, Broken>
     requires served { refusal (action_of how) (info_of stands) part start count ≡ None }
+    ensures healed { HasHealed stands healed.old (stands_of result) healed.new }
     ensures tries { Tries ATTEMPTS erasing (erased_at (info_of stands) part start count) stands
         (B.view bus.old) result (B.view bus.new) }
 {
-    let mut broken = match try_erase(bus, stands, part, start, count, how) {
-        Ok(session) => return Ok(session),
-        Err(broken) => broken,
+    let mut broken = match try_erase(bus, healed, stands, part, start, count, how) {
+        Ok(session) => {
+            *healed = healed.attempted();
+            return Ok(session);
+        }
+        Err(broken) => {
+            *healed = healed.attempted().met(broken.cause());
+            broken
+        }
     };
     for _failed in 1..ATTEMPTS {
-        match try_erase(bus, Stands::Loose(broken), part, start, count, how) {
-            Ok(session) => return Ok(session),
-            Err(left) => broken = left,
+        match try_erase(bus, healed, Stands::Loose(broken), part, start, count, how) {
+            Ok(session) => {
+                *healed = healed.attempted();
+                return Ok(session);
+            }
+            Err(left) => {
+                *healed = healed.attempted().met(left.cause());
+                broken = left;
+            }
         }
     }
     Err(broken)

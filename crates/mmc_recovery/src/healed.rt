@@ -2,8 +2,13 @@
 ghost use Rattle.std.specs.Prelude.{◌≡◌};
 
 use mmc_bus::Cause;
+use std::mem::size_of;
+
+// As `struct kelifandro_healed` of C.
+const _: () = prove!(size_of::<Healed>() == 64);
 
 /// What was met and healed, counted. Each count stays at 2^64 - 1 once it is there.
+#[repr(C)]
 #[derive(Clone, Copy, Debug, PartialEq, Eq)]
 pub struct Healed {
     /// How many attempts at requests are over, with success or without.

@@ -3,7 +3,7 @@ use crate::cards::*;
 use crate::transfer::{filled, is_all};
 use mmc_bus::{Bytes, Part};
 use mmc_card_sim::{Fault, SimCard};
-use mmc_direct::{NotDone, Refused, Stands, erase, read, trim, write};
+use mmc_direct::{Healed, NotDone, Refused, Stands, erase, read, trim, write};
 use mmc_switch::{Cause, Session};
 use std::alloc::Global;
 use std::test::Fail;
@@ -16,9 +16,9 @@ fn erased(
     start: u64,
     count: u64,
 ) -> Option<NotDone> {
-    erase(card, Stands::Ready(session), part, start, count)
-        .answer
-        .err()
+    let mut healed = Healed::new();
+    let served = erase(card, &mut healed, Stands::Ready(session), part, start, count);
+    served.answer.err()
 }
 
 // Why these sectors of card `emmc` can't be erased, if nothing was sent.
@@ -52,9 +52,10 @@ fn refuses_for_the_first_reason(rt: HostRuntime) -> Result<(), Fail> {
 
 // Writes two sectors across the end of an erase unit, trims the second and erases the first with its unit.
 fn changed(card: &mut SimCard, stands: Stands, blocks: &Bytes) -> Stands {
-    let written = write(card, stands, Part::User, 1023, blocks);
-    let trimmed = trim(card, written.stands, Part::User, 1024, 1);
-    erase(card, trimmed.stands, Part::User, 0, 1024).stands
+    let mut healed = Healed::new();
+    let written = write(card, &mut healed, stands, Part::User, 1023, blocks);
+    let trimmed = trim(card, &mut healed, written.stands, Part::User, 1024, 1);
+    erase(card, &mut healed, trimmed.stands, Part::User, 0, 1024).stands
 }
 
 #[test]
@@ -63,10 +64,13 @@ fn serves_one_request_after_another(rt: HostRuntime) -> Result<(), Fail> {
     let session = opened(&mut card).ok_or("not opened")?;
     let blocks = filled(rt.alloc(), 0x5a, 2)?;
     let mut room = filled(rt.alloc(), 0, 2)?;
-    let written = write(&mut card, Stands::Ready(session), Part::Boot2, 254, &blocks);
+    let mut healed = Healed::new();
+    let ready = Stands::Ready(session);
+    let written = write(&mut card, &mut healed, ready, Part::Boot2, 254, &blocks);
     let stands = changed(&mut card, written.stands, &blocks);
-    let served = read(&mut card, stands, Part::Boot2, 254, &mut room);
+    let served = read(&mut card, &mut healed, stands, Part::Boot2, 254, &mut room);
     assert_eq!(rt; served.answer, Ok(()));
+    assert_eq!(rt; healed.attempts, 2);
     assert!(rt; is_all(room.as_slice(), 0x5a));
     assert!(rt; is_all(card.contents(Part::User), 0xff));
     Ok(())
@@ -90,10 +94,19 @@ fn gives_up_after_four_attempts(rt: HostRuntime) -> Result<(), Fail> {
     let session = opened(&mut card).ok_or("not opened")?;
     let first = planned(&mut card)?;
     let mut room = filled(rt.alloc(), 0, 1)?;
-    let served = read(&mut card, Stands::Ready(session), Part::User, 0, &mut room);
+    let mut healed = Healed::new();
+    let ready = Stands::Ready(session);
+    let served = read(&mut card, &mut healed, ready, Part::User, 0, &mut room);
     assert_eq!(rt; served.answer, Err(NotDone::Failed(Cause::Answer)));
     assert_eq!(rt; Some(card.exchanges()), first.checked_add(16));
-    let again = read(&mut card, served.stands, Part::User, 0, &mut room);
+    let again = read(&mut card, &mut healed, served.stands, Part::User, 0, &mut room);
     assert_eq!(rt; again.answer, Ok(()));
+    let counted = Healed {
+        attempts: 5,
+        by_answer: 4,
+        settlings: 4,
+        ..Healed::new()
+    };
+    assert_eq!(rt; healed, counted);
     Ok(())
 }

@@ -2,6 +2,7 @@ use Rattle.std.proofs.Common.{◌*◌, ◌-◌}
 use Rattle.mmc_direct.specs.Changes.{erased_at}
 use Rattle.mmc_direct.specs.Stands.{info_of}
 use Rattle.mmc_direct.proofs.CauseLemmas.{left_by}
+use Rattle.mmc_direct.proofs.HealingLemmas.{healed_by}
 use Rattle.mmc_direct.proofs.RequestLemmas.{has_changed}
 use Rattle.mmc_direct.specs.Attempts.{erasing}
 use Rattle.mmc_direct.specs.Stands.{IsCausedIn}
@@ -19,3 +20,8 @@ returns-in-None-clause-cause g c =
     left_by (λ broken. IsCausedIn ((ATTEMPTS - 1) * erasing) broken (g.B.Bus.view c.args.bus.now)
     (g.B.Bus.view c.keep_erasing.new.bus)) c.of.result c.keep_erasing.result c.of.ensures.stands c.of.ensures.answer
     c.keep_erasing.ensures.tries.cause
+
+pub returns-in-None-clause-healed : goal.returns-in-None-clause-healed
+returns-in-None-clause-healed g c =
+    healed_by c.args.stands c.args.healed.now c.of.result c.keep_erasing.result c.keep_erasing.new.healed c.of.ensures.stands
+    c.of.ensures.answer c.keep_erasing.ensures.healed

@@ -5,8 +5,10 @@ use Rattle.mmc_direct.specs.Changes.{written_at}
 use Rattle.mmc_direct.specs.Refusal.{refusal}
 use Rattle.mmc_direct.specs.Stands.{info_of}
 use Rattle.mmc_direct.specs.declared.action.Action.TheVariants.{Read}
+use Rattle.mmc_direct.specs.declared.stands.Stands.TheVariants.{Loose, Ready}
 use Rattle.mmc_direct.specs.declared.attempts.TheConstants.{ATTEMPTS}
 use Rattle.mmc_direct.proofs.LentLemmas.{lent_then}
+use Rattle.mmc_direct.proofs.HealingLemmas.{failed_so, healed_done, healed_in_vain, heals_again, heals_first}
 use Rattle.mmc_direct.proofs.ServeLemmas.{still_served}
 use Rattle.mmc_direct.proofs.TriesLemmas.{one_read, one_try, tries_again, tries_all, tries_enough}
 use Rattle.mmc_direct.proofs.retries.keep_reading.Goals as goal
@@ -29,6 +31,9 @@ loop-failed-init g c =
           e.bounded e.kept e.cause e.tried,
       e.count,
       e.lent,
+      heals_first c.args.stands c.args.healed.now c.try_read.new.healed (Loose c.in-Err.broken) c.met.result e.healed
+          (failed_so c.in-Err.broken c.try_read.new.healed c.attempted-in-Err.result c.met.result c.cause.result c.attempted-in-Err.ensures
+          c.cause.ensures c.met.ensures),
     )
 
 pub try_read-requires-in-loop-failed : goal.try_read-requires-in-loop-failed
@@ -74,6 +79,10 @@ loop-failed-preserved g c =
           c.loop-failed.invariant.1 e.info e.bounded e.kept e.cause e.tried),
       e.count ∙ c.loop-failed.invariant.1,
       lent_then c.loop-failed.invariant.2 e.lent,
+      heals_again c.args.stands c.args.healed.now c.loop-failed._failed c.loop-failed.broken c.loop-failed.healed
+          c.try_read-in-loop-failed.new.healed (Loose c.in-Err-try_read.left) c.met-in-Err-try_read.result c.loop-failed.invariant.3 e.healed
+          (failed_so c.in-Err-try_read.left c.try_read-in-loop-failed.new.healed c.attempted-in-Err-try_read.result c.met-in-Err-try_read.result c.cause-in-Err-try_read.result c.attempted-in-Err-try_read.ensures
+          c.cause-in-Err-try_read.ensures c.met-in-Err-try_read.ensures),
     )
 
 pub returns-clause-tries : goal.returns-clause-tries
@@ -87,3 +96,23 @@ pub returns-in-Ok-try_read-clause-read : goal.returns-in-Ok-try_read-clause-read
 returns-in-Ok-try_read-clause-read g c kept at =
     let e = c.in-Ok-try_read.ensures in
     e.read kept (c.loop-failed.invariant.0.tried (e.kept kept) at).stands
+
+pub returns-in-Ok-clause-healed : goal.returns-in-Ok-clause-healed
+returns-in-Ok-clause-healed g c =
+    healed_done c.args.stands c.args.healed.now 1 c.in-Ok.session c.attempted.result (omega arith)
+    (heals_first c.args.stands c.args.healed.now c.try_read.new.healed (Ready c.in-Ok.session) c.attempted.result
+    c.in-Ok.ensures.healed c.attempted.ensures)
+
+pub returns-in-Ok-try_read-clause-healed : goal.returns-in-Ok-try_read-clause-healed
+returns-in-Ok-try_read-clause-healed g c =
+    let few = c.loop-failed-test.true in
+    healed_done c.args.stands c.args.healed.now (c.loop-failed._failed + 1) c.in-Ok-try_read.session c.attempted-in-Ok-try_read.result
+    (omega (arith, few))
+    (heals_again c.args.stands c.args.healed.now c.loop-failed._failed c.loop-failed.broken c.loop-failed.healed
+    c.try_read-in-loop-failed.new.healed (Ready c.in-Ok-try_read.session) c.attempted-in-Ok-try_read.result c.loop-failed.invariant.3
+    c.in-Ok-try_read.ensures.healed c.attempted-in-Ok-try_read.ensures)
+
+pub returns-clause-healed : goal.returns-clause-healed
+returns-clause-healed g c =
+    healed_in_vain c.args.stands c.args.healed.now c.loop-failed._failed c.loop-failed.broken c.loop-failed.healed
+    c.loop-failed-test.false (c.loop-failed.auto._failed-end (omega arith)) c.loop-failed.invariant.3

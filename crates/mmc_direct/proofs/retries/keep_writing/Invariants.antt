@@ -2,10 +2,13 @@ use Rattle.std.proofs.Common.{length}
 use Rattle.std.specs.Prelude.{Err}
 use Rattle.mmc_direct.specs.Attempts.{Tries, moving}
 use Rattle.mmc_direct.specs.Changes.{written_at}
+use Rattle.mmc_direct.specs.Healing.{Heals}
+use Rattle.mmc_direct.specs.declared.stands.Stands.TheVariants.{Loose}
 use Rattle.mmc_direct.proofs.retries.keep_writing.Given as goal
 
 abbrev pub invariant-loop-failed : goal.invariant-loop-failed
 invariant-loop-failed g l =
-    Tries l._failed (moving (length (g.D.Blocks.blocks l.fn.blocks)))
+    (Tries l._failed (moving (length (g.D.Blocks.blocks l.fn.blocks)))
     (written_at l.fn.part l.fn.start (g.D.Blocks.blocks l.fn.blocks)) l.fn.stands
-    (g.B.Bus.view l.fn.bus) (Err l.broken) (g.B.Bus.view l.bus)
+    (g.B.Bus.view l.fn.bus) (Err l.broken) (g.B.Bus.view l.bus))
+    × Heals l.fn.stands l.fn.healed l._failed (Loose l.broken) l.healed

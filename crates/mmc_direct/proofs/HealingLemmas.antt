@@ -1,0 +1,56 @@
+-- What attempts add to the counts.
+use Rattle.std.proofs.Common.{◌+◌, ◌∙◌, ◌≡◌, ◌≤◌, ap, arith, refl, subst, sym, ℕ}
+use Rattle.std.specs.Prelude.{Err, Ok, Result}
+use Rattle.mmc_bus.specs.declared.cause.Cause.{Cause}
+use Rattle.mmc_recovery.specs.Healed.{with_attempt, with_failure}
+use Rattle.mmc_recovery.specs.declared.healed.Healed.{Healed}
+use Rattle.mmc_switch.specs.declared.broken.Broken.{Broken}
+use Rattle.mmc_switch.specs.declared.session.Session.{Session}
+use Rattle.mmc_direct.specs.Healing.{HasHealed, HasSettled, Heals, after_attempt}
+use Rattle.mmc_direct.specs.Healing.Heals.{again, first}
+use Rattle.mmc_direct.specs.Stands.{IfServed, answer_of, stands_of}
+use Rattle.mmc_direct.specs.declared.attempts.TheConstants.{ATTEMPTS}
+use Rattle.mmc_direct.specs.declared.stands.Served.{Served}
+use Rattle.mmc_direct.specs.declared.stands.Stands.{Stands}
+use Rattle.mmc_direct.specs.declared.stands.Stands.TheVariants.{Loose, Ready}
+
+pub heals_first : (stands : Stands) (old settled : Healed) (left : Stands) (new : Healed) → HasSettled stands old settled
+    → new ≡ after_attempt left settled → Heals stands old 1 left new
+heals_first stands old settled left new settles is =
+    subst (λ n. Heals stands old 1 left n) (sym is) (first settled left settles)
+
+pub heals_again : (stands : Stands) (old : Healed) (before : ℕ) (broken : Broken) (healed settled : Healed) (left : Stands)
+    (new : Healed) → Heals stands old before (Loose broken) healed → HasSettled (Loose broken) healed settled
+    → new ≡ after_attempt left settled → Heals stands old (before + 1) left new
+heals_again stands old before broken healed settled left new so_far settles is =
+    subst (λ n. Heals stands old (before + 1) left n) (sym is) (again before broken healed settled left so_far settles)
+
+-- an attempt that failed, as it is counted
+pub failed_so : (broken : Broken) (settled attempted met : Healed) (cause : Cause) → attempted ≡ with_attempt settled
+    → cause ≡ broken.cause → met ≡ with_failure cause attempted → met ≡ after_attempt (Loose broken) settled
+failed_so broken settled attempted met cause one why counted =
+    counted ∙ ap (λ (c : Cause). with_failure c attempted) why ∙ ap (λ (h : Healed). with_failure broken.cause h) one
+
+-- a request that is done, or one whose attempts are used up
+pub healed_done : (stands : Stands) (old : Healed) (attempts : ℕ) (session : Session) (new : Healed) → attempts ≤ ATTEMPTS
+    → Heals stands old attempts (Ready session) new → HasHealed stands old (Ready session) new
+healed_done stands old attempts session new few heals = record { attempts = attempts; all = few; heals = heals }
+
+pub healed_in_vain : (stands : Stands) (old : Healed) (attempts : ℕ) (broken : Broken) (new : Healed) → ATTEMPTS ≤ attempts
+    → attempts ≤ ATTEMPTS → Heals stands old attempts (Loose broken) new → HasHealed stands old (Loose broken) new
+healed_in_vain stands old attempts broken new least few heals =
+    record { attempts = attempts; all = omega (arith, least, few); heals = heals }
+
+-- what a request that isn't refused adds
+served_by : (Holds : Stands → Type 0) (result : Result Session Broken) → Holds (stands_of result)
+    → IfServed (answer_of result) (Holds (stands_of result))
+served_by Holds (Ok session) holds = holds
+served_by Holds (Err broken) holds = holds
+
+pub healed_by : (stands : Stands) (old : Healed) (served : Served) (result : Result Session Broken) (new : Healed)
+    → served.stands ≡ stands_of result → served.answer ≡ answer_of result → HasHealed stands old (stands_of result) new
+    → IfServed served.answer (HasHealed stands old served.stands new)
+healed_by stands old served result new left answer healed =
+    subst (λ s. IfServed served.answer (HasHealed stands old s new)) (sym left)
+    (subst (λ a. IfServed a (HasHealed stands old (stands_of result) new)) (sym answer)
+    (served_by (λ s. HasHealed stands old s new) result healed))
