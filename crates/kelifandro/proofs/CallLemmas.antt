@@ -5,10 +5,10 @@ use Rattle.std.specs.Prelude.{[], Bool, Err, IfErr, IfOk, IsOk, List, None, Ok, 
 use Rattle.c_host.specs.declared.lent.SectorsMut.{SectorsMut}
 use Rattle.mmc_bus.specs.declared.cause.Cause.TheVariants.{Answer, Busy, Data, Recovery, Status}
 use Rattle.mmc_bus.specs.Lending.{IsRewritten, block, nothing}
-use Rattle.mmc_calls.specs.Noted.{Notes, lines_in}
+use Rattle.mmc_calls.specs.Noted.{IsCounted, Notes, lines_in}
 use Rattle.mmc_card.specs.declared.exchange.Lines.{Lines}
 use Rattle.mmc_card.specs.declared.part.Part.{Part}
-use Rattle.mmc_direct.specs.Stands.{IfRefused, refusal_in}
+use Rattle.mmc_direct.specs.Stands.{IfRefused, IfServed, refusal_in}
 use Rattle.mmc_direct.specs.declared.refused.NotDone.{NotDone}
 use Rattle.mmc_direct.specs.declared.refused.NotDone.TheVariants.{Failed, Refused as RefusedFor}
 use Rattle.mmc_direct.specs.declared.refused.Refused.{Refused}
@@ -20,10 +20,12 @@ use Rattle.mmc_host.specs.Hosts.{HostView}
 use Rattle.mmc_host.specs.declared.told.HostState.{HostState}
 use Rattle.mmc_record.specs.Numbers.{part_of}
 use Rattle.mmc_record.specs.declared.record.CardRecord.{CardRecord}
+use Rattle.mmc_recovery.specs.declared.healed.Healed.{Healed}
 use Rattle.mmc_story.specs.Entry.{Entry}
 use Rattle.mmc_story.specs.Story.{IsTrueOf, Story, host_with}
 use Rattle.kelifandro.specs.Answers.{answer_number, refused_number}
-use Rattle.kelifandro.specs.Calls.{IfNoted, IsAsNoted, TellsWhy, host_of}
+use Rattle.kelifandro.specs.Calls.{IfNoted, IsAsNoted, TellsCounts, TellsWhy, host_of}
+use Rattle.kelifandro.specs.Calls.TellsCounts.{made, unmade}
 
 -- a number of a refusal, and of nothing else
 abbrev is_refusal : ℤ → Bool
@@ -74,6 +76,27 @@ tells_why answer way (Some why) (Ok did) number told other fault comes judged =
     (λ done. not_done why (sym is ∙ done), λ host. is)
 tells_why answer way (Some why) (Err not) number told other fault comes judged =
     (λ done. fault (sym other ∙ done), λ host. absurd (false≢true (comes host)))
+
+by_answer : (stands : Stands) (old : Healed) (answer : Result Unit NotDone) (number : ℤ) (note : CardRecord) (new : Healed)
+    → number ≡ answer_number answer → IfRefused answer (new ≡ old) → IfServed answer (IsCounted stands old answer note new)
+    → TellsCounts stands old number note new
+by_answer stands old (Ok done) number note new told refused counts = made (Ok done) told counts
+by_answer stands old (Err (RefusedFor why)) number note new told refused counts =
+    unmade (λ done. not_done why (sym told ∙ done)) refused
+by_answer stands old (Err (Failed cause)) number note new told refused counts = made (Err (Failed cause)) told counts
+
+-- what a call told is what was counted
+pub tells_counts : {A : Type 0} (answer : A → Result Unit NotDone) (stands : Stands) (old : Healed) (called : Result A ℤ)
+    (number : ℤ) (note : CardRecord) (new : Healed)
+    → IfOk called (λ did. number ≡ answer_number (answer did)) → IfErr called (λ other. number ≡ other)
+    → IfErr called (λ other. other ≡ pos 0 → ⊥) → IfErr called (λ other. new ≡ old)
+    → IfOk called (λ did. IfRefused (answer did) (new ≡ old))
+    → IfOk called (λ did. IfServed (answer did) (IsCounted stands old (answer did) note new))
+    → TellsCounts stands old number note new
+tells_counts answer stands old (Err not) number note new told other fault none refused counts =
+    unmade (λ done. fault (sym other ∙ done)) none
+tells_counts answer stands old (Ok did) number note new told other fault none refused counts =
+    by_answer stands old (answer did) number note new told refused counts
 
 -- what holds of the host that a call goes on with holds of the story's, where the card was noted
 pub holds_as_noted : (story : Story) (note : CardRecord) (number : ℕ) (stands : Stands) (part : Part) (past : List Entry)

@@ -3,10 +3,11 @@ use Rattle.std.specs.Prelude.{◌≡◌, [], None, Option, Result, Some, pos, �
 use Rattle.c_host.specs.declared.registers.CRegisters.{CRegisters}
 use Rattle.c_host.specs.declared.way.Given.{Given}
 use Rattle.c_host.specs.declared.way.Given.TheVariants.{Host, Registers}
-use Rattle.mmc_calls.specs.Noted.{lines_in}
+use Rattle.mmc_calls.specs.Noted.{IsCounted, lines_in}
 use Rattle.mmc_card.specs.declared.exchange.Lines.{Lines}
 use Rattle.mmc_card.specs.declared.part.Part.{Part}
 use Rattle.mmc_direct.specs.Stands.{stands_of}
+use Rattle.mmc_direct.specs.declared.refused.NotDone.{NotDone}
 use Rattle.mmc_direct.specs.declared.refused.Refused.{Refused}
 use Rattle.mmc_direct.specs.declared.stands.Stands.{Stands}
 use Rattle.mmc_host.specs.HostStates.{resting}
@@ -14,10 +15,11 @@ use Rattle.mmc_host.specs.Hosts.{HostView}
 use Rattle.mmc_record.specs.Note.{IsNoteOf}
 use Rattle.mmc_record.specs.Numbers.{part_of}
 use Rattle.mmc_record.specs.declared.record.CardRecord.{CardRecord}
+use Rattle.mmc_recovery.specs.declared.healed.Healed.{Healed}
 use Rattle.mmc_story.specs.Story.{Story, host_with}
 use Rattle.mmc_switch.specs.declared.broken.Broken.{Broken}
 use Rattle.mmc_switch.specs.declared.session.Session.{Session}
-use Rattle.kelifandro.specs.Answers.{refused_number}
+use Rattle.kelifandro.specs.Answers.{answer_number, refused_number}
 
 -- the card stands as was noted
 abbrev pub IsAsNoted : Stands → CardRecord → Type 0
@@ -42,3 +44,9 @@ host_of story stands limits = host_with (story.outcome []) (resting (lines_in st
 abbrev pub TellsWhy : ℕ → Option Refused → ℤ → Type 0
 TellsWhy way None number = way ≡ 0 → (why : Refused) → number ≡ refused_number why → ⊥
 TellsWhy way (Some why) number = (number ≡ pos 0 → ⊥) × (way ≡ 0 → number ≡ refused_number why)
+
+-- Of a call that made no attempt nothing is counted, and it isn't told as done; any other is counted by what it tells.
+pub data TellsCounts (stands : Stands) (old : Healed) (number : ℤ) (note : CardRecord) (new : Healed) : Type 0 where
+  unmade : (number ≡ pos 0 → ⊥) → new ≡ old → TellsCounts stands old number note new
+  made : (answer : Result Unit NotDone) → number ≡ answer_number answer → IsCounted stands old answer note new
+      → TellsCounts stands old number note new

@@ -62,13 +62,14 @@ pub fn read_by<S: HasStory>(
     ensures not_open { IsSome (part_of part) → is_note card.old ≡ false → result ≡ Err (minus 1) }
     ensures functions { way ≡ 0 → IfNoted card.old part (λ stands part. IsOk result) }
     ensures fault { IfErr result (λ number. number ≡ pos 0 → ⊥) }
-    ensures no_host { IfErr result (λ number. (card.new ≡ card.old) × (blocks.new ≡ blocks.old) × (healed.new ≡ healed.old)) }
+    ensures no_host { IfErr result (λ number. (card.new ≡ card.old) × (blocks.new ≡ blocks.old)) }
     ensures judged { IfNoted card.old part (λ stands part. IfOk result (λ did.
         refusal_in did.answer ≡ refusal Read (info_of stands) part start (length blocks.old))) }
     ensures left { IfOk result (λ did. is_err did.left ≡ is_some (refusal_in did.answer)) }
     ensures untouched { IfNoted card.old part (λ stands part. IfOk result (λ did. IfRefused did.answer
         ((blocks.new ≡ blocks.old) × Notes stands card.new))) }
-    ensures uncounted { IfOk result (λ did. IfRefused did.answer (healed.new ≡ healed.old)) }
+    ensures uncounted { IfErr result (λ number. healed.new ≡ healed.old) }
+    ensures not_counted { IfOk result (λ did. IfRefused did.answer (healed.new ≡ healed.old)) }
     ensures counted { IfNoted card.old part (λ stands part. IfOk result (λ did. IfServed did.answer
         (IsCounted stands healed.old did.answer card.new healed.new))) }
     ensures served { IsTrueOf S.story [] → IfNoted card.old part (λ stands part. IfOk result (λ did. IfOk did.left (λ bus.
@@ -101,12 +102,13 @@ pub fn write_by<S: HasStory>(
     ensures not_open { IsSome (part_of part) → is_note card.old ≡ false → result ≡ Err (minus 1) }
     ensures functions { way ≡ 0 → IfNoted card.old part (λ stands part. IsOk result) }
     ensures fault { IfErr result (λ number. number ≡ pos 0 → ⊥) }
-    ensures no_host { IfErr result (λ number. (card.new ≡ card.old) × (healed.new ≡ healed.old)) }
+    ensures no_host { IfErr result (λ number. card.new ≡ card.old) }
     ensures judged { IfNoted card.old part (λ stands part. IfOk result (λ did.
         refusal_in did.answer ≡ refusal Write (info_of stands) part start (length blocks.now))) }
     ensures left { IfOk result (λ did. is_err did.left ≡ is_some (refusal_in did.answer)) }
     ensures untouched { IfNoted card.old part (λ stands part. IfOk result (λ did. IfRefused did.answer (Notes stands card.new))) }
-    ensures uncounted { IfOk result (λ did. IfRefused did.answer (healed.new ≡ healed.old)) }
+    ensures uncounted { IfErr result (λ number. healed.new ≡ healed.old) }
+    ensures not_counted { IfOk result (λ did. IfRefused did.answer (healed.new ≡ healed.old)) }
     ensures counted { IfNoted card.old part (λ stands part. IfOk result (λ did. IfServed did.answer
         (IsCounted stands healed.old did.answer card.new healed.new))) }
     ensures served { IsTrueOf S.story [] → IfNoted card.old part (λ stands part. IfOk result (λ did. IfOk did.left (λ bus.
@@ -139,12 +141,13 @@ pub fn erase_by<S: HasStory>(
     ensures not_open { IsSome (part_of part) → is_note card.old ≡ false → result ≡ Err (minus 1) }
     ensures functions { way ≡ 0 → IfNoted card.old part (λ stands part. IsOk result) }
     ensures fault { IfErr result (λ number. number ≡ pos 0 → ⊥) }
-    ensures no_host { IfErr result (λ number. (card.new ≡ card.old) × (healed.new ≡ healed.old)) }
+    ensures no_host { IfErr result (λ number. card.new ≡ card.old) }
     ensures judged { IfNoted card.old part (λ stands part. IfOk result (λ did.
         refusal_in did.answer ≡ refusal Erase (info_of stands) part start count)) }
     ensures left { IfOk result (λ did. is_err did.left ≡ is_some (refusal_in did.answer)) }
     ensures untouched { IfNoted card.old part (λ stands part. IfOk result (λ did. IfRefused did.answer (Notes stands card.new))) }
-    ensures uncounted { IfOk result (λ did. IfRefused did.answer (healed.new ≡ healed.old)) }
+    ensures uncounted { IfErr result (λ number. healed.new ≡ healed.old) }
+    ensures not_counted { IfOk result (λ did. IfRefused did.answer (healed.new ≡ healed.old)) }
     ensures counted { IfNoted card.old part (λ stands part. IfOk result (λ did. IfServed did.answer
         (IsCounted stands healed.old did.answer card.new healed.new))) }
     ensures served { IsTrueOf S.story [] → IfNoted card.old part (λ stands part. IfOk result (λ did. IfOk did.left (λ bus.
@@ -177,12 +180,13 @@ pub fn trim_by<S: HasStory>(
     ensures not_open { IsSome (part_of part) → is_note card.old ≡ false → result ≡ Err (minus 1) }
     ensures functions { way ≡ 0 → IfNoted card.old part (λ stands part. IsOk result) }
     ensures fault { IfErr result (λ number. number ≡ pos 0 → ⊥) }
-    ensures no_host { IfErr result (λ number. (card.new ≡ card.old) × (healed.new ≡ healed.old)) }
+    ensures no_host { IfErr result (λ number. card.new ≡ card.old) }
     ensures judged { IfNoted card.old part (λ stands part. IfOk result (λ did.
         refusal_in did.answer ≡ refusal Trim (info_of stands) part start count)) }
     ensures left { IfOk result (λ did. is_err did.left ≡ is_some (refusal_in did.answer)) }
     ensures untouched { IfNoted card.old part (λ stands part. IfOk result (λ did. IfRefused did.answer (Notes stands card.new))) }
-    ensures uncounted { IfOk result (λ did. IfRefused did.answer (healed.new ≡ healed.old)) }
+    ensures uncounted { IfErr result (λ number. healed.new ≡ healed.old) }
+    ensures not_counted { IfOk result (λ did. IfRefused did.answer (healed.new ≡ healed.old)) }
     ensures counted { IfNoted card.old part (λ stands part. IfOk result (λ did. IfServed did.answer
         (IsCounted stands healed.old did.answer card.new healed.new))) }
     ensures served { IsTrueOf S.story [] → IfNoted card.old part (λ stands part. IfOk result (λ did. IfOk did.left (λ bus.

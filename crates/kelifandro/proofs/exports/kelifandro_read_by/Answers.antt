@@ -3,8 +3,8 @@ use Rattle.std.proofs.lemmas.Int.{to_z-of_z}
 use Rattle.mmc_direct.specs.Refusal.{refusal}
 use Rattle.mmc_direct.specs.Stands.{info_of, stands_of}
 use Rattle.mmc_direct.specs.declared.action.Action.TheVariants.{Read}
-use Rattle.kelifandro.specs.Calls.{TellsWhy}
-use Rattle.kelifandro.proofs.CallLemmas.{tells_why}
+use Rattle.kelifandro.specs.Calls.{TellsCounts, TellsWhy}
+use Rattle.kelifandro.proofs.CallLemmas.{tells_counts, tells_why}
 use Rattle.kelifandro.proofs.exports.kelifandro_read_by.Goals as goal
 
 pub returns-clause-judged : goal.returns-clause-judged
@@ -14,3 +14,12 @@ returns-clause-judged c = λ how part is says.
     (tells_why (λ did. did.answer) c.args.way why c.read_by.result c.told.result c.told.ensures.answer c.told.ensures.why
     c.read_by.ensures.fault (λ host. c.read_by.ensures.functions host how part is says)
     (c.read_by.ensures.judged how part is says))
+
+pub returns-clause-counted : goal.returns-clause-counted
+returns-clause-counted c = λ how part is says.
+    let new = c.read_by.new in
+    let old = c.args.healed.now in
+    subst (λ number. TellsCounts (stands_of how) old number new.card new.healed) (sym (to_z-of_z w32 c.told.result (search rules)))
+    (tells_counts (λ did. did.answer) (stands_of how) old c.read_by.result c.told.result new.card new.healed c.told.ensures.answer
+    c.told.ensures.why c.read_by.ensures.fault c.read_by.ensures.uncounted c.read_by.ensures.not_counted
+    (c.read_by.ensures.counted how part is says))
