@@ -334,7 +334,9 @@ static int is_busy(void *context, uint32_t microseconds)
 {
     struct card *card = context;
     (void)microseconds;
-    return is_lost(card);
+    int is_busy_still = is_lost(card);
+    card->is_look_lost |= is_busy_still;
+    return is_busy_still;
 }
 
 /* A command and its blocks, as a controller with DMA moves them. */

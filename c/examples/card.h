@@ -27,6 +27,8 @@ struct card {
        other bytes and a bad check, and one that is written is rejected */
     unsigned long answers, lost;
     int is_damaged;
+    /* the answer to a look was lost, which said busy then: it is asked again, and nothing has failed */
+    int is_look_lost;
 };
 
 void card_begin(struct card *card, int is_emmc);
