@@ -1,5 +1,5 @@
 -- What a host controller is to do with the card of a card relation. An exchange is told by its command and its answer in place of their frames.
-use Rattle.std.specs.Prelude.{◌&&◌, ◌==◌, ◌||◌, ◌≡◌, ◌≤◌, [], Bool, List, None, Ok, Option, Result, Some, false, is_ok, not, true, ℕ}
+use Rattle.std.specs.Prelude.{◌&&◌, ◌==◌, ◌||◌, ◌≡◌, ◌≤◌, [], Bool, List, None, Ok, Option, Result, Some, false, if◌then◌else◌, is_ok, not, true, ℕ}
 use Rattle.mmc_frame.specs.Frame.{command_in}
 use Rattle.mmc_frame.specs.RegisterFrame.{with_check}
 use Rattle.mmc_frame.specs.declared.commands.TheConstants as Index
@@ -18,6 +18,7 @@ use Rattle.mmc_bus.specs.Exchanges.{Kept}
 use Rattle.mmc_bus.specs.Wires.{bus_view_with, nothing_made}
 use Rattle.mmc_bus.specs.declared.wire.Wire.{Wire}
 use Rattle.mmc_host.specs.HostStates.{begun, block_passed, is_accepted, is_good, lines_of, sent}
+use Rattle.mmc_host.specs.Misuse.{has_data}
 use Rattle.mmc_host.specs.declared.response.Response.{Response}
 use Rattle.mmc_host.specs.declared.response.Response.TheVariants as To
 use Rattle.mmc_host.specs.declared.told.Heard.{Heard}
@@ -69,10 +70,14 @@ abbrev pub IsWithin : Lines → Lines → Type 0
 IsWithin lines limits =
     (lines_number lines.width ≤ lines_number limits.width) × (lines.timing ≡ High → limits.timing ≡ High)
 
--- a card that is being identified hears at most 400 kHz
+-- The clock of identification, at most 400 kHz, is wanted by a card that is being identified, and for CMD0. A command that ends data
+-- goes at the clock of the data (SD Physical Layer 6.00, section 4.4).
+abbrev pub is_slow_for : HostState → ℕ → Bool
+is_slow_for state index =
+    if has_data state.transfer then state.ios.is_identifying else (state.is_identifying || (index == Index.GO_IDLE_STATE))
+
 abbrev pub IsSlowEnough : HostState → HostCommand → Type 0
-IsSlowEnough state command =
-    (state.is_identifying || (command.index == Index.GO_IDLE_STATE)) ≡ true → state.ios.is_identifying ≡ true
+IsSlowEnough state command = is_slow_for state command.index ≡ true → state.ios.is_identifying ≡ true
 
 -- What a host answers.
 
@@ -119,6 +124,11 @@ abbrev pub Looks : HostView → Bool → HostView → Type 0
 Looks old said new = Where new (Steps old old.state (PollStep (bus_of old) said (bus_of new)) new)
 
 -- What is no exchange.
+
+-- lines and clock are set where no data is under way
+abbrev pub CanBeSet : HostView → Type 0
+CanBeSet host = Where host (has_data host.state.transfer ≡ false)
+
 abbrev pub SetsIos : HostView → Ios → HostView → Type 0
 SetsIos old ios new =
     Where new ((old.is_kept ≡ true) × (new ≡ record old { state = record old.state { ios = ios } }))

@@ -5,7 +5,7 @@ use Rattle.mmc_frame.specs.Frame.{command_in}
 use Rattle.mmc_frame.specs.declared.commands.TheConstants as Index
 use Rattle.mmc_card.specs.Faults.{Spells}
 use Rattle.mmc_card.specs.declared.exchange.Reply.{Reply}
-use Rattle.mmc_host.specs.Hosts.{answer_heard}
+use Rattle.mmc_host.specs.Hosts.{answer_heard, is_slow_for}
 use Rattle.mmc_host.specs.declared.told.Heard.{Heard}
 use Rattle.mmc_host.specs.declared.told.Heard.TheVariants.{Word}
 use Rattle.mmc_host.specs.declared.told.HostCommand.{HostCommand}
@@ -28,9 +28,9 @@ pause_after is_app command (Ok (Word word)) =
     else 0
 pause_after is_app command heard = 0
 
--- the clock of identification is told just where it is wanted: to a card that is being identified, and with CMD0
+-- the clock of identification is told just where it is wanted
 abbrev pub IsClocked : HostState → ℕ → HostState → Type 0
-IsClocked old index new = new.ios.is_identifying ≡ (old.is_identifying || (index == Index.GO_IDLE_STATE))
+IsClocked old index new = new.ios.is_identifying ≡ is_slow_for old index
 
 -- the pause after a command is what its reply asks for
 abbrev pub IsPaced : Bool → HostCommand → Reply → ℕ → Type 0

@@ -1,6 +1,6 @@
 // The trait that a driver of a host controller implements.
 ghost use Rattle.std.specs.Prelude.{◌<◌, ◌≡◌, length};
-ghost use Rattle.mmc_host.specs.Hosts.{HostView, IsSlowEnough, IsWithin, Looks, ReadsBlock, Sends};
+ghost use Rattle.mmc_host.specs.Hosts.{CanBeSet, HostView, IsSlowEnough, IsWithin, Looks, ReadsBlock, Sends};
 ghost use Rattle.mmc_host.specs.Hosts.{SetsIos, Waits, Where, WritesBlock};
 ghost use Rattle.mmc_host.specs.Together.{AreAhead, AreBehind, ReadsWith, WritesWith};
 ghost use Rattle.mmc_host.specs.declared.response.Response.TheVariants.{R1};
@@ -32,9 +32,10 @@ pub trait Host {
     fn limits(&self) -> Lines
         ensures { Where (view self.now) (result ≡ (view self.now).limits) };
 
-    /// Sets how many data lines are in use, the timing, and the clock, which `Ios::max_clock` tells in hertz.
+    /// Sets how many data lines are in use, the timing, and the clock, which `Ios::max_clock` tells in hertz. No data is under way.
     fn set_ios(&mut self, ios: Ios)
-        requires { Where (view self.old) (IsWithin (lines_of ios) (view self.old).limits) }
+        requires within { Where (view self.old) (IsWithin (lines_of ios) (view self.old).limits) }
+        requires idle { CanBeSet (view self.old) }
         ensures sets { SetsIos (view self.old) ios (view self.new) }
         ensures told { has_told self.new ios };
 

@@ -1,11 +1,11 @@
-ghost use Rattle.std.specs.Prelude.{◌<◌, ◌==◌, ◌||◌, ◌≡◌, ◌≤◌, IfSome, IsNone, None, false, length, not, true};
+ghost use Rattle.std.specs.Prelude.{◌<◌, ◌==◌, ◌||◌, ◌≡◌, ◌≤◌, if◌then◌else◌, IfSome, IsNone, None, false, length, not, true};
 ghost use Rattle.mmc_bus.specs.Exchanges.{Commanded, DataRead, DataWritten, Polled, SetsLines};
 ghost use Rattle.mmc_bus.specs.Together.{ReadWith, WrittenWith};
 ghost use Rattle.mmc_card.specs.Faults.{CommandStep, PollStep, ReadStep, Spells, WriteStep};
 ghost use Rattle.mmc_bus.specs.Wires.{bus_view_with};
 ghost use Rattle.mmc_host.specs.Hosts.{Does, GoesOn, IsUnused, IsWithin, OnlySets, ReadsBlock, Replies, Rests};
 ghost use Rattle.mmc_frame.specs.Frame.{command_in};
-ghost use Rattle.mmc_host.specs.Misuse.{can_send};
+ghost use Rattle.mmc_host.specs.Misuse.{can_send, has_data};
 ghost use Rattle.mmc_host.specs.Pace.{IsClocked, IsPaced, IsTimed, pause_after, shows_work};
 ghost use Rattle.mmc_frame.specs.declared.commands.TheConstants.{GO_IDLE_STATE};
 ghost use Rattle.mmc_host.specs.Hosts.{Where, WritesBlock, answer_heard, bus_over};
@@ -203,20 +203,22 @@ impl<H: Host> HostBus<H> {
     }
 
     /// Whether something was asked of the bus that no controller can do: to send a frame that is no command, or to move a block
-    /// that isn't behind the last command or on more lines or faster than the limits.
+    /// that isn't behind the last command, or on other lines than that command was sent on.
     pub fn is_misused(&self) -> bool
         ensures { result ≡ self.now.is_misused }
     {
         self.is_misused
     }
 
-    // Sets lines and clock as they are wanted next.
+    // Sets lines and clock as they are wanted next, where no data is under way.
     #[inline(always)]
     fn set_ios(&mut self, is_identifying: bool)
         ensures wire { self.new.wire ≡ self.old.wire }
         ensures misused { self.new.is_misused ≡ self.old.is_misused }
-        ensures clock { self.new.state.ios.is_identifying ≡ is_identifying }
-        ensures lines { IsWithin self.old.wire.lines self.old.wire.limits → lines_of self.new.state.ios ≡ self.old.wire.lines }
+        ensures clock { self.new.state.ios.is_identifying
+            ≡ (if has_data self.old.state.transfer then self.old.state.ios.is_identifying else is_identifying) }
+        ensures lines { has_data self.old.state.transfer ≡ false → IsWithin self.old.wire.lines self.old.wire.limits
+            → lines_of self.new.state.ios ≡ self.old.wire.lines }
         ensures state { self.new.state ≡ record self.old.state { ios = self.new.state.ios } }
         ensures only { OnlySets (H.view self.old.host) (H.view self.new.host) }
     {
@@ -226,7 +228,7 @@ impl<H: Host> HostBus<H> {
             timing,
             is_identifying,
         };
-        if ios != self.state.ios {
+        if ios != self.state.ios && self.state.is_idle() {
             self.host.set_ios(ios);
             self.state.ios = ios;
         }
@@ -345,46 +347,22 @@ impl<H: Host> HostBus<H> {
         Some(command)
     }
 
-    // Sets the lines as they were asked for last. It tells whether the host can.
-    fn set_lines_asked(&mut self) -> bool
-        ensures wire { self.new.wire ≡ self.old.wire }
-        ensures misused { self.new.is_misused ≡ self.old.is_misused }
-        ensures state { self.new.state ≡ record self.old.state { ios = self.new.state.ios } }
-        ensures only { OnlySets (H.view self.old.host) (H.view self.new.host) }
-        ensures set { result ≡ true → lines_of self.new.state.ios ≡ self.old.wire.lines }
-        ensures within { result ≡ true → IsWithin self.old.wire.lines self.old.wire.limits }
-        ensures can { IsWithin self.old.wire.lines self.old.wire.limits → result ≡ true }
+    // Whether a block of this length is to come, on the lines that the host has: they stay while data is under way.
+    fn can_read(&self, len: usize) -> bool
+        ensures set { result ≡ true → lines_of self.now.state.ios ≡ self.now.wire.lines }
+        ensures to_come { result ≡ true → IsToCome self.now.state len }
+        ensures can { lines_of self.now.state.ios ≡ self.now.wire.lines → IsToCome self.now.state len → result ≡ true }
     {
-        self.set_ios(self.state.is_identifying);
-        are_within(self.wire.lines, self.wire.limits)
+        self.state.ios.lines() == self.wire.lines && self.state.is_to_come(len)
     }
 
-    // Whether a block of this length is to come, on lines that the host can set.
-    fn can_read(&mut self, len: usize) -> bool
-        ensures wire { self.new.wire ≡ self.old.wire }
-        ensures misused { self.new.is_misused ≡ self.old.is_misused }
-        ensures only { OnlySets (H.view self.old.host) (H.view self.new.host) }
-        ensures set { result ≡ true → lines_of self.new.state.ios ≡ self.old.wire.lines }
-        ensures within { result ≡ true → IsWithin self.old.wire.lines self.old.wire.limits }
-        ensures to_come { result ≡ true → IsToCome self.new.state len }
-        ensures came { result ≡ true → IsToCome self.old.state len }
-        ensures can { IsWithin self.old.wire.lines self.old.wire.limits → IsToCome self.old.state len → result ≡ true }
+    // Whether a block is to go, on the lines that the host has.
+    fn can_write(&self) -> bool
+        ensures set { result ≡ true → lines_of self.now.state.ios ≡ self.now.wire.lines }
+        ensures to_go { result ≡ true → IsToGo self.now.state }
+        ensures can { lines_of self.now.state.ios ≡ self.now.wire.lines → IsToGo self.now.state → result ≡ true }
     {
-        self.set_lines_asked() && self.state.is_to_come(len)
-    }
-
-    // Whether a block is to go, on lines that the host can set.
-    fn can_write(&mut self) -> bool
-        ensures wire { self.new.wire ≡ self.old.wire }
-        ensures misused { self.new.is_misused ≡ self.old.is_misused }
-        ensures only { OnlySets (H.view self.old.host) (H.view self.new.host) }
-        ensures set { result ≡ true → lines_of self.new.state.ios ≡ self.old.wire.lines }
-        ensures within { result ≡ true → IsWithin self.old.wire.lines self.old.wire.limits }
-        ensures to_go { result ≡ true → IsToGo self.new.state }
-        ensures went { result ≡ true → IsToGo self.old.state }
-        ensures can { IsWithin self.old.wire.lines self.old.wire.limits → IsToGo self.old.state → result ≡ true }
-    {
-        self.set_lines_asked() && self.state.is_to_go()
+        self.state.ios.lines() == self.wire.lines && self.state.is_to_go()
     }
 
     // Reads the next block of the data that is to come.
@@ -392,10 +370,10 @@ impl<H: Host> HostBus<H> {
         ensures wire { self.new.wire ≡ self.old.wire }
         ensures read { Does (H.view self.old.host) self.old.wire self.old.is_misused
             (λ old new. ReadStep old (length block.old) result block.new new) (H.view self.new.host) self.new.is_misused }
-        ensures fits { IsWithin self.old.wire.lines self.old.wire.limits → IsToCome self.old.state (length block.old)
+        ensures fits { lines_of self.old.state.ios ≡ self.old.wire.lines → IsToCome self.old.state (length block.old)
             → self.new.is_misused ≡ self.old.is_misused }
         ensures only { self.new.is_misused ≡ false
-            → IsWithin self.old.wire.lines self.old.wire.limits × IsToCome self.old.state (length block.old) }
+            → (lines_of self.old.state.ios ≡ self.old.wire.lines) × IsToCome self.old.state (length block.old) }
     {
         if !self.can_read(block.len()) {
             self.is_misused = true;
@@ -411,10 +389,10 @@ impl<H: Host> HostBus<H> {
         ensures wire { self.new.wire ≡ self.old.wire }
         ensures written { Does (H.view self.old.host) self.old.wire self.old.is_misused
             (λ old new. WriteStep old block.now result new) (H.view self.new.host) self.new.is_misused }
-        ensures fits { IsWithin self.old.wire.lines self.old.wire.limits → IsToGo self.old.state
+        ensures fits { lines_of self.old.state.ios ≡ self.old.wire.lines → IsToGo self.old.state
             → self.new.is_misused ≡ self.old.is_misused }
         ensures only { self.new.is_misused ≡ false
-            → IsWithin self.old.wire.lines self.old.wire.limits × IsToGo self.old.state }
+            → (lines_of self.old.state.ios ≡ self.old.wire.lines) × IsToGo self.old.state }
     {
         if !self.can_write() {
             self.is_misused = true;
@@ -534,10 +512,10 @@ impl<H: Host> Bus for HostBus<H> {
     fn read_data(&mut self, buffer: &mut [u8]) -> DataIn
         ensures read { DataRead (bus_over (H.view self.old.host) self.old.wire self.old.is_misused) (length buffer.old) result
             buffer.new (bus_over (H.view self.new.host) self.new.wire self.new.is_misused) }
-        ensures fits { IsWithin self.old.wire.lines self.old.wire.limits → IsToCome self.old.state (length buffer.old)
+        ensures fits { lines_of self.old.state.ios ≡ self.old.wire.lines → IsToCome self.old.state (length buffer.old)
             → self.new.is_misused ≡ self.old.is_misused }
         ensures only { self.new.is_misused ≡ false
-            → IsWithin self.old.wire.lines self.old.wire.limits × IsToCome self.old.state (length buffer.old) }
+            → (lines_of self.old.state.ios ≡ self.old.wire.lines) × IsToCome self.old.state (length buffer.old) }
     {
         let len = buffer.len();
         let got = self.read_next(buffer);
@@ -548,10 +526,10 @@ impl<H: Host> Bus for HostBus<H> {
     fn write_data(&mut self, block: &[u8; 512]) -> DataOut
         ensures written { DataWritten (bus_over (H.view self.old.host) self.old.wire self.old.is_misused) block.now result
             (bus_over (H.view self.new.host) self.new.wire self.new.is_misused) }
-        ensures fits { IsWithin self.old.wire.lines self.old.wire.limits → IsToGo self.old.state
+        ensures fits { lines_of self.old.state.ios ≡ self.old.wire.lines → IsToGo self.old.state
             → self.new.is_misused ≡ self.old.is_misused }
         ensures only { self.new.is_misused ≡ false
-            → IsWithin self.old.wire.lines self.old.wire.limits × IsToGo self.old.state }
+            → (lines_of self.old.state.ios ≡ self.old.wire.lines) × IsToGo self.old.state }
     {
         let got = self.write_next(block);
         self.wire.note(Exchange::Out { got });

@@ -1,5 +1,5 @@
 // What a host controller is told, and what it says.
-ghost use Rattle.std.specs.Prelude.{◌≡◌, ◌↔◌, ◌≤◌, IsTrue, false, true};
+ghost use Rattle.std.specs.Prelude.{◌≡◌, ◌↔◌, ◌≤◌, IsTrue, false, not, true};
 ghost use Rattle.mmc_card.specs.declared.exchange.Timing.TheVariants.{Default, High};
 ghost use Rattle.mmc_host.specs.HostStates.{AreMovable, IsCounted, IsFree, IsTold, IsToCome, IsToGo, begun, block_passed, lines_of, resting, sent, work_after};
 ghost use Rattle.mmc_host.specs.Misuse.{carries_data, has_data};
@@ -196,6 +196,13 @@ impl HostState {
         ensures { IsTrue result ↔ IsFree self.transfer command }
     {
         command.transfer == Data::Nothing || self.transfer == Data::Nothing
+    }
+
+    /// Whether no data is under way.
+    pub fn is_idle(self) -> bool
+        ensures { result ≡ not (has_data self.transfer) }
+    {
+        self.transfer == Data::Nothing
     }
 
     // What the card is at after this command, as far as it is busy.

@@ -4,15 +4,14 @@ use Rattle.mmc_host.specs.Hosts.{Does}
 use Rattle.mmc_host.specs.declared.told.HostState.{HostState}
 use Rattle.mmc_card.specs.Faults.{ReadStep}
 use Rattle.mmc_host.proofs.BusLemmas.{does_read}
+use Rattle.mmc_host.proofs.TogetherLemmas.{sets_none}
 use Rattle.mmc_host.proofs.host_bus.HostBus.read_next.Goals as goal
 
 pub returns-clause-read : goal.returns-clause-read
 returns-clause-read g c =
     let v0 = g.H.Host.view c.args.self.now.host in
-    let v1 = g.H.Host.view c.can_read.new.self.host in
-    let v2 = g.H.Host.view c.read_block-got.new.self in
-    subst (λ (misused : Bool). Does v0 c.args.self.now.wire c.args.self.now.is_misused
-    (λ old new. ReadStep old (length c.args.block.now) c.read_block-got.result c.read_block-got.new.block new) v2 misused) (sym c.can_read.ensures.misused)
-    (does_read v0 v1 v2 c.args.self.now.wire c.args.self.now.is_misused (length c.args.block.now) c.read_block-got.result c.read_block-got.new.block
-    (λ kept. ap (λ (s : HostState). lines_of s.ios) (c.can_read.new.self.told kept)
-    ∙ c.can_read.ensures.set c.if-not-can_read.false) c.can_read.ensures.only c.read_block-got.ensures)
+    let v1 = g.H.Host.view c.read_block-got.new.self in
+    does_read v0 v0 v1 c.args.self.now.wire c.args.self.now.is_misused (length c.args.block.now) c.read_block-got.result
+    c.read_block-got.new.block
+    (λ kept. ap (λ (s : HostState). lines_of s.ios) (c.args.self.now.told kept)
+    ∙ c.can_read.ensures.set c.if-not-can_read.false) (sets_none v0) c.read_block-got.ensures
