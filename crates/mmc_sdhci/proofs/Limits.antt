@@ -6,8 +6,9 @@ use Rattle.mmc_frame.specs.Field.{field}
 use Rattle.mmc_card.specs.declared.exchange.Timing.TheVariants.{Default, High}
 use Rattle.mmc_card.specs.declared.exchange.Width.TheVariants.{Eight, Four, One}
 use Rattle.mmc_host.specs.Hosts.{IsWithin, lines_number}
+use Rattle.mmc_host.specs.declared.data.Data.{Data}
 use Rattle.mmc_sdhci.specs.Accesses.{is_able, is_at_rest, may_write8}
-use Rattle.mmc_sdhci.specs.Controller.{ControllerView, is_still, limits_in, lines_in}
+use Rattle.mmc_sdhci.specs.Controller.{ControllerView, has_data, is_still, limits_in, lines_in}
 use Rattle.mmc_sdhci.specs.DataLooks.{is_empty}
 use Rattle.mmc_sdhci.proofs.Blocks.{both}
 
@@ -31,14 +32,18 @@ able control capabilities within =
     ∙ timing_able (field 2 2 control == 1) (field 21 21 capabilities == 1) within.1
 
 -- The lines that a host may be told are written where they may be.
-pub may_control : (view : ControllerView) (control : ℕ) → is_at_rest view ≡ true → bit_and control 0x26 ≡ control
-    → IsWithin (lines_in control) (limits_in view.built.capabilities) → may_write8 view 0x28 control ≡ true
-may_control view control rests alone within =
+pub may_control : (view : ControllerView) (control : ℕ) → is_at_rest view ≡ true → view.transfer ≡ Data.Nothing
+    → bit_and control 0x26 ≡ control → IsWithin (lines_in control) (limits_in view.built.capabilities)
+    → may_write8 view 0x28 control ≡ true
+may_control view control rests idle alone within =
     let r = both (is_none view.running) _ rests in
     let s = both (not view.is_stuck) _ r.1 in
     let t = both (not view.is_stale) _ s.1 in
     let u = both (is_none view.unjudged) _ t.1 in
     let w = both (is_empty view.outgoing) _ u.1 in
-    ap (λ (b : Bool). b && (is_still view && ((bit_and control 0x26 == control) && is_able view.built.capabilities control))) r.0
+    ap (λ (b : Bool). (b && not (has_data view.transfer))
+    && (is_still view && ((bit_and control 0x26 == control) && is_able view.built.capabilities control))) r.0
+    ∙ (ap (λ (d : Data). not (has_data d)
+    && (is_still view && ((bit_and control 0x26 == control) && is_able view.built.capabilities control))) idle
     ∙ (ap (λ (b : Bool). b && ((bit_and control 0x26 == control) && is_able view.built.capabilities control)) w.1
-    ∙ (ap (λ (b : Bool). b && is_able view.built.capabilities control) (eq-eqb _ _ alone) ∙ able control view.built.capabilities within))
+    ∙ (ap (λ (b : Bool). b && is_able view.built.capabilities control) (eq-eqb _ _ alone) ∙ able control view.built.capabilities within)))

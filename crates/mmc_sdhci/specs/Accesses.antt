@@ -90,7 +90,8 @@ is_asked value =
     && ((field 18 18 value == 0)
     && ((field 31 30 value == 0) && ((field 23 22 value == 0) || (field 29 22 value == 0x33)))))))
 
--- The card's clock is turned on once the internal one, whose divider it keeps, is stable; no reset is begun beside it.
+-- The card's clock is turned on once the internal one, whose divider it keeps, is stable; no reset is begun beside it. Clock and lines
+-- are set where no command runs and no data is under way (section 3.2.3).
 abbrev pub is_clock : Settings → ℕ → Bool
 is_clock settings value =
     nat_lt value 0x100000 && ((field 2 2 value == 0) || (clock_runs value && (field 15 0 value == settings.clock + 4)))
@@ -109,7 +110,7 @@ may_write view offset value =
     else (if offset == 0x0c then
     is_at_rest view && (is_clean view value && (is_set view.settings && is_asked value))
     else (if offset == 0x20 then can_put view
-    else (if offset == 0x2c then is_none view.running && (is_still view && is_clock view.settings value)
+    else (if offset == 0x2c then is_idle view && (is_still view && is_clock view.settings value)
     else (if offset == 0x30 then can_clear view value
     else (if offset == 0x34 then is_idle view && is_shown_set value
     else (if offset == 0x38 then value == 0 else false)))))))
@@ -128,7 +129,7 @@ is_able capabilities control =
 abbrev pub may_write8 : ControllerView → ℕ → ℕ → Bool
 may_write8 view offset value =
     if offset == 0x28 then
-    is_none view.running && (is_still view && ((bit_and value 0x26 == value) && is_able view.built.capabilities value))
+    is_idle view && (is_still view && ((bit_and value 0x26 == value) && is_able view.built.capabilities value))
     else (if offset == 0x29 then is_idle view && (value == 0x0f)
     else (if offset == 0x2f then
     (value == 2) || ((value == 4) || ((value == 1) && (is_at_rest view && (is_idle view && (view.settings.power == 0)))))

@@ -41,9 +41,6 @@ abbrev pub IsBaseClock : ℕ → ℕ → ControllerView → Type 0
 IsBaseClock base version view =
     WhereKept view ((view.built.version ≡ version) × (base_clock view.built.capabilities version ≡ base))
 
--- where the clock can be set
-abbrev pub IsSteady : ControllerView → Type 0
-IsSteady view = WhereKept view ((view.running ≡ None) × (is_still view ≡ true))
 
 -- the clock is set, to so many hertz at most, and runs; the timeout of data is the longest; nothing else is set
 abbrev pub SetsClock : ControllerView → ℕ → ControllerView → Type 0
@@ -68,6 +65,10 @@ IsReady view =
 -- no command runs, and no data is under way
 abbrev pub IsAtEase : ControllerView → Type 0
 IsAtEase view = (view.running ≡ None) × (view.transfer ≡ Data.Nothing)
+
+-- where lines and clock can be set
+abbrev pub IsSteady : ControllerView → Type 0
+IsSteady view = WhereKept view (IsAtEase view × (is_still view ≡ true))
 
 -- a reset: one line at default speed, no power, and the interrupts shown that the driver looks at
 abbrev pub started : ControllerView → ControllerView
