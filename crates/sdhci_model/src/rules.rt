@@ -118,12 +118,6 @@ impl State {
             && self.outgoing.len() < 512
     }
 
-    fn is_none_running(&self) -> bool
-        ensures { (outcome : Outcome) → result ≡ is_none (shown outcome self.now).running }
-    {
-        self.running.is_none()
-    }
-
     fn is_clock(&self, value: u32) -> bool
         ensures { (outcome : Outcome) → result ≡ is_clock (shown outcome self.now).settings value }
     {
@@ -151,7 +145,7 @@ impl State {
         ensures { (outcome : Outcome) → result ≡ may_write (shown outcome self.now) 0x2c value }
     {
         both(
-            self.is_none_running(),
+            self.is_idle(),
             both(self.is_still(), self.is_clock(value)),
         )
     }
@@ -178,7 +172,7 @@ impl State {
         ensures { (outcome : Outcome) → result ≡ may_write8 (shown outcome self.now) 0x28 value }
     {
         both(
-            self.is_none_running(),
+            self.is_idle(),
             both(
                 self.is_still(),
                 both(value & 0x26 == value, is_able(self.capabilities, value)),
