@@ -1,7 +1,7 @@
 // The two ways in for C.
 ghost use Rattle.std.specs.Prelude.{◌<◌, ◌≡◌, IfOk, IsOk, false, length};
 ghost use Rattle.mmc_host.specs.HostStates.{AreMovable, IsFree, IsTold, IsToCome, IsToGo, begun, lines_of};
-ghost use Rattle.mmc_host.specs.Hosts.{IsSlowEnough, IsUnused, IsWithin, Looks, ReadsBlock, Sends, SetsIos, Waits, Where};
+ghost use Rattle.mmc_host.specs.Hosts.{CanBeSet, IsSlowEnough, IsUnused, IsWithin, Looks, ReadsBlock, Sends, SetsIos, Waits, Where};
 ghost use Rattle.mmc_host.specs.Hosts.{WritesBlock};
 ghost use Rattle.mmc_host.specs.Together.{AreAhead, AreBehind, ReadsWith, WritesWith};
 ghost use Rattle.mmc_host.specs.declared.response.Response.TheVariants.{R1};
@@ -125,7 +125,8 @@ impl<H: Host> Host for Way<H> {
     }
 
     fn set_ios(&mut self, ios: Ios)
-        requires { Where (view_of H.view self.old) (IsWithin (lines_of ios) (view_of H.view self.old).limits) }
+        requires within { Where (view_of H.view self.old) (IsWithin (lines_of ios) (view_of H.view self.old).limits) }
+        requires idle { CanBeSet (view_of H.view self.old) }
         ensures sets { SetsIos (view_of H.view self.old) ios (view_of H.view self.new) }
         ensures told { HasTold H.has_told self.new ios }
         ensures speaks { Speaks self.old self.new (TellsIos ios) }
