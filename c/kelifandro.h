@@ -105,7 +105,7 @@ struct kelifandro_host {
     int (*write_block)(void *context, const void *block);
     /* Whether the card holds DAT0 low after so many microseconds; the answer comes at once where it doesn't. */
     int (*is_busy)(void *context, uint32_t microseconds);
-    /* Sets how many data lines are in use, the timing, and the clock, to so many hertz at most. */
+    /* Sets how many data lines are in use, the timing, and the clock, to so many hertz at most. No data is under way then. */
     void (*set_ios)(void *context, int lines, int high_speed, uint32_t hertz);
     /* Waits so long at least. */
     void (*pause)(void *context, uint32_t microseconds);

@@ -70,8 +70,8 @@ abbrev pub IsWithin : Lines → Lines → Type 0
 IsWithin lines limits =
     (lines_number lines.width ≤ lines_number limits.width) × (lines.timing ≡ High → limits.timing ≡ High)
 
--- The clock of identification, at most 400 kHz, is wanted by a card that is being identified, and for CMD0. A command that ends data
--- goes at the clock of the data (SD Physical Layer 6.00, section 4.4).
+-- The clock of identification, at most 400 kHz, is wanted by a card that is being identified, and for CMD0. The clock isn't changed while
+-- data is under way (SD Host Controller 3.00, section 3.2.2), so a CMD0 that ends data goes at that of the data.
 abbrev pub is_slow_for : HostState → ℕ → Bool
 is_slow_for state index =
     if has_data state.transfer then state.ios.is_identifying else (state.is_identifying || (index == Index.GO_IDLE_STATE))

@@ -91,7 +91,7 @@ is_asked value =
     && ((field 31 30 value == 0) && ((field 23 22 value == 0) || (field 29 22 value == 0x33)))))))
 
 -- The card's clock is turned on once the internal one, whose divider it keeps, is stable; no reset is begun beside it. Clock and lines
--- are set where no command runs and no data is under way (section 3.2.3).
+-- are set where no command runs and no data is under way (section 3.2.2).
 abbrev pub is_clock : Settings → ℕ → Bool
 is_clock settings value =
     nat_lt value 0x100000 && ((field 2 2 value == 0) || (clock_runs value && (field 15 0 value == settings.clock + 4)))
