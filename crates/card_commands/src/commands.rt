@@ -1,4 +1,7 @@
 // Which command the words name, and how it ends.
+ghost use Rattle.std.specs.Prelude.{IfOk};
+ghost use Rattle.card_commands.specs.Printed.{IsStatus};
+
 use crate::check::check;
 use crate::decode::decode;
 use crate::fault::CommandFault;
@@ -59,7 +62,9 @@ fn done<W: Write>(
     name: CommandName,
     words: &[&str],
     out: &mut W,
-) -> Result<u8, CommandFault> {
+) -> Result<u8, CommandFault>
+    ensures { IfOk result IsStatus }
+{
     match name {
         CommandName::New => make(rt.alloc(), words, out)?,
         CommandName::Decode => decode(rt.alloc(), words, &mut rt.reader(), out)?,
@@ -80,7 +85,9 @@ fn done_buffered(
     rt: &(impl Files + Input + Print + AllocGlobal),
     name: CommandName,
     words: &[&str],
-) -> Result<u8, CommandFault> {
+) -> Result<u8, CommandFault>
+    ensures { IfOk result IsStatus }
+{
     let Ok(mut out) = BufWriter::new(rt.alloc(), io::writer(rt)) else {
         return Err(CommandFault::NoMemory);
     };
@@ -100,7 +107,9 @@ pub fn run(
     rt: &(impl Files + Input + Print + Eprint + AllocGlobal),
     name: CommandName,
     words: &[&str],
-) -> ExitCode {
+) -> ExitCode
+    ensures { IsStatus result.status }
+{
     match done_buffered(rt, name, words) {
         Ok(status) => ExitCode::from(status),
         Err(CommandFault::Usage) => {

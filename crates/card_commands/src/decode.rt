@@ -1,4 +1,8 @@
 // `decode`: a register or a frame, field by field.
+ghost use Rattle.std.specs.Prelude.{◌≡◌, IfErr, IfOk};
+ghost use Rattle.card_commands.specs.Printed.{PrintsDecoded};
+ghost use Rattle.card_commands.specs.declared.fault.CommandFault.TheVariants as Fault;
+
 use crate::fault::CommandFault;
 use card_text::input::{ReadFault, read_bounded};
 use clap::{Arg, Command};
@@ -63,7 +67,10 @@ fn put_subject<W: Write>(
     kind: Kind,
     digits: &[u8],
     out: &mut W,
-) -> Result<(), CommandFault> {
+) -> Result<(), CommandFault>
+    ensures printed { IfOk result (λ _. PrintsDecoded (W.contents out.old) (W.contents out.new)) }
+    ensures unprinted { IfErr result (λ fault. (fault ≡ Fault.Write → ⊥) → W.contents out.new ≡ W.contents out.old) }
+{
     match subject {
         Subject::Frame => {
             let frame = frame_of(digits.trim_ascii())?;
@@ -89,7 +96,10 @@ fn put_input<R: Read, W: Write>(
     kind: Kind,
     input: &mut R,
     out: &mut W,
-) -> Result<(), CommandFault> {
+) -> Result<(), CommandFault>
+    ensures printed { IfOk result (λ _. PrintsDecoded (W.contents out.old) (W.contents out.new)) }
+    ensures unprinted { IfErr result (λ fault. (fault ≡ Fault.Write → ⊥) → W.contents out.new ≡ W.contents out.old) }
+{
     match read_bounded(alloc, input, MAX_DIGITS) {
         Ok(digits) => put_subject(alloc, subject, kind, digits.as_slice(), out),
         Err(ReadFault::Reader) => Err(CommandFault::ReadInput),
@@ -109,7 +119,10 @@ pub fn decode<R: Read, W: Write>(
     words: &[&str],
     input: &mut R,
     out: &mut W,
-) -> Result<(), CommandFault> {
+) -> Result<(), CommandFault>
+    ensures printed { IfOk result (λ _. PrintsDecoded (W.contents out.old) (W.contents out.new)) }
+    ensures unprinted { IfErr result (λ fault. (fault ≡ Fault.Write → ⊥) → W.contents out.new ≡ W.contents out.old) }
+{
     let command = Command::new(alloc, "decode")
         .arg(Arg::new(alloc, "register").required(true))?
         .arg(Arg::new(alloc, "digits"))?

@@ -1,4 +1,7 @@
 // `help` and `version`.
+ghost use Rattle.std.specs.Prelude.{◌≡◌, IfErr};
+ghost use Rattle.card_commands.specs.declared.fault.CommandFault.TheVariants as Fault;
+
 use crate::commands::CommandName;
 use crate::fault::CommandFault;
 use crate::texts;
@@ -19,7 +22,9 @@ fn help_text(words: &[&str]) -> Option<&'static str> {
 ///
 /// # Errors
 /// `Usage` where there is no such command; `Write`, where a front of the text went out.
-pub fn help<W: Write>(words: &[&str], out: &mut W) -> Result<(), CommandFault> {
+pub fn help<W: Write>(words: &[&str], out: &mut W) -> Result<(), CommandFault>
+    ensures unprinted { IfErr result (λ fault. (fault ≡ Fault.Write → ⊥) → W.contents out.new ≡ W.contents out.old) }
+{
     match help_text(words) {
         Some(text) => {
             put(out, text.as_bytes())?;
@@ -33,7 +38,9 @@ pub fn help<W: Write>(words: &[&str], out: &mut W) -> Result<(), CommandFault> {
 ///
 /// # Errors
 /// `Usage` for further words; `Write`, where a front of the text went out.
-pub fn version<W: Write>(words: &[&str], out: &mut W) -> Result<(), CommandFault> {
+pub fn version<W: Write>(words: &[&str], out: &mut W) -> Result<(), CommandFault>
+    ensures unprinted { IfErr result (λ fault. (fault ≡ Fault.Write → ⊥) → W.contents out.new ≡ W.contents out.old) }
+{
     let ["version"] = words else {
         return Err(CommandFault::Usage);
     };

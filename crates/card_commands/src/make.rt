@@ -1,4 +1,8 @@
 // `new`: a card file whose registers and checks fit.
+ghost use Rattle.std.specs.Prelude.{◌≡◌, IfErr, IfOk};
+ghost use Rattle.card_commands.specs.Printed.{PrintsCard};
+ghost use Rattle.card_commands.specs.declared.fault.CommandFault.TheVariants as Fault;
+
 use crate::decode::kind_named;
 use crate::fault::CommandFault;
 use card_maker::{Wanted, card_by, put_card_file};
@@ -87,7 +91,10 @@ fn wanted(matches: &ArgMatches<'_>) -> Result<Wanted, CommandFault> {
 ///
 /// # Errors
 /// `Usage` or `Value` for other words, `Make` where no card is like that; `NoMemory`; `Write`, where a front of the file went out.
-pub fn make<W: Write>(alloc: Global, words: &[&str], out: &mut W) -> Result<(), CommandFault> {
+pub fn make<W: Write>(alloc: Global, words: &[&str], out: &mut W) -> Result<(), CommandFault>
+    ensures printed { IfOk result (λ _. PrintsCard (W.contents out.old) (W.contents out.new)) }
+    ensures unprinted { IfErr result (λ fault. (fault ≡ Fault.Write → ⊥) → W.contents out.new ≡ W.contents out.old) }
+{
     let command = command(alloc)?;
     let Ok(matches) = command.try_get_matches_from(words) else {
         return Err(CommandFault::Usage);

@@ -1,0 +1,27 @@
+-- What the commands print, and how they end.
+use Rattle.std.specs.Prelude.{◌≡◌, ◌⊎◌, List, Ok, Option, Some, ℕ}
+use Rattle.std.specs.Io.KnownBytes.{Appends}
+use Rattle.mmc_frame.specs.declared.kind.Kind.{Kind}
+use Rattle.mmc_card_sim.specs.declared.spec.CardSpec.{CardSpec}
+use Rattle.card_maker.specs.CardText.{card_file_text}
+use Rattle.card_maker.specs.Wanted.{IsAsWanted}
+use Rattle.card_maker.specs.declared.wanted.Wanted.{Wanted}
+use Rattle.exchange_words.specs.Frames.{frame_text}
+use Rattle.register_words.specs.Summaries.{PutsRegister}
+use Rattle.register_words.specs.declared.register.Register.{Register}
+
+-- 0 where all went well, and 2 otherwise
+abbrev pub IsStatus : ℕ → Type 0
+IsStatus status = (status ≡ 0) ⊎ (status ≡ 2)
+
+-- the card file of a card as somebody wants it, which is read again as that card
+pub record PrintsCard (old new : Option (List ℕ)) : Type 0 where
+  pub wanted : Wanted
+  pub card : CardSpec
+  pub as_wanted : IsAsWanted wanted card
+  pub printed : Appends old new (card_file_text card)
+
+-- what a frame says, or a register
+pub data PrintsDecoded (old new : Option (List ℕ)) : Type 0 where
+  a_frame : (kind : Kind) (frame : List ℕ) → Appends old new (frame_text kind frame) → PrintsDecoded old new
+  a_register : (register : Register) (bytes : List ℕ) → PutsRegister register bytes old new (Ok {_} {Unit} tt) → PrintsDecoded old new
