@@ -28,6 +28,8 @@ pub struct State {
     pub shown: u32,
     /// The internal clock was set, so many microseconds ago, and hasn't been seen to be stable since.
     pub stabilizing: Option<u64>,
+    /// The card was given power, and its clock, as it is set, has run for so many microseconds, which isn't enough yet.
+    pub starting: Option<u64>,
     /// Block Size, and Block Count above it.
     pub sizes: u32,
     /// Argument.
@@ -79,6 +81,7 @@ impl State {
             timeout: 0,
             shown: 0,
             stabilizing: None,
+            starting: None,
             sizes: 0,
             argument: 0,
             resetting: None,
