@@ -150,8 +150,9 @@ is_set settings =
     ((settings.power == 0x0f) && (are_shown settings.shown && is_none settings.stabilizing))
     && (clock_runs settings.clock && (settings.timeout == 0x0e))
 
--- Power-up: before its first command a card has power for 1 ms, and then 74 clocks (SD Physical Layer Simplified Specification 6.00,
--- section 6.4.1). Here its clock runs all that time, and 74 clocks of base / divisor MHz take 74 * divisor / base microseconds.
+-- Power-up: a card that is given power starts, and has started after 1 ms and then 74 clocks (SD Physical Layer Simplified
+-- Specification 6.00, section 6.4.1). Here its clock runs all that time; 74 clocks of base / divisor MHz take 74 * divisor / base
+-- microseconds.
 abbrev pub is_enough : ℕ → ℕ → ℕ → Bool
 is_enough base divisor waited = nat_le (1000 * base + 74 * divisor) (waited * base)
 

@@ -48,7 +48,8 @@ const POWER_ON: u8 = 0x0f;
 const IDENTIFICATION: u32 = 400_000;
 
 impl<R: Registers> Sdhci<R> {
-    /// Begins with a controller: resets it, and gives the card power and the clock of identification.
+    /// Begins with a controller: resets it, gives the card power and the clock of identification, and
+    /// waits until the card has started.
     ///
     /// # Errors
     /// `NoVoltage` where the controller has no 3.3 V, `NoBaseClock` where it doesn't say how fast its clock is, `NoCard` where no

@@ -98,7 +98,7 @@ pub fn has_card<R: Registers>(registers: &mut R) -> bool
     false
 }
 
-/// Waits until the card's power-up is over: a millisecond, and 74 clocks.
+/// Waits until the card has started: a millisecond, and 74 clocks.
 pub fn power_up<R: Registers>(registers: &mut R, base: u32, version: u8)
     requires base { IsBaseClock base version (R.view registers.old) }
     requires some { 0 < base }

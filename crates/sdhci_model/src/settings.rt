@@ -64,7 +64,7 @@ fn stabilizing_from(was: Option<u64>, value: u32) -> Option<u64>
     }
 }
 
-// What counts of the card's power-up after a write of Clock Control.
+// A card that starts, after a write of Clock Control.
 fn starting_anew(was: Option<u64>) -> Option<u64>
     ensures { result ≡ starting_anew was }
 {
@@ -106,7 +106,7 @@ impl State {
         self.control = value;
     }
 
-    /// Power Control is written, with which the card starts.
+    /// Power Control is written, after which the card starts.
     pub fn set_power(&mut self, value: u8)
         ensures { self.new ≡ record self.old { power = value; starting = Some 0 } }
     {

@@ -71,7 +71,7 @@ impl State {
         2
     }
 
-    // What counts of a power-up of which so much has passed, after so many microseconds more; `None` where they can't be counted.
+    // What becomes of a card that starts after so many microseconds; `None` where they can't be counted.
     fn starting_after(&self, waited: u64, micros: u32) -> Option<Option<u64>>
         ensures { IfSome result (λ starting. (outcome : Outcome) → starting ≡ starting_after (shown outcome self.now) (Some waited) micros) }
     {

@@ -28,7 +28,8 @@ pub struct State {
     pub shown: u32,
     /// The internal clock was set, so many microseconds ago, and hasn't been seen to be stable since.
     pub stabilizing: Option<u64>,
-    /// The card was given power, and its clock, as it is set, has run for so many microseconds, which isn't enough yet.
+    /// The card starts: it was given power, and since its clock was set it has run for so many
+    /// microseconds, which isn't enough yet.
     pub starting: Option<u64>,
     /// Block Size, and Block Count above it.
     pub sizes: u32,
