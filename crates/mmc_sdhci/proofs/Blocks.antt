@@ -16,7 +16,7 @@ use Rattle.mmc_sdhci.specs.declared.watching.Sought.TheVariants.{Gone}
 use Rattle.mmc_sdhci.proofs.Glancing.{gone_news}
 use Rattle.mmc_host.specs.HostStates.{less_one}
 use Rattle.mmc_sdhci.specs.Accesses.{IsAtRest}
-use Rattle.mmc_sdhci.specs.Controller.{is_still, moved, seen}
+use Rattle.mmc_sdhci.specs.Controller.{is_settled, is_still, moved, seen}
 use Rattle.mmc_sdhci.specs.DataLooks.{IsUntold, WriteLook, cleared, is_empty}
 use Rattle.mmc_sdhci.specs.Accesses.{is_at_rest}
 use Rattle.mmc_sdhci.specs.DataLooks.WriteLook.{accepted as write_accepted, failed as write_failed, waits as write_waits}
@@ -59,47 +59,53 @@ clear_at_rest view rests =
     let c = both (not view.is_stale) _ b.1 in
     let d = both (is_none view.unjudged) _ c.1 in
     let e = both (is_empty view.outgoing) (is_still view) d.1 in
-    let f = both (is_none view.resetting) (is_none view.settings.stabilizing) e.1 in (
+    let s = both (is_settled view) (is_none view.settings.starting) e.1 in
+    let f = both (is_none view.resetting) (is_none view.settings.stabilizing) s.0 in (
       record {
         running = none_runs view.running a.0;
         stuck = unset view.is_stuck b.0;
         stale = unset view.is_stale c.0;
         resetting = no_time view.resetting f.0;
         stabilizing = no_time view.settings.stabilizing f.1;
+        starting = no_time view.settings.starting s.1;
       },
       nothing_in view.outgoing e.0,
       no_block view.unjudged d.0,
     )
 
-abbrev rest_with : Option Running → Bool → Bool → Option (List ℕ) → List ℕ → Option ℕ → Option ℕ → Bool
-rest_with running stuck stale unjudged outgoing resetting stabilizing =
+abbrev rest_with : Option Running → Bool → Bool → Option (List ℕ) → List ℕ → Option ℕ → Option ℕ → Option ℕ → Bool
+rest_with running stuck stale unjudged outgoing resetting stabilizing starting =
     is_none running
     && (not stuck
-    && (not stale && (is_none unjudged && (is_empty outgoing && (is_none resetting && is_none stabilizing)))))
+    && (not stale && (is_none unjudged && (is_empty outgoing && ((is_none resetting && is_none stabilizing) && is_none starting)))))
 
 pub rests_clear : (view : ControllerView) → IsClear view → view.outgoing ≡ [] → view.unjudged ≡ None → is_at_rest view ≡ true
 rests_clear view clear out judged =
-    ap (λ (r : Option Running). rest_with r view.is_stuck view.is_stale view.unjudged view.outgoing view.resetting view.settings.stabilizing) clear.running
-    ∙ (ap (λ (b : Bool). rest_with None b view.is_stale view.unjudged view.outgoing view.resetting view.settings.stabilizing) clear.stuck
-    ∙ (ap (λ (b : Bool). rest_with None false b view.unjudged view.outgoing view.resetting view.settings.stabilizing) clear.stale
-    ∙ (ap (λ (o : Option (List ℕ)). rest_with None false false o view.outgoing view.resetting view.settings.stabilizing) judged
-    ∙ (ap (λ (l : List ℕ). rest_with None false false None l view.resetting view.settings.stabilizing) out
-    ∙ (ap (λ (o : Option ℕ). rest_with None false false None [] o view.settings.stabilizing) clear.resetting
-    ∙ ap (λ (o : Option ℕ). rest_with None false false None [] None o) clear.stabilizing)))))
+    ap (λ (r : Option Running). rest_with r view.is_stuck view.is_stale view.unjudged view.outgoing view.resetting view.settings.stabilizing view.settings.starting) clear.running
+    ∙ (ap (λ (b : Bool). rest_with None b view.is_stale view.unjudged view.outgoing view.resetting view.settings.stabilizing view.settings.starting) clear.stuck
+    ∙ (ap (λ (b : Bool). rest_with None false b view.unjudged view.outgoing view.resetting view.settings.stabilizing view.settings.starting) clear.stale
+    ∙ (ap (λ (o : Option (List ℕ)). rest_with None false false o view.outgoing view.resetting view.settings.stabilizing view.settings.starting) judged
+    ∙ (ap (λ (l : List ℕ). rest_with None false false None l view.resetting view.settings.stabilizing view.settings.starting) out
+    ∙ (ap (λ (o : Option ℕ). rest_with None false false None [] o view.settings.stabilizing view.settings.starting) clear.resetting
+    ∙ (ap (λ (o : Option ℕ). rest_with None false false None [] None o view.settings.starting) clear.stabilizing
+    ∙ ap (λ (o : Option ℕ). rest_with None false false None [] None None o) clear.starting))))))
 
-pub still_clear : (view : ControllerView) → view.resetting ≡ None → view.settings.stabilizing ≡ None → is_still view ≡ true
-still_clear view resetting stabilizing =
-    ap (λ (o : Option ℕ). is_none o && is_none view.settings.stabilizing) resetting
-    ∙ ap (λ (o : Option ℕ). is_none o) stabilizing
+pub still_clear : (view : ControllerView) → view.resetting ≡ None → view.settings.stabilizing ≡ None → view.settings.starting ≡ None
+    → is_still view ≡ true
+still_clear view resetting stabilizing starting =
+    ap (λ (o : Option ℕ). (is_none o && is_none view.settings.stabilizing) && is_none view.settings.starting) resetting
+    ∙ (ap (λ (o : Option ℕ). is_none o && is_none view.settings.starting) stabilizing
+    ∙ ap (λ (o : Option ℕ). is_none o) starting)
 
 -- so is a controller whose data line was reset
 pub rests_cleared : (view new : ControllerView) → view.running ≡ None → view.is_stuck ≡ false → view.settings.stabilizing ≡ None
-    → new ≡ cleared view → is_at_rest new ≡ true
-rests_cleared view new runs stuck stable is =
+    → view.settings.starting ≡ None → new ≡ cleared view → is_at_rest new ≡ true
+rests_cleared view new runs stuck stable started is =
     ap (λ (v : ControllerView). is_at_rest v) is
-    ∙ (ap (λ (r : Option Running). rest_with r view.is_stuck false None [] None view.settings.stabilizing) runs
-    ∙ (ap (λ (b : Bool). rest_with None b false None [] None view.settings.stabilizing) stuck
-    ∙ ap (λ (o : Option ℕ). rest_with None false false None [] None o) stable))
+    ∙ (ap (λ (r : Option Running). rest_with r view.is_stuck false None [] None view.settings.stabilizing view.settings.starting) runs
+    ∙ (ap (λ (b : Bool). rest_with None b false None [] None view.settings.stabilizing view.settings.starting) stuck
+    ∙ (ap (λ (o : Option ℕ). rest_with None false false None [] None o view.settings.starting) stable
+    ∙ ap (λ (o : Option ℕ). rest_with None false false None [] None None o) started)))
 
 pub zero-is-not-one : (n : ℕ) → n ≡ 0 → n ≡ 1 → ⊥
 zero-is-not-one n zero one = omega (arith, zero, one)
@@ -142,7 +148,7 @@ write_dropped v0 v2 status ready blocks clear is dropped =
       transfer = ap (λ (v : ControllerView). v.transfer) d.1;
       settings = ap (λ (v : ControllerView). v.settings) d.1;
       built = ap (λ (v : ControllerView). v.built) d.1;
-      rest = rests_cleared (moved (looked_so v0 status ready) v2) v2 clear.running clear.stuck clear.stabilizing d.1;
+      rest = rests_cleared (moved (looked_so v0 status ready) v2) v2 clear.running clear.stuck clear.stabilizing clear.starting d.1;
     }
 
 -- where a block is to go
@@ -176,7 +182,8 @@ write_broken v0 v1 v2 ready bits clear error (write_failed e untold same) droppe
       built = ap (λ (v : ControllerView). v.built) d ∙ ap (λ (v : ControllerView). v.built) same;
       rest = rests_cleared v1 v2 (ap (λ (v : ControllerView). v.running) same ∙ clear.running)
           (ap (λ (v : ControllerView). v.is_stuck) same ∙ clear.stuck)
-          (ap (λ (v : ControllerView). v.settings.stabilizing) same ∙ clear.stabilizing) d;
+          (ap (λ (v : ControllerView). v.settings.stabilizing) same ∙ clear.stabilizing)
+          (ap (λ (v : ControllerView). v.settings.starting) same ∙ clear.starting) d;
     }
 
 pub write_failed_by : (s : Sought) (v0 v1 v2 : ControllerView) (result : Option Glance) (x : Glance)
@@ -247,6 +254,7 @@ accepted_by v0 v1 bits ready following clear judged whole is fine found (write_a
         stale = ap (λ (v : ControllerView). v.is_stale) same ∙ clear.stale;
         resetting = ap (λ (v : ControllerView). v.resetting) same ∙ clear.resetting;
         stabilizing = ap (λ (v : ControllerView). v.settings.stabilizing) same ∙ clear.stabilizing;
+        starting = ap (λ (v : ControllerView). v.settings.starting) same ∙ clear.starting;
       })
       (ap (λ (v : ControllerView). v.outgoing) same)
       (ap (λ (v : ControllerView). v.unjudged) same ∙ judged),

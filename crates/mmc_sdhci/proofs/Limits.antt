@@ -8,7 +8,7 @@ use Rattle.mmc_card.specs.declared.exchange.Width.TheVariants.{Eight, Four, One}
 use Rattle.mmc_host.specs.Hosts.{IsWithin, lines_number}
 use Rattle.mmc_host.specs.declared.data.Data.{Data}
 use Rattle.mmc_sdhci.specs.Accesses.{is_able, is_at_rest, may_write8}
-use Rattle.mmc_sdhci.specs.Controller.{ControllerView, has_data, is_still, limits_in, lines_in}
+use Rattle.mmc_sdhci.specs.Controller.{ControllerView, has_data, is_settled, is_still, limits_in, lines_in}
 use Rattle.mmc_sdhci.specs.DataLooks.{is_empty}
 use Rattle.mmc_sdhci.proofs.Blocks.{both}
 
@@ -40,10 +40,11 @@ may_control view control rests idle alone within =
     let s = both (not view.is_stuck) _ r.1 in
     let t = both (not view.is_stale) _ s.1 in
     let u = both (is_none view.unjudged) _ t.1 in
-    let w = both (is_empty view.outgoing) _ u.1 in
+    let w = both (is_empty view.outgoing) (is_still view) u.1 in
+    let x = both (is_settled view) _ w.1 in
     ap (λ (b : Bool). (b && not (has_data view.transfer))
-    && (is_still view && ((bit_and control 0x26 == control) && is_able view.built.capabilities control))) r.0
+    && (is_settled view && ((bit_and control 0x26 == control) && is_able view.built.capabilities control))) r.0
     ∙ (ap (λ (d : Data). not (has_data d)
-    && (is_still view && ((bit_and control 0x26 == control) && is_able view.built.capabilities control))) idle
-    ∙ (ap (λ (b : Bool). b && ((bit_and control 0x26 == control) && is_able view.built.capabilities control)) w.1
+    && (is_settled view && ((bit_and control 0x26 == control) && is_able view.built.capabilities control))) idle
+    ∙ (ap (λ (b : Bool). b && ((bit_and control 0x26 == control) && is_able view.built.capabilities control)) x.0
     ∙ (ap (λ (b : Bool). b && is_able view.built.capabilities control) (eq-eqb _ _ alone) ∙ able control view.built.capabilities within)))

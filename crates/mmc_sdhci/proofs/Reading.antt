@@ -47,7 +47,7 @@ dropped_by v0 v2 status size ready blocks block clear is dropped =
       transfer = ap (λ (v : ControllerView). v.transfer) d.1;
       settings = ap (λ (v : ControllerView). v.settings) d.1;
       built = ap (λ (v : ControllerView). v.built) d.1;
-      rest = rests_cleared (moved (looked_so v0 status ready) v2) v2 clear.running clear.stuck clear.stabilizing d.1;
+      rest = rests_cleared (moved (looked_so v0 status ready) v2) v2 clear.running clear.stuck clear.stabilizing clear.starting d.1;
     }
 
 -- an error
@@ -70,7 +70,8 @@ broken_by v0 v1 v2 size bits ready block clear error (read_failed e steps same) 
       built = ap (λ (v : ControllerView). v.built) d ∙ ap (λ (v : ControllerView). v.built) same;
       rest = rests_cleared v1 v2 (ap (λ (v : ControllerView). v.running) same ∙ clear.running)
           (ap (λ (v : ControllerView). v.is_stuck) same ∙ clear.stuck)
-          (ap (λ (v : ControllerView). v.settings.stabilizing) same ∙ clear.stabilizing) d;
+          (ap (λ (v : ControllerView). v.settings.stabilizing) same ∙ clear.stabilizing)
+          (ap (λ (v : ControllerView). v.settings.starting) same ∙ clear.starting) d;
     }
 
 pub read_lost : (s : Sought) (v0 v1 v2 : ControllerView) (size : ℕ) (block : List ℕ) (result : Option Glance)
@@ -184,6 +185,7 @@ seeks_good v0 v2 under_way size block following rests coming is taken kept =
         stale = ap (λ (v : ControllerView). v.is_stale) t.1 ∙ clear.stale;
         resetting = ap (λ (v : ControllerView). v.resetting) t.1 ∙ clear.resetting;
         stabilizing = ap (λ (v : ControllerView). v.settings.stabilizing) t.1 ∙ clear.stabilizing;
+        starting = ap (λ (v : ControllerView). v.settings.starting) t.1 ∙ clear.starting;
       },
       (
         (size, c.1.0, carried ∙ c.1.1),
@@ -275,6 +277,7 @@ seen_good following v0 v1 result x is fine seeking watched kept =
               stale = ap (λ (v : ControllerView). v.is_stale) one.same ∙ s.0.stale;
               resetting = ap (λ (v : ControllerView). v.resetting) one.same ∙ s.0.resetting;
               stabilizing = ap (λ (v : ControllerView). v.settings.stabilizing) one.same ∙ s.0.stabilizing;
+              starting = ap (λ (v : ControllerView). v.settings.starting) one.same ∙ s.0.starting;
             })
             (ap (λ (v : ControllerView). v.outgoing) one.same ∙ s.1.1.1.2)
             (ap (λ (v : ControllerView). v.unjudged) one.same),

@@ -115,8 +115,9 @@ lost_rests v0 v1 v2 v3 v4 command bits why rests begins ends resets clears kept 
     let e = ended v0 v1 v2 command bits begins ends r.0 in
     let l = lost_by v0 v2 v3 v1.status command bits why e.1 r.1 in
     let d : v4 ≡ cleared v3 = subst (λ (t : Data). DataDropped v3 t v4) l.transfer c.1 in
-    rests_cleared v3 v4 l.running l.stuck
-    (ap (λ (s : Settings). s.stabilizing) l.settings ∙ (clear_at_rest v0 (rests e.0)).0.stabilizing) d
+    let rest = (clear_at_rest v0 (rests e.0)).0 in
+    rests_cleared v3 v4 l.running l.stuck (ap (λ (s : Settings). s.stabilizing) l.settings ∙ rest.stabilizing)
+    (ap (λ (s : Settings). s.starting) l.settings ∙ rest.starting) d
 
 -- A command that is over without an error.
 abbrev Moved : ControllerView → HostCommand → Heard → ControllerView → Type 0

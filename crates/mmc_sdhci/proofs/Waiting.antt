@@ -1,20 +1,34 @@
 -- Waiting for what settles, and where nothing does.
-use Rattle.std.proofs.Common.{◌+◌, ◌<◌, ◌∙◌, ◌≡◌, ◌≤◌, Bool, None, Option, Some, ap, arith, false, refl, subst, sym, true, ℕ}
-use Rattle.std.specs.Prelude.{◌==◌, is_none}
-use Rattle.std.proofs.lemmas.Bool.{eq-eqb, eqb-true, false≢true}
+use Rattle.std.proofs.Common.{◌*◌, ◌+◌, ◌/◌, ◌<◌, ◌∙◌, ◌≡◌, ◌≤◌, Bool, None, Option, Some, ap, arith, false, refl, subst, sym, true, ℕ}
+use Rattle.std.specs.Prelude.{◌==◌, if◌then◌else◌, is_none}
+use Rattle.std.proofs.lemmas.Bool.{eq-eqb, eqb-true, false≢true, le-leb}
+use Rattle.std.proofs.Math.Nat.{lt-div-mul-add}
 use Rattle.mmc_frame.specs.Field.{field}
-use Rattle.mmc_sdhci.specs.Controller.{ControllerView, Settled, is_still}
-use Rattle.mmc_sdhci.specs.Accesses.{ClockSeen, ClockShown, IsStill, Passes, Reads8, ResetSeen, ResetShown, Stays, passed, passed_for}
-use Rattle.mmc_sdhci.specs.Settling.{IsResetting, IsStabilizing, ResetEnds, Stabilizes}
+use Rattle.mmc_sdhci.specs.Controller.{ControllerView, Settled, base_clock, clock_runs, divider_in, divisor, is_enough, is_settled, is_still}
+use Rattle.mmc_sdhci.specs.Driver.{IsBaseClock}
+use Rattle.mmc_sdhci.specs.Accesses.{ClockSeen, ClockShown, IsStill, Passes, Reads8, ResetSeen, ResetShown, Stays, passed, passed_for, starting_after, starting_for}
+use Rattle.mmc_sdhci.specs.Settling.{IsClocked, IsResetting, IsStabilizing, PowersUp, ResetEnds, Stabilizes}
 use Rattle.mmc_sdhci.proofs.Blocks.{both, no_time}
 
 -- Nothing settles.
 
-still_passed : (view : ControllerView) (micros : ℕ) → is_still view ≡ true → passed view micros ≡ view
-still_passed view micros still =
-    let b = both (is_none view.resetting) (is_none view.settings.stabilizing) still in
+abbrev with_start : ControllerView → Option ℕ → ControllerView
+with_start view starting = record view { settings = record view.settings { starting = starting } }
+
+settled_passed : (view : ControllerView) (micros : ℕ) → is_settled view ≡ true
+    → passed view micros ≡ with_start view (starting_after view view.settings.starting micros)
+settled_passed view micros settled =
+    let b = both (is_none view.resetting) (is_none view.settings.stabilizing) settled in
     ap (λ (o : Option ℕ). passed_for view o view.settings.stabilizing micros) (no_time view.resetting b.0)
     ∙ ap (λ (o : Option ℕ). passed_for view None o micros) (no_time view.settings.stabilizing b.1)
+
+still_passed : (view : ControllerView) (micros : ℕ) → is_still view ≡ true → passed view micros ≡ view
+still_passed view micros still =
+    let b = both (is_settled view) (is_none view.settings.starting) still in
+    let none = no_time view.settings.starting b.1 in
+    settled_passed view micros b.0
+    ∙ (ap (λ (o : Option ℕ). with_start view (starting_after view o micros)) none
+    ∙ ap (λ (o : Option ℕ). with_start view o) (sym none))
 
 pub still_stays : (v0 v1 : ControllerView) (micros : ℕ) → IsStill v0 → Passes v0 micros v1 → Stays v0 v1
 still_stays v0 v1 micros still passes kept =
@@ -179,4 +193,47 @@ ticks_on v0 v1 v2 v3 least more value micros not enough ticks reads passes kept 
         is = ap (λ (v : ControllerView). v.settings.stabilizing) f;
         long = omega (arith, enough, w.1.long);
       },
+    )
+
+-- The card's power-up: so long a pause is enough, at any divider.
+divisor_small : (is_none : Bool) (divider : ℕ) → divider < 1024 → (if is_none then 1 else 2 * divider) ≤ 2046
+divisor_small true divider small = omega arith
+divisor_small false divider small = omega (arith, small)
+
+product : (base quotient waited : ℕ) → quotient * base + 1001 * base ≤ (waited + (1001 + quotient)) * base
+product base quotient waited = grind arith
+
+divider_small : (clock : ℕ) → divider_in clock < 1024
+divider_small clock = omega arith
+
+long_enough : (base divider waited : ℕ) → 0 < base → divider < 1024
+    → is_enough base (divisor divider) (waited + (1001 + 151404 / base)) ≡ true
+long_enough base divider waited some small =
+    let all = lt-div-mul-add {a = 151404} {b = base} some in
+    let most = divisor_small (divider == 0) divider small in
+    le-leb _ _ (omega (arith, all, most, product base (151404 / base) waited))
+
+start_over : (view : ControllerView) (base version : ℕ) (starting : Option ℕ) → 0 < base
+    → (view.built.version ≡ version) × (base_clock view.built.capabilities version ≡ base)
+    → clock_runs view.settings.clock ≡ true → starting_after view starting (1001 + 151404 / base) ≡ None
+start_over view base version None some based runs = refl
+start_over view base version (Some waited) some based runs =
+    let micros = 1001 + 151404 / base in
+    let divider = divider_in view.settings.clock in
+    let is : base_clock view.built.capabilities view.built.version ≡ base =
+    ap (λ n. base_clock view.built.capabilities n) based.0 ∙ based.1 in
+    ap (λ (b : Bool). if b then starting_for view (waited + micros) else Some waited) runs
+    ∙ (ap (λ n. if is_enough n (divisor divider) (waited + micros) then None else Some (waited + micros)) is
+    ∙ ap (λ (b : Bool). if b then None else Some (waited + micros))
+    (long_enough base divider waited some (divider_small view.settings.clock)))
+
+pub powers_up : (v0 v1 : ControllerView) (base version micros : ℕ) → 0 < base → micros ≡ 1001 + 151404 / base
+    → IsBaseClock base version v0 → IsClocked v0 → Passes v0 micros v1 → PowersUp v0 v1
+powers_up v0 v1 base version micros some is based clocked passes kept =
+    let p = passes kept in
+    let c = clocked p.0 in (
+      p.0,
+      p.1 ∙ (ap (λ n. passed v0 n) is
+          ∙ (settled_passed v0 (1001 + 151404 / base) c.0
+          ∙ ap (λ (o : Option ℕ). with_start v0 o) (start_over v0 base version v0.settings.starting some (based p.0) c.1))),
     )

@@ -6,7 +6,8 @@ use Rattle.std.specs.Int.{to_le_bytes, w32}
 use Rattle.mmc_frame.specs.Field.{field}
 use Rattle.mmc_card.specs.Faults.{PollStep}
 use Rattle.mmc_host.specs.declared.data.Data.{Data}
-use Rattle.mmc_sdhci.specs.Controller.{ControllerView, Running, Settings, Settled, Steps, are_shown, clock_runs, has_data, is_set, is_still, moved, seen}
+use Rattle.mmc_sdhci.specs.Controller.{ControllerView, Running, Settings, Settled, Steps, are_shown, base_clock, clock_runs, divider_in, divisor}
+use Rattle.mmc_sdhci.specs.Controller.{has_data, is_enough, is_set, is_settled, is_still, moved, seen}
 use Rattle.mmc_sdhci.specs.CommandLooks.{Dropped, Look, data_asked, of_a_command, word}
 use Rattle.mmc_sdhci.specs.DataLooks.{DataDropped, DataLooked, is_empty}
 
@@ -14,6 +15,11 @@ use Rattle.mmc_sdhci.specs.DataLooks.{DataDropped, DataLooked, is_empty}
 abbrev pub stabilizing_from : Option ℕ → ℕ → Option ℕ
 stabilizing_from was value =
     if field 0 0 value == 0 then None else (if field 2 2 value == 0 then Some 0 else was)
+
+-- The clock is set while the card starts: its time begins anew.
+abbrev pub starting_anew : Option ℕ → Option ℕ
+starting_anew None = None
+starting_anew (Some waited) = Some 0
 
 -- the registers after a write of 32 bits
 abbrev pub written : ControllerView → ℕ → ℕ → ControllerView
@@ -37,12 +43,13 @@ written old offset value =
         clock = field 15 0 value;
         timeout = field 19 16 value;
         stabilizing = stabilizing_from old.settings.stabilizing value;
+        starting = starting_anew old.settings.starting;
       };
     }
     else (if offset == 0x30 then record old { status = bit_and old.status (0xffffffff - value) }
     else (if offset == 0x34 then record old { settings = record old.settings { shown = value } } else old))))))
 
--- no command runs, nothing is left of one that failed or of data that was broken off, and nothing settles
+-- no command runs, nothing is left of one that failed or of data that was broken off, nothing settles, and the card has started
 abbrev pub is_at_rest : ControllerView → Bool
 is_at_rest view =
     is_none view.running
@@ -100,9 +107,9 @@ is_clock settings value =
 abbrev pub is_shown_set : ℕ → Bool
 is_shown_set value = are_shown value && (bit_and value 0x007f003f == value)
 
--- THE RULES for writes of 32 bits, register by register: no others are written. A command is begun at rest, with all set that it needs,
--- and no old interrupt; no interrupt is cleared that wasn't judged; a word of a block is written where it can be; none raises an
--- interrupt of the processor.
+-- THE RULES for writes of 32 bits, register by register: no others are written. A command is begun at rest, once the card has started,
+-- with all set that it needs, and no old interrupt; no interrupt is cleared that wasn't judged; a word of a block is written where it
+-- can be; none raises an interrupt of the processor.
 abbrev pub may_write : ControllerView → ℕ → ℕ → Bool
 may_write view offset value =
     if offset == 0x04 then is_idle view && nat_lt (field 15 0 value) 0x1000
@@ -110,7 +117,7 @@ may_write view offset value =
     else (if offset == 0x0c then
     is_at_rest view && (is_clean view value && (is_set view.settings && is_asked value))
     else (if offset == 0x20 then can_put view
-    else (if offset == 0x2c then is_idle view && (is_still view && is_clock view.settings value)
+    else (if offset == 0x2c then is_idle view && (is_settled view && is_clock view.settings value)
     else (if offset == 0x30 then can_clear view value
     else (if offset == 0x34 then is_idle view && is_shown_set value
     else (if offset == 0x38 then value == 0 else false)))))))
@@ -129,7 +136,7 @@ is_able capabilities control =
 abbrev pub may_write8 : ControllerView → ℕ → ℕ → Bool
 may_write8 view offset value =
     if offset == 0x28 then
-    is_idle view && (is_still view && ((bit_and value 0x26 == value) && is_able view.built.capabilities value))
+    is_idle view && (is_settled view && ((bit_and value 0x26 == value) && is_able view.built.capabilities value))
     else (if offset == 0x29 then is_idle view && (value == 0x0f)
     else (if offset == 0x2f then
     (value == 2) || ((value == 4) || ((value == 1) && (is_at_rest view && (is_idle view && (view.settings.power == 0)))))
@@ -210,12 +217,25 @@ Reads8 old offset value new = Settled old (Shows8 old offset value new) new
 abbrev pub Stays : ControllerView → ControllerView → Type 0
 Stays old new = Settled old (new ≡ old) new
 
--- Time passes: for a reset, and then for the clock.
+-- A card that starts does so until its clock has run for long enough.
+abbrev pub starting_for : ControllerView → ℕ → Option ℕ
+starting_for view waited =
+    if is_enough (base_clock view.built.capabilities view.built.version) (divisor (divider_in view.settings.clock)) waited
+    then None
+    else Some waited
+
+abbrev pub starting_after : ControllerView → Option ℕ → ℕ → Option ℕ
+starting_after view None micros = None
+starting_after view (Some waited) micros =
+    if clock_runs view.settings.clock then starting_for view (waited + micros) else Some waited
+
+-- Time passes: for a reset, then for the internal clock, and then for the card.
 abbrev pub passed_for : ControllerView → Option ℕ → Option ℕ → ℕ → ControllerView
 passed_for view (Some waited) stabilizing micros = record view { resetting = Some (waited + micros) }
 passed_for view None (Some waited) micros =
     record view { settings = record view.settings { stabilizing = Some (waited + micros) } }
-passed_for view None None micros = view
+passed_for view None None micros =
+    record view { settings = record view.settings { starting = starting_after view view.settings.starting micros } }
 
 abbrev pub passed : ControllerView → ℕ → ControllerView
 passed view micros = passed_for view view.resetting view.settings.stabilizing micros
@@ -227,7 +247,7 @@ Passes old micros new = Settled old (new ≡ passed old micros) new
 abbrev pub restarted : ControllerView → ControllerView
 restarted view =
     record view {
-      settings = record { control = 0; power = 0; clock = 0; timeout = 0; shown = 0; stabilizing = None };
+      settings = record { control = 0; power = 0; clock = 0; timeout = 0; shown = 0; stabilizing = None; starting = None };
       status = 0;
       is_ready = false;
       incoming = [];
@@ -237,10 +257,12 @@ restarted view =
 abbrev pub ResetBegins : ControllerView → ControllerView → Type 0
 ResetBegins after new = new ≡ record after { resetting = Some 0 }
 
--- Host Control 1 (28h); Power Control (29h); Software Reset (2Fh): bit 0 all, bit 1 the command line, bit 2 the data line.
+-- Host Control 1 (28h); Power Control (29h), after which the card starts; Software Reset (2Fh): bit 0 all, bit 1 the command line,
+-- bit 2 the data line.
 pub record Does8 (old : ControllerView) (offset value : ℕ) (new : ControllerView) : Type 0 where
   pub control : offset ≡ 0x28 → new ≡ record old { settings = record old.settings { control = value } }
-  pub power : offset ≡ 0x29 → new ≡ record old { settings = record old.settings { power = value } }
+  pub power : offset ≡ 0x29
+      → new ≡ record old { settings = record old.settings { power = value; starting = Some 0 } }
   pub restart : offset ≡ 0x2f → value ≡ 1 → ResetBegins (restarted old) new
   pub command : offset ≡ 0x2f → value ≡ 2
       → (after : ControllerView) × Dropped old old.running after × ResetBegins after new

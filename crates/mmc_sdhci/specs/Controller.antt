@@ -4,7 +4,7 @@
 -- The card's step falls where the driver learns of it: at the look that finds a command or a block over, or at the reset that
 -- drops it. So how many looks it takes is open, and a write is a function of what the registers hold. A block is over where nothing
 -- can be wrong with it any more: the last one with Transfer Complete, any other once the next one is there, or room for it.
-use Rattle.std.specs.Prelude.{Bool, List, None, Option, bit_and, false, if◌then◌else◌, is_none, nat_lt, true, ℕ, ◌&&◌, ◌*◌, ◌+◌, ◌==◌, ◌≡◌, ◌≤◌}
+use Rattle.std.specs.Prelude.{Bool, List, None, Option, bit_and, false, if◌then◌else◌, is_none, nat_le, nat_lt, true, ℕ, ◌&&◌, ◌*◌, ◌+◌, ◌==◌, ◌≡◌, ◌≤◌}
 use Rattle.mmc_frame.specs.Field.{field}
 use Rattle.mmc_card.specs.BusView.{BusView}
 use Rattle.mmc_card.specs.Card.{Card}
@@ -37,6 +37,8 @@ pub record Settings : Type 0 where
   pub shown : ℕ
   -- the internal clock was set, so many microseconds ago, and hasn't been seen to be stable since
   pub stabilizing : Option ℕ
+  -- the card starts: it was given power, and since its clock was set it has run for so many microseconds, which isn't enough yet
+  pub starting : Option ℕ
 
 pub record ControllerView : Type 0 where
   pub card : Card
@@ -148,9 +150,19 @@ is_set settings =
     ((settings.power == 0x0f) && (are_shown settings.shown && is_none settings.stabilizing))
     && (clock_runs settings.clock && (settings.timeout == 0x0e))
 
--- nothing settles
+-- Power-up: a card that is given power starts, and has started after 1 ms and then 74 clocks (SD Physical Layer Simplified
+-- Specification 6.00, section 6.4.1). Here its clock runs all that time; 74 clocks of base / divisor MHz take 74 * divisor / base
+-- microseconds.
+abbrev pub is_enough : ℕ → ℕ → ℕ → Bool
+is_enough base divisor waited = nat_le (1000 * base + 74 * divisor) (waited * base)
+
+-- nothing settles: neither a reset nor the internal clock
+abbrev pub is_settled : ControllerView → Bool
+is_settled view = is_none view.resetting && is_none view.settings.stabilizing
+
+-- and the card has started
 abbrev pub is_still : ControllerView → Bool
-is_still view = is_none view.resetting && is_none view.settings.stabilizing
+is_still view = is_settled view && is_none view.settings.starting
 
 abbrev pub has_data : Data → Bool
 has_data Data.Nothing = false

@@ -10,8 +10,8 @@ use Rattle.mmc_host.specs.Hosts.{HostView}
 use Rattle.mmc_host.specs.declared.data.Data.{Data}
 use Rattle.mmc_host.specs.declared.told.HostState.{HostState}
 use Rattle.mmc_host.specs.declared.told.Ios.{Ios}
-use Rattle.mmc_sdhci.specs.Controller.{ControllerView, IsAtMost, Settled, base_clock, clock_runs, is_set, is_still}
-use Rattle.mmc_sdhci.specs.Accesses.{is_at_rest, restarted}
+use Rattle.mmc_sdhci.specs.Controller.{ControllerView, IsAtMost, Settled, base_clock, clock_runs, is_set, is_settled}
+use Rattle.mmc_sdhci.specs.Accesses.{is_at_rest, restarted, starting_anew}
 use Rattle.mmc_sdhci.specs.Moving.{WhereKept}
 use Rattle.mmc_sdhci.specs.declared.start.StartFault.{StartFault}
 use Rattle.mmc_sdhci.specs.declared.start.StartFault.TheVariants.{NoBaseClock, NoCard, NoVoltage}
@@ -41,7 +41,6 @@ abbrev pub IsBaseClock : ℕ → ℕ → ControllerView → Type 0
 IsBaseClock base version view =
     WhereKept view ((view.built.version ≡ version) × (base_clock view.built.capabilities version ≡ base))
 
-
 -- the clock is set, to so many hertz at most, and runs; the timeout of data is the longest; nothing else is set
 abbrev pub SetsClock : ControllerView → ℕ → ControllerView → Type 0
 SetsClock old most new =
@@ -49,7 +48,12 @@ SetsClock old most new =
     (IsAtMost most new
     × ((clock_runs new.settings.clock ≡ true)
     × (new ≡ record old {
-      settings = record old.settings { clock = new.settings.clock; timeout = 0x0e; stabilizing = None };
+      settings = record old.settings {
+        clock = new.settings.clock;
+        timeout = 0x0e;
+        stabilizing = None;
+        starting = starting_anew old.settings.starting;
+      };
     }))) new
 
 -- no command was sent so far, and the card has no power
@@ -68,7 +72,7 @@ IsAtEase view = (view.running ≡ None) × (view.transfer ≡ Data.Nothing)
 
 -- where lines and clock can be set
 abbrev pub IsSteady : ControllerView → Type 0
-IsSteady view = WhereKept view (IsAtEase view × (is_still view ≡ true))
+IsSteady view = WhereKept view (IsAtEase view × (is_settled view ≡ true))
 
 -- a reset: one line at default speed, no power, and the interrupts shown that the driver looks at
 abbrev pub started : ControllerView → ControllerView
@@ -112,7 +116,7 @@ unkept_controller =
       may_fall = None;
       is_kept = false;
       built = record { capabilities = 0; version = 0 };
-      settings = record { control = 0; power = 0; clock = 0; timeout = 0; shown = 0; stabilizing = None };
+      settings = record { control = 0; power = 0; clock = 0; timeout = 0; shown = 0; stabilizing = None; starting = None };
       resetting = None;
       sizes = 0;
       argument = 0;

@@ -39,13 +39,14 @@ Seeks (sought.Gone following) view =
     AreWritten view.transfer
     × ((is_whole view.outgoing ≡ true) × (following_of view.transfer ≡ following) × (view.unjudged ≡ None))
 
--- no command runs, and nothing is left of one that failed or of other data
+-- no command runs, nothing is left of one that failed or of other data, nothing settles, and the card has started
 pub record IsClear (view : ControllerView) : Type 0 where
   pub running : view.running ≡ None
   pub stuck : view.is_stuck ≡ false
   pub stale : view.is_stale ≡ false
   pub resetting : view.resetting ≡ None
   pub stabilizing : view.settings.stabilizing ≡ None
+  pub starting : view.settings.starting ≡ None
 
 abbrev pub IsSeeking : Sought → ControllerView → Type 0
 IsSeeking sought view = WhereKept view (IsClear view × Seeks sought view)

@@ -1,6 +1,6 @@
--- Waiting for what settles.
-use Rattle.std.specs.Prelude.{None, Some, ℕ, ◌≡◌}
-use Rattle.mmc_sdhci.specs.Controller.{ControllerView, Settled}
+-- Waiting for what settles, and for the card to start.
+use Rattle.std.specs.Prelude.{None, Some, true, ℕ, ◌≡◌}
+use Rattle.mmc_sdhci.specs.Controller.{ControllerView, Settled, clock_runs, is_settled}
 use Rattle.mmc_sdhci.specs.Moving.{WhereKept}
 
 abbrev pub IsResetting : ControllerView → Type 0
@@ -15,3 +15,11 @@ IsStabilizing view =
 
 abbrev pub Stabilizes : ControllerView → ControllerView → Type 0
 Stabilizes old new = Settled old (new ≡ record old { settings = record old.settings { stabilizing = None } }) new
+
+-- nothing settles, and the card's clock runs
+abbrev pub IsClocked : ControllerView → Type 0
+IsClocked view = WhereKept view ((is_settled view ≡ true) × (clock_runs view.settings.clock ≡ true))
+
+-- the card has started
+abbrev pub PowersUp : ControllerView → ControllerView → Type 0
+PowersUp old new = Settled old (new ≡ record old { settings = record old.settings { starting = None } }) new

@@ -16,7 +16,7 @@ use crate::data::{is_accepted, is_good, read_block, write_block};
 use crate::offsets::{CAPABILITIES, CONTROL, POWER, PRESENT, VERSION};
 use crate::registers::Registers;
 use crate::settling::pause;
-use crate::start::{StartFault, control_of, has_card, limits_in, restart};
+use crate::start::{StartFault, control_of, has_card, limits_in, power_up, restart};
 use mmc_bus::{Blocks, BlocksMut, Moved};
 use mmc_card::{DataIn, DataOut, Lines};
 use mmc_host::{Heard, Host, HostCommand, HostState, Ios, ResponseFault, Work};
@@ -47,11 +47,9 @@ const POWER_ON: u8 = 0x0f;
 
 const IDENTIFICATION: u32 = 400_000;
 
-// For power and clock to be there before the first command: a millisecond, and 74 clocks.
-const POWER_UP: u32 = 2000;
-
 impl<R: Registers> Sdhci<R> {
-    /// Begins with a controller: resets it, and gives the card power and the clock of identification.
+    /// Begins with a controller: resets it, gives the card power and the clock of identification, and
+    /// waits until the card has started.
     ///
     /// # Errors
     /// `NoVoltage` where the controller has no 3.3 V, `NoBaseClock` where it doesn't say how fast its clock is, `NoCard` where no
@@ -82,7 +80,7 @@ impl<R: Registers> Sdhci<R> {
         registers.write8(POWER, POWER_ON);
         registers.write8(CONTROL, 0);
         set_clock(&mut registers, base, version, IDENTIFICATION);
-        pause(&mut registers, POWER_UP);
+        power_up(&mut registers, base, version);
         Ok(Sdhci {
             registers,
             state: HostState::new(),

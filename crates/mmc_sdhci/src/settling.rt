@@ -41,7 +41,7 @@ pub fn settle_clock<R: Registers>(registers: &mut R)
     registers.read8(CLOCK);
 }
 
-/// Waits for so many microseconds, where nothing settles.
+/// Waits for so many microseconds, where nothing settles and no card starts.
 pub fn pause<R: Registers>(registers: &mut R, micros: u32)
     requires { IsStill (R.view registers.old) }
     ensures stays { Stays (R.view registers.old) (R.view registers.new) }

@@ -1,11 +1,12 @@
 // How a controller begins.
-ghost use Rattle.std.specs.Prelude.{◌+◌, ◌≡◌, ◌≤◌, bit_and, false};
+ghost use Rattle.std.specs.Prelude.{◌+◌, ◌<◌, ◌≡◌, ◌≤◌, bit_and, false};
 ghost use Rattle.mmc_card.specs.declared.exchange.Width.TheVariants as Width;
 ghost use Rattle.mmc_sdhci.specs.Controller.{limits_in, lines_in};
 ghost use Rattle.mmc_sdhci.specs.Accesses.{IsStill, Stays};
 ghost use Rattle.mmc_sdhci.specs.Beside.{is_inserted, is_sure};
-ghost use Rattle.mmc_sdhci.specs.Driver.{IsNew, Restarts};
+ghost use Rattle.mmc_sdhci.specs.Driver.{IsBaseClock, IsNew, Restarts};
 ghost use Rattle.mmc_sdhci.specs.Moving.{WhereKept};
+ghost use Rattle.mmc_sdhci.specs.Settling.{IsClocked, PowersUp};
 
 use crate::offsets::{PRESENT, RESET, SHOWN_INTERRUPTS, SIGNALS};
 use crate::registers::Registers;
@@ -95,4 +96,15 @@ pub fn has_card<R: Registers>(registers: &mut R) -> bool
         pause(registers, BETWEEN_LOOKS);
     }
     false
+}
+
+/// Waits until the card has started: a millisecond, and 74 clocks.
+pub fn power_up<R: Registers>(registers: &mut R, base: u32, version: u8)
+    requires base { IsBaseClock base version (R.view registers.old) }
+    requires some { 0 < base }
+    requires clocked { IsClocked (R.view registers.old) }
+    ensures { PowersUp (R.view registers.old) (R.view registers.new) }
+{
+    // The 74 clocks are at most 74 * 2 * 1023 of the base clock, whose divider has ten bits.
+    registers.pause(1001 + 151_404 / base);
 }

@@ -43,6 +43,7 @@ shown outcome state =
         timeout = state.timeout;
         shown = state.shown;
         stabilizing = state.stabilizing;
+        starting = state.starting;
       };
       sizes = state.sizes;
       argument = state.argument;

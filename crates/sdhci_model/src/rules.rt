@@ -2,7 +2,7 @@
 ghost use Rattle.std.specs.Prelude.{◌&&◌, ◌||◌, ◌≡◌, is_none};
 ghost use Rattle.mmc_frame.specs.Field.{field};
 ghost use Rattle.mmc_sdhci.specs.Accesses.{can_put, is_able, is_asked, is_at_rest, is_clean, is_clock, is_idle, may_write, may_write8};
-ghost use Rattle.mmc_sdhci.specs.Controller.{is_set, is_still};
+ghost use Rattle.mmc_sdhci.specs.Controller.{is_set, is_settled, is_still};
 ghost use Rattle.mmc_story.specs.Story.{Outcome};
 ghost use Rattle.sdhci_model.specs.Shown.{shown};
 
@@ -56,10 +56,16 @@ fn block_size(sizes: u32) -> u32
 }
 
 impl State {
+    fn is_settled(&self) -> bool
+        ensures { (outcome : Outcome) → result ≡ is_settled (shown outcome self.now) }
+    {
+        self.resetting.is_none() && self.stabilizing.is_none()
+    }
+
     fn is_still(&self) -> bool
         ensures { (outcome : Outcome) → result ≡ is_still (shown outcome self.now) }
     {
-        self.resetting.is_none() && self.stabilizing.is_none()
+        both(self.is_settled(), self.starting.is_none())
     }
 
     fn is_at_rest(&self) -> bool
@@ -146,7 +152,7 @@ impl State {
     {
         both(
             self.is_idle(),
-            both(self.is_still(), self.is_clock(value)),
+            both(self.is_settled(), self.is_clock(value)),
         )
     }
 
@@ -174,7 +180,7 @@ impl State {
         both(
             self.is_idle(),
             both(
-                self.is_still(),
+                self.is_settled(),
                 both(value & 0x26 == value, is_able(self.capabilities, value)),
             ),
         )

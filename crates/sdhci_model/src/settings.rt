@@ -1,7 +1,7 @@
 // Lines, power, clock, and which interrupts are shown.
-ghost use Rattle.std.specs.Prelude.{◌≡◌};
-ghost use Rattle.mmc_sdhci.specs.Accesses.{stabilizing_from};
-ghost use Rattle.mmc_sdhci.specs.Controller.{lines_in};
+ghost use Rattle.std.specs.Prelude.{◌≡◌, ◌≤◌, Some};
+ghost use Rattle.mmc_sdhci.specs.Accesses.{stabilizing_from, starting_anew};
+ghost use Rattle.mmc_sdhci.specs.Controller.{divider_in, divisor, lines_in};
 ghost use Rattle.sdhci_model.specs.Moves.{WritesTo};
 ghost use Rattle.sdhci_model.specs.Shown.{told_of};
 
@@ -64,6 +64,16 @@ fn stabilizing_from(was: Option<u64>, value: u32) -> Option<u64>
     }
 }
 
+// A card that starts, after a write of Clock Control.
+fn starting_anew(was: Option<u64>) -> Option<u64>
+    ensures { result ≡ starting_anew was }
+{
+    match was {
+        None => None,
+        Some(_) => Some(0),
+    }
+}
+
 impl State {
     /// The lines and the clock that are set.
     pub fn ios(&self) -> Ios {
@@ -77,9 +87,16 @@ impl State {
 
     // Whether the card's clock has at most 400 kHz.
     fn is_slow(&self) -> bool {
+        base_clock(self.capabilities, self.version) * 10 <= 4 * self.divisor()
+    }
+
+    /// By how much the base clock is divided.
+    pub fn divisor(&self) -> u32
+        ensures value { result ≡ divisor (divider_in self.now.clock) }
+        ensures small { result ≤ 2046 }
+    {
         let divider = self.clock / 64 % 4 * 256 + self.clock / 256 % 256;
-        let divisor = if divider == 0 { 1 } else { 2 * divider };
-        base_clock(self.capabilities, self.version) * 10 <= 4 * divisor
+        if divider == 0 { 1 } else { 2 * divider }
     }
 
     /// Host Control 1 is written.
@@ -89,11 +106,12 @@ impl State {
         self.control = value;
     }
 
-    /// Power Control is written.
+    /// Power Control is written, after which the card starts.
     pub fn set_power(&mut self, value: u8)
-        ensures { self.new ≡ record self.old { power = value } }
+        ensures { self.new ≡ record self.old { power = value; starting = Some 0 } }
     {
         self.power = value;
+        self.starting = Some(0);
     }
 
     /// Clock Control and Timeout Control are written.
@@ -103,6 +121,7 @@ impl State {
         self.clock = value % 0x1_0000;
         self.timeout = (value / 0x1_0000 % 16) as u8;
         self.stabilizing = stabilizing_from(self.stabilizing, value);
+        self.starting = starting_anew(self.starting);
     }
 
     /// Normal and Error Interrupt Status Enable are written.

@@ -1,12 +1,15 @@
-// Software Reset, and the time that a reset and the internal clock take.
-ghost use Rattle.std.specs.Prelude.{◌≡◌, Some, false, true};
-ghost use Rattle.mmc_sdhci.specs.Accesses.{passed, restarted};
+// Software Reset, and the time that a reset, the internal clock and the card's power-up take.
+ghost use Rattle.std.specs.Prelude.{◌≡◌, IfSome, Some, false, true};
+ghost use Rattle.mmc_sdhci.specs.Accesses.{passed, restarted, starting_after};
 ghost use Rattle.mmc_sdhci.specs.DataLooks.{cleared};
+ghost use Rattle.mmc_story.specs.Story.{Outcome};
 ghost use Rattle.sdhci_model.specs.Moves.{ChangesTo, HasSameBus, SeesClock, SeesReset};
+ghost use Rattle.sdhci_model.specs.Shown.{shown};
 
 use crate::state::State;
 use arrayvec::ArrayVec;
 use mmc_host::Data;
+use mmc_sdhci::base_clock;
 
 impl State {
     /// Software Reset For All.
@@ -20,6 +23,7 @@ impl State {
         self.timeout = 0;
         self.shown = 0;
         self.stabilizing = None;
+        self.starting = None;
         self.status = 0;
         self.is_ready = false;
         self.block = ArrayVec::new();
@@ -67,6 +71,23 @@ impl State {
         2
     }
 
+    // What becomes of a card that starts after so many microseconds; `None` where they can't be counted.
+    fn starting_after(&self, waited: u64, micros: u32) -> Option<Option<u64>>
+        ensures { IfSome result (λ starting. (outcome : Outcome) → starting ≡ starting_after (shown outcome self.now) (Some waited) micros) }
+    {
+        if self.clock % 2 == 0 || self.clock / 4 % 2 == 0 {
+            return Some(Some(waited));
+        }
+        let base = base_clock(self.capabilities, self.version) as u64;
+        let sum = waited.checked_add(micros as u64)?;
+        let given = sum.checked_mul(base)?;
+        if 1000 * base + 74 * self.divisor() as u64 <= given {
+            Some(None)
+        } else {
+            Some(Some(sum))
+        }
+    }
+
     /// So many microseconds pass. It tells whether they could be counted.
     pub fn pass(&mut self, micros: u32) -> bool
         ensures { result ≡ true → ChangesTo self.old (λ view. passed view micros) self.new }
@@ -83,6 +104,13 @@ impl State {
                 return false;
             };
             self.stabilizing = Some(sum);
+            return true;
+        }
+        if let Some(waited) = self.starting {
+            let Some(starting) = self.starting_after(waited, micros) else {
+                return false;
+            };
+            self.starting = starting;
         }
         true
     }

@@ -28,6 +28,9 @@ pub struct State {
     pub shown: u32,
     /// The internal clock was set, so many microseconds ago, and hasn't been seen to be stable since.
     pub stabilizing: Option<u64>,
+    /// The card starts: it was given power, and since its clock was set it has run for so many
+    /// microseconds, which isn't enough yet.
+    pub starting: Option<u64>,
     /// Block Size, and Block Count above it.
     pub sizes: u32,
     /// Argument.
@@ -79,6 +82,7 @@ impl State {
             timeout: 0,
             shown: 0,
             stabilizing: None,
+            starting: None,
             sizes: 0,
             argument: 0,
             resetting: None,

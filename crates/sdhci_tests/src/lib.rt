@@ -4,6 +4,8 @@
 #[cfg(test)]
 mod controller;
 #[cfg(test)]
+mod hasty;
+#[cfg(test)]
 mod narrow;
 #[cfg(test)]
 mod tests;

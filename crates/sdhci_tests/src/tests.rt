@@ -1,10 +1,13 @@
 // The driver opens cards, writes and reads back, also where an answer is lost.
 use crate::controller::Controller;
+use crate::hasty::Hasty;
 use crate::narrow::Narrow;
 use mmc_block::{Answer, BlockDev, Bytes, Completion, Part, Request};
-use mmc_bus::{Lines, Timing, Width};
+use mmc_bus::{Bus, Lines, Timing, Want, Width};
 use mmc_card_sim::example_cards::{emmc, emmc_with, ext_csd_of_emmc, sdhc, sdsc, sdsc_cmd23};
 use mmc_card_sim::{CardSpec, Fault, Outcome, SimCard};
+use mmc_frame::commands::GO_IDLE_STATE;
+use mmc_frame::encode;
 use mmc_host::HostBus;
 use mmc_sdhci::Sdhci;
 use sdhci_model::{Manner, Model, Silence, Silent, driver};
@@ -36,13 +39,18 @@ struct Trouble {
     manner: Manner,
 }
 
-// Opens the card behind the model, over such lines at most.
-fn open(alloc: Global, card: SimCard, most: Lines, manner: Manner) -> Option<Device> {
-    let controller = Controller {
+// A host over this card.
+fn over(card: SimCard) -> Controller {
+    Controller {
         card,
         is_slow: false,
         was_too_fast: false,
-    };
+    }
+}
+
+// Opens the card behind the model, over such lines at most.
+fn open(alloc: Global, card: SimCard, most: Lines, manner: Manner) -> Option<Device> {
+    let controller = over(card);
     match driver::<Controller, Brand>(controller, CAPABILITIES, 2, manner) {
         Ok(host) => BlockDev::open(alloc, Narrow::new(HostBus::new(host), most)).ok(),
         Err(_) => None,
@@ -251,6 +259,26 @@ fn fail_each_late(alloc: Global, which: Which, most: Lines) -> Result<(), Fail> 
             serve(alloc, spec_of(which), most, trouble)?;
         }
     }
+    Ok(())
+}
+
+// Whether the driver keeps to the rules with its first command, where no pause takes longer than this.
+fn is_sound_in(alloc: Global, longest: u32) -> Result<bool, Fail> {
+    let card = SimCard::build(alloc, sdsc()).ok().ok_or("no card")?;
+    let model = Model::new(over(card), CAPABILITIES, 2, Manner::default());
+    let Ok(host) = Sdhci::new(Hasty { model, longest }) else {
+        return Err("no driver".into());
+    };
+    let mut bus = HostBus::new(host);
+    bus.command(encode(GO_IDLE_STATE, 0), Want::Nothing);
+    Ok(bus.host().registers().model.is_sound())
+}
+
+#[test]
+fn the_first_command_comes_after_power_up(rt: HostRuntime) -> Result<(), Fail> {
+    // A millisecond, and 74 clocks of 50 MHz / 126.
+    assert!(rt; !is_sound_in(rt.alloc(), 1186)?);
+    assert!(rt; is_sound_in(rt.alloc(), 1187)?);
     Ok(())
 }
 
