@@ -26,10 +26,9 @@ heals_again stands old before broken healed settled left new so_far settles is =
     subst (λ n. Heals stands old (before + 1) left n) (sym is) (again before broken healed settled left so_far settles)
 
 -- an attempt that failed, as it is counted
-pub failed_so : (broken : Broken) (settled attempted met : Healed) (cause : Cause) → attempted ≡ with_attempt settled
-    → cause ≡ broken.cause → met ≡ with_failure cause attempted → met ≡ after_attempt (Loose broken) settled
-failed_so broken settled attempted met cause one why counted =
-    counted ∙ ap (λ (c : Cause). with_failure c attempted) why ∙ ap (λ (h : Healed). with_failure broken.cause h) one
+pub failed_so : (broken : Broken) (settled counted : Healed) (cause : Cause) → cause ≡ broken.cause
+    → counted ≡ with_failure cause (with_attempt settled) → counted ≡ after_attempt (Loose broken) settled
+failed_so broken settled counted cause why is = is ∙ ap (λ (c : Cause). with_failure c (with_attempt settled)) why
 
 -- a request that is done, or one whose attempts are used up
 pub healed_done : (stands : Stands) (old : Healed) (attempts : ℕ) (session : Session) (new : Healed) → attempts ≤ ATTEMPTS

@@ -3,6 +3,7 @@
 
 mod action;
 mod attempts;
+mod counting;
 mod refused;
 mod requests;
 mod retries;

@@ -12,6 +12,7 @@ ghost use Rattle.mmc_direct.specs.declared.action.Action.TheVariants.{Read, Writ
 ghost use Rattle.mmc_direct.specs.declared.attempts.TheConstants.{ATTEMPTS};
 
 use crate::attempts::{ATTEMPTS, try_erase, try_read, try_write};
+use crate::counting::{count_done, count_failed};
 use crate::stands::Stands;
 use mmc_bus::{Blocks, BlocksMut, Bus, Part};
 use mmc_erase::How;
@@ -38,22 +39,22 @@ pub fn keep_reading<B: Bus, D: BlocksMut>(
 {
     let mut broken = match try_read(bus, healed, stands, part, start, blocks) {
         Ok(session) => {
-            *healed = healed.attempted();
+            count_done(healed);
             return Ok(session);
         }
         Err(broken) => {
-            *healed = healed.attempted().met(broken.cause());
+            count_failed(healed, broken.cause());
             broken
         }
     };
     for _failed in 1..ATTEMPTS {
         match try_read(bus, healed, Stands::Loose(broken), part, start, blocks) {
             Ok(session) => {
-                *healed = healed.attempted();
+                count_done(healed);
                 return Ok(session);
             }
             Err(left) => {
-                *healed = healed.attempted().met(left.cause());
+                count_failed(healed, left.cause());
                 broken = left;
             }
         }
@@ -77,22 +78,22 @@ pub fn keep_writing<B: Bus, D: Blocks>(
 {
     let mut broken = match try_write(bus, healed, stands, part, start, blocks) {
         Ok(session) => {
-            *healed = healed.attempted();
+            count_done(healed);
             return Ok(session);
         }
         Err(broken) => {
-            *healed = healed.attempted().met(broken.cause());
+            count_failed(healed, broken.cause());
             broken
         }
     };
     for _failed in 1..ATTEMPTS {
         match try_write(bus, healed, Stands::Loose(broken), part, start, blocks) {
             Ok(session) => {
-                *healed = healed.attempted();
+                count_done(healed);
                 return Ok(session);
             }
             Err(left) => {
-                *healed = healed.attempted().met(left.cause());
+                count_failed(healed, left.cause());
                 broken = left;
             }
         }
@@ -117,22 +118,22 @@ pub fn keep_erasing<B: Bus>(
 {
     let mut broken = match try_erase(bus, healed, stands, part, start, count, how) {
         Ok(session) => {
-            *healed = healed.attempted();
+            count_done(healed);
             return Ok(session);
         }
         Err(broken) => {
-            *healed = healed.attempted().met(broken.cause());
+            count_failed(healed, broken.cause());
             broken
         }
     };
     for _failed in 1..ATTEMPTS {
         match try_erase(bus, healed, Stands::Loose(broken), part, start, count, how) {
             Ok(session) => {
-                *healed = healed.attempted();
+                count_done(healed);
                 return Ok(session);
             }
             Err(left) => {
-                *healed = healed.attempted().met(left.cause());
+                count_failed(healed, left.cause());
                 broken = left;
             }
         }

@@ -31,9 +31,8 @@ loop-failed-init g c =
           e.bounded e.kept e.cause e.tried,
       e.count,
       e.lent,
-      heals_first c.args.stands c.args.healed.now c.try_read.new.healed (Loose c.in-Err.broken) c.met.result e.healed
-          (failed_so c.in-Err.broken c.try_read.new.healed c.attempted-in-Err.result c.met.result c.cause.result c.attempted-in-Err.ensures
-          c.cause.ensures c.met.ensures),
+      heals_first c.args.stands c.args.healed.now c.try_read.new.healed (Loose c.in-Err.broken) c.count_failed.new.healed e.healed
+          (failed_so c.in-Err.broken c.try_read.new.healed c.count_failed.new.healed c.cause.result c.cause.ensures c.count_failed.ensures),
     )
 
 pub try_read-requires-in-loop-failed : goal.try_read-requires-in-loop-failed
@@ -80,9 +79,9 @@ loop-failed-preserved g c =
       e.count ∙ c.loop-failed.invariant.1,
       lent_then c.loop-failed.invariant.2 e.lent,
       heals_again c.args.stands c.args.healed.now c.loop-failed._failed c.loop-failed.broken c.loop-failed.healed
-          c.try_read-in-loop-failed.new.healed (Loose c.in-Err-try_read.left) c.met-in-Err-try_read.result c.loop-failed.invariant.3 e.healed
-          (failed_so c.in-Err-try_read.left c.try_read-in-loop-failed.new.healed c.attempted-in-Err-try_read.result c.met-in-Err-try_read.result c.cause-in-Err-try_read.result c.attempted-in-Err-try_read.ensures
-          c.cause-in-Err-try_read.ensures c.met-in-Err-try_read.ensures),
+          c.try_read-in-loop-failed.new.healed (Loose c.in-Err-try_read.left) c.count_failed-in-Err-try_read.new.healed c.loop-failed.invariant.3 e.healed
+          (failed_so c.in-Err-try_read.left c.try_read-in-loop-failed.new.healed c.count_failed-in-Err-try_read.new.healed c.cause-in-Err-try_read.result
+          c.cause-in-Err-try_read.ensures c.count_failed-in-Err-try_read.ensures),
     )
 
 pub returns-clause-tries : goal.returns-clause-tries
@@ -99,18 +98,18 @@ returns-in-Ok-try_read-clause-read g c kept at =
 
 pub returns-in-Ok-clause-healed : goal.returns-in-Ok-clause-healed
 returns-in-Ok-clause-healed g c =
-    healed_done c.args.stands c.args.healed.now 1 c.in-Ok.session c.attempted.result (omega arith)
-    (heals_first c.args.stands c.args.healed.now c.try_read.new.healed (Ready c.in-Ok.session) c.attempted.result
-    c.in-Ok.ensures.healed c.attempted.ensures)
+    healed_done c.args.stands c.args.healed.now 1 c.in-Ok.session c.count_done.new.healed (omega arith)
+    (heals_first c.args.stands c.args.healed.now c.try_read.new.healed (Ready c.in-Ok.session) c.count_done.new.healed
+    c.in-Ok.ensures.healed c.count_done.ensures)
 
 pub returns-in-Ok-try_read-clause-healed : goal.returns-in-Ok-try_read-clause-healed
 returns-in-Ok-try_read-clause-healed g c =
     let few = c.loop-failed-test.true in
-    healed_done c.args.stands c.args.healed.now (c.loop-failed._failed + 1) c.in-Ok-try_read.session c.attempted-in-Ok-try_read.result
+    healed_done c.args.stands c.args.healed.now (c.loop-failed._failed + 1) c.in-Ok-try_read.session c.count_done-in-Ok-try_read.new.healed
     (omega (arith, few))
     (heals_again c.args.stands c.args.healed.now c.loop-failed._failed c.loop-failed.broken c.loop-failed.healed
-    c.try_read-in-loop-failed.new.healed (Ready c.in-Ok-try_read.session) c.attempted-in-Ok-try_read.result c.loop-failed.invariant.3
-    c.in-Ok-try_read.ensures.healed c.attempted-in-Ok-try_read.ensures)
+    c.try_read-in-loop-failed.new.healed (Ready c.in-Ok-try_read.session) c.count_done-in-Ok-try_read.new.healed c.loop-failed.invariant.3
+    c.in-Ok-try_read.ensures.healed c.count_done-in-Ok-try_read.ensures)
 
 pub returns-clause-healed : goal.returns-clause-healed
 returns-clause-healed g c =

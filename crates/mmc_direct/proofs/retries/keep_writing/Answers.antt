@@ -29,9 +29,8 @@ loop-failed-init g c =
       one_try (moving (length blocks)) (written_at c.args.part c.args.start blocks) c.args.stands
           (g.B.Bus.view c.args.bus.now) (Err c.in-Err.broken) (g.B.Bus.view c.try_write.new.bus) e.info e.bounded e.kept
           e.cause e.tried,
-      heals_first c.args.stands c.args.healed.now c.try_write.new.healed (Loose c.in-Err.broken) c.met.result e.healed
-          (failed_so c.in-Err.broken c.try_write.new.healed c.attempted-in-Err.result c.met.result c.cause.result c.attempted-in-Err.ensures
-          c.cause.ensures c.met.ensures),
+      heals_first c.args.stands c.args.healed.now c.try_write.new.healed (Loose c.in-Err.broken) c.count_failed.new.healed e.healed
+          (failed_so c.in-Err.broken c.try_write.new.healed c.count_failed.new.healed c.cause.result c.cause.ensures c.count_failed.ensures),
     )
 
 pub try_write-requires-in-loop-failed : goal.try_write-requires-in-loop-failed
@@ -71,9 +70,9 @@ loop-failed-preserved g c =
           result new c.loop-failed.invariant.0
           (one_try each change (Loose c.loop-failed.broken) b result new e.info e.bounded e.kept e.cause e.tried),
       heals_again c.args.stands c.args.healed.now c.loop-failed._failed c.loop-failed.broken c.loop-failed.healed
-          c.try_write-in-loop-failed.new.healed (Loose c.in-Err-try_write.left) c.met-in-Err-try_write.result c.loop-failed.invariant.1 e.healed
-          (failed_so c.in-Err-try_write.left c.try_write-in-loop-failed.new.healed c.attempted-in-Err-try_write.result c.met-in-Err-try_write.result c.cause-in-Err-try_write.result c.attempted-in-Err-try_write.ensures
-          c.cause-in-Err-try_write.ensures c.met-in-Err-try_write.ensures),
+          c.try_write-in-loop-failed.new.healed (Loose c.in-Err-try_write.left) c.count_failed-in-Err-try_write.new.healed c.loop-failed.invariant.1 e.healed
+          (failed_so c.in-Err-try_write.left c.try_write-in-loop-failed.new.healed c.count_failed-in-Err-try_write.new.healed c.cause-in-Err-try_write.result
+          c.cause-in-Err-try_write.ensures c.count_failed-in-Err-try_write.ensures),
     )
 
 pub returns-clause-tries : goal.returns-clause-tries
@@ -85,18 +84,18 @@ returns-clause-tries g c =
 
 pub returns-in-Ok-clause-healed : goal.returns-in-Ok-clause-healed
 returns-in-Ok-clause-healed g c =
-    healed_done c.args.stands c.args.healed.now 1 c.in-Ok.session c.attempted.result (omega arith)
-    (heals_first c.args.stands c.args.healed.now c.try_write.new.healed (Ready c.in-Ok.session) c.attempted.result
-    c.in-Ok.ensures.healed c.attempted.ensures)
+    healed_done c.args.stands c.args.healed.now 1 c.in-Ok.session c.count_done.new.healed (omega arith)
+    (heals_first c.args.stands c.args.healed.now c.try_write.new.healed (Ready c.in-Ok.session) c.count_done.new.healed
+    c.in-Ok.ensures.healed c.count_done.ensures)
 
 pub returns-in-Ok-try_write-clause-healed : goal.returns-in-Ok-try_write-clause-healed
 returns-in-Ok-try_write-clause-healed g c =
     let few = c.loop-failed-test.true in
-    healed_done c.args.stands c.args.healed.now (c.loop-failed._failed + 1) c.in-Ok-try_write.session c.attempted-in-Ok-try_write.result
+    healed_done c.args.stands c.args.healed.now (c.loop-failed._failed + 1) c.in-Ok-try_write.session c.count_done-in-Ok-try_write.new.healed
     (omega (arith, few))
     (heals_again c.args.stands c.args.healed.now c.loop-failed._failed c.loop-failed.broken c.loop-failed.healed
-    c.try_write-in-loop-failed.new.healed (Ready c.in-Ok-try_write.session) c.attempted-in-Ok-try_write.result c.loop-failed.invariant.1
-    c.in-Ok-try_write.ensures.healed c.attempted-in-Ok-try_write.ensures)
+    c.try_write-in-loop-failed.new.healed (Ready c.in-Ok-try_write.session) c.count_done-in-Ok-try_write.new.healed c.loop-failed.invariant.1
+    c.in-Ok-try_write.ensures.healed c.count_done-in-Ok-try_write.ensures)
 
 pub returns-clause-healed : goal.returns-clause-healed
 returns-clause-healed g c =
