@@ -24,4 +24,4 @@ pub record PrintsCard (old new : Option (List ℕ)) : Type 0 where
 -- what a frame says, or a register
 pub data PrintsDecoded (old new : Option (List ℕ)) : Type 0 where
   a_frame : (kind : Kind) (frame : List ℕ) → Appends old new (frame_text kind frame) → PrintsDecoded old new
-  a_register : (register : Register) (bytes : List ℕ) → PutsRegister register bytes old new (Ok {_} {Unit} tt) → PrintsDecoded old new
+  a_register : (register : Register) (bytes : List ℕ) → PutsRegister register bytes old new (Ok tt) → PrintsDecoded old new
