@@ -78,7 +78,15 @@ pub fn read_by<S: HasStory>(
 {
     let (stands, host, part) = go_back(way, card, part)?;
     let limits = host.limits();
-    let (answer, left) = read_over(host, card, healed, stands, part, start, &mut SectorsMut { blocks });
+    let (answer, left) = read_over(
+        host,
+        card,
+        healed,
+        stands,
+        part,
+        start,
+        &mut SectorsMut { blocks },
+    );
     Ok(Called {
         answer,
         limits,

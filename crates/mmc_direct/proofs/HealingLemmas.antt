@@ -1,5 +1,5 @@
 -- What attempts add to the counts.
-use Rattle.std.proofs.Common.{◌+◌, ◌∙◌, ◌≡◌, ◌≤◌, ap, arith, refl, subst, sym, ℕ}
+use Rattle.std.proofs.Common.{◌+◌, ◌∙◌, ◌≡◌, ◌≤◌, ap, arith, subst, sym, ℕ}
 use Rattle.std.specs.Prelude.{Err, Ok, Result}
 use Rattle.mmc_bus.specs.declared.cause.Cause.{Cause}
 use Rattle.mmc_recovery.specs.Healed.{with_attempt, with_failure}

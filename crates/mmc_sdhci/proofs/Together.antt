@@ -1,5 +1,5 @@
 -- A command and its blocks by one call.
-use Rattle.std.proofs.Common.{[], ◌+◌, ◌-◌, ◌<◌, ◌∙◌, ◌≡◌, ◌≤◌, List, ap, arith, refl, suc, true, ℕ}
+use Rattle.std.proofs.Common.{[], ◌-◌, ◌<◌, ◌∙◌, ◌≡◌, List, ap, arith, refl, suc, true, ℕ}
 use Rattle.std.specs.Prelude.{Result, if◌then◌else◌, is_ok, length, slice_index_or}
 use Rattle.mmc_bus.specs.Together.{accepted_one, none_accepted, writes, writes_none}
 use Rattle.mmc_bus.specs.declared.moved.Moved.TheVariants as Move

@@ -17,7 +17,14 @@ fn erased(
     count: u64,
 ) -> Option<NotDone> {
     let mut healed = Healed::new();
-    let served = erase(card, &mut healed, Stands::Ready(session), part, start, count);
+    let served = erase(
+        card,
+        &mut healed,
+        Stands::Ready(session),
+        part,
+        start,
+        count,
+    );
     served.answer.err()
 }
 
@@ -99,7 +106,14 @@ fn gives_up_after_four_attempts(rt: HostRuntime) -> Result<(), Fail> {
     let served = read(&mut card, &mut healed, ready, Part::User, 0, &mut room);
     assert_eq!(rt; served.answer, Err(NotDone::Failed(Cause::Answer)));
     assert_eq!(rt; Some(card.exchanges()), first.checked_add(16));
-    let again = read(&mut card, &mut healed, served.stands, Part::User, 0, &mut room);
+    let again = read(
+        &mut card,
+        &mut healed,
+        served.stands,
+        Part::User,
+        0,
+        &mut room,
+    );
     assert_eq!(rt; again.answer, Ok(()));
     let counted = Healed {
         attempts: 5,

@@ -1,8 +1,6 @@
-use Rattle.std.proofs.Common.{◌∙◌, ap, subst, sym, length, Bool}
+use Rattle.std.proofs.Common.{◌∙◌, ap, length}
 use Rattle.mmc_host.specs.HostStates.{lines_of}
-use Rattle.mmc_host.specs.Hosts.{Does}
 use Rattle.mmc_host.specs.declared.told.HostState.{HostState}
-use Rattle.mmc_card.specs.Faults.{ReadStep}
 use Rattle.mmc_host.proofs.BusLemmas.{does_read}
 use Rattle.mmc_host.proofs.TogetherLemmas.{sets_none}
 use Rattle.mmc_host.proofs.host_bus.HostBus.read_next.Goals as goal

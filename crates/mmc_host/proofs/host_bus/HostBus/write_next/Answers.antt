@@ -1,8 +1,6 @@
-use Rattle.std.proofs.Common.{◌∙◌, ap, subst, sym, Bool}
+use Rattle.std.proofs.Common.{◌∙◌, ap}
 use Rattle.mmc_host.specs.HostStates.{lines_of}
-use Rattle.mmc_host.specs.Hosts.{Does}
 use Rattle.mmc_host.specs.declared.told.HostState.{HostState}
-use Rattle.mmc_card.specs.Faults.{WriteStep}
 use Rattle.mmc_host.proofs.BusLemmas.{does_write}
 use Rattle.mmc_host.proofs.TogetherLemmas.{sets_none}
 use Rattle.mmc_host.proofs.host_bus.HostBus.write_next.Goals as goal

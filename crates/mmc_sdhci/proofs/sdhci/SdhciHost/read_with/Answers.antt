@@ -1,4 +1,4 @@
-use Rattle.std.proofs.Common.{◌<◌, ◌∙◌, ◌≡◌, add-one, ap, arith, length, refl, subst, sym}
+use Rattle.std.proofs.Common.{◌<◌, ◌∙◌, ◌≡◌, add-one, ap, arith, length, subst, sym}
 use Rattle.std.proofs.lemmas.List.{length-set}
 use Rattle.mmc_bus.proofs.TogetherLemmas.{good_lent}
 use Rattle.mmc_bus.specs.Lending.{block}

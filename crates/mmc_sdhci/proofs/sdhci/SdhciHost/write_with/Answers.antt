@@ -1,4 +1,4 @@
-use Rattle.std.proofs.Common.{[], ◌<◌, ◌≡◌, List, arith, length, slice_index_or, subst, ℕ}
+use Rattle.std.proofs.Common.{[], ◌≡◌, List, arith, length, slice_index_or, subst, ℕ}
 use Rattle.mmc_card.specs.CardAnswer.{Silent}
 use Rattle.mmc_card.specs.declared.exchange.DataOut.{DataOut}
 use Rattle.mmc_host.specs.Hosts.{WritesBlock, answer_heard}
