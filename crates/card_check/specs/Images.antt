@@ -7,7 +7,7 @@ use Rattle.mmc_card_sim.specs.declared.store.TheConstants.{MAX_SECTORS}
 abbrev pub is_image : ℕ → ℕ → Bool
 is_image sectors bytes = (bytes % 512 == 0) && (bytes / 512 == sectors)
 
--- behind a number of bytes that no card in memory has
+-- after a number of bytes that no card in memory has
 abbrev pub more_words : ℕ → List ℕ
 more_words bytes = if nat_lt (512 * MAX_SECTORS) bytes then codes " or more" else []
 

@@ -132,7 +132,7 @@ abbrev pub size_text : Option BuildFault → List ℕ
 size_text (Some ImageSize) = line_text (codes "the partitions have more than 65536 sectors together")
 size_text refusal = []
 
--- and behind them that the card is too large
+-- and after them that the card is too large
 abbrev pub contradictions : CardSpec → List ℕ
 contradictions spec = registers_text spec ++ size_text (refusal_of spec)
 

@@ -16,7 +16,7 @@ fn is_image(sectors: usize, bytes: usize) -> bool
     bytes % 512 == 0 && bytes / 512 == sectors
 }
 
-// What stands behind a number of bytes that no card in memory has.
+// What stands after a number of bytes that no card in memory has.
 fn more_words(bytes: usize) -> &'static [u8]
     ensures { result.now ≡ more_words bytes }
 {

@@ -9,31 +9,31 @@ pub returns-in_err-put_check : goal.returns-in_err-put_check
 returns-in_err-put_check g c =
     let spec = c.args.spec.now in
     let registers = spec.registers in
-    let behind = ocr_text registers.ocr ++ (kind_text registers.kind registers.ocr ++ sectors_text spec) in
+    let after = ocr_text registers.ocr ++ (kind_text registers.kind registers.ocr ++ sectors_text spec) in
     writes_failed _ _ _ _ c.from_residual.ensures.0
     (front_before _ _ (check_text (codes "CID") registers.cid)
-    (check_text (codes "CSD") registers.csd ++ (csd_text (csd_in (kind_of registers.kind) registers.csd) ++ behind))
+    (check_text (codes "CSD") registers.csd ++ (csd_text (csd_in (kind_of registers.kind) registers.csd) ++ after))
     c.in_err-put_check.ensures)
 
 pub returns-in_err-put_check-2 : goal.returns-in_err-put_check-2
 returns-in_err-put_check-2 g c =
     let spec = c.args.spec.now in
     let registers = spec.registers in
-    let behind = ocr_text registers.ocr ++ (kind_text registers.kind registers.ocr ++ sectors_text spec) in
+    let after = ocr_text registers.ocr ++ (kind_text registers.kind registers.ocr ++ sectors_text spec) in
     writes_after _ _ _ _ (check_text (codes "CID") registers.cid) _ c.in_ok-put_check.ensures
     (writes_failed _ _ _ _ c.from_residual-in_err-put_check-2.ensures.0
     (front_before _ _ (check_text (codes "CSD") registers.csd)
-    (csd_text (csd_in (kind_of registers.kind) registers.csd) ++ behind) c.in_err-put_check-2.ensures))
+    (csd_text (csd_in (kind_of registers.kind) registers.csd) ++ after) c.in_err-put_check-2.ensures))
 
 pub returns-in_err-put_csd : goal.returns-in_err-put_csd
 returns-in_err-put_csd g c =
     let spec = c.args.spec.now in
     let registers = spec.registers in
-    let behind = ocr_text registers.ocr ++ (kind_text registers.kind registers.ocr ++ sectors_text spec) in
+    let after = ocr_text registers.ocr ++ (kind_text registers.kind registers.ocr ++ sectors_text spec) in
     writes_after _ _ _ _ (check_text (codes "CID") registers.cid) _ c.in_ok-put_check.ensures
     (writes_after _ _ _ _ (check_text (codes "CSD") registers.csd) _ c.in_ok-put_check-2.ensures
     (writes_failed _ _ _ _ c.from_residual-in_err-put_csd.ensures.0
-    (front_before _ _ (csd_text (csd_in (kind_of registers.kind) registers.csd)) behind c.in_err-put_csd.ensures)))
+    (front_before _ _ (csd_text (csd_in (kind_of registers.kind) registers.csd)) after c.in_err-put_csd.ensures)))
 
 pub returns-in_err-put_ocr : goal.returns-in_err-put_ocr
 returns-in_err-put_ocr g c =
