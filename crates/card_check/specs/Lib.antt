@@ -4,5 +4,6 @@ pub mod Findings
 pub mod Images
 pub mod Keys
 pub mod Missing
+pub mod Registers
 pub mod Scripts
 pub mod WrongLines

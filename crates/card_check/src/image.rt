@@ -1,27 +1,38 @@
 // Whether an image fits.
 ghost use Rattle.std.specs.Prelude.{IfOk, ◌≡◌};
-ghost use Rattle.card_check.specs.Images.{is_image};
+ghost use Rattle.text_out.specs.Writing.{Writes};
+ghost use Rattle.card_check.specs.Images.{image_line, image_text, is_image, more_words};
+ghost use Rattle.card_check.specs.WrongLines.{Prints};
 
 use crate::fault::CheckFault;
 use mmc_card_sim::MAX_SECTORS;
-use std::io::Write;
+use std::io::{self, Write};
 use text_out::{Piece, put_pieces};
 
-/// Whether an image of so many bytes has 512 for each of these sectors, all partitions together; where it hasn't, a line says so.
-///
-/// # Errors
-/// `Write` where a write failed, and a front of the line went out then.
-pub fn check_image<W: Write>(sectors: usize, bytes: usize, out: &mut W) -> Result<bool, CheckFault>
-    ensures { IfOk result (λ good. good ≡ is_image sectors bytes) }
+// Whether so many bytes are 512 for each of these sectors.
+fn is_image(sectors: usize, bytes: usize) -> bool
+    ensures { result ≡ is_image sectors bytes }
 {
-    if bytes % 512 == 0 && bytes / 512 == sectors {
-        return Ok(true);
-    }
-    let more = if bytes > 512 * MAX_SECTORS {
-        b" or more".as_slice()
+    bytes % 512 == 0 && bytes / 512 == sectors
+}
+
+// What stands after a number of bytes that no card in memory has.
+fn more_words(bytes: usize) -> &'static [u8]
+    ensures { result.now ≡ more_words bytes }
+{
+    if bytes > 512 * MAX_SECTORS {
+        b" or more"
     } else {
-        b"".as_slice()
-    };
+        b""
+    }
+}
+
+// That so many bytes are another number than those of the sectors.
+#[tactic(auto, unfolding(crate::specs::Images::image_line))]
+fn put_other_size<W: Write>(out: &mut W, sectors: usize, bytes: usize) -> io::Result<()>
+    ensures { Writes (W.contents out.old) (W.contents out.new) result (image_line sectors bytes) }
+{
+    let more = more_words(bytes);
     put_pieces(
         out,
         &[
@@ -34,6 +45,20 @@ pub fn check_image<W: Write>(sectors: usize, bytes: usize, out: &mut W) -> Resul
             Piece::Number(sectors as u64),
             Piece::Text(b" sectors\n"),
         ],
-    )?;
+    )
+}
+
+/// Whether an image of so many bytes has 512 for each of these sectors, all partitions together; where it hasn't, a line says so.
+///
+/// # Errors
+/// `Write` where a write failed, and a front of the line went out then.
+pub fn check_image<W: Write>(sectors: usize, bytes: usize, out: &mut W) -> Result<bool, CheckFault>
+    ensures good { IfOk result (λ good. good ≡ is_image sectors bytes) }
+    ensures said { Prints (W.contents out.old) (W.contents out.new) result (image_text sectors bytes) }
+{
+    if is_image(sectors, bytes) {
+        return Ok(true);
+    }
+    put_other_size(out, sectors, bytes)?;
     Ok(false)
 }

@@ -1,6 +1,13 @@
 // Whatever contradicts in the registers of a card.
-ghost use Rattle.std.specs.Prelude.{◌≡◌, IfOk, None, is_none, is_some};
-ghost use Rattle.mmc_card_sim.specs.CardSpec.{refusal_of};
+ghost use Rattle.std.specs.Prelude.{◌<◌, ◌^◌, ◌≡◌, IfOk, IfSome, None, [], is_none, is_some, true};
+ghost use Rattle.mmc_card_sim.specs.CardSpec.{has_access_mode, has_early_bits, has_erase_unit, has_no_ready_bit, has_short_waits};
+ghost use Rattle.mmc_card_sim.specs.CardSpec.{has_user_sectors, refusal_of, works_at_3_3_volts};
+ghost use Rattle.mmc_card_sim.specs.Registers.{kind_of};
+ghost use Rattle.mmc_regs.specs.Csd.{csd_in};
+ghost use Rattle.text_out.specs.Writing.{Writes};
+ghost use Rattle.card_check.specs.Registers.{all_sectors, card_by, check_text, contradictions, csd_text, is_checked, kind_text, line_text, mmc_text, ocr_text};
+ghost use Rattle.card_check.specs.Registers.{last_text, registers_text, right_check, right_text, sectors_in, sectors_line, sectors_text, sectors_told, teller_words, unless};
+ghost use Rattle.card_check.specs.WrongLines.{Prints};
 
 use crate::fault::CheckFault;
 use mmc_bus::Part;
@@ -10,39 +17,96 @@ use mmc_frame::{check_fits, with_check};
 use mmc_regs::{Ocr, RegFault, read_csd};
 use std::alloc::Global;
 use std::io::{self, Write};
-use text_out::put::put;
 use text_out::{Piece, put_pieces};
 
+// Whether the check of a CID or CSD fits, and its end bit is 1.
+fn is_checked(register: &[u8; 16]) -> bool
+    ensures { result ≡ is_checked register.now }
+{
+    check_fits(register) && register[15] % 2 == 1
+}
+
 // The last byte that fits a CID or CSD.
-fn right_check(register: &[u8; 16]) -> u8 {
+fn right_check(register: &[u8; 16]) -> u8
+    ensures { result ≡ right_check register.now }
+{
     let mut front = [0; 15];
     front.copy_from_slice(&register[..15]);
     with_check(&front)[15]
 }
 
+// The last byte of a CID or CSD.
+#[tactic(auto, unfolding(crate::specs::Registers::last_text))]
+fn put_last<W: Write>(out: &mut W, name: &'static [u8], register: &[u8; 16]) -> io::Result<()>
+    ensures { Writes (W.contents out.old) (W.contents out.new) result (last_text name.now register.now) }
+{
+    let last = [register[15]];
+    put_pieces(
+        out,
+        &[
+            Piece::Text(b"card: the last byte of the "),
+            Piece::Text(name),
+            Piece::Text(b" is "),
+            Piece::Hex(&last),
+        ],
+    )
+}
+
+// And the one that fits.
+fn put_right<W: Write>(out: &mut W, register: &[u8; 16]) -> io::Result<()>
+    ensures { Writes (W.contents out.old) (W.contents out.new) result (right_text register.now) }
+{
+    let right = [right_check(register)];
+    put_pieces(
+        out,
+        &[
+            Piece::Text(b", but its check and end bit are "),
+            Piece::Hex(&right),
+            Piece::Text(b"\n"),
+        ],
+    )
+}
+
 // The check of a CID or CSD, where it doesn't fit.
-fn put_check<W: Write>(out: &mut W, name: &'static [u8], register: &[u8; 16]) -> io::Result<()> {
-    if check_fits(register) && register[15] % 2 == 1 {
+fn put_check<W: Write>(out: &mut W, name: &'static [u8], register: &[u8; 16]) -> io::Result<()>
+    ensures { Writes (W.contents out.old) (W.contents out.new) result (check_text name.now register.now) }
+{
+    if is_checked(register) {
         return Ok(());
     }
-    let last = [register[15]];
-    let right = [right_check(register)];
-    put(out, b"card: the last byte of the ")?;
-    put(out, name)?;
-    put_pieces(out, &[Piece::Text(b" is "), Piece::Hex(&last)])?;
-    put(out, b", but its check and end bit are ")?;
-    put_pieces(out, &[Piece::Hex(&right), Piece::Text(b"\n")])
+    put_last(out, name, register)?;
+    put_right(out, register)
 }
 
 // A line that says one thing.
-fn put_line<W: Write>(out: &mut W, line: &[u8]) -> io::Result<()> {
-    put(out, b"card: ")?;
-    put(out, line)?;
-    put(out, b"\n")
+fn put_line<W: Write>(out: &mut W, line: &'static [u8]) -> io::Result<()>
+    ensures { Writes (W.contents out.old) (W.contents out.new) result (line_text line.now) }
+{
+    put_pieces(
+        out,
+        &[
+            Piece::Text(b"card: "),
+            Piece::Text(line),
+            Piece::Text(b"\n"),
+        ],
+    )
+}
+
+// Such a line, where what it asks for isn't so.
+fn put_unless<W: Write>(out: &mut W, is_so: bool, line: &'static [u8]) -> io::Result<()>
+    ensures { Writes (W.contents out.old) (W.contents out.new) result (unless is_so (line_text line.now)) }
+{
+    if is_so {
+        return Ok(());
+    }
+    put_line(out, line)
 }
 
 // The fields of a CSD whose check fits.
-fn put_csd<W: Write>(out: &mut W, registers: &Registers) -> io::Result<()> {
+fn put_csd<W: Write>(out: &mut W, registers: &Registers) -> io::Result<()>
+    ensures { Writes (W.contents out.old) (W.contents out.new) result
+        (csd_text (csd_in (kind_of registers.now.kind) registers.now.csd)) }
+{
     match read_csd(registers.kind(), &registers.csd) {
         Err(RegFault::Structure) => put_line(
             out,
@@ -52,88 +116,150 @@ fn put_csd<W: Write>(out: &mut W, registers: &Registers) -> io::Result<()> {
             out,
             b"READ_BL_LEN and WRITE_BL_LEN, bits 83 to 80 and 25 to 22 of the CSD, have to be from 9 to 11",
         ),
-        _ => Ok(()),
+        Err(RegFault::Check) | Ok(_) => Ok(()),
     }
+}
+
+// Whether an OCR has the voltage window from 3.2 to 3.4 V.
+fn works_at_3_3_volts(ocr: u32) -> bool
+    ensures { result ≡ works_at_3_3_volts ocr }
+{
+    Ocr::new(ocr).accepts_3_3_volts()
+}
+
+// Whether it has no bit 31.
+fn has_no_ready_bit(ocr: u32) -> bool
+    ensures { result ≡ has_no_ready_bit ocr }
+{
+    !Ocr::new(ocr).is_ready()
 }
 
 // The OCR.
-fn put_ocr<W: Write>(out: &mut W, ocr: u32) -> io::Result<()> {
-    let register = Ocr::new(ocr);
-    if !register.accepts_3_3_volts() {
-        put_line(
-            out,
-            b"bits 21 and 20 of the OCR, 3.2 to 3.4 V, have to be 1",
-        )?;
-    }
-    if register.is_ready() {
-        put_line(
-            out,
-            b"bit 31 of the OCR has to be 0: it is the card that sets it once it is ready",
-        )?;
-    }
-    Ok(())
+fn put_ocr<W: Write>(out: &mut W, ocr: u32) -> io::Result<()>
+    ensures { Writes (W.contents out.old) (W.contents out.new) result (ocr_text ocr) }
+{
+    put_unless(
+        out,
+        works_at_3_3_volts(ocr),
+        b"bits 21 and 20 of the OCR, 3.2 to 3.4 V, have to be 1",
+    )?;
+    put_unless(
+        out,
+        has_no_ready_bit(ocr),
+        b"bit 31 of the OCR has to be 0: it is the card that sets it once it is ready",
+    )
+}
+
+// Whether an eMMC device is addressed by sectors or by bytes.
+fn has_access_mode(ocr: u32) -> bool
+    ensures { result ≡ has_access_mode ocr }
+{
+    let mode = Ocr::new(ocr).access_mode();
+    mode == 0 || mode == 2
+}
+
+// Whether it has an erase unit.
+fn has_erase_unit(ext_csd: &[u8; 512]) -> bool
+    ensures { result ≡ has_erase_unit ext_csd.now }
+{
+    ExtCsd::new(ext_csd).erase_unit() != 0
+}
+
+// The access mode and the erase unit of an eMMC device.
+fn put_mmc<W: Write>(out: &mut W, ext_csd: &[u8; 512], ocr: u32) -> io::Result<()>
+    ensures { Writes (W.contents out.old) (W.contents out.new) result (mmc_text ext_csd.now ocr) }
+{
+    put_unless(
+        out,
+        has_access_mode(ocr),
+        b"bits 30 and 29 of the OCR have to be 2 for sector addresses, or 0 for byte addresses",
+    )?;
+    put_unless(
+        out,
+        has_erase_unit(ext_csd),
+        b"byte 224 of the EXT_CSD, HC_ERASE_GRP_SIZE, has to be above 0 (ext 224)",
+    )
 }
 
 // What a card has by its kind.
-fn put_kind<W: Write>(out: &mut W, registers: &Registers) -> io::Result<()> {
+fn put_kind<W: Write>(out: &mut W, registers: &Registers) -> io::Result<()>
+    ensures { Writes (W.contents out.old) (W.contents out.new) result (kind_text registers.now.kind registers.now.ocr) }
+{
     match registers.kind {
-        KindRegisters::Sd(sd) if sd.rca == 0 => put_line(out, b"rca has to be above 0"),
-        KindRegisters::Sd(_) => Ok(()),
-        KindRegisters::Mmc(mmc) => {
-            if Ocr::new(registers.ocr).access_mode() % 2 == 1 {
-                put_line(
-                    out,
-                    b"bits 30 and 29 of the OCR have to be 2 for sector addresses, or 0 for byte addresses",
-                )?;
-            }
-            if ExtCsd::new(&mmc.ext_csd).erase_unit() == 0 {
-                put_line(
-                    out,
-                    b"byte 224 of the EXT_CSD, HC_ERASE_GRP_SIZE, has to be above 0 (ext 224)",
-                )?;
-            }
-            Ok(())
-        }
+        KindRegisters::Sd(sd) => put_unless(out, sd.rca != 0, b"rca has to be above 0"),
+        KindRegisters::Mmc(mmc) => put_mmc(out, &mmc.ext_csd, registers.ocr),
     }
 }
 
-// How many sectors the registers give the user partition, and which of them says so.
-fn user_sectors(registers: &Registers) -> Option<(u64, &'static [u8])> {
+// How many sectors the registers give the user partition.
+fn sectors_told(registers: &Registers) -> Option<u64>
+    ensures { result ≡ sectors_told registers.now }
+{
     match registers.kind {
-        KindRegisters::Mmc(mmc) if registers.has_sector_addresses() => Some((
-            ExtCsd::new(&mmc.ext_csd).sectors(),
-            b"bytes 212 to 215 of the EXT_CSD say ",
-        )),
+        KindRegisters::Mmc(mmc) if registers.has_sector_addresses() => {
+            Some(ExtCsd::new(&mmc.ext_csd).sectors())
+        }
         _ => match read_csd(registers.kind(), &registers.csd) {
-            Ok(csd) => Some((csd.sectors(), b"the CSD says ")),
+            Ok(csd) => Some(csd.sectors()),
             Err(_) => None,
         },
     }
 }
 
-// The size of the user partition.
-fn put_sectors<W: Write>(out: &mut W, spec: &CardSpec) -> io::Result<()> {
-    let Some((sectors, words)) = user_sectors(&spec.registers) else {
-        return Ok(());
-    };
-    if sectors == spec.sectors && sectors != 0 {
-        return Ok(());
+// Which of them says so.
+fn teller_words(registers: &Registers) -> &'static [u8]
+    ensures { result.now ≡ teller_words registers.now }
+{
+    match registers.kind {
+        KindRegisters::Mmc(_) if registers.has_sector_addresses() => {
+            b"bytes 212 to 215 of the EXT_CSD say "
+        }
+        _ => b"the CSD says ",
     }
+}
+
+// Whether the user partition has sectors, and as many as are wanted.
+fn has_user_sectors(sectors: u64, wanted: u64) -> bool
+    ensures { result ≡ has_user_sectors sectors wanted }
+{
+    sectors != 0 && sectors == wanted
+}
+
+// That it has others.
+fn put_other_sectors<W: Write>(out: &mut W, spec: &CardSpec, sectors: u64) -> io::Result<()>
+    ensures { Writes (W.contents out.old) (W.contents out.new) result
+        (sectors_line spec.now.sectors (teller_words spec.now.registers) sectors) }
+{
+    let teller = teller_words(&spec.registers);
     put_pieces(
         out,
         &[
             Piece::Text(b"card: sectors is "),
             Piece::Number(spec.sectors),
             Piece::Text(b", but "),
-            Piece::Text(words),
+            Piece::Text(teller),
             Piece::Number(sectors),
             Piece::Text(b"\n"),
         ],
     )
 }
 
+// The size of the user partition, where the registers tell it.
+fn put_sectors<W: Write>(out: &mut W, spec: &CardSpec) -> io::Result<()>
+    ensures { Writes (W.contents out.old) (W.contents out.new) result (sectors_text spec.now) }
+{
+    match sectors_told(&spec.registers) {
+        Some(sectors) if !has_user_sectors(sectors, spec.sectors) => {
+            put_other_sectors(out, spec, sectors)
+        }
+        _ => Ok(()),
+    }
+}
+
 // Each register for itself, and what they say of each other.
-fn put_registers<W: Write>(out: &mut W, spec: &CardSpec) -> io::Result<()> {
+fn put_registers<W: Write>(out: &mut W, spec: &CardSpec) -> io::Result<()>
+    ensures { Writes (W.contents out.old) (W.contents out.new) result (registers_text spec.now) }
+{
     let registers = &spec.registers;
     put_check(out, b"CID", &registers.cid)?;
     put_check(out, b"CSD", &registers.csd)?;
@@ -143,22 +269,22 @@ fn put_registers<W: Write>(out: &mut W, spec: &CardSpec) -> io::Result<()> {
     put_sectors(out, spec)
 }
 
-// How many sectors all partitions of a card have together.
-fn total_sectors(card: &SimCard) -> usize {
-    let parts = [
-        Part::User,
-        Part::Boot1,
-        Part::Boot2,
-        Part::Gp1,
-        Part::Gp2,
-        Part::Gp3,
-        Part::Gp4,
-    ];
-    let mut bytes = 0usize;
-    for part in parts {
-        bytes = bytes.saturating_add(card.contents(part).len());
-    }
-    bytes / 512
+// How many sectors a partition of a card has.
+fn sectors_in(card: &SimCard, part: Part) -> usize
+    ensures count { result ≡ sectors_in card.now.card part }
+    ensures small { result < 2 ^ 57 }
+{
+    card.contents(part).len() / 512
+}
+
+// How many all partitions of a card have together.
+fn all_sectors(card: &SimCard) -> usize
+    ensures { result ≡ all_sectors card.now.card }
+{
+    let boot = sectors_in(card, Part::Boot1) + sectors_in(card, Part::Boot2);
+    let first = sectors_in(card, Part::Gp1) + sectors_in(card, Part::Gp2);
+    let last = sectors_in(card, Part::Gp3) + sectors_in(card, Part::Gp4);
+    sectors_in(card, Part::User) + boot + first + last
 }
 
 /// Writes a line for each contradiction in the registers of a card, where no card is built by them. Otherwise it gives the number
@@ -166,16 +292,25 @@ fn total_sectors(card: &SimCard) -> usize {
 ///
 /// # Errors
 /// `NoMemory`; `Write` where a write failed, and a front of the lines went out then.
+#[tactic(auto, using(crate::proofs::RegisterLemmas::silent, crate::proofs::RegisterLemmas::spoken))]
 pub fn check_registers<W: Write>(
     alloc: Global,
     spec: CardSpec,
     out: &mut W,
 ) -> Result<Option<usize>, CheckFault>
-    ensures { IfOk result (λ checked. is_some checked ≡ is_none (refusal_of spec)) }
+    ensures taken { IfOk result (λ checked. is_some checked ≡ is_none (refusal_of spec)) }
+    ensures sectors { IfOk result (λ checked. IfSome checked (λ sectors. sectors ≡ all_sectors (card_by spec))) }
+    ensures said { Prints (W.contents out.old) (W.contents out.new) result (contradictions spec) }
+
+    // Nothing is said of a card that is built. Of one that isn't something is, unless it is one of its delays or its early bits
+    // that is refused, which aren't registers.
+    ensures silent { refusal_of spec ≡ None → contradictions spec ≡ [] }
+    ensures spoken { has_short_waits spec ≡ true → has_early_bits spec.early ≡ true → contradictions spec ≡ []
+        → refusal_of spec ≡ None }
 {
     put_registers(out, &spec)?;
     match SimCard::build(alloc, spec) {
-        Ok(card) => Ok(Some(total_sectors(&card))),
+        Ok(card) => Ok(Some(all_sectors(&card))),
         Err(BuildFault::Register) => Ok(None),
         Err(BuildFault::ImageSize) => {
             put_line(out, b"the partitions have more than 65536 sectors together")?;

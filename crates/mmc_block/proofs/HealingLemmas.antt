@@ -1,6 +1,6 @@
 -- What a turn adds to the counts of what was met and healed.
-use Rattle.std.proofs.Common.{◌+◌, ◌<◌, ◌∙◌, ◌∷◌, ◌≡◌, List, [], Bool, ap, arith, inl, inr, length, refl, subst, sym}
-use Rattle.std.specs.Prelude.{IfSome, Option, map}
+use Rattle.std.proofs.Common.{◌+◌, ◌++◌, ◌<◌, ◌∙◌, ◌∷◌, ◌≡◌, List, [], Bool, ap, arith, inl, inr, length, refl, subst, sym}
+use Rattle.std.specs.Prelude.{IfSome, None, Option, Some, map}
 use Rattle.mmc_card.specs.BusView.{BusView}
 use Rattle.mmc_queue.specs.declared.entry.Entry.{Entry}
 use Rattle.mmc_recovery.specs.Settled.{TellsReset}
@@ -12,7 +12,8 @@ use Rattle.mmc_switch.specs.declared.session.Session.{Session}
 use Rattle.mmc_block.specs.Device.{DeviceView, unanswered_of}
 use Rattle.mmc_block.specs.Entries.{completion_of, waits_of}
 use Rattle.mmc_block.specs.Healing.{StepHeals, TurnHeals, after_attempt, after_outcome, after_settling, broken_at, broken_in}
-use Rattle.mmc_block.specs.Healing.{ready_at, ready_in, ready_then}
+use Rattle.mmc_block.specs.Healing.Noted.{Attempted, Met, Settled}
+use Rattle.mmc_block.specs.Healing.{Noted, OnlyAdds, ready_at, ready_in, ready_then, with_all, with_noted}
 use Rattle.mmc_block.specs.Machine.{Waiting}
 use Rattle.mmc_block.specs.Service.{AfterFailure, Concludes, GoesOnUp, HasStarted, IsNext, Service, in_service_of}
 use Rattle.mmc_block.specs.Service.Service.{Idle, Serving, Taken}
@@ -113,3 +114,34 @@ turn_heals view old new entries left stage attempt after o cs mid begun some on 
           ∙ ap (after_attempt (broken_in new.service) cs)
           (step.healed ∙ ap (λ (b : Option Broken). after_settling b by old.healed) at);
     }
+
+-- Turns after each other.
+
+with_all-append : (xs ys : List Noted) (healed : Healed) → with_all (xs ++ ys) healed ≡ with_all ys (with_all xs healed)
+with_all-append [] ys healed = refl
+with_all-append (x ∷ xs) ys healed = with_all-append xs ys (with_noted x healed)
+
+pub adds_none : (healed : Healed) → OnlyAdds healed healed
+adds_none healed = ([], refl)
+
+pub adds_then : (a b c : Healed) → OnlyAdds a b → OnlyAdds b c → OnlyAdds a c
+adds_then a b c p q = (p.0 ++ q.0, q.1 ∙ ap (with_all q.0) p.1 ∙ sym (with_all-append p.0 q.0 a))
+
+settling_adds : (broken : Option Broken) (was_reset : Bool) (healed : Healed)
+    → OnlyAdds healed (after_settling broken was_reset healed)
+settling_adds None was_reset healed = ([], refl)
+settling_adds (Some broken) was_reset healed = (Settled was_reset ∷ [], refl)
+
+attempt_adds : (broken : Option Broken) (cs : List Completion) (healed : Healed)
+    → OnlyAdds healed (after_attempt broken cs healed)
+attempt_adds (Some broken) cs healed = (Attempted ∷ Met broken.cause ∷ [], refl)
+attempt_adds None (c ∷ cs) healed = (Attempted ∷ [], refl)
+attempt_adds None [] healed = ([], refl)
+
+pub turn_adds : {B : Type 0} (view : B → BusView) (old : DeviceView B) (cs : List Completion) (new : DeviceView B)
+    → TurnHeals view old cs new → OnlyAdds old.healed new.healed
+turn_adds view old cs new turn =
+    let settled = after_settling (broken_in old.service) turn.was_reset old.healed in
+    subst (OnlyAdds old.healed) (sym turn.healed)
+    (adds_then old.healed settled _ (settling_adds (broken_in old.service) turn.was_reset old.healed)
+    (attempt_adds (broken_in new.service) cs settled))

@@ -1,6 +1,6 @@
 -- Turns one behind the other.
 use Rattle.std.proofs.Common.{◌*◌, ◌+◌, ◌++◌, ◌∙◌, ◌∷◌, ◌≡◌, ◌≤◌, List, [], ap, arith, append_assoc, append-nil, cond, length, length-append}
-use Rattle.std.proofs.Common.{inl, inr, refl, subst, sym, true, zero-add, ℕ}
+use Rattle.std.proofs.Common.{inl, inr, refl, suc, subst, sym, true, zero, zero-add, ℕ}
 use Rattle.std.proofs.lemmas.List.{replicate-append-replicate}
 use Rattle.std.proofs.lemmas.List.Sums.{sum_by-append}
 use Rattle.std.specs.Prelude.{◌&&◌, ◌==◌, replicate}
@@ -15,12 +15,14 @@ use Rattle.mmc_block.specs.Device.{Comes, DeviceView, unanswered_of, work_of}
 use Rattle.mmc_block.specs.Execution.{Counted, CountedSteps, IsCountedExecution, Reply}
 use Rattle.mmc_block.specs.Execution.Event.{Turn}
 use Rattle.mmc_block.specs.Execution.Reply.{Answers as Gives}
+use Rattle.mmc_block.specs.Healing.{OnlyAdds}
 use Rattle.mmc_block.specs.InOrder.{answers, answers_in}
 use Rattle.mmc_block.specs.Machine.{IsMerged, Waiting}
 use Rattle.mmc_block.specs.Run.{AreEachAnswered, TakesTurns, answered_to, asked_by}
 use Rattle.mmc_block.specs.Service.{in_service_of}
 use Rattle.mmc_block.specs.Turn.{IsTurn}
 use Rattle.mmc_block.proofs.ExecutionLemmas.{follow_then}
+use Rattle.mmc_block.proofs.HealingLemmas.{adds_none, adds_then, turn_adds}
 
 -- Who is answered.
 
@@ -134,6 +136,7 @@ pub record TurnsSoFar {B : Type 0} (view : B → BusView) (start now : DeviceVie
   pub next : now.next ≡ start.next
   pub bounded : (view now.bus).exchanges + EXCHANGES_OF_A_SETTLE * work_of now
       ≤ (view start.bus).exchanges + EXCHANGES_OF_A_SETTLE * work_of start
+  pub healed : OnlyAdds start.healed now.healed
 
 pub turns_none : {B : Type 0} (view : B → BusView) (start : DeviceView B) → TurnsSoFar view start start []
 turns_none view start = record {
@@ -145,7 +148,14 @@ turns_none view start = record {
   info = refl;
   next = refl;
   bounded = omega arith;
+  healed = adds_none start.healed;
 }
+
+module _ {B : Type 0} (view : B → BusView) (pace : Pace) (old : DeviceView B) (cs : List Completion) (new : DeviceView B) where
+  -- a turn for which nothing was without an answer changes nothing
+  turn_heals : IsTurn view pace old cs new → (n : ℕ) → unanswered_of old ≡ n → OnlyAdds old.healed new.healed
+  turn_heals turn zero none = ([], ap (λ (d : DeviceView B). d.healed) (turn.idle none))
+  turn_heals turn (suc n) some = turn_adds view old cs new (turn.healed (omega (arith, some)))
 
 pub turns_then : {B : Type 0} (view : B → BusView) (pace : Pace) (start mid now : DeviceView B) (given cs : List Completion)
     → TurnsSoFar view start mid given → IsTurn view pace mid cs now → TurnsSoFar view start now (given ++ cs)
@@ -174,6 +184,7 @@ turns_then view pace start mid now given cs so_far turn = record {
   info = turn.same.0 ∙ so_far.info;
   next = turn.same.1 ∙ so_far.next;
   bounded = let n = so_far.bounded in let m = turn.paid in omega (arith, n, m);
+  healed = adds_then start.healed mid.healed now.healed so_far.healed (turn_heals view pace mid cs now turn (unanswered_of mid) refl);
 }
 
 asked_none : (client ticket : ℕ) (ws : List Waiting) → length ws ≡ 0 → asked_by client ticket ws ≡ 0

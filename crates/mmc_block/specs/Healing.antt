@@ -1,6 +1,7 @@
 -- What a turn adds to the counts of what was met and healed.
 use Rattle.std.specs.Prelude.{◌∷◌, ◌≡◌, Bool, IfSome, List, None, Option, Some, []}
 use Rattle.mmc_card.specs.BusView.{BusView}
+use Rattle.mmc_bus.specs.declared.cause.Cause.{Cause}
 use Rattle.mmc_recovery.specs.Healed.{with_attempt, with_failure, with_settling}
 use Rattle.mmc_recovery.specs.Settled.{TellsReset}
 use Rattle.mmc_recovery.specs.declared.healed.Healed.{Healed}
@@ -58,6 +59,28 @@ pub record TurnHeals {B : Type 0} (view : B → BusView) (old : DeviceView B) (c
       TellsReset broken (view old.bus) (ready_in new.service) was_reset (view new.bus))
   pub healed : new.healed
       ≡ after_attempt (broken_in new.service) completions (after_settling (broken_in old.service) was_reset old.healed)
+
+-- Over any number of turns.
+
+-- one thing that is counted
+pub data Noted : Type 0 where
+  Attempted : Noted
+  Met : Cause → Noted
+  Settled : Bool → Noted
+
+abbrev pub with_noted : Noted → Healed → Healed
+with_noted Attempted healed = with_attempt healed
+with_noted (Met cause) healed = with_failure cause healed
+with_noted (Settled was_reset) healed = with_settling was_reset healed
+
+-- these things more
+abbrev pub with_all : List Noted → Healed → Healed
+with_all [] healed = healed
+with_all (noted ∷ others) healed = with_all others (with_noted noted healed)
+
+-- Attempts, failures and settlings were added to the counts, or nothing was, and nothing else became of them.
+abbrev pub OnlyAdds : Healed → Healed → Type 0
+OnlyAdds old new = (noted : List Noted) × (new ≡ with_all noted old)
 
 -- Within a turn: a step that has left this outcome, and what is decided behind it.
 

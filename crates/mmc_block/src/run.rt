@@ -30,6 +30,7 @@ fn append(all: &mut Vec<Completion>, answers: &mut Completions)
 impl<B: Bus> BlockDev<B> {
     ghost use Rattle.mmc_block.specs.Device.{Comes, unanswered_of, work_of};
     ghost use Rattle.mmc_block.specs.Execution.{Counted};
+    ghost use Rattle.mmc_block.specs.Healing.{OnlyAdds};
     ghost use Rattle.mmc_block.specs.Run.{AreEachAnswered, TakesTurns};
 
     /// Takes turns until no request is without an answer, and gives the answers in the order in which they came. It takes the
@@ -48,6 +49,7 @@ impl<B: Bus> BlockDev<B> {
         ensures all { OnOk result (unanswered_of self.new ≡ 0) }
         ensures same { (self.new.info ≡ self.old.info) × (self.new.next ≡ self.old.next) }
         ensures bounded { (B.view self.new.bus).exchanges ≤ (B.view self.old.bus).exchanges + EXCHANGES_OF_A_SETTLE * work_of self.old }
+        ensures healed { OnlyAdds self.old.healed self.new.healed }
         ensures no_memory { OnErr result (self.new ≡ self.old) }
     {
         let mut answers = Vec::with_capacity(alloc, self.waiting())?;

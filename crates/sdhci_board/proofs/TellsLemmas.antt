@@ -1,5 +1,5 @@
 -- What is told of an access is told of what is made of it, and of two after each other.
-use Rattle.std.proofs.Common.{◌∙◌, ◌≡◌, List, None, Option, Some, refl, subst, sym}
+use Rattle.std.proofs.Common.{◌≡◌, List, None, Option, Some, subst, sym}
 use Rattle.sdhci_board.specs.Accesses.{Access, Tells}
 
 pub tells_as : (Does Then : List Access → List Access → Type 0) → ((old new : List Access) → Does old new → Then old new)

@@ -104,18 +104,21 @@ impl<W: Words> Registers for Board<W> {
 
     fn write32(&mut self, offset: u8, value: u32)
         ensures writes { Tells (λ old new. new ≡ WordWritten (word_at offset) value ∷ old) (W.past self.old.words) (W.past self.new.words) }
+        ensures same { (self.new.slot ≡ self.old.slot) × (self.new.capabilities ≡ self.old.capabilities) }
     {
         self.words.write(word_at(offset), value);
     }
 
     fn read8(&mut self, offset: u8) -> u8
         ensures reads { Tells (ReadsByte self.old.slot self.old.capabilities offset result) (W.past self.old.words) (W.past self.new.words) }
+        ensures same { (self.new.slot ≡ self.old.slot) × (self.new.capabilities ≡ self.old.capabilities) }
     {
         byte_in(offset, self.read32(offset))
     }
 
     fn write8(&mut self, offset: u8, value: u8)
         ensures writes { Tells (WritesByte offset value) (W.past self.old.words) (W.past self.new.words) }
+        ensures same { (self.new.slot ≡ self.old.slot) × (self.new.capabilities ≡ self.old.capabilities) }
     {
         let at = word_at(offset);
         let word = self.words.read(at);
@@ -124,6 +127,7 @@ impl<W: Words> Registers for Board<W> {
 
     fn pause(&mut self, micros: u32)
         ensures waits { Tells (λ old new. new ≡ Waited micros ∷ old) (W.past self.old.words) (W.past self.new.words) }
+        ensures same { (self.new.slot ≡ self.old.slot) × (self.new.capabilities ≡ self.old.capabilities) }
     {
         self.words.pause(micros);
     }
