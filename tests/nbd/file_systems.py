@@ -86,24 +86,25 @@ def of_kind(trial, name, make):
         survives(trial, f"{name} in gp1, {plan}", mmc + faults(seed), image, check, "--part", "gp1")
 
 
-def as_readme_says(trial):
-    """README's three commands, as they stand there."""
-    folder = Path(trial.path("readme"))
+def as_the_document_says(trial):
+    """The commands of docs/CARDTOOL.md for a file system on a card, as they stand there."""
+    folder = Path(trial.path("document"))
     for name in ("docs", "examples"):
         shutil.copytree(TOP / name, folder / name)
     (folder / "cardtool").symlink_to(trial.program)
-    lines = [line for line in (TOP / "README.md").read_text().splitlines() if "failing.card" in line or "e2fsck -fn" in line]
-    trial.want("README: its commands", len(lines), 3)
+    section = (TOP / "docs/CARDTOOL.md").read_text().split("## A file system on a card that fails")[1]
+    lines = [line for line in section.splitlines() if line.startswith("    ")]
+    trial.want("CARDTOOL: its commands", len(lines), 6)
     commands = trial.file("commands", "\n".join([f"cd {folder}", "PATH=$PATH:.", *lines]))
     status, output, errors = trial.client("bash", commands)
-    trial.want("README: status, errors", (status, [line for line in errors.splitlines() if not line.startswith("e2fsck ")]), (0, []))
-    trial.want("README: what is saved", is_same(folder / "after.img", (folder / "files.img").read_bytes()), True)
+    trial.want("CARDTOOL: status, errors", (status, [line for line in errors.splitlines() if not line.startswith("e2fsck ")]), (0, []))
+    trial.want("CARDTOOL: what is saved", is_same(folder / "after.img", (folder / "files.img").read_bytes()), True)
 
 
 def try_all(trial):
     trial.attempt(of_kind, "ext4", ext4)
     if shutil.which("socat"):
-        trial.attempt(as_readme_says)
+        trial.attempt(as_the_document_says)
     if shutil.which("mkfs.vfat"):
         trial.attempt(of_kind, "vfat", vfat)
     else:
