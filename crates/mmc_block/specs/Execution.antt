@@ -1,4 +1,4 @@
--- Headline (README.md, "What to read").
+-- Headline (docs/AUDIT.md, "What to read").
 -- An execution of the sector machine: events with their replies, one behind the other.
 use Rattle.std.specs.Prelude.{◌+◌, ◌==◌, ◌∷◌, ◌≡◌, ◌≤◌, Bool, List, None, Option, Some, [], if◌then◌else◌, length, true, ℕ}
 use Rattle.mmc_block.specs.declared.completion.Answer.{Answer}

@@ -1,4 +1,4 @@
--- Headline (README.md, "What to read").
+-- Headline (docs/AUDIT.md, "What to read").
 -- In order: what reads must give, whatever order requests were completed in.
 use Rattle.std.specs.Prelude.{◌*◌, ◌+◌, ◌++◌, ◌<◌, ◌==◌, ◌∷◌, ◌≡◌, ◌⊎◌, Bool, List, None, Option, Some, []}
 use Rattle.std.specs.Prelude.{if◌then◌else◌, length, nat_lt, slice_index_or, ℕ}

@@ -1,4 +1,4 @@
--- Headline (README.md, "What to read").
+-- Headline (docs/AUDIT.md, "What to read").
 -- The sector machine: what clients may see of a device, request by request. It knows no frame, no state of a card, no
 -- attempt and no recovery. The rules are the project's own.
 use Rattle.std.specs.Prelude.{◌*◌, ◌+◌, ◌++◌, ◌<◌, ◌∷◌, ◌≡◌, ◌≤◌, ◌⊎◌, List, [], false, length, true, ℕ}

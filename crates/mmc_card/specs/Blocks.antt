@@ -1,4 +1,4 @@
--- Headline (README.md, "What to read").
+-- Headline (docs/AUDIT.md, "What to read").
 -- Polls, and blocks that are read and written (SD Physical Layer 6.00, sections 4.3.3 and 4.3.4; JESD84-B51, sections
 -- 6.6.7 and 6.6.8). What makes a card busy, and for how long, is the project's own.
 use Rattle.std.specs.Prelude.{◌&&◌, ◌++◌, ◌+◌, ◌-◌, ◌==◌, ◌∷◌, ◌≡◌, Bool, List, None, Option, Some, [], false, if◌then◌else◌}

@@ -1,4 +1,4 @@
--- Headline (README.md, "What to read").
+-- Headline (docs/AUDIT.md, "What to read").
 -- The view of a bus: what contracts see of it.
 use Rattle.std.specs.Prelude.{Bool, Option, ℕ}
 use Rattle.mmc_card.specs.declared.exchange.Exchange.{Exchange}

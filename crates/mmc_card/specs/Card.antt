@@ -1,4 +1,4 @@
--- Headline (README.md, "What to read").
+-- Headline (docs/AUDIT.md, "What to read").
 -- A card: what it is made with, where it is, what it remembers, and its sectors.
 use Rattle.std.specs.Prelude.{◌+◌, ◌<◌, ◌==◌, ◌||◌, ◌∷◌, ◌≡◌, ◌≤◌, ◌⊎◌, Bool, List, None, Option, [], bit_or, false}
 use Rattle.std.specs.Prelude.{if◌then◌else◌, length, nat_lt, slice_index_or, slice_set, suc, true, zero, ℕ}

@@ -1,4 +1,4 @@
--- Headline (README.md, "What to read").
+-- Headline (docs/AUDIT.md, "What to read").
 -- What a card shows of itself in a response, and what it does with the error bits that it has shown.
 -- When error bits are raised, shown and cleared is the project's own choice, made here once.
 use Rattle.std.specs.Prelude.{◌%◌, ◌*◌, ◌+◌, ◌-◌, ◌^◌, Bool, List, bit_or, false, if◌then◌else◌, min, not, true, ℕ}

@@ -1,4 +1,4 @@
--- Headline (README.md, "What to read").
+-- Headline (docs/AUDIT.md, "What to read").
 -- The error bits of the card status, in units of bit 13
 -- (SD Physical Layer 6.00, section 4.10.1; JESD84-B51, section 6.13). SWITCH_ERROR is bit 7, and stands alone.
 use Rattle.std.specs.Prelude.{◌+◌, ◌-◌, ◌^◌, ℕ}

@@ -1,4 +1,4 @@
--- Headline (README.md, "What to read").
+-- Headline (docs/AUDIT.md, "What to read").
 -- The steps of a kept bus: each exchange is a faithful step, or one fault, which adds one to the count of faults. What
 -- may go wrong, and what a card does then, is the project's own.
 use Rattle.std.specs.Prelude.{◌&&◌, ◌+◌, ◌<◌, ◌≡◌, ◌≤◌, Bool, IsSomeAnd, List, None, Ok, Option, Some, false}

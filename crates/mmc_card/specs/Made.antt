@@ -1,4 +1,4 @@
--- Headline (README.md, "What to read").
+-- Headline (docs/AUDIT.md, "What to read").
 -- What never changes of a card: its kind and registers, and what they say of it.
 use Rattle.std.specs.Prelude.{◌%◌, ◌&&◌, ◌/◌, ◌<◌, ◌==◌, ◌^◌, ◌≡◌, Bool, Err, List, Ok, Result, false, if◌then◌else◌}
 use Rattle.std.specs.Prelude.{length, not, replicate, true, ℕ}

@@ -1,4 +1,4 @@
--- Headline (README.md, "What to read").
+-- Headline (docs/AUDIT.md, "What to read").
 -- In profile: the cards that the stack promises to serve, by what never changes of them. That CID and CSD are sound
 -- stands in `HasRegisters`, and that the partitions are as large as the registers say in `HasItsSizes`.
 use Rattle.std.specs.Prelude.{◌≡◌, ◌≤◌, ◌⊎◌, false, true}

@@ -1,4 +1,4 @@
--- Headline (README.md, "What to read").
+-- Headline (docs/AUDIT.md, "What to read").
 -- What a faithful card does with a command. Which states carry out a command is the project's own choice, made here
 -- once after the standard's tables (SD Physical Layer 6.00, table 4-35; JESD84-B51, table 60).
 use Rattle.std.specs.Prelude.{◌&&◌, ◌==◌, ◌||◌, Bool, None, Option, Some, false, if◌then◌else◌, not, true, ℕ}

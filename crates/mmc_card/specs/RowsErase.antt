@@ -1,4 +1,4 @@
--- Headline (README.md, "What to read").
+-- Headline (docs/AUDIT.md, "What to read").
 -- Erase and trim (SD Physical Layer 6.00, section 4.3.5; JESD84-B51, sections 6.6.9 and 6.6.10). Each row is what a
 -- card does with a command in tran, and its answer.
 use Rattle.std.specs.Prelude.{◌&&◌, ◌*◌, ◌+◌, ◌-◌, ◌/◌, ◌==◌, ◌||◌, Bool, false, if◌then◌else◌, length, min, nat_le}

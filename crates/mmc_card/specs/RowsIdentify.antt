@@ -1,4 +1,4 @@
--- Headline (README.md, "What to read").
+-- Headline (docs/AUDIT.md, "What to read").
 -- Identification and status (SD Physical Layer 6.00, sections 4.2 and 4.3; JESD84-B51, sections 6.4 and 6.6.1).
 -- Each row is what a card does with a command in a state where it is legal, and its answer.
 use Rattle.std.specs.Prelude.{◌&&◌, ◌+◌, ◌==◌, ◌^◌, ◌||◌, Bool, false, if◌then◌else◌, nat_lt, not, true, ℕ}

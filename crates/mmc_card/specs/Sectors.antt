@@ -1,4 +1,4 @@
--- Headline (README.md, "What to read").
+-- Headline (docs/AUDIT.md, "What to read").
 -- Sectors, the values that each may hold, and changes of them. The words are the project's own.
 use Rattle.std.specs.Prelude.{◌&&◌, ◌+◌, ◌-◌, ◌<◌, ◌==◌, ◌∷◌, ◌≡◌, ◌⊎◌, Bool, List, [], drop, if◌then◌else◌, length}
 use Rattle.std.specs.Prelude.{nat_le, nat_lt, slice_index_or, suc, take, zero, ℕ}
