@@ -10,7 +10,7 @@
    or new and all others unchanged. What is trusted: kelifandro.c, your functions, that each of them returns, and that pointers lead to room
    which is there.
 
-   The library takes no memory, needs memcpy and memset alone, and less than 8 KiB of stack. It uses SSE registers and the red zone
+   The library takes no memory, needs memcpy and memset alone, and less than 6 KiB of stack. It uses SSE registers and the red zone
    below the stack pointer: an interrupt has to keep the former and run on another stack, or leave 128 bytes alone. Its calls
    must not overlap: not from two threads, and not from a function that it calls. */
 #ifndef KELIFANDRO_H
@@ -80,7 +80,7 @@ struct kelifandro_command {
     uint8_t data;          /* enum kelifandro_data */
     uint32_t argument;
     uint16_t block_length; /* bytes: 8, 64 or 512 */
-    uint16_t blocks;       /* how many are moved: 1 of a register; an open CMD18 or CMD25 is ended by CMD12 after them */
+    uint16_t blocks;       /* how many are moved: 1 of a register; a CMD18 or CMD25 without CMD23 before it is ended by CMD12 after them */
 };
 
 /* What became of blocks: how many were good or accepted, and what read_block or write_block would have answered to the one that failed, 1
@@ -90,20 +90,23 @@ struct kelifandro_moved {
     uint8_t failed;
 };
 
-/* A host controller. Before the first call it has one data line in use, and a clock of at most 400 kHz. */
+/* A host controller. Before kelifandro_open the card has had 3.3 V and a clock of at most 400 kHz for a millisecond and 74 clocks (SD
+   Physical Layer 6.00, section 6.4.1), on one data line: no function asks for that. Each has a time to keep: docs/PORTING.md. */
 struct kelifandro_host {
     void *context;
     /* The most data lines that are wired, 1, 4 or 8, and whether it has high speed. */
     uint8_t lines;
     uint8_t high_speed;
-    /* Sends a command and waits for its response, for 64 clocks at least: 0 where it was heard, otherwise why not. Bits 39 to 8 of a
-       short response go to response[0]; of R2 bits 127 to 96 to response[0], and so on. It judges checks and indexes. */
+    /* Sends a command and waits for its response, for 64 clocks at least: 0 where it was heard, or where none comes
+       (KELIFANDRO_NO_RESPONSE), otherwise why not. Bits 39 to 8 of a short response go to response[0]; of R2 bits 127 to 96 to
+       response[0], and so on; bits 7 to 0, the check, aren't used. It judges checks and indexes. */
     int (*send)(void *context, const struct kelifandro_command *command, uint32_t response[4]);
     /* Reads the next block: 0 a good one, 1 a bad one, 2 none within 100 ms. */
     int (*read_block)(void *context, void *block, size_t length);
     /* Writes the next block of 512 bytes: 0 the card's status says accepted, 1 rejected, 2 it didn't come. */
     int (*write_block)(void *context, const void *block);
-    /* Whether the card holds DAT0 low after so many microseconds; the answer comes at once where it doesn't. */
+    /* Waits until the card lets DAT0 go, or so many microseconds are over: 1 where it's still low then, otherwise 0, at once. It is asked
+       after each block that was accepted, and after each R1B; up to sixteen times where the answer is 1. */
     int (*is_busy)(void *context, uint32_t microseconds);
     /* Sets how many data lines are in use, the timing, and the clock, to so many hertz at most. No data is under way then. */
     void (*set_ios)(void *context, int lines, int high_speed, uint32_t hertz);
@@ -174,11 +177,15 @@ enum kelifandro_part {
 };
 
 /* What was met and healed since the card was opened, counted: by the answers alone a card that fails at every tenth command looks
-   healthy. Each count stays at its largest number once it is there. */
+   healthy. Attempts of requests that failed for good are among them; what opening met isn't. Each count stays at its largest number once
+   it is there. To settle a card is to end what runs, set the length of blocks again, and ask until its status is clean; where that fails
+   it is reset and identified anew. */
 struct kelifandro_healed {
     uint64_t attempts; /* at requests, four at most each, with success or without */
-    uint64_t by_answer, by_data, by_status, by_busy, by_recovery; /* how many of them failed, by cause, as KELIFANDRO_FAILED_.. */
-    uint64_t settlings; /* how often the card was settled, which an attempt after a failure begins with */
+    /* How many of them failed: a response wasn't heard; a block was bad, missing or rejected; a status showed an error; the card was busy
+       for too long; the card couldn't be settled. */
+    uint64_t by_answer, by_data, by_status, by_busy, by_recovery;
+    uint64_t settlings; /* how often the card was settled, which an attempt after a failure begins with; with success or without */
     uint64_t resets;    /* how many of these settlings reset the card */
 };
 
@@ -190,7 +197,8 @@ struct kelifandro {
     struct kelifandro_healed healed;
 };
 
-/* Opens the card, whatever became of it before, and counts from zero. At most 294 exchanges. */
+/* Opens the card, whatever became of it before, in three rounds at most, and counts from zero. At most 294 exchanges: a command, a
+   block and a look at DAT0 are one each. */
 int32_t kelifandro_open(struct kelifandro *kelifandro);
 
 /* The size of a partition in sectors of 512 bytes, 0 where there is no such one, or the card isn't open. */
