@@ -29,7 +29,7 @@ enum kelifandro_result {
     KELIFANDRO_NOT_OPEN = -1,
     /* The card has no such partition. */
     KELIFANDRO_NO_PARTITION = -2,
-    /* Sectors that are named lie behind the partition's end. */
+    /* Sectors that are named lie past the partition's end. */
     KELIFANDRO_OUT_OF_RANGE = -3,
     /* No sector is named, or more than 1,024 of a read or a write. */
     KELIFANDRO_COUNT = -4,
@@ -64,7 +64,7 @@ const char *kelifandro_text(int32_t result);
 enum kelifandro_response {
     KELIFANDRO_NO_RESPONSE,
     KELIFANDRO_R1,
-    KELIFANDRO_R1B, /* the card may be busy behind it; is_busy asks for that */
+    KELIFANDRO_R1B, /* the card may be busy after it; is_busy asks for that */
     KELIFANDRO_R2,  /* 136 bits */
     KELIFANDRO_R3,  /* without a check and an index */
     KELIFANDRO_R6,
@@ -76,7 +76,7 @@ enum kelifandro_data { KELIFANDRO_NO_DATA, KELIFANDRO_READ, KELIFANDRO_WRITE };
 struct kelifandro_command {
     uint8_t index;    /* 0 to 63 */
     uint8_t response; /* enum kelifandro_response */
-    /* The data behind the command. Its blocks are moved by read_block and write_block. */
+    /* The data after the command. Its blocks are moved by read_block and write_block. */
     uint8_t data;          /* enum kelifandro_data */
     uint32_t argument;
     uint16_t block_length; /* bytes: 8, 64 or 512 */
