@@ -24,7 +24,7 @@ use Rattle.mmc_recovery.specs.declared.healed.Healed.{Healed}
 use Rattle.mmc_story.specs.Entry.{Entry}
 use Rattle.mmc_story.specs.Story.{IsTrueOf, Story, host_with}
 use Rattle.kelifandro.specs.Answers.{answer_number, refused_number}
-use Rattle.kelifandro.specs.Calls.{IfNoted, IsAsNoted, TellsCounts, TellsWhy, host_of}
+use Rattle.kelifandro.specs.Calls.{IfNoted, IsAsNoted, TellsCounts, TellsWhy, host_of, is_attempted}
 use Rattle.kelifandro.specs.Calls.TellsCounts.{made, unmade}
 
 -- a number of a refusal, and of nothing else
@@ -77,25 +77,35 @@ tells_why answer way (Some why) (Ok did) number told other fault comes judged =
 tells_why answer way (Some why) (Err not) number told other fault comes judged =
     (λ done. fault (sym other ∙ done), λ host. absurd (false≢true (comes host)))
 
+refused_unmade : (why : Refused) → is_attempted (refused_number why) ≡ false
+refused_unmade NoSuchPartition = refl
+refused_unmade OutOfRange = refl
+refused_unmade Empty = refl
+refused_unmade TooLong = refl
+refused_unmade ReadOnly = refl
+refused_unmade NotInPartition = refl
+refused_unmade NoTrim = refl
+refused_unmade Unaligned = refl
+
 by_answer : (stands : Stands) (old : Healed) (answer : Result Unit NotDone) (number : ℤ) (note : CardRecord) (new : Healed)
     → number ≡ answer_number answer → IfRefused answer (new ≡ old) → IfServed answer (IsCounted stands old answer note new)
     → TellsCounts stands old number note new
-by_answer stands old (Ok done) number note new told refused counts = made (Ok done) told counts
+by_answer stands old (Ok done) number note new told refused counts = made (Ok done) refl told counts
 by_answer stands old (Err (RefusedFor why)) number note new told refused counts =
-    unmade (λ done. not_done why (sym told ∙ done)) refused
-by_answer stands old (Err (Failed cause)) number note new told refused counts = made (Err (Failed cause)) told counts
+    unmade (ap (λ (n : ℤ). is_attempted n) told ∙ refused_unmade why) refused
+by_answer stands old (Err (Failed cause)) number note new told refused counts = made (Err (Failed cause)) refl told counts
 
 -- what a call told is what was counted
 pub tells_counts : {A : Type 0} (answer : A → Result Unit NotDone) (stands : Stands) (old : Healed) (called : Result A ℤ)
     (number : ℤ) (note : CardRecord) (new : Healed)
     → IfOk called (λ did. number ≡ answer_number (answer did)) → IfErr called (λ other. number ≡ other)
-    → IfErr called (λ other. other ≡ pos 0 → ⊥) → IfErr called (λ other. new ≡ old)
+    → IfErr called (λ other. is_attempted other ≡ false) → IfErr called (λ other. new ≡ old)
     → IfOk called (λ did. IfRefused (answer did) (new ≡ old))
     → IfOk called (λ did. IfServed (answer did) (IsCounted stands old (answer did) note new))
     → TellsCounts stands old number note new
-tells_counts answer stands old (Err not) number note new told other fault none refused counts =
-    unmade (λ done. fault (sym other ∙ done)) none
-tells_counts answer stands old (Ok did) number note new told other fault none refused counts =
+tells_counts answer stands old (Err not) number note new told other none same refused counts =
+    unmade (ap (λ (n : ℤ). is_attempted n) other ∙ none) same
+tells_counts answer stands old (Ok did) number note new told other none same refused counts =
     by_answer stands old (answer did) number note new told refused counts
 
 -- what holds of the host that a call goes on with holds of the story's, where the card was noted

@@ -1,12 +1,12 @@
 -- What a call begins with, and what becomes of it.
-use Rattle.std.specs.Prelude.{◌≡◌, [], None, Option, Result, Some, pos, ℕ, ℤ}
+use Rattle.std.specs.Prelude.{◌&&◌, ◌==◌, ◌≡◌, [], Bool, None, Option, Result, Some, false, nat_lt, negsuc, pos, ℕ, ℤ}
 use Rattle.c_host.specs.declared.registers.CRegisters.{CRegisters}
 use Rattle.c_host.specs.declared.way.Given.{Given}
 use Rattle.c_host.specs.declared.way.Given.TheVariants.{Host, Registers}
 use Rattle.mmc_calls.specs.Noted.{IsCounted, lines_in}
 use Rattle.mmc_card.specs.declared.exchange.Lines.{Lines}
 use Rattle.mmc_card.specs.declared.part.Part.{Part}
-use Rattle.mmc_direct.specs.Stands.{stands_of}
+use Rattle.mmc_direct.specs.Stands.{refusal_in, stands_of}
 use Rattle.mmc_direct.specs.declared.refused.NotDone.{NotDone}
 use Rattle.mmc_direct.specs.declared.refused.Refused.{Refused}
 use Rattle.mmc_direct.specs.declared.stands.Stands.{Stands}
@@ -45,8 +45,13 @@ abbrev pub TellsWhy : ℕ → Option Refused → ℤ → Type 0
 TellsWhy way None number = way ≡ 0 → (why : Refused) → number ≡ refused_number why → ⊥
 TellsWhy way (Some why) number = (number ≡ pos 0 → ⊥) × (way ≡ 0 → number ≡ refused_number why)
 
--- Of a call that made no attempt nothing is counted, and it isn't told as done; any other is counted by what it tells.
+-- the number of a request that was attempted: it is done, or has failed
+abbrev pub is_attempted : ℤ → Bool
+is_attempted (pos n) = n == 0
+is_attempted (negsuc n) = nat_lt 8 n && nat_lt n 14
+
+-- What is counted goes by the number that is told: nothing where no attempt was made, and otherwise what came of them.
 pub data TellsCounts (stands : Stands) (old : Healed) (number : ℤ) (note : CardRecord) (new : Healed) : Type 0 where
-  unmade : (number ≡ pos 0 → ⊥) → new ≡ old → TellsCounts stands old number note new
-  made : (answer : Result Unit NotDone) → number ≡ answer_number answer → IsCounted stands old answer note new
-      → TellsCounts stands old number note new
+  unmade : is_attempted number ≡ false → new ≡ old → TellsCounts stands old number note new
+  made : (answer : Result Unit NotDone) → refusal_in answer ≡ None → number ≡ answer_number answer
+      → IsCounted stands old answer note new → TellsCounts stands old number note new

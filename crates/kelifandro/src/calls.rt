@@ -5,7 +5,7 @@ ghost use Rattle.mmc_record.specs.Note.{is_note};
 ghost use Rattle.mmc_host.specs.HostStates.{resting};
 ghost use Rattle.mmc_calls.specs.Noted.{lines_in};
 ghost use Rattle.kelifandro.specs.Answers.{minus};
-ghost use Rattle.kelifandro.specs.Calls.{IfNoted, IsAsNoted, IsGiven};
+ghost use Rattle.kelifandro.specs.Calls.{IfNoted, IsAsNoted, IsGiven, is_attempted};
 
 use crate::answers::{NO_PARTITION, NOT_OPEN, start_number};
 use c_host::{CRegisters, CWay, Given, Stream, Way};
@@ -46,6 +46,7 @@ pub fn go_back<S: HasStory>(
     ensures no_partition { part_of part ≡ None → result ≡ Err (minus 2) }
     ensures not_open { IsSome (part_of part) → is_note card.now ≡ false → result ≡ Err (minus 1) }
     ensures fault { IfErr result (λ number. number ≡ pos 0 → ⊥) }
+    ensures unmade { IfErr result (λ number. is_attempted number ≡ false) }
     ensures functions { way ≡ 0 → IfNoted card.now part (λ stands part. IsOk result) }
 {
     let Some(part) = part_of(part) else {

@@ -11,7 +11,7 @@ ghost use Rattle.mmc_record.specs.Note.{is_note};
 ghost use Rattle.mmc_record.specs.Numbers.{part_of};
 ghost use Rattle.mmc_story.specs.Story.{IsTrueOf};
 ghost use Rattle.kelifandro.specs.Answers.{answer_number, minus};
-ghost use Rattle.kelifandro.specs.Calls.{IfNoted, host_of};
+ghost use Rattle.kelifandro.specs.Calls.{IfNoted, host_of, is_attempted};
 
 use crate::answers::answer_number;
 use crate::calls::{CHost, go_back};
@@ -62,6 +62,7 @@ pub fn read_by<S: HasStory>(
     ensures not_open { IsSome (part_of part) → is_note card.old ≡ false → result ≡ Err (minus 1) }
     ensures functions { way ≡ 0 → IfNoted card.old part (λ stands part. IsOk result) }
     ensures fault { IfErr result (λ number. number ≡ pos 0 → ⊥) }
+    ensures unmade { IfErr result (λ number. is_attempted number ≡ false) }
     ensures no_host { IfErr result (λ number. (card.new ≡ card.old) × (blocks.new ≡ blocks.old)) }
     ensures judged { IfNoted card.old part (λ stands part. IfOk result (λ did.
         refusal_in did.answer ≡ refusal Read (info_of stands) part start (length blocks.old))) }
@@ -110,6 +111,7 @@ pub fn write_by<S: HasStory>(
     ensures not_open { IsSome (part_of part) → is_note card.old ≡ false → result ≡ Err (minus 1) }
     ensures functions { way ≡ 0 → IfNoted card.old part (λ stands part. IsOk result) }
     ensures fault { IfErr result (λ number. number ≡ pos 0 → ⊥) }
+    ensures unmade { IfErr result (λ number. is_attempted number ≡ false) }
     ensures no_host { IfErr result (λ number. card.new ≡ card.old) }
     ensures judged { IfNoted card.old part (λ stands part. IfOk result (λ did.
         refusal_in did.answer ≡ refusal Write (info_of stands) part start (length blocks.now))) }
@@ -149,6 +151,7 @@ pub fn erase_by<S: HasStory>(
     ensures not_open { IsSome (part_of part) → is_note card.old ≡ false → result ≡ Err (minus 1) }
     ensures functions { way ≡ 0 → IfNoted card.old part (λ stands part. IsOk result) }
     ensures fault { IfErr result (λ number. number ≡ pos 0 → ⊥) }
+    ensures unmade { IfErr result (λ number. is_attempted number ≡ false) }
     ensures no_host { IfErr result (λ number. card.new ≡ card.old) }
     ensures judged { IfNoted card.old part (λ stands part. IfOk result (λ did.
         refusal_in did.answer ≡ refusal Erase (info_of stands) part start count)) }
@@ -188,6 +191,7 @@ pub fn trim_by<S: HasStory>(
     ensures not_open { IsSome (part_of part) → is_note card.old ≡ false → result ≡ Err (minus 1) }
     ensures functions { way ≡ 0 → IfNoted card.old part (λ stands part. IsOk result) }
     ensures fault { IfErr result (λ number. number ≡ pos 0 → ⊥) }
+    ensures unmade { IfErr result (λ number. is_attempted number ≡ false) }
     ensures no_host { IfErr result (λ number. card.new ≡ card.old) }
     ensures judged { IfNoted card.old part (λ stands part. IfOk result (λ did.
         refusal_in did.answer ≡ refusal Trim (info_of stands) part start count)) }

@@ -135,6 +135,13 @@ clocked_then old mid new frame command is_answered moved holds clocked same =
     rw (holds) (ap (λ (ios : Ios). ios.is_identifying)
     (ap (λ (s : HostState). s.ios) same ∙ moved_ios moved (sent mid command is_answered)) ∙ clocked)
 
+-- and its lines stay those that it went out on
+pub lined_then : {T : Type 0} (mid new : HostState) (command : HostCommand) (is_answered : Bool) (moved : Moved T) (lines : Lines)
+    → lines_of mid.ios ≡ lines → new ≡ passed_on moved (sent mid command is_answered) → lines_of new.ios ≡ lines
+lined_then mid new command is_answered moved lines set same =
+    ap (λ (ios : Ios). lines_of ios)
+    (ap (λ (s : HostState). s.ios) same ∙ moved_ios moved (sent mid command is_answered)) ∙ set
+
 pub timed_clock : (old new : HostState) (frame : List ℕ) (reply : Reply) → IsTimed old frame reply new
     → IfSome (command_in frame) (λ c. IsClocked old c.0 new)
 timed_clock old new frame reply timed = rw (timed.holds) timed.clock

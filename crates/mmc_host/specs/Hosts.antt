@@ -129,6 +129,11 @@ Looks old said new = Where new (Steps old old.state (PollStep (bus_of old) said 
 abbrev pub CanBeSet : HostView → Type 0
 CanBeSet host = Where host (has_data host.state.transfer ≡ false)
 
+-- a command goes out on the lines that were asked for, where the host has them and no data is under way
+abbrev pub IsLined : HostState → Wire → HostState → Type 0
+IsLined old wire new =
+    has_data old.transfer ≡ false → IsWithin wire.lines wire.limits → lines_of new.ios ≡ wire.lines
+
 abbrev pub SetsIos : HostView → Ios → HostView → Type 0
 SetsIos old ios new =
     Where new ((old.is_kept ≡ true) × (new ≡ record old { state = record old.state { ios = ios } }))

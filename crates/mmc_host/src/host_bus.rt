@@ -3,7 +3,7 @@ ghost use Rattle.mmc_bus.specs.Exchanges.{Commanded, DataRead, DataWritten, Poll
 ghost use Rattle.mmc_bus.specs.Together.{ReadWith, WrittenWith};
 ghost use Rattle.mmc_card.specs.Faults.{CommandStep, PollStep, ReadStep, Spells, WriteStep};
 ghost use Rattle.mmc_bus.specs.Wires.{bus_view_with};
-ghost use Rattle.mmc_host.specs.Hosts.{Does, GoesOn, IsUnused, IsWithin, OnlySets, ReadsBlock, Replies, Rests};
+ghost use Rattle.mmc_host.specs.Hosts.{Does, GoesOn, IsLined, IsUnused, IsWithin, OnlySets, ReadsBlock, Replies, Rests};
 ghost use Rattle.mmc_frame.specs.Frame.{command_in};
 ghost use Rattle.mmc_host.specs.Misuse.{can_send, has_data};
 ghost use Rattle.mmc_host.specs.Pace.{IsClocked, IsPaced, IsTimed, pause_after, shows_work};
@@ -257,6 +257,7 @@ impl<H: Host> HostBus<H> {
         ensures wire { self.new.wire ≡ self.old.wire }
         ensures misused { self.new.is_misused ≡ self.old.is_misused }
         ensures clock { IsClocked self.old.state command.index self.new.state }
+        ensures lines { IsLined self.old.state self.old.wire self.new.state }
         ensures pace { IsPaced self.old.state.is_app command result self.new.state.paused }
         ensures data { IsUnderWay command self.new.state }
         ensures sent { Replies (H.view self.old.host) command.index command.argument result (H.view self.new.host) }
@@ -278,6 +279,7 @@ impl<H: Host> HostBus<H> {
             (λ old new. CommandStep old frame.now result new) (H.view self.new.host) self.new.is_misused }
         ensures misused { self.new.is_misused ≡ (not (can_send self.old.state frame.now) || self.old.is_misused) }
         ensures timed { can_send self.old.state frame.now ≡ true → IsTimed self.old.state frame.now result self.new.state }
+        ensures lines { can_send self.old.state frame.now ≡ true → IsLined self.old.state self.old.wire self.new.state }
         ensures counted { can_send self.old.state frame.now ≡ true → IsBegun self.old.state frame.now moved self.new.state }
     {
         let Some((index, argument)) = read_command(frame) else {
@@ -370,6 +372,7 @@ impl<H: Host> HostBus<H> {
         ensures wire { self.new.wire ≡ self.old.wire }
         ensures read { Does (H.view self.old.host) self.old.wire self.old.is_misused
             (λ old new. ReadStep old (length block.old) result block.new new) (H.view self.new.host) self.new.is_misused }
+        ensures lines { self.new.state.ios ≡ self.old.state.ios }
         ensures fits { lines_of self.old.state.ios ≡ self.old.wire.lines → IsToCome self.old.state (length block.old)
             → self.new.is_misused ≡ self.old.is_misused }
         ensures only { self.new.is_misused ≡ false
@@ -389,6 +392,7 @@ impl<H: Host> HostBus<H> {
         ensures wire { self.new.wire ≡ self.old.wire }
         ensures written { Does (H.view self.old.host) self.old.wire self.old.is_misused
             (λ old new. WriteStep old block.now result new) (H.view self.new.host) self.new.is_misused }
+        ensures lines { self.new.state.ios ≡ self.old.state.ios }
         ensures fits { lines_of self.old.state.ios ≡ self.old.wire.lines → IsToGo self.old.state
             → self.new.is_misused ≡ self.old.is_misused }
         ensures only { self.new.is_misused ≡ false
@@ -436,6 +440,7 @@ impl<H: Host> Bus for HostBus<H> {
             (bus_over (H.view self.new.host) self.new.wire self.new.is_misused) }
         ensures misused { self.new.is_misused ≡ (not (can_send self.old.state frame) || self.old.is_misused) }
         ensures timed { can_send self.old.state frame ≡ true → IsTimed self.old.state frame result self.new.state }
+        ensures lines { can_send self.old.state frame ≡ true → IsLined self.old.state self.old.wire self.new.state }
     {
         self.begin(frame, want, MOST_BLOCKS)
     }
@@ -445,6 +450,7 @@ impl<H: Host> Bus for HostBus<H> {
             (bus_over (H.view self.new.host) self.new.wire self.new.is_misused) }
         ensures misused { self.new.is_misused ≡ (not (can_send self.old.state frame) || self.old.is_misused) }
         ensures timed { can_send self.old.state frame ≡ true → IsTimed self.old.state frame result self.new.state }
+        ensures lines { can_send self.old.state frame ≡ true → IsLined self.old.state self.old.wire self.new.state }
         ensures counted { can_send self.old.state frame ≡ true
             → IsBegun self.old.state frame (number_of blocks) self.new.state }
     {
@@ -464,6 +470,7 @@ impl<H: Host> Bus for HostBus<H> {
         ensures misused { self.new.is_misused ≡ (not (can_send self.old.state frame) || self.old.is_misused) }
         ensures clock { can_send self.old.state frame ≡ true
             → IfSome (command_in frame) (λ command. IsClocked self.old.state command.0 self.new.state) }
+        ensures lines { can_send self.old.state frame ≡ true → IsLined self.old.state self.old.wire self.new.state }
     {
         match self.reading(&frame, blocks.len()) {
             Some(command) => {
@@ -492,6 +499,7 @@ impl<H: Host> Bus for HostBus<H> {
         ensures misused { self.new.is_misused ≡ (not (can_send self.old.state frame) || self.old.is_misused) }
         ensures clock { can_send self.old.state frame ≡ true
             → IfSome (command_in frame) (λ command. IsClocked self.old.state command.0 self.new.state) }
+        ensures lines { can_send self.old.state frame ≡ true → IsLined self.old.state self.old.wire self.new.state }
     {
         match self.writing(&frame, blocks.len()) {
             Some(command) => {
@@ -512,6 +520,7 @@ impl<H: Host> Bus for HostBus<H> {
     fn read_data(&mut self, buffer: &mut [u8]) -> DataIn
         ensures read { DataRead (bus_over (H.view self.old.host) self.old.wire self.old.is_misused) (length buffer.old) result
             buffer.new (bus_over (H.view self.new.host) self.new.wire self.new.is_misused) }
+        ensures lines { self.new.state.ios ≡ self.old.state.ios }
         ensures fits { lines_of self.old.state.ios ≡ self.old.wire.lines → IsToCome self.old.state (length buffer.old)
             → self.new.is_misused ≡ self.old.is_misused }
         ensures only { self.new.is_misused ≡ false
@@ -526,6 +535,7 @@ impl<H: Host> Bus for HostBus<H> {
     fn write_data(&mut self, block: &[u8; 512]) -> DataOut
         ensures written { DataWritten (bus_over (H.view self.old.host) self.old.wire self.old.is_misused) block.now result
             (bus_over (H.view self.new.host) self.new.wire self.new.is_misused) }
+        ensures lines { self.new.state.ios ≡ self.old.state.ios }
         ensures fits { lines_of self.old.state.ios ≡ self.old.wire.lines → IsToGo self.old.state
             → self.new.is_misused ≡ self.old.is_misused }
         ensures only { self.new.is_misused ≡ false

@@ -21,5 +21,5 @@ returns-clause-counted c = λ how part is says.
     let old = c.args.healed.now in
     subst (λ number. TellsCounts (stands_of how) old number new.card new.healed) (sym (to_z-of_z w32 c.told.result (search rules)))
     (tells_counts (λ did. did.answer) (stands_of how) old c.read_by.result c.told.result new.card new.healed c.told.ensures.answer
-    c.told.ensures.why c.read_by.ensures.fault c.read_by.ensures.uncounted c.read_by.ensures.not_counted
+    c.told.ensures.why c.read_by.ensures.unmade c.read_by.ensures.uncounted c.read_by.ensures.not_counted
     (c.read_by.ensures.counted how part is says))

@@ -3,7 +3,7 @@ use Rattle.mmc_card.specs.declared.exchange.Exchange.TheVariants.{Command}
 use Rattle.mmc_bus.specs.Together.{WrittenWith, none_accepted, writes}
 use Rattle.mmc_bus.specs.Wires.{Notes}
 use Rattle.mmc_bus.specs.declared.wire.Wire.{Wire}
-use Rattle.mmc_host.proofs.TogetherLemmas.{clocked_then, limits_all_written, timed_clock, told_write, within_write, writes_over, writing_sends}
+use Rattle.mmc_host.proofs.TogetherLemmas.{clocked_then, lined_then, limits_all_written, timed_clock, told_write, within_write, writes_over, writing_sends}
 use Rattle.mmc_host.specs.HostStates.{sent}
 use Rattle.mmc_host.specs.Hosts.{bus_over}
 use Rattle.mmc_host.specs.Together.{CanWrite, passed_on}
@@ -63,6 +63,17 @@ pub returns-in-None-clause-clock : goal.returns-in-None-clause-clock
 returns-in-None-clause-clock g c =
     rw (sym (c.in-None.ensures.cannot refl)) (λ can. timed_clock c.writing.new.self.state c.begin.new.self.state c.args.frame
     c.begin.result (c.begin.ensures.timed can))
+
+pub returns-in-Some-clause-lines : goal.returns-in-Some-clause-lines
+returns-in-Some-clause-lines g c = λ can idle within.
+    lined_then c.writing.new.self.state c.blocks_passed-self.result c.in-Some.command (is_ok c.write_with-heard.result.0)
+    c.write_with-heard.result.1 c.args.self.now.wire.lines c.in-Some.ensures.can.set
+    (c.blocks_passed-self.ensures
+    ∙ ap (passed_on c.write_with-heard.result.1)
+    (c.sent.ensures ∙ ap (sent c.writing.new.self.state c.in-Some.command) c.is_ok.ensures.value))
+
+pub returns-in-None-clause-lines : goal.returns-in-None-clause-lines
+returns-in-None-clause-lines g c = rw (sym (c.in-None.ensures.cannot refl)) (λ can. c.begin.ensures.lines can)
 
 pub invariant_of-self : goal.invariant_of-self
 invariant_of-self g c =
