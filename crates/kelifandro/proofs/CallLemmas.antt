@@ -3,6 +3,7 @@ use Rattle.std.proofs.Common.{◌∙◌, ◌≡◌, ap, refl, subst, sym}
 use Rattle.std.proofs.lemmas.Bool.{false≢true}
 use Rattle.std.specs.Prelude.{[], Bool, Err, IfErr, IfOk, IsOk, List, None, Ok, Option, Result, Some, false, nat_lt, negsuc, pos, slice_set, true, ℕ, ℤ}
 use Rattle.c_host.specs.declared.lent.SectorsMut.{SectorsMut}
+use Rattle.mmc_bus.specs.declared.cause.Cause.{Cause}
 use Rattle.mmc_bus.specs.declared.cause.Cause.TheVariants.{Answer, Busy, Data, Recovery, Status}
 use Rattle.mmc_bus.specs.Lending.{IsRewritten, block, nothing}
 use Rattle.mmc_calls.specs.Noted.{IsCounted, Notes, lines_in}
@@ -23,9 +24,8 @@ use Rattle.mmc_record.specs.declared.record.CardRecord.{CardRecord}
 use Rattle.mmc_recovery.specs.declared.healed.Healed.{Healed}
 use Rattle.mmc_story.specs.Entry.{Entry}
 use Rattle.mmc_story.specs.Story.{IsTrueOf, Story, host_with}
-use Rattle.kelifandro.specs.Answers.{answer_number, refused_number}
+use Rattle.kelifandro.specs.Answers.{answer_number, cause_number, refused_number}
 use Rattle.kelifandro.specs.Calls.{IfNoted, IsAsNoted, TellsCounts, TellsWhy, host_of, is_attempted}
-use Rattle.kelifandro.specs.Calls.TellsCounts.{made, unmade}
 
 -- a number of a refusal, and of nothing else
 abbrev is_refusal : ℤ → Bool
@@ -87,26 +87,47 @@ refused_unmade NotInPartition = refl
 refused_unmade NoTrim = refl
 refused_unmade Unaligned = refl
 
-by_answer : (stands : Stands) (old : Healed) (answer : Result Unit NotDone) (number : ℤ) (note : CardRecord) (new : Healed)
-    → number ≡ answer_number answer → IfRefused answer (new ≡ old) → IfServed answer (IsCounted stands old answer note new)
-    → TellsCounts stands old number note new
-by_answer stands old (Ok done) number note new told refused counts = made (Ok done) refl told counts
-by_answer stands old (Err (RefusedFor why)) number note new told refused counts =
-    unmade (ap (λ (n : ℤ). is_attempted n) told ∙ refused_unmade why) refused
-by_answer stands old (Err (Failed cause)) number note new told refused counts = made (Err (Failed cause)) refl told counts
+failed_made : (cause : Cause) → is_attempted (cause_number cause) ≡ true
+failed_made Answer = refl
+failed_made Data = refl
+failed_made Status = refl
+failed_made Busy = refl
+failed_made Recovery = refl
 
--- what a call told is what was counted
+refused_only : (answer : Result Unit NotDone) (Holds : Type 0) → is_attempted (answer_number answer) ≡ false
+    → IfRefused answer Holds → Holds
+refused_only (Ok done) Holds unmade holds = absurd (false≢true (sym unmade))
+refused_only (Err (RefusedFor why)) Holds unmade holds = holds
+refused_only (Err (Failed cause)) Holds unmade holds = absurd (false≢true (sym unmade ∙ failed_made cause))
+
+served_only : (answer : Result Unit NotDone) (Holds : Type 0) → is_attempted (answer_number answer) ≡ true
+    → IfServed answer Holds → Holds
+served_only (Ok done) Holds made holds = holds
+served_only (Err (RefusedFor why)) Holds made holds = absurd (false≢true (sym (refused_unmade why) ∙ made))
+served_only (Err (Failed cause)) Holds made holds = holds
+
+-- where no attempt was made nothing is counted
+pub tells_none : {A : Type 0} (answer : A → Result Unit NotDone) (called : Result A ℤ) (number : ℤ) (Same : Type 0)
+    → IfOk called (λ did. number ≡ answer_number (answer did)) → IfErr called (λ other. Same)
+    → IfOk called (λ did. IfRefused (answer did) Same) → is_attempted number ≡ false → Same
+tells_none answer (Err not) number Same told none refused unmade = none
+tells_none answer (Ok did) number Same told none refused unmade =
+    refused_only (answer did) Same (ap (λ (n : ℤ). is_attempted n) (sym told) ∙ unmade) refused
+
+-- and otherwise what came of the attempts
 pub tells_counts : {A : Type 0} (answer : A → Result Unit NotDone) (stands : Stands) (old : Healed) (called : Result A ℤ)
     (number : ℤ) (note : CardRecord) (new : Healed)
     → IfOk called (λ did. number ≡ answer_number (answer did)) → IfErr called (λ other. number ≡ other)
-    → IfErr called (λ other. is_attempted other ≡ false) → IfErr called (λ other. new ≡ old)
-    → IfOk called (λ did. IfRefused (answer did) (new ≡ old))
+    → IfErr called (λ other. is_attempted other ≡ false)
     → IfOk called (λ did. IfServed (answer did) (IsCounted stands old (answer did) note new))
     → TellsCounts stands old number note new
-tells_counts answer stands old (Err not) number note new told other none same refused counts =
-    unmade (ap (λ (n : ℤ). is_attempted n) other ∙ none) same
-tells_counts answer stands old (Ok did) number note new told other none same refused counts =
-    by_answer stands old (answer did) number note new told refused counts
+tells_counts answer stands old (Err not) number note new told other none counts = λ made.
+    absurd (false≢true (sym none ∙ ap (λ (n : ℤ). is_attempted n) (sym other) ∙ made))
+tells_counts answer stands old (Ok did) number note new told other none counts = λ made. (
+  answer did,
+  told,
+  served_only (answer did) (IsCounted stands old (answer did) note new) (ap (λ (n : ℤ). is_attempted n) (sym told) ∙ made) counts,
+)
 
 -- what holds of the host that a call goes on with holds of the story's, where the card was noted
 pub holds_as_noted : (story : Story) (note : CardRecord) (number : ℕ) (stands : Stands) (part : Part) (past : List Entry)

@@ -1,12 +1,12 @@
 -- What a call begins with, and what becomes of it.
-use Rattle.std.specs.Prelude.{◌&&◌, ◌==◌, ◌≡◌, [], Bool, None, Option, Result, Some, false, nat_lt, negsuc, pos, ℕ, ℤ}
+use Rattle.std.specs.Prelude.{◌&&◌, ◌==◌, ◌≡◌, [], Bool, None, Option, Result, Some, nat_lt, negsuc, pos, true, ℕ, ℤ}
 use Rattle.c_host.specs.declared.registers.CRegisters.{CRegisters}
 use Rattle.c_host.specs.declared.way.Given.{Given}
 use Rattle.c_host.specs.declared.way.Given.TheVariants.{Host, Registers}
 use Rattle.mmc_calls.specs.Noted.{IsCounted, lines_in}
 use Rattle.mmc_card.specs.declared.exchange.Lines.{Lines}
 use Rattle.mmc_card.specs.declared.part.Part.{Part}
-use Rattle.mmc_direct.specs.Stands.{refusal_in, stands_of}
+use Rattle.mmc_direct.specs.Stands.{stands_of}
 use Rattle.mmc_direct.specs.declared.refused.NotDone.{NotDone}
 use Rattle.mmc_direct.specs.declared.refused.Refused.{Refused}
 use Rattle.mmc_direct.specs.declared.stands.Stands.{Stands}
@@ -50,8 +50,8 @@ abbrev pub is_attempted : ℤ → Bool
 is_attempted (pos n) = n == 0
 is_attempted (negsuc n) = nat_lt 8 n && nat_lt n 14
 
--- What is counted goes by the number that is told: nothing where no attempt was made, and otherwise what came of them.
-pub data TellsCounts (stands : Stands) (old : Healed) (number : ℤ) (note : CardRecord) (new : Healed) : Type 0 where
-  unmade : is_attempted number ≡ false → new ≡ old → TellsCounts stands old number note new
-  made : (answer : Result Unit NotDone) → refusal_in answer ≡ None → number ≡ answer_number answer
-      → IsCounted stands old answer note new → TellsCounts stands old number note new
+-- A request that was attempted is counted by its attempts, whose outcome the number tells.
+abbrev pub TellsCounts : Stands → Healed → ℤ → CardRecord → Healed → Type 0
+TellsCounts stands old number note new =
+    is_attempted number ≡ true
+    → (answer : Result Unit NotDone) × (number ≡ answer_number answer) × IsCounted stands old answer note new

@@ -9,7 +9,7 @@ ghost use Rattle.mmc_recovery.specs.Healed.{none_met};
 ghost use Rattle.mmc_record.specs.Note.{is_note};
 ghost use Rattle.mmc_record.specs.Numbers.{part_of};
 ghost use Rattle.kelifandro.specs.Answers.{minus};
-ghost use Rattle.kelifandro.specs.Calls.{IfNoted, TellsCounts, TellsWhy};
+ghost use Rattle.kelifandro.specs.Calls.{IfNoted, TellsCounts, TellsWhy, is_attempted};
 
 use crate::opening::open_by;
 use crate::requests::{erase_by, read_by, told, trim_by, write_by};
@@ -40,6 +40,7 @@ pub extern "C" fn kelifandro_read_by(
     ensures not_open { IsSome (part_of part) → is_note card.old ≡ false → result ≡ minus 1 }
     ensures judged { IfNoted card.old part (λ stands part.
         TellsWhy way (refusal Read (info_of stands) part start (length blocks.old)) result) }
+    ensures uncounted { is_attempted result ≡ false → healed.new ≡ healed.old }
     ensures counted { IfNoted card.old part (λ stands part. TellsCounts stands healed.old result card.new healed.new) }
 {
     told(read_by::<Brand>(way, card, healed, part, start, blocks))
@@ -59,6 +60,7 @@ pub extern "C" fn kelifandro_write_by(
     ensures not_open { IsSome (part_of part) → is_note card.old ≡ false → result ≡ minus 1 }
     ensures judged { IfNoted card.old part (λ stands part.
         TellsWhy way (refusal Write (info_of stands) part start (length blocks.now)) result) }
+    ensures uncounted { is_attempted result ≡ false → healed.new ≡ healed.old }
     ensures counted { IfNoted card.old part (λ stands part. TellsCounts stands healed.old result card.new healed.new) }
 {
     told(write_by::<Brand>(way, card, healed, part, start, blocks))
@@ -78,6 +80,7 @@ pub extern "C" fn kelifandro_erase_by(
     ensures not_open { IsSome (part_of part) → is_note card.old ≡ false → result ≡ minus 1 }
     ensures judged { IfNoted card.old part (λ stands part.
         TellsWhy way (refusal Erase (info_of stands) part start count) result) }
+    ensures uncounted { is_attempted result ≡ false → healed.new ≡ healed.old }
     ensures counted { IfNoted card.old part (λ stands part. TellsCounts stands healed.old result card.new healed.new) }
 {
     told(erase_by::<Brand>(way, card, healed, part, start, count))
@@ -97,6 +100,7 @@ pub extern "C" fn kelifandro_trim_by(
     ensures not_open { IsSome (part_of part) → is_note card.old ≡ false → result ≡ minus 1 }
     ensures judged { IfNoted card.old part (λ stands part.
         TellsWhy way (refusal Trim (info_of stands) part start count) result) }
+    ensures uncounted { is_attempted result ≡ false → healed.new ≡ healed.old }
     ensures counted { IfNoted card.old part (λ stands part. TellsCounts stands healed.old result card.new healed.new) }
 {
     told(trim_by::<Brand>(way, card, healed, part, start, count))

@@ -1,10 +1,10 @@
-use Rattle.std.proofs.Common.{rules, subst, sym, w32}
+use Rattle.std.proofs.Common.{◌≡◌, false, rules, subst, sym, w32}
 use Rattle.std.proofs.lemmas.Int.{to_z-of_z}
 use Rattle.mmc_direct.specs.Refusal.{refusal}
 use Rattle.mmc_direct.specs.Stands.{info_of, stands_of}
 use Rattle.mmc_direct.specs.declared.action.Action.TheVariants.{Erase}
-use Rattle.kelifandro.specs.Calls.{TellsCounts, TellsWhy}
-use Rattle.kelifandro.proofs.CallLemmas.{tells_counts, tells_why}
+use Rattle.kelifandro.specs.Calls.{TellsCounts, TellsWhy, is_attempted}
+use Rattle.kelifandro.proofs.CallLemmas.{tells_counts, tells_none, tells_why}
 use Rattle.kelifandro.proofs.exports.kelifandro_erase_by.Goals as goal
 
 pub returns-clause-judged : goal.returns-clause-judged
@@ -15,11 +15,17 @@ returns-clause-judged c = λ how part is says.
     c.erase_by.ensures.fault (λ host. c.erase_by.ensures.functions host how part is says)
     (c.erase_by.ensures.judged how part is says))
 
+pub returns-clause-uncounted : goal.returns-clause-uncounted
+returns-clause-uncounted c =
+    let Same : Type 0 = c.erase_by.new.healed ≡ c.args.healed.now in
+    subst (λ number. is_attempted number ≡ false → Same) (sym (to_z-of_z w32 c.told.result (search rules)))
+    (tells_none (λ did. did.answer) c.erase_by.result c.told.result Same c.told.ensures.answer c.erase_by.ensures.uncounted
+    c.erase_by.ensures.not_counted)
+
 pub returns-clause-counted : goal.returns-clause-counted
 returns-clause-counted c = λ how part is says.
     let new = c.erase_by.new in
     let old = c.args.healed.now in
     subst (λ number. TellsCounts (stands_of how) old number new.card new.healed) (sym (to_z-of_z w32 c.told.result (search rules)))
     (tells_counts (λ did. did.answer) (stands_of how) old c.erase_by.result c.told.result new.card new.healed c.told.ensures.answer
-    c.told.ensures.why c.erase_by.ensures.unmade c.erase_by.ensures.uncounted c.erase_by.ensures.not_counted
-    (c.erase_by.ensures.counted how part is says))
+    c.told.ensures.why c.erase_by.ensures.unmade (c.erase_by.ensures.counted how part is says))
