@@ -1,4 +1,4 @@
-//! Tests of the driver of SD host controllers on the strict controller of `sdhci_model`, behind which is a card in memory.
+//! Tests of the driver of SD host controllers on the strict controller of `sdhci_model`, over a card in memory.
 #![tactic(auto)]
 
 #[cfg(test)]

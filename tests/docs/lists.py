@@ -1,0 +1,48 @@
+"""Code and lists that stand twice: in a document, and where they come from."""
+import re
+
+from documents import TOP, files, source
+
+
+def section(text, title):
+    return re.search(rf"^#+ {title}$(.*?)(?=^#+ |\Z)", text, re.M | re.S)[1]
+
+
+def code_that_differs(documents):
+    """The code under "A driver in Rattle" is that of crates/example_device, paragraph by paragraph."""
+    sources = [path.read_text() for path in (TOP / "crates/example_device/src").glob("*.rt")]
+    porting = section(documents.texts["docs/PORTING.md"], "A driver in Rattle")
+    for block in re.findall(r"(?:^    .*\n)(?:(?:    .*)?\n)*", porting, re.M):
+        for paragraph in re.split(r"\n\n+", re.sub(r"^    ", "", block, flags=re.M).strip("\n")):
+            if not any(paragraph in text for text in sources):
+                yield f"docs/PORTING.md has code that the example hasn't:\n{paragraph}"
+
+
+def definitions_that_differ(documents):
+    """The definitions that an auditor reads first, "What to read", are those whose first line says "Headline", and no others."""
+    listed = set()
+    for row in re.findall(r"^\| (`mmc_.*?) \|", section(documents.texts["docs/AUDIT.md"], "What to read"), re.M):
+        crate, *names = re.findall(r"`(\w+)`", row)
+        listed |= {f"crates/{crate}/specs/{name}.antt" for name in names}
+    marked = {name for name in files() if "/specs/" in name and source(name).startswith("-- Headline ")}
+    yield from (f"docs/AUDIT.md doesn't list {name}, which is marked" for name in sorted(marked - listed))
+    yield from (f"docs/AUDIT.md lists {name}, which isn't marked" for name in sorted(listed - marked))
+
+
+def commands_that_are_not(documents):
+    """Each command of a code block is there, and each option of cardtool's."""
+    options = set(re.findall(r"--[a-z][\w-]*", " ".join(source(name) for name in files() if re.match(r"crates/card\w*/src/", name))))
+    named = set(re.findall(r'"([a-z][\w-]*)"', " ".join(source(name) for name in files() if re.match(r"crates/card\w*/src/", name))))
+    for place, line in documents.lines():
+        if not line.startswith("    ") or "docs/STANDARD" in place:
+            continue
+        for path in re.findall(r"(?:^|[ (])((?:\.ci|bench|c|tests|crates|docs|examples)/[\w./-]+)", line):
+            if "/out" not in path and not (TOP / path).exists():
+                yield f"{place}: there is no {path}"
+        for words in re.findall(r"\bcardtool ((?:[a-z]+ |--)[^|#>&']*)", line):
+            for option in re.findall(r"--[a-z][\w-]*", words):
+                if option not in options and option[2:] not in named:
+                    yield f"{place}: cardtool has no {option}"
+
+
+CHECKS = [code_that_differs, definitions_that_differ, commands_that_are_not]
