@@ -27,7 +27,7 @@ FACTS = [
     (r"up to (\w+) requests and", "crates/mmc_queue/src/extent.rt", r"MAX_GROUP: usize = (\d+)", 1),
     (r"waits in the queue, (\w+)", "crates/mmc_queue/src/queue.rt", r"MAX_WAITING: usize = (\d+)", 1),
     (r"makes at most (\d+) exchanges\b(?=[^.]*\n?[^.]*OpenFault|, a `turn`)", "crates/mmc_calls/src/opening.rt", r"exchanges \+ (\d+)", 1),
-    (r"[Aa]sks (\w+) times whether a card is ready", "crates/mmc_identify/src/sd.rt", r"MAX_INQUIRIES: u8 = (\d+)", 1),
+    (r"no time: (\w+) inquiries", "crates/mmc_identify/src/sd.rt", r"MAX_INQUIRIES: u8 = (\d+)", 1),
 ]
 
 
