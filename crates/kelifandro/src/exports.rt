@@ -12,7 +12,8 @@ ghost use Rattle.kelifandro.specs.Answers.{minus};
 ghost use Rattle.kelifandro.specs.Calls.{IfNoted, TellsCounts, TellsWhy, is_attempted};
 
 use crate::opening::open_by;
-use crate::requests::{erase_by, read_by, told, trim_by, write_by};
+use crate::requests::{erase_by, read_by, told, write_by};
+use mmc_direct::How;
 use mmc_record::CardRecord;
 use mmc_recovery::Healed;
 use std::marker::Brand;
@@ -83,7 +84,7 @@ pub extern "C" fn kelifandro_erase_by(
     ensures uncounted { is_attempted result ≡ false → healed.new ≡ healed.old }
     ensures counted { IfNoted card.old part (λ stands part. TellsCounts stands healed.old result card.new healed.new) }
 {
-    told(erase_by::<Brand>(way, card, healed, part, start, count))
+    told(erase_by::<Brand>(way, card, healed, part, start, count, How::Erase))
 }
 
 /// Trims sectors.
@@ -103,5 +104,5 @@ pub extern "C" fn kelifandro_trim_by(
     ensures uncounted { is_attempted result ≡ false → healed.new ≡ healed.old }
     ensures counted { IfNoted card.old part (λ stands part. TellsCounts stands healed.old result card.new healed.new) }
 {
-    told(trim_by::<Brand>(way, card, healed, part, start, count))
+    told(erase_by::<Brand>(way, card, healed, part, start, count, How::Trim))
 }

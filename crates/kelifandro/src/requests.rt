@@ -3,10 +3,10 @@
 ghost use Rattle.std.specs.Prelude.{◌≡◌, Err, IfErr, IfOk, IsOk, IsSome, None, [], false, is_err, is_some, length, pos};
 ghost use Rattle.mmc_calls.specs.Noted.{IsCounted, IsServed, Notes};
 ghost use Rattle.mmc_direct.specs.Changes.{erased_at, written_at};
-ghost use Rattle.mmc_direct.specs.Refusal.{refusal};
+ghost use Rattle.mmc_direct.specs.Refusal.{action_of, refusal};
 ghost use Rattle.mmc_direct.specs.Requests.{HasChanged, HasRead};
 ghost use Rattle.mmc_direct.specs.Stands.{IfRefused, IfServed, info_of, refusal_in};
-ghost use Rattle.mmc_direct.specs.declared.action.Action.TheVariants.{Erase, Read, Trim, Write};
+ghost use Rattle.mmc_direct.specs.declared.action.Action.TheVariants.{Read, Write};
 ghost use Rattle.mmc_record.specs.Note.{is_note};
 ghost use Rattle.mmc_record.specs.Numbers.{part_of};
 ghost use Rattle.mmc_story.specs.Story.{IsTrueOf};
@@ -17,8 +17,8 @@ use crate::answers::answer_number;
 use crate::calls::{CHost, go_back};
 use c_host::{Sectors, SectorsMut};
 use mmc_bus::{Bus, Lines};
-use mmc_calls::{Left, erase_over, read_over, trim_over, write_over};
-use mmc_direct::NotDone;
+use mmc_calls::{Left, erase_over, read_over, write_over};
+use mmc_direct::{How, NotDone};
 use mmc_host::{Host, HostBus};
 use mmc_record::CardRecord;
 use mmc_recovery::Healed;
@@ -135,7 +135,7 @@ pub fn write_by<S: HasStory>(
     })
 }
 
-/// Erases sectors.
+/// Erases or trims sectors.
 ///
 /// # Errors
 /// The number of why it came to no host.
@@ -146,6 +146,7 @@ pub fn erase_by<S: HasStory>(
     part: u8,
     start: u64,
     count: u64,
+    how: How,
 ) -> Result<Called<CHost<S>>, i32>
     ensures no_partition { part_of part ≡ None → result ≡ Err (minus 2) }
     ensures not_open { IsSome (part_of part) → is_note card.old ≡ false → result ≡ Err (minus 1) }
@@ -154,7 +155,7 @@ pub fn erase_by<S: HasStory>(
     ensures unmade { IfErr result (λ number. is_attempted number ≡ false) }
     ensures no_host { IfErr result (λ number. card.new ≡ card.old) }
     ensures judged { IfNoted card.old part (λ stands part. IfOk result (λ did.
-        refusal_in did.answer ≡ refusal Erase (info_of stands) part start count)) }
+        refusal_in did.answer ≡ refusal (action_of how) (info_of stands) part start count)) }
     ensures left { IfOk result (λ did. is_err did.left ≡ is_some (refusal_in did.answer)) }
     ensures untouched { IfNoted card.old part (λ stands part. IfOk result (λ did. IfRefused did.answer (Notes stands card.new))) }
     ensures uncounted { IfErr result (λ number. healed.new ≡ healed.old) }
@@ -167,47 +168,7 @@ pub fn erase_by<S: HasStory>(
 {
     let (stands, host, part) = go_back(way, card, part)?;
     let limits = host.limits();
-    let (answer, left) = erase_over(host, card, healed, stands, part, start, count);
-    Ok(Called {
-        answer,
-        limits,
-        left,
-    })
-}
-
-/// Trims sectors.
-///
-/// # Errors
-/// The number of why it came to no host.
-pub fn trim_by<S: HasStory>(
-    way: u8,
-    card: &mut CardRecord,
-    healed: &mut Healed,
-    part: u8,
-    start: u64,
-    count: u64,
-) -> Result<Called<CHost<S>>, i32>
-    ensures no_partition { part_of part ≡ None → result ≡ Err (minus 2) }
-    ensures not_open { IsSome (part_of part) → is_note card.old ≡ false → result ≡ Err (minus 1) }
-    ensures functions { way ≡ 0 → IfNoted card.old part (λ stands part. IsOk result) }
-    ensures fault { IfErr result (λ number. number ≡ pos 0 → ⊥) }
-    ensures unmade { IfErr result (λ number. is_attempted number ≡ false) }
-    ensures no_host { IfErr result (λ number. card.new ≡ card.old) }
-    ensures judged { IfNoted card.old part (λ stands part. IfOk result (λ did.
-        refusal_in did.answer ≡ refusal Trim (info_of stands) part start count)) }
-    ensures left { IfOk result (λ did. is_err did.left ≡ is_some (refusal_in did.answer)) }
-    ensures untouched { IfNoted card.old part (λ stands part. IfOk result (λ did. IfRefused did.answer (Notes stands card.new))) }
-    ensures uncounted { IfErr result (λ number. healed.new ≡ healed.old) }
-    ensures not_counted { IfOk result (λ did. IfRefused did.answer (healed.new ≡ healed.old)) }
-    ensures counted { IfNoted card.old part (λ stands part. IfOk result (λ did. IfServed did.answer
-        (IsCounted stands healed.old did.answer card.new healed.new))) }
-    ensures served { IsTrueOf S.story [] → IfNoted card.old part (λ stands part. IfOk result (λ did. IfOk did.left (λ bus.
-        IsServed (HasChanged (erased_at (info_of stands) part start count)) stands (host_of S.story stands did.limits)
-        did.answer card.new (⟦<HostBus<CHost<S>> as Bus>⟧.view bus)))) }
-{
-    let (stands, host, part) = go_back(way, card, part)?;
-    let limits = host.limits();
-    let (answer, left) = trim_over(host, card, healed, stands, part, start, count);
+    let (answer, left) = erase_over(host, card, healed, stands, part, start, count, how);
     Ok(Called {
         answer,
         limits,

@@ -3,16 +3,16 @@ ghost use Rattle.std.specs.Prelude.{◌≡◌, ◌*◌, ◌+◌, ◌≤◌, leng
 ghost use Rattle.mmc_bus.specs.Lending.{IsRewritten};
 ghost use Rattle.mmc_direct.specs.Attempts.{erasing, moving};
 ghost use Rattle.mmc_direct.specs.Changes.{erased_at, written_at};
-ghost use Rattle.mmc_direct.specs.Refusal.{refusal};
+ghost use Rattle.mmc_direct.specs.Refusal.{action_of, refusal};
 ghost use Rattle.mmc_direct.specs.Requests.{HasChanged, HasRead};
 ghost use Rattle.mmc_direct.specs.Stands.{IfRefused, IfServed, StandsIn, info_of, refusal_in};
-ghost use Rattle.mmc_direct.specs.declared.action.Action.TheVariants.{Erase, Read, Trim, Write};
+ghost use Rattle.mmc_direct.specs.declared.action.Action.TheVariants.{Read, Write};
 ghost use Rattle.mmc_direct.specs.declared.attempts.TheConstants.{ATTEMPTS};
 ghost use Rattle.mmc_calls.specs.Noted.{HasServed, IsCounted, Notes};
 
 use crate::noting::noted;
 use mmc_bus::{Blocks, BlocksMut, Bus, Part};
-use mmc_direct::{NotDone, Stands};
+use mmc_direct::{How, NotDone, Stands};
 use mmc_record::CardRecord;
 use mmc_recovery::Healed;
 
@@ -74,7 +74,7 @@ pub fn write<B: Bus, D: Blocks>(
     served.answer
 }
 
-/// Erases so many sectors, as `mmc_direct::erase`, and notes how the card stands.
+/// Erases or trims so many sectors, as `mmc_direct::erase`, and notes how the card stands.
 ///
 /// # Errors
 /// Why it wasn't done. The record notes how the card stands then.
@@ -86,8 +86,9 @@ pub fn erase<B: Bus>(
     part: Part,
     start: u64,
     count: u64,
+    how: How,
 ) -> Result<(), NotDone>
-    ensures refused { refusal_in result ≡ refusal Erase (info_of stands) part start count }
+    ensures refused { refusal_in result ≡ refusal (action_of how) (info_of stands) part start count }
     ensures untouched { IfRefused result ((bus.new ≡ bus.old) × Notes stands card.new) }
     ensures uncounted { IfRefused result (healed.new ≡ healed.old) }
     ensures healed { IfServed result (IsCounted stands healed.old result card.new healed.new) }
@@ -97,35 +98,7 @@ pub fn erase<B: Bus>(
         → HasChanged (erased_at (info_of stands) part start count)
         (B.view bus.old) served (B.view bus.new)) result card.new }
 {
-    let served = mmc_direct::erase(bus, healed, stands, part, start, count);
-    *card = noted(&served.stands);
-    served.answer
-}
-
-/// Trims so many sectors, as `mmc_direct::trim`, and notes how the card stands.
-///
-/// # Errors
-/// Why it wasn't done. The record notes how the card stands then.
-pub fn trim<B: Bus>(
-    bus: &mut B,
-    card: &mut CardRecord,
-    healed: &mut Healed,
-    stands: Stands,
-    part: Part,
-    start: u64,
-    count: u64,
-) -> Result<(), NotDone>
-    ensures refused { refusal_in result ≡ refusal Trim (info_of stands) part start count }
-    ensures untouched { IfRefused result ((bus.new ≡ bus.old) × Notes stands card.new) }
-    ensures uncounted { IfRefused result (healed.new ≡ healed.old) }
-    ensures healed { IfServed result (IsCounted stands healed.old result card.new healed.new) }
-    ensures bounded { (B.view bus.new).exchanges ≤ (B.view bus.old).exchanges + ATTEMPTS * erasing }
-    ensures kept { (B.view bus.new).is_kept ≡ true → (B.view bus.old).is_kept ≡ true }
-    ensures served { HasServed (λ served. (B.view bus.new).is_kept ≡ true → StandsIn stands (B.view bus.old)
-        → HasChanged (erased_at (info_of stands) part start count)
-        (B.view bus.old) served (B.view bus.new)) result card.new }
-{
-    let served = mmc_direct::trim(bus, healed, stands, part, start, count);
+    let served = mmc_direct::erase(bus, healed, stands, part, start, count, how);
     *card = noted(&served.stands);
     served.answer
 }

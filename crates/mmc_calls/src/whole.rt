@@ -3,19 +3,19 @@
 ghost use Rattle.std.specs.Prelude.{◌≡◌, Err, IfOk, is_err, is_some, length, true};
 ghost use Rattle.mmc_bus.specs.Lending.{IsRewritten};
 ghost use Rattle.mmc_direct.specs.Changes.{erased_at, written_at};
-ghost use Rattle.mmc_direct.specs.Refusal.{refusal};
+ghost use Rattle.mmc_direct.specs.Refusal.{action_of, refusal};
 ghost use Rattle.mmc_direct.specs.Requests.{HasChanged, HasRead};
 ghost use Rattle.mmc_direct.specs.Stands.{IfRefused, IfServed, info_of, refusal_in};
-ghost use Rattle.mmc_direct.specs.declared.action.Action.TheVariants.{Erase, Read, Trim, Write};
+ghost use Rattle.mmc_direct.specs.declared.action.Action.TheVariants.{Read, Write};
 ghost use Rattle.mmc_host.specs.HostStates.{IsBetween};
 ghost use Rattle.mmc_host.specs.Hosts.{Where};
 ghost use Rattle.mmc_calls.specs.Noted.{IsCounted, IsNotedOf, IsServed, Notes, WhereStood};
 
 use crate::going_on::go_on;
 use crate::noting::noted;
-use crate::requests::{erase, read, trim, write};
+use crate::requests::{erase, read, write};
 use mmc_bus::{Blocks, BlocksMut, Bus, Part};
-use mmc_direct::{Action, NotDone, Stands, refusal};
+use mmc_direct::{Action, How, NotDone, Stands, action_of, refusal};
 use mmc_host::{Host, HostBus};
 use mmc_record::CardRecord;
 use mmc_recovery::Healed;
@@ -104,7 +104,7 @@ pub fn write_over<H: Host, D: Blocks>(
     (answer, Ok(bus))
 }
 
-/// Erases so many sectors, as `mmc_direct::erase`; otherwise as `read_over`.
+/// Erases or trims so many sectors, as `mmc_direct::erase`; otherwise as `read_over`.
 ///
 /// # Errors
 /// As `read_over`.
@@ -116,9 +116,10 @@ pub fn erase_over<H: Host>(
     part: Part,
     start: u64,
     count: u64,
+    how: How,
 ) -> (Result<(), NotDone>, Left<H>)
     requires { Where (H.view host) (IsBetween (H.view host).state) }
-    ensures refused { refusal_in result.0 ≡ refusal Erase (info_of stands) part start count }
+    ensures refused { refusal_in result.0 ≡ refusal (action_of how) (info_of stands) part start count }
     ensures left { is_err result.1 ≡ is_some (refusal_in result.0) }
     ensures untouched { IfRefused result.0 ((result.1 ≡ Err host) × Notes stands card.new) }
     ensures uncounted { IfRefused result.0 (healed.new ≡ healed.old) }
@@ -128,44 +129,11 @@ pub fn erase_over<H: Host>(
     ensures noted { IfOk result.1 (λ bus. WhereStood stands (H.view host) (⟦<HostBus<H> as Bus>⟧.view bus)
         (IsNotedOf card.new (H.view bus.host))) }
 {
-    if let Some(why) = refusal(stands.info(), Action::Erase, part, start, count) {
+    if let Some(why) = refusal(stands.info(), action_of(how), part, start, count) {
         *card = noted(&stands);
         return (Err(NotDone::Refused(why)), Err(host));
     }
     let mut bus = go_on(host, &stands);
-    let answer = erase(&mut bus, card, healed, stands, part, start, count);
-    (answer, Ok(bus))
-}
-
-/// Trims so many sectors, as `mmc_direct::trim`; otherwise as `read_over`.
-///
-/// # Errors
-/// As `read_over`.
-pub fn trim_over<H: Host>(
-    host: H,
-    card: &mut CardRecord,
-    healed: &mut Healed,
-    stands: Stands,
-    part: Part,
-    start: u64,
-    count: u64,
-) -> (Result<(), NotDone>, Left<H>)
-    requires { Where (H.view host) (IsBetween (H.view host).state) }
-    ensures refused { refusal_in result.0 ≡ refusal Trim (info_of stands) part start count }
-    ensures left { is_err result.1 ≡ is_some (refusal_in result.0) }
-    ensures untouched { IfRefused result.0 ((result.1 ≡ Err host) × Notes stands card.new) }
-    ensures uncounted { IfRefused result.0 (healed.new ≡ healed.old) }
-    ensures healed { IfServed result.0 (IsCounted stands healed.old result.0 card.new healed.new) }
-    ensures served { IfOk result.1 (λ bus. IsServed (HasChanged (erased_at (info_of stands) part start count)) stands (H.view host)
-        result.0 card.new (⟦<HostBus<H> as Bus>⟧.view bus)) }
-    ensures noted { IfOk result.1 (λ bus. WhereStood stands (H.view host) (⟦<HostBus<H> as Bus>⟧.view bus)
-        (IsNotedOf card.new (H.view bus.host))) }
-{
-    if let Some(why) = refusal(stands.info(), Action::Trim, part, start, count) {
-        *card = noted(&stands);
-        return (Err(NotDone::Refused(why)), Err(host));
-    }
-    let mut bus = go_on(host, &stands);
-    let answer = trim(&mut bus, card, healed, stands, part, start, count);
+    let answer = erase(&mut bus, card, healed, stands, part, start, count, how);
     (answer, Ok(bus))
 }

@@ -12,8 +12,9 @@ mod stands;
 
 pub use action::Action;
 pub use attempts::{ATTEMPTS, EXCHANGES_BESIDE_A_RUN};
+pub use mmc_erase::How;
 pub use mmc_recovery::Healed;
 pub use refused::{NotDone, Refused};
-pub use requests::{erase, read, trim, write};
+pub use requests::{action_of, erase, read, write};
 pub use rules::refusal;
 pub use stands::{Served, Stands};

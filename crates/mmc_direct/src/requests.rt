@@ -9,7 +9,7 @@ ghost use Rattle.mmc_direct.specs.Healing.{HasHealed};
 ghost use Rattle.mmc_direct.specs.Refusal.{action_of, refusal};
 ghost use Rattle.mmc_direct.specs.Requests.{HasChanged, HasRead};
 ghost use Rattle.mmc_direct.specs.Stands.{AnswersBy, IfLeft, IfRefused, IfServed, IsCausedIn, StandsIn, info_of, refusal_in};
-ghost use Rattle.mmc_direct.specs.declared.action.Action.TheVariants.{Erase, Read, Trim, Write};
+ghost use Rattle.mmc_direct.specs.declared.action.Action.TheVariants.{Read, Write};
 ghost use Rattle.mmc_direct.specs.declared.attempts.TheConstants.{ATTEMPTS};
 
 use crate::action::Action;
@@ -95,8 +95,8 @@ pub fn write<B: Bus, D: Blocks>(
     }
 }
 
-// What a request does that erases or trims.
-fn action_of(how: How) -> Action
+/// What a request does that erases or trims.
+pub fn action_of(how: How) -> Action
     ensures { result ≡ action_of how }
 {
     match how {
@@ -105,8 +105,10 @@ fn action_of(how: How) -> Action
     }
 }
 
-// Erases or trims so many sectors.
-fn give_up<B: Bus>(
+/// Erases or trims so many sectors, 1 or more, in attempts as `read`: an erase gives up whole erase units, the last of which may end
+/// with the partition, a trim each sector by itself, of a card that trims. They hold the card's erased byte then. Where it has failed
+/// each of them is as before or erased. No other may hold more than it might before.
+pub fn erase<B: Bus>(
     bus: &mut B,
     healed: &mut Healed,
     stands: Stands,
@@ -124,6 +126,7 @@ fn give_up<B: Bus>(
     ensures bounded { (B.view bus.new).exchanges ≤ (B.view bus.old).exchanges + ATTEMPTS * erasing }
     ensures cause { IfLeft result.answer result.stands (λ broken. IsCausedIn ((ATTEMPTS - 1) * erasing) broken
         (B.view bus.old) (B.view bus.new)) }
+
     ensures kept { (B.view bus.new).is_kept ≡ true → (B.view bus.old).is_kept ≡ true }
     ensures served { (B.view bus.new).is_kept ≡ true → StandsIn stands (B.view bus.old)
         → HasChanged (erased_at (info_of stands) part start count) (B.view bus.old) result (B.view bus.new) }
@@ -132,58 +135,4 @@ fn give_up<B: Bus>(
         Some(refused) => Served::refused(stands, refused),
         None => Served::of(keep_erasing(bus, healed, stands, part, start, count, how)),
     }
-}
-
-/// Erases so many sectors, 1 or more, by whole erase units, the last of which may end with the partition; in attempts as `read`.
-/// They hold the card's erased byte then. Where it has failed each of them is as before or erased. No other may hold
-/// more than it might before.
-pub fn erase<B: Bus>(
-    bus: &mut B,
-    healed: &mut Healed,
-    stands: Stands,
-    part: Part,
-    start: u64,
-    count: u64,
-) -> Served
-    ensures refused { refusal_in result.answer ≡ refusal Erase (info_of stands) part start count }
-    ensures untouched { IfRefused result.answer ((bus.new ≡ bus.old) × (result.stands ≡ stands)) }
-    ensures answer { AnswersBy result.answer result.stands }
-    ensures uncounted { IfRefused result.answer (healed.new ≡ healed.old) }
-    ensures healed { IfServed result.answer (HasHealed stands healed.old result.stands healed.new) }
-    ensures info { lasting (info_of result.stands) ≡ lasting (info_of stands) }
-    ensures bounded { (B.view bus.new).exchanges ≤ (B.view bus.old).exchanges + ATTEMPTS * erasing }
-    ensures cause { IfLeft result.answer result.stands (λ broken. IsCausedIn ((ATTEMPTS - 1) * erasing) broken
-        (B.view bus.old) (B.view bus.new)) }
-
-    ensures kept { (B.view bus.new).is_kept ≡ true → (B.view bus.old).is_kept ≡ true }
-    ensures served { (B.view bus.new).is_kept ≡ true → StandsIn stands (B.view bus.old)
-        → HasChanged (erased_at (info_of stands) part start count) (B.view bus.old) result (B.view bus.new) }
-{
-    give_up(bus, healed, stands, part, start, count, How::Erase)
-}
-
-/// Trims so many sectors, 1 or more, each by itself, of a card that trims; otherwise as `erase`.
-pub fn trim<B: Bus>(
-    bus: &mut B,
-    healed: &mut Healed,
-    stands: Stands,
-    part: Part,
-    start: u64,
-    count: u64,
-) -> Served
-    ensures refused { refusal_in result.answer ≡ refusal Trim (info_of stands) part start count }
-    ensures untouched { IfRefused result.answer ((bus.new ≡ bus.old) × (result.stands ≡ stands)) }
-    ensures answer { AnswersBy result.answer result.stands }
-    ensures uncounted { IfRefused result.answer (healed.new ≡ healed.old) }
-    ensures healed { IfServed result.answer (HasHealed stands healed.old result.stands healed.new) }
-    ensures info { lasting (info_of result.stands) ≡ lasting (info_of stands) }
-    ensures bounded { (B.view bus.new).exchanges ≤ (B.view bus.old).exchanges + ATTEMPTS * erasing }
-    ensures cause { IfLeft result.answer result.stands (λ broken. IsCausedIn ((ATTEMPTS - 1) * erasing) broken
-        (B.view bus.old) (B.view bus.new)) }
-
-    ensures kept { (B.view bus.new).is_kept ≡ true → (B.view bus.old).is_kept ≡ true }
-    ensures served { (B.view bus.new).is_kept ≡ true → StandsIn stands (B.view bus.old)
-        → HasChanged (erased_at (info_of stands) part start count) (B.view bus.old) result (B.view bus.new) }
-{
-    give_up(bus, healed, stands, part, start, count, How::Trim)
 }

@@ -3,7 +3,7 @@ use crate::cards::*;
 use crate::transfer::{filled, is_all};
 use mmc_bus::{Bytes, Part};
 use mmc_card_sim::{Fault, SimCard};
-use mmc_direct::{Healed, NotDone, Refused, Stands, erase, read, trim, write};
+use mmc_direct::{Healed, How, NotDone, Refused, Stands, erase, read, write};
 use mmc_switch::{Cause, Session};
 use std::alloc::Global;
 use std::test::Fail;
@@ -24,6 +24,7 @@ fn erased(
         part,
         start,
         count,
+        How::Erase,
     );
     served.answer.err()
 }
@@ -61,8 +62,25 @@ fn refuses_for_the_first_reason(rt: HostRuntime) -> Result<(), Fail> {
 fn changed(card: &mut SimCard, stands: Stands, blocks: &Bytes) -> Stands {
     let mut healed = Healed::new();
     let written = write(card, &mut healed, stands, Part::User, 1023, blocks);
-    let trimmed = trim(card, &mut healed, written.stands, Part::User, 1024, 1);
-    erase(card, &mut healed, trimmed.stands, Part::User, 0, 1024).stands
+    let trimmed = erase(
+        card,
+        &mut healed,
+        written.stands,
+        Part::User,
+        1024,
+        1,
+        How::Trim,
+    );
+    erase(
+        card,
+        &mut healed,
+        trimmed.stands,
+        Part::User,
+        0,
+        1024,
+        How::Erase,
+    )
+    .stands
 }
 
 #[test]

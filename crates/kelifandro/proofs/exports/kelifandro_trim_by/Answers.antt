@@ -11,21 +11,21 @@ pub returns-clause-judged : goal.returns-clause-judged
 returns-clause-judged c = λ how part is says.
     let why = refusal Trim (info_of (stands_of how)) part c.args.start c.args.count in
     subst (λ number. TellsWhy c.args.way why number) (sym (to_z-of_z w32 c.told.result (search rules)))
-    (tells_why (λ did. did.answer) c.args.way why c.trim_by.result c.told.result c.told.ensures.answer c.told.ensures.why
-    c.trim_by.ensures.fault (λ host. c.trim_by.ensures.functions host how part is says)
-    (c.trim_by.ensures.judged how part is says))
+    (tells_why (λ did. did.answer) c.args.way why c.erase_by.result c.told.result c.told.ensures.answer c.told.ensures.why
+    c.erase_by.ensures.fault (λ host. c.erase_by.ensures.functions host how part is says)
+    (c.erase_by.ensures.judged how part is says))
 
 pub returns-clause-uncounted : goal.returns-clause-uncounted
 returns-clause-uncounted c =
-    let Same : Type 0 = c.trim_by.new.healed ≡ c.args.healed.now in
+    let Same : Type 0 = c.erase_by.new.healed ≡ c.args.healed.now in
     subst (λ number. is_attempted number ≡ false → Same) (sym (to_z-of_z w32 c.told.result (search rules)))
-    (tells_none (λ did. did.answer) c.trim_by.result c.told.result Same c.told.ensures.answer c.trim_by.ensures.uncounted
-    c.trim_by.ensures.not_counted)
+    (tells_none (λ did. did.answer) c.erase_by.result c.told.result Same c.told.ensures.answer c.erase_by.ensures.uncounted
+    c.erase_by.ensures.not_counted)
 
 pub returns-clause-counted : goal.returns-clause-counted
 returns-clause-counted c = λ how part is says.
-    let new = c.trim_by.new in
+    let new = c.erase_by.new in
     let old = c.args.healed.now in
     subst (λ number. TellsCounts (stands_of how) old number new.card new.healed) (sym (to_z-of_z w32 c.told.result (search rules)))
-    (tells_counts (λ did. did.answer) (stands_of how) old c.trim_by.result c.told.result new.card new.healed c.told.ensures.answer
-    c.told.ensures.why c.trim_by.ensures.unmade (c.trim_by.ensures.counted how part is says))
+    (tells_counts (λ did. did.answer) (stands_of how) old c.erase_by.result c.told.result new.card new.healed c.told.ensures.answer
+    c.told.ensures.why c.erase_by.ensures.unmade (c.erase_by.ensures.counted how part is says))

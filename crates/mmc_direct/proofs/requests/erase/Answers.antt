@@ -7,7 +7,7 @@ use Rattle.mmc_direct.proofs.RequestLemmas.{has_changed}
 use Rattle.mmc_direct.specs.Attempts.{erasing}
 use Rattle.mmc_direct.specs.Stands.{IsCausedIn}
 use Rattle.mmc_direct.specs.declared.attempts.TheConstants.{ATTEMPTS}
-use Rattle.mmc_direct.proofs.requests.give_up.Goals as goal
+use Rattle.mmc_direct.proofs.requests.erase.Goals as goal
 
 pub returns-in-None-clause-served : goal.returns-in-None-clause-served
 returns-in-None-clause-served g c kept at =
