@@ -72,6 +72,13 @@ class Expressions:
         return called(name, values)
 
     def of(self, made):
+        """The expression of an instruction; what is refused names its line."""
+        try:
+            return self.built(made)
+        except Refused as refused:
+            raise refused if ', line ' in str(refused) else made.refused(str(refused))
+
+    def built(self, made):
         if made.op == 'call':
             return self.intrinsic(made)
         if made.op in ON_BITS and made.type == 'i1':
@@ -99,8 +106,9 @@ class Expressions:
         if first.text.endswith('u') and second.text.endswith('u'):
             first = cast(made.type, first)
         value = infix(first, ARITHMETIC[made.op], second)
-        can_grow = made.op in ('add', 'sub', 'mul')
-        return fitted(value, made.type) if can_grow or size <= 16 else value
+        if made.op in ('add', 'sub', 'mul'):
+            return fitted(value, made.type)
+        return cast(made.type, value) if size <= 16 else value
 
     def cut128(self, value, size):
         if size == 128:
@@ -136,7 +144,9 @@ class Expressions:
         if size <= 16 or made.values[0].kind == '#':
             value = cast(wide, value)
         shifted = infix(value, '<<' if made.op == 'shl' else '>>', count)
-        return fitted(shifted, made.type) if made.op == 'shl' or size <= 16 else shifted
+        if made.op == 'shl':
+            return fitted(shifted, made.type)
+        return cast(made.type, shifted) if size <= 16 else shifted
 
     def arithmetic_shift(self, made, value, count):
         """With the top bit flipped a number is as much greater as the top bit alone is."""

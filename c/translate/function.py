@@ -94,15 +94,15 @@ class FunctionWriter:
     def parameters(self):
         """The names of the parameters. Addresses that C gives as `void *` are read as addresses of bytes."""
         prototype = self.core.prototype_of(self.function)
-        names = []
-        self.given = []
+        names, self.given, self.unused = [], [], []
         for n, parameter in enumerate(self.function.parameters):
-            if prototype is None:
-                names.append(self.variable(parameter.what))
-                continue
-            name = self.names.take(prototype.names[n])
+            name = self.variable(parameter.what) if prototype is None else self.names.take(prototype.names[n])
             names.append(name)
-            if parameter.type == 'ptr':
+            if parameter.what not in self.uses.users:
+                self.unused.append(name)
+            elif prototype is None:
+                continue
+            elif parameter.type == 'ptr':
                 self.given.append((self.variables.setdefault(parameter.what, self.names.fresh(name + '_bytes', 'v')), name))
             else:
                 self.variables[parameter.what] = name
@@ -127,6 +127,8 @@ class FunctionWriter:
                 self.line(1, declared(made.type, self.variables[made.name]) + ';')
         for name, given in self.given:
             self.line(1, 'uint8_t *%s = (uint8_t *)%s;' % (name, given))
+        for name in self.unused:
+            self.line(1, '(void)%s;' % name)
 
     def write_room(self, room, sizes):
         """An array, and further names of it by which places stand that share it."""
@@ -327,8 +329,6 @@ class FunctionWriter:
         if is_volatile != is_volatile._replace(kind='#', what=0):
             raise Refused('memory that is volatile')
         count_text = '%d' % count.what if count.kind == '#' else '(size_t)' + self.operand(count).bracketed()
-        if count.kind == '#' and count.what == 0:
-            return
         texts = [self.operand(to).text, self.operand(what).text, count_text]
         if name != 'memmove':
             self.line(depth, '%s(%s);' % (name, ', '.join(texts)))
@@ -364,6 +364,13 @@ class FunctionWriter:
         for kind, value, given in zip(prototype.types, values, made.values):
             if kind.startswith('int') and given.kind != '#':
                 value = self.expressions.helper('signed%d' % bits(given.type), value)
-            texts.append(value.text if given.kind != '#' else '%d' % given.what)
+            texts.append(value.text if given.kind != '#' else signed_text(given, kind))
         text = '%s(%s)' % (prototype.name, ', '.join(texts))
         return cast(made.type, Expression(text)).text if self.uses.is_used(made) else text
+
+
+def signed_text(given, kind):
+    """A number as a literal of a type of C that may have a sign."""
+    size = bits(given.type)
+    is_negative = kind.startswith('int') and given.what >> size - 1
+    return '%d' % (given.what - (1 << size) if is_negative else given.what)

@@ -123,7 +123,7 @@ def lesser_and_greater(n):
     head = '%s %%s%d(%s a, %s b)\n{\n    return %%s;\n}' % (kind, n, kind, kind)
     with_signs = '(a ^ %s) %%s (b ^ %s) ? a : b' % (top, top)
     bodies = {'umin': 'a < b ? a : b', 'umax': 'a > b ? a : b', 'smin': with_signs % '<', 'smax': with_signs % '>',
-              'usub_sat': '(%s)(a < b ? 0u : a - b)' % kind, 'uadd_sat': '(%s)(b > %s - a ? %s : a + b)' % (kind, most, most)}
+              'usub_sat': 'a < b ? (%s)0u : (%s)(a - b)' % (kind, kind), 'uadd_sat': 'b > %s - a ? (%s)%s : (%s)(a + b)' % (most, kind, most, kind)}
     return {'%s%d' % (name, n): head % (name, body) for name, body in bodies.items()}
 
 
