@@ -18,6 +18,8 @@
 #include <stddef.h>
 #include <stdint.h>
 
+#define KELIFANDRO_VERSION "0.1.0"
+
 #ifdef __cplusplus
 extern "C" {
 #endif
@@ -173,7 +175,8 @@ enum kelifandro_part {
     KELIFANDRO_GP1,
     KELIFANDRO_GP2,
     KELIFANDRO_GP3,
-    KELIFANDRO_GP4
+    KELIFANDRO_GP4,
+    KELIFANDRO_NO_PART = 0x7fffffff /* no partition: so that a compiler for Arm takes four bytes for any of them */
 };
 
 /* What was met and healed since the card was opened, counted: by the answers alone a card that fails at every tenth command looks
