@@ -69,7 +69,7 @@ class Core:
     def __init__(self, text, header, given):
         self.module = Module(text)
         self.prototypes = prototypes(header)
-        self.given = {name: self.prototypes[called] for name, called in given.items()}
+        self.given = {name: self.prototypes[called] for name, called in given.items() if called in self.prototypes}
         self.names, self.helpers, self.structs = Names(), set(), {}
         for name in self.prototypes:
             self.names.take(name)

@@ -1,5 +1,5 @@
 /* Stands between kelifandro.c and the library, by the linker's --wrap, and keeps a hash over all that passes: each record that is put,
-   each answer that is got, and of each call its result, the bytes of the card and of what is healed, and the blocks that it read. Tells
+   each answer that is got, and of each call its result, the bytes of the card, but for its padding, and of what is healed, and the blocks that it read. Tells
    at the end how many passed and the hash. */
 #include <stdio.h>
 #include "../../c/kelifandro.h"
@@ -9,6 +9,9 @@
     result __real_##name arguments; \
     result __wrap_##name arguments; \
     result __wrap_##name arguments
+
+/* Bytes of struct kelifandro_card that mean nothing. */
+enum { PADDING = 46, PADDING_END = 48 };
 
 static uint64_t hash = 1469598103934665603u;
 static unsigned long passed;
@@ -31,7 +34,8 @@ static int32_t ended(int32_t result, const void *card, const void *healed)
 {
     passed++;
     number((uint64_t)(int64_t)result);
-    bytes(card, sizeof(struct kelifandro_card));
+    bytes(card, PADDING);
+    bytes((const uint8_t *)card + PADDING_END, sizeof(struct kelifandro_card) - PADDING_END);
     bytes(healed, sizeof(struct kelifandro_healed));
     return result;
 }
