@@ -6,6 +6,7 @@ from .function import FunctionWriter
 from .helpers import texts_of
 from .module import Module
 from .names import Names, of_path
+from .places import keepers
 from .reading import Refused
 from .types import declared, struct_name, type_of
 
@@ -27,6 +28,11 @@ void *memset(void *to, int byte, size_t n);
 #else
 #define KELIFANDRO_BY_BYTES (__BYTE_ORDER__ != __ORDER_LITTLE_ENDIAN__)
 #endif
+#endif
+
+/* Bytes that mean nothing, of a variant that isn't there, are copied with those that do, and may never have been written. */
+#if defined __GNUC__ && !defined __clang__
+#pragma GCC diagnostic ignored "-Wmaybe-uninitialized"
 #endif
 
 /* What is done where the proof says that nothing comes. */
@@ -69,11 +75,12 @@ class Core:
     def __init__(self, text, header, given):
         self.module = Module(text)
         self.prototypes = prototypes(header)
-        self.given = {name: self.prototypes[called] for name, called in given.items()}
+        self.given = {name: self.prototypes[called] for name, called in given.items() if called in self.prototypes}
         self.names, self.helpers, self.structs = Names(), set(), {}
         for name in self.prototypes:
             self.names.take(name)
         self.reserve_helpers()
+        self.keeps = keepers(self.module.functions, self.given)
         self.tables = {name: self.names.fresh('bytes_' + of_path(name), 'bytes_') for name in self.module.tables}
         self.functions = {f.name: self.name_for(f) for f in self.module.functions}
 

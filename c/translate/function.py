@@ -74,7 +74,7 @@ class FunctionWriter:
 
     def write(self):
         """The function's lines, its head first."""
-        places = Places(self.function, self.layout)
+        places = Places(self.function, self.layout, self.core.keeps)
         roots = [name for name in self.layout.order if name in self.layout.roots]
         parameters = self.parameters()
         for name in self.layout.order:

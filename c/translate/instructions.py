@@ -114,10 +114,13 @@ def phi(line, op, name):
 
 
 def alloca(line, op, name):
+    """A place is an array of bytes, or a number of whole bytes: its size is the same on every processor."""
     kind = line.type()
-    if kind[0] != 'array' or kind[2] != 'i8':
+    if kind[0] == 'array' and kind[2] == 'i8':
+        return Instruction(op, name, 'ptr', [], line, kind[1])
+    if not isinstance(kind, str) or kind[0] != 'i' or bits(kind) % 8:
         raise line.refused('a place that is no array of bytes')
-    return Instruction(op, name, 'ptr', [], line, kind[1])
+    return Instruction(op, name, 'ptr', [], line, bits(kind) // 8)
 
 
 def in_memory(line, kind):

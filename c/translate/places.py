@@ -1,69 +1,156 @@
-"""Which local arrays may share room: those that are never alive at the same time, by the IR's own marks of their lives."""
+"""Which local arrays may share room: those that are never in use at the same time.
+
+An array is in use from the first access to it until the last one, by any way through the function; the IR's marks of its life end that
+earlier. Where its address is kept somewhere, every later access may be one to it: then the marks alone count."""
+
+# They keep no address.
+BYTES_CALLS = ('memcpy', 'memset', 'memmove')
+
+
+class Addresses:
+    """Which places each address of a function may lead to, and which of them are kept."""
+
+    def __init__(self, function, keeps):
+        self.function, self.keeps = function, keeps
+        self.places = {made.name: made.more for made in function.instructions() if made.op == 'alloca'}
+        self.leads = {name: frozenset([name]) for name in self.places}
+        self.begin_parameters()
+        while self.follow():
+            pass
+        self.kept = frozenset().union(*[self.kept_by(made) for made in function.instructions()])
+
+    def begin_parameters(self):
+        """A parameter stands for what it leads to."""
+        for parameter in self.function.parameters:
+            if parameter.type == 'ptr':
+                self.leads[parameter.what] = frozenset(['parameter ' + str(parameter.what)])
+
+    def of(self, value):
+        return self.leads.get(value.what, frozenset()) if value.kind == '%' else frozenset()
+
+    def of_all(self, values):
+        return frozenset().union(*map(self.of, values))
+
+    def follow(self):
+        """Addresses that are made of others. Answers whether anything was new."""
+        is_new = False
+        for made in self.function.instructions():
+            if made.type == 'ptr' and made.op in ('getelementptr', 'phi', 'select', 'freeze'):
+                found = self.of_all(made.values) | self.leads.get(made.name, frozenset())
+                is_new = is_new or found != self.leads.get(made.name)
+                self.leads[made.name] = found
+        return is_new
+
+    def kept_by(self, made):
+        """What this instruction keeps the address of, or compares, so that it has to be its own."""
+        if made.op == 'store':
+            return self.of(made.values[0])
+        if made.op in ('ret', 'insertvalue'):
+            return self.of_all(made.values)
+        if made.op == 'icmp' and all(value.kind == '%' for value in made.values):
+            return self.of_all(made.values)
+        if made.op != 'call' or made.intrinsic() is not None:
+            return frozenset()
+        return self.of_all(value for n, value in enumerate(made.values) if self.keeps(made.more, n))
+
+    def used_by(self, made):
+        """The places that it may access."""
+        if made.op in ('load', 'store'):
+            return self.of(made.values[-1])
+        return self.of_all(made.values) if made.op == 'call' and not made.is_lifetime() else frozenset()
+
+
+def keepers(functions, given):
+    """Answers whether a function may keep the address that it is given as its nth argument. Those of C that are `given` don't."""
+    kept = set()
+    known = {function.name for function in functions} | set(given)
+
+    def keeps(name, n):
+        return name not in known or (name, n) in kept
+
+    is_new = True
+    while is_new:
+        is_new = False
+        for function in functions:
+            addresses = Addresses(function, keeps)
+            for n, parameter in enumerate(function.parameters):
+                if 'parameter ' + str(parameter.what) in addresses.kept and (function.name, n) not in kept:
+                    kept.add((function.name, n))
+                    is_new = True
+    return keeps
 
 
 class Places:
-    """The places of a function, and the shared room that each is given."""
+    """The places of a function, and the rooms that they share."""
 
-    def __init__(self, function, layout):
-        self.layout = layout
-        self.blocks = function.blocks
-        self.size = {made.name: made.more for name in layout.order for made in self.blocks[name] if made.op == 'alloca'}
-        self.marked = {mark.values[-1].what for mark in self.marks() if mark.more.startswith('llvm.lifetime.start')}
+    def __init__(self, function, layout, keeps):
+        self.layout, self.blocks = layout, function.blocks
+        self.addresses = Addresses(function, keeps)
+        self.size = self.addresses.places
+        self.kept = self.addresses.kept & frozenset(self.size)
+        begun = {made.values[-1].what for made in function.instructions() if self.mark(made) == 'start'}
+        self.always = self.kept - begun
         self.conflicts = {place: set() for place in self.size}
         self.find_conflicts()
         self.rooms = self.shared()
 
-    def marks(self):
-        for name in self.layout.order:
-            yield from (made for made in self.blocks[name] if made.is_lifetime())
-
-    def alive_after(self, block, alive):
-        """What is alive at a block's end, where this is alive at its beginning."""
-        for made in self.blocks[block]:
-            alive = self.step(made, alive)
-        return alive
-
     @staticmethod
-    def step(made, alive):
-        if not made.is_lifetime():
-            return alive
-        place = {made.values[-1].what}
-        return alive | place if made.more.startswith('llvm.lifetime.start') else alive - place
+    def mark(made):
+        return made.more.split('.')[2] if made.is_lifetime() else None
 
-    def alive_before(self):
-        """What may be alive at each block's beginning, by any way to it."""
-        before = {name: frozenset() for name in self.layout.order}
-        work = list(self.layout.order)
+    def used_by(self, made):
+        return self.addresses.used_by(made) & frozenset(self.size)
+
+    def after(self, made, used):
+        """Which places were in use before, and after this one."""
+        mark = self.mark(made)
+        if mark is None:
+            return used | self.used_by(made)
+        place = frozenset([made.values[-1].what])
+        return used | place & self.kept if mark == 'start' else used - place
+
+    def before(self, made, wanted):
+        """Which places are still to be used before this one, where these are after it."""
+        if self.mark(made) == 'start':
+            return wanted - frozenset([made.values[-1].what])
+        return wanted | self.used_by(made)
+
+    def flowed(self, step, order, nexts, start):
+        """What holds at each block's one end, by all ways to it: `step` goes through a block."""
+        found = {name: start for name in self.layout.order}
+        work = list(order)
         while work:
             name = work.pop()
-            after = self.alive_after(name, before[name])
-            for target in self.layout.targets(name):
-                if not after <= before[target]:
-                    before[target] |= after
-                    work.append(target)
-        return before
+            through = found[name]
+            for made in self.blocks[name] if step == self.after else reversed(self.blocks[name]):
+                through = step(made, through)
+            for other in nexts(name):
+                if not through <= found[other]:
+                    found[other] |= through
+                    work.append(other)
+        return found
 
     def find_conflicts(self):
-        before = self.alive_before()
-        for name in self.layout.order:
-            alive = before[name]
-            self.conflict(alive)
-            for made in self.blocks[name]:
-                alive = self.step(made, alive)
-                if made.is_lifetime():
-                    self.conflict(alive)
-        for place in set(self.size) - self.marked:
-            self.conflict_with(place, self.size)
+        order = self.layout.order
+        used = self.flowed(self.after, order, self.layout.targets, self.always)
+        wanted = self.flowed(self.before, order[::-1], lambda name: self.layout.ways_in[name], self.kept)
+        for name in order:
+            self.find_in_block(name, used[name], wanted[name])
 
-    def conflict(self, alive):
-        for place in alive:
-            self.conflict_with(place, alive)
+    def find_in_block(self, name, used, wanted):
+        block = self.blocks[name]
+        later = [wanted]
+        for made in reversed(block):
+            later.append(self.before(made, later[-1]) | self.kept)
+        later.reverse()
+        for n, made in enumerate(block):
+            after = self.after(made, used)
+            self.conflict(self.used_by(made) | later[n + 1] & used | later[n + 1] & after)
+            used = after
 
-    def conflict_with(self, place, others):
-        for other in others:
-            if other != place:
-                self.conflicts[place].add(other)
-                self.conflicts[other].add(place)
+    def conflict(self, places):
+        for place in places:
+            self.conflicts[place] |= places - {place}
 
     def shared(self):
         """Rooms as lists of places, the largest first: each place goes to the first room without a conflict."""
