@@ -133,7 +133,7 @@ static void send_command(const struct kelifandro_host *host, const uint8_t *reco
                     : send_alone(host, &command, response);
     came = moved.good;
     if (command.response == KELIFANDRO_R2)
-        for (int i = 0; i < 15; i++)
+        for (unsigned i = 0; i < 15; i++)
             bytes[i] = (uint8_t)(response[i / 4] >> (24 - 8 * (i % 4)));
     else
         for (int i = 0; i < 4; i++)
