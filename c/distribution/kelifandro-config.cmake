@@ -1,6 +1,7 @@
-# find_package(kelifandro) gives the target kelifandro::kelifandro: the library of the processor that KELIFANDRO_PROCESSOR names, one of
-# lib/*, or of the one that CMake builds for. Where there is none, or KELIFANDRO_FROM_SOURCE is set, it is built of src/*.c, by the
-# project's own compiler and flags.
+# find_package(kelifandro) gives the target kelifandro::kelifandro: the library of the processor
+# that KELIFANDRO_PROCESSOR names, one of lib/*, or of the one that CMake builds for. Where there is
+# none, or KELIFANDRO_FROM_SOURCE is set, it is built of src/*.c, by the project's own compiler and
+# flags.
 get_filename_component(kelifandro_top "${CMAKE_CURRENT_LIST_DIR}/../../.." ABSOLUTE)
 if(NOT KELIFANDRO_PROCESSOR)
     set(KELIFANDRO_PROCESSOR "${CMAKE_SYSTEM_PROCESSOR}")
