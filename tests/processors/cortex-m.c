@@ -1,4 +1,5 @@
 /* Where a program for a Cortex-M begins, on QEMU's MPS2 boards: with the C library's own input and output, by semihosting. */
+#include <stdint.h>
 #include <stdlib.h>
 #include <string.h>
 
@@ -6,9 +7,16 @@ extern char bss_start[], bss_end[], stack_top[];
 int main(int words, char **word);
 void initialise_monitor_handles(void);
 
+/* In the System Control Block. */
+#define COPROCESSOR_ACCESS 0xe000ed88u
+enum { FLOATING_POINT = 15 << 20 };
+
 void reset(void)
 {
     static char *none[] = {0};
+#ifdef __ARM_FP
+    *(volatile uint32_t *)COPROCESSOR_ACCESS |= FLOATING_POINT;
+#endif
     memset(bss_start, 0, (size_t)(bss_end - bss_start));
     initialise_monitor_handles();
     exit(main(0, none));
