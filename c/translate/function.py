@@ -131,14 +131,17 @@ class FunctionWriter:
             self.line(1, '(void)%s;' % name)
 
     def write_room(self, room, sizes):
-        """An array, and further names of it by which places stand that share it."""
-        shown = [place for place in room if place in self.variables]
+        """An array of its own, or one that places share, with a name for each."""
+        shown = [(place, begin) for place, begin in room if place in self.variables]
         if not shown:
             return
-        first = self.variables[shown[0]]
-        self.line(1, 'uint8_t %s[%d];' % (first, max(1, sizes[shown[0]])))
-        for other in shown[1:]:
-            self.line(1, 'uint8_t *const %s = %s;' % (self.variables[other], first))
+        if len(shown) == 1:
+            self.line(1, 'uint8_t %s[%d];' % (self.variables[shown[0][0]], max(1, sizes[shown[0][0]])))
+            return
+        name = self.names.fresh('room', 'room')
+        self.line(1, 'uint8_t %s[%d];' % (name, max(begin + sizes[place] for place, begin in shown)))
+        for place, begin in shown:
+            self.line(1, 'uint8_t *const %s = %s;' % (self.variables[place], '%s + %d' % (name, begin) if begin else name))
 
     def write_root(self, root):
         if root != self.layout.entry:
