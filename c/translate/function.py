@@ -3,7 +3,7 @@ from .expressions import Expression, Expressions, at_address, cast, number
 from .flow import Folding, Layout, Uses
 from .names import Names
 from .places import Places
-from .reading import Refused, bits
+from .reading import Nothing, Refused, bits
 from .types import declared, type_of
 
 # Moves of so many bytes at most go by a place of their own; others by a loop.
@@ -261,8 +261,11 @@ class FunctionWriter:
         for made in self.layout.blocks[target]:
             if made.op != 'phi':
                 break
-            value = self.guarded(lambda made: self.operand(made.values[made.more.index(name)]), made)
-            if value.text != self.variable(made.name):
+            given = made.values[made.more.index(name)]
+            value = self.guarded(lambda made: self.operand(given), made)
+            if isinstance(given.what, Nothing):
+                self.line(depth, '%s = %s; /* any */' % (self.variable(made.name), value.text))
+            elif value.text != self.variable(made.name):
                 copies.append((made.type, self.variable(made.name), value))
         while copies:
             free = next((copy for copy in copies if not any(copy[1] in other[2].reads for other in copies if other is not copy)), None)
