@@ -11,7 +11,8 @@ from .reading import Refused
 from .types import declared, struct_name, type_of
 
 HEAD = '''/* Made by c/generate of the proved library: not for editing. C99, freestanding; it needs memcpy and memset, and the functions
-   kelifandro_put and kelifandro_get of kelifandro.c. Each function's name in Rattle stands above it. */
+   kelifandro_put and kelifandro_get of kelifandro.c. Each function's name in Rattle stands above it. What is
+   marked as any is of no weight: it may be any number. */
 #include "kelifandro_core.h"
 #include <stdbool.h>
 #include <stddef.h>

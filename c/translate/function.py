@@ -3,7 +3,7 @@ from .expressions import Expression, Expressions, at_address, cast, number
 from .flow import Folding, Layout, Uses
 from .names import Names
 from .places import Places
-from .reading import Refused, bits
+from .reading import Nothing, Refused, bits
 from .types import declared, type_of
 
 # Moves of so many bytes at most go by a place of their own; others by a loop.
@@ -131,14 +131,17 @@ class FunctionWriter:
             self.line(1, '(void)%s;' % name)
 
     def write_room(self, room, sizes):
-        """An array, and further names of it by which places stand that share it."""
-        shown = [place for place in room if place in self.variables]
+        """An array of its own, or one that places share, with a name for each."""
+        shown = [(place, begin) for place, begin in room if place in self.variables]
         if not shown:
             return
-        first = self.variables[shown[0]]
-        self.line(1, 'uint8_t %s[%d];' % (first, max(1, sizes[shown[0]])))
-        for other in shown[1:]:
-            self.line(1, 'uint8_t *const %s = %s;' % (self.variables[other], first))
+        if len(shown) == 1:
+            self.line(1, 'uint8_t %s[%d];' % (self.variables[shown[0][0]], max(1, sizes[shown[0][0]])))
+            return
+        name = self.names.fresh('room', 'room')
+        self.line(1, 'uint8_t %s[%d];' % (name, max(begin + sizes[place] for place, begin in shown)))
+        for place, begin in shown:
+            self.line(1, 'uint8_t *const %s = %s;' % (self.variables[place], '%s + %d' % (name, begin) if begin else name))
 
     def write_root(self, root):
         if root != self.layout.entry:
@@ -258,8 +261,11 @@ class FunctionWriter:
         for made in self.layout.blocks[target]:
             if made.op != 'phi':
                 break
-            value = self.guarded(lambda made: self.operand(made.values[made.more.index(name)]), made)
-            if value.text != self.variable(made.name):
+            given = made.values[made.more.index(name)]
+            value = self.guarded(lambda made: self.operand(given), made)
+            if isinstance(given.what, Nothing):
+                self.line(depth, '%s = %s; /* any */' % (self.variable(made.name), value.text))
+            elif value.text != self.variable(made.name):
                 copies.append((made.type, self.variable(made.name), value))
         while copies:
             free = next((copy for copy in copies if not any(copy[1] in other[2].reads for other in copies if other is not copy)), None)

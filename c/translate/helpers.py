@@ -129,13 +129,12 @@ def lesser_and_greater(n):
 
 def of_bits(n):
     """Zeros at the top and at the bottom, ones, and the bytes in the other order."""
-    kind = unsigned(n)
+    kind, wide = unsigned(n), unsigned(max(32, n))
     head = '%s %%s%d(%s a)\n{\n%%s\n}' % (kind, n, kind)
-    count = '    %s n = 0;\n    while (n < %d && !(a >> %s & 1u))\n        n++;\n    return n;'
-    ones = '    %s n = 0;\n    for (int i = 0; i < %d; i++)\n        n = (%s)(n + (a >> i & 1u));\n    return n;' % (kind, n, kind)
-    wide = unsigned(max(32, n))
+    count = '    %s n = 0;\n    while (n < %d && !((%s)a >> %s & 1u))\n        n++;\n    return n;'
+    ones = '    %s n = 0;\n    for (int i = 0; i < %d; i++)\n        n = (%s)(n + ((%s)a >> i & 1u));\n    return n;' % (kind, n, kind, wide)
     turned = ' | '.join('((%s)a >> %d & 255u) << %d' % (wide, 8 * k, n - 8 - 8 * k) for k in range(n // 8))
-    bodies = {'ctlz': count % (kind, n, '(%d - n)' % (n - 1)), 'cttz': count % (kind, n, 'n'), 'ctpop': ones,
+    bodies = {'ctlz': count % (kind, n, wide, '(%d - n)' % (n - 1)), 'cttz': count % (kind, n, wide, 'n'), 'ctpop': ones,
               'bswap': '    return (%s)(%s);' % (kind, turned)}
     return {'%s%d' % (name, n): head % (name, body) for name, body in bodies.items()}
 

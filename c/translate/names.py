@@ -23,8 +23,8 @@ class Names:
 
     def fresh(self, name, prefix):
         """A name like this one, in letters, digits and underscores."""
-        name = re.sub(r'\.(sroa|copyload|i)(?=\.|\d|$)', '', name)
-        name = re.sub(r'\W+', '_', name).strip('_')
+        name = re.sub(r'\.(sroa|copyload|i)(?=\.|\d|$)', '.', name)
+        name = re.sub(r'[\W_]+', '_', name).strip('_')
         if not re.match('[A-Za-z]', name):
             name = prefix + name
         made, n = name, 1

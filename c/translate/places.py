@@ -3,8 +3,8 @@
 An array is in use from the first access to it until the last one, by any way through the function; the IR's marks of its life end that
 earlier. Where its address is kept somewhere, every later access may be one to it: then the marks alone count."""
 
-# They keep no address.
-BYTES_CALLS = ('memcpy', 'memset', 'memmove')
+# Places begin at multiples of it.
+STEP = 4
 
 
 class Addresses:
@@ -152,13 +152,24 @@ class Places:
         for place in places:
             self.conflicts[place] |= places - {place}
 
-    def shared(self):
-        """Rooms as lists of places, the largest first: each place goes to the first room without a conflict."""
-        rooms = []
+    def offsets(self):
+        """Where each place would begin in one array: the largest first, as low as its conflicts allow."""
+        found = {}
         for place in sorted(self.size, key=lambda place: -self.size[place]):
-            room = next((room for room in rooms if not self.conflicts[place] & set(room)), None)
-            if room is None:
-                rooms.append([place])
-            else:
-                room.append(place)
+            begin = 0
+            for other in sorted(self.conflicts[place] & set(found), key=found.get):
+                if found[other] < begin + self.size[place] and begin < found[other] + self.size[other]:
+                    begin = (found[other] + self.size[other] + STEP - 1) // STEP * STEP
+            found[place] = begin
+        return found
+
+    def shared(self):
+        """Rooms: a size, and places with where they begin in it. What doesn't overlap with anything has its own."""
+        begins, rooms, end = self.offsets(), [], 0
+        for place in sorted(self.size, key=begins.get):
+            if not rooms or begins[place] >= end:
+                rooms.append([])
+                start, end = begins[place], begins[place]
+            rooms[-1].append((place, begins[place] - start))
+            end = max(end, begins[place] + self.size[place])
         return rooms

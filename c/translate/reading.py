@@ -12,11 +12,15 @@ PROMISES = set(
     internal local_unnamed_addr nocapture noalias nofree nonnull noundef private protected range readnone readonly returned
     signext sret unnamed_addr writable writeonly zeroext dead_on_return nofpclass'''.split()
 )
-MISSING = ('poison', 'undef', 'zeroinitializer', 'false', 'null')
+ZEROS, NOTHINGS = ('zeroinitializer', 'false', 'null'), ('poison', 'undef')
 
 
 class Refused(Exception):
     """Something in the IR that isn't translated, with the line that it stands in."""
+
+
+class Nothing(int):
+    """A number that may be any: zero where one is wanted."""
 
 
 class Value(NamedTuple):
@@ -136,8 +140,10 @@ class Line:
         word = self.next()
         if word[:1] in ('%', '@'):
             return Value(word[0], without_quotes(word[1:]), kind)
-        if word in MISSING:
+        if word in ZEROS:
             return Value('#', 0, kind)
+        if word in NOTHINGS:
+            return Value('#', Nothing(0), kind)
         if word == 'true' and kind == 'i1':
             return Value('#', 1, kind)
         if re.fullmatch(r'-?\d+', word) and kind != 'ptr':
