@@ -1,4 +1,5 @@
-/* Kelifandro for C: one SD card or eMMC device, behind a host controller of yours. For x86-64 processors with SSE4.2.
+/* Kelifandro for C: one SD card or eMMC device, behind a host controller of yours. For the processors of
+   c/processors.txt; as two C files for any other that keeps the lowest byte of a number first.
 
    A card is reached in one of two ways. `struct kelifandro_host` is a driver of a host controller, in decoded commands, as Linux's
    mmc_host_ops or coreboot's and U-Boot's send_cmd and set_ios have them. `struct kelifandro_registers` is the registers of an SD host
@@ -10,13 +11,16 @@
    or new and all others unchanged. What is trusted: kelifandro.c, your functions, that each of them returns, and that pointers lead to room
    which is there.
 
-   The library takes no memory, needs memcpy and memset alone, and less than 6 KiB of stack. It uses SSE registers and the red zone
-   below the stack pointer: an interrupt has to keep the former and run on another stack, or leave 128 bytes alone. Its calls
+   The library takes no memory, needs memcpy and memset, and of the compiler's own library its arithmetic (a division of 64 bits, on 32),
+   and less than 6 KiB of stack. It keeps to general registers, but that of x86_64, which uses SSE4.2 and the red zone below the stack
+   pointer: an interrupt has to keep the former and run on another stack, or leave 128 bytes alone; x86_64-kernel uses neither. Its calls
    must not overlap: not from two threads, and not from a function that it calls. */
 #ifndef KELIFANDRO_H
 #define KELIFANDRO_H
 #include <stddef.h>
 #include <stdint.h>
+
+#define KELIFANDRO_VERSION "0.1.0"
 
 #ifdef __cplusplus
 extern "C" {
@@ -173,7 +177,8 @@ enum kelifandro_part {
     KELIFANDRO_GP1,
     KELIFANDRO_GP2,
     KELIFANDRO_GP3,
-    KELIFANDRO_GP4
+    KELIFANDRO_GP4,
+    KELIFANDRO_NO_PART = 0x7fffffff /* no partition: so that a compiler for Arm takes four bytes for any of them */
 };
 
 /* What was met and healed since the card was opened, counted: by the answers alone a card that fails at every tenth command looks
