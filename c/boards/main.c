@@ -26,6 +26,14 @@ void end(int is_done)
         ;
 }
 
+/* Where the start files' vectors lead. */
+void fault(void);
+void fault(void)
+{
+    print("a fault of the processor\n");
+    end(0);
+}
+
 void expect_done(const char *what, int32_t result)
 {
     if (result == KELIFANDRO_DONE)

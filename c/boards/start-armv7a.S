@@ -1,5 +1,5 @@
 /* Where a program for ARMv7-A begins, with the MMU off: the first processor makes a stack and clears .bss, and the others sleep. An
-   access that isn't aligned is a fault, as on all memory while the MMU is off. */
+   access that isn't aligned is a fault, as on all memory while the MMU is off. Any fault ends the program. */
         .section .text.start, "ax"
         .globl start
         .arm
@@ -10,6 +10,8 @@ start:
 0:      wfi
         b 0b
 1:      ldr sp, =stack_top
+        ldr r0, =vectors
+        mcr p15, 0, r0, c12, c0, 0
         mrc p15, 0, r0, c1, c0, 0
         orr r0, r0, #2
         mcr p15, 0, r0, c1, c0, 0
@@ -22,3 +24,11 @@ start:
         str r2, [r0], #4
         b 2b
 3:      bl main
+
+        .balign 32
+vectors:
+        .rept 8
+        b 4f
+        .endr
+4:      ldr sp, =stack_top
+        bl fault

@@ -263,22 +263,20 @@ class FunctionWriter:
                 break
             given = made.values[made.more.index(name)]
             value = self.guarded(lambda made: self.operand(given), made)
-            if isinstance(given.what, Nothing):
-                self.line(depth, '%s = %s; /* any */' % (self.variable(made.name), value.text))
-            elif value.text != self.variable(made.name):
-                copies.append((made.type, self.variable(made.name), value))
+            if value.text != self.variable(made.name):
+                copies.append((made.type, self.variable(made.name), value, ' /* any */' * isinstance(given.what, Nothing)))
         while copies:
             free = next((copy for copy in copies if not any(copy[1] in other[2].reads for other in copies if other is not copy)), None)
             if free is None:
                 return self.write_circle(copies, depth)
-            self.line(depth, '%s = %s;' % (free[1], free[2].text))
+            self.line(depth, '%s = %s;%s' % (free[1], free[2].text, free[3]))
             copies.remove(free)
 
     def write_circle(self, copies, depth):
         self.line(depth, '{')
-        for n, (kind, _, value) in enumerate(copies):
-            self.line(depth + 1, '%s = %s;' % (declared(kind, 'next_%d' % n), value.text))
-        for n, (_, name, _) in enumerate(copies):
+        for n, (kind, _, value, any_number) in enumerate(copies):
+            self.line(depth + 1, '%s = %s;%s' % (declared(kind, 'next_%d' % n), value.text, any_number))
+        for n, (_, name, _, _) in enumerate(copies):
             self.line(depth + 1, '%s = next_%d;' % (name, n))
         self.line(depth, '}')
 

@@ -23,10 +23,12 @@ static uint64_t random_state;
 static uint32_t cid[4], csd[4], ocr, own_rca;
 static uint8_t scr[8], ext_csd[512], switch_status[64];
 static unsigned faults, garbled_registers, busy_rounds, busy_left;
-static int is_byte_addressed, is_old, is_locked;
+static int is_byte_addressed, is_old, is_locked, is_strict;
+/* How many looks at it find the card busy still, and how many readings of registers find the same dead controller. */
+static unsigned long stuck, dead;
+static uint32_t dead_value;
 /* What follows as data: the index of its command, or 0. */
 static unsigned asked;
-static int was_app;
 
 static uint32_t any(void)
 {
@@ -125,6 +127,8 @@ static void draw_card(int is_emmc)
     is_byte_addressed = one_in(3);
     is_old = one_in(8);
     is_locked = one_in(24);
+    is_strict = one_in(6);
+    stuck = dead = 0;
     busy_rounds = one_in(3) ? any() % 12 : 0;
     garble(cid, sizeof cid);
     draw_csd(is_emmc);
@@ -142,7 +146,7 @@ static void draw_card(int is_emmc)
 }
 
 /* The response of the card in memory, as this session's card gives it. */
-static void as_drawn(const struct kelifandro_command *command, uint32_t response[4], int is_app)
+static void as_drawn(const struct kelifandro_command *command, uint32_t response[4])
 {
     switch (command->index) {
     case 1:
@@ -168,8 +172,12 @@ static void as_drawn(const struct kelifandro_command *command, uint32_t response
     case 7:
         response[0] |= is_locked ? 1u << 25 : 0;
         break;
+    case 12:
+    case 13:
+        /* as after a read without a count up to the last sector */
+        response[0] |= is_strict && one_in(3) ? 1u << 31 : 0;
+        break;
     }
-    (void)is_app;
 }
 
 /* A response with one wrong thing: a bit, an error in the status, or all of it. */
@@ -204,15 +212,14 @@ static struct kelifandro_command as_sectors(struct kelifandro_command command)
 static int send(void *context, const struct kelifandro_command *command, uint32_t response[4])
 {
     struct kelifandro_command told = as_sectors(*command);
-    int is_app = card.is_app, fault;
+    int fault;
     if (command->index == 0)
         busy_left = busy_rounds;
     if (is_old && !card.is_emmc && command->index == 8)
         return KELIFANDRO_TIMEOUT;
     fault = card_host.send(context, &told, response);
     asked = command->index;
-    was_app = is_app;
-    as_drawn(command, response, is_app);
+    as_drawn(command, response);
     if (!goes_wrong())
         return fault;
     if (one_in(2))
@@ -258,6 +265,12 @@ static int write_block(void *context, const void *block)
 
 static int is_busy(void *context, uint32_t microseconds)
 {
+    if (stuck) {
+        stuck--;
+        return 1;
+    }
+    if (faults && one_in(400))
+        stuck = one_in(2) ? any() % 40 : any() % 40000;
     return goes_wrong() || (faults > 8000 && one_in(3)) || card_host.is_busy(context, microseconds);
 }
 
@@ -292,6 +305,14 @@ static int transfer(void *context, const struct kelifandro_command *command, uin
 static uint32_t read_register(void *context, unsigned offset, unsigned size)
 {
     uint32_t value = controller_registers.read(context, offset, size);
+    if (dead) {
+        dead--;
+        return dead_value;
+    }
+    if (garbled_registers && one_in(3000)) {
+        dead = any() % (one_in(2) ? 100 : 20000);
+        dead_value = one_in(2) ? 0 : one_in(2) ? value : any();
+    }
     if ((any() & 0xffff) >= garbled_registers)
         return value;
     return one_in(2) ? any() : value ^ 1u << any() % 32;

@@ -201,6 +201,8 @@ def loops():
              '%r = add i64 %u, %z', 'ret i64 %r'])
     function('phi_in_a_row', start + count + ['%x = phi i64 [ %a, %0 ], [ %y, %loop ]', '%y = phi i64 [ %b, %0 ], [ %i, %loop ]'] + end
              + ['%s = mul i64 %x, 3', '%r = add i64 %s, %y', 'ret i64 %r'])
+    function('phi_of_any', ['br label %loop', 'loop:', '%i = phi i64 [ 0, %0 ], [ 1, %loop ]', '%x = phi i64 [ %a, %0 ], [ undef, %loop ]',
+             '%y = phi i64 [ %b, %0 ], [ %x, %loop ]', '%c = icmp eq i64 %i, 0', 'br i1 %c, label %loop, label %end', 'end:', 'ret i64 %y'])
     function('phi_used_after', start + count + ['%x = phi i64 [ %a, %0 ], [ %y, %loop ]', '%y = add i64 %x, %i'] + end
              + ['%old = phi i64 [ %x, %loop ]', '%r = sub i64 %y, %old', 'ret i64 %r'])
     function('phi_of_addresses', ['%n = and i64 %b, 7', 'br label %loop', 'loop:', '%p = phi ptr [ %m, %0 ], [ %q, %loop ]',
