@@ -77,7 +77,7 @@ class Core:
         self.module = Module(text)
         self.prototypes = prototypes(header)
         self.given = {name: self.prototypes[called] for name, called in given.items() if called in self.prototypes}
-        self.names, self.helpers, self.structs = Names(), set(), {}
+        self.names, self.helpers = Names(), set()
         for name in self.prototypes:
             self.names.take(name)
         self.reserve_helpers()
@@ -132,7 +132,7 @@ class Core:
         rows = [', '.join(map(str, values[k:k + IN_A_ROW])) for k in range(0, len(values), IN_A_ROW)]
         return 'static const uint8_t %s[%d] = {\n    %s,\n};\n' % (self.tables[name], len(values), ',\n    '.join(rows))
 
-    def struct_texts(self, bodies):
+    def struct_texts(self):
         """The structs that the functions hand over."""
         found = {}
         for function in self.module.functions:
@@ -148,7 +148,7 @@ class Core:
         bodies = [self.function_text(function) for function in self.module.functions]
         all_text = '\n'.join(bodies)
         uses_128 = bool(re.search(r'\bu128', all_text)) or any('128' in name for name in self.helpers)
-        parts = [HEAD] + ([TYPE_128] if uses_128 else []) + list(self.struct_texts(bodies))
+        parts = [HEAD] + ([TYPE_128] if uses_128 else []) + list(self.struct_texts())
         parts += [text + '\n' for text in texts_of(self.helpers, uses_128)]
         parts += [self.table_text(name) for name in self.module.tables if re.search(r'\b%s\b' % self.tables[name], all_text)]
         parts.append('\n'.join(self.declaration(f) for f in self.module.functions if not f.is_exported) + '\n')

@@ -173,7 +173,8 @@ class Expressions:
         if kind == 'ptr':
             if predicate not in ('eq', 'ne'):
                 raise Refused('an order of addresses')
-            return infix(*self.around(map(self.operand, made.values), COMPARED[predicate]))
+            first, second = map(self.operand, made.values)
+            return infix(first, COMPARED[predicate], second)
         size = bits(kind)
         if width(size) == 128:
             return self.compared128(made, size)
@@ -184,11 +185,6 @@ class Expressions:
         if first.text.endswith('u') and second.text.endswith('u'):
             first = cast(kind if size > 1 else 'i8', first)
         return infix(first, COMPARED[predicate.lstrip('us') if predicate != 'eq' else 'eq'], second)
-
-    @staticmethod
-    def around(values, sign):
-        first, second = values
-        return first, sign, second
 
     def compared128(self, made, size):
         predicate = made.more
@@ -242,9 +238,9 @@ class Expressions:
         return self.operand(made.values[0])
 
     def select(self, made):
-        condition, then, otherwise = map(self.operand, made.values)
-        if condition.is_atom and made.values[0].type != 'i1':
+        if made.values[0].type != 'i1':
             raise Refused('a choice by more than one bit')
+        condition, then, otherwise = map(self.operand, made.values)
         if made.type == 'i1' and otherwise.text == 'false':
             return infix(condition, '&&', then)
         if made.type == 'i1' and then.text == 'true':

@@ -248,11 +248,6 @@ class FunctionWriter:
             self.write_block(target, depth)
         elif not (is_last and target == self.next_root):
             self.line(depth, 'goto %s;' % self.label(target))
-        else:
-            self.fall_into(target)
-
-    def fall_into(self, target):
-        self.label(target)
 
     def write_copies(self, name, target, depth):
         """Sets the variables of a block's phis, all at once: one that another one reads is set after it, those of a circle by

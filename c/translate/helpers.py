@@ -143,13 +143,14 @@ def with_signs(n):
     """Numbers with signs as C has them, and their division by what they are without."""
     kind, top, signed = unsigned(n), number_text(1 << n - 1, n), 'int%d_t' % n
     negative = '%s negative%d(%s a)\n{\n    return (%s)(0u - a);\n}' % (kind, n, kind, kind)
-    made = 'int%d_t signed%d(%s a)\n{\n    return (%s)(a < %s ? (%s)a : -(%s)(%s)~a - 1);\n}' % (
-        n, n, kind, signed, top, signed, signed, kind)
+    made = 'int%d_t signed%d(%s a)\n{\n    return (%s)(a < %s ? (%s)a : -(%s)(%s)~a - 1);\n}'
+    made %= (n, n, kind, signed, top, signed, signed, kind)
     size = '%s x = a < %s ? a : negative%d(a);\n    %s y = b < %s ? b : negative%d(b);' % (kind, top, n, kind, top, n)
     head = '%s %%s%d(%s a, %s b)\n{\n    %s\n    %%s\n}' % (kind, n, kind, kind, size)
     quotient = '%s q = (%s)(x / y);\n    return (a ^ b) < %s ? q : negative%d(q);' % (kind, kind, top, n)
     rest = '%s r = (%s)(x %% y);\n    return a < %s ? r : negative%d(r);' % (kind, kind, top, n)
-    return {'negative%d' % n: negative, 'signed%d' % n: made, 'sdiv%d' % n: head % ('sdiv', quotient), 'srem%d' % n: head % ('srem', rest)}
+    return {'negative%d' % n: negative, 'signed%d' % n: made, 'sdiv%d' % n: head % ('sdiv', quotient),
+            'srem%d' % n: head % ('srem', rest)}
 
 
 def all_helpers():
@@ -161,7 +162,8 @@ def all_helpers():
         for made in (lesser_and_greater(n), of_bits(n), with_signs(n)):
             found.update(made)
     for name, sign in (('and', '&'), ('or', '|'), ('xor', '^')):
-        found['u128_' + name] = 'u128 u128_%s(u128 a, u128 b)\n{\n    return u128_of(a.hi %s b.hi, a.lo %s b.lo);\n}' % (name, sign, sign)
+        head = 'u128 u128_%s(u128 a, u128 b)' % name
+        found['u128_' + name] = head + '\n{\n    return u128_of(a.hi %s b.hi, a.lo %s b.lo);\n}' % (sign, sign)
     found.update({'u128_add': ADD_128, 'u128_sub': SUB_128, 'u128_eq': EQ_128, 'u128_lt': LT_128, 'u128_lshr': LSHR_128,
                   'u128_shl': SHL_128, 'u128_bswap': BSWAP_128, 'load128': LOAD_128, 'store128': STORE_128})
     return found

@@ -1,6 +1,6 @@
 /* Stands between kelifandro.c and the library, by the linker's --wrap, and keeps a hash over all that passes: each record that is put,
-   each answer that is got, and of each call its result, the bytes of the card, but for its padding, and of what is healed, and the blocks that it read. Tells
-   at the end how many passed and the hash. */
+   each answer that is got, and of each call its result, the bytes of the card, but for its padding, and of what is healed, and the blocks
+   that it read. Tells at the end how many passed and the hash. */
 #include <stdio.h>
 #include "../../c/kelifandro.h"
 #include "../../c/kelifandro_core.h"
@@ -73,7 +73,8 @@ WRAPPED(int32_t, kelifandro_read_by, (uint8_t way, void *card, void *healed, uin
     return result;
 }
 
-WRAPPED(int32_t, kelifandro_write_by, (uint8_t way, void *card, void *healed, uint8_t part, uint64_t start, const void *blocks, uint64_t count))
+WRAPPED(int32_t, kelifandro_write_by,
+        (uint8_t way, void *card, void *healed, uint8_t part, uint64_t start, const void *blocks, uint64_t count))
 {
     return ended(__real_kelifandro_write_by(way, card, healed, part, start, blocks, count), card, healed);
 }
