@@ -12,9 +12,9 @@
    which is there.
 
    The library takes no memory, needs memcpy and memset, and of the compiler's own library its arithmetic (a division of 64 bits, on 32),
-   and less than 6 KiB of stack. It keeps to general registers, but that of x86_64, which uses SSE4.2 and the red zone below the stack
-   pointer: an interrupt has to keep the former and run on another stack, or leave 128 bytes alone; x86_64-kernel uses neither. Its calls
-   must not overlap: not from two threads, and not from a function that it calls. */
+   and less than 9 KiB of stack (README has it by processor). It keeps to general registers, but that of x86_64, which uses SSE4.2 and the
+   red zone below the stack pointer: an interrupt has to keep the former and run on another stack, or leave 128 bytes alone; x86_64-kernel
+   uses neither. Its calls must not overlap: not from two threads, and not from a function that it calls. */
 #ifndef KELIFANDRO_H
 #define KELIFANDRO_H
 #include <stddef.h>
