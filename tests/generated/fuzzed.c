@@ -1,6 +1,4 @@
 /* Gives the fuzzer's harness, which judges each call, bytes of any kind, the same each time: so many inputs. */
-#include <stdio.h>
-#include <stdlib.h>
 #include "../fuzz/fuzz.c"
 
 enum { LONGEST_INPUT = 200 };
