@@ -16,6 +16,7 @@ HAS_PLACE(cause, 11);
 HAS_PLACE(rca, 12);
 HAS_PLACE(cid, 14);
 HAS_PLACE(csd, 30);
+HAS_PLACE(unused, 46);
 HAS_PLACE(user, 48);
 HAS_PLACE(gp4, 88);
 HAS_PLACE(erase_unit, 96);
@@ -340,46 +341,68 @@ static uint8_t begin(const struct kelifandro *kelifandro)
     return 1;
 }
 
+/* The two bytes that nothing is kept in: the library may leave any there. */
+static void clear(struct kelifandro_card *card)
+{
+    card->unused[0] = card->unused[1] = 0;
+}
+
 int32_t kelifandro_open(struct kelifandro *kelifandro)
 {
+    int32_t result;
     if (!has_way(kelifandro))
         return KELIFANDRO_NO_HOST;
-    return kelifandro_open_by(begin(kelifandro), &kelifandro->card, &kelifandro->healed);
+    result = kelifandro_open_by(begin(kelifandro), &kelifandro->card, &kelifandro->healed);
+    clear(&kelifandro->card);
+    return result;
+}
+
+/* Reads into the memory, or writes what is there. */
+static int32_t move(struct kelifandro *kelifandro, enum kelifandro_part part, uint64_t start, size_t count, void *bytes, int is_write)
+{
+    int32_t result;
+    if (!has_way(kelifandro))
+        return KELIFANDRO_NO_HOST;
+    memory = memory_of(bytes, count);
+    result = is_write ? kelifandro_write_by(begin(kelifandro), &kelifandro->card, &kelifandro->healed, part_number(part), start,
+                                            memory, at_most(count))
+                      : kelifandro_read_by(begin(kelifandro), &kelifandro->card, &kelifandro->healed, part_number(part), start,
+                                           memory, at_most(count));
+    clear(&kelifandro->card);
+    return ended(kelifandro, result);
 }
 
 int32_t kelifandro_read(struct kelifandro *kelifandro, enum kelifandro_part part, uint64_t start, size_t count, void *bytes)
 {
-    if (!has_way(kelifandro))
-        return KELIFANDRO_NO_HOST;
-    memory = memory_of(bytes, count);
-    return ended(kelifandro, kelifandro_read_by(begin(kelifandro), &kelifandro->card, &kelifandro->healed, part_number(part), start,
-                                              memory, at_most(count)));
+    return move(kelifandro, part, start, count, bytes, 0);
 }
 
 int32_t kelifandro_write(struct kelifandro *kelifandro, enum kelifandro_part part, uint64_t start, size_t count,
                          const void *bytes)
 {
+    return move(kelifandro, part, start, count, (void *)bytes, 1);
+}
+
+/* Erases the sectors, or trims them. */
+static int32_t give_up(struct kelifandro *kelifandro, enum kelifandro_part part, uint64_t start, uint64_t count, int is_trim)
+{
+    int32_t result;
     if (!has_way(kelifandro))
         return KELIFANDRO_NO_HOST;
-    memory = memory_of(bytes, count);
-    return ended(kelifandro, kelifandro_write_by(begin(kelifandro), &kelifandro->card, &kelifandro->healed, part_number(part), start,
-                                               memory, at_most(count)));
+    result = (is_trim ? kelifandro_trim_by : kelifandro_erase_by)(begin(kelifandro), &kelifandro->card, &kelifandro->healed,
+                                                                  part_number(part), start, count);
+    clear(&kelifandro->card);
+    return ended(kelifandro, result);
 }
 
 int32_t kelifandro_erase(struct kelifandro *kelifandro, enum kelifandro_part part, uint64_t start, uint64_t count)
 {
-    if (!has_way(kelifandro))
-        return KELIFANDRO_NO_HOST;
-    return ended(kelifandro, kelifandro_erase_by(begin(kelifandro), &kelifandro->card, &kelifandro->healed, part_number(part),
-                                            start, count));
+    return give_up(kelifandro, part, start, count, 0);
 }
 
 int32_t kelifandro_trim(struct kelifandro *kelifandro, enum kelifandro_part part, uint64_t start, uint64_t count)
 {
-    if (!has_way(kelifandro))
-        return KELIFANDRO_NO_HOST;
-    return ended(kelifandro, kelifandro_trim_by(begin(kelifandro), &kelifandro->card, &kelifandro->healed, part_number(part),
-                                           start, count));
+    return give_up(kelifandro, part, start, count, 1);
 }
 
 enum { LONGEST_REQUEST = 1024 };

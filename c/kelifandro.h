@@ -172,6 +172,7 @@ struct kelifandro_card {
     uint8_t cause;
     uint16_t rca;
     uint8_t cid[16], csd[16];
+    uint8_t unused[2]; /* 0 after each call */
     uint64_t user, boot, gp1, gp2, gp3, gp4; /* sectors of 512 bytes; 0 where there is no such partition */
     uint64_t erase_unit;                     /* sectors */
 };
