@@ -4,22 +4,30 @@
    names `write` and `read` of the C library, which c/build gives the names kelifandro_put and kelifandro_get. Here they become calls of
    the functions that the caller gave. No file is opened. */
 #include "kelifandro.h"
+#include "kelifandro_core.h"
 
 /* The proved library reads and writes struct kelifandro_card by these places (crates/mmc_record/src/record.rt), and counts in eight
-   numbers (crates/mmc_recovery/src/healed.rt). */
-#define HAS_PLACE(field, place) _Static_assert(offsetof(struct kelifandro_card, field) == (place), #field)
+   numbers (crates/mmc_recovery/src/healed.rt), the lowest byte of each first. An array of -1 is refused on any processor where that
+   isn't so. */
+#define IS_SO(name, is_so) typedef char name##_is_there[(is_so) ? 1 : -1]
+#define HAS_PLACE(field, place) IS_SO(field, offsetof(struct kelifandro_card, field) == (place))
 HAS_PLACE(state, 0);
 HAS_PLACE(cause, 11);
 HAS_PLACE(rca, 12);
 HAS_PLACE(cid, 14);
 HAS_PLACE(csd, 30);
+HAS_PLACE(unused, 46);
 HAS_PLACE(user, 48);
 HAS_PLACE(gp4, 88);
 HAS_PLACE(erase_unit, 96);
-_Static_assert(sizeof(struct kelifandro_card) == 104, "struct kelifandro_card");
-_Static_assert(offsetof(struct kelifandro_healed, by_recovery) == 40, "by_recovery");
-_Static_assert(offsetof(struct kelifandro_healed, resets) == 56, "resets");
-_Static_assert(sizeof(struct kelifandro_healed) == 64, "struct kelifandro_healed");
+IS_SO(card, sizeof(struct kelifandro_card) == 104);
+IS_SO(by_recovery, offsetof(struct kelifandro_healed, by_recovery) == 40);
+IS_SO(resets, offsetof(struct kelifandro_healed, resets) == 56);
+IS_SO(healed, sizeof(struct kelifandro_healed) == 64);
+IS_SO(part, sizeof(enum kelifandro_part) == 4);
+#if defined __BYTE_ORDER__ && __BYTE_ORDER__ != __ORDER_LITTLE_ENDIAN__
+#error "struct kelifandro_card has the lowest byte of a number first: this processor has the highest first"
+#endif
 
 enum {
     SEND = 1,
@@ -126,7 +134,7 @@ static void send_command(const struct kelifandro_host *host, const uint8_t *reco
                     : send_alone(host, &command, response);
     came = moved.good;
     if (command.response == KELIFANDRO_R2)
-        for (int i = 0; i < 15; i++)
+        for (unsigned i = 0; i < 15; i++)
             bytes[i] = (uint8_t)(response[i / 4] >> (24 - 8 * (i % 4)));
     else
         for (int i = 0; i < 4; i++)
@@ -228,11 +236,8 @@ static void write_port(const struct kelifandro_registers *registers, const uint8
         registers->write(registers->context, 0x20, 4, number(bytes + i, 4));
 }
 
-long kelifandro_put(int stream, const uint8_t *bytes, size_t n);
-long kelifandro_get(int stream, uint8_t *bytes, size_t n);
-
 /* A record, or the block behind WRITE_BLOCK. */
-long kelifandro_put(int stream, const uint8_t *bytes, size_t n)
+int64_t kelifandro_put(int32_t stream, const uint8_t *bytes, uint64_t n)
 {
     (void)stream;
     answered = taken = 0;
@@ -240,30 +245,30 @@ long kelifandro_put(int stream, const uint8_t *bytes, size_t n)
         int status = now->host->write_block ? now->host->write_block(now->host->context, bytes) : 2;
         operation = 0;
         answers_byte(status == 0 ? 1 : status == 1 ? 2 : 0);
-        return (long)n;
+        return (int64_t)n;
     }
     if (operation == WRITE_PORT && n == 512) {
         operation = 0;
-        write_port(now->registers, bytes, n);
-        return (long)n;
+        write_port(now->registers, bytes, (size_t)n);
+        return (int64_t)n;
     }
     operation = bytes[0];
     if (now->host)
         of_host(now->host, bytes);
     else
         of_registers(now->registers, bytes);
-    return (long)n;
+    return (int64_t)n;
 }
 
 /* What came of the last record: of READ_BLOCK a whole block, one byte of a bad one, or nothing. */
-long kelifandro_get(int stream, uint8_t *bytes, size_t n)
+int64_t kelifandro_get(int32_t stream, uint8_t *bytes, uint64_t n)
 {
     (void)stream;
     if (operation == READ_BLOCK && now->host) {
         operation = 0;
-        switch (read_alone(now->host, bytes, n)) {
+        switch (read_alone(now->host, bytes, (size_t)n)) {
         case 0:
-            return (long)n;
+            return (int64_t)n;
         case 1:
             return 1;
         default:
@@ -272,32 +277,21 @@ long kelifandro_get(int stream, uint8_t *bytes, size_t n)
     }
     if (operation == READ_PORT && now->registers) {
         operation = 0;
-        read_port(now->registers, bytes, n);
-        return (long)n;
+        read_port(now->registers, bytes, (size_t)n);
+        return (int64_t)n;
     }
     /* a block that has come to its place, or one that failed there */
     if (operation == READ_WITH && n == 512 && taken == answered) {
         if (!came)
             return 0;
         came--;
-        return (long)n;
+        return (int64_t)n;
     }
     size_t i = 0;
     while (i < n && taken < answered)
         bytes[i++] = answer[taken++];
-    return (long)i;
+    return (int64_t)i;
 }
-
-/* The proved library. `way` is 0 for a host, 1 for registers. */
-int32_t kelifandro_open_by(uint8_t way, struct kelifandro_card *card, struct kelifandro_healed *healed);
-int32_t kelifandro_read_by(uint8_t way, struct kelifandro_card *card, struct kelifandro_healed *healed, uint8_t part,
-                           uint64_t start, uint8_t (*blocks)[512], size_t count);
-int32_t kelifandro_write_by(uint8_t way, struct kelifandro_card *card, struct kelifandro_healed *healed, uint8_t part,
-                            uint64_t start, const uint8_t (*blocks)[512], size_t count);
-int32_t kelifandro_erase_by(uint8_t way, struct kelifandro_card *card, struct kelifandro_healed *healed, uint8_t part,
-                            uint64_t start, uint64_t count);
-int32_t kelifandro_trim_by(uint8_t way, struct kelifandro_card *card, struct kelifandro_healed *healed, uint8_t part,
-                           uint64_t start, uint64_t count);
 
 static int has_way(const struct kelifandro *kelifandro)
 {
@@ -317,7 +311,7 @@ static void *memory_of(const void *bytes, size_t count)
 }
 
 /* More blocks than a request may name are one more: it is refused before any is touched. */
-static size_t at_most(size_t count)
+static uint64_t at_most(size_t count)
 {
     return count > 1024 ? 1025 : count;
 }
@@ -347,46 +341,68 @@ static uint8_t begin(const struct kelifandro *kelifandro)
     return 1;
 }
 
+/* The two bytes that nothing is kept in: the library may leave any there. */
+static void clear(struct kelifandro_card *card)
+{
+    card->unused[0] = card->unused[1] = 0;
+}
+
 int32_t kelifandro_open(struct kelifandro *kelifandro)
 {
+    int32_t result;
     if (!has_way(kelifandro))
         return KELIFANDRO_NO_HOST;
-    return kelifandro_open_by(begin(kelifandro), &kelifandro->card, &kelifandro->healed);
+    result = kelifandro_open_by(begin(kelifandro), &kelifandro->card, &kelifandro->healed);
+    clear(&kelifandro->card);
+    return result;
+}
+
+/* Reads into the memory, or writes what is there. */
+static int32_t move(struct kelifandro *kelifandro, enum kelifandro_part part, uint64_t start, size_t count, void *bytes, int is_write)
+{
+    int32_t result;
+    if (!has_way(kelifandro))
+        return KELIFANDRO_NO_HOST;
+    memory = memory_of(bytes, count);
+    result = is_write ? kelifandro_write_by(begin(kelifandro), &kelifandro->card, &kelifandro->healed, part_number(part), start,
+                                            memory, at_most(count))
+                      : kelifandro_read_by(begin(kelifandro), &kelifandro->card, &kelifandro->healed, part_number(part), start,
+                                           memory, at_most(count));
+    clear(&kelifandro->card);
+    return ended(kelifandro, result);
 }
 
 int32_t kelifandro_read(struct kelifandro *kelifandro, enum kelifandro_part part, uint64_t start, size_t count, void *bytes)
 {
-    if (!has_way(kelifandro))
-        return KELIFANDRO_NO_HOST;
-    memory = memory_of(bytes, count);
-    return ended(kelifandro, kelifandro_read_by(begin(kelifandro), &kelifandro->card, &kelifandro->healed, part_number(part), start,
-                                              memory, at_most(count)));
+    return move(kelifandro, part, start, count, bytes, 0);
 }
 
 int32_t kelifandro_write(struct kelifandro *kelifandro, enum kelifandro_part part, uint64_t start, size_t count,
                          const void *bytes)
 {
+    return move(kelifandro, part, start, count, (void *)bytes, 1);
+}
+
+/* Erases the sectors, or trims them. */
+static int32_t give_up(struct kelifandro *kelifandro, enum kelifandro_part part, uint64_t start, uint64_t count, int is_trim)
+{
+    int32_t result;
     if (!has_way(kelifandro))
         return KELIFANDRO_NO_HOST;
-    memory = memory_of(bytes, count);
-    return ended(kelifandro, kelifandro_write_by(begin(kelifandro), &kelifandro->card, &kelifandro->healed, part_number(part), start,
-                                               memory, at_most(count)));
+    result = (is_trim ? kelifandro_trim_by : kelifandro_erase_by)(begin(kelifandro), &kelifandro->card, &kelifandro->healed,
+                                                                  part_number(part), start, count);
+    clear(&kelifandro->card);
+    return ended(kelifandro, result);
 }
 
 int32_t kelifandro_erase(struct kelifandro *kelifandro, enum kelifandro_part part, uint64_t start, uint64_t count)
 {
-    if (!has_way(kelifandro))
-        return KELIFANDRO_NO_HOST;
-    return ended(kelifandro, kelifandro_erase_by(begin(kelifandro), &kelifandro->card, &kelifandro->healed, part_number(part),
-                                            start, count));
+    return give_up(kelifandro, part, start, count, 0);
 }
 
 int32_t kelifandro_trim(struct kelifandro *kelifandro, enum kelifandro_part part, uint64_t start, uint64_t count)
 {
-    if (!has_way(kelifandro))
-        return KELIFANDRO_NO_HOST;
-    return ended(kelifandro, kelifandro_trim_by(begin(kelifandro), &kelifandro->card, &kelifandro->healed, part_number(part),
-                                           start, count));
+    return give_up(kelifandro, part, start, count, 1);
 }
 
 enum { LONGEST_REQUEST = 1024 };
@@ -461,8 +477,9 @@ uint64_t kelifandro_sectors(const struct kelifandro *kelifandro, enum kelifandro
         return card->gp3;
     case KELIFANDRO_GP4:
         return card->gp4;
+    default:
+        return 0;
     }
-    return 0;
 }
 
 const char *kelifandro_text(int32_t result)

@@ -1,4 +1,5 @@
-/* Kelifandro for C: one SD card or eMMC device, behind a host controller of yours. For x86-64 processors with SSE4.2.
+/* Kelifandro for C: one SD card or eMMC device, behind a host controller of yours. For the processors of
+   c/processors.txt; as two C files for any other that keeps the lowest byte of a number first.
 
    A card is reached in one of two ways. `struct kelifandro_host` is a driver of a host controller, in decoded commands, as Linux's
    mmc_host_ops or coreboot's and U-Boot's send_cmd and set_ios have them. `struct kelifandro_registers` is the registers of an SD host
@@ -10,13 +11,16 @@
    or new and all others unchanged. What is trusted: kelifandro.c, your functions, that each of them returns, and that pointers lead to room
    which is there.
 
-   The library takes no memory, needs memcpy and memset alone, and less than 6 KiB of stack. It uses SSE registers and the red zone
-   below the stack pointer: an interrupt has to keep the former and run on another stack, or leave 128 bytes alone. Its calls
-   must not overlap: not from two threads, and not from a function that it calls. */
+   The library takes no memory, needs memcpy and memset, and of the compiler's own library its arithmetic (a division of 64 bits, on 32),
+   and less than 9 KiB of stack (README has it by processor). It keeps to general registers, but that of x86_64, which uses SSE4.2 and the
+   red zone below the stack pointer: an interrupt has to keep the former and run on another stack, or leave 128 bytes alone; x86_64-kernel
+   uses neither. Its calls must not overlap: not from two threads, and not from a function that it calls. */
 #ifndef KELIFANDRO_H
 #define KELIFANDRO_H
 #include <stddef.h>
 #include <stdint.h>
+
+#define KELIFANDRO_VERSION "0.1.0"
 
 #ifdef __cplusplus
 extern "C" {
@@ -45,9 +49,10 @@ enum kelifandro_result {
     KELIFANDRO_FAILED_STATUS = -12,
     KELIFANDRO_FAILED_BUSY = -13,
     KELIFANDRO_FAILED_RECOVERY = -14,
-    /* There is no card, or it doesn't answer. */
+    /* There is no card, or it doesn't answer; or its first blocks (SCR, switch status, EXT_CSD) don't come. */
     KELIFANDRO_NO_CARD = -20,
-    /* The card says what no card that is served may say: a register, or how it is addressed. */
+    /* The card says what no card that is served may say: a register, or how it is addressed. Of a card that works elsewhere look at the
+       words of R2. */
     KELIFANDRO_UNSUPPORTED = -21,
     /* The controller has no 3.3 V, or doesn't tell its base clock, or has no card in it. */
     KELIFANDRO_NO_VOLTAGE = -22,
@@ -91,14 +96,16 @@ struct kelifandro_moved {
 };
 
 /* A host controller. Before kelifandro_open the card has had 3.3 V and a clock of at most 400 kHz for a millisecond and 74 clocks (SD
-   Physical Layer 6.00, section 6.4.1), on one data line: no function asks for that. Each has a time to keep: docs/PORTING.md. */
+   Physical Layer 6.00, section 6.4.1), on one data line: no function asks for that. Each has a time to keep: docs/PORTING.md. All have to
+   be set but `transfer`. */
 struct kelifandro_host {
     void *context;
-    /* The most data lines that are wired, 1, 4 or 8, and whether it has high speed. */
+    /* The most data lines that are wired, 1, 4 or 8 (any other number is 1), and whether it has high speed. */
     uint8_t lines;
     uint8_t high_speed;
-    /* Sends a command and waits for its response, for 64 clocks at least: 0 where it was heard, or where none comes
-       (KELIFANDRO_NO_RESPONSE), otherwise why not. Bits 39 to 8 of a short response go to response[0]; of R2 bits 127 to 96 to
+    /* Sends a command and waits for its response, for 64 clocks at least: 0 where it was heard, and for a command that has none
+       (KELIFANDRO_NO_RESPONSE); otherwise why it wasn't heard. Data of an earlier command may have been given up: what is left of it in
+       the controller is dropped first. Bits 39 to 8 of a short response go to response[0]; of R2 bits 127 to 96 to
        response[0], and so on; bits 7 to 0, the check, aren't used. It judges checks and indexes. */
     int (*send)(void *context, const struct kelifandro_command *command, uint32_t response[4]);
     /* Reads the next block: 0 a good one, 1 a bad one, 2 none within 100 ms. */
@@ -108,22 +115,25 @@ struct kelifandro_host {
     /* Waits until the card lets DAT0 go, or so many microseconds are over: 1 where it's still low then, otherwise 0, at once. It is asked
        after each block that was accepted, and after each R1B; up to sixteen times where the answer is 1. */
     int (*is_busy)(void *context, uint32_t microseconds);
-    /* Sets how many data lines are in use, the timing, and the clock, to so many hertz at most. No data is under way then. */
+    /* Sets how many data lines are in use, the timing, and the clock, to so many hertz at most. No data is under way then. It is told
+       before the first command of each call, mostly what is set already. */
     void (*set_ios)(void *context, int lines, int high_speed, uint32_t hertz);
     /* Waits so long at least. */
     void (*pause)(void *context, uint32_t microseconds);
     /* May be 0. A command and its blocks by one call: sends the command as `send` does, and answers as `send`. Where the response was
        heard it moves the first of the blocks, of command->block_length bytes, one after the other from `memory` on: reads them into
        it, or writes them. `blocks` have room; it may move fewer, as the controller can, even none. It ends after a block that isn't
-       good or accepted. Between two that it writes it waits until the card is no longer busy, and ends where that takes too long.
+       good or accepted. Between two that it writes it waits until the card is no longer busy, for 512 ms at most, and ends where that takes
+       longer; after the last one is_busy is asked.
        `moved` is zero before. What it hasn't moved is asked for by read_block, write_block and is_busy. `memory` is what the caller of
-       kelifandro_read or kelifandro_write gave, or 512 bytes of the library's; only a command that reads may change it.
-       Where it always moves all, `send`, `read_block` and `write_block` may be 0. */
+       kelifandro_read or kelifandro_write gave, or 512 bytes of the library's, with any alignment; only a command that reads may change
+       it. Where it always moves all, `send`, `read_block` and `write_block` may be 0: a block that it leaves is one that didn't come. */
     int (*transfer)(void *context, const struct kelifandro_command *command, uint32_t response[4], void *memory, size_t blocks,
                     struct kelifandro_moved *moved);
 };
 
-/* Why `send` heard no response; any other number but 0 is as a timeout. */
+/* Why `send` heard no response; any other number but 0 is as a timeout. Each is a response that was lost: who can't tell gives
+   KELIFANDRO_TIMEOUT. */
 enum kelifandro_fault { KELIFANDRO_TIMEOUT = 1, KELIFANDRO_BAD_CHECK, KELIFANDRO_BAD_END_BIT, KELIFANDRO_OTHER_INDEX };
 
 /* The registers of an SD host controller. Accesses have 1 or 4 bytes, lie in one word of 4, and reach the controller in order. */
@@ -162,6 +172,7 @@ struct kelifandro_card {
     uint8_t cause;
     uint16_t rca;
     uint8_t cid[16], csd[16];
+    uint8_t unused[2]; /* 0 after each call */
     uint64_t user, boot, gp1, gp2, gp3, gp4; /* sectors of 512 bytes; 0 where there is no such partition */
     uint64_t erase_unit;                     /* sectors */
 };
@@ -173,7 +184,8 @@ enum kelifandro_part {
     KELIFANDRO_GP1,
     KELIFANDRO_GP2,
     KELIFANDRO_GP3,
-    KELIFANDRO_GP4
+    KELIFANDRO_GP4,
+    KELIFANDRO_NO_PART = 0x7fffffff /* no partition: so that a compiler for Arm takes four bytes for any of them */
 };
 
 /* What was met and healed since the card was opened, counted: by the answers alone a card that fails at every tenth command looks

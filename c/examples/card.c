@@ -1,9 +1,10 @@
 #include "card.h"
 
 enum { IDLE, READY, IDENT, STBY, TRAN, DATA, RCV, PRG };
-enum { OUT_OF_RANGE = 1u << 31, ILLEGAL_COMMAND = 1u << 22, READY_FOR_DATA = 1u << 8 };
+static const uint32_t OUT_OF_RANGE = 1u << 31;
+enum { ILLEGAL_COMMAND = 1 << 22, READY_FOR_DATA = 1 << 8 };
 enum { SWITCH_ERROR = 1u << 7, APP_CMD = 1u << 5 };
-enum { UNTIL_STOPPED = 0xffffffffu };
+static const uint32_t UNTIL_STOPPED = 0xffffffffu;
 
 /* Registers, without their checks, bits 127 to 8. */
 static const uint32_t CID[4] = {0x01000000, 0x4b454c49, 0x00000000, 0x00010000};

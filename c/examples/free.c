@@ -1,5 +1,6 @@
 /* The library without a C library and without an operating system's: opens a card, writes, reads back, and ends with status 0 where
-   what was read is what was written. It prints the bytes of stack that opening, writing and reading took. */
+   what was read is what was written. It prints the bytes of stack that opening, writing and reading took, and reading once the card had lost its
+   power. */
 #include "card.h"
 
 static struct card card;
@@ -71,9 +72,14 @@ static int whole(void)
     if (kelifandro_read(&sd, KELIFANDRO_USER, 7, 16, back))
         return 3;
     print("stack of read", used());
+    card.state = 0;
+    fill();
+    if (kelifandro_read(&sd, KELIFANDRO_USER, 7, 16, back))
+        return 4;
+    print("stack of read after a loss of power", used());
     for (int i = 0; i < 16 * 512; i++)
         if (data[i] != back[i])
-            return 4;
+            return 5;
     return 0;
 }
 

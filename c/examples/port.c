@@ -1,6 +1,6 @@
 /* What a port begins with: a driver of your host controller, as the library wants it, and the calls of a boot loader. Replace the
    functions' bodies by what your controller does; with an SD host controller give `struct kelifandro_registers` instead
-   (c/boot/main.c). */
+   (c/boards). */
 #include "../kelifandro.h"
 
 static int port_send(void *context, const struct kelifandro_command *command, uint32_t response[4])

@@ -55,17 +55,16 @@ def facts_that_differ(documents):
 
 
 def sizes_that_differ(documents):
-    """Code and stack of the library for C, as COSTS has them; tests/c/run measures both."""
-    costs = documents.texts[COSTS]
-    code = number(re.search(r"^\| code, [^|]*\| ([\d,]+)", costs, re.M)[1])
-    stack = max(number(it) for it in re.search(r"^\| stack of opening[^|]*\| ([^|]*) \|", costs, re.M)[1].split(", "))
-    for name, text in documents.texts.items():
+    """Code and stack of the library for C, as README's table has them, which tests/processors/sizes measures."""
+    rows = re.findall(r"^\| [\w-]+ \| ([\d,]+) \| ([\d,]+) \|", documents.texts["README.md"], re.M)
+    code, stack = number(rows[0][0]), max(number(it) for _, it in rows)
+    for name, text in {**documents.texts, "c/kelifandro.h": source("c/kelifandro.h")}.items():
         for word in re.findall(r"(\d+) KiB of stack", text):
             if int(word) != -(-stack // 1024):
-                yield f"{name}: {word} KiB of stack, and {COSTS} has {stack:,} bytes"
+                yield f"{name}: {word} KiB of stack, and README has {stack:,} bytes"
         for word in re.findall(r"(\d+) KB of code", text):
             if abs(1000 * int(word) - code) > 1000:
-                yield f"{name}: {word} KB of code, and {COSTS} has {code:,} bytes"
+                yield f"{name}: {word} KB of code, and README has {code:,} bytes"
 
 
 def figures_without_a_mark(documents):

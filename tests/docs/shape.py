@@ -36,10 +36,11 @@ def parts_that_differ(documents):
 
 
 def plain_english(documents):
-    """Words that this house doesn't use for what they are used for here."""
+    """Words that stumble, with what is said in their place."""
     for place, line in documents.lines():
-        if re.search(r"\bbehind\b", line) and not line.startswith("    "):
-            yield f"{place}: behind, for after"
+        for word, plain in (("behind", "after"), ("just where", "exactly if"), ("just if", "exactly if")):
+            if re.search(rf"\b{word}\b", line) and not line.startswith("    "):
+                yield f"{place}: {word}, for {plain}"
 
 
 CHECKS = [lines_that_are_long, cells_that_are_long, pictures_that_differ, parts_that_differ, plain_english]

@@ -73,5 +73,3 @@ root:   .skip 4096
 directories:
         .skip 4096
 pages:  .skip 4 * 4096
-stack:  .skip 65536
-stack_top:

@@ -1,0 +1,38 @@
+/* What a board gives to the programs of this folder, and what they find in main.c. A new board is a file that has the first three, a
+   row of boards.txt, and, for another kind of processor, a start file. */
+#ifndef BOARD_H
+#define BOARD_H
+#include "../kelifandro.h"
+
+/* Makes the serial line and the controller ready. Answers the way to the controller's registers, or 0 where there is no controller. */
+const struct kelifandro_registers *board_begin(void);
+/* Sends a character on the serial line. */
+void board_put(char character);
+/* Waits so long at least. */
+void board_pause(void *context, uint32_t microseconds);
+
+/* A word, or a byte, of a device at this address. */
+#define WORD(address) (*(volatile uint32_t *)(uintptr_t)(address))
+#define BYTE(address) (*(volatile uint8_t *)(uintptr_t)(address))
+
+/* Registers that are plain memory, from the address on that `context` is. */
+uint32_t mapped_read(void *context, unsigned offset, unsigned size);
+void mapped_write(void *context, unsigned offset, unsigned size, uint32_t value);
+/* The same by words alone, for a processor on which the volatile access is one. */
+#define MAPPED .read = mapped_read, .write = mapped_write, .pause = board_pause
+
+/* The first SD host controller on the first bus of PCI Express, whose configuration space begins at `space`: its registers come to
+   `place`. Answers 0 where there is none. */
+void *pci_controller(uintptr_t space, uint32_t place);
+
+void print(const char *text);
+void print_number(uint64_t value);
+/* Ends the program where this isn't KELIFANDRO_DONE, and says what failed. */
+void expect_done(const char *what, int32_t result);
+/* The last line that is told: `done`, or `failed`. */
+void end(int is_done);
+
+/* What is done with the card once it is open: a program's own function. */
+void program(struct kelifandro *sd);
+
+#endif

@@ -1,0 +1,27 @@
+# find_package(kelifandro) gives the target kelifandro::kelifandro: the library of the processor
+# that KELIFANDRO_PROCESSOR names, one of lib/*, or of the one that CMake builds for. Where there is
+# none, or KELIFANDRO_FROM_SOURCE is set, it is built of src/*.c, by the project's own compiler and
+# flags.
+get_filename_component(kelifandro_top "${CMAKE_CURRENT_LIST_DIR}/../../.." ABSOLUTE)
+if(NOT KELIFANDRO_PROCESSOR)
+    set(KELIFANDRO_PROCESSOR "${CMAKE_SYSTEM_PROCESSOR}")
+    if(KELIFANDRO_PROCESSOR MATCHES "^i.86$")
+        set(KELIFANDRO_PROCESSOR i386)
+    elseif(KELIFANDRO_PROCESSOR MATCHES "^armv7")
+        set(KELIFANDRO_PROCESSOR armv7a)
+    endif()
+endif()
+set(kelifandro_library "${kelifandro_top}/lib/${KELIFANDRO_PROCESSOR}/libkelifandro.a")
+if(NOT TARGET kelifandro::kelifandro)
+    if(KELIFANDRO_FROM_SOURCE OR NOT EXISTS "${kelifandro_library}")
+        add_library(kelifandro STATIC "${kelifandro_top}/src/kelifandro.c" "${kelifandro_top}/src/kelifandro_core.c")
+        target_include_directories(kelifandro PUBLIC "${kelifandro_top}/include")
+        add_library(kelifandro::kelifandro ALIAS kelifandro)
+    else()
+        add_library(kelifandro::kelifandro STATIC IMPORTED)
+        set_target_properties(kelifandro::kelifandro PROPERTIES
+            IMPORTED_LOCATION "${kelifandro_library}"
+            INTERFACE_INCLUDE_DIRECTORIES "${kelifandro_top}/include")
+    endif()
+endif()
+set(kelifandro_FOUND TRUE)

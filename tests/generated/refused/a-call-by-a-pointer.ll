@@ -1,0 +1,4 @@
+define i64 @f(i64 %a, ptr %p) {
+  %r = call i64 %p(i64 %a) ; refused
+  ret i64 0
+}

@@ -1,0 +1,3 @@
+define i64 @another(i64 %a) { ; refused
+  ret i64 %a
+}

@@ -1,0 +1,1 @@
+@t = alias i64, ptr @u ; refused

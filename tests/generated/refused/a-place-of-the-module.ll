@@ -1,0 +1,1 @@
+@t = internal global [4 x i8] zeroinitializer ; refused

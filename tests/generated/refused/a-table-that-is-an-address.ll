@@ -1,0 +1,1 @@
+@t = private constant ptr @f ; refused

@@ -1,0 +1,1 @@
+module asm "nop" ; refused
