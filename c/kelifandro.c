@@ -389,8 +389,8 @@ static int32_t give_up(struct kelifandro *kelifandro, enum kelifandro_part part,
     int32_t result;
     if (!has_way(kelifandro))
         return KELIFANDRO_NO_HOST;
-    result = (is_trim ? kelifandro_trim_by : kelifandro_erase_by)(begin(kelifandro), &kelifandro->card, &kelifandro->healed,
-                                                                  part_number(part), start, count);
+    result = is_trim ? kelifandro_trim_by(begin(kelifandro), &kelifandro->card, &kelifandro->healed, part_number(part), start, count)
+                     : kelifandro_erase_by(begin(kelifandro), &kelifandro->card, &kelifandro->healed, part_number(part), start, count);
     clear(&kelifandro->card);
     return ended(kelifandro, result);
 }
