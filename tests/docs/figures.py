@@ -67,6 +67,14 @@ def sizes_that_differ(documents):
                 yield f"{name}: {word} KB of code, and README has {code:,} bytes"
 
 
+def costs_that_differ(documents):
+    """README's cost of a sector is that of COSTS, to one in a hundred."""
+    stands = number(re.search(r"^\| instructions a sector, by a host, a block a call, runs of 16 \| ([\d,]+)", documents.texts[COSTS], re.M)[1])
+    for word in re.findall(r"([\d,]+) instructions in runs of 16", documents.texts["README.md"]):
+        if abs(number(word) - stands) * 100 > stands:
+            yield f"README.md: {word} instructions a sector, and {COSTS} has {stands}"
+
+
 def figures_without_a_mark(documents):
     """Each table of COSTS stands after a mark that names the command which made it, and each row is one that the command prints."""
     marks = re.split(r"<!-- (bench/\w+)[^>]* -->\n", documents.texts[COSTS])
@@ -90,4 +98,4 @@ def is_printed(name, printed):
     return any(re.fullmatch(re.escape(text).replace(r"\{\}", ".*"), name) for text in re.findall(r'"([^"\n]{6,})"', printed))
 
 
-CHECKS = [counts_that_differ, facts_that_differ, sizes_that_differ, figures_without_a_mark]
+CHECKS = [counts_that_differ, facts_that_differ, sizes_that_differ, costs_that_differ, figures_without_a_mark]
