@@ -1,0 +1,67 @@
+"""Which definitions of specs/ the contracts of public calls rest on: those that their clauses name, and those that these name."""
+import re
+from functools import cache
+
+from tree import TOP
+
+START = re.compile(r"^(?:(?:abbrev|unfoldable|record|data|pub) )+([A-Za-z_][\w-]*)\b", re.M)
+IMPORT = re.compile(r"^ *(?:ghost )?use Rattle\.(\w+)\.specs\.(\w+)\.\{([^}]*)\}", re.M)
+WORD = re.compile(r"[A-Za-z_][\w-]*")
+# The device's calls, and the trait of its bus, which says when one is kept: the headline stands on them.
+HEADLINE = [*(("mmc_block", name) for name in ("open", "submit", "cancel", "turn", "close")), ("mmc_bus", "Bus")]
+
+
+@cache
+def definitions(crate, file):
+    """The definitions of a file, each with its text."""
+    path = TOP / "crates" / crate / "specs" / f"{file}.antt"
+    if not path.exists():
+        return {}
+    text = re.sub(r"--.*$", "", path.read_text(), flags=re.M)
+    starts = list(START.finditer(text))
+    ends = [start.start() for start in starts[1:]] + [len(text)]
+    return {start[1]: text[start.end():end] for start, end in zip(starts, ends)}
+
+
+@cache
+def imports(path):
+    """Which file of specs/ each imported word is from."""
+    return {word.split(" as ")[-1].strip(): (crate, file, word.split(" as ")[0].strip())
+            for crate, file, words in IMPORT.findall(path.read_text()) for word in words.split(",")}
+
+
+def clauses(crate, function):
+    """The contract of a public function, or those of a trait's, and the file that it stands in."""
+    for path in sorted((TOP / "crates" / crate / "src").glob("*.rt")):
+        text = path.read_text()
+        found = re.search(rf"^pub trait {function}\b(.*?)^\}}$|^ *pub (?:\w+ )*fn {function}\b(.*?)^ *\{{$", text, re.M | re.S)
+        found = found and (None, found[1] or found[2])
+        if found and re.search(r"\b(?:requires|ensures)\b", found[1]):
+            return " ".join(re.findall(r"(?:requires|ensures)\b(?:[^{}]|\{[^{}]*\})*", found[1])), path
+    raise SystemExit(f"docs/reach: {crate} has no public {function} with a contract")
+
+
+def named(text, own, given):
+    """The definitions that a text names, where these are its own file's and these are imported."""
+    for word in set(WORD.findall(text)):
+        if word in given:
+            crate, file, name = given[word]
+            if name in definitions(crate, file):
+                yield crate, file, name
+        elif own and word in definitions(*own):
+            yield *own, word
+
+
+def reached(calls=tuple(HEADLINE)):
+    """All definitions below these calls, as crate, file and name."""
+    work, found = [], set()
+    for crate, function in calls:
+        text, path = clauses(crate, function)
+        work += named(text, None, imports(path))
+    while work:
+        crate, file, name = one = work.pop()
+        if one not in found:
+            found.add(one)
+            path = TOP / "crates" / crate / "specs" / f"{file}.antt"
+            work += named(definitions(crate, file)[name], (crate, file), imports(path))
+    return found
