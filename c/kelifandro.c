@@ -341,6 +341,16 @@ static uint8_t begin(const struct kelifandro *kelifandro)
     return 1;
 }
 
+enum { VERSION = 0xfe, VERSION_3 = 2, BEYOND_63_MHZ = 0xc000 };
+
+/* Whether the base clock that the board tells is one that a controller of its version can have: before 3.00 it has six bits, and the
+   library reads no more of it (SD Host Controller 3.00, section 2.2.26). */
+static int has_clock(const struct kelifandro *kelifandro)
+{
+    const struct kelifandro_registers *registers = kelifandro->registers;
+    return kelifandro->host || !(registers->capabilities & BEYOND_63_MHZ) || read_register(registers, VERSION, 1) >= VERSION_3;
+}
+
 /* The two bytes that nothing is kept in: the library may leave any there. */
 static void clear(struct kelifandro_card *card)
 {
@@ -352,6 +362,10 @@ int32_t kelifandro_open(struct kelifandro *kelifandro)
     int32_t result;
     if (!has_way(kelifandro))
         return KELIFANDRO_NO_HOST;
+    if (!has_clock(kelifandro)) {
+        kelifandro->card.state = 0;
+        return KELIFANDRO_NO_BASE_CLOCK;
+    }
     result = kelifandro_open_by(begin(kelifandro), &kelifandro->card, &kelifandro->healed);
     clear(&kelifandro->card);
     return result;
@@ -492,7 +506,7 @@ const char *kelifandro_text(int32_t result)
     case KELIFANDRO_NO_PARTITION:
         return "the card has no such partition";
     case KELIFANDRO_OUT_OF_RANGE:
-        return "sectors behind the partition's end";
+        return "sectors past the partition's end";
     case KELIFANDRO_COUNT:
         return "no sector, or more than 1,024";
     case KELIFANDRO_READ_ONLY:

@@ -11,7 +11,7 @@
    or new and all others unchanged. What is trusted: kelifandro.c, your functions, that each of them returns, and that pointers lead to room
    which is there.
 
-   The library takes no memory, needs memcpy and memset, and of the compiler's own library its arithmetic (a division of 64 bits, on 32),
+   The library takes no memory but 600 bytes of its own, needs memcpy and memset, and of the compiler's own library its arithmetic (a division of 64 bits, on 32),
    and less than 9 KiB of stack (README has it by processor). It keeps to general registers, but that of x86_64, which uses SSE4.2 and the
    red zone below the stack pointer: an interrupt has to keep the former and run on another stack, or leave 128 bytes alone; x86_64-kernel
    uses neither. Its calls must not overlap: not from two threads, and not from a function that it calls. */
@@ -142,7 +142,8 @@ struct kelifandro_registers {
     uint32_t (*read)(void *context, unsigned offset, unsigned size);
     void (*write)(void *context, unsigned offset, unsigned size, uint32_t value);
     /* Waits so long at least. While a block or the end of a write is waited for it is asked for a microsecond a thousand times, and
-       then for 50, ten thousand times at most: one that takes a tick of a clock for each makes that wait as much longer. */
+       then for 50, ten thousand times at most; while the card is busy for 10, as often as the look takes. So one that takes a tick of a
+       clock for each makes these waits as much longer. */
     void (*pause)(void *context, uint32_t microseconds);
     /* May be 0. So many words through the Buffer Data Port (20h), the lowest byte of a word first in memory: as readsl and writesl. */
     void (*read_port)(void *context, void *bytes, size_t words);
@@ -150,8 +151,10 @@ struct kelifandro_registers {
     /* What a board knows in place of its controller; 0 is as the registers say. */
     uint8_t is_there;      /* 1: there is always a card: it is soldered, or the slot's switch isn't wired */
     uint8_t is_by_words;   /* 1: the controller takes 32-bit accesses alone: `size` is 4 then, and `offset` a multiple of 4 */
-    uint32_t capabilities; /* in place of Capabilities (40h) that read 0: the base clock in MHz in bits 15 to 8, and bits 18 for eight
-                              lines, 21 for high speed, and 24 for 3.3 V */
+    uint32_t capabilities; /* where it isn't 0, in place of Capabilities (40h), whatever they read: the base clock in MHz in bits 15 to 8,
+                              rounded up, and bits 18 for eight lines, 21 for high speed, and 24 for 3.3 V. A controller before 3.00
+                              has six bits for its clock: one that is told as faster than 63 MHz isn't opened
+                              (KELIFANDRO_NO_BASE_CLOCK), and one beyond 255 MHz can't be told: divide it before */
 };
 
 /* What is known of a card between two calls. It may be copied, moved and stored as long as card and controller keep their power
