@@ -12,6 +12,7 @@ void controller_begin(struct controller *controller, const struct kelifandro_hos
     controller->host = host;
     controller->one_block = one_block;
     controller->capabilities = 1 << 24 | 1 << 21 | 1 << 18 | 50 << 8;
+    controller->version = 2;
 }
 
 static void fail(struct controller *controller, uint32_t error)
@@ -186,6 +187,7 @@ static void reset(struct controller *controller, uint32_t lines)
         controller_begin(controller, was.host, was.one_block);
         controller->is_bare = was.is_bare;
         controller->capabilities = was.capabilities;
+        controller->version = was.version;
         controller->misuses = was.misuses;
         set_ios(controller);
     }
@@ -217,7 +219,7 @@ static uint32_t read_bytes(struct controller *controller, unsigned offset)
     case 0x28:
         return controller->control | (uint32_t)controller->power << 8;
     case 0xfc:
-        return 2 << 16;
+        return (uint32_t)controller->version << 16;
     default:
         return 0;
     }
@@ -253,7 +255,7 @@ static uint32_t read(void *context, unsigned offset, unsigned size)
     case 0x40:
         return controller->capabilities;
     case 0xfe:
-        return 2;
+        return controller->version;
     default:
         return 0;
     }

@@ -12,6 +12,7 @@ struct controller {
     /* On a board that lacks bytes: accesses are of words alone, no card is seen, and Capabilities read 0. */
     int is_bare;
     uint32_t capabilities; /* 40h: all but what is taken out after controller_begin */
+    uint8_t version;       /* FEh: 1 is 2.00, 2 is 3.00 */
     uint8_t control, power;
     uint32_t sizes, argument, response[4], clock, status, enabled;
     uint8_t buffer[512];

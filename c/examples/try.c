@@ -190,6 +190,19 @@ static void switches(enum way way)
     expect(kelifandro_is_write_protected(&sd) == (by_registers ? 0 : KELIFANDRO_NO_HOST), "write protected", way);
 }
 
+/* A controller before 3.00 has six bits for its base clock: a faster one, told by the board, is refused before anything is sent. */
+static void clocks(void)
+{
+    begin(0, BARE);
+    registers.capabilities = (registers.capabilities & ~0xff00u) | 125u << 8;
+    controller.version = 1;
+    unsigned long before = card.answers;
+    expect(kelifandro_open(&sd) == KELIFANDRO_NO_BASE_CLOCK && card.answers == before, "a clock that can't be told", 0);
+    expect(kelifandro_read(&sd, KELIFANDRO_USER, 0, 1, back) == KELIFANDRO_NOT_OPEN, "not open after it", 0);
+    controller.version = 2;
+    expect(kelifandro_open(&sd) == KELIFANDRO_DONE, "the same clock of a later version", 0);
+}
+
 /* Bytes of any kind for a card: each call returns, and nothing outside of its room is touched (the card's own sectors apart). */
 static void junk(unsigned long rounds)
 {
@@ -231,6 +244,7 @@ int main(int words, char **word)
     for (int way = HOST; way <= BARE; way++)
         refusals(way), long_requests(way), switches(way);
     lost_ways();
+    clocks();
     junk(100000 / EVERY);
     printf("junk for a card: %d calls\n%lu wrong\n", 100000 / EVERY, wrong);
     return wrong != 0;
