@@ -41,7 +41,7 @@ pub fn go_back<S: HasStory>(
 ) -> Result<(Stands, CHost<S>, Part), i32>
     ensures stands { IfOk result (λ r. IsAsNoted r.0 card.now) }
     ensures past { IfOk result (λ r. r.1.diary.past ≡ []) }
-    ensures state { IfOk result (λ r. r.1.state ≡ resting (lines_in r.0)) }
+    ensures state { IfOk result (λ r. r.1.told.state ≡ resting (lines_in r.0)) }
     ensures part { IfOk result (λ r. part_of part ≡ Some r.2) }
     ensures no_partition { part_of part ≡ None → result ≡ Err (minus 2) }
     ensures not_open { IsSome (part_of part) → is_note card.now ≡ false → result ≡ Err (minus 1) }

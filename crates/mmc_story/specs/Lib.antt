@@ -1,5 +1,6 @@
 pub mod Entry
 pub mod Noted
+pub mod Steps
 pub mod Story
 pub mod Transfers
 pub mod Untrue

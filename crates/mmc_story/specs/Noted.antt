@@ -15,4 +15,4 @@ event_of (Did.ReadWith command heard moved places) = ReadWith command heard move
 event_of (Did.WriteWith command heard offered moved) = WrittenWith command heard offered.now.blocks moved
 
 abbrev pub entry_of : Note → Entry
-entry_of note = record { told = note.told; limits = note.limits; event = event_of note.call }
+entry_of note = record { told = note.told.now.state; limits = note.limits; event = event_of note.call }

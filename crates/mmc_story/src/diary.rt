@@ -2,10 +2,11 @@
 ghost use Rattle.std.specs.Prelude.{◌≡◌, ◌∷◌, [], List, ℕ};
 ghost use Rattle.std.specs.Borrow.{ftrue};
 ghost use Rattle.mmc_story.specs.Entry.{Entry};
+ghost use Rattle.mmc_host.specs.declared.told.HostState.{HostState};
 
 use mmc_bus::{Blocks, Moved};
 use mmc_card::{DataIn, DataOut, Lines};
-use mmc_host::{Heard, HostCommand, HostState, ResponseFault};
+use mmc_host::{Heard, HostCommand, HostState, Ios, ResponseFault};
 use std::marker::Model;
 
 /// What a host did so far. Only proofs read it.
@@ -37,6 +38,62 @@ impl Seen {
         ensures { result.blocks ≡ D.blocks _blocks.now }
     {
         Seen {}
+    }
+}
+
+/// What a host was told so far, as proofs see it. It has no bytes.
+#[derive(Drop)]
+pub struct SeenState {
+    // what it comes to
+    pub ghost state: { HostState },
+}
+
+impl Model for SeenState {
+    ghost also_owns = { λ _. ftrue };
+}
+
+/// What a host is told, or what it says, as far as it bears on what it can be told next.
+#[derive(Clone, Copy, Drop)]
+pub enum HostStep {
+    /// Its lines and clock were set.
+    Set(Ios),
+    /// A command was sent, and answered or not.
+    Sent {
+        /// The command.
+        command: HostCommand,
+        /// Whether it was answered as it was wanted.
+        is_answered: bool,
+    },
+    /// A block passed, a good one or not.
+    Passed {
+        /// Whether it was good.
+        is_good: bool,
+    },
+    /// Blocks were read with their command.
+    Read(Moved<DataIn>),
+    /// Blocks were written with their command.
+    Written(Moved<DataOut>),
+    /// It waited so many microseconds.
+    Paused(u32),
+}
+
+impl SeenState {
+    ghost use Rattle.mmc_story.specs.Steps.{after};
+
+    /// What this state says.
+    #[inline(always)]
+    pub fn of(_state: &HostState) -> SeenState
+        ensures { result.state ≡ _state.now }
+    {
+        SeenState {}
+    }
+
+    /// What it comes to after a step.
+    #[inline(always)]
+    pub fn after(&self, _step: &HostStep) -> SeenState
+        ensures { result.state ≡ after _step.now self.now.state }
+    {
+        SeenState {}
     }
 }
 
@@ -99,7 +156,7 @@ pub enum Call<'a> {
 #[derive(Clone, Copy, Drop)]
 pub struct Note<'a> {
     /// What the host had been told before.
-    pub told: HostState,
+    pub told: &'a SeenState,
     /// The most lines and the fastest timing that it can.
     pub limits: Lines,
     /// The call.

@@ -1,7 +1,7 @@
 ghost use Rattle.std.specs.Prelude.{◌≡◌, ◌∷◌, [], false, true};
 ghost use Rattle.mmc_host.specs.HostStates.{begun, resting};
 
-use crate::diary::{Call, Diary, Note, Seen};
+use crate::diary::{Call, Diary, HostStep, Note, Seen, SeenState};
 use crate::story::HasStory;
 use mmc_bus::{Blocks, BlocksMut, Moved};
 use mmc_card::{DataIn, DataOut, Lines};
@@ -15,9 +15,10 @@ use std::marker::PhantomData;
 #[derive(Drop)]
 pub struct StoryHost<H: Host, S: HasStory> {
     host: H,
-    // what it has been told, and what it can
-    state: HostState,
+    // what it can
     limits: Lines,
+    // what it has been told, which only proofs see
+    told: SeenState,
     diary: Diary,
     of: PhantomData<S>,
     // nothing is proved of the driver itself
@@ -36,13 +37,13 @@ impl<H: Host, S: HasStory> StoryHost<H, S> {
         requires { (H.view host).is_kept ≡ false }
         ensures host { result.host ≡ host }
         ensures past { result.diary.past ≡ [] }
-        ensures state { result.state ≡ begun }
+        ensures state { result.told.state ≡ begun }
     {
         let limits = host.limits();
         StoryHost {
             host,
-            state: HostState::new(),
             limits,
+            told: SeenState::of(&HostState::new()),
             diary: Diary::new(),
             of: PhantomData,
         }
@@ -54,13 +55,13 @@ impl<H: Host, S: HasStory> StoryHost<H, S> {
         requires { (H.view host).is_kept ≡ false }
         ensures host { result.host ≡ host }
         ensures past { result.diary.past ≡ [] }
-        ensures state { result.state ≡ resting lines }
+        ensures state { result.told.state ≡ resting lines }
     {
         let limits = host.limits();
         StoryHost {
             host,
-            state: HostState::resting(lines),
             limits,
+            told: SeenState::of(&HostState::resting(lines)),
             diary: Diary::new(),
             of: PhantomData,
         }
@@ -76,15 +77,15 @@ impl<H: Host, S: HasStory> StoryHost<H, S> {
     // Notes a call with its answer.
     fn note(&mut self, call: Call<'_>)
         ensures past { self.new.diary.past ≡ record {
-          told = self.old.state;
+          told = self.old.told.state;
           limits = self.old.limits;
           event = event_of call.entry;
         } ∷ self.old.diary.past }
-        ensures state { self.new.state ≡ self.old.state }
+        ensures state { self.new.told.state ≡ self.old.told.state }
         ensures limits { self.new.limits ≡ self.old.limits }
     {
         self.diary = self.diary.then(&Note {
-            told: self.state,
+            told: &self.told,
             limits: self.limits,
             call,
         });
@@ -94,7 +95,7 @@ impl<H: Host, S: HasStory> StoryHost<H, S> {
 impl<H: Host, S: HasStory> Host for StoryHost<H, S> {
     ghost use Rattle.mmc_story.specs.Story.{host_with};
 
-    ghost view = { λ s. host_with (S.story.outcome s.diary.past) s.state s.limits };
+    ghost view = { λ s. host_with (S.story.outcome s.diary.past) s.told.state s.limits };
 
     // The driver has told its controller so.
     ghost has_told = { λ s ios. H.has_told s.host ios };
@@ -105,13 +106,17 @@ impl<H: Host, S: HasStory> Host for StoryHost<H, S> {
 
     fn set_ios(&mut self, ios: Ios) {
         self.host.set_ios(ios);
-        self.state.ios = ios;
+        self.told = self.told.after(&HostStep::Set(ios));
     }
 
     fn send(&mut self, command: HostCommand) -> Result<Heard, ResponseFault> {
         let heard = self.host.send(command);
         self.note(Call::Send { command, heard });
-        self.state = self.state.sent(command, heard.is_ok());
+        let is_answered = heard.is_ok();
+        self.told = self.told.after(&HostStep::Sent {
+            command,
+            is_answered,
+        });
         heard
     }
 
@@ -128,7 +133,12 @@ impl<H: Host, S: HasStory> Host for StoryHost<H, S> {
             moved: came,
             places,
         });
-        self.state = self.state.sent(command, heard.is_ok()).blocks_passed(came);
+        let is_answered = heard.is_ok();
+        let sent = self.told.after(&HostStep::Sent {
+            command,
+            is_answered,
+        });
+        self.told = sent.after(&HostStep::Read(came));
         (heard, came)
     }
 
@@ -145,7 +155,12 @@ impl<H: Host, S: HasStory> Host for StoryHost<H, S> {
             offered,
             moved: went,
         });
-        self.state = self.state.sent(command, heard.is_ok()).blocks_passed(went);
+        let is_answered = heard.is_ok();
+        let sent = self.told.after(&HostStep::Sent {
+            command,
+            is_answered,
+        });
+        self.told = sent.after(&HostStep::Written(went));
         (heard, went)
     }
 
@@ -153,14 +168,16 @@ impl<H: Host, S: HasStory> Host for StoryHost<H, S> {
         let length = block.len();
         let got = self.host.read_block(block);
         self.note(Call::ReadBlock { length, got, block });
-        self.state = self.state.block_passed(got == DataIn::Good);
+        let is_good = got == DataIn::Good;
+        self.told = self.told.after(&HostStep::Passed { is_good });
         got
     }
 
     fn write_block(&mut self, block: &[u8; 512]) -> DataOut {
         let got = self.host.write_block(block);
         self.note(Call::WriteBlock { block, got });
-        self.state = self.state.block_passed(got == DataOut::Accepted);
+        let is_good = got == DataOut::Accepted;
+        self.told = self.told.after(&HostStep::Passed { is_good });
         got
     }
 
@@ -172,6 +189,6 @@ impl<H: Host, S: HasStory> Host for StoryHost<H, S> {
 
     fn pause(&mut self, micros: u32) {
         self.host.pause(micros);
-        self.state.paused = micros;
+        self.told = self.told.after(&HostStep::Paused(micros));
     }
 }

@@ -10,6 +10,6 @@ mod host;
 pub mod laws;
 mod story;
 
-pub use diary::{Call, Diary, Note, Seen};
+pub use diary::{Call, Diary, HostStep, Note, Seen, SeenState};
 pub use host::{StoryBus, StoryHost};
 pub use story::HasStory;

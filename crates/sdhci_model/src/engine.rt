@@ -25,7 +25,7 @@ use crate::writing::is_accepted;
 use mmc_card::{DataIn, DataOut};
 use mmc_host::{Data, Heard, Host, Response, ResponseFault, Work};
 use mmc_sdhci::limits_in;
-use mmc_story::{Call, Diary, HasStory, Note};
+use mmc_story::{Call, Diary, HasStory, Note, SeenState};
 use std::marker::PhantomData;
 
 /// What a controller does at each access, over a host of which nothing is proved, whose answers are noted.
@@ -50,8 +50,9 @@ pub struct Engine<D: Host, S: HasStory> {
 fn noted(diary: &Diary, state: &State, call: Call<'_>) -> Diary
     ensures { result.past ≡ entry_for state.now (event_of call.entry) ∷ diary.now.past }
 {
+    let told = SeenState::of(&told_on(state.control));
     diary.then(&Note {
-        told: told_on(state.control),
+        told: &told,
         limits: limits_in(state.capabilities),
         call,
     })

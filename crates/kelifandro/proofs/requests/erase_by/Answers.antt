@@ -16,12 +16,12 @@ returns-in_err-stands-clause-functions g c =
 pub returns-clause-served : goal.returns-clause-served
 returns-clause-served g c =
     holds_as_noted g.S.HasStory.story c.args.card.now c.args.part c.in_ok-stands.stands c.in_ok-stands.part
-    c.in_ok-stands.host.diary.past c.in_ok-stands.host.state c.in_ok-stands.host.limits c.limits-limits.result
+    c.in_ok-stands.host.diary.past c.in_ok-stands.host.told.state c.in_ok-stands.host.limits c.limits-limits.result
     c.in_ok-stands.ensures.stands c.in_ok-stands.ensures.part c.in_ok-stands.ensures.past c.in_ok-stands.ensures.state
     c.limits-limits.ensures
     (λ stands part host. IfOk c.erase_over-answer.result.1 (λ bus.
     IsServed (HasChanged (erased_at (info_of stands) part c.args.start c.args.count)) stands host c.erase_over-answer.result.0 c.erase_over-answer.new.card
-    (bus_over (host_with (g.S.HasStory.story.outcome bus.host.diary.past) bus.host.state bus.host.limits) bus.wire bus.is_misused)))
+    (bus_over (host_with (g.S.HasStory.story.outcome bus.host.diary.past) bus.host.told.state bus.host.limits) bus.wire bus.is_misused)))
     c.erase_over-answer.ensures.served
 
 pub returns-clause-untouched : goal.returns-clause-untouched

@@ -24,12 +24,12 @@ returns-clause-served g c =
     let Served : List (List ℕ) → Stands → Part → HostView → Type 0 =
     λ blocks stands part host. IfOk c.read_over-answer.result.1 (λ bus.
     IsServed (HasRead part c.args.start blocks) stands host c.read_over-answer.result.0 c.read_over-answer.new.card
-    (bus_over (host_with (g.S.HasStory.story.outcome bus.host.diary.past) bus.host.state bus.host.limits) bus.wire
+    (bus_over (host_with (g.S.HasStory.story.outcome bus.host.diary.past) bus.host.told.state bus.host.limits) bus.wire
     bus.is_misused)) in
     subst (λ (blocks : List (List ℕ)). IsTrueOf g.S.HasStory.story [] → IfNoted c.args.card.now c.args.part
     (λ stands part. Served blocks stands part (host_of g.S.HasStory.story stands c.limits-limits.result))) (search rules)
     (holds_as_noted g.S.HasStory.story c.args.card.now c.args.part c.in_ok-stands.stands c.in_ok-stands.part
-    c.in_ok-stands.host.diary.past c.in_ok-stands.host.state c.in_ok-stands.host.limits c.limits-limits.result
+    c.in_ok-stands.host.diary.past c.in_ok-stands.host.told.state c.in_ok-stands.host.limits c.limits-limits.result
     c.in_ok-stands.ensures.stands c.in_ok-stands.ensures.part c.in_ok-stands.ensures.past c.in_ok-stands.ensures.state
     c.limits-limits.ensures (Served c.read_over-answer.new.blocks.blocks.now) c.read_over-answer.ensures.served)
 

@@ -9,12 +9,12 @@ pub returns : goal.returns
 returns g c =
     read_noted g.D.Blocks.blocks g.D.BlocksMut.with g.met.D.BlocksMut.writes_one g.S.HasStory.story c.args.command
     c.read_with-heard.result.0 c.read_with-heard.result.1 c.args.blocks.now c.read_with-heard.new.blocks _ _
-    c.read_with-heard.ensures c.args.self.now.diary.past c.note.new.self.diary.past c.args.self.now.state
-    c.blocks_passed-self.result c.args.self.now.limits c.note.new.self.limits _ c.of.ensures c.note.ensures.past
-    (c.blocks_passed-self.ensures
+    c.read_with-heard.ensures c.args.self.now.diary.past c.note.new.self.diary.past c.args.self.now.told.state
+    c.after-self.result.state c.args.self.now.limits c.note.new.self.limits _ c.of.ensures c.note.ensures.past
+    (c.after-self.ensures
     ∙ ap (passed_on c.read_with-heard.result.1)
-    (c.sent.ensures ∙ ap (λ (s : HostState). sent s c.args.command c.is_ok.result) c.note.ensures.state
-    ∙ ap (sent c.args.self.now.state c.args.command) c.is_ok.ensures.value))
+    (c.after-sent.ensures ∙ ap (λ (s : HostState). sent s c.args.command c.is_ok-is_answered.result) c.note.ensures.state
+    ∙ ap (sent c.args.self.now.told.state c.args.command) c.is_ok-is_answered.ensures.value))
     c.note.ensures.limits
 
 pub invariant_of-self : goal.invariant_of-self
