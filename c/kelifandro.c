@@ -127,12 +127,14 @@ static void send_command(const struct kelifandro_host *host, const uint8_t *reco
     };
     struct kelifandro_moved moved = {0, 0};
     uint32_t response[4] = {0, 0, 0, 0};
-    uint8_t bytes[19] = {0};
+    uint8_t *bytes = answer;
     int is_with = record[0] != SEND;
     int fault = is_with && host->transfer
                     ? host->transfer(host->context, &command, response, memory, number(record + 12, 2), &moved)
                     : send_alone(host, &command, response);
     came = moved.good;
+    for (int i = 0; i < 15; i++)
+        bytes[i] = 0;
     if (command.response == KELIFANDRO_R2)
         for (unsigned i = 0; i < 15; i++)
             bytes[i] = (uint8_t)(response[i / 4] >> (24 - 8 * (i % 4)));
@@ -143,7 +145,8 @@ static void send_command(const struct kelifandro_host *host, const uint8_t *reco
     bytes[16] = (uint8_t)moved.good;
     bytes[17] = (uint8_t)(moved.good >> 8);
     bytes[18] = moved.failed;
-    answers(bytes, is_with ? 19 : 16);
+    answered = is_with ? 19 : 16;
+    taken = 0;
 }
 
 static void of_host(const struct kelifandro_host *host, const uint8_t *record)
