@@ -29,11 +29,11 @@ IS_SO(part, sizeof(enum kelifandro_part) == 4);
 #error "struct kelifandro_card has the lowest byte of a number first: this processor has the highest first"
 #endif
 
+/* The records (crates/c_host/src/stream.rt), by their first bytes. A block has no record: it is put, and its status got, or it is got. */
 enum {
-    SEND = 1,
-    READ_BLOCK,
-    WRITE_BLOCK,
-    LOOK,
+    NOTHING,
+    SEND,
+    LOOK = 4,
     SET_IOS,
     PAUSE,
     LIMITS,
@@ -41,57 +41,84 @@ enum {
     WRITE_REGISTER,
     READ_WITH,
     WRITE_WITH,
-    READ_PORT,
-    WRITE_PORT
+    LEND_ROOM = 14,
+    LEND_BLOCKS,
+    TAKE_PLACES,
+    TAKE_BACK,
+    /* no records: a block was put, or was got as a bad one, or a table was put */
+    WROTE_BLOCK,
+    GOT_BAD,
+    LENT_TABLE
 };
 
-/* The card of the call that is made, and what comes next of its operation. */
+enum { BLOCK = 512, TABLE = 128 };
+
+/* What is called seldom stands apart from what is called for each register and block: that saves few registers then. */
+#if defined __GNUC__
+#define APART __attribute__((noinline))
+#else
+#define APART
+#endif
+
+/* The card of the call that is made, and what was asked last. */
 static const struct kelifandro *now;
 static uint8_t operation;
-static uint8_t answer[24];
-static size_t answered, taken;
-/* The memory of the request, and how many of its blocks have come by one call. */
+static struct kelifandro_command command;
+static uint32_t look_time;
+static uint8_t register_offset, register_size;
+/* The memory of the request, how many of its blocks may be moved with the command, and how many the library still gets because they may
+   have been written to. */
 static void *memory;
-static size_t came;
+static uint16_t behind, came;
+/* How many blocks of it are lent for DMA, whether they are written to, and where the controller's table of them stands. */
+static uint16_t lent;
+static uint8_t is_room;
+static uint32_t table_address;
 /* The block behind a command of a host that has transfer alone, and what read_block answers to it. */
-static uint8_t one_block[512];
+static uint8_t one_block[BLOCK];
 static int one_answer;
+/* What became of the block that was written last. */
+static int written;
 
-static uint32_t number(const uint8_t *bytes, int n)
+static uint16_t half_at(const uint8_t *bytes)
 {
-    uint32_t value = 0;
-    for (int i = n; i-- > 0;)
-        value = value << 8 | bytes[i];
-    return value;
+    return (uint16_t)(bytes[0] | bytes[1] << 8);
 }
 
-static void answers(const uint8_t *bytes, size_t n)
+static uint32_t word_at(const uint8_t *bytes)
 {
-    for (size_t i = 0; i < n; i++)
-        answer[i] = bytes[i];
-    answered = n;
-    taken = 0;
+    return half_at(bytes) | (uint32_t)half_at(bytes + 2) << 16;
 }
 
-static void answers_byte(uint8_t byte)
+static void answer_half(uint8_t *bytes, uint32_t half)
 {
-    answers(&byte, 1);
+    bytes[0] = (uint8_t)half;
+    bytes[1] = (uint8_t)(half >> 8);
 }
 
-static void answers_word(uint32_t word)
+static void answer_word(uint8_t *bytes, uint32_t word)
 {
-    uint8_t bytes[4] = {(uint8_t)word, (uint8_t)(word >> 8), (uint8_t)(word >> 16), (uint8_t)(word >> 24)};
-    answers(bytes, 4);
+    answer_half(bytes, word);
+    answer_half(bytes + 2, word >> 16);
+}
+
+/* The highest byte first. */
+static void answer_highest_first(uint8_t *bytes, uint32_t word)
+{
+    bytes[0] = (uint8_t)(word >> 24);
+    bytes[1] = (uint8_t)(word >> 16);
+    bytes[2] = (uint8_t)(word >> 8);
+    bytes[3] = (uint8_t)word;
 }
 
 /* Sends a command, by transfer where there is nothing else: a register that comes as a block is kept until it is asked for. */
-static int send_alone(const struct kelifandro_host *host, const struct kelifandro_command *command, uint32_t response[4])
+static int send_alone(const struct kelifandro_host *host, uint32_t response[4])
 {
     struct kelifandro_moved moved = {0, 0};
     int fault;
     if (host->send)
-        return host->send(host->context, command, response);
-    fault = host->transfer(host->context, command, response, one_block, command->data == KELIFANDRO_READ, &moved);
+        return host->send(host->context, &command, response);
+    fault = host->transfer(host->context, &command, response, one_block, command.data == KELIFANDRO_READ, &moved);
     one_answer = moved.failed ? moved.failed : moved.good ? 0 : 2;
     return fault;
 }
@@ -115,76 +142,64 @@ static uint8_t fault_number(int fault)
     return fault > KELIFANDRO_TIMEOUT && fault <= KELIFANDRO_OTHER_INDEX ? (uint8_t)fault : KELIFANDRO_TIMEOUT;
 }
 
-static void send_command(const struct kelifandro_host *host, const uint8_t *record)
+/* The command of a record, and how many of the request's blocks may be moved with it. */
+static void take_command(const uint8_t *record)
 {
-    struct kelifandro_command command = {
-        .index = record[1],
-        .response = record[2],
-        .data = record[3],
-        .argument = number(record + 4, 4),
-        .block_length = (uint16_t)number(record + 8, 2),
-        .blocks = (uint16_t)number(record + 10, 2),
-    };
-    struct kelifandro_moved moved = {0, 0};
-    uint32_t response[4] = {0, 0, 0, 0};
-    uint8_t *bytes = answer;
-    int is_with = record[0] != SEND;
-    int fault = is_with && host->transfer
-                    ? host->transfer(host->context, &command, response, memory, number(record + 12, 2), &moved)
-                    : send_alone(host, &command, response);
-    came = moved.good;
-    for (int i = 0; i < 15; i++)
-        bytes[i] = 0;
-    if (command.response == KELIFANDRO_R2)
-        for (unsigned i = 0; i < 15; i++)
-            bytes[i] = (uint8_t)(response[i / 4] >> (24 - 8 * (i % 4)));
-    else
-        for (int i = 0; i < 4; i++)
-            bytes[i] = (uint8_t)(response[0] >> (8 * i));
-    bytes[15] = fault_number(fault);
-    bytes[16] = (uint8_t)moved.good;
-    bytes[17] = (uint8_t)(moved.good >> 8);
-    bytes[18] = moved.failed;
-    answered = is_with ? 19 : 16;
-    taken = 0;
+    command.index = record[1];
+    command.response = record[2];
+    command.data = record[3];
+    command.argument = word_at(record + 4);
+    command.block_length = half_at(record + 8);
+    command.blocks = half_at(record + 10);
+    if (record[0] != SEND)
+        behind = half_at(record + 12);
 }
 
-static void of_host(const struct kelifandro_host *host, const uint8_t *record)
+/* Sends it. Its answer has 16 bytes, and three more where blocks may be moved with it. */
+static void answer_command(const struct kelifandro_host *host, int is_with, uint8_t *bytes)
 {
-    uint8_t limits[2] = {host->lines, host->high_speed};
-    switch (record[0]) {
-    case SEND:
-    case READ_WITH:
-    case WRITE_WITH:
-        send_command(host, record);
-        break;
-    case LOOK:
-        answers_byte(host->is_busy(host->context, number(record + 1, 4)) != 0);
-        break;
-    case SET_IOS:
-        host->set_ios(host->context, record[1], record[2], number(record + 3, 4));
-        break;
-    case PAUSE:
-        host->pause(host->context, number(record + 1, 4));
-        break;
-    case LIMITS:
-        answers(limits, 2);
-        break;
+    struct kelifandro_moved moved = {0, 0};
+    uint32_t response[4] = {0, 0, 0, 0};
+    int is_long = command.response == KELIFANDRO_R2;
+    int fault = is_with && host->transfer ? host->transfer(host->context, &command, response, memory, behind, &moved)
+                                          : send_alone(host, response);
+    if (is_long) {
+        answer_highest_first(bytes, response[0]);
+    } else {
+        answer_word(bytes, response[0]);
+        response[1] = response[2] = response[3] = 0;
     }
+    answer_highest_first(bytes + 4, response[1]);
+    answer_highest_first(bytes + 8, response[2]);
+    answer_highest_first(bytes + 12, response[3]);
+    bytes[15] = fault_number(fault);
+    if (!is_with)
+        return;
+    if (command.data == KELIFANDRO_READ)
+        came = moved.failed || moved.good > behind ? behind : moved.good;
+    answer_half(bytes + 16, moved.good);
+    bytes[18] = moved.failed;
 }
 
 enum { PRESENT_STATE = 0x24, CAPABILITIES = 0x40, THERE = 0x70000 };
 
-/* A register, of which a byte may be had by its word alone. A card that is always there is inserted, and that is stable. */
-static uint32_t read_register(const struct kelifandro_registers *registers, unsigned offset, unsigned size)
+/* A register as the board knows it: a byte may be had by its word alone, and a card that is always there is inserted, and that is
+   stable. */
+static uint32_t read_of_board(const struct kelifandro_registers *registers, unsigned offset, unsigned size)
 {
     unsigned at = size == 1 && registers->is_by_words ? offset % 4 : 0;
     uint32_t value = registers->read(registers->context, offset - at, registers->is_by_words ? 4 : size) >> (8 * at);
     if (offset == CAPABILITIES && registers->capabilities)
         return registers->capabilities;
-    if (offset == PRESENT_STATE && registers->is_there)
-        value |= THERE;
-    return size == 1 ? value & 0xff : value;
+    return offset == PRESENT_STATE && registers->is_there ? value | THERE : value;
+}
+
+/* A register; of one byte the lowest counts. */
+static uint32_t read_register(const struct kelifandro_registers *registers, unsigned offset, unsigned size)
+{
+    if (registers->is_by_words || registers->is_there || registers->capabilities)
+        return read_of_board(registers, offset, size);
+    return registers->read(registers->context, offset, size);
 }
 
 /* The bytes beside one that is written by its word are written as they are: those of 28h and 2Ch, which keep what is written. */
@@ -200,21 +215,6 @@ static void write_register(const struct kelifandro_registers *registers, unsigne
     registers->write(registers->context, offset - at, 4, word | value << (8 * at));
 }
 
-static void of_registers(const struct kelifandro_registers *registers, const uint8_t *record)
-{
-    switch (record[0]) {
-    case READ_REGISTER:
-        answers_word(read_register(registers, record[2], record[1]));
-        break;
-    case WRITE_REGISTER:
-        write_register(registers, record[2], record[1], number(record + 3, 4));
-        break;
-    case PAUSE:
-        registers->pause(registers->context, number(record + 1, 4));
-        break;
-    }
-}
-
 /* A block through the Buffer Data Port, by one call where there is one for it. */
 static void read_port(const struct kelifandro_registers *registers, uint8_t *bytes, size_t n)
 {
@@ -222,11 +222,8 @@ static void read_port(const struct kelifandro_registers *registers, uint8_t *byt
         registers->read_port(registers->context, bytes, n / 4);
         return;
     }
-    for (size_t i = 0; i + 4 <= n; i += 4) {
-        uint32_t word = registers->read(registers->context, 0x20, 4);
-        for (int k = 0; k < 4; k++)
-            bytes[i + k] = (uint8_t)(word >> (8 * k));
-    }
+    for (size_t i = 0; i + 4 <= n; i += 4)
+        answer_word(bytes + i, registers->read(registers->context, 0x20, 4));
 }
 
 static void write_port(const struct kelifandro_registers *registers, const uint8_t *bytes, size_t n)
@@ -236,64 +233,174 @@ static void write_port(const struct kelifandro_registers *registers, const uint8
         return;
     }
     for (size_t i = 0; i + 4 <= n; i += 4)
-        registers->write(registers->context, 0x20, 4, number(bytes + i, 4));
+        registers->write(registers->context, 0x20, 4, word_at(bytes + i));
 }
 
-/* A record, or the block behind WRITE_BLOCK. */
+static void take_back(const struct kelifandro_registers *registers)
+{
+    if (lent)
+        registers->take_back(registers->context, memory, (size_t)lent * BLOCK, is_room);
+    lent = 0;
+}
+
+/* Lends the first blocks of the request's memory for DMA, if the port can. An address that is none for the library is given back: then
+   the blocks go through the Buffer Data Port. */
+static uint32_t lend(const struct kelifandro_registers *registers)
+{
+    size_t n = (size_t)lent * BLOCK;
+    uint32_t address = registers->lend ? registers->lend(registers->context, memory, n, is_room) : 0;
+    if (!address)
+        lent = 0;
+    else if (address % 4 || n - 1 > UINT32_MAX - address)
+        take_back(registers);
+    return address;
+}
+
+static void pause_for(uint32_t microseconds)
+{
+    if (now->host)
+        now->host->pause(now->host->context, microseconds);
+    else
+        now->registers->pause(now->registers->context, microseconds);
+}
+
+/* Does what a record says where nothing comes of it; else notes what is asked. */
+APART static void take_record(const uint8_t *record)
+{
+    switch (operation) {
+    case WRITE_REGISTER:
+        write_register(now->registers, record[2], record[1], word_at(record + 3));
+        break;
+    case SEND:
+    case READ_WITH:
+    case WRITE_WITH:
+        take_command(record);
+        break;
+    case LOOK:
+        look_time = word_at(record + 1);
+        break;
+    case SET_IOS:
+        now->host->set_ios(now->host->context, record[1], record[2], word_at(record + 3));
+        break;
+    case PAUSE:
+        pause_for(word_at(record + 1));
+        break;
+    case LEND_ROOM:
+    case LEND_BLOCKS:
+        lent = half_at(record + 1);
+        is_room = operation == LEND_ROOM;
+        break;
+    case TAKE_PLACES:
+        /* they have come to their places */
+        came = lent;
+        take_back(now->registers);
+        break;
+    case TAKE_BACK:
+        take_back(now->registers);
+        came = 0;
+        break;
+    }
+}
+
+/* A block, to the card's host or through the Buffer Data Port. */
+APART static void take_block(const uint8_t *block)
+{
+    const struct kelifandro_host *host = now->host;
+    if (!host) {
+        write_port(now->registers, block, BLOCK);
+        return;
+    }
+    written = host->write_block ? host->write_block(host->context, block) : 2;
+    operation = WROTE_BLOCK;
+}
+
+/* A register is asked for most. */
 int64_t kelifandro_put(int32_t stream, const uint8_t *bytes, uint64_t n)
 {
     (void)stream;
-    answered = taken = 0;
-    if (operation == WRITE_BLOCK && n == 512) {
-        int status = now->host->write_block ? now->host->write_block(now->host->context, bytes) : 2;
-        operation = 0;
-        answers_byte(status == 0 ? 1 : status == 1 ? 2 : 0);
-        return (int64_t)n;
+    came = 0;
+    if (n == BLOCK) {
+        take_block(bytes);
+        return BLOCK;
     }
-    if (operation == WRITE_PORT && n == 512) {
-        operation = 0;
-        write_port(now->registers, bytes, (size_t)n);
-        return (int64_t)n;
+    if (n == TABLE) {
+        table_address = now->registers->lend_table(now->registers->context, bytes, TABLE);
+        operation = LENT_TABLE;
+        return TABLE;
     }
     operation = bytes[0];
-    if (now->host)
-        of_host(now->host, bytes);
-    else
-        of_registers(now->registers, bytes);
+    if (operation == READ_REGISTER) {
+        register_size = bytes[1];
+        register_offset = bytes[2];
+        return 3;
+    }
+    take_record(bytes);
     return (int64_t)n;
 }
 
-/* What came of the last record: of READ_BLOCK a whole block, one byte of a bad one, or nothing. */
+/* The next block: a good one comes whole, a bad one as one byte, or none. */
+static int64_t answer_block(uint8_t *bytes, size_t n)
+{
+    int what = 0;
+    if (now->host)
+        what = read_alone(now->host, bytes, n);
+    else
+        read_port(now->registers, bytes, n);
+    if (what == 1)
+        operation = GOT_BAD;
+    return what == 0 ? (int64_t)n : what == 1;
+}
+
+/* What comes of the last record or block, once. */
+APART static int64_t answer(uint8_t *bytes, size_t n)
+{
+    const struct kelifandro_host *host = now->host;
+    uint8_t asked = operation;
+    operation = NOTHING;
+    switch (asked) {
+    case NOTHING:
+        return answer_block(bytes, n);
+    case SEND:
+    case READ_WITH:
+    case WRITE_WITH:
+        answer_command(host, asked != SEND, bytes);
+        return (int64_t)n;
+    case LOOK:
+        *bytes = host->is_busy(host->context, look_time) != 0;
+        return 1;
+    case WROTE_BLOCK:
+        *bytes = written == 0 ? 1 : written == 1 ? 2 : 0;
+        return 1;
+    case LEND_ROOM:
+    case LEND_BLOCKS:
+        answer_word(bytes, lend(now->registers));
+        return 4;
+    case LENT_TABLE:
+        answer_word(bytes, table_address);
+        return 4;
+    case LIMITS:
+        bytes[0] = host->lines;
+        bytes[1] = host->high_speed;
+        return 2;
+    default:
+        return 0;
+    }
+}
+
+/* Blocks that have come with a command are in their places already. */
 int64_t kelifandro_get(int32_t stream, uint8_t *bytes, uint64_t n)
 {
     (void)stream;
-    if (operation == READ_BLOCK && now->host) {
-        operation = 0;
-        switch (read_alone(now->host, bytes, (size_t)n)) {
-        case 0:
-            return (int64_t)n;
-        case 1:
-            return 1;
-        default:
-            return 0;
-        }
-    }
-    if (operation == READ_PORT && now->registers) {
-        operation = 0;
-        read_port(now->registers, bytes, (size_t)n);
-        return (int64_t)n;
-    }
-    /* a block that has come to its place, or one that failed there */
-    if (operation == READ_WITH && n == 512 && taken == answered) {
-        if (!came)
-            return 0;
+    if (came) {
         came--;
-        return (int64_t)n;
+        return BLOCK;
     }
-    size_t i = 0;
-    while (i < n && taken < answered)
-        bytes[i++] = answer[taken++];
-    return (int64_t)i;
+    if (operation == READ_REGISTER) {
+        operation = NOTHING;
+        answer_word(bytes, read_register(now->registers, register_offset, register_size));
+        return 4;
+    }
+    return answer(bytes, (size_t)n);
 }
 
 static int has_way(const struct kelifandro *kelifandro)
@@ -337,21 +444,11 @@ static int32_t ended(const struct kelifandro *kelifandro, int32_t result)
 static uint8_t begin(const struct kelifandro *kelifandro)
 {
     now = kelifandro;
-    operation = 0;
-    answered = taken = 0;
+    operation = NOTHING;
+    came = lent = 0;
     if (kelifandro->host)
         return 0;
     return 1;
-}
-
-enum { VERSION = 0xfe, VERSION_3 = 2, BEYOND_63_MHZ = 0xc000 };
-
-/* Whether the base clock that the board tells is one that a controller of its version can have: before 3.00 it has six bits, and the
-   library reads no more of it (SD Host Controller 3.00, section 2.2.26). */
-static int has_clock(const struct kelifandro *kelifandro)
-{
-    const struct kelifandro_registers *registers = kelifandro->registers;
-    return kelifandro->host || !(registers->capabilities & BEYOND_63_MHZ) || read_register(registers, VERSION, 1) >= VERSION_3;
 }
 
 /* The two bytes that nothing is kept in: the library may leave any there. */
@@ -365,10 +462,6 @@ int32_t kelifandro_open(struct kelifandro *kelifandro)
     int32_t result;
     if (!has_way(kelifandro))
         return KELIFANDRO_NO_HOST;
-    if (!has_clock(kelifandro)) {
-        kelifandro->card.state = 0;
-        return KELIFANDRO_NO_BASE_CLOCK;
-    }
     result = kelifandro_open_by(begin(kelifandro), &kelifandro->card, &kelifandro->healed);
     clear(&kelifandro->card);
     return result;

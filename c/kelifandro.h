@@ -96,8 +96,9 @@ struct kelifandro_moved {
 };
 
 /* A host controller. Before kelifandro_open the card has had 3.3 V and a clock of at most 400 kHz for a millisecond and 74 clocks (SD
-   Physical Layer 6.00, section 6.4.1), on one data line: no function asks for that. Each has a time to keep: docs/PORTING.md. All have to
-   be set but `transfer`. */
+   Physical Layer 6.00, section 6.4.1), on one data line: no function asks for that. Each has a time to keep: docs/PORTING.md.
+   `is_busy`, `set_ios` and `pause` have to be set, and `transfer` alone (c/examples/port.c), or `send`, `read_block` and `write_block`, or
+   all four. */
 struct kelifandro_host {
     void *context;
     /* The most data lines that are wired, 1, 4 or 8 (any other number is 1), and whether it has high speed. */
@@ -142,17 +143,28 @@ struct kelifandro_registers {
     uint32_t (*read)(void *context, unsigned offset, unsigned size);
     void (*write)(void *context, unsigned offset, unsigned size, uint32_t value);
     /* Waits so long at least. While a block or the end of a write is waited for it is asked for a microsecond a thousand times, and
-       then for 50, ten thousand times at most; while the card is busy for 10, as often as the look takes. So one that takes a tick of a
-       clock for each makes these waits as much longer. */
+       then for 50, ten thousand times at most, and while DMA moves all blocks two hundred thousand times; while the card is busy for
+       10, as often as the look takes. So one that takes a tick of a clock for each makes these waits as much longer. */
     void (*pause)(void *context, uint32_t microseconds);
     /* May be 0. So many words through the Buffer Data Port (20h), the lowest byte of a word first in memory: as readsl and writesl. */
     void (*read_port)(void *context, void *bytes, size_t words);
     void (*write_port)(void *context, const void *bytes, size_t words);
+    /* May be 0, all three: DMA (ADMA2, section 1.13), which is used where Capabilities have it, bit 19, and `lend` gives memory.
+       lend: the controller is to read from these bytes or, where `is_written` is 1, to write to them. Writes back what caches hold of
+       them, and drops it where they are written to. Answers their bus address, a multiple of 4; 0 where the controller can't have them
+       (not in one piece, not aligned, beyond 32 bits): then they go through the Buffer Data Port. It may lend a buffer of its own.
+       lend_table: copies a table of 128 bytes to where the controller can read it, and answers its bus address, a multiple of 4. Nothing
+       but the controller uses it until take_back.
+       take_back: what was lent last is the library's again: where it was written to, it holds what the controller has left there. The
+       controller is at rest then. */
+    uint32_t (*lend)(void *context, void *bytes, size_t n, int is_written);
+    uint32_t (*lend_table)(void *context, const void *table, size_t n);
+    void (*take_back)(void *context, void *bytes, size_t n, int is_written);
     /* What a board knows in place of its controller; 0 is as the registers say. */
     uint8_t is_there;      /* 1: there is always a card: it is soldered, or the slot's switch isn't wired */
     uint8_t is_by_words;   /* 1: the controller takes 32-bit accesses alone: `size` is 4 then, and `offset` a multiple of 4 */
     uint32_t capabilities; /* where it isn't 0, in place of Capabilities (40h), whatever they read: the base clock in MHz in bits 15 to 8,
-                              rounded up, and bits 18 for eight lines, 21 for high speed, and 24 for 3.3 V. A controller before 3.00
+                              rounded up, and bits 18 for eight lines, 19 for ADMA2, 21 for high speed, and 24 for 3.3 V. A controller before 3.00
                               has six bits for its clock: one that is told as faster than 63 MHz isn't opened
                               (KELIFANDRO_NO_BASE_CLOCK), and one beyond 255 MHz can't be told: divide it before */
 };

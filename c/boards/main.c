@@ -60,6 +60,36 @@ void mapped_write(void *context, unsigned offset, unsigned size, uint32_t value)
         WORD(at) = value;
 }
 
+unsigned long board_lendings;
+
+uint32_t board_lend(void *context, void *bytes, size_t n, int is_written)
+{
+    uintptr_t at = (uintptr_t)bytes;
+    (void)context, (void)is_written;
+    if (at % 4 || at > UINT32_MAX - n)
+        return 0;
+    board_lendings++;
+    return (uint32_t)at;
+}
+
+uint32_t board_lend_table(void *context, const void *table, size_t n)
+{
+    static union {
+        uint8_t bytes[128];
+        uint64_t aligned;
+    } copy;
+    const uint8_t *bytes = table;
+    (void)context;
+    for (size_t i = 0; i < n && i < sizeof copy.bytes; i++)
+        copy.bytes[i] = bytes[i];
+    return (uint32_t)(uintptr_t)copy.bytes;
+}
+
+void board_take_back(void *context, void *bytes, size_t n, int is_written)
+{
+    (void)context, (void)bytes, (void)n, (void)is_written;
+}
+
 static void print_name(const struct kelifandro_card *card)
 {
     char name[6] = {0};

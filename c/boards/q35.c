@@ -65,7 +65,8 @@ const struct kelifandro_registers *board_begin(void)
             continue;
         if ((pci_read(device, 0x10) & ~15u) == 0)
             pci_write(device, 0x10, FREE_PLACE);
-        pci_write(device, 0x04, pci_read(device, 0x04) | 2);
+        /* it is seen as memory, and reaches memory by itself */
+        pci_write(device, 0x04, pci_read(device, 0x04) | 2 | 4);
         registers.context = (void *)(uintptr_t)(pci_read(device, 0x10) & ~15u);
         return &registers;
     }

@@ -2,7 +2,9 @@
 #include "controller.h"
 
 enum { COMMAND_COMPLETE = 1, TRANSFER_COMPLETE = 2, ERROR = 0x8000 };
-enum { COMMAND_TIMEOUT = 1 << 16, DATA_TIMEOUT = 1 << 20, DATA_CRC = 1 << 21 };
+enum { COMMAND_TIMEOUT = 1 << 16, DATA_TIMEOUT = 1 << 20, DATA_CRC = 1 << 21, DMA_ERROR = 1 << 25 };
+/* bus addresses of memory that is lent, and of its table */
+enum { LENT_AT = 0x10000000, TABLE_AT = 0x20000000 };
 
 void controller_begin(struct controller *controller, const struct kelifandro_host *host, int one_block)
 {
@@ -87,6 +89,60 @@ static void transmit(struct controller *controller)
     }
 }
 
+/* Whether the table names just the memory that is lent, line by line (section 1.13.3). */
+static int names_all(const struct controller *controller)
+{
+    size_t done = 0;
+    for (const uint8_t *line = controller->table; line < controller->table + sizeof controller->table; line += 8) {
+        size_t length = line[2] | (size_t)line[3] << 8;
+        uint32_t address = line[4] | (uint32_t)line[5] << 8 | (uint32_t)line[6] << 16 | (uint32_t)line[7] << 24;
+        if ((line[0] & 0x3d) != 0x21 || line[1] || length == 0 || address != LENT_AT + done)
+            return 0;
+        done += length;
+        if (line[0] & 2)
+            return done == controller->lent_size;
+    }
+    return 0;
+}
+
+/* All that DMA wants: ADMA2 selected, its errors shown, and memory for just this data. */
+static int can_move(const struct controller *controller)
+{
+    return (controller->control & 0x18) == 0x10 && controller->enabled & DMA_ERROR && controller->table_at == TABLE_AT && controller->lent
+           && controller->lent_size == 512 * (size_t)controller->left && controller->is_room == (controller->direction == KELIFANDRO_READ)
+           && names_all(controller);
+}
+
+/* Moves a block, and waits after one that is written until the card isn't busy. */
+static int move(struct controller *controller, uint8_t *block)
+{
+    const struct kelifandro_host *host = controller->host;
+    int what;
+    if (controller->direction == KELIFANDRO_READ)
+        return host->read_block(host->context, block, 512);
+    what = host->write_block(host->context, block);
+    for (int i = 0; what == 0 && controller->left > 1 && host->is_busy(host->context, 32000); i++)
+        if (i == 15)
+            return 2;
+    return what;
+}
+
+static void move_by_dma(struct controller *controller)
+{
+    if (!can_move(controller)) {
+        controller->misuses++;
+        fail(controller, DMA_ERROR);
+        return;
+    }
+    for (uint8_t *block = controller->lent; controller->direction != KELIFANDRO_NO_DATA; block += 512) {
+        int what = move(controller, block);
+        if (what)
+            fail(controller, what == 1 ? DATA_CRC : DATA_TIMEOUT);
+        else
+            passed(controller);
+    }
+}
+
 static int response_of(unsigned flags)
 {
     switch (flags & 0x1f) {
@@ -132,6 +188,9 @@ static void command(struct controller *controller, uint32_t word)
     uint32_t words[4] = {0, 0, 0, 0};
     if (!is_on(controller) || controller->host->send(controller->host->context, &command, words) != 0) {
         controller->status |= ERROR | COMMAND_TIMEOUT;
+        /* what was moved meanwhile is of no use */
+        for (size_t i = 0; word & 1 && controller->is_room && i < controller->lent_size; i++)
+            controller->lent[i] ^= 0x5a;
         return;
     }
     show(controller, command.response, words);
@@ -141,7 +200,9 @@ static void command(struct controller *controller, uint32_t word)
     controller->direction = command.data;
     controller->left = command.blocks;
     controller->at = controller->length = 0;
-    if (command.data == KELIFANDRO_READ)
+    if (word & 1)
+        move_by_dma(controller);
+    else if (command.data == KELIFANDRO_READ)
         receive(controller);
 }
 
@@ -270,7 +331,7 @@ static int is_misuse(const struct controller *controller, unsigned offset, uint3
     switch (offset) {
     case 0x28:
         return is_moving || (value & 0x20 && !(controller->capabilities & 1 << 18))
-               || (value & 4 && !(controller->capabilities & 1 << 21));
+               || (value & 4 && !(controller->capabilities & 1 << 21)) || (value & 0x18 && !(controller->capabilities & 1 << 19));
     case 0x04:
     case 0x29:
         return is_moving;
@@ -331,7 +392,39 @@ static void write(void *context, unsigned offset, unsigned size, uint32_t value)
     case 0x30:
         controller->status &= ~value;
         break;
+    case 0x58:
+        controller->table_at = value;
+        break;
     }
+}
+
+/* Memory is lent and taken back while no data is under way, each time the same. */
+static uint32_t lend(void *context, void *bytes, size_t n, int is_written)
+{
+    struct controller *controller = context;
+    controller->misuses += controller->direction != KELIFANDRO_NO_DATA || controller->lent;
+    controller->lent = bytes;
+    controller->lent_size = n;
+    controller->is_room = is_written;
+    return LENT_AT;
+}
+
+static uint32_t lend_table(void *context, const void *table, size_t n)
+{
+    struct controller *controller = context;
+    const uint8_t *from = table;
+    controller->misuses += n != sizeof controller->table;
+    for (size_t i = 0; i < sizeof controller->table; i++)
+        controller->table[i] = from[i];
+    return TABLE_AT;
+}
+
+static void take_back(void *context, void *bytes, size_t n, int is_written)
+{
+    struct controller *controller = context;
+    controller->misuses += controller->direction != KELIFANDRO_NO_DATA || controller->lent != bytes || controller->lent_size != n
+                           || controller->is_room != is_written;
+    controller->lent = 0;
 }
 
 static void read_port(void *context, void *bytes, size_t words)
@@ -358,6 +451,13 @@ static void pause(void *context, uint32_t microseconds)
 
 const struct kelifandro_registers port_registers = {
     .read = read, .write = write, .pause = pause, .read_port = read_port, .write_port = write_port};
+
+const struct kelifandro_registers dma_registers = {.read = read,
+                                                   .write = write,
+                                                   .pause = pause,
+                                                   .lend = lend,
+                                                   .lend_table = lend_table,
+                                                   .take_back = take_back};
 
 const struct kelifandro_registers board_registers = {.read = read,
                                                      .write = write,

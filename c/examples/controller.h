@@ -23,6 +23,12 @@ struct controller {
     /* An error that isn't shown yet, and after how many looks at the status it is. A bad block is in the buffer before its error shows. */
     uint32_t error;
     int looks;
+    /* Memory that is lent for DMA, whether it is written to, the descriptor table of it, and ADMA System Address (58h). */
+    uint8_t *lent;
+    size_t lent_size;
+    int is_room;
+    uint8_t table[128];
+    uint32_t table_at;
     /* how often it was told what its registers don't allow at that time */
     unsigned long misuses;
 };
@@ -33,6 +39,8 @@ void controller_begin(struct controller *controller, const struct kelifandro_hos
 extern const struct kelifandro_registers controller_registers;
 /* The same with a block through the port by one call. */
 extern const struct kelifandro_registers port_registers;
+/* Those with memory for DMA, which is used where Capabilities have ADMA2 (bit 19). */
+extern const struct kelifandro_registers dma_registers;
 /* Those of a bare board, which says itself what they don't. */
 extern const struct kelifandro_registers board_registers;
 

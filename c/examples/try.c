@@ -31,10 +31,10 @@ static void expect(int is_so, const char *what, unsigned long n)
         printf("wrong: %s (%lu)\n", what, n);
 }
 
-enum way { HOST, TRANSFERS, ONE_BLOCK, SEVERAL_BLOCKS, BY_PORT, WHOLE, BARE };
+enum way { HOST, TRANSFERS, ONE_BLOCK, SEVERAL_BLOCKS, BY_PORT, WHOLE, BARE, DMA };
 static const char *const ways[] = {"a host", "a host with transfers", "registers, room for one block", "registers, room for several",
                                    "registers, room for one block, a call a block", "a host with transfers alone",
-                                   "registers of a bare board"};
+                                   "registers of a bare board", "registers with memory for DMA"};
 
 static int has_registers(enum way way)
 {
@@ -55,7 +55,8 @@ static void begin(int is_emmc, enum way way)
     controller_begin(&controller, &host, one_block);
     controller.is_bare = way == BARE;
     controller.capabilities = 1u << 24 | (uint32_t)high_speed << 21 | (uint32_t)(lines == 8) << 18 | 50 << 8;
-    registers = way == BY_PORT ? port_registers : way == BARE ? board_registers : controller_registers;
+    registers = way == BY_PORT ? port_registers : way == BARE ? board_registers : way == DMA ? dma_registers : controller_registers;
+    controller.capabilities |= way == DMA ? 1 << 19 : 0;
     registers.context = &controller;
     if (way == BARE)
         registers.capabilities = controller.capabilities;
@@ -238,10 +239,10 @@ int main(int words, char **word)
         profile(strtoul(word[1], 0, 10), strtoul(word[2], 0, 10), (enum way)(word[3][0] - '0'));
         return 0;
     }
-    for (int way = HOST; way <= BARE; way++)
+    for (int way = HOST; way <= DMA; way++)
         for (int is_emmc = 0; is_emmc < 2; is_emmc++)
             each_in_turn(is_emmc, way);
-    for (int way = HOST; way <= BARE; way++)
+    for (int way = HOST; way <= DMA; way++)
         refusals(way), long_requests(way), switches(way);
     lost_ways();
     clocks();

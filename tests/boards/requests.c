@@ -1,5 +1,5 @@
-/* Makes random requests of a card: reads, writes and erases of 1 to 64 sectors, each from sector 2 on. How many, and by which seed, stands
-   in sector 0, where tests/boards/run has written it. The same numbers come to that script, which knows from them what the card has
+/* Makes random requests of a card: reads, writes and erases of 1 to 64 sectors, each from sector 2 on. Where the controller has DMA every
+   other one goes without. How many, and by which seed, stands in sector 0, where tests/boards/run has written it. The same numbers come to that script, which knows from them what the card has
    to hold, and what was read. */
 #include "board.h"
 
@@ -72,18 +72,25 @@ static void request(struct kelifandro *sd, uint32_t size)
 
 void program(struct kelifandro *sd)
 {
+    const struct kelifandro_registers *registers = sd->registers;
+    struct kelifandro_registers by_port = *registers;
     uint32_t count;
+    by_port.lend = 0;
     expect_done("read", kelifandro_read(sd, KELIFANDRO_USER, 0, 1, blocks));
     count = word(blocks[0]);
     state = word(blocks[0] + 4);
-    for (uint32_t i = 0; i < count; i++)
+    for (uint32_t i = 0; i < count; i++) {
+        sd->registers = i % 2 ? &by_port : registers;
         request(sd, (uint32_t)kelifandro_sectors(sd, KELIFANDRO_USER));
+    }
     print("unit ");
     print_number(sd->card.erase_unit);
     print(" erased ");
     print_number(sd->card.erased_byte);
     print(" lines ");
     print_number(sd->card.lines);
+    print(" lent ");
+    print_number(board_lendings);
     print(" check ");
     print_number(~check);
     print("\n");

@@ -15,7 +15,7 @@
 #include "../../c/examples/controller.h"
 
 enum { CALLS = 12, PAGE = 4096, ROOM = 1024 * 1024, FAULTS_OF_A_FAILURE = 4 };
-enum way { BY_HOST, BY_TRANSFERS, BY_TRANSFERS_ALONE, BY_REGISTERS, BY_ONE_BLOCK, BY_PORT, BY_WORDS, WAYS };
+enum way { BY_HOST, BY_TRANSFERS, BY_TRANSFERS_ALONE, BY_REGISTERS, BY_ONE_BLOCK, BY_PORT, BY_WORDS, BY_DMA };
 
 static const uint8_t *input;
 static size_t input_left;
@@ -185,10 +185,18 @@ static void write_register(void *context, unsigned offset, unsigned size, uint32
     controller_registers.write(context, offset, size, value);
 }
 
+static uint32_t lend_anywhere(void *context, void *bytes, size_t n, int is_written)
+{
+    (void)context, (void)bytes, (void)n, (void)is_written;
+    return any();
+}
+
 static void begin(void)
 {
     int is_emmc = next_byte() % 2;
-    enum way way = next_byte() % WAYS;
+    uint8_t by = next_byte();
+    /* seven ways by the bytes that were found before there was DMA, and that by the highest eleven */
+    enum way way = by >= 35 * BY_DMA ? BY_DMA : by % BY_DMA;
     uint8_t limits = next_byte();
     uint8_t manners = next_byte();
     static const uint8_t lines[] = {8, 4, 1};
@@ -205,7 +213,10 @@ static void begin(void)
         host.transfer = transfer;
     controller_begin(&controller, &host, way == BY_ONE_BLOCK || way == BY_PORT);
     controller.is_bare = way == BY_WORDS;
-    registers = way == BY_PORT ? port_registers : way == BY_WORDS ? board_registers : controller_registers;
+    registers = way == BY_PORT ? port_registers : way == BY_WORDS ? board_registers : way == BY_DMA ? dma_registers : controller_registers;
+    controller.capabilities |= way == BY_DMA ? 1 << 19 : 0;
+    if (way == BY_DMA && is_hostile)
+        registers.lend = lend_anywhere;
     registers.read = read_register, registers.write = write_register, registers.context = &controller;
     memset(sd, 0, sizeof *sd);
     if (way >= BY_REGISTERS)

@@ -7,9 +7,10 @@
 #include <stdlib.h>
 #include <string.h>
 #include "../../c/examples/controller.h"
+#include "trace.h"
 
 enum { CALLS = 10, LONGEST = 1030 };
-enum way { BY_HOST, BY_TRANSFERS, BY_TRANSFERS_ALONE, BY_REGISTERS, BY_ONE_BLOCK, BY_PORT, BY_WORDS, WAYS };
+enum way { BY_HOST, BY_TRANSFERS, BY_TRANSFERS_ALONE, BY_REGISTERS, BY_ONE_BLOCK, BY_PORT, BY_WORDS, BY_DMA, WAYS };
 
 static struct card card;
 static struct controller controller;
@@ -24,8 +25,11 @@ static uint32_t cid[4], csd[4], ocr, own_rca;
 static uint8_t scr[8], ext_csd[512], switch_status[64];
 static unsigned faults, garbled_registers, busy_rounds, busy_left;
 static int is_byte_addressed, is_old, is_locked, is_strict;
-/* How many looks at it find the card busy still, and how many readings of registers find the same dead controller. */
-static unsigned long stuck, dead;
+/* How many looks at it find the card busy still, how many readings of registers find the same dead controller, and how many looks find
+   neither a block in its buffer nor room for one. */
+static unsigned long stuck, dead, without_buffers;
+/* How many statuses show it at work still. */
+static unsigned at_work;
 static uint32_t dead_value;
 /* What follows as data: the index of its command, or 0. */
 static unsigned asked;
@@ -77,9 +81,11 @@ static void draw_csd(int is_emmc)
         set_bits(csd, 73, 62, 0xfff);
     else if (structure == 1)
         set_bits(csd, 75, 48, one_in(4) ? any() : 1 + any() % 8);
+    if (!one_in(4))
+        set_bits(csd, 25, 22, 9 + any() % 3);
     if (one_in(2))
         set_bits(csd, 13, 12, 0);
-    set_bits(csd, 95, 84, 0x5b5 | any());
+    set_bits(csd, 95, 84, one_in(16) ? 0 : 0x5b5 | any());
 }
 
 static void draw_scr(void)
@@ -128,8 +134,8 @@ static void draw_card(int is_emmc)
     is_old = one_in(8);
     is_locked = one_in(24);
     is_strict = one_in(6);
-    stuck = dead = 0;
-    busy_rounds = one_in(3) ? any() % 12 : 0;
+    stuck = dead = without_buffers = at_work = 0;
+    busy_rounds = one_in(3) ? any() % 20 : 0;
     garble(cid, sizeof cid);
     draw_csd(is_emmc);
     draw_scr();
@@ -142,7 +148,34 @@ static void draw_card(int is_emmc)
     ocr = (one_in(12) ? any() : 0x00ff8000u) & 0x00ffffffu;
     ocr |= is_byte_addressed ? 0 : 0x40000000u;
     ocr |= is_emmc && one_in(2) ? 0x80 : 0;
+    ocr = one_in(24) ? ocr & 0x7f000000u : ocr;
     own_rca = one_in(16) ? 0 : any();
+}
+
+/* Another card in its place: one that differs in little, so that what it may do and who it is has to be looked at as a whole. */
+static void other_card(void)
+{
+    static const uint16_t bytes[] = {179, 181, 192, 196, 221, 224, 226, 231, 155};
+    switch (any() % 6) {
+    case 0:
+        cid[any() % 4] ^= 1u << any() % 32;
+        break;
+    case 1:
+        csd[any() % 4] ^= 1u << any() % 32;
+        break;
+    case 2:
+        draw_scr();
+        break;
+    case 3:
+        ext_csd[bytes[any() % 9]] ^= (uint8_t)(1u << any() % 8);
+        break;
+    case 4:
+        ext_csd[one_in(2) ? 212 + any() % 4 : 143 + any() % 12] ^= (uint8_t)(1u << any() % 8);
+        break;
+    default:
+        switch_status[13] ^= 2;
+        own_rca = any();
+    }
 }
 
 /* The response of the card in memory, as this session's card gives it. */
@@ -151,7 +184,7 @@ static void as_drawn(const struct kelifandro_command *command, uint32_t response
     switch (command->index) {
     case 1:
     case 41:
-        response[0] = ocr | (busy_left ? 0 : 0x80000000u);
+        response[0] = ocr | (busy_left || one_in(200) ? 0 : 0x80000000u);
         if (busy_left) {
             busy_left--;
             card.state = 0;
@@ -172,8 +205,17 @@ static void as_drawn(const struct kelifandro_command *command, uint32_t response
     case 7:
         response[0] |= is_locked ? 1u << 25 : 0;
         break;
+    case 6:
+    case 38:
+        if (faults && one_in(40))
+            at_work = any() % 20, stuck = any() % 4;
+        break;
     case 12:
     case 13:
+        if (at_work || (faults && one_in(24))) {
+            at_work -= at_work != 0;
+            response[0] = (response[0] & ~0x1f00u) | 7 << 9;
+        }
         /* as after a read without a count up to the last sector */
         response[0] |= is_strict && one_in(3) ? 1u << 31 : 0;
         break;
@@ -269,8 +311,8 @@ static int is_busy(void *context, uint32_t microseconds)
         stuck--;
         return 1;
     }
-    if (faults && one_in(400))
-        stuck = one_in(2) ? any() % 40 : any() % 40000;
+    if (faults && one_in(100))
+        stuck = one_in(8) ? any() % 40000 : any() % 20;
     return goes_wrong() || (faults > 8000 && one_in(3)) || card_host.is_busy(context, microseconds);
 }
 
@@ -290,8 +332,10 @@ static int transfer(void *context, const struct kelifandro_command *command, uin
     uint8_t *block = at;
     size_t most = one_in(4) ? any() % (blocks + 1) : blocks;
     int fault = send(context, command, response);
-    if (fault)
+    if (fault) {
+        moved->good = (uint16_t)(one_in(4) ? any() % (blocks + 2) : 0);
         return fault;
+    }
     for (size_t i = 0; i < most && !moved->failed; i++, block += 512) {
         int got = command->data == KELIFANDRO_READ ? read_block(context, block, command->block_length) : write_block(context, block);
         moved->failed = (uint8_t)got;
@@ -302,6 +346,13 @@ static int transfer(void *context, const struct kelifandro_command *command, uin
     return 0;
 }
 
+/* A controller that shows the same at each reading, for so many of them. */
+static void die(uint32_t value)
+{
+    dead = one_in(2) ? any() % 100 : one_in(2) ? any() % 20000 : 24000;
+    dead_value = one_in(2) ? 0 : one_in(2) ? value : any();
+}
+
 static uint32_t read_register(void *context, unsigned offset, unsigned size)
 {
     uint32_t value = controller_registers.read(context, offset, size);
@@ -309,10 +360,13 @@ static uint32_t read_register(void *context, unsigned offset, unsigned size)
         dead--;
         return dead_value;
     }
-    if (garbled_registers && one_in(3000)) {
-        dead = any() % (one_in(2) ? 100 : 20000);
-        dead_value = one_in(2) ? 0 : one_in(2) ? value : any();
+    if (offset == 0x25 && without_buffers) {
+        without_buffers--;
+        return 0;
     }
+    /* at any time, and mostly where data is to come or to go */
+    if (garbled_registers && one_in(offset == 0x25 && controller.direction != KELIFANDRO_NO_DATA ? 40 : 3000))
+        die(value);
     if ((any() & 0xffff) >= garbled_registers)
         return value;
     return one_in(2) ? any() : value ^ 1u << any() % 32;
@@ -323,21 +377,40 @@ static void write_register(void *context, unsigned offset, unsigned size, uint32
     controller_registers.write(context, offset, size, value);
 }
 
+/* Memory is had, or not, or anywhere. */
+static uint32_t lend(void *context, void *bytes, size_t n, int is_written)
+{
+    uint32_t at = one_in(8) ? 0 : dma_registers.lend(context, bytes, n, is_written);
+    return at && one_in(24) ? any() : at;
+}
+
+/* What host or controller can: a record may have been written over one that could more. */
+static void draw_limits(void)
+{
+    static const uint8_t lines[] = {8, 4, 1, 8, 4, 0, 3, 255};
+    host.lines = lines[any() % 5 + (one_in(16) ? 3 : 0)];
+    host.high_speed = (uint8_t)(one_in(8) ? any() : any() % 2);
+    if (one_in(3))
+        controller.capabilities = one_in(2) ? any() : 1u << 24 | (any() & 0xff00) | (any() & 5u << 18);
+}
+
 /* Where what is drawn as the card's registers has to fit the card in memory, its own are taken. */
 static void begin_way(enum way way)
 {
-    static const uint8_t lines[] = {8, 4, 1, 8, 4, 0, 3, 255};
-    host = (struct kelifandro_host){.context = &card, .lines = lines[any() % 5 + (one_in(16) ? 3 : 0)], .high_speed = (uint8_t)one_in(2),
-                                    .is_busy = is_busy, .set_ios = set_ios, .pause = pause};
+    host = (struct kelifandro_host){.context = &card, .is_busy = is_busy, .set_ios = set_ios, .pause = pause};
     if (way != BY_TRANSFERS_ALONE)
         host.send = send, host.read_block = read_block, host.write_block = write_block;
     if (way == BY_TRANSFERS || way == BY_TRANSFERS_ALONE)
         host.transfer = transfer;
     controller_begin(&controller, &host, way == BY_ONE_BLOCK || way == BY_PORT);
     controller.is_bare = way == BY_WORDS;
-    if (one_in(3))
-        controller.capabilities = one_in(2) ? any() : 1u << 24 | (any() & 0xff00) | (any() & 5u << 18);
+    controller.version = (uint8_t)(one_in(4) ? any() % 2 : one_in(8) ? any() : 2);
+    draw_limits();
     registers = way == BY_PORT ? port_registers : way == BY_WORDS ? board_registers : controller_registers;
+    if (way == BY_DMA) {
+        controller.capabilities |= one_in(8) ? 0 : 1u << 19;
+        registers.lend = lend, registers.lend_table = dma_registers.lend_table, registers.take_back = dma_registers.take_back;
+    }
     if (way != BY_PORT && way != BY_WORDS)
         registers.read = read_register, registers.write = write_register;
     registers.context = &controller;
@@ -363,6 +436,9 @@ static void begin(uint64_t seed)
         sd.host = &host;
     if (one_in(8))
         garble(&sd.healed, sizeof sd.healed);
+    trace_pieces = one_in(6);
+    if (one_in(24))
+        die(~0u);
 }
 
 static uint64_t drawn_start(uint64_t sectors)
@@ -378,19 +454,99 @@ static uint64_t drawn_start(uint64_t sectors)
     }
 }
 
+/* The last byte of a register of sixteen: its CRC7, and the bit at its end. */
+static uint8_t check_of(const uint8_t *bytes)
+{
+    unsigned crc = 0;
+    for (int i = 0; i < 120; i++) {
+        unsigned bit = (bytes[i / 8] >> (7 - i % 8) & 1u) ^ crc >> 6;
+        crc = (crc << 1 & 0x7f) ^ (bit ? 9 : 0);
+    }
+    return (uint8_t)(crc << 1 | 1);
+}
+
+/* Another register in the record, with the check that it has to have. */
+static void junk_register(uint8_t *bytes, const uint32_t words[4])
+{
+    for (int i = 0; i < 15; i++)
+        bytes[i] = (uint8_t)(words[i / 4] >> (24 - 8 * (i % 4)));
+    bytes[15] = check_of(bytes);
+}
+
+static uint64_t edge(void)
+{
+    static const uint64_t edges[] = {0, 1, 512, 1 << 23, 1ull << 32, 1ull << 55, 1ull << 63};
+    return edges[any() % 7] + any() % 3 - 1;
+}
+
+static void junk_numbers(void)
+{
+    static uint64_t *const sizes[] = {&sd.card.user, &sd.card.boot, &sd.card.gp1,       &sd.card.gp2,
+                                      &sd.card.gp3,  &sd.card.gp4,  &sd.card.erase_unit};
+    static uint64_t *const counts[] = {&sd.healed.attempts, &sd.healed.by_answer,   &sd.healed.by_data,   &sd.healed.by_status,
+                                       &sd.healed.by_busy,  &sd.healed.by_recovery, &sd.healed.settlings, &sd.healed.resets};
+    for (int i = 0; i < 8; i++)
+        if (one_in(3))
+            *counts[i] = ~0ull - any() % 4;
+    if (one_in(2))
+        *sizes[any() % 7] = edge();
+}
+
+/* Bytes of the record; or what its check lets pass: numbers at their edges, other registers, and its first bytes, which stand for names. */
 static void junk(void)
 {
     uint8_t *bytes = (uint8_t *)&sd.card;
     int n = one_in(4) ? (int)sizeof sd.card : 1 + (int)(any() % 3);
+    switch (any() % 6) {
+    case 0:
+        junk_numbers();
+        return;
+    case 1:
+        draw_csd(one_in(2));
+        junk_register(sd.card.csd, csd);
+        return;
+    case 2:
+        sd.card.cid[any() % 15] = (uint8_t)any();
+        sd.card.cid[15] = check_of(sd.card.cid);
+        return;
+    case 3:
+        bytes[any() % 12] = (uint8_t)(any() % 9);
+        if (one_in(2))
+            sd.card.state = (uint8_t)(1 + any() % 3), sd.card.cause = (uint8_t)(any() % 9);
+        return;
+    }
     for (int i = 0; i < n; i++)
         bytes[any() % sizeof sd.card] = (uint8_t)any();
+}
+
+/* Sectors to give up: mostly whole erase units, of which the last may end with the partition. */
+static void give_up(enum kelifandro_part part, uint64_t start, uint64_t count)
+{
+    uint64_t sectors = kelifandro_sectors(&sd, part), unit = sd.card.erase_unit;
+    if (one_in(3))
+        count = (uint64_t)any() << any() % 36;
+    if (unit && one_in(2)) {
+        start -= start % unit;
+        count = one_in(2) ? sectors - start : unit * (1 + any() % 3);
+    }
+    if (one_in(3))
+        kelifandro_trim(&sd, part, start, count);
+    else
+        kelifandro_erase(&sd, part, start, count);
 }
 
 static void one_call(void)
 {
     enum kelifandro_part part = (enum kelifandro_part)(one_in(3) ? any() % 9 : 0);
     uint64_t start = drawn_start(kelifandro_sectors(&sd, part));
-    size_t count = one_in(12) ? any() % LONGEST : 1 + any() % 9;
+    size_t count = one_in(12) ? any() % LONGEST : one_in(40) ? 1023 + any() % 3 : 1 + any() % 9;
+    if (one_in(4))
+        start = kelifandro_sectors(&sd, part) - count;
+    trace_no_part = (uint8_t)(7 + any() % 249);
+    if (one_in(12))
+        draw_limits();
+    if (one_in(200))
+        without_buffers = 12000;
     switch (any() % 12) {
     case 0:
         junk();
@@ -400,15 +556,15 @@ static void one_call(void)
         break;
     case 2:
     case 3:
-        kelifandro_erase(&sd, part, start, one_in(3) ? (uint64_t)any() << any() % 36 : count);
-        break;
     case 4:
     case 5:
-        kelifandro_trim(&sd, part, start, one_in(3) ? (uint64_t)any() << any() % 36 : count);
+        give_up(part, start, count);
         break;
     case 6:
-        /* a card that has lost its power */
+        /* a card that has lost its power, or another one in its place */
         card.state = 0, card.lines = 1, card.high_speed = 0, card.part = 0;
+        if (one_in(2))
+            other_card();
         break;
     case 7:
     case 8:

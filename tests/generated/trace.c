@@ -2,8 +2,10 @@
    each answer that is got, and of each call its result, the bytes of the card, but for its padding, and of what is healed, and the blocks
    that it read. Tells at the end how many passed and the hash. */
 #include <stdio.h>
+#include <string.h>
 #include "../../c/kelifandro.h"
 #include "../../c/kelifandro_core.h"
+#include "trace.h"
 
 #define WRAPPED(result, name, arguments) \
     result __real_##name arguments; \
@@ -12,6 +14,9 @@
 
 /* Bytes of struct kelifandro_card that mean nothing. */
 enum { PADDING = 46, PADDING_END = 48 };
+
+/* kelifandro.c gives this for a partition that it has no number of. */
+enum { NO_PART = 255 };
 
 static uint64_t hash = 1469598103934665603u;
 static unsigned long passed;
@@ -40,12 +45,53 @@ static int32_t ended(int32_t result, const void *card, const void *healed)
     return result;
 }
 
+/* Of a record that was answered as taken in part, the bytes that are to be put again; and of one that came in part, those to come. */
+static uint64_t put_again;
+static uint8_t kept[512];
+static uint64_t kept_from, kept_to;
+int trace_pieces;
+uint8_t trace_no_part = NO_PART;
+
+static uint32_t any(void)
+{
+    static uint32_t state = 1;
+    state = state * 1664525u + 1013904223u;
+    return state >> 8;
+}
+
+/* What is answered in place of n bytes, which have passed: mostly all of them, or fewer, or what is no number of bytes. */
+static int64_t in_pieces(uint64_t n)
+{
+    if (!trace_pieces || any() % 8)
+        return (int64_t)n;
+    switch (any() % 8) {
+    case 0:
+        return -1 - (int64_t)(any() % 3);
+    case 1:
+        return any() % 2 ? INT64_MIN : INT64_MAX;
+    case 2:
+        return (int64_t)(n + any() % 3);
+    default:
+        return (int64_t)(any() % (n + 1));
+    }
+}
+
+/* So many of n bytes are passed by this answer. */
+static uint64_t bytes_of(int64_t answer, uint64_t n)
+{
+    return answer <= 0 ? 0 : (uint64_t)answer < n ? (uint64_t)answer : n;
+}
+
 WRAPPED(int64_t, kelifandro_put, (int32_t stream, const uint8_t *record, uint64_t n))
 {
     passed++;
     number((uint64_t)(int64_t)stream);
     bytes(record, n);
-    int64_t put = __real_kelifandro_put(stream, record, n);
+    if (!put_again)
+        __real_kelifandro_put(stream, record, n);
+    int64_t put = in_pieces(n);
+    put_again = bytes_of(put, n) ? n - bytes_of(put, n) : 0;
+    kept_from = kept_to = 0;
     number((uint64_t)put);
     return put;
 }
@@ -55,9 +101,24 @@ WRAPPED(int64_t, kelifandro_get, (int32_t stream, uint8_t *record, uint64_t n))
     passed++;
     number((uint64_t)(int64_t)stream);
     number(n);
-    int64_t got = __real_kelifandro_get(stream, record, n);
-    bytes(record, got < 0 ? 0 : (uint64_t)got);
+    if (kept_from == kept_to) {
+        int64_t all = __real_kelifandro_get(stream, record, n);
+        kept_from = 0;
+        kept_to = (uint64_t)all;
+        memcpy(kept, record, kept_to);
+    }
+    uint64_t room = kept_to - kept_from < n ? kept_to - kept_from : n;
+    int64_t got = in_pieces(room);
+    memcpy(record, kept + kept_from, bytes_of(got, room));
+    kept_from += bytes_of(got, room);
+    number((uint64_t)got);
+    bytes(record, bytes_of(got, n));
     return got;
+}
+
+static uint8_t part_of(uint8_t part)
+{
+    return part == NO_PART ? trace_no_part : part;
 }
 
 WRAPPED(int32_t, kelifandro_open_by, (uint8_t way, void *card, void *healed))
@@ -67,7 +128,7 @@ WRAPPED(int32_t, kelifandro_open_by, (uint8_t way, void *card, void *healed))
 
 WRAPPED(int32_t, kelifandro_read_by, (uint8_t way, void *card, void *healed, uint8_t part, uint64_t start, void *blocks, uint64_t count))
 {
-    int32_t result = ended(__real_kelifandro_read_by(way, card, healed, part, start, blocks, count), card, healed);
+    int32_t result = ended(__real_kelifandro_read_by(way, card, healed, part_of(part), start, blocks, count), card, healed);
     if (result == KELIFANDRO_DONE)
         bytes(blocks, 512 * count);
     return result;
@@ -76,17 +137,17 @@ WRAPPED(int32_t, kelifandro_read_by, (uint8_t way, void *card, void *healed, uin
 WRAPPED(int32_t, kelifandro_write_by,
         (uint8_t way, void *card, void *healed, uint8_t part, uint64_t start, const void *blocks, uint64_t count))
 {
-    return ended(__real_kelifandro_write_by(way, card, healed, part, start, blocks, count), card, healed);
+    return ended(__real_kelifandro_write_by(way, card, healed, part_of(part), start, blocks, count), card, healed);
 }
 
 WRAPPED(int32_t, kelifandro_erase_by, (uint8_t way, void *card, void *healed, uint8_t part, uint64_t start, uint64_t count))
 {
-    return ended(__real_kelifandro_erase_by(way, card, healed, part, start, count), card, healed);
+    return ended(__real_kelifandro_erase_by(way, card, healed, part_of(part), start, count), card, healed);
 }
 
 WRAPPED(int32_t, kelifandro_trim_by, (uint8_t way, void *card, void *healed, uint8_t part, uint64_t start, uint64_t count))
 {
-    return ended(__real_kelifandro_trim_by(way, card, healed, part, start, count), card, healed);
+    return ended(__real_kelifandro_trim_by(way, card, healed, part_of(part), start, count), card, healed);
 }
 
 static void tell(void) __attribute__((destructor));

@@ -1,5 +1,8 @@
 -- What C is told by each call, and how its answer is read: the talk behind a call, by the talk before it.
-use Rattle.std.specs.Prelude.{◌∷◌, ◌≡◌, [], Bool, List, Result, length, slice_index_or, suc, zero, ℕ}
+use Rattle.std.specs.Int.{from_le_bytes, to_le_bytes, w32, w64}
+use Rattle.std.specs.List.{flat_map}
+use Rattle.std.specs.Prelude.{[], ◌%◌, ◌*◌, ◌+◌, ◌==◌, ◌^◌, ◌||◌, ◌∷◌, ◌≡◌, Bool, List, None, Option, Result, Some, if◌then◌else◌, length, nat_lt, not}
+use Rattle.std.specs.Prelude.{slice_index_or, suc, take, zero, ℕ}
 use Rattle.mmc_card.specs.declared.exchange.DataIn.{DataIn}
 use Rattle.mmc_card.specs.declared.exchange.DataOut.{DataOut}
 use Rattle.mmc_bus.specs.declared.moved.Moved.{Moved}
@@ -38,24 +41,45 @@ TellsWriteWith command count heard moved old new =
     (new ≡ Asked (with_record 11 command count) (last_answer new) ∷ old)
     × (heard ≡ heard_by command.response (last_answer new)) × (moved ≡ written_by heard (last_answer new) count)
 
--- that a block is wanted, which is what came
+-- no record: a block is taken, which is what came
 abbrev pub TellsRead : ℕ → DataIn → List ℕ → List Talk → List Talk → Type 0
 TellsRead size got block old new =
-    (new ≡ Came (last_count new) block ∷ Told (2 ∷ []) ∷ old) × (got ≡ block_by size (last_count new))
+    (new ≡ Came (last_count new) block ∷ old) × (got ≡ block_by size (last_count new))
 
 -- the block, and its status is what came
 abbrev pub TellsWrite : List ℕ → DataOut → List Talk → List Talk → Type 0
 TellsWrite block got old new =
-    (new ≡ Asked block (last_answer new) ∷ Told (3 ∷ []) ∷ old) × (got ≡ status_by (last_answer new))
+    (new ≡ Asked block (last_answer new) ∷ old) × (got ≡ status_by (last_answer new))
 
 -- for how long to look, and the card is busy as came
 abbrev pub TellsLook : ℕ → Bool → List Talk → List Talk → Type 0
 TellsLook micros busy old new =
     (new ≡ Asked (look_record micros) (last_answer new) ∷ old) × (busy ≡ is_busy_by (last_answer new))
 
--- that the block in the Buffer Data Port is wanted, and it is what came
+-- the block in the Buffer Data Port is taken, and it is what came
 abbrev pub TellsPort : List ℕ → List Talk → List Talk → Type 0
-TellsPort block old new = new ≡ Came (last_count new) block ∷ Told (12 ∷ []) ∷ old
+TellsPort block old new = new ≡ Came (last_count new) block ∷ old
+
+-- Memory for so many blocks is wanted for DMA, to be read into or written: its bus address is what came, unless that is 0, no multiple of 4
+-- or the blocks don't lie within 32 bits from there on.
+abbrev pub lent_at : ℕ → ℕ → Option ℕ
+lent_at address count =
+    if (address == 0) || (not (address % 4 == 0) || nat_lt (2 ^ 32) (address + 512 * count)) then None else Some address
+
+abbrev pub TellsLending : ℕ → ℕ → Option ℕ → List Talk → List Talk → Type 0
+TellsLending operation count lent old new =
+    (new ≡ Asked (operation ∷ take 2 (to_le_bytes w64 count)) (last_answer new) ∷ old)
+    × (lent ≡ lent_at (from_le_bytes w32 (last_answer new)) count)
+
+-- the table of it, whose bus address is what came
+abbrev pub TellsTable : List (List ℕ) → ℕ → List Talk → List Talk → Type 0
+TellsTable table address old new =
+    (new ≡ Asked (flat_map (λ row. row) table) (last_answer new) ∷ old) × (address ≡ from_le_bytes w32 (last_answer new))
+
+-- that the blocks are wanted that have come there, before the first of them, and this is one
+abbrev pub TellsTaking : ℕ → List ℕ → List Talk → List Talk → Type 0
+TellsTaking i block old new =
+    new ≡ Came (last_count new) block ∷ (if i == 0 then Told (16 ∷ []) ∷ old else old)
 
 abbrev pub TellsPause : ℕ → List Talk → List Talk → Type 0
 TellsPause micros old new = new ≡ Told (pause_record micros) ∷ old

@@ -1,14 +1,18 @@
-ghost use Rattle.std.specs.Prelude.{◌%◌, ◌∷◌, ◌≡◌, []};
+ghost use Rattle.std.specs.Prelude.{◌%◌, ◌∷◌, ◌≡◌, [], length};
 ghost use Rattle.std.specs.Int.{from_le_bytes, to_le_bytes, w32};
 ghost use Rattle.mmc_sdhci.specs.Accesses.{Passes, Reads, Reads8, Writes, Writes8};
 ghost use Rattle.mmc_sdhci.specs.Beside.{untold};
 ghost use Rattle.mmc_sdhci.specs.Driver.{unkept_controller};
+ghost use Rattle.mmc_sdhci.specs.Controller.{Settled};
+ghost use Rattle.mmc_sdhci.specs.Lending.{Fits, Lends, LendsTable, TakesPlace, unlent};
+ghost use Rattle.mmc_sdhci.specs.Lent.{Room, ToGo};
 ghost use Rattle.mmc_sdhci.specs.Moving.{Puts, Takes};
 ghost use Rattle.c_host.specs.Talk.Talk.{Asked, Told};
 ghost use Rattle.c_host.specs.Talk.{last_answer};
-ghost use Rattle.c_host.specs.Told.{TellsPause, TellsPort};
+ghost use Rattle.c_host.specs.Told.{TellsLending, TellsPause, TellsPort, TellsTable, TellsTaking};
 
-use crate::stream::Stream;
+use crate::stream::{LEND_BLOCKS, LEND_ROOM, Stream};
+use mmc_bus::Blocks;
 use mmc_sdhci::Registers;
 
 /// Registers of an SD host controller that C reads and writes.
@@ -65,9 +69,47 @@ impl Registers for CRegisters {
 
     fn write_port(&mut self, block: &[u8; 512])
         ensures puts { Puts unkept_controller block.now unkept_controller }
-        ensures told { self.new.stream.diary.past ≡ Told block.now ∷ Told (13 ∷ []) ∷ self.old.stream.diary.past }
+        ensures told { self.new.stream.diary.past ≡ Told block.now ∷ self.old.stream.diary.past }
     {
         self.stream.write_port(block);
+    }
+
+    fn lend_room(&mut self, count: usize) -> Option<u32>
+        ensures lends { Lends unkept_controller (Room count) result unkept_controller }
+        ensures fits { Fits result count }
+        ensures told { TellsLending 14 count result self.old.stream.diary.past self.new.stream.diary.past }
+    {
+        self.stream.lend(LEND_ROOM, count)
+    }
+
+    fn lend_blocks<D: Blocks>(&mut self, blocks: &D) -> Option<u32>
+        ensures lends { Lends unkept_controller (ToGo (D.blocks blocks.now)) result unkept_controller }
+        ensures fits { Fits result (length (D.blocks blocks.now)) }
+        ensures told { TellsLending 15 (length (D.blocks blocks.now)) result self.old.stream.diary.past self.new.stream.diary.past }
+    {
+        self.stream.lend(LEND_BLOCKS, blocks.len())
+    }
+
+    fn lend_table(&mut self, table: &[[u8; 8]; 16]) -> u32
+        ensures lends { LendsTable unkept_controller result unkept_controller }
+        ensures told { TellsTable table.now result self.old.stream.diary.past self.new.stream.diary.past }
+    {
+        self.stream.lend_table(table)
+    }
+
+    fn take_place(&mut self, index: usize, block: &mut [u8; 512])
+        ensures takes { TakesPlace unkept_controller index block.new unkept_controller }
+        ensures whole { length block.new ≡ 512 }
+        ensures told { TellsTaking index block.new self.old.stream.diary.past self.new.stream.diary.past }
+    {
+        self.stream.take_place(index, block);
+    }
+
+    fn take_back(&mut self)
+        ensures back { Settled unkept_controller (unkept_controller ≡ unlent unkept_controller) unkept_controller }
+        ensures told { self.new.stream.diary.past ≡ Told (17 ∷ []) ∷ self.old.stream.diary.past }
+    {
+        self.stream.take_back();
     }
 
     fn pause(&mut self, micros: u32)

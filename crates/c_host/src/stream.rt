@@ -1,5 +1,5 @@
 // A stream with a number: records go to C, and answers come from it. The first byte of a record says what is asked; numbers are
-// little endian. `c/kelifandro.c` has the other end.
+// little endian. A block goes and comes as it is: no record has its length. `c/kelifandro.c` has the other end.
 ghost use Rattle.std.specs.Prelude.{◌≡◌, ◌∷◌, ◌≤◌, [], length, true, ℕ};
 ghost use Rattle.std.specs.Int.{from_le_bytes, to_le_bytes, w32};
 ghost use Rattle.c_host.specs.Talk.Talk.{Asked, Came, Told};
@@ -7,8 +7,9 @@ ghost use Rattle.c_host.specs.Talk.{last_answer};
 ghost use Rattle.c_host.specs.Records.{command_record, count_number, data_number, failed_by, fault_by, good_by};
 ghost use Rattle.c_host.specs.Records.{heard_by, heard_in, ios_record, is_word, length_number, lines_by, lines_number, moved_by};
 ghost use Rattle.c_host.specs.Records.{refused_by, response_number, timing_number, touched_by, with_record};
-ghost use Rattle.c_host.specs.Told.{TellsCommand, TellsIos, TellsLook, TellsPause, TellsPort, TellsRead, TellsReadWith, TellsWrite};
-ghost use Rattle.c_host.specs.Told.{TellsWriteWith};
+ghost use Rattle.c_host.specs.Told.{TellsCommand, TellsIos, TellsLending, TellsLook, TellsPause, TellsPort, TellsRead, TellsReadWith};
+ghost use Rattle.c_host.specs.Told.{TellsTable, TellsTaking, TellsWrite, TellsWriteWith, lent_at};
+ghost use Rattle.mmc_sdhci.specs.Lending.{Fits};
 ghost use Rattle.mmc_card.specs.CardAnswer.{Silent};
 ghost use Rattle.mmc_host.specs.Hosts.{answer_heard, unkept_host};
 ghost use Rattle.mmc_host.specs.Together.{ReadsWith, WritesWith};
@@ -20,10 +21,6 @@ use mmc_card::{DataIn, DataOut, Lines, Timing, Width};
 use mmc_host::{Data, Heard, HostCommand, Ios, Response, ResponseFault};
 
 const SEND: u8 = 1;
-
-const READ_BLOCK: u8 = 2;
-
-const WRITE_BLOCK: u8 = 3;
 
 const LOOK: u8 = 4;
 
@@ -41,9 +38,15 @@ const READ_WITH: u8 = 10;
 
 const WRITE_WITH: u8 = 11;
 
-const READ_PORT: u8 = 12;
+/// Memory is wanted for DMA, to be read into.
+pub const LEND_ROOM: u8 = 14;
 
-const WRITE_PORT: u8 = 13;
+/// The same to be written.
+pub const LEND_BLOCKS: u8 = 15;
+
+const TAKE_PLACES: u8 = 16;
+
+const TAKE_BACK: u8 = 17;
 
 /// A stream, with a diary of what went over it, which exists only in proofs.
 ///
@@ -161,6 +164,19 @@ fn touched_by(moved: Moved<DataIn>, count: usize) -> usize
     match moved {
         Moved::Good(good) => good,
         Moved::Failed(_) => count,
+    }
+}
+
+// Where memory for so many blocks is lent; `None` where C has none, or it doesn't lie within 32 bits.
+fn lent_at(address: u32, count: usize) -> Option<u32>
+    ensures lent { result ≡ lent_at address count }
+    ensures fits { Fits result count }
+{
+    let most = (0x1_0000_0000 - u64::from(address)) / 512;
+    if address == 0 || address % 4 != 0 || count as u64 > most {
+        None
+    } else {
+        Some(address)
     }
 }
 
@@ -358,7 +374,6 @@ impl Stream {
     pub fn read_block(&mut self, block: &mut [u8]) -> DataIn
         ensures { TellsRead (length block.old) result block.new self.old.diary.past self.new.diary.past }
     {
-        self.tell(&[READ_BLOCK]);
         let length = block.len();
         let came = self.take(block);
         if came == length {
@@ -374,7 +389,6 @@ impl Stream {
     pub fn write_block(&mut self, block: &[u8; 512]) -> DataOut
         ensures { TellsWrite block.now result self.old.diary.past self.new.diary.past }
     {
-        self.tell(&[WRITE_BLOCK]);
         let mut answer = [0];
         self.ask(block, &mut answer);
         match answer[0] {
@@ -456,15 +470,50 @@ impl Stream {
         ensures length { length block.new ≡ length block.old }
         ensures tells { TellsPort block.new self.old.diary.past self.new.diary.past }
     {
-        self.tell(&[READ_PORT]);
         let _ = self.take(block);
+    }
+
+    /// Asks for memory for so many blocks by `LEND_ROOM` or `LEND_BLOCKS`, and tells its bus address.
+    pub fn lend(&mut self, operation: u8, count: usize) -> Option<u32>
+        ensures tells { TellsLending operation count result self.old.diary.past self.new.diary.past }
+        ensures fits { Fits result count }
+    {
+        let [a, b, ..] = count.to_le_bytes();
+        let mut answer = [0; 4];
+        self.ask(&[operation, a, b], &mut answer);
+        lent_at(u32::from_le_bytes(answer), count)
+    }
+
+    /// Lends a descriptor table, and tells its bus address.
+    pub fn lend_table(&mut self, table: &[[u8; 8]; 16]) -> u32
+        ensures { TellsTable table.now result self.old.diary.past self.new.diary.past }
+    {
+        let mut answer = [0; 4];
+        self.ask(table.as_flattened(), &mut answer);
+        u32::from_le_bytes(answer)
+    }
+
+    /// Takes a block that has come into memory that was lent.
+    pub fn take_place(&mut self, index: usize, block: &mut [u8; 512])
+        ensures { TellsTaking index block.new self.old.diary.past self.new.diary.past }
+    {
+        if index == 0 {
+            self.tell(&[TAKE_PLACES]);
+        }
+        let _ = self.take(block);
+    }
+
+    /// Takes back what was lent.
+    pub fn take_back(&mut self)
+        ensures { self.new.diary.past ≡ Told (17 ∷ []) ∷ self.old.diary.past }
+    {
+        self.tell(&[TAKE_BACK]);
     }
 
     /// Writes a block to the Buffer Data Port.
     pub fn write_port(&mut self, block: &[u8; 512])
-        ensures { self.new.diary.past ≡ Told block.now ∷ Told (13 ∷ []) ∷ self.old.diary.past }
+        ensures { self.new.diary.past ≡ Told block.now ∷ self.old.diary.past }
     {
-        self.tell(&[WRITE_PORT]);
         self.tell(block);
     }
 }

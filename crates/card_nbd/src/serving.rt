@@ -30,7 +30,7 @@ fn opened(
     if device.info().sectors(default).is_none() {
         return Err(NbdFault::NoPart);
     }
-    Ok((Desk::new(device), default))
+    Ok((Desk::with_long_turns(device), default))
 }
 
 // Serves a session on these streams.

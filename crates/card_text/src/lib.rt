@@ -16,4 +16,5 @@ pub mod line;
 pub mod number;
 pub mod output;
 pub mod script;
+mod short_line;
 pub mod text_line;

@@ -1,30 +1,22 @@
 // Reads decimal numbers and hexadecimal bytes.
-ghost use Rattle.std.specs.Prelude.{◌≡◌, ◌==◌, slice_index};
+ghost use Rattle.std.specs.Prelude.{◌≡◌};
 ghost use Rattle.card_text.specs.Numbers.{number_of, byte_of};
-
-use std::str;
-
-// A plus stands first, which `parse` would read.
-fn is_signed(digits: &[u8]) -> bool
-    ensures { result ≡ (slice_index digits.now 0 == 43) }
-{
-    match digits {
-        [] => false,
-        [first, ..] => *first == b'+',
-    }
-}
 
 /// The number that decimal digits write, and nothing for another text.
 pub fn number(digits: &[u8]) -> Option<u64>
     ensures { result ≡ number_of digits.now }
 {
-    if is_signed(digits) {
+    if digits.is_empty() {
         return None;
     }
-    match str::from_utf8(digits) {
-        Ok(text) => text.parse().ok(),
-        Err(_) => None,
+    let mut number = 0_u64;
+    for digit in digits {
+        if !digit.is_ascii_digit() {
+            return None;
+        }
+        number = number.checked_mul(10)?.checked_add((*digit - b'0') as u64)?;
     }
+    Some(number)
 }
 
 /// The byte that two hexadecimal digits write, and nothing for another text.

@@ -1,11 +1,16 @@
 // The lines of the output.
-ghost use Rattle.std.specs.Prelude.{◌≡◌};
+ghost use Rattle.std.specs.Fmt.{decimal};
+ghost use Rattle.std.specs.Prelude.{◌≡◌, ◌≤◌, ◌++◌, ◌∷◌, [], codes, length};
 ghost use Rattle.mmc_block.specs.Answers.{any_failed};
+ghost use Rattle.text_out.specs.Repeats.{repeats_text};
 ghost use Rattle.text_out.specs.Writing.{Writes};
 ghost use Rattle.card_text.specs.Output.{cancel_fault_text, cancelled_text, cause_text, completion_text, completions_text, queued_text, refusal_text, refused_text, uncancelled_text};
 
+use crate::short_line::{ShortLine, add_number, add_text};
+use arrayvec::ArrayVec;
 use mmc_block::{Answer, CancelFault, Cause, Completion, Refused, Ticket};
 use std::io::{self, Write};
+use text_out::put::put;
 use text_out::{Piece, put_pieces};
 
 // The number and the name of a refusal.
@@ -40,20 +45,25 @@ fn cause_name(cause: Cause) -> &'static [u8]
     }
 }
 
+// `T client C`, and these bytes after it.
+fn client_line(ticket: Ticket, client: u32, then: &[u8]) -> ShortLine
+    requires { length then.now ≤ 32 }
+    ensures { result.items ≡ decimal ticket ++ (codes " client " ++ (decimal client ++ then.now)) }
+{
+    let mut line = ArrayVec::new();
+    add_number(&mut line, ticket);
+    add_text(&mut line, b" client ");
+    add_number(&mut line, client as u64);
+    add_text(&mut line, then);
+    line
+}
+
 /// Writes `T client C queued`.
 #[tactic(auto, unfolding(crate::specs::Output::queued_text))]
 pub fn put_queued<W: Write>(out: &mut W, ticket: Ticket, client: u32) -> io::Result<()>
     ensures { Writes (W.contents out.old) (W.contents out.new) result (queued_text ticket client) }
 {
-    put_pieces(
-        out,
-        &[
-            Piece::Number(ticket),
-            Piece::Text(b" client "),
-            Piece::Number(client as u64),
-            Piece::Text(b" queued\n"),
-        ],
-    )
+    put(out, client_line(ticket, client, b" queued\n").as_slice())
 }
 
 /// Writes `client C refused NO NAME`.
@@ -74,47 +84,44 @@ pub fn put_refused<W: Write>(out: &mut W, client: u32, refused: Refused) -> io::
     )
 }
 
+// Writes the bytes of a read, in the line that begins with `front`.
+fn put_data<W: Write>(out: &mut W, front: &[u8], bytes: &[u8]) -> io::Result<()>
+    ensures { Writes (W.contents out.old) (W.contents out.new) result (front.now ++ (repeats_text bytes.now ++ (10 ∷ []))) }
+{
+    put(out, front)?;
+    put_pieces(out, &[Piece::Repeats(bytes), Piece::Text(b"\n")])
+}
+
+// Writes a cause, in the line that begins with `front`.
+fn put_failed<W: Write>(out: &mut W, front: &[u8], cause: Cause) -> io::Result<()>
+    ensures { Writes (W.contents out.old) (W.contents out.new) result (front.now ++ (cause_text cause ++ (10 ∷ []))) }
+{
+    let name = cause_name(cause);
+    put_pieces(
+        out,
+        &[Piece::Text(front), Piece::Text(name), Piece::Text(b"\n")],
+    )
+}
+
 // Writes `T client C done`, `T client C data DATA` or `T client C failed NO NAME`.
 #[tactic(auto, unfolding(crate::specs::Output::completion_text))]
 fn put_completion<W: Write>(out: &mut W, completion: &Completion) -> io::Result<()>
     ensures { Writes (W.contents out.old) (W.contents out.new) result (completion_text completion.now) }
 {
-    let ticket = completion.ticket;
-    let client = completion.client as u64;
-    match &completion.answer {
-        Answer::Done => put_pieces(
-            out,
-            &[
-                Piece::Number(ticket),
-                Piece::Text(b" client "),
-                Piece::Number(client),
-                Piece::Text(b" done\n"),
-            ],
-        ),
-        Answer::Data(bytes) => put_pieces(
-            out,
-            &[
-                Piece::Number(ticket),
-                Piece::Text(b" client "),
-                Piece::Number(client),
-                Piece::Text(b" data "),
-                Piece::Repeats(bytes.as_slice()),
-                Piece::Text(b"\n"),
-            ],
-        ),
+    let Completion {
+        ticket,
+        client,
+        answer,
+    } = completion;
+    match answer {
+        Answer::Done => put(out, client_line(*ticket, *client, b" done\n").as_slice()),
+        Answer::Data(bytes) => {
+            let front = client_line(*ticket, *client, b" data ");
+            put_data(out, front.as_slice(), bytes.as_slice())
+        }
         Answer::Failed(cause) => {
-            let name = cause_name(*cause);
-            put_pieces(
-                out,
-                &[
-                    Piece::Number(ticket),
-                    Piece::Text(b" client "),
-                    Piece::Number(client),
-                    Piece::Text(b" failed "),
-                    Piece::Text(name),
-                    Piece::Text(b"\n"),
-                ],
-            )
+            let front = client_line(*ticket, *client, b" failed ");
+            put_failed(out, front.as_slice(), *cause)
         }
     }
 }

@@ -1,14 +1,15 @@
 -- Clocks that are drawn one after the other.
 use Rattle.std.proofs.Common.{◌≡◌, ℕ, suc, ◌+◌, ◌<◌, List, [], ◌∷◌, ◌++◌, false, Option, Result, Ok, Err, refl, sym, ap, ◌∙◌, append_assoc}
-use Rattle.std.proofs.Common.{append-nil, subst, take-append-drop, drop-cons, length, take, drop, get_or}
+use Rattle.std.proofs.Common.{append-nil, arith, subst, take-append-drop, drop-cons, length, replicate, take, drop, get_or, ◌-◌}
 use Rattle.std.specs.Prelude.{IsErr}
 use Rattle.std.specs.List.{flat_map}
 use Rattle.std.proofs.lemmas.Grind.{flat_map-append}
-use Rattle.std.proofs.lemmas.List.{take_more}
+use Rattle.std.proofs.lemmas.List.{replicate-append-replicate, take_more}
 use Rattle.std.proofs.lemmas.Bool.{false≢true}
 use Rattle.std.specs.Io.KnownBytes.{Appends}
 use Rattle.text_out.specs.Writing.{AppendsFront, Writes}
 use Rattle.text_out.proofs.WritingLemmas.{appends_none, appends_more, front_after, front_before}
+use Rattle.card_wave.specs.Samples.{held}
 use Rattle.card_wave.specs.declared.sample.Sample.{Sample}
 use Rattle.card_wave.specs.declared.wave_writer.WaveEnd.{WaveEnd}
 use Rattle.card_wave.specs.declared.wave_writer.WaveWriter.{WaveWriter}
@@ -99,3 +100,15 @@ pieces_at f xs i d lt =
 -- what a read past the end would give
 abbrev pub no_sample : Sample
 no_sample = record { cmd = false; dat = [] }
+
+-- one clock more that shows the same
+pub held_more : (n : ℕ) (s : Sample) → held n s ++ (s ∷ []) ≡ held (n + 1) s
+unfolding held
+held_more n s = replicate-append-replicate n 1 s
+
+-- the same clocks, of which one is looked at
+pub held_at : (i n : ℕ) (s : Sample) → i < n → held i s ++ ((s ∷ []) ++ held (n - suc i) s) ≡ held n s
+unfolding held
+held_at i n s lt =
+    replicate-append-replicate i (suc (n - suc i)) s
+    ∙ ap (λ k. replicate k s) (let e : i + suc (n - suc i) ≡ n = omega (arith, lt) in e)

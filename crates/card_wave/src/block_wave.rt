@@ -7,9 +7,9 @@ ghost use Rattle.card_wave.specs.declared.sample.Sample.{Sample};
 
 use crate::line_checks::LineChecks;
 use crate::sample::{Sample, bits};
-use crate::wave_writer::WaveWriter;
+use crate::wave_writer::{WaveWriter, Written};
 use mmc_bus::{DataIn, DataOut, Width};
-use std::io::{self, Write};
+use std::io::{ErrorKind, Write};
 
 // A byte on DAT0.
 #[tactic(auto, unfolding(crate::specs::BlockSamples::byte_samples))]
@@ -76,14 +76,14 @@ fn on_four_lines(byte: u8) -> [Sample; 2]
 
 impl<W: Write> WaveWriter<W> {
     // Draws start bits.
-    fn draw_start(&mut self, width: Width) -> io::Result<()>
+    fn draw_start(&mut self, width: Width) -> Written
         ensures { Draws W.contents self.old self.new result (held 1 (start width)) }
     {
         self.draw_held(1, start(width))
     }
 
     // Draws data, and adds it to the checks.
-    fn draw_data(&mut self, samples: &[Sample], checks: &mut LineChecks) -> io::Result<()>
+    fn draw_data(&mut self, samples: &[Sample], checks: &mut LineChecks) -> Written
         ensures drawn { Draws W.contents self.old self.new result samples.now }
         ensures checked { (block : List Sample) → AreChecks checks.old.of_line block
             → AreChecks checks.new.of_line (block ++ samples.now) }
@@ -93,7 +93,7 @@ impl<W: Write> WaveWriter<W> {
     }
 
     // Draws a byte, and adds it to the checks.
-    fn draw_byte(&mut self, width: Width, byte: u8, checks: &mut LineChecks) -> io::Result<()>
+    fn draw_byte(&mut self, width: Width, byte: u8, checks: &mut LineChecks) -> Written
         ensures drawn { Draws W.contents self.old self.new result (byte_samples width byte) }
         ensures checked { (block : List Sample) → AreChecks checks.old.of_line block
             → AreChecks checks.new.of_line (block ++ byte_samples width byte) }
@@ -106,7 +106,7 @@ impl<W: Write> WaveWriter<W> {
     }
 
     // Draws bytes, and gives their checks.
-    fn draw_bytes(&mut self, width: Width, bytes: &[u8]) -> io::Result<LineChecks>
+    fn draw_bytes(&mut self, width: Width, bytes: &[u8]) -> Result<LineChecks, ErrorKind>
         ensures drawn { Draws W.contents self.old self.new result (data_samples width bytes.now) }
         ensures checked { IfOk result (λ checks. AreChecks checks.of_line (data_samples width bytes.now)) }
     {
@@ -118,7 +118,7 @@ impl<W: Write> WaveWriter<W> {
     }
 
     // Draws a block, with good checks or bad ones.
-    fn draw_block(&mut self, width: Width, is_sound: bool, bytes: &[u8]) -> io::Result<()>
+    fn draw_block(&mut self, width: Width, is_sound: bool, bytes: &[u8]) -> Written
         ensures { Draws W.contents self.old self.new result (block_samples width is_sound bytes.now) }
     {
         self.draw_start(width)?;
@@ -128,7 +128,7 @@ impl<W: Write> WaveWriter<W> {
     }
 
     // Draws a block, and eight idle clocks.
-    fn draw_ended(&mut self, width: Width, is_sound: bool, bytes: &[u8]) -> io::Result<()>
+    fn draw_ended(&mut self, width: Width, is_sound: bool, bytes: &[u8]) -> Written
         ensures { Draws W.contents self.old self.new result (block_samples width is_sound bytes.now ++ held 8 idle) }
     {
         self.draw_block(width, is_sound, bytes)?;
@@ -137,12 +137,7 @@ impl<W: Write> WaveWriter<W> {
 
     /// Draws a block to the host, or the wait for one that didn't come.
     #[tactic(auto, unfolding(crate::specs::BlockSamples::received_samples))]
-    pub(crate) fn draw_received(
-        &mut self,
-        width: Width,
-        got: DataIn,
-        bytes: &[u8],
-    ) -> io::Result<()>
+    pub(crate) fn draw_received(&mut self, width: Width, got: DataIn, bytes: &[u8]) -> Written
         ensures { Draws W.contents self.old self.new result (received_samples width got bytes.now) }
     {
         match got {
@@ -154,7 +149,7 @@ impl<W: Write> WaveWriter<W> {
 
     // Draws the CRC status of a card, if it sent one.
     #[tactic(auto, unfolding(crate::specs::BlockSamples::status_samples))]
-    fn draw_status(&mut self, got: DataOut) -> io::Result<()>
+    fn draw_status(&mut self, got: DataOut) -> Written
         ensures { Draws W.contents self.old self.new result (status_samples got) }
     {
         match got {
@@ -165,7 +160,7 @@ impl<W: Write> WaveWriter<W> {
     }
 
     /// Draws a block to the card, and what the card says of it.
-    pub(crate) fn draw_sent(&mut self, width: Width, got: DataOut, bytes: &[u8]) -> io::Result<()>
+    pub(crate) fn draw_sent(&mut self, width: Width, got: DataOut, bytes: &[u8]) -> Written
         ensures { Draws W.contents self.old self.new result (sent_samples width got bytes.now) }
     {
         self.draw_block(width, true, bytes)?;
@@ -176,7 +171,7 @@ impl<W: Write> WaveWriter<W> {
 
     /// Draws a poll.
     #[tactic(auto, unfolding(crate::specs::BlockSamples::poll_samples))]
-    pub(crate) fn draw_poll(&mut self, is_busy: bool) -> io::Result<()>
+    pub(crate) fn draw_poll(&mut self, is_busy: bool) -> Written
         ensures { Draws W.contents self.old self.new result (poll_samples is_busy) }
     {
         if is_busy {

@@ -4,9 +4,9 @@ ghost use Rattle.card_wave.specs.CommandSamples.{byte_on_cmd, command_samples, f
 ghost use Rattle.card_wave.specs.WaveText.{Draws};
 
 use crate::sample::{Sample, bits};
-use crate::wave_writer::WaveWriter;
+use crate::wave_writer::{WaveWriter, Written};
 use mmc_bus::{Reply, Want};
-use std::io::{self, Write};
+use std::io::Write;
 
 // A byte on CMD.
 #[tactic(auto, unfolding(crate::specs::CommandSamples::byte_on_cmd))]
@@ -28,7 +28,7 @@ fn on_cmd(byte: u8) -> [Sample; 8]
 
 impl<W: Write> WaveWriter<W> {
     // Draws a frame on CMD.
-    fn draw_frame(&mut self, bytes: &[u8]) -> io::Result<()>
+    fn draw_frame(&mut self, bytes: &[u8]) -> Written
         ensures { Draws W.contents self.old self.new result (frame_samples bytes.now) }
     {
         for byte in bytes {
@@ -39,7 +39,7 @@ impl<W: Write> WaveWriter<W> {
 
     // Draws the response, or the wait for one that didn't come.
     #[tactic(auto, unfolding(crate::specs::CommandSamples::reply_samples))]
-    fn draw_reply(&mut self, want: Want, reply: Reply) -> io::Result<()>
+    fn draw_reply(&mut self, want: Want, reply: Reply) -> Written
         ensures { Draws W.contents self.old self.new result (reply_samples want reply) }
     {
         match (want, reply) {
@@ -51,12 +51,7 @@ impl<W: Write> WaveWriter<W> {
     }
 
     /// Draws a command and its response.
-    pub(crate) fn draw_command(
-        &mut self,
-        frame: &[u8; 6],
-        want: Want,
-        reply: Reply,
-    ) -> io::Result<()>
+    pub(crate) fn draw_command(&mut self, frame: &[u8; 6], want: Want, reply: Reply) -> Written
         ensures { Draws W.contents self.old self.new result (command_samples frame.now want reply) }
     {
         self.draw_frame(frame)?;

@@ -2,8 +2,8 @@
 ghost use Rattle.card_wave.specs.Header.{header_text};
 ghost use Rattle.text_out.specs.Writing.{Writes};
 
-use std::io::{self, Write};
-use text_out::put::put;
+use crate::wave_writer::{Written, put_bytes};
+use std::io::Write;
 
 const HEADER: &[u8] = b"$timescale 1 ns $end
 $scope module card $end
@@ -36,8 +36,8 @@ $end
 
 /// Writes the header.
 #[tactic(auto, unfolding(crate::specs::Header::header_text))]
-pub(crate) fn put_header<W: Write>(out: &mut W) -> io::Result<()>
+pub(crate) fn put_header<W: Write>(out: &mut W) -> Written
     ensures { Writes (W.contents out.old) (W.contents out.new) result header_text }
 {
-    put(out, HEADER)
+    put_bytes(out, HEADER)
 }

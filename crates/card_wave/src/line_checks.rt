@@ -78,7 +78,9 @@ impl LineChecks {
         }
     }
 
-    /// The checks on the lines in use, the highest bit first; inverted where they are to be bad.
+    /// The checks on the lines in use, the highest bit first; inverted where they are to be bad. It stands alone, so that a block
+    /// is drawn without its locals below.
+    #[inline(never)]
     pub(crate) fn samples(&self, width: Width, is_sound: bool) -> [Sample; 16]
         ensures { (block : List Sample) → AreChecks self.now.of_line block
             → result ≡ check_samples width is_sound block }

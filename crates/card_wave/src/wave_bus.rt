@@ -3,7 +3,7 @@ ghost use Rattle.mmc_bus.specs.Exchanges.{Commanded, DataWritten, Polled, SetsLi
 
 use crate::header::put_header;
 use crate::sample::Sample;
-use crate::wave_writer::{WaveEnd, WaveWriter};
+use crate::wave_writer::{WaveEnd, WaveWriter, Written};
 use mmc_bus::{Bus, DataIn, DataOut, Lines, Reply, Timing, Want, Width};
 use std::io::{self, Write};
 use std::marker::Model;
@@ -13,13 +13,13 @@ use std::marker::Model;
 ///
 /// Times are counted in clocks of 40 ns, as at 25 MHz, and aren't those of a real card: only exchanges take time, and a card answers
 /// at once. The bus goes on whether or not the waveform can be written: after the first fault of the writer nothing is
-/// written any more, and the fault is kept. A waveform of 2^58 clocks ends with a fault of the kind `FileTooLarge`.
+/// written any more, and the kind of the fault is kept. A waveform of 2^58 clocks ends with a fault of the kind `FileTooLarge`.
 #[derive(Drop)]
 pub struct WaveBus<B: Bus, W: Write> {
     bus: B,
     wave: WaveWriter<W>,
     width: Width,
-    fault: io::Result<()>,
+    fault: Written,
 }
 
 impl<B: Bus, W: Write> Model for WaveBus<B, W> {
@@ -53,7 +53,7 @@ impl<B: Bus, W: Write> WaveBus<B, W> {
         }
     }
 
-    /// The bus inside, the writer, and the first fault of a write, if one came. A prefix of the waveform's text went out then.
+    /// The bus inside, the writer, and a fault of the kind of a write's first one, if one came. A prefix of the waveform's text went out then.
     pub fn into_parts(self) -> (B, W, io::Result<()>)
         ensures bus { result.0 ≡ self.bus }
         ensures out { result.1 ≡ self.wave.out }
@@ -65,7 +65,10 @@ impl<B: Bus, W: Write> WaveBus<B, W> {
             width: _,
             fault,
         } = self;
-        (bus, out, fault)
+        match fault {
+            Ok(()) => (bus, out, Ok(())),
+            Err(kind) => (bus, out, Err(kind.into())),
+        }
     }
 }
 

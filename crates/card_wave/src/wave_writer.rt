@@ -1,15 +1,19 @@
 // Writes clocks of a waveform.
+ghost use Rattle.std.specs.Fmt.{decimal};
 ghost use Rattle.std.specs.Prelude.{◌≡◌, ◌<◌, ◌≤◌, ◌∷◌, []};
 ghost use Rattle.card_wave.specs.Samples.{held, idle};
 ghost use Rattle.card_wave.specs.WaveText.{Draws, changed, changes_text, edge_text, sample_text};
 ghost use Rattle.text_out.specs.Writing.{Writes};
 
 use crate::sample::Sample;
-use std::io::{self, ErrorKind, Write};
-use text_out::put::{put, put_number};
+use itoa::Buffer;
+use std::io::{ErrorKind, Write};
 
 // The most clocks of a waveform: their times fit 64 bits.
 const MAX_CLOCKS: u64 = 1 << 58;
+
+/// What came of a write: of a fault its kind alone is handed on, since an error takes ninety bytes of each frame on its way.
+pub(crate) type Written = Result<(), ErrorKind>;
 
 /// Where a waveform ends: the number of its next clock, and what its last clock shows.
 #[derive(Clone, Copy, Debug, PartialEq, Eq)]
@@ -18,25 +22,41 @@ pub(crate) struct WaveEnd {
     pub(crate) lines: Sample,
 }
 
+/// Writes all of the bytes, as `text_out` does, but that the kind of a fault is all that is taken from it.
+pub(crate) fn put_bytes<W: Write>(out: &mut W, bytes: &[u8]) -> Written
+    ensures { Writes (W.contents out.old) (W.contents out.new) result bytes.now }
+{
+    let mut rest = bytes;
+    while !rest.is_empty() {
+        match out.write(rest) {
+            Ok(0) => return Err(ErrorKind::WriteZero),
+            Ok(count) => rest = &rest[count..],
+            Err(fault) => return Err(fault.kind()),
+        }
+    }
+    Ok(())
+}
+
+// Writes a time in decimal digits.
+fn put_time<W: Write>(out: &mut W, time: u64) -> Written
+    ensures { Writes (W.contents out.old) (W.contents out.new) result (decimal time) }
+{
+    put_bytes(out, Buffer::new().format(time).as_bytes())
+}
+
 // Writes a signal, if it changes.
-fn put_change<W: Write>(
-    out: &mut W,
-    was: bool,
-    is: bool,
-    falls: &[u8],
-    rises: &[u8],
-) -> io::Result<()>
+fn put_change<W: Write>(out: &mut W, was: bool, is: bool, falls: &[u8], rises: &[u8]) -> Written
     ensures { Writes (W.contents out.old) (W.contents out.new) result (changed was is falls.now rises.now) }
 {
     match (was, is) {
-        (true, false) => put(out, falls),
-        (false, true) => put(out, rises),
+        (true, false) => put_bytes(out, falls),
+        (false, true) => put_bytes(out, rises),
         _ => Ok(()),
     }
 }
 
 // Writes the signals that change.
-fn put_changes<W: Write>(out: &mut W, was: &Sample, is: &Sample) -> io::Result<()>
+fn put_changes<W: Write>(out: &mut W, was: &Sample, is: &Sample) -> Written
     ensures { Writes (W.contents out.old) (W.contents out.new) result (changes_text was.now is.now) }
 {
     put_change(out, was.cmd, is.cmd, b"0C\n", b"1C\n")?;
@@ -51,20 +71,20 @@ fn put_changes<W: Write>(out: &mut W, was: &Sample, is: &Sample) -> io::Result<(
 }
 
 // Writes an edge of CLK, to this level.
-fn put_edge<W: Write>(out: &mut W, time: u64, level: bool) -> io::Result<()>
+fn put_edge<W: Write>(out: &mut W, time: u64, level: bool) -> Written
     ensures { Writes (W.contents out.old) (W.contents out.new) result (edge_text time level) }
 {
-    put(out, b"#")?;
-    put_number(out, time)?;
+    put_bytes(out, b"#")?;
+    put_time(out, time)?;
     if level {
-        put(out, b"\n1!\n")
+        put_bytes(out, b"\n1!\n")
     } else {
-        put(out, b"\n0!\n")
+        put_bytes(out, b"\n0!\n")
     }
 }
 
 // Writes a clock.
-fn put_sample<W: Write>(out: &mut W, end: &WaveEnd, sample: &Sample) -> io::Result<()>
+fn put_sample<W: Write>(out: &mut W, end: &WaveEnd, sample: &Sample) -> Written
     requires { end.now.clock < MAX_CLOCKS }
     ensures { Writes (W.contents out.old) (W.contents out.new) result (sample_text end.now sample.now) }
 {
@@ -83,11 +103,11 @@ pub(crate) struct WaveWriter<W> {
 impl<W: Write> WaveWriter<W> {
     // Draws a clock.
     #[tactic(auto, unfolding(crate::specs::WaveText::wave_text, crate::specs::WaveText::end_after))]
-    fn draw(&mut self, sample: Sample) -> io::Result<()>
+    fn draw(&mut self, sample: Sample) -> Written
         ensures { Draws W.contents self.old self.new result (sample ∷ []) }
     {
         if self.end.clock >= MAX_CLOCKS {
-            return Err(ErrorKind::FileTooLarge.into());
+            return Err(ErrorKind::FileTooLarge);
         }
         put_sample(&mut self.out, &self.end, &sample)?;
         self.end = WaveEnd {
@@ -98,7 +118,7 @@ impl<W: Write> WaveWriter<W> {
     }
 
     /// Draws these clocks.
-    pub(crate) fn draw_all(&mut self, samples: &[Sample]) -> io::Result<()>
+    pub(crate) fn draw_all(&mut self, samples: &[Sample]) -> Written
         ensures { Draws W.contents self.old self.new result samples.now }
     {
         for sample in samples {
@@ -107,17 +127,18 @@ impl<W: Write> WaveWriter<W> {
         Ok(())
     }
 
-    /// Draws up to 64 clocks that show the same.
-    pub(crate) fn draw_held(&mut self, count: usize, sample: Sample) -> io::Result<()>
-        requires { count ≤ 64 }
+    /// Draws clocks that show the same.
+    pub(crate) fn draw_held(&mut self, count: usize, sample: Sample) -> Written
         ensures { Draws W.contents self.old self.new result (held count sample) }
     {
-        self.draw_all(&[sample; 64][..count])
+        for _done in 0..count {
+            self.draw(sample)?;
+        }
+        Ok(())
     }
 
-    /// Draws up to 64 idle clocks.
-    pub(crate) fn draw_idle(&mut self, count: usize) -> io::Result<()>
-        requires { count ≤ 64 }
+    /// Draws idle clocks.
+    pub(crate) fn draw_idle(&mut self, count: usize) -> Written
         ensures { Draws W.contents self.old self.new result (held count idle) }
     {
         self.draw_held(count, Sample::idle())

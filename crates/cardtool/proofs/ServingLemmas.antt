@@ -1,7 +1,7 @@
 -- A script that is served, one call of the device behind the other.
 use Rattle.std.proofs.Common.{◌≡◌, ◌<◌, ◌+◌, ◌∙◌, ℕ, List, [], ◌∷◌, ◌++◌, Option, Result, Ok, Err, Bool, true, false, cond}
 use Rattle.std.proofs.Common.{sym, refl, ap, subst, append_assoc, append-nil, arith, length, length-append}
-use Rattle.std.specs.Prelude.{◌||◌, ◌-◌, ◌==◌, IsErr}
+use Rattle.std.specs.Prelude.{◌||◌, ◌-◌, ◌==◌, IfOk, IsErr}
 use Rattle.std.proofs.lemmas.Bool.{false≢true, ne_eqb}
 use Rattle.std.specs.Io.KnownBytes.{Appends}
 use Rattle.text_out.specs.Writing.{AppendsFront, Writes}
@@ -12,7 +12,6 @@ use Rattle.mmc_block.specs.declared.completion.Completion.{Completion}
 use Rattle.mmc_switch.specs.declared.info.Info.{Info}
 use Rattle.mmc_block.specs.declared.refused.Refused.{Refused}
 use Rattle.mmc_queue.specs.declared.request.Request.{Request}
-use Rattle.mmc_block.specs.Answers.{any_failed}
 use Rattle.mmc_block.specs.Device.{Comes, DeviceView, Queues, Withdraws, unanswered_of}
 use Rattle.mmc_block.specs.Machine.{Waiting}
 use Rattle.mmc_block.specs.Execution.{Counted, IsCountedExecution, CountedSteps, Event as MachineEvent, Follow, Reply}
@@ -24,10 +23,10 @@ use Rattle.mmc_block.specs.declared.cancel.CancelFault.TheVariants as fault
 use Rattle.mmc_block.proofs.ExecutionLemmas.{follow_then}
 use Rattle.card_text.specs.declared.event.ScriptEvent.{ScriptEvent}
 use Rattle.card_text.specs.declared.event.ScriptEvent.TheVariants.{Submit, Cancel, Turn, Run}
-use Rattle.card_text.specs.Output.{cancelled_text, completions_text, queued_text, refused_text, uncancelled_text}
+use Rattle.card_text.specs.Output.{cancelled_text, queued_text, refused_text, uncancelled_text}
 use Rattle.cardtool.specs.Serving.{IsNext, ServesEvents, ServesPrefix, ServesScript, ServesUpTo, Standing, TurnsAndPrints}
 use Rattle.cardtool.specs.Serving.{answer_if_printed, any_bad, due_events, events_behind, is_bad, machine_event}
-use Rattle.cardtool.specs.Serving.{pending_after, standing_of, text_of, texts}
+use Rattle.cardtool.specs.Serving.{pending_after, print_result, standing_of, text_of, texts}
 
 -- Where a script stands.
 
@@ -286,15 +285,24 @@ one_event view start now e r old new (Err d) step none wrote = breaks_one view s
 
 -- Turns.
 
-pub turned : {B E : Type 0} (view : B → BusView) (start now : DeviceView B) (cs : List Completion)
-    (old new : Option (List ℕ)) (r : Result Unit E)
-    → Comes view start (λ (c n : Counted). CountedSteps start.info c MachineTurn (Answers cs) n) now
-    → unanswered_of now + length cs ≡ unanswered_of start → Writes old new r (completions_text cs)
-    → TurnsAndPrints view start now old new (answer_if_printed (any_failed cs) r)
-turned view start now cs old new (Ok x) turns leaves wrote =
-    record { completions = cs; turns = turns; leaves = leaves; printed = wrote; bad_is = refl }
-turned view start now cs old new (Err e) turns leaves wrote =
-    record { completions = cs; turns = turns; leaves = leaves; printed = wrote; bad_is = tt }
+-- lines that were printed, or were not, beside what is answered
+pub printed_as : {E : Type 0} (bad : Bool) (r : Result Unit E) (old new : Option (List ℕ)) (text : List ℕ)
+    → Writes old new r text → Writes old new (print_result (answer_if_printed bad r)) text
+printed_as bad (Ok x) old new text wrote = wrote
+printed_as bad (Err e) old new text wrote = wrote
+
+pub answered_as : {E : Type 0} (bad : Bool) (r : Result Unit E) → IfOk (answer_if_printed bad r) (λ b. b ≡ bad)
+answered_as bad (Ok x) = refl
+answered_as bad (Err e) = tt
+
+-- a turn without an answer prints nothing
+pub turned_in_silence : {B E : Type 0} (view : B → BusView) (start now : DeviceView B) (cs : List Completion)
+    (out : Option (List ℕ)) → Comes view start (λ (c n : Counted). CountedSteps start.info c MachineTurn (Answers cs) n) now
+    → unanswered_of now + length cs ≡ unanswered_of start → length cs ≡ 0
+    → TurnsAndPrints {B = B} {E = E} view start now out out (Ok false)
+turned_in_silence view start now [] out turns leaves none =
+    record { completions = []; turns = turns; leaves = leaves; printed = appends_none out; bad_is = refl }
+turned_in_silence view start now (c ∷ cs) out turns leaves none = absurd (omega (arith, none))
 
 -- a single turn of the script
 turn_is_step : {B E : Type 0} (view : B → BusView) (start now : DeviceView B) (old new : Option (List ℕ))

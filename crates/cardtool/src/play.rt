@@ -1,8 +1,11 @@
 // Plays the events of a script on a device, and prints what becomes of them.
-ghost use Rattle.std.specs.Prelude.{◌<◌, ◌≡◌, ◌++◌, ◌∷◌, [], true};
+ghost use Rattle.std.specs.Prelude.{◌<◌, ◌≡◌, ◌++◌, ◌∷◌, [], IfOk, true};
+ghost use Rattle.text_out.specs.Writing.{Writes};
+ghost use Rattle.mmc_block.specs.Answers.{any_failed};
 ghost use Rattle.mmc_block.specs.Device.{work_of};
 ghost use Rattle.card_text.specs.declared.event.ScriptEvent.TheVariants.{Cancel, Run, Submit};
-ghost use Rattle.cardtool.specs.Serving.{IsLaterDevice, Plays, TurnsAndPrints, answer_if_printed};
+ghost use Rattle.card_text.specs.Output.{completions_text};
+ghost use Rattle.cardtool.specs.Serving.{IsLaterDevice, Plays, TurnsAndPrints, answer_if_printed, print_result};
 
 use arrayvec::ArrayVec;
 use card_text::event::ScriptEvent;
@@ -25,8 +28,24 @@ fn answer(printed: io::Result<()>, bad: bool) -> io::Result<bool>
     }
 }
 
-// One turn, and a line for each completion; the list that they are given in is empty before and behind it. The answer of this and
-// the next functions says whether some request failed, or a submission or a cancellation was refused.
+// A line for each completion, and whether some request failed; none is left. It stands alone, so that a turn doesn't pay for its
+// locals.
+#[inline(never)]
+fn print<W: Write>(given: &mut Completions, out: &mut W) -> io::Result<bool>
+    ensures printed { Writes (W.contents out.old) (W.contents out.new) (print_result result) (completions_text given.old.items) }
+    ensures bad { IfOk result (λ bad. bad ≡ any_failed given.old.items) }
+    ensures none { given.new.items ≡ [] }
+{
+    let printed = put_completions(out, given.as_slice());
+    let bad = has_failure(given.as_slice());
+    given.clear();
+    answer(printed, bad)
+}
+
+// One turn, and a line for each completion; the list that they are given in is empty before and after it. The answer of this and
+// the next functions says whether some request failed, or a submission or a cancellation was refused. It stands alone, so that
+// `bench/run` finds it.
+#[inline(never)]
 fn turn<B: Bus, W: Write>(
     device: &mut BlockDev<B>,
     given: &mut Completions,
@@ -40,10 +59,10 @@ fn turn<B: Bus, W: Write>(
     ensures none { given.new.items ≡ [] }
 {
     device.turn_into(given);
-    let printed = put_completions(out, given.as_slice());
-    let bad = has_failure(given.as_slice());
-    given.clear();
-    answer(printed, bad)
+    if given.is_empty() {
+        return Ok(false);
+    }
+    print(given, out)
 }
 
 // Turns until no request is without an answer.

@@ -11,7 +11,7 @@ use Rattle.mmc_card.specs.declared.exchange.DataOut.{DataOut}
 use Rattle.mmc_bus.specs.Lending.{IsRewritten, block, nothing}
 use Rattle.mmc_bus.specs.declared.moved.Moved.{Moved}
 use Rattle.mmc_bus.specs.Together.{AreAccepted, AreGood, MovesAtMost, OneOf, ReadOn, RestsBehind, WrittenOn, accepted_one, good_one}
-use Rattle.mmc_bus.specs.Together.{none_accepted, none_good, reads, reads_none, writes, writes_none}
+use Rattle.mmc_bus.specs.Together.{none_accepted, none_good, reads, reads_none, reads_nothing, writes, writes_none}
 
 -- what is known of a step is known of the exchange
 pub one_facts : {Step Facts : Type 0} (old : BusView) (exchange : Exchange) (new : BusView)
@@ -45,6 +45,7 @@ module _ {V S : Type 0} {Reads Takes : V → DataIn → List ℕ → V → Type 
   pub read_as : (moved : Moved DataIn) (new : V) (now : S)
       → ReadOn Reads blocks leave old was moved new now → ReadOn Takes blocks leave old was moved new now
   read_as moved new now (reads good next then all) = reads good next then (good_as good next then all)
+  read_as moved new now (reads_nothing then lent) = reads_nothing then lent
   read_as moved new now (reads_none some view then last got left next before below long not read lent) =
       reads_none some view then last got left next (good_as some view then before) below long not
       (each view next got left read) lent
@@ -114,18 +115,21 @@ module _ {V S : Type 0} {Reads : V → DataIn → List ℕ → V → Type 0} {bl
   pub read_count : (moved : Moved DataIn) (new : V) (now : S)
       → ReadOn Reads blocks leave old was moved new now → length (blocks now) ≡ length (blocks was)
   read_count moved new now (reads good next then all) = good_count good next then all
+  read_count moved new now (reads_nothing then lent) = rewritten_count blocks one was then lent
   read_count moved new now (reads_none some view then last got left next before below long not read lent) =
       rewritten_count blocks one was last lent
 
   pub read_few : (moved : Moved DataIn) (new : V) (now : S)
       → ReadOn Reads blocks leave old was moved new now → MovesAtMost moved (length (blocks was))
   read_few moved new now (reads good next then all) = good_few good next then all
+  read_few moved new now (reads_nothing then lent) = omega arith
   read_few moved new now (reads_none some view then last got left next before below long not read lent) =
       tt
 
   pub read_lent : (moved : Moved DataIn) (new : V) (now : S)
       → ReadOn Reads blocks leave old was moved new now → IsRewritten blocks leave was now
   read_lent moved new now (reads good next then all) = good_lent good next then all
+  read_lent moved new now (reads_nothing then lent) = lent
   read_lent moved new now (reads_none some view then last got left next before below long not read lent) =
       lent
 

@@ -32,11 +32,13 @@ pub data AreGood {V S : Type 0} (Reads : V → DataIn → List ℕ → V → Typ
       → AreGood Reads blocks leave old was done view now → done < length (blocks now) → length left ≡ 512
       → Reads view Good left new → AreGood Reads blocks leave old was (suc done) new (leave now done left)
 
--- Either no more were asked for, or the next one wasn't good; then it isn't told how many came, and all that the places hold is open.
+-- Either no more were asked for, or the next one wasn't good; then it isn't told how many came, and all that the places hold is open. It
+-- is open too where none came, as after a command that wasn't heard.
 pub data ReadOn {V S : Type 0} (Reads : V → DataIn → List ℕ → V → Type 0) (blocks : S → List (List ℕ))
     (leave : S → ℕ → List ℕ → S) (old : V) (was : S) : Moved DataIn → V → S → Type 0 where
   reads : (good : ℕ) (new : V) (now : S) → AreGood Reads blocks leave old was good new now
       → ReadOn Reads blocks leave old was (Move.Good good) new now
+  reads_nothing : (now : S) → IsRewritten blocks leave was now → ReadOn Reads blocks leave old was (Move.Good 0) old now
   reads_none : (some : ℕ) (view : V) (now last : S) (got : DataIn) (left : List ℕ) (new : V)
       → AreGood Reads blocks leave old was some view now → some < length (blocks now) → length left ≡ 512
       → (got ≡ Good → ⊥) → Reads view got left new → IsRewritten blocks leave was last

@@ -19,7 +19,7 @@ use Rattle.mmc_card.specs.declared.exchange.Reply.{Reply}
 use Rattle.mmc_card.specs.declared.exchange.Want.{Want}
 use Rattle.mmc_bus.specs.Heard.{or_unsound, response_heard}
 use Rattle.mmc_bus.specs.Together.{AreAccepted, AreGood, BlockRead, BlockWritten, NotBusy, OneOf, ReadOn, ReadWith, RestsBehind, WrittenOn, WrittenWith}
-use Rattle.mmc_bus.specs.Together.{accepted_one, good_one, none_accepted, none_good, reads, reads_none, writes, writes_none}
+use Rattle.mmc_bus.specs.Together.{accepted_one, good_one, none_accepted, none_good, reads, reads_none, reads_nothing, writes, writes_none}
 use Rattle.mmc_bus.specs.Wires.{Notes}
 use Rattle.mmc_bus.specs.declared.moved.Moved.{Moved}
 use Rattle.mmc_bus.specs.declared.moved.Moved.TheVariants as Move
@@ -222,6 +222,7 @@ module _ {S : Type 0} (blocks : S → List (List ℕ)) (leave : S → ℕ → Li
       → ReadOn BlockRead blocks leave (bus_over behind wire misused) was moved
       (bus_over new (all_noted moved wire) misused) now
   read_over moved new now (reads good next held all) = reads good _ held (good_over good next held all)
+  read_over moved new now (reads_nothing held lent) = reads_nothing held lent
   read_over moved new now (reads_none some view held last got left next all below long not read lent) =
       reads_none some (bus_over view (told_so (In 512 Good) some wire) misused) held last got left
       (bus_over next (noted (In 512 got) wire) misused) (good_so some view held all) below long not
@@ -233,6 +234,7 @@ module _ {S : Type 0} (blocks : S → List (List ℕ)) (leave : S → ℕ → Li
       → Where new ((behind.is_kept ≡ true) × (new.state ≡ passed_on moved behind.state) × (new.limits ≡ behind.limits))
   state_on moved new now (reads good next held all) kept =
       (kept_in good next held all kept, state_in good next held all kept, limits_in good next held all kept)
+  state_on moved new now (reads_nothing held lent) kept = (kept, refl, refl)
   state_on moved new now (reads_none some view held last got left next all below long not read lent) kept =
       let s = read kept in
       let was = s.step.was_kept in (

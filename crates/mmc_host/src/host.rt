@@ -51,8 +51,8 @@ pub trait Host {
 
     /// Sends a command after which blocks of 512 bytes come, as many as there are here at least, and waits for its response as `send`
     /// does. It reads the first of the blocks into their places, from the first on, until one isn't good: as many as the host
-    /// moves by the same call, which are none where it says nothing of it. A block that isn't good ends the data, and
-    /// what the places hold is open then; otherwise the others are read by `read_block`, or the next command ends them.
+    /// moves by the same call, which are none where it says nothing of it. What the places hold is open where a block wasn't good,
+    /// which ends the data, and where none was moved. Otherwise the others are read by `read_block`, or the next command ends them.
     fn read_with<D: BlocksMut>(
         &mut self,
         command: HostCommand,

@@ -1,5 +1,5 @@
 -- A command begins: its registers say what was asked for.
-use Rattle.std.proofs.Common.{◌%◌, ◌*◌, ◌+◌, ◌-◌, ◌/◌, ◌<◌, ◌∙◌, ◌≡◌, ◌≤◌, Bool, Some, ap, arith, bit_and, false, inl, inr, refl, rules, sym, true, ℕ}
+use Rattle.std.proofs.Common.{◌%◌, ◌*◌, ◌+◌, ◌-◌, ◌/◌, ◌<◌, ◌∙◌, ◌≡◌, ◌≤◌, Bool, Some, ap, arith, bit_and, false, inl, inr, refl, rules, suc, sym, true, zero, ℕ}
 use Rattle.std.proofs.lemmas.Bool.{eq-eqb, eqb-true, false≢true, lt-ltb}
 use Rattle.std.proofs.lemmas.Nat.{and_assoc}
 use Rattle.std.specs.Prelude.{◌&&◌, ◌==◌, ◌||◌, if◌then◌else◌, is_none, nat_lt, not}
@@ -10,12 +10,14 @@ use Rattle.mmc_host.specs.declared.data.Data.{Data}
 use Rattle.mmc_host.specs.declared.response.Response.{Response}
 use Rattle.mmc_host.specs.declared.response.Response.TheVariants as To
 use Rattle.mmc_host.specs.declared.told.HostCommand.{HostCommand}
-use Rattle.mmc_sdhci.specs.Commands.{Begins, Clears, IsIdleFor, IsSet, IsUnderWay, SetsSizes, begun, flags_of, is_clear, mode_of, older_bits, response_flags, sizes_after, sizes_of}
+use Rattle.mmc_sdhci.specs.Commands.{Begins, CanMoveBy, Clears, IsIdleFor, IsSet, IsUnderWay, SetsSizes, begun, dma_bit, flags_of, is_clear, mode_of, moves, older_bits, response_flags, sizes_after, sizes_of}
 use Rattle.mmc_sdhci.specs.Controller.{ControllerView, Settled, has_data, is_set}
 use Rattle.mmc_sdhci.specs.CommandLooks.{data_asked, of_a_command}
 use Rattle.mmc_sdhci.specs.DataLooks.{any_bits}
 use Rattle.mmc_sdhci.specs.Moving.{WhereKept}
-use Rattle.mmc_sdhci.specs.Accesses.{IsAllowed, IsAtRest, Writes, can_clear, is_asked, is_at_rest, is_clean, written}
+use Rattle.mmc_sdhci.specs.declared.mover.Mover.{Mover}
+use Rattle.mmc_sdhci.specs.declared.mover.Mover.TheVariants as By
+use Rattle.mmc_sdhci.specs.Accesses.{IsAllowed, IsAtRest, Writes, can_clear, can_move, is_asked, is_at_rest, is_clean, written}
 use Rattle.mmc_sdhci.proofs.Blocks.{both}
 
 small_response : (response : Response) → response_flags response < 32
@@ -74,31 +76,29 @@ by_bits t i f m sizes present reads several size count p r s z n small is =
     ∙ (ap (λ x. data_from present reads several x (field 31 16 sizes)) size_is
     ∙ (ap (λ x. data_from present reads several size x) count_is ∙ is))))
 
+-- bit 0 of Transfer Mode
+small_bit : (mover : Mover) → dma_bit mover ≤ 1
+small_bit By.Driver = omega arith
+small_bit By.Controller = omega arith
+
 -- one block, or several that are counted
-asked_to_read : (size count i f : ℕ) (one : Bool) → (count == 1) ≡ one → size ≤ 512 → count < 0x10000 → f / 32 % 2 ≡ 1
-    → data_asked (size + 0x10000 * count) (word i f (0x10 + (if one then 0 else 0x22))) ≡ Data.Read size count
-asked_to_read size count i f true single short few is =
-    by_bits _ i f 0x10 (size + 0x10000 * count) 1 1 0 size count is refl refl (omega (arith, short))
-    (omega (arith, short, few)) (omega arith) (ap (λ n. Data.Read size n) (sym (eqb-true count 1 single)))
-asked_to_read size count i f false several short few is =
-    by_bits _ i f 0x32 (size + 0x10000 * count) 1 1 1 size count is refl refl (omega (arith, short))
-    (omega (arith, short, few)) (omega arith) refl
+asked_to_read : (size count i f d : ℕ) (one : Bool) → d ≤ 1 → (count == 1) ≡ one → size ≤ 512 → count < 0x10000 → f / 32 % 2 ≡ 1
+    → data_asked (size + 0x10000 * count) (word i f (0x10 + (if one then 0 else 0x22) + d)) ≡ Data.Read size count
+asked_to_read size count i f d true low single short few is =
+    by_bits _ i f (0x10 + d) (size + 0x10000 * count) 1 1 0 size count is (omega (arith, low)) (omega (arith, low)) (omega (arith, short))
+    (omega (arith, short, few)) (omega (arith, low)) (ap (λ n. Data.Read size n) (sym (eqb-true count 1 single)))
+asked_to_read size count i f d false low several short few is =
+    by_bits _ i f (0x32 + d) (size + 0x10000 * count) 1 1 1 size count is (omega (arith, low)) (omega (arith, low)) (omega (arith, short))
+    (omega (arith, short, few)) (omega (arith, low)) refl
 
-asked_to_write : (count i f : ℕ) (one : Bool) → (count == 1) ≡ one → count < 0x10000 → f / 32 % 2 ≡ 1
-    → data_asked (512 + 0x10000 * count) (word i f (if one then 0 else 0x22)) ≡ Data.Write count
-asked_to_write count i f true single few is =
-    by_bits _ i f 0 (512 + 0x10000 * count) 1 0 0 512 count is refl refl (omega arith)
-    (omega (arith, few)) (omega arith) (ap (λ n. Data.Write n) (sym (eqb-true count 1 single)))
-asked_to_write count i f false several few is =
-    by_bits _ i f 0x22 (512 + 0x10000 * count) 1 0 1 512 count is refl refl (omega arith)
-    (omega (arith, few)) (omega arith) refl
-
-asked : (t : Data) (i f : ℕ) → AreMovable t → f / 32 % 2 ≡ (if has_data t then 1 else 0)
-    → data_asked (sizes_of t) (word i f (mode_of t)) ≡ t
-asked Data.Nothing i f movable is = by_bits Data.Nothing i f 0 0 0 0 0 0 0 is refl refl refl refl (omega arith) refl
-asked (Data.Read size count) i f movable is =
-    asked_to_read size count i f (count == 1) refl movable.0.0 movable.1.1 is
-asked (Data.Write count) i f movable is = asked_to_write count i f (count == 1) refl movable.1 is
+asked_to_write : (count i f d : ℕ) (one : Bool) → d ≤ 1 → (count == 1) ≡ one → count < 0x10000 → f / 32 % 2 ≡ 1
+    → data_asked (512 + 0x10000 * count) (word i f ((if one then 0 else 0x22) + d)) ≡ Data.Write count
+asked_to_write count i f d true low single few is =
+    by_bits _ i f (0 + d) (512 + 0x10000 * count) 1 0 0 512 count is (omega (arith, low)) (omega (arith, low)) (omega arith)
+    (omega (arith, few)) (omega (arith, low)) (ap (λ n. Data.Write n) (sym (eqb-true count 1 single)))
+asked_to_write count i f d false low several few is =
+    by_bits _ i f (0x22 + d) (512 + 0x10000 * count) 1 0 1 512 count is (omega (arith, low)) (omega (arith, low)) (omega arith)
+    (omega (arith, few)) (omega (arith, low)) refl
 
 no_bits : (n : ℕ) → bit_and n 0 ≡ 0
 no_bits n = search rules
@@ -106,6 +106,11 @@ no_bits n = search rules
 -- after a command's bits being cleared none of them is left
 cleared_bits : (n : ℕ) → bit_and (bit_and n 0xfff0fffe) 0x000f0001 ≡ 0
 cleared_bits n = and_assoc 0x000f0001 n 0xfff0fffe ∙ no_bits n
+
+not_one : (n : ℕ) → n ≤ 1 → (n == 1) ≡ false → n ≡ 0
+not_one zero low is = refl
+not_one (suc zero) low is = absurd (false≢true (sym is))
+not_one (suc (suc n)) low is = omega (arith, low)
 
 or_true : (b : Bool) → (b || true) ≡ true
 or_true true = refl
@@ -115,11 +120,12 @@ is_running_none : (view : ControllerView) → is_at_rest view ≡ true → is_no
 is_running_none view rests = (both (is_none view.running) _ rests).0
 
 -- with a command that runs
-abbrev running : ControllerView → ℕ → ℕ → ℕ → Data → ControllerView
-running view argument index byte transfer =
+abbrev running : ControllerView → ℕ → ℕ → ℕ → Data → Bool → ControllerView
+running view argument index byte transfer moving =
     record view {
       running = Some (record { index = index; argument = argument; flags = byte; transfer = transfer });
       is_stale = view.is_stale || has_data view.transfer;
+      dma = record view.dma { is_moving = moving };
     }
 
 -- where data is asked for none is under way
@@ -156,20 +162,24 @@ clean_by under_way view command value false has is free clear =
     ∙ clean_for_none under_way view (has_data under_way) refl clear
 
 -- The word of a command.
-record IsWord (command : HostCommand) (value : ℕ) : Type 0 where
+record IsWord (command : HostCommand) (mover : Mover) (value : ℕ) : Type 0 where
   index : field 29 24 value ≡ command.index
   flags : field 23 16 value ≡ flags_of command
   asks : (sizes : ℕ) → data_asked (sizes_after sizes command.transfer) value ≡ command.transfer
   present : field 21 21 value ≡ (if has_data command.transfer then 1 else 0)
-  asked : is_asked value ≡ true
+  moves : (field 0 0 value == 1) ≡ moves mover
+  asked : (view : ControllerView) → ((field 0 0 value == 0) || can_move view (data_asked view.sizes value)) ≡ true
+      → is_asked view value ≡ true
 
 -- what was set before doesn't matter to a command without data
-asked_after : (t : Data) (sizes i f : ℕ) → AreMovable t → f / 32 % 2 ≡ (if has_data t then 1 else 0)
-    → data_asked (sizes_after sizes t) (word i f (mode_of t)) ≡ t
-asked_after Data.Nothing sizes i f movable is =
-    by_bits Data.Nothing i f 0 sizes 0 0 0 (sizes % 4096) (sizes / 0x10000 % 0x10000) is refl refl refl refl (omega arith) refl
-asked_after (Data.Read size blocks) sizes i f movable is = asked (Data.Read size blocks) i f movable is
-asked_after (Data.Write blocks) sizes i f movable is = asked (Data.Write blocks) i f movable is
+asked_after : (t : Data) (sizes i f d : ℕ) → d ≤ 1 → AreMovable t → f / 32 % 2 ≡ (if has_data t then 1 else 0)
+    → data_asked (sizes_after sizes t) (word i f (mode_of t + d)) ≡ t
+asked_after Data.Nothing sizes i f d low movable is =
+    by_bits Data.Nothing i f (0 + d) sizes 0 0 0 (sizes % 4096) (sizes / 0x10000 % 0x10000) is (omega (arith, low)) (omega (arith, low)) refl refl
+    (omega (arith, low)) refl
+asked_after (Data.Read size count) sizes i f d low movable is =
+    asked_to_read size count i f d (count == 1) low refl movable.0.0 movable.1.1 is
+asked_after (Data.Write count) sizes i f d low movable is = asked_to_write count i f d (count == 1) low refl movable.1 is
 
 -- no bits but those that a command may have
 no_bit_two : (response : Response) → response_flags response / 4 % 2 ≡ 0
@@ -181,25 +191,38 @@ no_bit_two To.R3 = refl
 no_bit_two To.R6 = refl
 no_bit_two To.R7 = refl
 
--- Transfer Mode has none of bits 0, 2, 3 and 6 up, and counts where there are several
-record IsMode (mode : ℕ) : Type 0 where
-  even : mode % 2 ≡ 0
+-- Transfer Mode has none of bits 2, 3 and 6 up, and counts where there are several
+record IsMode (bit mode : ℕ) : Type 0 where
+  low : mode % 2 ≡ bit
   plain : mode / 4 % 4 ≡ 0
   small : mode < 0x40
   counted : mode / 32 % 2 ≡ mode / 2 % 2
 
-write_mode : (one : Bool) → IsMode (if one then 0 else 0x22)
-write_mode true = record { even = refl; plain = refl; small = omega arith; counted = refl }
-write_mode false = record { even = refl; plain = refl; small = omega arith; counted = refl }
+mode_by : (d base : ℕ) → d ≤ 1 → base % 2 ≡ 0 → base / 4 % 4 ≡ 0 → base < 0x3f → base / 32 % 2 ≡ base / 2 % 2 → IsMode d (base + d)
+mode_by d base bit even plain small counted = record {
+  low = omega (arith, bit, even);
+  plain = omega (arith, bit, even, plain);
+  small = omega (arith, bit, small);
+  counted = omega (arith, bit, even, counted);
+}
 
-read_mode : (one : Bool) → IsMode (0x10 + (if one then 0 else 0x22))
-read_mode true = record { even = refl; plain = refl; small = omega arith; counted = refl }
-read_mode false = record { even = refl; plain = refl; small = omega arith; counted = refl }
+write_mode : (d : ℕ) (one : Bool) → d ≤ 1 → IsMode d ((if one then 0 else 0x22) + d)
+write_mode d true low = mode_by d 0 low refl refl (omega arith) refl
+write_mode d false low = mode_by d 0x22 low refl refl (omega arith) refl
 
-mode_bits : (t : Data) → IsMode (mode_of t)
-mode_bits Data.Nothing = write_mode true
-mode_bits (Data.Read size count) = read_mode (count == 1)
-mode_bits (Data.Write count) = write_mode (count == 1)
+read_mode : (d : ℕ) (one : Bool) → d ≤ 1 → IsMode d (0x10 + (if one then 0 else 0x22) + d)
+read_mode d true low = mode_by d 0x10 low refl refl (omega arith) refl
+read_mode d false low = mode_by d 0x32 low refl refl (omega arith) refl
+
+mode_bits : (t : Data) (d : ℕ) → d ≤ 1 → IsMode d (mode_of t + d)
+mode_bits Data.Nothing d low = write_mode d true low
+mode_bits (Data.Read size count) d low = read_mode d (count == 1) low
+mode_bits (Data.Write count) d low = write_mode d (count == 1) low
+
+-- no DMA, or DMA
+moves_by : (mover : Mover) (n : ℕ) → n ≡ dma_bit mover → (n == 1) ≡ moves mover
+moves_by By.Driver n is = ap (λ m. m == 1) is
+moves_by By.Controller n is = ap (λ m. m == 1) is
 
 all_six : (a b c d e f : Bool) → a ≡ true → b ≡ true → c ≡ true → d ≡ true → e ≡ true → f ≡ true
     → (a && (b && (c && (d && (e && f))))) ≡ true
@@ -234,27 +257,29 @@ stop_bits : (abort : Bool) → (if abort then 0xc0 else 0) % 0x40 ≡ 0
 stop_bits true = refl
 stop_bits false = refl
 
-abbrev asked_but_counted : ℕ → Bool
-asked_but_counted w =
-    (field 0 0 w == 0)
+abbrev asked_but_counted : ControllerView → ℕ → Bool
+asked_but_counted view w =
+    ((field 0 0 w == 0) || can_move view (data_asked view.sizes w))
     && ((field 3 2 w == 0)
     && ((field 15 6 w == 0) && ((field 18 18 w == 0) && ((field 31 30 w == 0) && asked_type w))))
 
-is_word : (command : HostCommand) → command.index < 64 → AreMovable command.transfer
-    → IsWord command (word command.index (flags_of command) (mode_of command.transfer))
-is_word command small movable =
+is_word : (command : HostCommand) (mover : Mover) → command.index < 64 → AreMovable command.transfer
+    → IsWord command mover (word command.index (flags_of command) (mode_of command.transfer + dma_bit mover))
+is_word command mover small movable =
     let f = flags command in
-    let m = mode_bits command.transfer in
+    let bit = small_bit mover in
+    let m = mode_bits command.transfer (dma_bit mover) bit in
     let p = present_bits (has_data command.transfer) in
     let s = small_response command.response in
     let two : flags_of command / 4 % 2 ≡ 0 =
     flags_two (response_flags command.response) (if has_data command.transfer then 0x20 else 0)
     (if command.index == Index.STOP_TRANSMISSION then 0xc0 else 0) s (no_bit_two command.response) p.1
     (stop_bits (command.index == Index.STOP_TRANSMISSION)) in
-    let w = word command.index (flags_of command) (mode_of command.transfer) in
-    let b0 : field 0 0 w ≡ 0 = omega (arith, m.even) in
-    let e5 : field 5 5 w ≡ mode_of command.transfer / 32 % 2 = omega (arith, m.small) in
-    let e1 : field 1 1 w ≡ mode_of command.transfer / 2 % 2 = omega (arith, m.small) in
+    let mode = mode_of command.transfer + dma_bit mover in
+    let w = word command.index (flags_of command) mode in
+    let b0 : field 0 0 w ≡ dma_bit mover = omega (arith, m.low) in
+    let e5 : field 5 5 w ≡ mode / 32 % 2 = omega (arith, m.small) in
+    let e1 : field 1 1 w ≡ mode / 2 % 2 = omega (arith, m.small) in
     let b5 : field 5 5 w ≡ field 1 1 w = e5 ∙ m.counted ∙ sym e1 in
     let b2 : field 3 2 w ≡ 0 = omega (arith, m.plain, m.small) in
     let b6 : field 15 6 w ≡ 0 = omega (arith, m.small) in
@@ -263,17 +288,19 @@ is_word command small movable =
     record {
       index = omega (arith, small, f.0, m.small);
       flags = omega (arith, small, f.0, m.small);
-      asks = λ sizes. asked_after command.transfer sizes command.index (flags_of command) movable f.1.0;
+      asks = λ sizes. asked_after command.transfer sizes command.index (flags_of command) (dma_bit mover) bit movable f.1.0;
       present = omega (arith, small, f.0, f.1.0, m.small);
-      asked = ap (λ (b : Bool). b && asked_but_counted w) (eq-eqb _ _ b5)
-          ∙ all_six _ _ _ _ _ _ (eq-eqb _ 0 b0) (eq-eqb _ 0 b2) (eq-eqb _ 0 b6) (eq-eqb _ 0 b18) (eq-eqb _ 0 b30)
+      moves = moves_by mover (field 0 0 w) b0;
+      asked = λ view can. ap (λ (b : Bool). b && asked_but_counted view w) (eq-eqb _ _ b5)
+          ∙ all_six _ _ _ _ _ _ can (eq-eqb _ 0 b2) (eq-eqb _ 0 b6) (eq-eqb _ 0 b18) (eq-eqb _ 0 b30)
           (type_by command.index (response_flags command.response) (if has_data command.transfer then 0x20 else 0)
-          (mode_of command.transfer) (command.index == Index.STOP_TRANSMISSION) refl small s p.0 p.1 m.small);
+          mode (command.index == Index.STOP_TRANSMISSION) refl small s p.0 p.1 m.small);
     }
 
-same_word : (command : HostCommand) (flag mode : ℕ) → flag ≡ flags_of command → mode ≡ mode_of command.transfer
-    → word command.index flag mode ≡ word command.index (flags_of command) (mode_of command.transfer)
-same_word command flag mode flagged modal =
+same_word : (command : HostCommand) (mover : Mover) (flag mode : ℕ) → flag ≡ flags_of command
+    → mode ≡ mode_of command.transfer + dma_bit mover
+    → word command.index flag mode ≡ word command.index (flags_of command) (mode_of command.transfer + dma_bit mover)
+same_word command mover flag mode flagged modal =
     ap (λ n. word command.index n mode) flagged ∙ ap (λ n. word command.index (flags_of command) n) modal
 
 -- the registers before the command
@@ -293,40 +320,68 @@ prepared v0 v1 v2 v3 under_way command first second third kept =
       ),
     )
 
-pub may_begin : (v0 v1 v2 v3 : ControllerView) (under_way : Data) (command : HostCommand) (flag mode : ℕ)
-    → IsAtRest v0 → command.index < 64 → AreMovable command.transfer → WhereKept v0 (IsFree under_way command)
-    → IsSet v0 → Clears v0 under_way v1 → SetsSizes v1 command.transfer v2 → Writes v2 0x08 command.argument v3
-    → flag ≡ flags_of command → mode ≡ mode_of command.transfer → IsAllowed v3 0x0c (word command.index flag mode)
-may_begin v0 v1 v2 v3 under_way command flag mode rests small movable free set first second third flagged modal kept =
-    let p = prepared v0 v1 v2 v3 under_way command first second third kept in
-    let w = is_word command small movable in
-    let value = word command.index (flags_of command) (mode_of command.transfer) in
-    let clean : is_clean v1 value ≡ true =
-    clean_by under_way v1 command value (has_data command.transfer) refl w.present (free p.0) p.1.1 in
-    ap (λ n. is_at_rest v3 && (is_clean v3 n && (is_set v3.settings && is_asked n))) (same_word command flag mode flagged modal)
-    ∙ (ap (λ (v : ControllerView). is_at_rest v && (is_clean v value && (is_set v.settings && is_asked value))) p.1.0
-    ∙ (ap (λ (b : Bool). b && (is_clean v1 value && (is_set v0.settings && is_asked value))) (rests p.0)
-    ∙ (ap (λ (b : Bool). b && (is_set v0.settings && is_asked value)) clean
-    ∙ (ap (λ (b : Bool). b && is_asked value) (set p.0) ∙ w.asked))))
+-- DMA can be asked for as before, whatever else is set
+same_move : (t : Data) (view : ControllerView) (status sizes argument : ℕ)
+    → can_move (record view { status = status; sizes = sizes; argument = argument }) t ≡ can_move view t
+same_move Data.Nothing view status sizes argument = refl
+same_move (Data.Read size count) view status sizes argument = refl
+same_move (Data.Write count) view status sizes argument = refl
 
-pub begins : (v0 v1 v2 v3 v4 : ControllerView) (under_way : Data) (command : HostCommand) (flag mode : ℕ)
-    → command.index < 64 → AreMovable command.transfer → Clears v0 under_way v1 → SetsSizes v1 command.transfer v2
-    → Writes v2 0x08 command.argument v3 → Writes v3 0x0c (word command.index flag mode) v4
-    → flag ≡ flags_of command → mode ≡ mode_of command.transfer → Begins v0 command v4
-begins v0 v1 v2 v3 v4 under_way command flag mode small movable first second third fourth flagged modal kept =
-    let w4 = fourth kept in
-    let p = prepared v0 v1 v2 v3 under_way command first second third w4.0 in
-    let w = is_word command small movable in
+can_by : (mover : Mover) (v0 : ControllerView) (status value : ℕ) (command : HostCommand) → v0.is_kept ≡ true
+    → IsWord command mover value → CanMoveBy mover v0 command.transfer
+    → ((field 0 0 value == 0)
+    || can_move (record v0 { status = status; sizes = sizes_after v0.sizes command.transfer; argument = command.argument })
+    (data_asked (sizes_after v0.sizes command.transfer) value)) ≡ true
+can_by By.Driver v0 status value command kept w can =
+    let zero : field 0 0 value ≡ 0 = not_one (field 0 0 value) (omega arith) w.moves in
+    ap (λ n. (n == 0) || can_move (record v0 { status = status; sizes = sizes_after v0.sizes command.transfer; argument = command.argument })
+    (data_asked (sizes_after v0.sizes command.transfer) value)) zero
+can_by By.Controller v0 status value command kept w can =
+    let base = record v0 { status = status; sizes = sizes_after v0.sizes command.transfer; argument = command.argument } in
+    ap (λ (t : Data). (field 0 0 value == 0) || can_move base t) (w.asks v0.sizes)
+    ∙ (ap (λ (b : Bool). (field 0 0 value == 0) || b)
+    (same_move command.transfer v0 status (sizes_after v0.sizes command.transfer) command.argument ∙ (can kept).1)
+    ∙ or_true (field 0 0 value == 0))
+
+pub may_begin : (v0 v1 v2 v3 : ControllerView) (under_way : Data) (command : HostCommand) (mover : Mover) (flag mode : ℕ)
+    → IsAtRest v0 → command.index < 64 → AreMovable command.transfer → WhereKept v0 (IsFree under_way command)
+    → IsSet v0 → CanMoveBy mover v0 command.transfer → Clears v0 under_way v1 → SetsSizes v1 command.transfer v2
+    → Writes v2 0x08 command.argument v3 → flag ≡ flags_of command → mode ≡ mode_of command.transfer + dma_bit mover
+    → IsAllowed v3 0x0c (word command.index flag mode)
+may_begin v0 v1 v2 v3 under_way command mover flag mode rests small movable free set can first second third flagged modal kept =
+    let p = prepared v0 v1 v2 v3 under_way command first second third kept in
+    let w = is_word command mover small movable in
+    let value = word command.index (flags_of command) (mode_of command.transfer + dma_bit mover) in
     let base : ControllerView =
     record v0 { status = v1.status; sizes = sizes_after v0.sizes command.transfer; argument = command.argument } in
-    let value = word command.index (flags_of command) (mode_of command.transfer) in
-    let e : v4 ≡ begun v0 v1.status command =
+    let clean : is_clean v1 value ≡ true =
+    clean_by under_way v1 command value (has_data command.transfer) refl w.present (free p.0) p.1.1 in
+    ap (λ n. is_at_rest v3 && (is_clean v3 n && (is_set v3.settings && is_asked v3 n))) (same_word command mover flag mode flagged modal)
+    ∙ (ap (λ (v : ControllerView). is_at_rest v && (is_clean v value && (is_set v.settings && is_asked v value))) p.1.0
+    ∙ (ap (λ (b : Bool). b && (is_clean v1 value && (is_set v0.settings && is_asked base value))) (rests p.0)
+    ∙ (ap (λ (b : Bool). b && (is_set v0.settings && is_asked base value)) clean
+    ∙ (ap (λ (b : Bool). b && is_asked base value) (set p.0) ∙ w.asked base (can_by mover v0 v1.status value command p.0 w can)))))
+
+pub begins : (v0 v1 v2 v3 v4 : ControllerView) (under_way : Data) (command : HostCommand) (mover : Mover) (flag mode : ℕ)
+    → command.index < 64 → AreMovable command.transfer → Clears v0 under_way v1 → SetsSizes v1 command.transfer v2
+    → Writes v2 0x08 command.argument v3 → Writes v3 0x0c (word command.index flag mode) v4
+    → flag ≡ flags_of command → mode ≡ mode_of command.transfer + dma_bit mover → Begins v0 command mover v4
+begins v0 v1 v2 v3 v4 under_way command mover flag mode small movable first second third fourth flagged modal kept =
+    let w4 = fourth kept in
+    let p = prepared v0 v1 v2 v3 under_way command first second third w4.0 in
+    let w = is_word command mover small movable in
+    let base : ControllerView =
+    record v0 { status = v1.status; sizes = sizes_after v0.sizes command.transfer; argument = command.argument } in
+    let value = word command.index (flags_of command) (mode_of command.transfer + dma_bit mover) in
+    let moving = field 0 0 value == 1 in
+    let e : v4 ≡ begun v0 v1.status command mover =
     w4.1 ∙ (ap (λ (v : ControllerView). written v 0x0c (word command.index flag mode)) p.1.0
-    ∙ (ap (λ n. written base 0x0c n) (same_word command flag mode flagged modal)
-    ∙ (ap (λ n. running base command.argument n (field 23 16 value) (data_asked base.sizes value)) w.index
-    ∙ (ap (λ n. running base command.argument command.index n (data_asked base.sizes value)) w.flags
-    ∙ ap (λ (t : Data). running base command.argument command.index (flags_of command) t) (w.asks v0.sizes))))) in
-    (p.0, e ∙ sym (ap (λ (v : ControllerView). begun v0 v.status command) e))
+    ∙ (ap (λ n. written base 0x0c n) (same_word command mover flag mode flagged modal)
+    ∙ (ap (λ n. running base command.argument n (field 23 16 value) (data_asked base.sizes value) moving) w.index
+    ∙ (ap (λ n. running base command.argument command.index n (data_asked base.sizes value) moving) w.flags
+    ∙ (ap (λ (t : Data). running base command.argument command.index (flags_of command) t moving) (w.asks v0.sizes)
+    ∙ ap (λ (b : Bool). running base command.argument command.index (flags_of command) command.transfer b) w.moves))))) in
+    (p.0, e ∙ sym (ap (λ (v : ControllerView). begun v0 v.status command mover) e))
 
 -- before it
 pub rests_cleared_bits : (v0 v1 : ControllerView) (under_way : Data) → IsAtRest v0 → Clears v0 under_way v1 → IsAtRest v1

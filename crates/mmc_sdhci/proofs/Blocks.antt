@@ -15,7 +15,9 @@ use Rattle.mmc_sdhci.specs.declared.following.Following.{Following}
 use Rattle.mmc_sdhci.specs.declared.watching.Sought.TheVariants.{Gone}
 use Rattle.mmc_sdhci.proofs.Glancing.{gone_news}
 use Rattle.mmc_host.specs.HostStates.{less_one}
-use Rattle.mmc_sdhci.specs.Accesses.{IsAtRest}
+use Rattle.mmc_card.specs.declared.exchange.DataIn.TheVariants as Came
+use Rattle.mmc_sdhci.specs.Accesses.{Drops, DropsBy, IsAtRest}
+use Rattle.mmc_sdhci.specs.DmaLooks.{SomeMoved}
 use Rattle.mmc_sdhci.specs.Controller.{is_settled, is_still, moved, seen}
 use Rattle.mmc_sdhci.specs.DataLooks.{IsUntold, WriteLook, cleared, is_empty}
 use Rattle.mmc_sdhci.specs.Accesses.{is_at_rest}
@@ -58,8 +60,9 @@ clear_at_rest view rests =
     let b = both (not view.is_stuck) _ a.1 in
     let c = both (not view.is_stale) _ b.1 in
     let d = both (is_none view.unjudged) _ c.1 in
-    let e = both (is_empty view.outgoing) (is_still view) d.1 in
-    let s = both (is_settled view) (is_none view.settings.starting) e.1 in
+    let e = both (is_empty view.outgoing) _ d.1 in
+    let m = both (is_still view) (not view.dma.is_moving) e.1 in
+    let s = both (is_settled view) (is_none view.settings.starting) m.0 in
     let f = both (is_none view.resetting) (is_none view.settings.stabilizing) s.0 in (
       record {
         running = none_runs view.running a.0;
@@ -68,27 +71,33 @@ clear_at_rest view rests =
         resetting = no_time view.resetting f.0;
         stabilizing = no_time view.settings.stabilizing f.1;
         starting = no_time view.settings.starting s.1;
+        moving = unset view.dma.is_moving m.1;
       },
       nothing_in view.outgoing e.0,
       no_block view.unjudged d.0,
     )
 
-abbrev rest_with : Option Running → Bool → Bool → Option (List ℕ) → List ℕ → Option ℕ → Option ℕ → Option ℕ → Bool
-rest_with running stuck stale unjudged outgoing resetting stabilizing starting =
+abbrev rest_with : Option Running → Bool → Bool → Option (List ℕ) → List ℕ → Option ℕ → Option ℕ → Option ℕ → Bool → Bool
+rest_with running stuck stale unjudged outgoing resetting stabilizing starting moving =
     is_none running
     && (not stuck
-    && (not stale && (is_none unjudged && (is_empty outgoing && ((is_none resetting && is_none stabilizing) && is_none starting)))))
+    && (not stale
+    && (is_none unjudged
+    && (is_empty outgoing && (((is_none resetting && is_none stabilizing) && is_none starting) && not moving)))))
 
 pub rests_clear : (view : ControllerView) → IsClear view → view.outgoing ≡ [] → view.unjudged ≡ None → is_at_rest view ≡ true
 rests_clear view clear out judged =
-    ap (λ (r : Option Running). rest_with r view.is_stuck view.is_stale view.unjudged view.outgoing view.resetting view.settings.stabilizing view.settings.starting) clear.running
-    ∙ (ap (λ (b : Bool). rest_with None b view.is_stale view.unjudged view.outgoing view.resetting view.settings.stabilizing view.settings.starting) clear.stuck
-    ∙ (ap (λ (b : Bool). rest_with None false b view.unjudged view.outgoing view.resetting view.settings.stabilizing view.settings.starting) clear.stale
-    ∙ (ap (λ (o : Option (List ℕ)). rest_with None false false o view.outgoing view.resetting view.settings.stabilizing view.settings.starting) judged
-    ∙ (ap (λ (l : List ℕ). rest_with None false false None l view.resetting view.settings.stabilizing view.settings.starting) out
-    ∙ (ap (λ (o : Option ℕ). rest_with None false false None [] o view.settings.stabilizing view.settings.starting) clear.resetting
-    ∙ (ap (λ (o : Option ℕ). rest_with None false false None [] None o view.settings.starting) clear.stabilizing
-    ∙ ap (λ (o : Option ℕ). rest_with None false false None [] None None o) clear.starting))))))
+    let settings = view.settings in
+    let moving = view.dma.is_moving in
+    ap (λ (r : Option Running). rest_with r view.is_stuck view.is_stale view.unjudged view.outgoing view.resetting settings.stabilizing settings.starting moving) clear.running
+    ∙ (ap (λ (b : Bool). rest_with None b view.is_stale view.unjudged view.outgoing view.resetting settings.stabilizing settings.starting moving) clear.stuck
+    ∙ (ap (λ (b : Bool). rest_with None false b view.unjudged view.outgoing view.resetting settings.stabilizing settings.starting moving) clear.stale
+    ∙ (ap (λ (o : Option (List ℕ)). rest_with None false false o view.outgoing view.resetting settings.stabilizing settings.starting moving) judged
+    ∙ (ap (λ (l : List ℕ). rest_with None false false None l view.resetting settings.stabilizing settings.starting moving) out
+    ∙ (ap (λ (o : Option ℕ). rest_with None false false None [] o settings.stabilizing settings.starting moving) clear.resetting
+    ∙ (ap (λ (o : Option ℕ). rest_with None false false None [] None o settings.starting moving) clear.stabilizing
+    ∙ (ap (λ (o : Option ℕ). rest_with None false false None [] None None o moving) clear.starting
+    ∙ ap (λ (b : Bool). rest_with None false false None [] None None None b) clear.moving)))))))
 
 pub still_clear : (view : ControllerView) → view.resetting ≡ None → view.settings.stabilizing ≡ None → view.settings.starting ≡ None
     → is_still view ≡ true
@@ -102,10 +111,27 @@ pub rests_cleared : (view new : ControllerView) → view.running ≡ None → vi
     → view.settings.starting ≡ None → new ≡ cleared view → is_at_rest new ≡ true
 rests_cleared view new runs stuck stable started is =
     ap (λ (v : ControllerView). is_at_rest v) is
-    ∙ (ap (λ (r : Option Running). rest_with r view.is_stuck false None [] None view.settings.stabilizing view.settings.starting) runs
-    ∙ (ap (λ (b : Bool). rest_with None b false None [] None view.settings.stabilizing view.settings.starting) stuck
-    ∙ (ap (λ (o : Option ℕ). rest_with None false false None [] None o view.settings.starting) stable
-    ∙ ap (λ (o : Option ℕ). rest_with None false false None [] None None o) started)))
+    ∙ (ap (λ (r : Option Running). rest_with r view.is_stuck false None [] None view.settings.stabilizing view.settings.starting false) runs
+    ∙ (ap (λ (b : Bool). rest_with None b false None [] None view.settings.stabilizing view.settings.starting false) stuck
+    ∙ (ap (λ (o : Option ℕ). rest_with None false false None [] None o view.settings.starting false) stable
+    ∙ ap (λ (o : Option ℕ). rest_with None false false None [] None None o false) started)))
+
+-- The data line is reset: where the driver moves the data, or where no data is under way.
+pub by_port : (view new : ControllerView) → view.dma.is_moving ≡ false → Drops view new → DataDropped view view.transfer new
+by_port view new still drops = subst (λ (b : Bool). DropsBy b view new) still drops
+
+same_card : (view new : ControllerView) → seen new ≡ seen view → cleared (moved view new) ≡ cleared view
+same_card view new same =
+    ap (λ (b : BusView). cleared (record view { card = b.card; faults = b.faults; may_fall = b.may_fall })) same
+
+cleared_by : (by : Bool) (view new : ControllerView) → view.transfer ≡ Data.Nothing → DropsBy by view new → new ≡ cleared view
+cleared_by false view new none drops = subst (λ (t : Data). DataDropped view t new) none drops
+cleared_by true view new none drops =
+    drops.1 ∙ same_card view new
+    (subst (λ (t : Data). SomeMoved t view.dma.lent Came.Nothing (seen view) (seen new)) none drops.0)
+
+pub all_cleared : (view new : ControllerView) → view.transfer ≡ Data.Nothing → Drops view new → new ≡ cleared view
+all_cleared view new none drops = cleared_by view.dma.is_moving view new none drops
 
 pub zero-is-not-one : (n : ℕ) → n ≡ 0 → n ≡ 1 → ⊥
 zero-is-not-one n zero one = omega (arith, zero, one)
@@ -164,17 +190,16 @@ write_lost s v0 v1 v2 result not there watched resets kept =
     let t = there w.0 in (
       w.0,
       write_dropped v0 v2 v1.status v1.is_ready t.1.0 t.0 t.1.1
-          (subst (λ (v : ControllerView). DataDropped v v.transfer v2) w.1 r.1),
+          (by_port (looked_so v0 v1.status v1.is_ready) v2 t.0.moving (subst (λ (v : ControllerView). Drops v v2) w.1 r.1)),
     )
 
 -- an error
 write_broken : (v0 v1 v2 : ControllerView) (ready : Bool) (bits : ℕ) → IsClear v0 → field 15 15 bits ≡ 1
-    → WriteLook (record v0 { is_ready = ready }) bits v1 → DataDropped v1 v1.transfer v2 → IsLostWrite v0 v2
+    → WriteLook (record v0 { is_ready = ready }) bits v1 → Drops v1 v2 → IsLostWrite v0 v2
 write_broken v0 v1 v2 ready bits clear error (write_waits fine not same) dropped = absurd (zero-is-not-one _ fine error)
 write_broken v0 v1 v2 ready bits clear error (write_accepted fine is step same) dropped = absurd (zero-is-not-one _ fine error)
 write_broken v0 v1 v2 ready bits clear error (write_failed e untold same) dropped =
-    let d : v2 ≡ cleared v1 =
-    subst (λ (t : Data). DataDropped v1 t v2) (ap (λ (v : ControllerView). v.transfer) same) dropped in
+    let d : v2 ≡ cleared v1 = all_cleared v1 v2 (ap (λ (v : ControllerView). v.transfer) same) dropped in
     record {
       step = untold_from v0 v1 v2 v0.status ready (ap (λ (v : ControllerView). seen v) d) untold;
       transfer = ap (λ (v : ControllerView). v.transfer) d;
@@ -255,6 +280,7 @@ accepted_by v0 v1 bits ready following clear judged whole is fine found (write_a
         resetting = ap (λ (v : ControllerView). v.resetting) same ∙ clear.resetting;
         stabilizing = ap (λ (v : ControllerView). v.settings.stabilizing) same ∙ clear.stabilizing;
         starting = ap (λ (v : ControllerView). v.settings.starting) same ∙ clear.starting;
+        moving = ap (λ (v : ControllerView). v.dma.is_moving) same ∙ clear.moving;
       })
       (ap (λ (v : ControllerView). v.outgoing) same)
       (ap (λ (v : ControllerView). v.unjudged) same ∙ judged),

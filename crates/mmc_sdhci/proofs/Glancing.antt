@@ -56,9 +56,10 @@ looked s v0 v1 v2 seen seeks before look kept =
     let b = before l.0 in
     let at = seeks b.0 in
     let running : v1.running ≡ None = ap (λ (v : ControllerView). v.running) b.1 ∙ at.0.running in
+    let still : v1.dma.is_moving ≡ false = ap (λ (v : ControllerView). v.dma.is_moving) b.1 ∙ at.0.moving in
     let there : Seeks s v1 =
     subst (λ (v : ControllerView). Seeks s v) (sym b.1) (seeks_still s v0 v1.status v1.is_ready at.1) in
-    let now : DataLooked (looking v1 seen) v1.transfer seen.bits v2 = l.1 running there in
+    let now : DataLooked (looking v1 seen) v1.transfer seen.bits v2 = l.1 running still there in
     let from : DataLooked (after_looks v0 v1.status seen.is_ready) v0.transfer seen.bits v2 =
     subst (λ (v : ControllerView). DataLooked (looking v seen) v.transfer seen.bits v2) b.1 now in
     (b.0, (at.1, data_from v0.transfer v0 v2 v1.status seen.bits seen.is_ready from))

@@ -28,7 +28,7 @@ over_lines view lines limits =
       is_kept = view.is_kept;
     }
 
-same_bus : (view : ControllerView) (state : HostState) (limits : Lines)
+pub same_bus : (view : ControllerView) (state : HostState) (limits : Lines)
     → lines_in view.settings.control ≡ lines_of state.ios → limits_in view.built.capabilities ≡ limits
     → seen view ≡ bus_of (host_over view state limits)
 same_bus view state limits lines most =

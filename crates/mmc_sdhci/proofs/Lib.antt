@@ -1,5 +1,7 @@
 pub mod Beginning
 pub mod Blocks
+pub mod ByDma
+pub mod Finishing
 pub mod Glancing
 pub mod Hosting
 pub mod Limits

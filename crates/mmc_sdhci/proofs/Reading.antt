@@ -13,7 +13,7 @@ use Rattle.mmc_host.specs.declared.data.Data.{Data}
 use Rattle.mmc_sdhci.specs.Commands.{Moves, ResetsData}
 use Rattle.mmc_sdhci.specs.Controller.{ControllerView, Settled, Steps}
 use Rattle.mmc_sdhci.specs.DataLooks.{DataDropped, DataLooked, ReadLook, following_of, came, cleared, has_news, is_over_by}
-use Rattle.mmc_sdhci.specs.Accesses.{IsAtRest, is_at_rest}
+use Rattle.mmc_sdhci.specs.Accesses.{Drops, IsAtRest, is_at_rest}
 use Rattle.mmc_sdhci.specs.Controller.{moved, seen}
 use Rattle.mmc_sdhci.specs.DataLooks.ReadLook.{comes as read_comes, failed as read_failed, good as read_good, waits as read_waits}
 use Rattle.mmc_sdhci.specs.Moving.{IsClear, IsComing, IsSeeking, ReadsBlock, SeesGood, Takes, Watches, WhereKept, is_error, looking}
@@ -21,7 +21,7 @@ use Rattle.mmc_sdhci.specs.declared.following.Following.{Following}
 use Rattle.mmc_sdhci.specs.declared.watching.Glance.{Glance}
 use Rattle.mmc_sdhci.specs.declared.watching.Sought.{Sought}
 use Rattle.mmc_sdhci.specs.declared.watching.Sought.TheVariants.{Block, Good}
-use Rattle.mmc_sdhci.proofs.Blocks.{clear_at_rest, looked_so, none_found, one_found, rests_clear, rests_cleared, zero-is-not-one}
+use Rattle.mmc_sdhci.proofs.Blocks.{all_cleared, by_port, clear_at_rest, looked_so, none_found, one_found, rests_clear, rests_cleared, zero-is-not-one}
 use Rattle.mmc_sdhci.proofs.Glancing.{good_news}
 
 -- No good block came, and the controller is at rest.
@@ -52,16 +52,14 @@ dropped_by v0 v2 status size ready blocks block clear is dropped =
 
 -- an error
 broken_by : (v0 v1 v2 : ControllerView) (size bits : ℕ) (ready : Bool) (block : List ℕ) → IsClear v0 → field 15 15 bits ≡ 1
-    → ReadLook (record v0 { is_ready = ready }) size bits v1 → DataDropped v1 v1.transfer v2
-    → IsLostRead v0 size (came bits) block v2
+    → ReadLook (record v0 { is_ready = ready }) size bits v1 → Drops v1 v2 → IsLostRead v0 size (came bits) block v2
 broken_by v0 v1 v2 size bits ready block clear error (read_waits fine not same) dropped = absurd (zero-is-not-one _ fine error)
 broken_by v0 v1 v2 size bits ready block clear error (read_comes other fine none is len same) dropped =
     absurd (zero-is-not-one _ fine error)
 broken_by v0 v1 v2 size bits ready block clear error (read_good other fine some is step same) dropped =
     absurd (zero-is-not-one _ fine error)
 broken_by v0 v1 v2 size bits ready block clear error (read_failed e steps same) dropped =
-    let d : v2 ≡ cleared v1 =
-    subst (λ (t : Data). DataDropped v1 t v2) (ap (λ (v : ControllerView). v.transfer) same) dropped in
+    let d : v2 ≡ cleared v1 = all_cleared v1 v2 (ap (λ (v : ControllerView). v.transfer) same) dropped in
     record {
       step = subst (λ (b : BusView). Kept (seen v0) (ReadStep (seen v0) size (came bits) block b) b)
           (sym (ap (λ (v : ControllerView). seen v) d)) (steps block);
@@ -83,7 +81,7 @@ read_lost s v0 v1 v2 size block result not there watched resets kept =
     let t = there w.0 in (
       w.0,
       dropped_by v0 v2 v1.status size v1.is_ready t.1.0 block t.0 t.1.1
-          (subst (λ (v : ControllerView). DataDropped v v.transfer v2) w.1 r.1),
+          (by_port (looked_so v0 v1.status v1.is_ready) v2 t.0.moving (subst (λ (v : ControllerView). Drops v v2) w.1 r.1)),
     )
 
 pub read_broken : (s : Sought) (v0 v1 v2 : ControllerView) (size : ℕ) (block : List ℕ) (result : Option Glance) (x : Glance)
@@ -186,6 +184,7 @@ seeks_good v0 v2 under_way size block following rests coming is taken kept =
         resetting = ap (λ (v : ControllerView). v.resetting) t.1 ∙ clear.resetting;
         stabilizing = ap (λ (v : ControllerView). v.settings.stabilizing) t.1 ∙ clear.stabilizing;
         starting = ap (λ (v : ControllerView). v.settings.starting) t.1 ∙ clear.starting;
+        moving = ap (λ (v : ControllerView). v.dma.is_moving) t.1 ∙ clear.moving;
       },
       (
         (size, c.1.0, carried ∙ c.1.1),
@@ -278,6 +277,7 @@ seen_good following v0 v1 result x is fine seeking watched kept =
               resetting = ap (λ (v : ControllerView). v.resetting) one.same ∙ s.0.resetting;
               stabilizing = ap (λ (v : ControllerView). v.settings.stabilizing) one.same ∙ s.0.stabilizing;
               starting = ap (λ (v : ControllerView). v.settings.starting) one.same ∙ s.0.starting;
+              moving = ap (λ (v : ControllerView). v.dma.is_moving) one.same ∙ s.0.moving;
             })
             (ap (λ (v : ControllerView). v.outgoing) one.same ∙ s.1.1.1.2)
             (ap (λ (v : ControllerView). v.unjudged) one.same),

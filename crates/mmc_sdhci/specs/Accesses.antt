@@ -10,6 +10,8 @@ use Rattle.mmc_sdhci.specs.Controller.{ControllerView, Running, Settings, Settle
 use Rattle.mmc_sdhci.specs.Controller.{has_data, is_enough, is_set, is_settled, is_still, moved, seen}
 use Rattle.mmc_sdhci.specs.CommandLooks.{Dropped, Look, data_asked, of_a_command, word}
 use Rattle.mmc_sdhci.specs.DataLooks.{DataDropped, DataLooked, is_empty}
+use Rattle.mmc_sdhci.specs.DmaLooks.{MovingDropped, MovingLooked}
+use Rattle.mmc_sdhci.specs.Lent.{are_to_go, is_pointed, is_room_for}
 
 -- The internal clock is set anew where it is on and the card's isn't.
 abbrev pub stabilizing_from : Option ℕ → ℕ → Option ℕ
@@ -35,6 +37,7 @@ written old offset value =
         transfer = data_asked old.sizes value;
       });
       is_stale = old.is_stale || has_data old.transfer;
+      dma = record old.dma { is_moving = field 0 0 value == 1 };
     }
     else (if offset == 0x20 then record old { outgoing = old.outgoing ++ to_le_bytes w32 value; is_ready = false }
     else (if offset == 0x2c then
@@ -47,14 +50,17 @@ written old offset value =
       };
     }
     else (if offset == 0x30 then record old { status = bit_and old.status (0xffffffff - value) }
-    else (if offset == 0x34 then record old { settings = record old.settings { shown = value } } else old))))))
+    else (if offset == 0x34 then record old { settings = record old.settings { shown = value } }
+    else (if offset == 0x58 then record old { dma = record old.dma { address = value } } else old)))))))
 
--- no command runs, nothing is left of one that failed or of data that was broken off, nothing settles, and the card has started
+-- no command runs, nothing is left of one that failed or of data that was broken off, nothing settles, the card has started, and no data
+-- is moved by DMA
 abbrev pub is_at_rest : ControllerView → Bool
 is_at_rest view =
     is_none view.running
     && (not view.is_stuck
-    && (not view.is_stale && (is_none view.unjudged && (is_empty view.outgoing && is_still view))))
+    && (not view.is_stale
+    && (is_none view.unjudged && (is_empty view.outgoing && (is_still view && not view.dma.is_moving)))))
 
 abbrev pub IsStill : ControllerView → Type 0
 IsStill view = view.is_kept ≡ true → is_still view ≡ true
@@ -83,15 +89,28 @@ abbrev pub is_clean : ControllerView → ℕ → Bool
 is_clean view value =
     if field 21 21 value == 1 then view.status == 0 else bit_and view.status of_a_command == 0
 
--- Sizes are set where no data is under way. What Transfer Mode and Command may ask for: no DMA and no command of the controller's own
--- (bits 0, 2 and 3 of Transfer Mode), no suspending (bits 22 and 23, but for CMD12); several blocks are counted (bits 5 and 1).
+-- Sizes are set where no data is under way.
 abbrev pub is_idle : ControllerView → Bool
 is_idle view = is_none view.running && not (has_data view.transfer)
 
-abbrev pub is_asked : ℕ → Bool
-is_asked value =
+-- What DMA wants (bit 0 of Transfer Mode): memory that is lent for just this data, with a table of it at ADMA System Address; ADMA2 with
+-- addresses of 32 bits selected (28h: bits 4 and 3 are 10b), and its errors shown (36h, bit 9).
+abbrev pub is_dma_set : ControllerView → Bool
+is_dma_set view =
+    is_pointed view.dma.table view.dma.address
+    && ((field 4 3 view.settings.control == 2) && (field 25 25 view.settings.shown == 1))
+
+abbrev pub can_move : ControllerView → Data → Bool
+can_move view Data.Nothing = false
+can_move view (Data.Read size count) = (size == 512) && (is_room_for view.dma.lent count && is_dma_set view)
+can_move view (Data.Write count) = are_to_go view.dma.lent count && is_dma_set view
+
+-- What Transfer Mode and Command may ask for: DMA where it can be; no command of the controller's own (bits 2 and 3 of Transfer Mode), no
+-- suspending (bits 22 and 23, but for CMD12); several blocks are counted (bits 5 and 1).
+abbrev pub is_asked : ControllerView → ℕ → Bool
+is_asked view value =
     (field 5 5 value == field 1 1 value)
-    && ((field 0 0 value == 0)
+    && (((field 0 0 value == 0) || can_move view (data_asked view.sizes value))
     && ((field 3 2 value == 0)
     && ((field 15 6 value == 0)
     && ((field 18 18 value == 0)
@@ -103,9 +122,9 @@ abbrev pub is_clock : Settings → ℕ → Bool
 is_clock settings value =
     nat_lt value 0x100000 && ((field 2 2 value == 0) || (clock_runs value && (field 15 0 value == settings.clock + 4)))
 
--- The interrupts that are judged are shown, and no others but those of the buffer.
+-- The interrupts that are judged are shown, and no others but those of the buffer and of DMA.
 abbrev pub is_shown_set : ℕ → Bool
-is_shown_set value = are_shown value && (bit_and value 0x007f003f == value)
+is_shown_set value = are_shown value && (bit_and value 0x027f003f == value)
 
 -- THE RULES for writes of 32 bits, register by register: no others are written. A command is begun at rest, once the card has started,
 -- with all set that it needs, and no old interrupt; no interrupt is cleared that wasn't judged; a word of a block is written where it
@@ -115,28 +134,36 @@ may_write view offset value =
     if offset == 0x04 then is_idle view && nat_lt (field 15 0 value) 0x1000
     else (if offset == 0x08 then is_none view.running
     else (if offset == 0x0c then
-    is_at_rest view && (is_clean view value && (is_set view.settings && is_asked value))
+    is_at_rest view && (is_clean view value && (is_set view.settings && is_asked view value))
     else (if offset == 0x20 then can_put view
     else (if offset == 0x2c then is_idle view && (is_settled view && is_clock view.settings value)
     else (if offset == 0x30 then can_clear view value
     else (if offset == 0x34 then is_idle view && is_shown_set value
-    else (if offset == 0x38 then value == 0 else false)))))))
+    else (if offset == 0x38 then value == 0 else (if offset == 0x58 then is_idle view else false))))))))
 
 abbrev pub IsAllowed : ControllerView → ℕ → ℕ → Type 0
 IsAllowed view offset value = view.is_kept ≡ true → may_write view offset value ≡ true
 
--- Host Control 1 asks for eight lines and for high speed only where Capabilities have them (bits 18 and 21).
-abbrev pub is_able : ℕ → ℕ → Bool
-is_able capabilities control =
-    (not (field 5 5 control == 1) || (field 18 18 capabilities == 1))
-    && (not (field 2 2 control == 1) || (field 21 21 capabilities == 1))
+-- Host Control 1 asks for eight lines and for high speed only where Capabilities have them (bits 18 and 21), or where it did before, and
+-- selects ADMA2 (bits 4 and 3) where they have that (bit 19), and otherwise nothing.
+abbrev pub is_able : ℕ → ℕ → ℕ → Bool
+is_able capabilities before control =
+    (not (field 5 5 control == 1) || ((field 18 18 capabilities == 1) || (field 5 5 before == 1)))
+    && (not (field 2 2 control == 1) || ((field 21 21 capabilities == 1) || (field 2 2 before == 1)))
 
--- And of 8 bits: lines and high speed alone, as far as there are such (28h), 3.3 V (29h), and resets (2Fh) of the command line and of the data line. The whole
--- controller is reset before the card has power, for the card loses it.
+abbrev pub is_selected : ℕ → ℕ → Bool
+is_selected capabilities control =
+    (field 4 3 control == 0) || ((field 4 3 control == 2) && (field 19 19 capabilities == 1))
+
+-- And of 8 bits: lines, high speed and ADMA2 alone, as far as there are such (28h), 3.3 V (29h), and resets (2Fh) of the command line
+-- and of the data line. The whole controller is reset before the card has power, for the card loses it.
 abbrev pub may_write8 : ControllerView → ℕ → ℕ → Bool
 may_write8 view offset value =
     if offset == 0x28 then
-    is_idle view && (is_settled view && ((bit_and value 0x26 == value) && is_able view.built.capabilities value))
+    is_idle view
+    && (is_settled view
+    && ((bit_and value 0x3e == value)
+    && (is_able view.built.capabilities view.settings.control value && is_selected view.built.capabilities value)))
     else (if offset == 0x29 then is_idle view && (value == 0x0f)
     else (if offset == 0x2f then
     (value == 2) || ((value == 4) || ((value == 1) && (is_at_rest view && (is_idle view && (view.settings.power == 0)))))
@@ -148,9 +175,13 @@ IsAllowed8 view offset value = view.is_kept ≡ true → may_write8 view offset 
 abbrev pub Writes : ControllerView → ℕ → ℕ → ControllerView → Type 0
 Writes old offset value new = Settled old (new ≡ written old offset value) new
 
--- what a register that is read shows
+-- a look at the interrupt status while no command runs: where the controller moves the data by itself, or not
+abbrev pub DataLookedBy : Bool → ControllerView → ℕ → ControllerView → Type 0
+DataLookedBy true old bits new = MovingLooked old old.transfer bits new
+DataLookedBy false old bits new = DataLooked old old.transfer bits new
+
 abbrev pub Looked : ControllerView → Option Running → ℕ → ControllerView → Type 0
-Looked old None bits new = DataLooked old old.transfer bits new
+Looked old None bits new = DataLookedBy old.dma.is_moving old bits new
 Looked old (Some run) bits new = Look old run bits new
 
 -- the Buffer Data Port gives the next four bytes of the block that came, if they are there
@@ -251,7 +282,16 @@ restarted view =
       status = 0;
       is_ready = false;
       incoming = [];
+      dma = record view.dma { address = 0 };
     }
+
+-- the data line is reset
+abbrev pub DropsBy : Bool → ControllerView → ControllerView → Type 0
+DropsBy true old new = MovingDropped old new
+DropsBy false old new = DataDropped old old.transfer new
+
+abbrev pub Drops : ControllerView → ControllerView → Type 0
+Drops old new = DropsBy old.dma.is_moving old new
 
 -- a reset is begun, after which the controller is to be this
 abbrev pub ResetBegins : ControllerView → ControllerView → Type 0
@@ -267,7 +307,7 @@ pub record Does8 (old : ControllerView) (offset value : ℕ) (new : ControllerVi
   pub command : offset ≡ 0x2f → value ≡ 2
       → (after : ControllerView) × Dropped old old.running after × ResetBegins after new
   pub line : offset ≡ 0x2f → value ≡ 4
-      → (after : ControllerView) × DataDropped old old.transfer after × ResetBegins after new
+      → (after : ControllerView) × Drops old after × ResetBegins after new
 
 abbrev pub Writes8 : ControllerView → ℕ → ℕ → ControllerView → Type 0
 Writes8 old offset value new = Settled old (Does8 old offset value new) new

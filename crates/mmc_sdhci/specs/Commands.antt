@@ -8,12 +8,16 @@ use Rattle.mmc_host.specs.declared.data.Data.{Data}
 use Rattle.mmc_host.specs.declared.response.Response.{Response}
 use Rattle.mmc_host.specs.declared.response.Response.TheVariants as To
 use Rattle.mmc_host.specs.declared.told.Heard.{Heard}
+use Rattle.mmc_host.specs.declared.told.Heard.TheVariants as Hears
 use Rattle.mmc_host.specs.declared.told.HostCommand.{HostCommand}
 use Rattle.mmc_host.specs.declared.told.ResponseFault.{ResponseFault}
 use Rattle.mmc_host.specs.declared.told.ResponseFault.TheVariants as Fault
 use Rattle.mmc_sdhci.specs.Controller.{ControllerView, Running, Settled, Steps}
 use Rattle.mmc_sdhci.specs.CommandLooks.{Dropped, IsShown, Look}
-use Rattle.mmc_sdhci.specs.DataLooks.{DataDropped, any_bits}
+use Rattle.mmc_sdhci.specs.Accesses.{Drops, can_move, is_at_rest}
+use Rattle.mmc_sdhci.specs.DataLooks.{any_bits}
+use Rattle.mmc_sdhci.specs.declared.mover.Mover.{Mover}
+use Rattle.mmc_sdhci.specs.declared.mover.Mover.TheVariants as By
 use Rattle.mmc_sdhci.specs.Controller.{has_data, is_set, seen}
 use Rattle.mmc_sdhci.specs.CommandLooks.{of_a_command, word}
 
@@ -48,6 +52,18 @@ mode_of Data.Nothing = 0
 mode_of (Data.Read size blocks) = 0x10 + several blocks
 mode_of (Data.Write blocks) = several blocks
 
+-- and its bit 0: DMA
+abbrev pub moves : Mover → Bool
+moves By.Driver = false
+moves By.Controller = true
+
+abbrev pub dma_bit : Mover → ℕ
+dma_bit mover = if moves mover then 1 else 0
+
+-- Host Control 1, bits 4 and 3: none, or ADMA2 with addresses of 32 bits
+abbrev pub selection : Mover → ℕ
+selection mover = if moves mover then 2 else 0
+
 -- Block Size, and Block Count above it
 abbrev pub sizes_of : Data → ℕ
 sizes_of Data.Nothing = 0
@@ -75,18 +91,19 @@ Clears old under_way new =
     Settled old ((new ≡ record old { status = new.status }) × (is_clear under_way new ≡ true)) new
 
 -- the command runs
-abbrev pub begun : ControllerView → ℕ → HostCommand → ControllerView
-begun view status command =
+abbrev pub begun : ControllerView → ℕ → HostCommand → Mover → ControllerView
+begun view status command mover =
     record view {
       status = status;
       sizes = sizes_after view.sizes command.transfer;
       argument = command.argument;
       running = Some (run_of command);
       is_stale = view.is_stale || has_data view.transfer;
+      dma = record view.dma { is_moving = moves mover };
     }
 
-abbrev pub Begins : ControllerView → HostCommand → ControllerView → Type 0
-Begins old command new = Settled old (new ≡ begun old new.status command) new
+abbrev pub Begins : ControllerView → HostCommand → Mover → ControllerView → Type 0
+Begins old command mover new = Settled old (new ≡ begun old new.status command mover) new
 
 -- Looks until a command is over: the last of them, unless none found it over.
 abbrev pub Ends : ControllerView → ℕ → ControllerView → Type 0
@@ -103,6 +120,11 @@ Tells old response heard new =
     ((new ≡ old) × ((index : ℕ) (flags : ℕ) (answer : CardAnswer) → flags % 32 ≡ response_flags response
     → IsShown flags index old.response answer → answer ≡ answer_heard response index (Ok heard))) new
 
+-- a word was heard
+abbrev pub IsWord : Heard → Type 0
+IsWord (Hears.Word word) = Unit {0}
+IsWord _ = ⊥
+
 -- A step of the card, after which this data is under way; what is set and built in is as before.
 pub record Moves (old : ControllerView) (Step : Type 0) (left : Data) (new : ControllerView) : Type 0 where
   pub step : Steps old Step new
@@ -118,6 +140,27 @@ Sends old command heard new =
     (Answers (seen old) command.index command.argument (answer_heard command.response command.index heard) (seen new))
     (if is_ok heard then command.transfer else Data.Nothing) new) new
 
+-- DMA is asked for where it can be
+abbrev pub CanMoveBy : Mover → ControllerView → Data → Type 0
+CanMoveBy By.Driver view transfer = Unit {0}
+CanMoveBy By.Controller view transfer =
+    view.is_kept ≡ true → (view.transfer ≡ Data.Nothing) × (can_move view transfer ≡ true)
+
+-- DMA: after a command that was heard the controller moves its data; what is lent stays so.
+abbrev pub is_moved_by : Mover → Result Heard ResponseFault → Bool
+is_moved_by By.Driver heard = false
+is_moved_by By.Controller heard = is_ok heard
+
+abbrev pub KeepsLent : ControllerView → Bool → ControllerView → Type 0
+KeepsLent old moving new = Settled old (new.dma ≡ record old.dma { is_moving = moving }) new
+
+-- all is at rest but the data that is moved
+abbrev pub unmoved : ControllerView → ControllerView
+unmoved view = record view { dma = record view.dma { is_moving = false } }
+
+abbrev pub RestsButMoves : ControllerView → Type 0
+RestsButMoves view = view.is_kept ≡ true → is_at_rest (unmoved view) ≡ true
+
 -- this data is under way
 abbrev pub IsUnderWay : ControllerView → Data → Type 0
 IsUnderWay view transfer = view.is_kept ≡ true → view.transfer ≡ transfer
@@ -127,7 +170,7 @@ abbrev pub ResetsLine : ControllerView → ControllerView → Type 0
 ResetsLine old new = Settled old (Dropped old old.running new) new
 
 abbrev pub ResetsData : ControllerView → ControllerView → Type 0
-ResetsData old new = Settled old (DataDropped old old.transfer new) new
+ResetsData old new = Settled old (Drops old new) new
 
 -- first the one, then the other
 abbrev pub LosesAll : ControllerView → ControllerView → Type 0

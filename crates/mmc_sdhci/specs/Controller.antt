@@ -13,6 +13,7 @@ use Rattle.mmc_card.specs.declared.exchange.Timing.TheVariants.{Default, High}
 use Rattle.mmc_card.specs.declared.exchange.Width.TheVariants.{Eight, Four, One}
 use Rattle.mmc_bus.specs.Exchanges.{Kept}
 use Rattle.mmc_host.specs.declared.data.Data.{Data}
+use Rattle.mmc_sdhci.specs.Lent.{Dma}
 
 -- A command that runs: what its registers held when Command was written.
 pub record Running : Type 0 where
@@ -72,6 +73,8 @@ pub record ControllerView : Type 0 where
   -- what is left in the buffer (20h) of a block that came, and what is in it of one that is to go
   pub incoming : List ℕ
   pub outgoing : List ℕ
+  -- memory that is lent, and whether the controller moves the data by itself
+  pub dma : Dma
 
 -- Lines and clock.
 
@@ -91,9 +94,10 @@ limits_in capabilities =
       timing = if field 21 21 capabilities == 1 then High else Default;
     }
 
--- the base clock in MHz: bits 15 to 8 of Capabilities, before version 3.00 bits 13 to 8
+-- the base clock in MHz: bits 15 to 8 of Capabilities. Before version 3.00 bits 15 and 14 are reserved: where one is set it isn't told.
 abbrev pub base_clock : ℕ → ℕ → ℕ
-base_clock capabilities version = if nat_lt version 2 then field 13 8 capabilities else field 15 8 capabilities
+base_clock capabilities version =
+    if nat_lt version 2 && nat_lt 63 (field 15 8 capabilities) then 0 else field 15 8 capabilities
 
 -- Clock Control: the base clock is divided by twice the divider, whose ten bits are bits 7 and 6 and then 15 to 8; 0 divides by 1
 abbrev pub divisor : ℕ → ℕ

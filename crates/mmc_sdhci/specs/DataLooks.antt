@@ -102,7 +102,7 @@ pub data WriteLook (old : ControllerView) (bits : ℕ) (new : ControllerView) : 
       → WriteLook old bits new
   failed : field 15 15 bits ≡ 1 → IsUntold old new → new ≡ broken (moved old new) bits → WriteLook old bits new
 
--- a look while no command runs
+-- a look while no command runs, where data goes through the Buffer Data Port
 abbrev pub DataLooked : ControllerView → Data → ℕ → ControllerView → Type 0
 DataLooked old Data.Nothing bits new = new ≡ record old { status = bits }
 DataLooked old (Data.Read size blocks) bits new = ReadLook old size bits new
@@ -124,6 +124,7 @@ cleared view =
       is_ready = false;
       incoming = [];
       outgoing = [];
+      dma = record view.dma { is_moving = false };
     }
 
 abbrev pub DataDropped : ControllerView → Data → ControllerView → Type 0

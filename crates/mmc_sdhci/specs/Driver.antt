@@ -6,12 +6,13 @@ use Rattle.mmc_card.specs.declared.exchange.Lines.{Lines}
 use Rattle.mmc_card.specs.declared.exchange.Timing.{Timing}
 use Rattle.mmc_card.specs.declared.exchange.Timing.TheVariants.{Default, High}
 use Rattle.mmc_bus.specs.Wires.{nothing_made}
-use Rattle.mmc_host.specs.Hosts.{HostView}
+use Rattle.mmc_host.specs.Hosts.{HostView, Where}
 use Rattle.mmc_host.specs.declared.data.Data.{Data}
 use Rattle.mmc_host.specs.declared.told.HostState.{HostState}
 use Rattle.mmc_host.specs.declared.told.Ios.{Ios}
 use Rattle.mmc_sdhci.specs.Controller.{ControllerView, IsAtMost, Settled, base_clock, clock_runs, is_set, is_settled}
 use Rattle.mmc_sdhci.specs.Accesses.{is_at_rest, restarted, starting_anew}
+use Rattle.mmc_sdhci.specs.Lent.{nothing_lent}
 use Rattle.mmc_sdhci.specs.Moving.{WhereKept}
 use Rattle.mmc_sdhci.specs.declared.start.StartFault.{StartFault}
 use Rattle.mmc_sdhci.specs.declared.start.StartFault.TheVariants.{NoBaseClock, NoCard, NoVoltage}
@@ -27,6 +28,10 @@ host_over view state limits =
       may_fall = view.may_fall;
       is_kept = view.is_kept;
     }
+
+-- nothing has happened
+abbrev pub StaysHost : HostView → HostView → Type 0
+StaysHost old new = Where new ((old.is_kept ≡ true) × (new ≡ old))
 
 -- the fastest clock in hertz: while the card is identified, at default speed, and at high speed
 abbrev pub speed_limit : Timing → ℕ
@@ -130,4 +135,5 @@ unkept_controller =
       is_ready = false;
       incoming = [];
       outgoing = [];
+      dma = nothing_lent;
     }

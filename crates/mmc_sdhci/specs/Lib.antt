@@ -5,6 +5,11 @@ pub mod CommandLooks
 pub mod Commands
 pub mod Controller
 pub mod DataLooks
+pub mod DmaLooks
 pub mod Driver
+pub mod Finishing
+pub mod Lending
+pub mod Lent
 pub mod Moving
 pub mod Settling
+pub mod Tables

@@ -39,7 +39,8 @@ Seeks (sought.Gone following) view =
     AreWritten view.transfer
     × ((is_whole view.outgoing ≡ true) × (following_of view.transfer ≡ following) × (view.unjudged ≡ None))
 
--- no command runs, nothing is left of one that failed or of other data, nothing settles, and the card has started
+-- no command runs, nothing is left of one that failed or of other data, nothing settles, the card has started, and no data is moved by
+-- DMA
 pub record IsClear (view : ControllerView) : Type 0 where
   pub running : view.running ≡ None
   pub stuck : view.is_stuck ≡ false
@@ -47,6 +48,7 @@ pub record IsClear (view : ControllerView) : Type 0 where
   pub resetting : view.resetting ≡ None
   pub stabilizing : view.settings.stabilizing ≡ None
   pub starting : view.settings.starting ≡ None
+  pub moving : view.dma.is_moving ≡ false
 
 abbrev pub IsSeeking : Sought → ControllerView → Type 0
 IsSeeking sought view = WhereKept view (IsClear view × Seeks sought view)
@@ -66,7 +68,8 @@ looking view seen = record view { is_ready = seen.is_ready }
 
 abbrev pub Glances : ControllerView → Sought → Glance → ControllerView → Type 0
 Glances old sought seen new =
-    Settled old (old.running ≡ None → Seeks sought old → DataLooked (looking old seen) old.transfer seen.bits new) new
+    Settled old
+    (old.running ≡ None → old.dma.is_moving ≡ false → Seeks sought old → DataLooked (looking old seen) old.transfer seen.bits new) new
 
 -- Looks until it is found or there is an error; without either nothing but what was looked at has changed.
 abbrev pub OnlyWatched : ControllerView → ControllerView → Type 0

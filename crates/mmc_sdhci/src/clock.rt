@@ -10,16 +10,14 @@ use crate::settling::settle_clock;
 // The longest timeout of data, in Timeout Control; the driver's own looks end sooner.
 const TIMEOUT: u32 = 0xe_0000;
 
-/// The base clock in MHz, by Capabilities; 0 where they don't say.
+/// The base clock in MHz, by Capabilities; 0 where they don't say. Before version 3.00 there are six bits for it, so more than 63 says
+/// nothing.
 pub fn base_clock(capabilities: u32, version: u8) -> u32
     ensures value { result ≡ base_clock capabilities version }
     ensures small { result < 256 }
 {
-    if version < 2 {
-        capabilities / 0x100 % 64
-    } else {
-        capabilities / 0x100 % 256
-    }
+    let told = capabilities / 0x100 % 256;
+    if version < 2 && told > 63 { 0 } else { told }
 }
 
 // The least divider that is enough, where the base clock is too fast.

@@ -1,10 +1,10 @@
 // Commands and their responses.
-ghost use Rattle.std.specs.Prelude.{◌≡◌, ◌<◌, is_ok, true, ℕ};
+ghost use Rattle.std.specs.Prelude.{◌≡◌, ◌<◌, IfOk, false, is_ok, true, ℕ};
 ghost use Rattle.mmc_card.specs.CardAnswer.{Silent};
 ghost use Rattle.mmc_host.specs.Hosts.{answer_heard};
 ghost use Rattle.mmc_host.specs.HostStates.{AreMovable, IsFree};
 ghost use Rattle.mmc_sdhci.specs.Commands.{Begins, Clears, Ends, IsIdleFor, IsRunning, IsSet, KeepsSettings, LosesAll, ReadsWord, ResetsData, ResetsLine, SetsSizes, Tells, flags_of, mode_of};
-ghost use Rattle.mmc_sdhci.specs.Commands.{IsUnderWay, Sends, fault_in, older_bits, response_flags, several, sizes_of};
+ghost use Rattle.mmc_sdhci.specs.Commands.{CanMoveBy, IsUnderWay, IsWord, KeepsLent, RestsButMoves, Sends, fault_in, is_moved_by, older_bits, response_flags, several, sizes_of};
 ghost use Rattle.mmc_host.specs.declared.response.Response.TheVariants.{R1, R2};
 ghost use Rattle.mmc_sdhci.specs.Controller.{has_data};
 ghost use Rattle.mmc_sdhci.specs.CommandLooks.{bytes_shown};
@@ -12,6 +12,7 @@ ghost use Rattle.mmc_sdhci.specs.Accesses.{IsAtRest, IsStill};
 ghost use Rattle.mmc_sdhci.specs.Beside.{HasWaited};
 ghost use Rattle.mmc_sdhci.specs.Moving.{WhereKept};
 
+use crate::mover::Mover;
 use crate::offsets::{ARGUMENT, COMMAND, INTERRUPTS, RESET, RESPONSE, SIZES};
 use crate::registers::Registers;
 use crate::settling::{pause, settle_reset};
@@ -143,21 +144,21 @@ fn set_sizes<R: Registers>(registers: &mut R, transfer: Data)
 }
 
 // Begins a command while this data is under way.
-fn begin<R: Registers>(registers: &mut R, under_way: Data, command: HostCommand)
+fn begin<R: Registers>(registers: &mut R, under_way: Data, command: HostCommand, mover: Mover)
     requires rest { IsAtRest (R.view registers.old) }
     requires index { command.index < 64 }
     requires movable { AreMovable command.transfer }
     requires under_way { IsUnderWay (R.view registers.old) under_way }
     requires free { WhereKept (R.view registers.old) (IsFree under_way command) }
     requires set { IsSet (R.view registers.old) }
-    ensures { Begins (R.view registers.old) command (R.view registers.new) }
+    requires mover { CanMoveBy mover (R.view registers.old) command.transfer }
+    ensures { Begins (R.view registers.old) command mover (R.view registers.new) }
 {
     clear(registers, under_way);
     set_sizes(registers, command.transfer);
     registers.write32(ARGUMENT, command.argument);
-    let word = command.index as u32 * 0x100_0000
-        + flags_of(command) * 0x1_0000
-        + mode_of(command.transfer);
+    let mode = mode_of(command.transfer) + mover.dma_bit();
+    let word = command.index as u32 * 0x100_0000 + flags_of(command) * 0x1_0000 + mode;
     registers.write32(COMMAND, word);
 }
 
@@ -211,7 +212,8 @@ fn register<R: Registers>(registers: &mut R) -> Heard
 
 // What is in Response.
 fn hear<R: Registers>(registers: &mut R, response: Response) -> Heard
-    ensures { Tells (R.view registers.old) response result (R.view registers.new) }
+    ensures tells { Tells (R.view registers.old) response result (R.view registers.new) }
+    ensures word { response ≡ R1 → IsWord result }
 {
     match response {
         Response::Nothing => Heard::Nothing,
@@ -263,7 +265,7 @@ fn fault_in(bits: u32) -> ResponseFault
 }
 
 /// Sends a command while this data is under way, and hears its response. After it the controller is at rest, also where the command
-/// failed, and what was read ahead of the data is dropped.
+/// failed, and what was read ahead of the data is dropped. Where it moves the data by itself, it does so once the command was heard.
 ///
 /// # Errors
 /// By the error interrupts, in this order: `Check`, `EndBit`, `Index`, and otherwise `Timeout`, also where the controller doesn't say
@@ -272,6 +274,7 @@ pub fn send<R: Registers>(
     registers: &mut R,
     under_way: Data,
     command: HostCommand,
+    mover: Mover,
 ) -> Result<Heard, ResponseFault>
     requires rest { IsAtRest (R.view registers.old) }
     requires index { command.index < 64 }
@@ -279,10 +282,14 @@ pub fn send<R: Registers>(
     requires under_way { IsUnderWay (R.view registers.old) under_way }
     requires free { WhereKept (R.view registers.old) (IsFree under_way command) }
     requires set { IsSet (R.view registers.old) }
-    ensures rest { IsAtRest (R.view registers.new) }
+    requires mover { CanMoveBy mover (R.view registers.old) command.transfer }
+    ensures rest { is_moved_by mover result ≡ false → IsAtRest (R.view registers.new) }
+    ensures moves { RestsButMoves (R.view registers.new) }
+    ensures lent { KeepsLent (R.view registers.old) (is_moved_by mover result) (R.view registers.new) }
     ensures sent { Sends (R.view registers.old) command result (R.view registers.new) }
+    ensures word { command.response ≡ R1 → IfOk result IsWord }
 {
-    begin(registers, under_way, command);
+    begin(registers, under_way, command, mover);
     let bits = wait(registers);
     if bits % 2 == 0 || bits / 0x1_0000 % 16 != 0 {
         reset_command(registers);

@@ -37,8 +37,8 @@ pub fn is_accepted(got: DataOut) -> bool
     }
 }
 
-// Why no good block came, by the error interrupts.
-fn came(bits: u32) -> DataIn
+/// Why no good block came, by the error interrupts.
+pub fn came(bits: u32) -> DataIn
     ensures { result ≡ came bits }
 {
     if bits / 0x20_0000 % 2 == 1 || bits / 0x40_0000 % 2 == 1 {

@@ -1,5 +1,5 @@
-//! A driver of an SD host controller, by programmed I/O over a trait of register accesses (SD Host Controller Simplified
-//! Specification 3.00).
+//! A driver of an SD host controller, over a trait of register accesses (SD Host Controller Simplified Specification 3.00). Blocks go by
+//! DMA (ADMA2) where its port lends memory, and otherwise by programmed I/O.
 #![tactic(auto)]
 
 mod busy;
@@ -7,16 +7,21 @@ mod clock;
 mod command;
 mod data;
 mod following;
+mod mover;
+mod moving;
 mod offsets;
 mod registers;
 mod sdhci;
 mod settling;
 mod start;
+mod tables;
 mod watching;
+mod with_blocks;
 
 pub use clock::base_clock;
 pub use command::{has_data, register_in};
 pub use following::{Following, following_of};
+pub use mover::Mover;
 pub use offsets::{CAPABILITIES, PRESENT};
 pub use registers::Registers;
 pub use sdhci::Sdhci;

@@ -30,6 +30,8 @@ pub const INTERRUPTS: u8 = 0x30;
 pub const SHOWN_INTERRUPTS: u8 = 0x34;
 /// Normal and Error Interrupt Signal Enable: what raises an interrupt of the processor.
 pub const SIGNALS: u8 = 0x38;
+/// ADMA System Address, its lower 32 bits.
+pub const DMA_ADDRESS: u8 = 0x58;
 /// Capabilities, its first word.
 pub const CAPABILITIES: u8 = 0x40;
 /// The version of the specification, in the lower byte of Host Controller Version.

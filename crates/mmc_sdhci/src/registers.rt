@@ -1,9 +1,13 @@
-ghost use Rattle.mmc_sdhci.specs.Controller.{ControllerView};
+ghost use Rattle.std.specs.Prelude.{◌≡◌, length};
+ghost use Rattle.mmc_sdhci.specs.Controller.{ControllerView, Settled};
 ghost use Rattle.mmc_sdhci.specs.Beside.{Beside, IsBeside, read_on, waited_on};
-ghost use Rattle.mmc_sdhci.specs.Accesses.{IsAllowed, IsAllowed8, Passes, Reads, Reads8, Writes, Writes8};
+ghost use Rattle.mmc_sdhci.specs.Lending.{Fits, IsUnmoved, Lends, LendsTable, NamesLent, TakesPlace, unlent};
+ghost use Rattle.mmc_sdhci.specs.Lent.{Room, ToGo};
+ghost use Rattle.mmc_sdhci.specs.Accesses.{IsAllowed, IsAllowed8, IsAtRest, Passes, Reads, Reads8, Writes, Writes8};
 ghost use Rattle.mmc_sdhci.specs.Moving.{HasRoom, Puts, Takes};
 
 use crate::offsets::PORT;
+use mmc_bus::Blocks;
 
 /// The registers of an SD host controller, by their offsets in bytes. Each access reaches the controller, in order.
 pub trait Registers {
@@ -64,6 +68,48 @@ pub trait Registers {
             self.write32(PORT, u32::from_le_bytes(word));
         }
     }
+
+    /// Lends the controller room for so many blocks of 512 bytes, into which it moves what the card sends by itself, and tells its bus
+    /// address, a multiple of 4: the places of the blocks themselves, of which a port writes back what caches hold, and drops it, or
+    /// a buffer of its own. `None` where there is no DMA, or no memory that the controller can reach by 32 bits: then the blocks are
+    /// read through the Buffer Data Port.
+    fn lend_room(&mut self, count: usize) -> Option<u32>
+        requires { IsUnmoved (view self.old) }
+        ensures lends { Lends (view self.old) (Room count) result (view self.new) }
+        ensures fits { Fits result count }
+    {
+        let _ = count;
+        None
+    }
+
+    /// Lends these blocks to the controller, which then moves them to the card by itself: where they stand, once caches are written
+    /// back, or in a buffer of the port's. `None` as of `lend_room`.
+    fn lend_blocks<D: Blocks>(&mut self, blocks: &D) -> Option<u32>
+        requires { IsUnmoved (view self.old) }
+        ensures lends { Lends (view self.old) (ToGo (D.blocks blocks.now)) result (view self.new) }
+        ensures fits { Fits result (length (D.blocks blocks.now)) }
+    {
+        let _ = blocks;
+        None
+    }
+
+    /// Lends a descriptor table of the memory that was lent last, and tells its bus address, a multiple of 4: a port keeps a copy where
+    /// the controller can read it.
+    fn lend_table(&mut self, table: &[[u8; 8]; 16]) -> u32
+        requires still { IsUnmoved (view self.old) }
+        requires names { NamesLent (view self.old) table.now }
+        ensures { LendsTable (view self.old) result (view self.new) };
+
+    /// Fills a block with what has come into its place in the room that was lent, of which no cache holds anything else.
+    fn take_place(&mut self, index: usize, block: &mut [u8; 512])
+        requires { IsAtRest (view self.old) }
+        ensures takes { TakesPlace (view self.old) index block.new (view self.new) }
+        ensures whole { length block.new ≡ 512 };
+
+    /// Takes back what was lent.
+    fn take_back(&mut self)
+        requires { IsAtRest (view self.old) }
+        ensures { Settled (view self.old) (view self.new ≡ unlent (view self.old)) (view self.new) };
 
     /// Waits for so many microseconds.
     fn pause(&mut self, micros: u32)

@@ -1,4 +1,5 @@
 ghost use Rattle.std.specs.Prelude.{◌<◌, ◌≡◌, IfErr, IfOk, true};
+ghost use Rattle.mmc_frame.specs.Field.{field};
 ghost use Rattle.mmc_host.specs.HostStates.{lines_of, resting};
 ghost use Rattle.mmc_host.specs.Hosts.{IsUnused, Rests};
 ghost use Rattle.mmc_sdhci.specs.Controller.{IsAtMost, Settled, limits_in, lines_in};
@@ -7,12 +8,14 @@ ghost use Rattle.mmc_sdhci.specs.Beside.{is_inserted, is_protected};
 ghost use Rattle.mmc_sdhci.specs.Commands.{IsSet, LosesAll};
 ghost use Rattle.mmc_sdhci.specs.Driver.{IsAtEase, IsBaseClock, IsNew, IsReady, IsSameCard, IsUnready, are_words, clock_limit, host_over, speed_limit};
 ghost use Rattle.mmc_sdhci.specs.declared.start.StartFault.TheVariants.{NoBaseClock};
+ghost use Rattle.mmc_sdhci.specs.Finishing.{IsAbleToMove};
 ghost use Rattle.mmc_sdhci.specs.Moving.{WhereKept};
 
 use crate::busy::is_busy;
 use crate::clock::{base_clock, set_clock};
-use crate::command::{is_ok, is_word, lose_all, send};
-use crate::data::{is_accepted, is_good, read_block, write_block};
+use crate::command::{lose_all, send};
+use crate::data::{read_block, write_block};
+use crate::mover::Mover;
 use crate::offsets::{CAPABILITIES, CONTROL, POWER, PRESENT, VERSION};
 use crate::registers::Registers;
 use crate::settling::pause;
@@ -24,13 +27,15 @@ use mmc_host::{Heard, Host, HostCommand, HostState, Ios, ResponseFault, Work};
 /// A driver of an SD host controller.
 #[derive(Drop)]
 pub struct Sdhci<R: Registers> {
-    registers: R,
+    pub(crate) registers: R,
     // what it was told so far
-    state: HostState,
+    pub(crate) state: HostState,
     limits: Lines,
     // in MHz
     base: u32,
     version: u8,
+    // whether it can move data by itself
+    pub(crate) has_dma: bool,
     ghost rest: { IsAtRest (R.view registers) },
     ghost transfer: { WhereKept (R.view registers) ((R.view registers).transfer ≡ state.transfer) },
     ghost words: { are_words state.transfer ≡ true },
@@ -40,6 +45,14 @@ pub struct Sdhci<R: Registers> {
     ghost set: { IsSet (R.view registers) },
     ghost base_clock: { IsBaseClock base version (R.view registers) },
     ghost small: { base < 256 },
+    ghost able: { has_dma ≡ true → IsAbleToMove (R.view registers) },
+}
+
+// ADMA2, by Capabilities.
+fn has_dma(capabilities: u32) -> bool
+    ensures { result ≡ true → field 19 19 capabilities ≡ 1 }
+{
+    capabilities / 0x8_0000 % 2 == 1
 }
 
 // 3.3 V, on.
@@ -52,8 +65,8 @@ impl<R: Registers> Sdhci<R> {
     /// waits until the card has started.
     ///
     /// # Errors
-    /// `NoVoltage` where the controller has no 3.3 V, `NoBaseClock` where it doesn't say how fast its clock is, `NoCard` where no
-    /// card is inserted. The registers are given back.
+    /// `NoVoltage` where the controller has no 3.3 V, `NoBaseClock` where it doesn't say how fast its clock is, or, before
+    /// version 3.00, says more than 63 MHz, `NoCard` where no card is inserted. The registers are given back.
     pub fn new(registers: R) -> Result<Sdhci<R>, (R, StartFault)>
         requires new { IsNew (R.view registers) }
         ensures same { IfOk result (λ host. Settled (R.view registers)
@@ -87,6 +100,7 @@ impl<R: Registers> Sdhci<R> {
             limits: limits_in(capabilities),
             base,
             version,
+            has_dma: has_dma(capabilities),
         })
     }
 
@@ -94,7 +108,7 @@ impl<R: Registers> Sdhci<R> {
     /// there no more. Nothing is set anew.
     ///
     /// # Errors
-    /// `NoBaseClock` where the controller doesn't say how fast its clock is. The registers are given back.
+    /// `NoBaseClock` as of `new`. The registers are given back.
     pub fn resume(registers: R, lines: Lines) -> Result<Sdhci<R>, (R, StartFault)>
         requires ready { IsReady (R.view registers) }
         requires lines { WhereKept (R.view registers) (lines_in (R.view registers).settings.control ≡ lines) }
@@ -118,6 +132,7 @@ impl<R: Registers> Sdhci<R> {
             limits: limits_in(capabilities),
             base,
             version,
+            has_dma: has_dma(capabilities),
         })
     }
 
@@ -152,6 +167,7 @@ impl<R: Registers> Sdhci<R> {
             limits: limits_in(capabilities),
             base,
             version,
+            has_dma: has_dma(capabilities),
         })
     }
 
@@ -193,7 +209,8 @@ impl<R: Registers> Host for Sdhci<R> {
     }
 
     fn set_ios(&mut self, ios: Ios) {
-        self.registers.write8(CONTROL, control_of(ios.lines()));
+        self.registers
+            .write8(CONTROL, control_of(ios.lines(), Mover::Driver));
         set_clock(
             &mut self.registers,
             self.base,
@@ -204,46 +221,37 @@ impl<R: Registers> Host for Sdhci<R> {
     }
 
     fn send(&mut self, command: HostCommand) -> Result<Heard, ResponseFault> {
-        let heard = send(&mut self.registers, self.state.transfer, command);
+        let heard = send(
+            &mut self.registers,
+            self.state.transfer,
+            command,
+            Mover::Driver,
+        );
         self.state = self.state.sent(command, heard.is_ok());
         heard
     }
 
-    // All blocks come with the command, one after the other.
+    // By DMA where that can be had, and otherwise one block after the other.
     fn read_with<D: BlocksMut>(
         &mut self,
         command: HostCommand,
         blocks: &mut D,
     ) -> (Result<Heard, ResponseFault>, Moved<DataIn>) {
-        let heard = self.send(command);
-        if !is_ok(heard) {
-            return (heard, Moved::Good(0));
+        match self.read_by_dma(command, blocks) {
+            Some(done) => done,
+            None => self.read_by_port(command, blocks),
         }
-        let count = blocks.len();
-        for done in 0..count {
-            let got = self.read_block(blocks.block_mut(done));
-            if !is_good(got) {
-                return (heard, Moved::Failed(got));
-            }
-        }
-        (heard, Moved::Good(count))
     }
 
-    // The first block goes with the command: before each other one the card is polled, which is an exchange of its own.
     fn write_with<D: Blocks>(
         &mut self,
         command: HostCommand,
         blocks: &D,
     ) -> (Result<Heard, ResponseFault>, Moved<DataOut>) {
-        let heard = self.send(command);
-        if !is_word(heard) || blocks.len() == 0 {
-            return (heard, Moved::Good(0));
+        match self.write_by_dma(command, blocks) {
+            Some(done) => done,
+            None => self.write_by_port(command, blocks),
         }
-        let got = self.write_block(blocks.block(0));
-        if !is_accepted(got) {
-            return (heard, Moved::Failed(got));
-        }
-        (heard, Moved::Good(1))
     }
 
     fn read_block(&mut self, block: &mut [u8]) -> DataIn {

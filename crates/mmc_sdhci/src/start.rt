@@ -1,6 +1,8 @@
 // How a controller begins.
 ghost use Rattle.std.specs.Prelude.{◌+◌, ◌<◌, ◌≡◌, ◌≤◌, bit_and, false};
 ghost use Rattle.mmc_card.specs.declared.exchange.Width.TheVariants as Width;
+ghost use Rattle.mmc_frame.specs.Field.{field};
+ghost use Rattle.mmc_sdhci.specs.Commands.{selection};
 ghost use Rattle.mmc_sdhci.specs.Controller.{limits_in, lines_in};
 ghost use Rattle.mmc_sdhci.specs.Accesses.{IsStill, Stays};
 ghost use Rattle.mmc_sdhci.specs.Beside.{is_inserted, is_sure};
@@ -8,6 +10,7 @@ ghost use Rattle.mmc_sdhci.specs.Driver.{IsBaseClock, IsNew, Restarts};
 ghost use Rattle.mmc_sdhci.specs.Moving.{WhereKept};
 ghost use Rattle.mmc_sdhci.specs.Settling.{IsClocked, PowersUp};
 
+use crate::mover::Mover;
 use crate::offsets::{PRESENT, RESET, SHOWN_INTERRUPTS, SIGNALS};
 use crate::registers::Registers;
 use crate::settling::{pause, settle_reset};
@@ -23,7 +26,7 @@ pub enum StartFault {
     /// The controller can't give the card 3.3 V.
     #[error("the controller has no 3.3 V")]
     NoVoltage,
-    /// The controller doesn't say how fast its base clock is.
+    /// The controller doesn't say how fast its base clock is, or, of a version before 3.00, says more than 63 MHz.
     #[error("the controller doesn't tell its base clock")]
     NoBaseClock,
 }
@@ -32,8 +35,8 @@ const LOOKS: u32 = 1000;
 
 const BETWEEN_LOOKS: u32 = 100;
 
-// Command Complete, Transfer Complete, Buffer Write Ready and Buffer Read Ready, and all errors of command and data.
-const SHOWN: u32 = 0x007f_0033;
+/// Command Complete, Transfer Complete, Buffer Write Ready and Buffer Read Ready, and all errors of command and data.
+pub const SHOWN: u32 = 0x007f_0033;
 
 /// The limits of a controller, by Capabilities. It always has four lines.
 pub fn limits_in(capabilities: u32) -> Lines
@@ -52,10 +55,11 @@ pub fn limits_in(capabilities: u32) -> Lines
     Lines { width, timing }
 }
 
-/// Host Control 1 for these lines.
-pub fn control_of(lines: Lines) -> u8
+/// Host Control 1 for these lines, and with ADMA2 selected where the controller moves data.
+pub fn control_of(lines: Lines, mover: Mover) -> u8
     ensures lines { lines_in result ≡ lines }
-    ensures alone { bit_and result 0x26 ≡ result }
+    ensures alone { bit_and result 0x3e ≡ result }
+    ensures selects { field 4 3 result ≡ selection mover }
 {
     let width = match lines.width {
         Width::One => 0,
@@ -66,7 +70,11 @@ pub fn control_of(lines: Lines) -> u8
         Timing::Default => 0,
         Timing::High => 0x04,
     };
-    width + timing
+    let selection = match mover {
+        Mover::Driver => 0,
+        Mover::Controller => 0x10,
+    };
+    width + timing + selection
 }
 
 /// Resets the controller, and has it show the interrupts that the driver looks at. None reaches the processor.

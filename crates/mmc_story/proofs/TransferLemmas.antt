@@ -12,7 +12,7 @@ use Rattle.mmc_card.specs.declared.exchange.Lines.{Lines}
 use Rattle.mmc_bus.proofs.TogetherLemmas.{WritesOne, good_count, read_count, read_lent}
 use Rattle.mmc_bus.specs.Exchanges.{Kept}
 use Rattle.mmc_bus.specs.Together.{AreAccepted, AreGood, ReadOn, RestsBehind, WrittenOn, accepted_one, good_one}
-use Rattle.mmc_bus.specs.Together.{none_accepted, none_good, reads, reads_none, writes, writes_none}
+use Rattle.mmc_bus.specs.Together.{none_accepted, none_good, reads, reads_none, reads_nothing, writes, writes_none}
 use Rattle.mmc_bus.specs.declared.moved.Moved.{Moved}
 use Rattle.mmc_bus.specs.declared.moved.Moved.TheVariants as Move
 use Rattle.mmc_host.proofs.TogetherLemmas.{is_other_in, is_other_out}
@@ -112,15 +112,6 @@ module _ (behind : BusView) (was : List (List ℕ)) where
         (agree_at done held (slice_set held done left) end left below refl agree) read,
   )
 
--- what came where so many were moved
-came : {V S : Type 0} {Reads : V → DataIn → List ℕ → V → Type 0} {blocks : S → List (List ℕ)}
-    {leave : S → ℕ → List ℕ → S} (old : V) (was : S) (moved : Moved DataIn) (new : V) (now : S)
-    → ReadOn Reads blocks leave old was moved new now → (k : ℕ) → moved ≡ Move.Good k
-    → AreGood Reads blocks leave old was k new now
-came {Reads = Reads} {blocks = blocks} {leave = leave} old was moved new now (reads good next held all) k is =
-    let same : good ≡ k = cc in subst (λ n. AreGood Reads blocks leave old was n next held) same all
-came old was moved new now (reads_none some view held last got left next all below long not read lent) k is = cc
-
 module _ (behind : BusView) (state : HostState) (is : IsBusIn state behind) where
   bus_read : (end : List (List ℕ)) (k : ℕ) (view : BusView) → AreRead end behind k view → IsBusIn (passed k state) view
   bus_read end zero view read = subst (λ (b : BusView). IsBusIn state b) (sym read) is
@@ -171,14 +162,33 @@ module _ (behind : BusView) (state : HostState) (is : IsBusIn state behind) wher
           (subst (λ bytes. BlockRead read.0 Good bytes view)
           (sym (agree_at done (blocks held) (blocks (leave held done left)) end left below wrote agree)) read.2))
 
+      -- What came is what the driver has left, or none came, and what it has left is open.
+      good_read : (places held : List (List ℕ)) (moved : Moved DataIn) (driver : V) (now : S) (good : ℕ) (next : BusView)
+          → ReadOn Drives blocks leave first was moved driver now → moved ≡ Move.Good good
+          → AreGood BlockRead (λ places. places) slice_set behind places good next held → held ≡ blocks now
+          → ReadOn HostRead blocks leave (host_at behind state) was (Move.Good good) (host_at next (passed good state)) now
+      good_read places held moved driver now good next (reads done last left drove) is all same =
+          let is_all : AreGood Drives blocks leave first was good last left =
+          subst (λ n. AreGood Drives blocks leave first was n last left) (let e : done ≡ good = cc in e) drove in
+          reads good (host_at next (passed good state)) left
+          (follows held good last left is_all (λ i less. ap (λ xs. slice_index_or xs i []) (sym same)) next
+          (are_read behind places held good next held all (λ i less. refl)))
+      good_read places held moved driver now good next (reads_nothing left lent) is none_good same = reads_nothing left lent
+      good_read places held moved driver now good next (reads_nothing left lent) is
+          (good_one done from before bytes after all below long read) same =
+          cc
+      good_read places held moved driver now good next
+          (reads_none some at before last got left after all below long not read lent) is came same =
+          cc
+
       pub kept_read : (places : List (List ℕ)) (moved : Moved DataIn) (driver : V) (now : S)
           → ReadOn Drives blocks leave first was moved driver now → (view : BusView) (end : List (List ℕ))
           → ReadOn BlockRead (λ places. places) slice_set behind places moved view end → end ≡ blocks now
           → ReadOn HostRead blocks leave (host_at behind state) was moved (host_at view (passed_on moved state)) now
       kept_read places moved driver now drove view end (reads good next held all) same =
-          reads good (host_at next (passed good state)) now
-          (follows held good driver now (came first was _ driver now drove good refl) (λ i less. ap (λ xs. slice_index_or xs i []) (sym same))
-          next (are_read behind places held good next held all (λ i less. refl)))
+          good_read places held _ driver now good next drove refl all same
+      kept_read places moved driver now drove view end (reads_nothing held lent) same =
+          reads_nothing now (read_lent first was one _ driver now drove)
       kept_read places moved driver now drove view end
           (reads_none some at held last got left next all below long not read lent) same =
           let counts = read_count first was one _ driver now drove in
@@ -211,6 +221,7 @@ module _ (host : HostView) (unkept : host.is_kept ≡ false) where
       {Drives : V → DataIn → List ℕ → V → Type 0} (first : V) (was : S) (moved : Moved DataIn) (driver : V) (now : S)
       → ReadOn Drives blocks leave first was moved driver now → ReadOn HostRead blocks leave host was moved host now
   any_read first was moved driver now (reads good next held all) = reads good host held (any_good first was good next held all)
+  any_read first was moved driver now (reads_nothing held lent) = reads_nothing held lent
   any_read first was moved driver now (reads_none some at held last got left next all below long not read lent) =
       reads_none some host held last got left host (any_good first was some at held all) below long not (λ kept. nothing kept)
       lent
@@ -385,6 +396,7 @@ behind_read : {S : Type 0} {blocks : S → List (List ℕ)} {leave : S → ℕ �
     (moved : Moved DataIn) (new : HostView) (now : S) → ReadOn HostRead blocks leave behind was moved new now
     → new.is_kept ≡ true → behind.is_kept ≡ true
 behind_read behind was moved new now (reads good next held all) kept = back_over behind was good next held all kept
+behind_read behind was moved new now (reads_nothing held lent) kept = kept
 behind_read behind was moved new now (reads_none some at held last got left next all below long not read lent) kept =
     back_over behind was some at held all (read kept).step.was_kept
 

@@ -31,7 +31,7 @@ abbrev pub FoundAtRest : BusView → BusView → Type 0
 FoundAtRest old new = OneStep old (PollStep old false new) new
 
 -- The command, and then so many blocks, each a good one, which the places hold now; or some, nobody tells how many, and one that
--- failed, after which the places may hold anything.
+-- failed, after which the places may hold anything, as where none came.
 pub record ReadsTogether (old : BusView) (command : HostCommand) (heard : Result Heard ResponseFault)
     (moved : Moved DataIn) (blocks : List (List ℕ)) (new : BusView) : Type 0 where
   pub behind : BusView

@@ -11,7 +11,7 @@ use Rattle.mmc_card.specs.declared.exchange.DataIn.TheVariants.{Good}
 use Rattle.mmc_bus.proofs.WorkLemmas.{done_by, stays_same, stays_then}
 use Rattle.mmc_bus.proofs.TogetherLemmas.{good_count, good_few}
 use Rattle.mmc_bus.specs.Heard.{cause_of}
-use Rattle.mmc_bus.specs.Together.{AreGood, BlockReceived, MovesAtMost, ReadOn, good_one, none_good, reads, reads_none}
+use Rattle.mmc_bus.specs.Together.{AreGood, BlockReceived, MovesAtMost, ReadOn, good_one, none_good, reads, reads_none, reads_nothing}
 use Rattle.mmc_bus.specs.Work.{Narrows, Worked}
 use Rattle.mmc_bus.specs.declared.cause.Cause.{Cause}
 use Rattle.mmc_bus.specs.declared.cause.Cause.TheVariants as Why
@@ -30,7 +30,7 @@ use Rattle.mmc_transfer.specs.First.{judged}
 use Rattle.mmc_transfer.specs.Fits.{is_counted_by, phase_left}
 use Rattle.mmc_switch.specs.Turns.{left_after}
 use Rattle.mmc_transfer.specs.Moves.{after_read}
-use Rattle.mmc_transfer.specs.Running.{Exact, IsIn, Shown, Turned, change_of, is_counted}
+use Rattle.mmc_transfer.specs.Running.{Exact, IsIn, IsSending, Shown, Turned, WriteExact, by_way, change_of, is_counted}
 use Rattle.mmc_transfer.specs.declared.job.Job.{Job}
 use Rattle.mmc_transfer.specs.declared.phase.Phase.{Phase}
 use Rattle.mmc_transfer.specs.declared.phase.Phase.TheVariants.{Block, Other}
@@ -206,6 +206,7 @@ module _ {S : Type 0} (blocks : S → List (List ℕ)) (leave : S → ℕ → Li
       let n = counted good next held all in
       let few = good_few between was one good next held all in
       omega (arith, n, few, full)
+  first_costs moved new now (reads_nothing held lent) = omega arith
   first_costs moved new now (reads_none some view held last got left next all below long not read lent) =
       let n = counted some view held all in
       let more = read.exchanges in
@@ -219,11 +220,13 @@ module _ {S : Type 0} (blocks : S → List (List ℕ)) (leave : S → ℕ → Li
       let cost = counted good next held all in let same : good ≡ n = cc in omega (arith, cost, same)
   all_cost (Err why) moved new now (reads zero next held all) n is = cc
   all_cost (Err why) moved new now (reads (suc good) next held all) n is = cc
+  all_cost started moved new now (reads_nothing held lent) n is = omega arith
   all_cost started moved new now (reads_none some view held last got left next all below long not read lent) n is = cc
 
   pub first_kept : (moved : Moved DataIn) (new : BusView) (now : S)
       → ReadOn BlockReceived blocks leave between was moved new now → new.is_kept ≡ true → between.is_kept ≡ true
   first_kept moved new now (reads good next held all) kept = kept_between good next held all kept
+  first_kept moved new now (reads_nothing held lent) kept = kept
   first_kept moved new now (reads_none some view held last got left next all below long not read lent) kept =
       kept_between some view held all (read.kept kept).was_kept
 
@@ -237,6 +240,8 @@ module _ {S : Type 0} (blocks : S → List (List ℕ)) (leave : S → ℕ → Li
       rw same (ends ∙ cc)
   first_caused (Err why) moved new now (reads (suc good) next held all) ends cause is =
       caused_by (suc good) next held all (omega arith) ∙ cc
+  first_caused (Ok done) moved new now (reads_nothing held lent) ends cause is = cc
+  first_caused (Err why) moved new now (reads_nothing held lent) ends cause is = ends ∙ cc
   first_caused started moved new now (reads_none some view held last got left next all below long not read lent) ends cause is =
       ap cause_of read.last ∙ cc
 
@@ -278,6 +283,54 @@ module _ {S : Type 0} (blocks : S → List (List ℕ)) (leave : S → ℕ → Li
         (same_change job (blocks held) news way) is_in)
         (λ m there. take_fails job (blocks held) news good m left way more count long (one held good left) view new there
         512 Why.Data (Err Why.Data) refl refl (none_received view new got left not read kept)))
+
+    -- Before the first block, what the blocks hold is of no weight.
+    sending_yet : (xs ys : List Sector) (card : Card) → IsSending 0 job xs card → IsSending 0 job ys card
+    sending_yet xs ys card sends = record {
+      quiet = sends.quiet;
+      rests = sends.rests;
+      up_to_date = sends.up_to_date;
+      errors = sends.errors;
+      source = sends.source;
+      next = sends.next;
+      left = sends.left;
+      read = λ i less. absurd (omega (arith, less));
+    }
+
+    exact_yet : (xs ys : List Sector) (card : Card) → Exact job xs (Block 0) card → Exact job ys (Block 0) card
+    exact_yet xs ys card exact =
+        let sends : IsSending 0 job xs card =
+        subst (λ w. by_way w (IsSending 0 job xs card) (WriteExact job xs (Block 0) card)) way exact in
+        subst (λ w. by_way w (IsSending 0 job ys card) (WriteExact job ys (Block 0) card)) (sym way)
+        (sending_yet xs ys card sends)
+
+    begun_as : (xs ys : List Sector) (new : BusView) → Turned job xs faults a (Ok (Some (Block 0))) new
+        → Turned job ys faults a (Ok (Some (Block 0))) new
+    begun_as xs ys new t = record {
+      stays = t.stays;
+      within = subst (λ (c : Change). Within (holds new.card) (maybe_changed c (holds a.card))) (same_change job xs ys way)
+          t.within;
+      left = record {
+        under_way = record {
+          is_card = t.left.under_way.is_card;
+          knows = t.left.under_way.knows;
+          stands = t.left.under_way.stands;
+          shown = λ s. exact_yet xs ys new.card (t.left.under_way.shown s);
+          fine = λ f. exact_yet xs ys new.card (t.left.under_way.fine f);
+        };
+        placed = t.left.placed;
+      };
+    }
+
+    pub none_yet : (held : S) → between.is_kept ≡ true → Starts kind job.way (job.count == 1) address true a between
+        → Turned job (blocks held) faults a (Ok (after_read job 0)) between
+    none_yet held kept work =
+        let some = job.some in
+        let first : after_read job 0 ≡ Some (Block 0) = next_is job 0 (omega (arith, some)) in
+        subst (λ (o : Option Phase). Turned job (blocks held) faults a (Ok o) between) (sym first)
+        (begun_as (blocks was) (blocks held) between
+        (subst (λ (o : Option Phase). Turned job (blocks was) faults a (Ok o) between) first
+        (all_came 0 between was none_good kept work)))
 
     -- where it has failed, what the blocks hold is of no weight
     failed_as : (xs ys : List Sector) (cause : Cause) (new : BusView) → Turned job xs faults a (Err cause) new
@@ -358,6 +411,9 @@ module _ {S : Type 0} (blocks : S → List (List ℕ)) (leave : S → ℕ → Li
         rw is (failed_as (blocks (leave held some left)) (blocks last) Why.Data next
         (one_failed some view held got left next all below long not read kept
         (work (kept_between some view held all (read.kept kept).was_kept))))
+    first_turned (Ok done) moved new now (reads_nothing held lent) kept work r is = rw is (none_yet held kept (work kept))
+    first_turned (Err cause) moved new now (reads_nothing held lent) kept work r is =
+        rw is (failed_as (blocks was) (blocks held) cause between (none_came cause between was none_good kept (work kept)))
     first_turned (Err cause) moved new now (reads zero next held all) kept work r is =
         rw is (none_came cause next held all kept (work (kept_between 0 next held all kept)))
     first_turned (Err cause) moved new now (reads (suc good) next held all) kept work r is =

@@ -19,7 +19,7 @@ use Rattle.mmc_block.specs.Execution.Reply.{Accepted, Answers, RefusedFor}
 use Rattle.mmc_block.specs.Machine.{IsMerged, Waiting}
 use Rattle.mmc_block.specs.Service.{in_service_of}
 use Rattle.mmc_block.specs.Turn.{IsTurn}
-use Rattle.mmc_transfer.specs.declared.pace.Pace.TheVariants.{Exchange}
+use Rattle.mmc_transfer.specs.declared.pace.Pace.{Pace}
 use Rattle.mmc_block.specs.declared.completion.Completion.{Completion}
 use Rattle.mmc_block.specs.declared.refused.Refused.{Refused}
 use Rattle.mmc_queue.specs.declared.request.Request.{Request}
@@ -194,21 +194,21 @@ turn_numbered k waits served waits_new served_new given h numbered =
     numbered_then k waits_new served_new waiting
     (numbered_behind k h.answered served_new (subst (AreNumbered k) h.served started))
 
-pub turned : {B : Type 0} (view : B → BusView) (old new : DeskView B) (given : List Completion)
-    → IsTurn view Exchange old.device given new.device → new.cookies ≡ old.cookies
+pub turned : {B : Type 0} (view : B → BusView) (pace : Pace) (old new : DeskView B) (given : List Completion)
+    → IsTurn view pace old.device given new.device → new.cookies ≡ old.cookies
     → Leads view old (Turns given ∷ []) new
 unfolding cookies_after events_of replies_of
-turned view old new given turn same = record {
+turned view pace old new given turn same = record {
   cookies = same;
   info = turn.same.0;
   kept = turn.kept;
   executed = λ kept. one_step view old.device new.device Turn (Answers given) (turn.machine kept);
 }
 
-pub turned_once : {B : Type 0} (view : B → BusView) (old new : DeskView B) (given : List Completion)
-    → IsTurn view Exchange old.device given new.device → new.cookies ≡ old.cookies → AnswersEach old (Turns given ∷ []) new
+pub turned_once : {B : Type 0} (view : B → BusView) (pace : Pace) (old new : DeskView B) (given : List Completion)
+    → IsTurn view pace old.device given new.device → new.cookies ≡ old.cookies → AnswersEach old (Turns given ∷ []) new
 unfolding answered asked times
-turned_once view old new given turn same x =
+turned_once view pace old new given turn same x =
     let once = turn_once old.cookies x old.device.waits (in_service_of old.device.service) new.device.waits
     (in_service_of new.device.service) given turn.answers in
     let no_more = ap (times x) (append-nil (cookies_of old.cookies given)) in
@@ -340,14 +340,14 @@ unfolding answered asked
 cleared_once old new none same x = rw (same, none_pending old.device none) refl
 
 -- a turn, and the replies that its answers are
-pub turn_does : {B E : Type 0} (view : B → BusView) (old new : DeskView B) (given : List Completion)
-    (before after : Option (List ℕ)) (r : Result (Unit {0}) E) → IsTurn view Exchange old.device given new.device
+pub turn_does : {B E : Type 0} (view : B → BusView) (pace : Pace) (old new : DeskView B) (given : List Completion)
+    (before after : Option (List ℕ)) (r : Result (Unit {0}) E) → IsTurn view pace old.device given new.device
     → new.cookies ≡ old.cookies → Writes before after r (answers_bytes old.cookies given)
     → Does view old new before after r (Turns given ∷ [])
 unfolding bytes_of
-turn_does view old new given before after r turn same wrote = record {
-  leads = turned view old new given turn same;
-  once = turned_once view old new given turn same;
+turn_does view pace old new given before after r turn same wrote = record {
+  leads = turned view pace old new given turn same;
+  once = turned_once view pace old new given turn same;
   written = subst (Writes before after r) (sym (append-nil (answers_bytes old.cookies given))) wrote;
 }
 
@@ -437,12 +437,12 @@ on_no_ok (Err e) P failed = tt
 -- Parts of a long request.
 
 -- a turn whose answers are kept is a turn
-pub gathered : {B : Type 0} (view : B → BusView) (old new : DeskView B) (given : List Completion)
-    → IsTurn view Exchange old.device given new.device → new.cookies ≡ old.cookies
+pub gathered : {B : Type 0} (view : B → BusView) (pace : Pace) (old new : DeskView B) (given : List Completion)
+    → IsTurn view pace old.device given new.device → new.cookies ≡ old.cookies
     → Leads view old (Gathers given ∷ []) new
 unfolding cookies_after events_of replies_of
-gathered view old new given turn same =
-    let h = turned view old new given turn same in
+gathered view pace old new given turn same =
+    let h = turned view pace old new given turn same in
     record { cookies = h.cookies; info = h.info; kept = h.kept; executed = h.executed }
 
 -- a part is submitted as a whole request is

@@ -5,6 +5,7 @@ ghost use Rattle.mmc_block.specs.Device.{unanswered_of, work_of};
 ghost use Rattle.mmc_block.specs.declared.completion.Completion.{Completion};
 ghost use Rattle.nbd_messages.specs.Replies.{reply_header};
 ghost use Rattle.mmc_block.specs.Execution.{Reply};
+ghost use Rattle.mmc_block.specs.Turn.{IsTurn};
 ghost use Rattle.mmc_queue.specs.declared.queue.TheConstants.{MAX_WAITING};
 ghost use Rattle.nbd_server.specs.Acts.{Act, AreOfParts, AreTurns, answer_bytes, answers_bytes, cookie_under, error_of, reply_to};
 ghost use Rattle.nbd_server.specs.Acts.Act.{Asks, Gathers, Turns};
@@ -17,6 +18,7 @@ use crate::fault::OutputFault;
 use arrayvec::ArrayVec;
 use mmc_block::{Answer, BlockDev, Completion, Completions, MAX_WAITING, Refused, Request, Ticket};
 use mmc_bus::Bus;
+use mmc_transfer::Pace;
 use nbd_messages::{ReplyError, simple_reply};
 use std::alloc::Global;
 use std::io::Write;
@@ -28,6 +30,7 @@ use text_out::put::put;
 #[derive(Drop)]
 pub struct Desk<B: Bus> {
     device: BlockDev<B>,
+    pace: Pace,
     cookies: ArrayVec<u64, MAX_WAITING>,
     given: Completions,
 }
@@ -125,8 +128,19 @@ fn put_answers<W: Write>(
     Ok(())
 }
 
+// A turn of the device at this pace.
+fn turn_at<B: Bus>(device: &mut BlockDev<B>, pace: Pace, given: &mut Completions)
+    requires { given.old.items ≡ [] }
+    ensures { IsTurn B.view pace device.old given.new.items device.new }
+{
+    match pace {
+        Pace::Exchange => device.turn_into(given),
+        Pace::Transfer => device.long_turn_into(given),
+    }
+}
+
 impl<B: Bus> Desk<B> {
-    /// A desk without a request.
+    /// A desk without a request. Each turn of its device is one exchange.
     pub fn new(device: BlockDev<B>) -> Desk<B>
         requires { unanswered_of device ≡ 0 }
         ensures device { result.device ≡ device }
@@ -134,6 +148,23 @@ impl<B: Bus> Desk<B> {
     {
         Desk {
             device,
+            pace: Pace::Exchange,
+            cookies: ArrayVec::new(),
+            given: ArrayVec::new(),
+        }
+    }
+
+    /// The same, but that each turn is a command and all blocks that the bus moves with it. No client waits longer for that: it is
+    /// answered once its run is done, and what it sends is looked at once nothing is without an answer, at either pace. But the
+    /// call of the bus is longer, as long as the blocks of 1,024 sectors take.
+    pub fn with_long_turns(device: BlockDev<B>) -> Desk<B>
+        requires { unanswered_of device ≡ 0 }
+        ensures device { result.device ≡ device }
+        ensures cookies { result.cookies ≡ [] }
+    {
+        Desk {
+            device,
+            pace: Pace::Transfer,
             cookies: ArrayVec::new(),
             given: ArrayVec::new(),
         }
@@ -152,6 +183,7 @@ impl<B: Bus> Desk<B> {
     {
         let Desk {
             device,
+            pace: _,
             cookies: _,
             given: _,
         } = self;
@@ -163,7 +195,7 @@ impl<B: Bus> Desk<B> {
         ensures does { (given : List Completion) × Does B.view self.old self.new (W.contents out.old) (W.contents out.new) result (Turns given ∷ []) }
         ensures falls { 0 < work_of self.old.device → work_of self.new.device < work_of self.old.device }
     {
-        self.device.turn_into(&mut self.given);
+        turn_at(&mut self.device, self.pace, &mut self.given);
         let put = put_answers(out, self.cookies.as_slice(), self.given.as_slice());
         self.given.clear();
         put
@@ -266,7 +298,7 @@ impl<B: Bus> Desk<B> {
         ensures falls { 0 < work_of self.old.device → work_of self.new.device < work_of self.old.device }
         ensures leaves { length all.new.items + unanswered_of self.new.device ≡ length all.old.items + unanswered_of self.old.device }
     {
-        self.device.turn_into(&mut self.given);
+        turn_at(&mut self.device, self.pace, &mut self.given);
         keep_all(all, &mut self.given);
     }
 

@@ -1,6 +1,6 @@
 //! Opens QEMU's SD card through the registers of QEMU's SD host controller, and writes and reads random runs of sectors, each
-//! compared with a copy of what the card should hold; with `--words` by accesses of 32 bits alone. `tests/qemu/run` starts QEMU and this
-//! program.
+//! compared with a copy of what the card should hold; with `--words` by accesses of 32 bits alone, with `--dma` by ADMA2.
+//! `tests/qemu/run` starts QEMU and this program.
 #![tactic(auto)]
 
 mod copy;
@@ -20,7 +20,7 @@ use mmc_sdhci::{Registers, Sdhci};
 use sdhci_board::{Board, Slot};
 use std::env;
 
-const USAGE: &str = "usage: qemu_sdhci RUNS SEED [--words]";
+const USAGE: &str = "usage: qemu_sdhci RUNS SEED [--words | --dma]";
 
 // Opens the card.
 fn open<R: Registers + Drop>(rt: &impl AllocGlobal, registers: R) -> Result<Card<R>>
@@ -60,8 +60,9 @@ fn serve<R: Registers + Drop>(
 
 fn main(rt: HostRuntime) -> Result<()> {
     let words = env::args(&rt)?.collect::<Vec<String>>(rt.alloc())?;
-    let registers = QemuRegisters {
+    let mut registers = QemuRegisters {
         conversation: Conversation::new(),
+        lends: false,
     };
     match words.as_slice() {
         [_, rounds, seed] => serve(&rt, registers, rounds.parse::<u64>()?, seed.parse::<u64>()?),
@@ -71,6 +72,10 @@ fn main(rt: HostRuntime) -> Result<()> {
             rounds.parse::<u64>()?,
             seed.parse::<u64>()?,
         ),
+        [_, rounds, seed, way] if way.as_str() == "--dma" => {
+            registers.lends = true;
+            serve(&rt, registers, rounds.parse::<u64>()?, seed.parse::<u64>()?)
+        }
         _ => Ok(println!(rt; "{USAGE}")?),
     }
 }

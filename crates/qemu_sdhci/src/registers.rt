@@ -1,18 +1,56 @@
-ghost use Rattle.std.specs.Prelude.{None};
+ghost use Rattle.std.specs.Prelude.{◌<◌, ◌≤◌, None};
 ghost use Rattle.mmc_sdhci.specs.Beside.{untold};
 ghost use Rattle.mmc_sdhci.specs.Driver.{unkept_controller};
 
 use crate::protocol::Conversation;
+use mmc_bus::Blocks;
 use mmc_sdhci::Registers;
 use sdhci_board::Words;
 
 // Where the controller's registers stand; tests/qemu/run sets this up.
 const BASE: u32 = 0xe000_0000;
 
+// Memory of the machine that is lent to the controller: for a descriptor table, and for blocks.
+const TABLE: u32 = 0x0010_0000;
+
+const BLOCKS: u32 = 0x0020_0000;
+
+// Five lines of a table: QEMU's controller waits after them for its clock, which stands still with its processor.
+const MOST_BLOCKS: usize = 320;
+
 /// The registers of QEMU's SD host controller.
 #[derive(Drop)]
 pub struct QemuRegisters {
     pub conversation: Conversation,
+    /// Whether memory is lent for DMA.
+    pub lends: bool,
+}
+
+// Where the block with this number stands in the machine's memory.
+fn place_of(index: usize) -> u32
+    requires { index < 320 }
+    ensures { result ≤ 0x00227e00 }
+{
+    BLOCKS + 512 * index as u32
+}
+
+impl QemuRegisters {
+    // Copies a block to the machine's memory.
+    fn put_block(&mut self, index: usize, block: &[u8; 512])
+        requires { index < 320 }
+    {
+        let place = place_of(index);
+        for i in 0..128 {
+            let word = [
+                block[4 * i],
+                block[4 * i + 1],
+                block[4 * i + 2],
+                block[4 * i + 3],
+            ];
+            self.conversation
+                .write(b"writel", place + 4 * i as u32, u32::from_le_bytes(word));
+        }
+    }
 }
 
 impl Registers for QemuRegisters {
@@ -38,6 +76,54 @@ impl Registers for QemuRegisters {
         self.conversation
             .write(b"writeb", BASE + u32::from(offset), u32::from(value));
     }
+
+    fn lend_room(&mut self, count: usize) -> Option<u32> {
+        if self.lends && count <= MOST_BLOCKS {
+            Some(BLOCKS)
+        } else {
+            None
+        }
+    }
+
+    fn lend_blocks<D: Blocks>(&mut self, blocks: &D) -> Option<u32> {
+        let count = blocks.len();
+        if !self.lends || count > MOST_BLOCKS {
+            return None;
+        }
+        for i in 0..count {
+            self.put_block(i, blocks.block(i));
+        }
+        Some(BLOCKS)
+    }
+
+    fn lend_table(&mut self, table: &[[u8; 8]; 16]) -> u32 {
+        for i in 0..16 {
+            let [a, b, c, d, e, f, g, h] = table[i];
+            let place = TABLE + 8 * i as u32;
+            self.conversation
+                .write(b"writel", place, u32::from_le_bytes([a, b, c, d]));
+            self.conversation
+                .write(b"writel", place + 4, u32::from_le_bytes([e, f, g, h]));
+        }
+        TABLE
+    }
+
+    fn take_place(&mut self, index: usize, block: &mut [u8; 512]) {
+        if index >= MOST_BLOCKS {
+            return;
+        }
+        let place = place_of(index);
+        for i in 0..128 {
+            let word = self.conversation.read(b"readl", place + 4 * i as u32);
+            let [a, b, c, d] = word.to_le_bytes();
+            block[4 * i] = a;
+            block[4 * i + 1] = b;
+            block[4 * i + 2] = c;
+            block[4 * i + 3] = d;
+        }
+    }
+
+    fn take_back(&mut self) {}
 
     // QEMU's controller takes no time.
     fn pause(&mut self, _micros: u32) {}

@@ -57,7 +57,8 @@ fn with_byte(offset: u8, word: u32, value: u8) -> u32
 
 impl<W: Words> Board<W> {
     /// A controller by its words, and what the board knows of it: whether a card is always there, and what stands in place of
-    /// Capabilities (40h), where that reads 0: the base clock in MHz in bits 15 to 8, and bits 18 for eight lines, 21 for high speed,
+    /// Capabilities (40h), where that reads 0: the base clock in MHz in bits 15 to 8 (63 at most of a controller before 3.00, whose driver
+    /// otherwise takes it for not told), and bits 18 for eight lines, 21 for high speed,
     /// and 24 for 3.3 V (SD Host Controller Simplified Specification 3.00, section 2.2.24).
     pub fn new(words: W, slot: Slot, capabilities: Option<u32>) -> Board<W>
         ensures { result ≡ record { words = words; slot = slot; capabilities = capabilities } }
@@ -124,6 +125,19 @@ impl<W: Words> Registers for Board<W> {
         let word = self.words.read(at);
         self.words.write(at, with_byte(offset, word, value));
     }
+
+    // No memory is lent: a board has no DMA.
+    fn lend_table(&mut self, table: &[[u8; 8]; 16]) -> u32 {
+        let _ = table;
+        0
+    }
+
+    fn take_place(&mut self, index: usize, block: &mut [u8; 512]) {
+        let _ = index;
+        let _ = block;
+    }
+
+    fn take_back(&mut self) {}
 
     fn pause(&mut self, micros: u32)
         ensures waits { Tells (λ old new. new ≡ Waited micros ∷ old) (W.past self.old.words) (W.past self.new.words) }

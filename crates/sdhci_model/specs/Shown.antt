@@ -1,5 +1,6 @@
 -- What the model's registers show, over what became of the card.
-use Rattle.std.specs.Prelude.{Bool, List, None, Ok, Option, Some, drop, false, if◌then◌else◌, true, ℕ, ◌≡◌, ◌%◌}
+use Rattle.std.specs.Prelude.{Bool, List, None, Ok, Option, Some, drop, false, if◌then◌else◌, true, ℕ, ◌%◌, ◌&&◌, ◌==◌, ◌||◌, ◌≡◌}
+use Rattle.mmc_frame.specs.Field.{field}
 use Rattle.mmc_host.specs.Hosts.{answer_heard}
 use Rattle.mmc_host.specs.declared.data.Data.{Data}
 use Rattle.mmc_host.specs.declared.response.Response.{Response}
@@ -12,6 +13,7 @@ use Rattle.mmc_story.specs.Story.{Outcome, Story}
 use Rattle.mmc_sdhci.specs.CommandLooks.{IsShown}
 use Rattle.mmc_sdhci.specs.Commands.{response_flags}
 use Rattle.mmc_sdhci.specs.Controller.{ControllerView, Running, limits_in, lines_in}
+use Rattle.mmc_sdhci.specs.Lent.{nothing_lent}
 use Rattle.sdhci_model.specs.declared.commands.Run.{Run}
 use Rattle.sdhci_model.specs.declared.commands.Told.{Told}
 use Rattle.sdhci_model.specs.declared.state.State.{State}
@@ -58,7 +60,18 @@ shown outcome state =
       is_ready = state.is_ready;
       incoming = drop state.taken state.block.items;
       outgoing = state.outgoing.items;
+      dma = nothing_lent;
     }
+
+-- What Transfer Mode and Command may ask for where there is no DMA.
+abbrev pub is_asked_alone : ℕ → Bool
+is_asked_alone value =
+    (field 5 5 value == field 1 1 value)
+    && ((field 0 0 value == 0)
+    && ((field 3 2 value == 0)
+    && ((field 15 6 value == 0)
+    && ((field 18 18 value == 0)
+    && ((field 31 30 value == 0) && ((field 23 22 value == 0) || (field 29 22 value == 0x33)))))))
 
 -- what a host was told that has these lines
 abbrev pub told_of : ℕ → HostState

@@ -160,6 +160,7 @@ impl State {
 
     /// Transfer Mode and Command are written: the command runs.
     pub fn begin(&mut self, value: u32)
+        requires { value % 2 ≡ 0 }
         ensures { WritesTo self.old 0x0c value self.new }
     {
         self.running = Some(Run {

@@ -96,6 +96,23 @@ impl<D: Host, S: HasStory> Registers for Model<D, S> {
         self.engine.write8(offset, value);
     }
 
+    // There is no DMA.
+    fn lend_table(&mut self, table: &[[u8; 8]; 16]) -> u32 {
+        let _ = table;
+        self.engine.break_off();
+        0
+    }
+
+    fn take_place(&mut self, index: usize, block: &mut [u8; 512]) {
+        let _ = index;
+        let _ = block;
+        self.engine.break_off();
+    }
+
+    fn take_back(&mut self) {
+        self.engine.break_off();
+    }
+
     fn pause(&mut self, micros: u32) {
         let Some(waited) = self.waited.checked_add(u64::from(micros)) else {
             self.engine.break_off();

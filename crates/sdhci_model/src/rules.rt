@@ -1,10 +1,10 @@
 // The rules: what a driver may write. They are those of `mmc_sdhci`, one function for each register.
 ghost use Rattle.std.specs.Prelude.{◌&&◌, ◌||◌, ◌≡◌, is_none};
 ghost use Rattle.mmc_frame.specs.Field.{field};
-ghost use Rattle.mmc_sdhci.specs.Accesses.{can_put, is_able, is_asked, is_at_rest, is_clean, is_clock, is_idle, may_write, may_write8};
+ghost use Rattle.mmc_sdhci.specs.Accesses.{can_put, is_able, is_at_rest, is_clean, is_clock, is_idle, is_selected, may_write, may_write8};
 ghost use Rattle.mmc_sdhci.specs.Controller.{is_set, is_settled, is_still};
 ghost use Rattle.mmc_story.specs.Story.{Outcome};
-ghost use Rattle.sdhci_model.specs.Shown.{shown};
+ghost use Rattle.sdhci_model.specs.Shown.{is_asked_alone, shown};
 
 use crate::state::State;
 use mmc_host::Data;
@@ -27,7 +27,7 @@ fn either(a: bool, b: bool) -> bool
 // Whether these flags and this mode are what a command may ask for: no DMA, no command of the controller's own, no suspending, and
 // several blocks only where they are counted.
 fn is_asked(value: u32) -> bool
-    ensures { result ≡ is_asked value }
+    ensures { result ≡ is_asked_alone value }
 {
     value / 32 % 2 == value / 2 % 2
         && value % 2 == 0
@@ -38,13 +38,29 @@ fn is_asked(value: u32) -> bool
         && (value / 0x40_0000 % 4 == 0 || value / 0x40_0000 % 256 == 0x33)
 }
 
-// Whether Capabilities have what Host Control 1 asks for: eight lines, and high speed.
-fn is_able(capabilities: u32, control: u8) -> bool
-    ensures { result ≡ is_able capabilities control }
+// Whether Capabilities have what Host Control 1 asks for, or it did before: eight lines, and high speed.
+fn is_able(capabilities: u32, before: u8, control: u8) -> bool
+    ensures { result ≡ is_able capabilities before control }
 {
     both(
-        either(!(control / 32 % 2 == 1), capabilities / 0x4_0000 % 2 == 1),
-        either(!(control / 4 % 2 == 1), capabilities / 0x20_0000 % 2 == 1),
+        either(
+            !(control / 32 % 2 == 1),
+            either(capabilities / 0x4_0000 % 2 == 1, before / 32 % 2 == 1),
+        ),
+        either(
+            !(control / 4 % 2 == 1),
+            either(capabilities / 0x20_0000 % 2 == 1, before / 4 % 2 == 1),
+        ),
+    )
+}
+
+// Whether it selects ADMA2 where Capabilities have it, and otherwise nothing.
+fn is_selected(capabilities: u32, control: u8) -> bool
+    ensures { result ≡ is_selected capabilities control }
+{
+    either(
+        control / 8 % 4 == 0,
+        both(control / 8 % 4 == 2, capabilities / 0x8_0000 % 2 == 1),
     )
 }
 
@@ -169,7 +185,7 @@ impl State {
             self.is_idle(),
             both(
                 value & 0x007f_0003 == 0x007f_0003,
-                value & 0x007f_003f == value,
+                value & 0x027f_003f == value,
             ),
         )
     }
@@ -181,7 +197,13 @@ impl State {
             self.is_idle(),
             both(
                 self.is_settled(),
-                both(value & 0x26 == value, is_able(self.capabilities, value)),
+                both(
+                    value & 0x3e == value,
+                    both(
+                        is_able(self.capabilities, self.control, value),
+                        is_selected(self.capabilities, value),
+                    ),
+                ),
             ),
         )
     }
@@ -212,6 +234,7 @@ impl State {
             0x30 => self.may_clear(value),
             0x34 => self.may_show(value),
             0x38 => value == 0,
+            0x58 => self.is_idle(),
             _ => false,
         }
     }

@@ -5,7 +5,7 @@ use Rattle.std.proofs.lemmas.Bool.{cond_both, false≢true}
 use Rattle.mmc_sdhci.specs.Controller.{ControllerView}
 use Rattle.mmc_sdhci.specs.Driver.{IsNew, unkept_controller}
 use Rattle.sdhci_story.proofs.Telling.{are_alike, are_same, are_themselves}
-use Rattle.sdhci_story.specs.Access.{Access, Pause, Read32, Read8, Write32, Write8}
+use Rattle.sdhci_story.specs.Access.{Access, Dma, Pause, Read32, Read8, Write32, Write8}
 use Rattle.sdhci_story.specs.Conforming.{AreSteps}
 use Rattle.sdhci_story.specs.RegisterStory.{IsAccess, RegisterStory}
 
@@ -46,6 +46,7 @@ untold old new (Write32 offset value) f = λ kept. f kept kept
 untold old new (Read8 offset value) f = λ kept. f kept kept
 untold old new (Write8 offset value) f = λ kept. f kept kept
 untold old new (Pause micros) f = λ kept. f kept kept
+untold old new Dma f = λ kept. f kept kept
 
 explains : (past : List Access) (view : ControllerView) (s : AreSteps past view) (access : Access) (es : List Access)
     → (controller_of past view s (access ∷ es)).is_kept ≡ true

@@ -2,7 +2,7 @@
 use Rattle.std.proofs.Common.{◌&&◌, ◌==◌, ◌∙◌, ◌≡◌, ◌∷◌, [], Bool, List, ap, false, refl, sym, true, ℕ}
 use Rattle.std.specs.Prelude.{if◌then◌else◌}
 use Rattle.std.proofs.lemmas.Bool.{eq-eqb, eqb-true, false≢true}
-use Rattle.sdhci_story.specs.Access.{Access, Pause, Read32, Read8, Write32, Write8}
+use Rattle.sdhci_story.specs.Access.{Access, Dma, Pause, Read32, Read8, Write32, Write8}
 
 record Code : Type 0 where
   kind : ℕ
@@ -15,13 +15,14 @@ code (Write32 offset value) = record { kind = 1; offset = offset; value = value 
 code (Read8 offset value) = record { kind = 2; offset = offset; value = value }
 code (Write8 offset value) = record { kind = 3; offset = offset; value = value }
 code (Pause micros) = record { kind = 4; offset = 0; value = micros }
+code Dma = record { kind = 5; offset = 0; value = 0 }
 
 abbrev meant : Code → Access
 meant c =
     if c.kind == 0 then Read32 c.offset c.value
     else (if c.kind == 1 then Write32 c.offset c.value
     else (if c.kind == 2 then Read8 c.offset c.value
-    else (if c.kind == 3 then Write8 c.offset c.value else Pause c.value)))
+    else (if c.kind == 3 then Write8 c.offset c.value else (if c.kind == 4 then Pause c.value else Dma))))
 
 meant_by : (a : Access) → meant (code a) ≡ a
 meant_by (Read32 offset value) = refl
@@ -29,6 +30,7 @@ meant_by (Write32 offset value) = refl
 meant_by (Read8 offset value) = refl
 meant_by (Write8 offset value) = refl
 meant_by (Pause micros) = refl
+meant_by Dma = refl
 
 abbrev same_code : Code → Code → Bool
 same_code a b = (a.kind == b.kind) && ((a.offset == b.offset) && (a.value == b.value))

@@ -10,6 +10,8 @@ pub data Access : Type 0 where
   Write8 : ℕ → ℕ → Access
   -- for so many microseconds
   Pause : ℕ → Access
+  -- memory was lent for DMA, or taken back
+  Dma : Access
 
 -- how long was waited by these accesses, the last one first, and what Present State showed last; before the first one it showed nothing
 abbrev pub beside_after : Beside → Access → Beside

@@ -3,17 +3,18 @@
 use Rattle.std.specs.Prelude.{◌∷◌, [], List}
 use Rattle.std.proofs.lemmas.Bool.{false≢true}
 use Rattle.mmc_sdhci.specs.Accesses.{Passes, Reads, Reads8, Writes, Writes8}
-use Rattle.mmc_sdhci.specs.Controller.{ControllerView}
+use Rattle.mmc_sdhci.specs.Controller.{ControllerView, Settled}
 use Rattle.mmc_sdhci.specs.Driver.{IsNew, unkept_controller}
-use Rattle.sdhci_story.specs.Access.{Access, Pause, Read32, Read8, Write32, Write8}
+use Rattle.sdhci_story.specs.Access.{Access, Dma, Pause, Read32, Read8, Write32, Write8}
 
--- An access is what the controller does.
+-- An access is what the controller does. Of DMA a story doesn't tell: it isn't true where some was.
 abbrev pub IsAccess : ControllerView → Access → ControllerView → Type 0
 IsAccess old (Read32 offset value) new = Reads old offset value new
 IsAccess old (Write32 offset value) new = Writes old offset value new
 IsAccess old (Read8 offset value) new = Reads8 old offset value new
 IsAccess old (Write8 offset value) new = Writes8 old offset value new
 IsAccess old (Pause micros) new = Passes old micros new
+IsAccess old Dma new = Settled old ⊥ new
 
 -- The assumption.
 pub record RegisterStory : Type 0 where
@@ -31,6 +32,7 @@ never (Write32 offset value) = λ said. absurd (false≢true said)
 never (Read8 offset value) = λ said. absurd (false≢true said)
 never (Write8 offset value) = λ said. absurd (false≢true said)
 never (Pause micros) = λ said. absurd (false≢true said)
+never Dma = λ said. absurd (false≢true said)
 
 abbrev pub never_true : RegisterStory
 never_true = record { controller = λ past. unkept_controller; begins = λ said. absurd (false≢true said); explains = λ access past. never access }

@@ -52,6 +52,8 @@ pub enum Note {
         /// For so many microseconds.
         micros: u32,
     },
+    /// Memory was lent for DMA or taken back, of which a story doesn't tell: it isn't true from there on.
+    Dma,
 }
 
 impl Diary {

@@ -35,6 +35,18 @@ impl Registers for Hasty {
         self.model.write8(offset, value);
     }
 
+    fn lend_table(&mut self, table: &[[u8; 8]; 16]) -> u32 {
+        self.model.lend_table(table)
+    }
+
+    fn take_place(&mut self, index: usize, block: &mut [u8; 512]) {
+        self.model.take_place(index, block);
+    }
+
+    fn take_back(&mut self) {
+        self.model.take_back();
+    }
+
     fn pause(&mut self, micros: u32) {
         self.model.pause(micros.min(self.longest));
     }

@@ -25,3 +25,7 @@ returns-in-48 c outcome =
 pub returns-in-52 : goal.returns-in-52
 returns-in-52 c outcome =
     at_offset (shown outcome c.args.self.now) c.args.offset 0x34 c.args.value c.may_show.result c.in-52.is (c.may_show.ensures outcome)
+
+pub returns-in-88 : goal.returns-in-88
+returns-in-88 c outcome =
+    at_offset (shown outcome c.args.self.now) c.args.offset 0x58 c.args.value c.is_idle.result c.in-88.is (c.is_idle.ensures outcome)

@@ -4,7 +4,7 @@ use Rattle.mmc_host.specs.HostStates.{less_by}
 use Rattle.mmc_host.specs.Hosts.{Where}
 use Rattle.mmc_host.specs.Together.{HostRead}
 use Rattle.mmc_sdhci.specs.Driver.{host_over}
-use Rattle.mmc_sdhci.proofs.sdhci.SdhciHost.read_with.Given as goal
+use Rattle.mmc_sdhci.proofs.sdhci.Sdhci.read_by_port.Given as goal
 
 abbrev pub invariant-loop-done : goal.invariant-loop-done
 invariant-loop-done g l =

@@ -1,0 +1,53 @@
+-- What the driver's functions leave, where the controller moves the data.
+use Rattle.std.specs.Prelude.{None, Option, Some, true, ℕ, ◌≡◌}
+use Rattle.mmc_frame.specs.Field.{field}
+use Rattle.mmc_card.specs.declared.exchange.DataIn.{DataIn}
+use Rattle.mmc_host.specs.declared.data.Data.{Data}
+use Rattle.mmc_sdhci.specs.Accesses.{is_at_rest, is_dma_set}
+use Rattle.mmc_sdhci.specs.Controller.{ControllerView, Settled, has_data, is_set, lines_in, seen}
+use Rattle.mmc_sdhci.specs.Lent.{size_of}
+use Rattle.mmc_sdhci.specs.DmaLooks.{AllMoved, SomeMoved}
+
+-- DMA can be had: ADMA2, bit 19 of Capabilities
+abbrev pub IsAbleToMove : ControllerView → Type 0
+IsAbleToMove view = view.is_kept ≡ true → field 19 19 view.built.capabilities ≡ 1
+
+-- between two commands, with no data under way
+abbrev pub IsFreeOf : ControllerView → Type 0
+IsFreeOf view = view.is_kept ≡ true → (is_at_rest view ≡ true) × ((view.transfer ≡ Data.Nothing) × (is_set view.settings ≡ true))
+
+-- memory of so many bytes is lent
+abbrev pub IsLent : ControllerView → ℕ → ℕ → Type 0
+IsLent view start size = view.is_kept ≡ true → (view.dma.start ≡ start) × (size_of view.dma.lent ≡ size)
+
+-- All is set for DMA, and nothing else is changed.
+pub record Prepared (old new : ControllerView) : Type 0 where
+  pub same : new ≡ record old { settings = new.settings; dma = new.dma }
+  pub lines : lines_in new.settings.control ≡ lines_in old.settings.control
+  pub clock : new.settings.clock ≡ old.settings.clock
+  pub set : is_set new.settings ≡ true
+  pub rest : is_at_rest new ≡ true
+  pub lent : new.dma.lent ≡ old.dma.lent
+  pub moves : is_dma_set new ≡ true
+
+abbrev pub Prepares : ControllerView → ControllerView → Type 0
+Prepares old new = Settled old (Prepared old new) new
+
+-- data is moved
+abbrev pub IsMoving : ControllerView → Type 0
+IsMoving view = view.is_kept ≡ true → (view.dma.is_moving ≡ true) × (has_data view.transfer ≡ true)
+
+-- All of it was moved, or some and then one failed: of a read, this became of it.
+abbrev pub Ended : ControllerView → Option DataIn → ControllerView → Type 0
+Ended old None new = AllMoved old.transfer old.dma.lent (seen old) new.dma.lent (seen new)
+Ended old (Some got) new =
+    (new.dma.lent ≡ old.dma.lent) × SomeMoved old.transfer old.dma.lent got (seen old) (seen new)
+
+pub record Finished (old : ControllerView) (failed : Option DataIn) (new : ControllerView) : Type 0 where
+  pub ended : Ended old failed new
+  pub transfer : new.transfer ≡ Data.Nothing
+  pub settings : new.settings ≡ old.settings
+  pub built : new.built ≡ old.built
+
+abbrev pub Finishes : ControllerView → Option DataIn → ControllerView → Type 0
+Finishes old failed new = Settled old (Finished old failed new) new

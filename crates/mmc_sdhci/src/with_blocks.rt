@@ -1,0 +1,199 @@
+// A command with the blocks after it, by DMA or through the Buffer Data Port.
+ghost use Rattle.std.specs.Prelude.{◌<◌, ◌≡◌, IfSome, IsNone, length, true};
+ghost use Rattle.mmc_host.specs.HostStates.{AreMovable, IsFree, IsTold};
+ghost use Rattle.mmc_host.specs.Hosts.{IsSlowEnough, Where};
+ghost use Rattle.mmc_host.specs.Together.{AreAhead, AreBehind, ReadsWith, WritesWith};
+ghost use Rattle.mmc_host.specs.declared.data.Data.TheVariants as Behind;
+ghost use Rattle.mmc_host.specs.declared.response.Response.TheVariants.{R1};
+ghost use Rattle.mmc_sdhci.specs.Driver.{StaysHost, host_over};
+
+use crate::command::{is_ok, is_word, send};
+use crate::data::{is_accepted, is_good};
+use crate::mover::Mover;
+use crate::moving::{finish, prepare, take_places};
+use crate::registers::Registers;
+use crate::sdhci::Sdhci;
+use crate::tables::MOST_BLOCKS;
+use mmc_bus::{Blocks, BlocksMut, Moved};
+use mmc_card::{DataIn, DataOut};
+use mmc_host::{Data, Heard, Host, HostCommand, ResponseFault};
+
+// Whether just so many blocks of 512 bytes are read.
+fn reads_whole(transfer: Data, count: usize) -> bool
+    ensures { result ≡ true → transfer ≡ Behind.Read 512 count }
+{
+    match transfer {
+        Data::Read { length, blocks } => length == 512 && usize::from(blocks) == count,
+        Data::Nothing | Data::Write { .. } => false,
+    }
+}
+
+// Whether just so many blocks are written.
+fn writes_whole(transfer: Data, count: usize) -> bool
+    ensures { result ≡ true → transfer ≡ Behind.Write count }
+{
+    match transfer {
+        Data::Write { blocks } => usize::from(blocks) == count,
+        Data::Nothing | Data::Read { .. } => false,
+    }
+}
+
+impl<R: Registers> Sdhci<R> {
+    /// Reads by DMA; `None` where the controller or its port can't, and then nothing has happened.
+    pub fn read_by_dma<D: BlocksMut>(
+        &mut self,
+        command: HostCommand,
+        blocks: &mut D,
+    ) -> Option<(Result<Heard, ResponseFault>, Moved<DataIn>)>
+        requires index { command.index < 64 }
+        requires movable { AreMovable command.transfer }
+        requires free { Where (host_over (R.view self.old.registers) self.old.state self.old.limits)
+            (IsFree self.old.state.transfer command) }
+        ensures same { IsNone result → (blocks.new ≡ blocks.old)
+            × StaysHost (host_over (R.view self.old.registers) self.old.state self.old.limits)
+            (host_over (R.view self.new.registers) self.new.state self.new.limits) }
+        ensures reads { IfSome result (λ done. ReadsWith D.blocks D.with
+            (host_over (R.view self.old.registers) self.old.state self.old.limits) command blocks.old done.0 done.1
+            blocks.new (host_over (R.view self.new.registers) self.new.state self.new.limits)) }
+    {
+        let count = blocks.len();
+        if !self.has_dma || count > MOST_BLOCKS || !reads_whole(command.transfer, count) {
+            return None;
+        }
+        let start = self.registers.lend_room(count)?;
+        prepare(
+            &mut self.registers,
+            self.state.ios.lines(),
+            start,
+            512 * count as u32,
+        );
+        let heard = send(
+            &mut self.registers,
+            self.state.transfer,
+            command,
+            Mover::Controller,
+        );
+        self.state = self.state.sent(command, is_ok(heard));
+        if !is_ok(heard) {
+            take_places(&mut self.registers, blocks);
+            return Some((heard, Moved::Good(0)));
+        }
+        let failed = finish(&mut self.registers);
+        self.state.transfer = Data::Nothing;
+        take_places(&mut self.registers, blocks);
+        match failed {
+            None => Some((heard, Moved::Good(count))),
+            Some(got) => Some((heard, Moved::Failed(got))),
+        }
+    }
+
+    /// Writes by DMA; `None` where the controller or its port can't, and then nothing has happened. The controller waits by itself until
+    /// the card is no longer busy after a block.
+    pub fn write_by_dma<D: Blocks>(
+        &mut self,
+        command: HostCommand,
+        blocks: &D,
+    ) -> Option<(Result<Heard, ResponseFault>, Moved<DataOut>)>
+        requires index { command.index < 64 }
+        requires movable { AreMovable command.transfer }
+        requires free { Where (host_over (R.view self.old.registers) self.old.state self.old.limits)
+            (IsFree self.old.state.transfer command) }
+        requires response { command.response ≡ R1 }
+        ensures same { IsNone result → StaysHost (host_over (R.view self.old.registers) self.old.state self.old.limits)
+            (host_over (R.view self.new.registers) self.new.state self.new.limits) }
+        ensures writes { IfSome result (λ done. WritesWith (host_over (R.view self.old.registers) self.old.state self.old.limits)
+            command (D.blocks blocks.now) done.0 done.1 (host_over (R.view self.new.registers) self.new.state self.new.limits)) }
+    {
+        let count = blocks.len();
+        if !self.has_dma || count > MOST_BLOCKS || !writes_whole(command.transfer, count) {
+            return None;
+        }
+        let start = self.registers.lend_blocks(blocks)?;
+        prepare(
+            &mut self.registers,
+            self.state.ios.lines(),
+            start,
+            512 * count as u32,
+        );
+        let heard = send(
+            &mut self.registers,
+            self.state.transfer,
+            command,
+            Mover::Controller,
+        );
+        self.state = self.state.sent(command, is_ok(heard));
+        if !is_ok(heard) {
+            self.registers.take_back();
+            return Some((heard, Moved::Good(0)));
+        }
+        let failed = finish(&mut self.registers);
+        self.state.transfer = Data::Nothing;
+        self.registers.take_back();
+        match failed {
+            None => Some((heard, Moved::Good(count))),
+            Some(_) => Some((heard, Moved::Failed(DataOut::Nothing))),
+        }
+    }
+
+    /// Reads through the Buffer Data Port: all blocks come with the command, one after the other.
+    pub fn read_by_port<D: BlocksMut>(
+        &mut self,
+        command: HostCommand,
+        blocks: &mut D,
+    ) -> (Result<Heard, ResponseFault>, Moved<DataIn>)
+        requires index { command.index < 64 }
+        requires movable { AreMovable command.transfer }
+        requires free { Where (host_over (R.view self.old.registers) self.old.state self.old.limits)
+            (IsFree self.old.state.transfer command) }
+        requires told { Where (host_over (R.view self.old.registers) self.old.state self.old.limits)
+            (IsTold self.old.state command) }
+        requires clock { Where (host_over (R.view self.old.registers) self.old.state self.old.limits)
+            (IsSlowEnough self.old.state command) }
+        requires behind { AreBehind command.transfer (length (D.blocks blocks.old)) }
+        ensures { ReadsWith D.blocks D.with (host_over (R.view self.old.registers) self.old.state self.old.limits) command
+            blocks.old result.0 result.1 blocks.new (host_over (R.view self.new.registers) self.new.state self.new.limits) }
+    {
+        let heard = self.send(command);
+        if !is_ok(heard) {
+            return (heard, Moved::Good(0));
+        }
+        let count = blocks.len();
+        for done in 0..count {
+            let got = self.read_block(blocks.block_mut(done));
+            if !is_good(got) {
+                return (heard, Moved::Failed(got));
+            }
+        }
+        (heard, Moved::Good(count))
+    }
+
+    /// Writes the first block through the Buffer Data Port: before each other one the card is polled, which is an exchange of its own.
+    pub fn write_by_port<D: Blocks>(
+        &mut self,
+        command: HostCommand,
+        blocks: &D,
+    ) -> (Result<Heard, ResponseFault>, Moved<DataOut>)
+        requires index { command.index < 64 }
+        requires movable { AreMovable command.transfer }
+        requires free { Where (host_over (R.view self.old.registers) self.old.state self.old.limits)
+            (IsFree self.old.state.transfer command) }
+        requires told { Where (host_over (R.view self.old.registers) self.old.state self.old.limits)
+            (IsTold self.old.state command) }
+        requires clock { Where (host_over (R.view self.old.registers) self.old.state self.old.limits)
+            (IsSlowEnough self.old.state command) }
+        requires ahead { AreAhead command.transfer (length (D.blocks blocks.now)) }
+        requires response { command.response ≡ R1 }
+        ensures { WritesWith (host_over (R.view self.old.registers) self.old.state self.old.limits) command (D.blocks blocks.now)
+            result.0 result.1 (host_over (R.view self.new.registers) self.new.state self.new.limits) }
+    {
+        let heard = self.send(command);
+        if !is_word(heard) || blocks.len() == 0 {
+            return (heard, Moved::Good(0));
+        }
+        let got = self.write_block(blocks.block(0));
+        if !is_accepted(got) {
+            return (heard, Moved::Failed(got));
+        }
+        (heard, Moved::Good(1))
+    }
+}
