@@ -1,8 +1,8 @@
 -- Blocks that the controller moved by itself, as a host tells of them.
-use Rattle.std.proofs.Common.{[], ◌+◌, ◌-◌, ◌<◌, ◌∙◌, ◌≡◌, ◌≤◌, ◌⊎◌, Bool, List, None, Option, Some, ap, arith, false, inl, inr, length, refl, subst, suc, sym, true, zero, ℕ}
+use Rattle.std.proofs.Common.{[], ◌+◌, ◌-◌, ◌<◌, ◌∙◌, ◌≡◌, ◌≤◌, ◌⊎◌, Bool, List, None, Some, ap, arith, false, inl, inr, length, refl, subst, suc, sym, true, zero, ℕ}
 use Rattle.std.proofs.lemmas.Bool.{eq-eqb, eqb-true, false≢true}
 use Rattle.std.proofs.lemmas.List.{get_or-set_other, get_or-set_same, length-set}
-use Rattle.std.specs.Prelude.{Err, IfOk, Ok, Result, if◌then◌else◌, is_ok, slice_index_or, slice_set, ◌==◌}
+use Rattle.std.specs.Prelude.{slice_index_or, slice_set, ◌==◌}
 use Rattle.mmc_bus.proofs.TogetherLemmas.{WritesOne, good_count}
 use Rattle.mmc_bus.specs.Exchanges.{Kept}
 use Rattle.mmc_bus.specs.Lending.{IsRewritten, block, nothing}
@@ -19,28 +19,19 @@ use Rattle.mmc_card.specs.declared.exchange.DataOut.TheVariants as Went
 use Rattle.mmc_card.specs.declared.exchange.Lines.{Lines}
 use Rattle.mmc_host.proofs.DataLemmas.{some_left}
 use Rattle.mmc_host.proofs.TogetherLemmas.{is_other_in}
-use Rattle.mmc_host.specs.HostStates.{block_passed, less_by, less_one, lines_of, sent}
-use Rattle.mmc_host.specs.Hosts.{Answers, HostView, Sends, Steps as HostSteps, WritesBlock, answer_heard, bus_of}
-use Rattle.mmc_host.specs.Together.{HostRead, HostRested, ReadsWith, WritesWith, passed}
+use Rattle.mmc_host.specs.HostStates.{block_passed, less_by, less_one, lines_of}
+use Rattle.mmc_host.specs.Hosts.{HostView, WritesBlock, bus_of}
+use Rattle.mmc_host.specs.Together.{HostRead, HostRested, passed}
 use Rattle.mmc_host.specs.declared.data.Data.{Data}
-use Rattle.mmc_card.specs.CardAnswer.{Silent}
-use Rattle.mmc_host.specs.declared.response.Response.{Response}
-use Rattle.mmc_host.specs.declared.response.Response.TheVariants as To
-use Rattle.mmc_host.specs.declared.told.Heard.{Heard}
-use Rattle.mmc_host.specs.declared.told.Heard.TheVariants as Hears
-use Rattle.mmc_host.specs.declared.told.HostCommand.{HostCommand}
 use Rattle.mmc_host.specs.declared.told.HostState.{HostState}
-use Rattle.mmc_host.specs.declared.told.ResponseFault.{ResponseFault}
 use Rattle.mmc_sdhci.proofs.Hosting.{same_bus}
-use Rattle.mmc_sdhci.specs.Commands as Command
-use Rattle.mmc_sdhci.specs.Commands.{KeepsLent}
-use Rattle.mmc_sdhci.specs.Controller.{Built, ControllerView, Settings, Settled, limits_in, lines_in, seen}
+use Rattle.mmc_sdhci.specs.Controller.{ControllerView, Settled, limits_in, lines_in, seen}
 use Rattle.mmc_sdhci.specs.DmaLooks.{AllMoved, BlockComes, BlockGoes, CardRests, HaveCome, HaveGone, OneIsLost, SomeMoved, StepsAlone}
 use Rattle.mmc_sdhci.specs.DmaLooks.{none_came, one_came}
-use Rattle.mmc_sdhci.specs.Driver.{StaysHost, host_over}
-use Rattle.mmc_sdhci.specs.Finishing.{Finishes, Prepares}
-use Rattle.mmc_sdhci.specs.Lending.{Lends, TakesBack, placed, unlent}
-use Rattle.mmc_sdhci.specs.Lent.{Dma, Lent, ToGo, blocks_to_go}
+use Rattle.mmc_sdhci.specs.Driver.{host_over}
+use Rattle.mmc_sdhci.specs.Finishing.{Finishes, ended}
+use Rattle.mmc_sdhci.specs.Lending.{TakesBack, placed, unlent}
+use Rattle.mmc_sdhci.specs.Lent.{blocks_to_go}
 use Rattle.mmc_sdhci.specs.Moving.{WhereKept}
 
 -- A host with the card of a bus.
@@ -73,9 +64,6 @@ stepped state after limits Step old new is after_is step =
     subst (λ (b : BusView). Kept (bus_of (host_at old state limits)) (Step (bus_of (host_at old state limits)) b) b) after_is
     (subst (λ (b : BusView). Kept b (Step b new) new) is step.kept)
 
-abbrev pub ended_in : HostState → HostState
-ended_in state = record state { transfer = Data.Nothing }
-
 -- Reads.
 
 one_good : (state : HostState) (limits : Lines) (done : ℕ) (view new : BusView) (left : List ℕ) → IsBusOf state limits view
@@ -90,11 +78,11 @@ one_good state limits done view new left is after_is step kept = record {
 
 one_bad : (state : HostState) (limits : Lines) (some : ℕ) (view new : BusView) (got : DataIn) (left : List ℕ) → (got ≡ Came.Good → ⊥)
     → IsBusOf state limits view → IsBusOf state limits new → BlockComes view got left new
-    → HostRead (host_at view (passed some state) limits) got left (host_at new (ended_in state) limits)
+    → HostRead (host_at view (passed some state) limits) got left (host_at new (ended state) limits)
 one_bad state limits some view new got left not is after_is step kept = record {
   state = sym (ap (λ (b : Bool). block_passed (passed some state) b) (is_other_in got not));
   limits = refl;
-  step = stepped (passed some state) (ended_in state) limits (λ a b. ReadStep a 512 got left b) view new is after_is step;
+  step = stepped (passed some state) (ended state) limits (λ a b. ReadStep a 512 got left b) view new is after_is step;
 }
 
 module _ {S : Type 0} (blocks : S → List (List ℕ)) (leave : S → ℕ → List ℕ → S) (one : WritesOne blocks leave) (was : S)
@@ -237,7 +225,7 @@ module _ {S : Type 0} (blocks : S → List (List ℕ)) (leave : S → ℕ → Li
   behind = host_over v1 after limits
 
   abbrev last : HostView
-  last = host_over v3 (ended_in after) limits
+  last = host_over v3 (ended after) limits
 
   few : count ≤ length (blocks was)
   few = omega (arith, full)
@@ -263,10 +251,10 @@ module _ {S : Type 0} (blocks : S → List (List ℕ)) (leave : S → ℕ → Li
       let e = subst (λ (t : Data). AllMoved t v1.dma.lent (seen v1) v2.dma.lent (seen v2)) (under_way f.0) f.1.ended in
       let is = same_bus v1 after limits (lines f.0) (most f.0) in
       let good = come_good blocks leave one was e.0 after limits (seen v1) is count (seen v2) e.1.1.1 few in
-      let over : passed count after ≡ ended_in after =
+      let over : passed count after ≡ ended after =
       ap (λ (t : Data). record after { transfer = t }) (ap (λ (t : Data). less_by count t) asked ∙ used_up 512 count some) in
       let host : host_at (seen v2) (passed count after) limits ≡ last =
-      ap (λ (s : HostState). host_at (seen v2) s limits) over ∙ same_host v2 v3 (ended_in after) limits t.1.1 in
+      ap (λ (s : HostState). host_at (seen v2) s limits) over ∙ same_host v2 v3 (ended after) limits t.1.1 in
       let there : placed leave e.0 was count ≡ now =
       sym (placed_as leave was taken.blocks e.0 count (t.1.0 e.0 e.1.0)) ∙ sym taken.placed in
       subst (λ (s : S). ReadOn HostRead blocks leave behind was (Move.Good count) last s) there
@@ -295,7 +283,7 @@ module _ {S : Type 0} (blocks : S → List (List ℕ)) (leave : S → ℕ → Li
       reads_none o.some (host_at o.before (passed o.some after) limits) (placed leave o.blocks was o.some) now got left last good
       (omega (arith, fewer, full, count_is)) (taken.sized o.some fewer) not
       (subst (λ (h : HostView). HostRead (host_at o.before (passed o.some after) limits) got left h)
-      (same_host v2 v3 (ended_in after) limits t.1.1)
+      (same_host v2 v3 (ended after) limits t.1.1)
       (one_bad after limits o.some o.before (seen v2) got left not bus (stays_one after limits o.before (seen v2) bus step) step))
       is_rewritten
 
@@ -317,11 +305,11 @@ one_gone state limits done view new left is after_is step kept = record {
 
 one_lost : (state : HostState) (limits : Lines) (some : ℕ) (view new : BusView) (left : List ℕ) → IsBusOf state limits view
     → IsBusOf state limits new → BlockGoes view left Went.Nothing new
-    → WritesBlock (host_at view (passed some state) limits) left Went.Nothing (host_at new (ended_in state) limits)
+    → WritesBlock (host_at view (passed some state) limits) left Went.Nothing (host_at new (ended state) limits)
 one_lost state limits some view new left is after_is step kept = record {
   state = refl;
   limits = refl;
-  step = stepped (passed some state) (ended_in state) limits (λ a b. WriteStep a left Went.Nothing b) view new is after_is step;
+  step = stepped (passed some state) (ended state) limits (λ a b. WriteStep a left Went.Nothing b) view new is after_is step;
 }
 
 one_rest : (state : HostState) (limits : Lines) (view new : BusView) → IsBusOf state limits view
@@ -360,7 +348,7 @@ module _ (blocks : List (List ℕ)) (state : HostState) (limits : Lines) (behind
       (one_gone state limits done ready next _ at (stays_one state limits ready next at step) step)
 
   lost : (moved : Moved DataOut) (new : BusView) (last : HostView) → WrittenOn BlockGoes CardRests blocks behind moved new
-      → moved ≡ Move.Failed Went.Nothing → host_at new (ended_in state) limits ≡ last
+      → moved ≡ Move.Failed Went.Nothing → host_at new (ended state) limits ≡ last
       → WrittenOn WritesBlock HostRested blocks (host_at behind state limits) (Move.Failed Went.Nothing) last
   lost moved new last (writes good next all) is_so same = cc
   lost moved new last (writes_none some view ready got next all rests below not step) is_so same =
@@ -401,7 +389,7 @@ module _ (blocks : List (List ℕ)) (v1 v2 v3 : ControllerView) (after : HostSta
   behind_it = host_over v1 after limits
 
   abbrev last_one : HostView
-  last_one = host_over v3 (ended_in after) limits
+  last_one = host_over v3 (ended after) limits
 
   gone_by : (kept : Bool) → v3.is_kept ≡ kept → Finishes v1 None v2
       → WrittenOn WritesBlock HostRested blocks behind_it (Move.Good count) last_one
@@ -415,10 +403,10 @@ module _ (blocks : List (List ℕ)) (v1 v2 v3 : ControllerView) (after : HostSta
       let e = subst (λ (t : Data). AllMoved t v1.dma.lent (seen v1) v2.dma.lent (seen v2)) (under_way f.0) f.1.ended in
       let went = subst (λ (bs : List (List ℕ)). HaveGone bs (seen v1) count (seen v2)) (lent f.0) e.1 in
       let is = same_bus v1 after limits (lines f.0) (most f.0) in
-      let over : passed count after ≡ ended_in after =
+      let over : passed count after ≡ ended after =
       ap (λ (t : Data). record after { transfer = t }) (ap (λ (t : Data). less_by count t) asked ∙ used_up_out count some) in
       let host : host_at (seen v2) (passed count after) limits ≡ last_one =
-      ap (λ (s : HostState). host_at (seen v2) s limits) over ∙ same_host v2 v3 (ended_in after) limits t.1 in
+      ap (λ (s : HostState). host_at (seen v2) s limits) over ∙ same_host v2 v3 (ended after) limits t.1 in
       writes count last_one
       (subst (λ (h : HostView). AreAccepted WritesBlock HostRested blocks behind_it count h) host
       (gone blocks after limits (seen v1) is count (seen v2) went))
@@ -437,114 +425,8 @@ module _ (blocks : List (List ℕ)) (v1 v2 v3 : ControllerView) (after : HostSta
       let o = subst (λ (t : Data). SomeMoved t v1.dma.lent got (seen v1) (seen v2)) (under_way f.0) f.1.ended.1 in
       let went = subst (λ (bs : List (List ℕ)). OneIsLost bs (seen v1) (seen v2)) (lent f.0) o in
       let is = same_bus v1 after limits (lines f.0) (most f.0) in
-      lost blocks after limits (seen v1) is _ (seen v2) last_one went refl (same_host v2 v3 (ended_in after) limits t.1)
+      lost blocks after limits (seen v1) is _ (seen v2) last_one went refl (same_host v2 v3 (ended after) limits t.1)
 
   pub one_is_lost : (got : DataIn) → Finishes v1 (Some got) v2
       → WrittenOn WritesBlock HostRested blocks behind_it (Move.Failed Went.Nothing) last_one
   one_is_lost got finishes = lost_by v3.is_kept refl got finishes
-
--- A host to which nothing has happened sends as before.
-pub sends_from : (h0 h1 h2 : HostView) (command : HostCommand) (heard : Result Heard ResponseFault) → StaysHost h0 h1
-    → Sends h1 command heard h2 → Sends h0 command heard h2
-sends_from h0 h1 h2 command heard stays sends kept =
-    let s = sends kept in
-    let e = stays s.step.was_kept in
-    subst (λ (h : HostView). HostSteps h (sent h.state command (is_ok heard))
-    (Answers (bus_of h) command.index command.argument (answer_heard command.response command.index heard) (bus_of h2)) h2) e.1 s
-
--- all is lent and set, and nothing has happened to the host
-pub still_there : (v0 v1 v2 : ControllerView) (state : HostState) (limits : Lines) (lent : Lent) (start : ℕ)
-    → Lends v0 lent (Some start) v1 → Prepares v1 v2 → StaysHost (host_over v0 state limits) (host_over v2 state limits)
-still_there v0 v1 v2 state limits lent start lends prepares kept =
-    let p = prepares kept in
-    let l = lends p.0 in
-    (l.0, ap (λ (v : ControllerView). host_over v state limits) p.1.same ∙ ap (λ (v : ControllerView). host_over v state limits) l.1)
-
--- nothing happens to the host behind a command
-pub sends_then : (h0 h1 h2 : HostView) (command : HostCommand) (heard : Result Heard ResponseFault) → Sends h0 command heard h1
-    → StaysHost h1 h2 → Sends h0 command heard h2
-sends_then h0 h1 h2 command heard sends stays kept =
-    let e = stays kept in
-    let s = sends e.0 in
-    subst (λ (h : HostView). HostSteps h0 (sent h0.state command (is_ok heard))
-    (Answers (bus_of h0) command.index command.argument (answer_heard command.response command.index heard) (bus_of h)) h) (sym e.1) s
-
--- lines and limits are as before
-pub lined : (v0 v1 v2 : ControllerView) (lent : Lent) (start : ℕ) (l : Lines) → WhereKept v0 (lines_in v0.settings.control ≡ l)
-    → Lends v0 lent (Some start) v1 → Prepares v1 v2 → WhereKept v2 (lines_in v2.settings.control ≡ l)
-lined v0 v1 v2 lent start l lines lends prepares kept =
-    let p = prepares kept in
-    let m = lends p.0 in
-    p.1.lines ∙ (ap (λ (v : ControllerView). lines_in v.settings.control) m.1 ∙ lines m.0)
-
-pub limited : (v0 v1 v2 : ControllerView) (lent : Lent) (start : ℕ) (l : Lines) → WhereKept v0 (limits_in v0.built.capabilities ≡ l)
-    → Lends v0 lent (Some start) v1 → Prepares v1 v2 → WhereKept v2 (limits_in v2.built.capabilities ≡ l)
-limited v0 v1 v2 lent start l limits lends prepares kept =
-    let p = prepares kept in
-    let m = lends p.0 in
-    ap (λ (v : ControllerView). limits_in v.built.capabilities) p.1.same
-    ∙ (ap (λ (v : ControllerView). limits_in v.built.capabilities) m.1 ∙ limits m.0)
-
-module _ (v0 v1 : ControllerView) (state after : HostState) (command : HostCommand) (heard : Result Heard ResponseFault)
-    (is : after ≡ sent state command (is_ok heard)) (sends : Command.Sends v0 command heard v1) where
-  pub lined_after : WhereKept v0 (lines_in v0.settings.control ≡ lines_of state.ios)
-      → WhereKept v1 (lines_in v1.settings.control ≡ lines_of after.ios)
-  lined_after lines kept =
-      let s = sends kept in
-      ap (λ (t : Settings). lines_in t.control) s.1.settings ∙ (lines s.0 ∙ sym (ap (λ (t : HostState). lines_of t.ios) is))
-
-  pub limited_after : (l : Lines) → WhereKept v0 (limits_in v0.built.capabilities ≡ l)
-      → WhereKept v1 (limits_in v1.built.capabilities ≡ l)
-  limited_after l limits kept =
-      let s = sends kept in ap (λ (b : Built). limits_in b.capabilities) s.1.built ∙ limits s.0
-
-  pub under_way_after : (t : Data) → is_ok heard ≡ true → command.transfer ≡ t → WhereKept v1 (v1.transfer ≡ t)
-  under_way_after t ok asked kept =
-      let s = sends kept in
-      s.1.transfer ∙ (ap (λ (b : Bool). if b then command.transfer else Data.Nothing) ok ∙ asked)
-
-  pub asked_after : (t : Data) → is_ok heard ≡ true → command.transfer ≡ t → after.transfer ≡ t
-  asked_after t ok asked =
-      ap (λ (s : HostState). s.transfer) is ∙ (ap (λ (b : Bool). if b then command.transfer else Data.Nothing) ok ∙ asked)
-
--- what is lent stays so until it is moved
-pub lent_after : (v0 v1 v2 v3 : ControllerView) (blocks : List (List ℕ)) (start : ℕ) (moving : Bool) → Lends v0 (ToGo blocks) (Some start) v1
-    → Prepares v1 v2 → KeepsLent v2 moving v3 → WhereKept v3 (blocks_to_go v3.dma.lent ≡ blocks)
-lent_after v0 v1 v2 v3 blocks start moving lends prepares keeps kept =
-    let k = keeps kept in
-    let p = prepares k.0 in
-    let m = lends p.0 in
-    ap (λ (d : Dma). blocks_to_go d.lent) k.1
-    ∙ (ap (λ (o : Option Lent). blocks_to_go o) p.1.lent ∙ ap (λ (v : ControllerView). blocks_to_go v.dma.lent) m.1)
-
--- a word that was heard is no silence
-heard_word : (index : ℕ) (heard : Heard) → Command.IsWord heard → answer_heard To.R1 index (Ok heard) ≡ Silent → ⊥
-heard_word index (Hears.Word word) is silent = cc
-heard_word index Hears.Nothing is silent = absurd is
-heard_word index (Hears.Register bytes) is silent = absurd is
-
-pub word_heard : (response : Response) (index : ℕ) (heard : Result Heard ResponseFault) → response ≡ To.R1 → is_ok heard ≡ true
-    → IfOk heard Command.IsWord → answer_heard response index heard ≡ Silent → ⊥
-word_heard response index (Err fault) one ok word silent = absurd (false≢true ok)
-word_heard response index (Ok heard) one ok word silent =
-    heard_word index heard word (subst (λ (r : Response). answer_heard r index (Ok heard) ≡ Silent) one silent)
-
--- Through the Buffer Data Port, where DMA can't be had.
-
-pub reads_again : {S : Type 0} (blocks : S → List (List ℕ)) (leave : S → ℕ → List ℕ → S) (h0 h1 h2 : HostView)
-    (command : HostCommand) (before was : S) (heard : Result Heard ResponseFault) (moved : Moved DataIn) (now : S) → StaysHost h0 h1
-    → was ≡ before → ReadsWith blocks leave h1 command was heard moved now h2
-    → ReadsWith blocks leave h0 command before heard moved now h2
-reads_again blocks leave h0 h1 h2 command before was heard moved now stays same read =
-    let r = subst (λ s. ReadsWith blocks leave h1 command s heard moved now h2) same read in
-    record { behind = r.behind; sent = sends_from h0 h1 r.behind command heard stays r.sent; read = r.read }
-
-pub writes_again : (h0 h1 h2 : HostView) (command : HostCommand) (blocks : List (List ℕ)) (heard : Result Heard ResponseFault)
-    (moved : Moved DataOut) → StaysHost h0 h1 → WritesWith h1 command blocks heard moved h2
-    → WritesWith h0 command blocks heard moved h2
-writes_again h0 h1 h2 command blocks heard moved stays write = record {
-  behind = write.behind;
-  sent = sends_from h0 h1 write.behind command heard stays write.sent;
-  unheard = write.unheard;
-  written = write.written;
-}

@@ -1,6 +1,7 @@
 pub mod Beginning
 pub mod Blocks
 pub mod ByDma
+pub mod CommandByDma
 pub mod Finishing
 pub mod Glancing
 pub mod Hosting

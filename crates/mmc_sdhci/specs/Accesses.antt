@@ -11,7 +11,7 @@ use Rattle.mmc_sdhci.specs.Controller.{has_data, is_enough, is_set, is_settled, 
 use Rattle.mmc_sdhci.specs.CommandLooks.{Dropped, Look, data_asked, of_a_command, word}
 use Rattle.mmc_sdhci.specs.DataLooks.{DataDropped, DataLooked, is_empty}
 use Rattle.mmc_sdhci.specs.DmaLooks.{MovingDropped, MovingLooked}
-use Rattle.mmc_sdhci.specs.Lent.{are_to_go, is_pointed, is_room_for}
+use Rattle.mmc_sdhci.specs.Lent.{is_lent_for, is_pointed}
 
 -- The internal clock is set anew where it is on and the card's isn't.
 abbrev pub stabilizing_from : Option ℕ → ℕ → Option ℕ
@@ -101,9 +101,7 @@ is_dma_set view =
     && ((field 4 3 view.settings.control == 2) && (field 25 25 view.settings.shown == 1))
 
 abbrev pub can_move : ControllerView → Data → Bool
-can_move view Data.Nothing = false
-can_move view (Data.Read size count) = (size == 512) && (is_room_for view.dma.lent count && is_dma_set view)
-can_move view (Data.Write count) = are_to_go view.dma.lent count && is_dma_set view
+can_move view transfer = is_lent_for view.dma.lent transfer && is_dma_set view
 
 -- What Transfer Mode and Command may ask for: DMA where it can be; no command of the controller's own (bits 2 and 3 of Transfer Mode), no
 -- suspending (bits 22 and 23, but for CMD12); several blocks are counted (bits 5 and 1).

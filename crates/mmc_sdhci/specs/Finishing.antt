@@ -1,11 +1,19 @@
 -- What the driver's functions leave, where the controller moves the data.
-use Rattle.std.specs.Prelude.{None, Option, Some, true, ℕ, ◌≡◌}
+use Rattle.std.specs.Prelude.{Err, None, Ok, Option, Result, Some, is_ok, true, ℕ, ◌≡◌}
 use Rattle.mmc_frame.specs.Field.{field}
+use Rattle.mmc_bus.specs.declared.moved.Moved.{Moved}
+use Rattle.mmc_bus.specs.declared.moved.Moved.TheVariants as Move
 use Rattle.mmc_card.specs.declared.exchange.DataIn.{DataIn}
+use Rattle.mmc_card.specs.declared.exchange.DataIn.TheVariants as Came
 use Rattle.mmc_host.specs.declared.data.Data.{Data}
+use Rattle.mmc_host.specs.declared.told.Heard.{Heard}
+use Rattle.mmc_host.specs.declared.told.HostCommand.{HostCommand}
+use Rattle.mmc_host.specs.declared.told.HostState.{HostState}
+use Rattle.mmc_host.specs.declared.told.ResponseFault.{ResponseFault}
 use Rattle.mmc_sdhci.specs.Accesses.{is_at_rest, is_dma_set}
+use Rattle.mmc_sdhci.specs.Commands.{KeepsLent, Sends}
 use Rattle.mmc_sdhci.specs.Controller.{ControllerView, Settled, has_data, is_set, lines_in, seen}
-use Rattle.mmc_sdhci.specs.Lent.{size_of}
+use Rattle.mmc_sdhci.specs.Lent.{is_lent_for, size_of}
 use Rattle.mmc_sdhci.specs.DmaLooks.{AllMoved, SomeMoved}
 
 -- DMA can be had: ADMA2, bit 19 of Capabilities
@@ -51,3 +59,27 @@ pub record Finished (old : ControllerView) (failed : Option DataIn) (new : Contr
 
 abbrev pub Finishes : ControllerView → Option DataIn → ControllerView → Type 0
 Finishes old failed new = Settled old (Finished old failed new) new
+
+-- no data is under way any more
+abbrev pub ended : HostState → HostState
+ended state = record state { transfer = Data.Nothing }
+
+-- memory is lent that serves this data
+abbrev pub IsLentFor : ControllerView → Data → Type 0
+IsLentFor view transfer = view.is_kept ≡ true → is_lent_for view.dma.lent transfer ≡ true
+
+-- What became of the data behind a command: all blocks were moved, or one failed; none, where the command wasn't heard.
+abbrev pub MovesBehind : ControllerView → Result Heard ResponseFault → ℕ → Moved DataIn → ControllerView → Type 0
+MovesBehind old (Err fault) count moved new = (moved ≡ Move.Good 0) × (new ≡ old)
+MovesBehind old (Ok heard) count (Move.Good done) new = (done ≡ count) × Finishes old None new
+MovesBehind old (Ok heard) count (Move.Failed got) new = (got ≡ Came.Good → ⊥) × Finishes old (Some got) new
+
+-- A command and so many blocks, which the controller moves by itself: all is set, the command goes out, and then the blocks are moved.
+pub record MovesWith (old : ControllerView) (command : HostCommand) (heard : Result Heard ResponseFault) (count : ℕ)
+    (moved : Moved DataIn) (new : ControllerView) : Type 0 where
+  pub set : ControllerView
+  pub behind : ControllerView
+  pub prepared : Prepares old set
+  pub sent : Sends set command heard behind
+  pub lent : KeepsLent set (is_ok heard) behind
+  pub moves : MovesBehind behind heard count moved new

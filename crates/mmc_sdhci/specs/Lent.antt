@@ -1,6 +1,7 @@
 -- Memory that is lent to a controller, so that it moves blocks by itself (ADMA2; SD Host Controller Simplified Specification 3.00, section
 -- 1.13).
-use Rattle.std.specs.Prelude.{Bool, List, None, Option, Some, [], false, length, ℕ, ◌*◌, ◌==◌}
+use Rattle.std.specs.Prelude.{Bool, List, None, Option, Some, [], false, length, ℕ, ◌&&◌, ◌*◌, ◌==◌}
+use Rattle.mmc_host.specs.declared.data.Data.{Data}
 
 -- Blocks of 512 bytes: room for so many, of which nothing is known until all have come; those that have come; or those that are
 -- written.
@@ -24,14 +25,11 @@ pub record Dma : Type 0 where
 abbrev pub nothing_lent : Dma
 nothing_lent = record { lent = None; start = 0; table = None; address = 0; is_moving = false }
 
--- there is room for so many blocks, or so many are to go
-abbrev pub is_room_for : Option Lent → ℕ → Bool
-is_room_for (Some (Room room)) count = room == count
-is_room_for _ count = false
-
-abbrev pub are_to_go : Option Lent → ℕ → Bool
-are_to_go (Some (ToGo blocks)) count = length blocks == count
-are_to_go _ count = false
+-- what is lent serves this data: it is room for just so many blocks, or just so many that are to go
+abbrev pub is_lent_for : Option Lent → Data → Bool
+is_lent_for (Some (Room room)) (Data.Read size count) = (size == 512) && (room == count)
+is_lent_for (Some (ToGo blocks)) (Data.Write count) = length blocks == count
+is_lent_for _ transfer = false
 
 -- the blocks that are to go
 abbrev pub blocks_to_go : Option Lent → List (List ℕ)

@@ -1,7 +1,7 @@
 -- Descriptor tables of ADMA2 with addresses of 32 bits: which memory they name (SD Host Controller Simplified Specification 3.00, section
 -- 1.13.3).
 use Rattle.std.specs.Int.{to_le_bytes, w16, w32}
-use Rattle.std.specs.Prelude.{Bool, List, [], if◌then◌else◌, min, slice_index_or, ℕ, ◌%◌, ◌*◌, ◌++◌, ◌+◌, ◌-◌, ◌/◌, ◌<◌, ◌==◌, ◌^◌, ◌≡◌}
+use Rattle.std.specs.Prelude.{Bool, List, [], if◌then◌else◌, min, slice_index_or, ℕ, ◌*◌, ◌++◌, ◌+◌, ◌-◌, ◌/◌, ◌<◌, ◌==◌, ◌≡◌}
 
 -- Bit 0 says that a line is valid, bit 1 that it is the last, and 10b in bits 5 and 4 that data is moved.
 abbrev pub attributes : Bool → ℕ

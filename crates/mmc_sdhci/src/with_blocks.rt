@@ -1,11 +1,14 @@
 // A command with the blocks after it, by DMA or through the Buffer Data Port.
-ghost use Rattle.std.specs.Prelude.{◌<◌, ◌≡◌, IfSome, IsNone, length, true};
-ghost use Rattle.mmc_host.specs.HostStates.{AreMovable, IsFree, IsTold};
+ghost use Rattle.std.specs.Prelude.{◌*◌, ◌+◌, ◌<◌, ◌≡◌, ◌≤◌, ◌^◌, IfOk, IfSome, IsNone, is_ok, length, true};
+ghost use Rattle.mmc_host.specs.HostStates.{AreMovable, IsFree, IsTold, sent};
 ghost use Rattle.mmc_host.specs.Hosts.{IsSlowEnough, Where};
 ghost use Rattle.mmc_host.specs.Together.{AreAhead, AreBehind, ReadsWith, WritesWith};
 ghost use Rattle.mmc_host.specs.declared.data.Data.TheVariants as Behind;
 ghost use Rattle.mmc_host.specs.declared.response.Response.TheVariants.{R1};
+ghost use Rattle.mmc_sdhci.specs.Commands.{IsWord};
 ghost use Rattle.mmc_sdhci.specs.Driver.{StaysHost, host_over};
+ghost use Rattle.mmc_sdhci.specs.Finishing.{IsLent, IsLentFor, MovesWith, ended};
+ghost use Rattle.mmc_sdhci.specs.Moving.{WhereKept};
 
 use crate::command::{is_ok, is_word, send};
 use crate::data::{is_accepted, is_good};
@@ -39,6 +42,50 @@ fn writes_whole(transfer: Data, count: usize) -> bool
 }
 
 impl<R: Registers> Sdhci<R> {
+    // Sends a command and lets the controller move its blocks, in memory that is lent from this bus address on. All data is over then.
+    fn move_blocks(
+        &mut self,
+        command: HostCommand,
+        start: u32,
+        count: usize,
+    ) -> (Result<Heard, ResponseFault>, Moved<DataIn>)
+        requires index { command.index < 64 }
+        requires movable { AreMovable command.transfer }
+        requires free { WhereKept (R.view self.old.registers) (IsFree self.old.state.transfer command) }
+        requires able { self.old.has_dma ≡ true }
+        requires lent { IsLent (R.view self.old.registers) start (512 * count) }
+        requires serves { IsLentFor (R.view self.old.registers) command.transfer }
+        requires few { count ≤ 1024 }
+        requires inside { start + 512 * count ≤ 2 ^ 32 }
+        ensures moves { MovesWith (R.view self.old.registers) command result.0 count result.1 (R.view self.new.registers) }
+        ensures word { command.response ≡ R1 → IfOk result.0 IsWord }
+        ensures state { self.new.state ≡ ended (sent self.old.state command (is_ok result.0)) }
+        ensures limits { self.new.limits ≡ self.old.limits }
+    {
+        prepare(
+            &mut self.registers,
+            self.state.ios.lines(),
+            start,
+            512 * count as u32,
+        );
+        let heard = send(
+            &mut self.registers,
+            self.state.transfer,
+            command,
+            Mover::Controller,
+        );
+        self.state = self.state.sent(command, is_ok(heard));
+        if !is_ok(heard) {
+            return (heard, Moved::Good(0));
+        }
+        let failed = finish(&mut self.registers);
+        self.state.transfer = Data::Nothing;
+        match failed {
+            None => (heard, Moved::Good(count)),
+            Some(got) => (heard, Moved::Failed(got)),
+        }
+    }
+
     /// Reads by DMA; `None` where the controller or its port can't, and then nothing has happened.
     pub fn read_by_dma<D: BlocksMut>(
         &mut self,
@@ -61,30 +108,9 @@ impl<R: Registers> Sdhci<R> {
             return None;
         }
         let start = self.registers.lend_room(count)?;
-        prepare(
-            &mut self.registers,
-            self.state.ios.lines(),
-            start,
-            512 * count as u32,
-        );
-        let heard = send(
-            &mut self.registers,
-            self.state.transfer,
-            command,
-            Mover::Controller,
-        );
-        self.state = self.state.sent(command, is_ok(heard));
-        if !is_ok(heard) {
-            take_places(&mut self.registers, blocks);
-            return Some((heard, Moved::Good(0)));
-        }
-        let failed = finish(&mut self.registers);
-        self.state.transfer = Data::Nothing;
+        let (heard, moved) = self.move_blocks(command, start, count);
         take_places(&mut self.registers, blocks);
-        match failed {
-            None => Some((heard, Moved::Good(count))),
-            Some(got) => Some((heard, Moved::Failed(got))),
-        }
+        Some((heard, moved))
     }
 
     /// Writes by DMA; `None` where the controller or its port can't, and then nothing has happened. The controller waits by itself until
@@ -109,29 +135,11 @@ impl<R: Registers> Sdhci<R> {
             return None;
         }
         let start = self.registers.lend_blocks(blocks)?;
-        prepare(
-            &mut self.registers,
-            self.state.ios.lines(),
-            start,
-            512 * count as u32,
-        );
-        let heard = send(
-            &mut self.registers,
-            self.state.transfer,
-            command,
-            Mover::Controller,
-        );
-        self.state = self.state.sent(command, is_ok(heard));
-        if !is_ok(heard) {
-            self.registers.take_back();
-            return Some((heard, Moved::Good(0)));
-        }
-        let failed = finish(&mut self.registers);
-        self.state.transfer = Data::Nothing;
+        let (heard, moved) = self.move_blocks(command, start, count);
         self.registers.take_back();
-        match failed {
-            None => Some((heard, Moved::Good(count))),
-            Some(_) => Some((heard, Moved::Failed(DataOut::Nothing))),
+        match moved {
+            Moved::Good(done) => Some((heard, Moved::Good(done))),
+            Moved::Failed(_) => Some((heard, Moved::Failed(DataOut::Nothing))),
         }
     }
 

@@ -78,19 +78,13 @@ and_true : (b : Bool) → (b && true) ≡ b
 and_true true = refl
 and_true false = refl
 
-and_false : (b : Bool) → (b && false) ≡ false
-and_false true = refl
-and_false false = refl
-
 or_false : (b : Bool) → (b || false) ≡ b
 or_false true = refl
 or_false false = refl
 
 -- no data can be moved by DMA
 none_moves : (outcome : Outcome) (s : State) (t : Data) → can_move (shown outcome s) t ≡ false
-none_moves outcome s Data.Nothing = refl
-none_moves outcome s (Data.Read size count) = and_false (size == 512)
-none_moves outcome s (Data.Write count) = refl
+none_moves outcome s t = refl
 
 abbrev others : ℕ → Bool
 others value =

@@ -1,5 +1,4 @@
-use Rattle.std.proofs.Common.{[], ◌+◌, ◌<◌, ◌∙◌, ◌≡◌, List, Some, add-one, ap, arith, length, subst, sym, ℕ}
-use Rattle.std.specs.Prelude.{slice_index_or}
+use Rattle.std.proofs.Common.{◌<◌, ◌∙◌, ◌≡◌, add-one, ap, arith, length, sym}
 use Rattle.mmc_sdhci.specs.Controller.{ControllerView}
 use Rattle.mmc_sdhci.specs.Lending.{unlent}
 use Rattle.mmc_sdhci.proofs.ByDma.{all_long, all_those, placed_one, still_many}

@@ -1,6 +1,6 @@
 use Rattle.std.proofs.Common.{refl}
 use Rattle.mmc_sdhci.specs.Driver.{host_over}
-use Rattle.mmc_sdhci.proofs.ByDma.{writes_again}
+use Rattle.mmc_sdhci.proofs.CommandByDma.{writes_again}
 use Rattle.mmc_sdhci.proofs.sdhci.SdhciHost.write_with.Goals as goal
 
 pub returns-in-None : goal.returns-in-None
