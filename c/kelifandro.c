@@ -29,7 +29,7 @@ IS_SO(part, sizeof(enum kelifandro_part) == 4);
 #error "struct kelifandro_card has the lowest byte of a number first: this processor has the highest first"
 #endif
 
-/* The records (crates/c_host/src/stream.rt), by their first bytes. A block has no record: it is put, and its status got, or it is got. */
+/* The records (crates/c_host/src/records.rt), by their first bytes. A block has no record: it is put, and its status got, or it is got. */
 enum {
     NOTHING,
     SEND,

@@ -6,6 +6,7 @@
 
 mod diary;
 mod lent;
+mod records;
 mod registers;
 mod stream;
 mod way;

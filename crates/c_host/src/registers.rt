@@ -11,7 +11,8 @@ ghost use Rattle.c_host.specs.Talk.Talk.{Asked, Told};
 ghost use Rattle.c_host.specs.Talk.{last_answer};
 ghost use Rattle.c_host.specs.Told.{TellsLending, TellsPause, TellsPort, TellsTable, TellsTaking};
 
-use crate::stream::{LEND_BLOCKS, LEND_ROOM, Stream};
+use crate::records::{LEND_BLOCKS, LEND_ROOM};
+use crate::stream::Stream;
 use mmc_bus::Blocks;
 use mmc_sdhci::Registers;
 

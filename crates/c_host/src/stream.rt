@@ -1,5 +1,4 @@
-// A stream with a number: records go to C, and answers come from it. The first byte of a record says what is asked; numbers are
-// little endian. A block goes and comes as it is: no record has its length. `c/kelifandro.c` has the other end.
+// A stream with a number: records go to C, and answers come from it. A block goes and comes as it is: no record has its length. `c/kelifandro.c` has the other end.
 ghost use Rattle.std.specs.Prelude.{◌≡◌, ◌∷◌, ◌≤◌, [], length, true, ℕ};
 ghost use Rattle.std.specs.Int.{from_le_bytes, to_le_bytes, w32};
 ghost use Rattle.c_host.specs.Talk.Talk.{Asked, Came, Told};
@@ -16,37 +15,14 @@ ghost use Rattle.mmc_host.specs.Together.{ReadsWith, WritesWith};
 ghost use Rattle.mmc_host.specs.declared.response.Response.TheVariants.{R1};
 
 use crate::diary::{Call, Diary, Note};
+use crate::records::{
+    LEND_BLOCKS, LEND_ROOM, LIMITS, LOOK, PAUSE, READ_REGISTER, READ_WITH, TAKE_BACK, TAKE_PLACES,
+    WRITE_REGISTER, WRITE_WITH, command_record, failed_by, good_by, heard_by, ios_record, is_word,
+    lent_at, moved_by, refused_by, touched_by,
+};
 use mmc_bus::{BlocksMut, Moved};
 use mmc_card::{DataIn, DataOut, Lines, Timing, Width};
 use mmc_host::{Data, Heard, HostCommand, Ios, Response, ResponseFault};
-
-const SEND: u8 = 1;
-
-const LOOK: u8 = 4;
-
-const SET_IOS: u8 = 5;
-
-const PAUSE: u8 = 6;
-
-const LIMITS: u8 = 7;
-
-const READ_REGISTER: u8 = 8;
-
-const WRITE_REGISTER: u8 = 9;
-
-const READ_WITH: u8 = 10;
-
-const WRITE_WITH: u8 = 11;
-
-/// Memory is wanted for DMA, to be read into.
-pub const LEND_ROOM: u8 = 14;
-
-/// The same to be written.
-pub const LEND_BLOCKS: u8 = 15;
-
-const TAKE_PLACES: u8 = 16;
-
-const TAKE_BACK: u8 = 17;
 
 /// A stream, with a diary of what went over it, which exists only in proofs.
 ///
@@ -56,203 +32,6 @@ const TAKE_BACK: u8 = 17;
 pub struct Stream {
     number: i32,
     pub diary: Diary,
-}
-
-// The kind of a response, as a number for C.
-fn response_number(response: Response) -> u8
-    ensures { result ≡ response_number response }
-{
-    match response {
-        Response::Nothing => 0,
-        Response::R1 => 1,
-        Response::R1b => 2,
-        Response::R2 => 3,
-        Response::R3 => 4,
-        Response::R6 => 5,
-        Response::R7 => 6,
-    }
-}
-
-// The data behind a command: 0 none, 1 it is read, 2 it is written; the length of a block, and how many.
-fn data_numbers(transfer: Data) -> (u8, u16, u16)
-    ensures direction { result.0 ≡ data_number transfer }
-    ensures length { result.1 ≡ length_number transfer }
-    ensures count { result.2 ≡ count_number transfer }
-{
-    match transfer {
-        Data::Nothing => (0, 0, 0),
-        Data::Read { length, blocks } => (1, length, blocks),
-        Data::Write { blocks } => (2, 512, blocks),
-    }
-}
-
-// Why no response was heard.
-fn fault_of(number: u8) -> ResponseFault
-    ensures { result ≡ fault_by number }
-{
-    match number {
-        2 => ResponseFault::Check,
-        3 => ResponseFault::EndBit,
-        4 => ResponseFault::Index,
-        _ => ResponseFault::Timeout,
-    }
-}
-
-// What was heard, by these bytes: bits 127 to 8 of a register, the highest byte first, or a word.
-fn heard_in(response: Response, bytes: [u8; 15]) -> Heard
-    ensures { result ≡ heard_in response bytes }
-{
-    let [a, b, c, d, ..] = bytes;
-    match response {
-        Response::Nothing => Heard::Nothing,
-        Response::R2 => Heard::Register(bytes),
-        _ => Heard::Word(u32::from_le_bytes([a, b, c, d])),
-    }
-}
-
-// What was heard, or why nothing was, by the bytes after which the fault stands.
-fn heard_by(response: Response, answer: &[u8]) -> Result<Heard, ResponseFault>
-    requires { 16 ≤ length answer.now }
-    ensures { result ≡ heard_by response answer.now }
-{
-    if answer[15] == 0 {
-        let mut bytes = [0; 15];
-        bytes.copy_from_slice(&answer[..15]);
-        Ok(heard_in(response, bytes))
-    } else {
-        Err(fault_of(answer[15]))
-    }
-}
-
-// What became of a block that wasn't good; 0 where none failed.
-fn failed_by(number: u8) -> Option<DataIn>
-    ensures { result ≡ failed_by number }
-{
-    match number {
-        0 => None,
-        1 => Some(DataIn::Bad),
-        _ => Some(DataIn::Nothing),
-    }
-}
-
-// What became of a block that wasn't accepted; 0 where none failed.
-fn refused_by(number: u8) -> Option<DataOut>
-    ensures { result ≡ refused_by number }
-{
-    match number {
-        0 => None,
-        1 => Some(DataOut::Rejected),
-        _ => Some(DataOut::Nothing),
-    }
-}
-
-// What C moved of so many blocks. Where one failed it isn't used how many C says were good.
-fn moved_by<T: Copy>(failed: Option<T>, good: usize, count: usize) -> Moved<T>
-    ensures { result ≡ moved_by failed good count }
-{
-    match failed {
-        Some(_) if count == 0 => Moved::Good(0),
-        Some(got) => Moved::Failed(got),
-        None => Moved::Good(good.min(count)),
-    }
-}
-
-// How many of so many places C may have written to: all of them where a block failed.
-fn touched_by(moved: Moved<DataIn>, count: usize) -> usize
-    ensures { result ≡ touched_by moved count }
-{
-    match moved {
-        Moved::Good(good) => good,
-        Moved::Failed(_) => count,
-    }
-}
-
-// Where memory for so many blocks is lent; `None` where C has none, or it doesn't lie within 32 bits.
-fn lent_at(address: u32, count: usize) -> Option<u32>
-    ensures lent { result ≡ lent_at address count }
-    ensures fits { Fits result count }
-{
-    let most = (0x1_0000_0000 - u64::from(address)) / 512;
-    if address == 0 || address % 4 != 0 || count as u64 > most {
-        None
-    } else {
-        Some(address)
-    }
-}
-
-// Whether a word was heard, as that of an R1.
-fn is_word(heard: Result<Heard, ResponseFault>) -> bool
-    ensures is { result ≡ is_word heard }
-    ensures heard { result ≡ true → (index : ℕ) → answer_heard R1 index heard ≡ Silent → ⊥ }
-{
-    matches!(heard, Ok(Heard::Word(_)))
-}
-
-// How many blocks C says were good.
-fn good_by(answer: &[u8; 19]) -> usize
-    ensures { result ≡ good_by answer.now }
-{
-    usize::from(u16::from_le_bytes([answer[16], answer[17]]))
-}
-
-// The record of a command.
-fn command_record(command: HostCommand) -> [u8; 12]
-    ensures { result ≡ command_record command }
-{
-    let [a, b, c, d] = command.argument.to_le_bytes();
-    let (direction, length, blocks) = data_numbers(command.transfer);
-    let [e, f] = length.to_le_bytes();
-    let [g, h] = blocks.to_le_bytes();
-    let response = response_number(command.response);
-    [
-        SEND,
-        command.index,
-        response,
-        direction,
-        a,
-        b,
-        c,
-        d,
-        e,
-        f,
-        g,
-        h,
-    ]
-}
-
-fn lines_number(width: Width) -> u8
-    ensures { result ≡ lines_number width }
-{
-    match width {
-        Width::One => 1,
-        Width::Four => 4,
-        Width::Eight => 8,
-    }
-}
-
-fn is_high(timing: Timing) -> u8
-    ensures { result ≡ timing_number timing }
-{
-    match timing {
-        Timing::Default => 0,
-        Timing::High => 1,
-    }
-}
-
-// The record of lines, timing and clock.
-fn ios_record(ios: Ios) -> [u8; 7]
-    ensures { result ≡ ios_record ios }
-{
-    let [a, b, c, d] = ios.max_clock().to_le_bytes();
-    [
-        SET_IOS,
-        lines_number(ios.width),
-        is_high(ios.timing),
-        a,
-        b,
-        c,
-        d,
-    ]
 }
 
 impl Stream {
