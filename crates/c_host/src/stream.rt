@@ -1,16 +1,16 @@
-// A stream with a number: records go to C, and answers come from it. A block goes and comes as it is: no record has its length. `c/kelifandro.c` has the other end.
-ghost use Rattle.std.specs.Prelude.{◌≡◌, ◌∷◌, ◌≤◌, [], length, true, ℕ};
+// A stream with a number: records go to C, and answers come from it. A block goes and comes as it is: no record has its length.
+// `c/kelifandro.c` has the other end.
+ghost use Rattle.std.specs.Prelude.{◌≡◌, ◌∷◌, [], length};
 ghost use Rattle.std.specs.Int.{from_le_bytes, to_le_bytes, w32};
 ghost use Rattle.c_host.specs.Talk.Talk.{Asked, Came, Told};
 ghost use Rattle.c_host.specs.Talk.{last_answer};
-ghost use Rattle.c_host.specs.Records.{command_record, count_number, data_number, failed_by, fault_by, good_by};
-ghost use Rattle.c_host.specs.Records.{heard_by, heard_in, ios_record, is_word, length_number, lines_by, lines_number, moved_by};
-ghost use Rattle.c_host.specs.Records.{refused_by, response_number, timing_number, touched_by, with_record};
+ghost use Rattle.c_host.specs.Records.{command_record, failed_by, good_by};
+ghost use Rattle.c_host.specs.Records.{heard_by, ios_record, is_word, lines_by, moved_by};
+ghost use Rattle.c_host.specs.Records.{refused_by, touched_by, with_record};
 ghost use Rattle.c_host.specs.Told.{TellsCommand, TellsIos, TellsLending, TellsLook, TellsPause, TellsPort, TellsRead, TellsReadWith};
 ghost use Rattle.c_host.specs.Told.{TellsTable, TellsTaking, TellsWrite, TellsWriteWith, lent_at};
 ghost use Rattle.mmc_sdhci.specs.Lending.{Fits};
-ghost use Rattle.mmc_card.specs.CardAnswer.{Silent};
-ghost use Rattle.mmc_host.specs.Hosts.{answer_heard, unkept_host};
+ghost use Rattle.mmc_host.specs.Hosts.{unkept_host};
 ghost use Rattle.mmc_host.specs.Together.{ReadsWith, WritesWith};
 ghost use Rattle.mmc_host.specs.declared.response.Response.TheVariants.{R1};
 
