@@ -56,7 +56,7 @@ def facts_that_differ(documents):
 
 def sizes_that_differ(documents):
     """Code and stack of the library for C, as README's table has them, which tests/processors/sizes measures."""
-    rows = re.findall(r"^\| [\w-]+ \| ([\d,]+) \| ([\d,]+) \|", documents.texts["README.md"], re.M)
+    rows = re.findall(r"^\| [\w-]+ \| ([\d,]+) \| [\d,]+ \| ([\d,]+) \|", documents.texts["README.md"], re.M)
     code, stack = number(rows[0][0]), max(number(it) for _, it in rows)
     for name, text in {**documents.texts, "c/kelifandro.h": source("c/kelifandro.h")}.items():
         for word in re.findall(r"(\d+) KiB of stack", text):

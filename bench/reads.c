@@ -1,0 +1,63 @@
+/* Reads 256 sectors in runs of 64, by DMA where the controller has it and through its port, and tells the nanoseconds of each on the
+   board's own clock. Started by bench/boards, whose QEMU lets each instruction take one. */
+#include "board.h"
+
+enum { RUN = 64, RUNS = 4 };
+static uint8_t blocks[RUN][512];
+
+#ifdef __x86_64__
+static uint64_t nanoseconds(void)
+{
+    uint32_t low, high;
+    __asm__ volatile("rdtsc" : "=a"(low), "=d"(high));
+    return (uint64_t)high << 32 | low;
+}
+#elif defined __riscv
+/* The time of RISC-V's boards goes at 10 MHz, but for one. */
+#ifndef MEGAHERTZ
+#define MEGAHERTZ 10
+#endif
+static uint64_t nanoseconds(void)
+{
+    unsigned long count;
+    __asm__ volatile("rdtime %0" : "=r"(count));
+    return (uint64_t)count * (1000 / MEGAHERTZ);
+}
+#else
+static uint64_t nanoseconds(void)
+{
+    uint64_t count, hertz;
+#ifdef __aarch64__
+    __asm__ volatile("mrs %0, cntfrq_el0" : "=r"(hertz));
+    __asm__ volatile("isb\n\tmrs %0, cntpct_el0" : "=r"(count) : : "memory");
+#else
+    uint32_t low, high, frequency;
+    __asm__ volatile("mrc p15, 0, %0, c14, c0, 0" : "=r"(frequency));
+    __asm__ volatile("isb\n\tmrrc p15, 0, %0, %1, c14" : "=r"(low), "=r"(high) : : "memory");
+    count = (uint64_t)high << 32 | low, hertz = frequency;
+#endif
+    return count * (1000000000 / hertz);
+}
+#endif
+
+static void measure(const char *way, struct kelifandro *sd)
+{
+    uint64_t begin = nanoseconds();
+    for (uint32_t run = 0; run < RUNS; run++)
+        expect_done("read", kelifandro_read(sd, KELIFANDRO_USER, RUN * run, RUN, blocks));
+    print(way);
+    print_number((nanoseconds() - begin) / (RUN * RUNS));
+    print("\n");
+}
+
+void program(struct kelifandro *sd)
+{
+    static struct kelifandro_registers by_port;
+    by_port = *sd->registers;
+    by_port.lend = 0;
+    measure("first ", sd);
+    if (board_lendings > 0)
+        measure("dma ", sd);
+    sd->registers = &by_port;
+    measure("port ", sd);
+}
