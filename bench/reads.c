@@ -13,10 +13,7 @@ static uint64_t nanoseconds(void)
     return (uint64_t)high << 32 | low;
 }
 #elif defined __riscv
-/* The time of RISC-V's boards goes at 10 MHz, but for one. */
-#ifndef MEGAHERTZ
-#define MEGAHERTZ 10
-#endif
+enum { MEGAHERTZ = 10 }; /* of QEMU's virtual board */
 static uint64_t nanoseconds(void)
 {
     unsigned long count;

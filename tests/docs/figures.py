@@ -87,9 +87,10 @@ def figures_without_a_mark(documents):
         printed = re.sub(r"\{[^}]*\}", "{}", source(command)) if (TOP / command).exists() else ""
         if not printed:
             yield f"{COSTS}: there is no {command}"
+        named = source(command) + source("c/boards/boards.txt") if (TOP / command).exists() else ""
         for row in tables[0].splitlines()[2:] if tables else []:
             name = row.split("|")[1].strip()
-            if name not in source(command) and not is_printed(name, printed):
+            if name not in named and not is_printed(name, printed):
                 yield f"{COSTS}: {command} prints no row of {name}"
 
 
