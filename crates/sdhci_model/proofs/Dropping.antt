@@ -1,5 +1,5 @@
 -- Blocks that are lost by a reset of the data line.
-use Rattle.std.proofs.Common.{◌∙◌, ◌≡◌, ◌∷◌, Bool, List, None, Option, Some, ap, arith, false, length, refl, subst, sym, ℕ}
+use Rattle.std.proofs.Common.{[], ◌<◌, ◌∙◌, ◌≡◌, ◌∷◌, Bool, List, None, Option, Some, ap, arith, false, length, refl, subst, sym, true, ℕ}
 use Rattle.mmc_bus.specs.Exchanges.{Kept}
 use Rattle.mmc_card.specs.BusView.{BusView}
 use Rattle.mmc_card.specs.Faults.{ReadStep, WriteStep}
@@ -8,9 +8,10 @@ use Rattle.mmc_card.specs.declared.exchange.DataIn.TheVariants as Came
 use Rattle.mmc_card.specs.declared.exchange.DataOut.{DataOut}
 use Rattle.mmc_card.specs.declared.exchange.DataOut.TheVariants as Went
 use Rattle.mmc_host.specs.declared.data.Data.{Data}
-use Rattle.mmc_sdhci.specs.Accesses.{Does8}
+use Rattle.mmc_sdhci.specs.Accesses.{Does8, Drops, DropsBy}
 use Rattle.mmc_sdhci.specs.Controller.{ControllerView, Settled, moved, seen}
 use Rattle.mmc_sdhci.specs.DataLooks.{DataDropped, IsOffered, cleared}
+use Rattle.mmc_sdhci.specs.DmaLooks.{SomeMoved, none_came}
 use Rattle.mmc_story.specs.Entry.{Entry, Event}
 use Rattle.mmc_story.specs.Entry.Event.{Read, Written}
 use Rattle.mmc_story.specs.Story.{Allows, Outcome, Story}
@@ -39,7 +40,7 @@ drops_data : (story : Story) (past : List Entry) (s s' : State) (event : Event)
     (seen (controller story (entry_for s event ∷ past) s'))
     → (after : ControllerView) → seen after ≡ seen (controller story (entry_for s event ∷ past) s')
     → after ≡ cleared (moved (controller story past s) after)
-    → DataDropped (controller story past s) s.transfer after)
+    → Drops (controller story past s) after)
     → Settled (controller story past s)
     (Does8 (controller story past s) 0x2f 4 (controller story (entry_for s event ∷ past) s'))
     (controller story (entry_for s event ∷ past) s')
@@ -67,12 +68,15 @@ drops_data story past s s' event changes same drops kept =
       },
     )
 
+drops_unmoved : (old new : ControllerView) → old.dma.is_moving ≡ false → DataDropped old old.transfer new → Drops old new
+drops_unmoved old new still drops = subst (λ (b : Bool). DropsBy b old new) (sym still) drops
+
 -- No block came.
 pub loses_read : (story : Story) (past after : List Entry) (s s1 s2 : State) (size : ℕ) (blocks : ℕ) (block : List ℕ)
-    → s.transfer ≡ Data.Read size blocks → after ≡ entry_for s (Read size Came.Nothing block) ∷ past → s1 ≡ s
+    → s.is_moving ≡ false → s.transfer ≡ Data.Read size blocks → after ≡ entry_for s (Read size Came.Nothing block) ∷ past → s1 ≡ s
     → ChangesTo s1 reset_from s2 → HasSameBus s1 s2
     → Settled (controller story past s) (Does8 (controller story past s) 0x2f 4 (controller story after s2)) (controller story after s2)
-loses_read story past after s s1 s2 size blocks block is noted same changes bus =
+loses_read story past after s s1 s2 size blocks block still is noted same changes bus =
     let event = Read size Came.Nothing block in
     let old = controller story past s in
     subst (λ (es : List Entry). Settled (controller story past s)
@@ -80,9 +84,45 @@ loses_read story past after s s1 s2 size blocks block is noted same changes bus 
     (drops_data story past s s2 event
     (subst (λ (x : State). ChangesTo x reset_from s2) same changes)
     (subst (λ (x : State). HasSameBus x s2) same bus)
-    (λ step v sees clear. subst (λ (t : Data). DataDropped old t v) (sym is) (
+    (λ step v sees clear. drops_unmoved old v still (subst (λ (t : Data). DataDropped old t v) (sym is) (
       λ other. subst (λ (b : BusView). Kept (seen old) (ReadStep (seen old) size Came.Nothing other b) b) (sym sees)
           (kept_any (seen old) (seen (controller story (entry_for s event ∷ past) s2)) size Came.Nothing block other refl step),
+      clear,
+    ))))
+
+-- None came that the controller was to move by itself.
+same_bus : (old new : ControllerView) → new ≡ cleared (moved old new)
+    → seen new ≡ record (seen old) { card = new.card; faults = new.faults; may_fall = new.may_fall; is_kept = new.is_kept }
+same_bus old new clear =
+    ap (λ (v : ControllerView). seen v) clear
+    ∙ ap (λ (b : Bool). record (seen old) { card = new.card; faults = new.faults; may_fall = new.may_fall; is_kept = b })
+    (sym (ap (λ (v : ControllerView). v.is_kept) clear))
+
+pub loses_next : (story : Story) (past after : List Entry) (s s1 s2 : State) (size blocks : ℕ) → s.is_moving ≡ true
+    → s.transfer ≡ Data.Read size blocks → 0 < blocks → after ≡ entry_for s (Read 512 Came.Nothing []) ∷ past → s1 ≡ s
+    → ChangesTo s1 reset_from s2 → HasSameBus s1 s2
+    → Settled (controller story past s) (Does8 (controller story past s) 0x2f 4 (controller story after s2)) (controller story after s2)
+loses_next story past after s s1 s2 size blocks moves is some noted same changes bus =
+    let event = Read 512 Came.Nothing [] in
+    let old = controller story past s in
+    subst (λ (es : List Entry). Settled (controller story past s)
+    (Does8 (controller story past s) 0x2f 4 (controller story es s2)) (controller story es s2)) (sym noted)
+    (drops_data story past s s2 event
+    (subst (λ (x : State). ChangesTo x reset_from s2) same changes)
+    (subst (λ (x : State). HasSameBus x s2) same bus)
+    (λ step v sees clear. subst (λ (b : Bool). DropsBy b old v) (sym moves) (
+      subst (λ (t : Data). SomeMoved t old.dma.lent Came.Nothing (seen old) (seen v)) (sym is) (record {
+        blocks = [];
+        some = 0;
+        fewer = some;
+        before = seen old;
+        come = none_came;
+        fails = λ other. record {
+          same = same_bus old v clear;
+          kept = subst (λ (b : BusView). Kept (seen old) (ReadStep (seen old) 512 Came.Nothing other b) b) (sym sees)
+              (kept_any (seen old) (seen (controller story (entry_for s event ∷ past) s2)) 512 Came.Nothing [] other refl step);
+        };
+      }),
       clear,
     )))
 
@@ -116,10 +156,10 @@ kept_lost old new outgoing block other got lost offered step =
 
 -- The block didn't go.
 pub loses_write : (story : Story) (past after : List Entry) (s s1 s2 : State) (blocks : ℕ) (block : List ℕ) (got : DataOut)
-    → s.transfer ≡ Data.Write blocks → IsLostAs s.outgoing.items block got → after ≡ entry_for s (Written block got) ∷ past → s1 ≡ s
+    → s.is_moving ≡ false → s.transfer ≡ Data.Write blocks → IsLostAs s.outgoing.items block got → after ≡ entry_for s (Written block got) ∷ past → s1 ≡ s
     → ChangesTo s1 reset_from s2 → HasSameBus s1 s2
     → Settled (controller story past s) (Does8 (controller story past s) 0x2f 4 (controller story after s2)) (controller story after s2)
-loses_write story past after s s1 s2 blocks block got is lost noted same changes bus =
+loses_write story past after s s1 s2 blocks block got still is lost noted same changes bus =
     let event = Written block got in
     let old = controller story past s in
     subst (λ (es : List Entry). Settled (controller story past s)
@@ -127,11 +167,11 @@ loses_write story past after s s1 s2 blocks block got is lost noted same changes
     (drops_data story past s s2 event
     (subst (λ (x : State). ChangesTo x reset_from s2) same changes)
     (subst (λ (x : State). HasSameBus x s2) same bus)
-    (λ step v sees clear. subst (λ (t : Data). DataDropped old t v) (sym is) (
+    (λ step v sees clear. drops_unmoved old v still (subst (λ (t : Data). DataDropped old t v) (sym is) (
       λ other offered. subst (λ (b : BusView). Kept (seen old) (WriteStep (seen old) other Went.Nothing b) b) (sym sees)
           (kept_lost (seen old) (seen (controller story (entry_for s event ∷ past) s2)) s.outgoing.items block other got lost offered step),
       clear,
-    )))
+    ))))
 
 -- All of it was in the buffer, and its status is lost.
 pub lost_whole : (outgoing block : List ℕ) → block ≡ outgoing → length outgoing ≡ 512 → IsLostAs outgoing block Went.Nothing

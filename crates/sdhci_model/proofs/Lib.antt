@@ -1,4 +1,5 @@
 pub mod Accessing
+pub mod Coming
 pub mod Commanding
 pub mod Dropping
 pub mod Lengths

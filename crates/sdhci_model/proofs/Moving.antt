@@ -132,7 +132,7 @@ any_block old new size got block other bad (spoil choice bits goes_on any among 
 any_block old new size got block other bad (read_brownout choice lands keeps late one card is) =
     read_brownout choice lands keeps late one card is
 
-abbrev broken_state : State → ℕ → State → State
+abbrev pub broken_state : State → ℕ → State → State
 broken_state s bits s' =
     record s {
       outgoing = s'.outgoing;

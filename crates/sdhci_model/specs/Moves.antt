@@ -1,15 +1,20 @@
 -- What the model's registers do while blocks are moved.
-use Rattle.std.specs.Prelude.{[], List, Some, false, true, ℕ, ◌≡◌}
+use Rattle.std.specs.Prelude.{[], List, None, Option, Some, false, true, ℕ, ◌≡◌}
 use Rattle.mmc_frame.specs.Field.{field}
+use Rattle.mmc_card.specs.declared.exchange.DataIn.{DataIn}
 use Rattle.mmc_card.specs.declared.exchange.DataOut.{DataOut}
 use Rattle.mmc_card.specs.declared.exchange.DataOut.TheVariants as Went
 use Rattle.mmc_host.specs.HostStates.{less_one}
 use Rattle.mmc_host.specs.declared.data.Data.{Data}
-use Rattle.mmc_story.specs.Story.{Outcome}
+use Rattle.mmc_story.specs.Entry.{Entry}
+use Rattle.mmc_story.specs.Story.{Outcome, Story}
 use Rattle.mmc_sdhci.specs.Accesses.{ClockSeen, Pops, ResetSeen, is_ready_in, written}
-use Rattle.mmc_sdhci.specs.Controller.{ControllerView}
+use Rattle.mmc_sdhci.specs.Controller.{ControllerView, Settled, seen}
 use Rattle.mmc_sdhci.specs.DataLooks.{has_news, is_empty, is_gone}
-use Rattle.sdhci_model.specs.Shown.{shown}
+use Rattle.mmc_sdhci.specs.DmaLooks.{HaveCome, OneFails}
+use Rattle.mmc_sdhci.specs.Lending.{lends}
+use Rattle.mmc_sdhci.specs.Lent.{Lent}
+use Rattle.sdhci_model.specs.Shown.{controller, shown}
 use Rattle.sdhci_model.specs.declared.state.State.{State}
 
 -- these interrupts tell that the block that was taken is good, or it isn't time
@@ -80,3 +85,21 @@ SeesClock old value new = (outcome : Outcome) → ClockSeen (shown outcome old) 
 
 abbrev pub SeesReset : State → ℕ → State → Type 0
 SeesReset old value new = (outcome : Outcome) → ResetSeen (shown outcome old) old.resetting value (shown outcome new)
+
+-- memory is lent, or nothing happens
+abbrev pub LendsFrom : State → Lent → Option ℕ → State → Type 0
+LendsFrom old lent None new = new ≡ old
+LendsFrom old lent (Some start) new = ChangesTo old (λ view. lends view lent start) new
+
+-- So many of these blocks came, one after the other; or some did, and then one of so many that wasn't good.
+abbrev pub HaveRead : Story → List Entry → State → List (List ℕ) → ℕ → List Entry → Type 0
+HaveRead story past state blocks count after =
+    Settled (controller story past state)
+    (HaveCome blocks (seen (controller story past state)) count (seen (controller story after state)))
+    (controller story after state)
+
+abbrev pub OneHasFailed : Story → List Entry → State → ℕ → DataIn → List Entry → Type 0
+OneHasFailed story past state count got after =
+    Settled (controller story past state)
+    (OneFails count got (seen (controller story past state)) (seen (controller story after state)))
+    (controller story after state)

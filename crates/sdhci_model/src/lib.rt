@@ -4,16 +4,20 @@
 //! silent or late.
 #![tactic(auto)]
 
+mod adma;
 mod commands;
 mod data;
 mod engine;
+mod lent;
 mod manner;
 mod model;
 mod reading;
+mod resetting;
 mod rules;
 mod settings;
 mod settling;
 mod state;
+mod tables;
 mod writes;
 mod writing;
 

@@ -48,6 +48,18 @@ impl Manner {
         true
     }
 
+    /// Whether a look finds nothing while so many exchanges, from this one on, are made by the controller itself: it is silent at one of
+    /// them.
+    pub fn is_silent_within(&mut self, first: u64, count: u16) -> bool {
+        let Some(silent) = self.silent else {
+            return false;
+        };
+        if silent.exchange < first || silent.exchange - first >= u64::from(count) {
+            return false;
+        }
+        self.is_silent(silent.exchange, true)
+    }
+
     /// Whether the card gets what is lost at this exchange.
     pub fn is_sent(&self, exchange: u64) -> bool {
         match self.silent {

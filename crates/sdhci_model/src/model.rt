@@ -65,6 +65,11 @@ impl<D: Host, S: HasStory> Model<D, S> {
         self.engine.lost
     }
 
+    /// How many blocks were moved by DMA.
+    pub fn moved(&self) -> u64 {
+        self.engine.moved
+    }
+
     /// The host.
     pub fn host(&self) -> &D
         ensures { result.now ≡ self.now.engine.host }
@@ -96,21 +101,30 @@ impl<D: Host, S: HasStory> Registers for Model<D, S> {
         self.engine.write8(offset, value);
     }
 
-    // There is no DMA.
+    fn lend_room(&mut self, count: usize) -> Option<u32> {
+        self.engine.state.lend_room(count)
+    }
+
     fn lend_table(&mut self, table: &[[u8; 8]; 16]) -> u32 {
-        let _ = table;
-        self.engine.break_off();
-        0
+        match self.engine.state.lend_table(table) {
+            Some(address) => address,
+            None => {
+                self.engine.break_off();
+                0
+            }
+        }
     }
 
     fn take_place(&mut self, index: usize, block: &mut [u8; 512]) {
-        let _ = index;
-        let _ = block;
-        self.engine.break_off();
+        if !self.engine.state.is_at_rest() || !self.engine.state.fill(index, block) {
+            self.engine.break_off();
+        }
     }
 
     fn take_back(&mut self) {
-        self.engine.break_off();
+        if !self.engine.state.take_back() {
+            self.engine.break_off();
+        }
     }
 
     fn pause(&mut self, micros: u32) {
