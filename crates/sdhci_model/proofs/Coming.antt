@@ -1,5 +1,5 @@
 -- Blocks that the controller reads by itself.
-use Rattle.std.proofs.Common.{[], ◌+◌, ◌++◌, ◌<◌, ◌∙◌, ◌≡◌, ◌≤◌, ◌∷◌, List, Some, add-one, ap, arith, false, length, refl, subst, suc, sym, true, ℕ}
+use Rattle.std.proofs.Common.{[], ◌+◌, ◌++◌, ◌<◌, ◌∙◌, ◌≡◌, ◌≤◌, ◌∷◌, List, Some, add-one, ap, arith, false, length, refl, subst, suc, sym, ℕ}
 use Rattle.std.proofs.Math.ListN.{get_or-append}
 use Rattle.std.proofs.Math.Seq.{get_or-append_seam}
 use Rattle.std.specs.Prelude.{slice_index_or}
@@ -12,28 +12,18 @@ use Rattle.mmc_host.specs.HostStates.{is_good}
 use Rattle.mmc_host.specs.declared.data.Data.{Data}
 use Rattle.mmc_sdhci.specs.Controller.{Settled, seen}
 use Rattle.mmc_sdhci.specs.DataLooks.{came}
-use Rattle.mmc_sdhci.specs.DmaLooks.{AllMoved, BlockComes, HaveCome, MovingLook, MovingLooked, SomeMoved, StepsAlone, none_came, one_came}
+use Rattle.mmc_sdhci.specs.DmaLooks.{AllMoved, BlockComes, HaveCome, MovingLook, MovingLooked, SomeMoved, none_came, one_came}
 use Rattle.mmc_sdhci.specs.DmaLooks.MovingLook.{ends, fails, waits}
 use Rattle.mmc_sdhci.specs.Lent.{Come}
-use Rattle.mmc_story.specs.Entry.{Entry, Event}
+use Rattle.mmc_story.specs.Entry.{Entry}
 use Rattle.mmc_story.specs.Entry.Event.{Read}
-use Rattle.mmc_story.specs.Story.{Allows, Story}
+use Rattle.mmc_story.specs.Story.{Story}
 use Rattle.sdhci_model.specs.Moves.{Breaks, HaveRead, OneHasFailed}
 use Rattle.sdhci_model.specs.Shown.{controller, entry_for}
 use Rattle.sdhci_model.specs.declared.lent.Loan.{Loan}
 use Rattle.sdhci_model.specs.declared.state.State.{State}
 use Rattle.sdhci_model.proofs.Moving.{broken_state, kept_any}
-use Rattle.sdhci_model.proofs.Telling.{if_kept, same_kept, told}
-
--- A call that is noted is one step, beside which nothing changes.
-pub alone : (story : Story) (past : List Entry) (s : State) (event : Event)
-    → (controller story (entry_for s event ∷ past) s).is_kept ≡ true
-    → StepsAlone (seen (controller story past s))
-    (Allows (seen (controller story past s)) event (seen (controller story (entry_for s event ∷ past) s)))
-    (seen (controller story (entry_for s event ∷ past) s))
-alone story past s event kept =
-    let k = if_kept s.is_sound (story.outcome (entry_for s event ∷ past)).conformed kept in
-    record { same = refl; kept = told story past s s event k.0 k.0 refl refl k.1 }
+use Rattle.sdhci_model.proofs.Telling.{alone, same_kept}
 
 -- Those that have come are the first ones of more.
 more_come : (xs ys : List (List ℕ)) (old new : BusView) (k : ℕ) → k ≤ length xs → HaveCome xs old k new → HaveCome (xs ++ ys) old k new

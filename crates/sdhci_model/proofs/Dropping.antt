@@ -1,12 +1,15 @@
 -- Blocks that are lost by a reset of the data line.
 use Rattle.std.proofs.Common.{[], ◌<◌, ◌∙◌, ◌≡◌, ◌∷◌, Bool, List, None, Option, Some, ap, arith, false, length, refl, subst, sym, true, ℕ}
+use Rattle.std.specs.Prelude.{slice_index_or}
 use Rattle.mmc_bus.specs.Exchanges.{Kept}
+use Rattle.mmc_bus.specs.Together.{none_accepted, writes_none}
 use Rattle.mmc_card.specs.BusView.{BusView}
 use Rattle.mmc_card.specs.Faults.{ReadStep, WriteStep}
 use Rattle.mmc_card.specs.Faults.WriteStep.{brownout, faithful, fall_short, lose_status, reject, turn_out}
 use Rattle.mmc_card.specs.declared.exchange.DataIn.TheVariants as Came
 use Rattle.mmc_card.specs.declared.exchange.DataOut.{DataOut}
 use Rattle.mmc_card.specs.declared.exchange.DataOut.TheVariants as Went
+use Rattle.mmc_host.specs.HostStates.{is_accepted}
 use Rattle.mmc_host.specs.declared.data.Data.{Data}
 use Rattle.mmc_sdhci.specs.Accesses.{Does8, Drops, DropsBy}
 use Rattle.mmc_sdhci.specs.Controller.{ControllerView, Settled, moved, seen}
@@ -15,10 +18,10 @@ use Rattle.mmc_sdhci.specs.DmaLooks.{SomeMoved, none_came}
 use Rattle.mmc_story.specs.Entry.{Entry, Event}
 use Rattle.mmc_story.specs.Entry.Event.{Read, Written}
 use Rattle.mmc_story.specs.Story.{Allows, Outcome, Story}
-use Rattle.sdhci_model.specs.Moves.{ChangesTo, HasSameBus, IsLostAs}
-use Rattle.sdhci_model.specs.Shown.{controller, entry_for, shown}
+use Rattle.sdhci_model.specs.Moves.{ChangesTo, HasSameBus, IsLostAs, sent_of}
+use Rattle.sdhci_model.specs.Shown.{controller, entry_for, shown, to_go}
 use Rattle.sdhci_model.specs.declared.state.State.{State}
-use Rattle.sdhci_model.proofs.Moving.{kept_any, lost_by, rejected_is, rejected_is_none, some_bytes}
+use Rattle.sdhci_model.proofs.Moving.{is_none_accepted, kept_any, kept_untold, lost_by, rejected_is, rejected_is_none, some_bytes}
 use Rattle.sdhci_model.proofs.Telling.{if_kept, told}
 
 abbrev reset_from : ControllerView → ControllerView
@@ -176,3 +179,27 @@ loses_write story past after s s1 s2 blocks block got still is lost noted same c
 -- All of it was in the buffer, and its status is lost.
 pub lost_whole : (outgoing block : List ℕ) → block ≡ outgoing → length outgoing ≡ 512 → IsLostAs outgoing block Went.Nothing
 lost_whole outgoing block is long = (is, some_bytes outgoing long)
+
+-- Nor did the next one that the controller was to move by itself.
+pub loses_next_to_go : (story : Story) (past after : List Entry) (s s1 s2 : State) (blocks : ℕ) (got : DataOut) → s.is_moving ≡ true
+    → s.transfer ≡ Data.Write blocks → 0 < length (to_go s) → is_accepted got ≡ false → after ≡ sent_of s 0 got ∷ past → s1 ≡ s
+    → ChangesTo s1 reset_from s2 → HasSameBus s1 s2
+    → Settled (controller story past s) (Does8 (controller story past s) 0x2f 4 (controller story after s2)) (controller story after s2)
+loses_next_to_go story past after s s1 s2 blocks got moves is some bad noted same changes bus =
+    let block = slice_index_or (to_go s) 0 [] in
+    let event = Written block got in
+    let old = controller story past s in
+    subst (λ (es : List Entry). Settled (controller story past s)
+    (Does8 (controller story past s) 0x2f 4 (controller story es s2)) (controller story es s2)) (sym noted)
+    (drops_data story past s s2 event
+    (subst (λ (x : State). ChangesTo x reset_from s2) same changes)
+    (subst (λ (x : State). HasSameBus x s2) same bus)
+    (λ step v sees clear. subst (λ (b : Bool). DropsBy b old v) (sym moves) (
+      subst (λ (t : Data). SomeMoved t old.dma.lent Came.Nothing (seen old) (seen v)) (sym is)
+          (writes_none 0 (seen old) (seen old) Went.Nothing (seen v) none_accepted refl some is_none_accepted (record {
+            same = same_bus old v clear;
+            kept = subst (λ (b : BusView). Kept (seen old) (WriteStep (seen old) block Went.Nothing b) b) (sym sees)
+                (kept_untold (seen old) (seen (controller story (entry_for s event ∷ past) s2)) block got bad step);
+          })),
+      clear,
+    )))

@@ -13,7 +13,7 @@ use Rattle.mmc_story.specs.Story.{Outcome, Story}
 use Rattle.mmc_sdhci.specs.CommandLooks.{IsShown}
 use Rattle.mmc_sdhci.specs.Commands.{response_flags}
 use Rattle.mmc_sdhci.specs.Controller.{ControllerView, Running, limits_in, lines_in}
-use Rattle.mmc_sdhci.specs.Lent.{Come, Lent, Room, ToGo}
+use Rattle.mmc_sdhci.specs.Lent.{Come, Lent, Room, ToGo, blocks_to_go}
 use Rattle.sdhci_model.specs.declared.commands.Run.{Run}
 use Rattle.sdhci_model.specs.declared.commands.Told.{Told}
 use Rattle.sdhci_model.specs.declared.lent.Loan.{Loan}
@@ -37,6 +37,10 @@ lent_in Loan.Nothing = None
 lent_in (Loan.Room count) = Some (Room count)
 lent_in (Loan.Come blocks) = Some (Come blocks.items)
 lent_in (Loan.ToGo blocks) = Some (ToGo blocks.items)
+
+-- the blocks that are to go
+abbrev pub to_go : State → List (List ℕ)
+to_go state = blocks_to_go (lent_in state.loan)
 
 -- where it stands, always
 abbrev pub memory : ℕ

@@ -1,21 +1,26 @@
 // Data that the controller moves by itself, by ADMA2 (SD Host Controller Simplified Specification 3.00, section 1.13).
-ghost use Rattle.std.specs.Prelude.{[], IfErr, IfOk, ◌≡◌, ◌≤◌, ◌∷◌, false, length, true};
+ghost use Rattle.std.specs.Prelude.{[], IfErr, IfOk, ◌<◌, ◌≡◌, ◌≤◌, ◌∷◌, false, length, true};
 ghost use Rattle.mmc_card.specs.declared.exchange.DataIn.TheVariants as Came;
-ghost use Rattle.mmc_host.specs.HostStates.{is_good};
+ghost use Rattle.mmc_card.specs.declared.exchange.DataOut.TheVariants as Went;
+ghost use Rattle.mmc_host.specs.HostStates.{is_accepted, is_good};
 ghost use Rattle.mmc_host.specs.declared.data.Data.TheVariants as Data;
 ghost use Rattle.mmc_sdhci.specs.Accesses.{Does8};
 ghost use Rattle.mmc_sdhci.specs.Controller.{Settled};
 ghost use Rattle.mmc_sdhci.specs.DmaLooks.{MovingLook, MovingLooked};
-ghost use Rattle.mmc_story.specs.Entry.Event.{Read};
-ghost use Rattle.sdhci_model.specs.Moves.{HaveRead, OneHasFailed};
-ghost use Rattle.sdhci_model.specs.Shown.{controller, entry_for};
+ghost use Rattle.mmc_story.specs.Entry.Event.{Looked, Read};
+ghost use Rattle.sdhci_model.specs.Moves.{HaveRead, HaveSent, OneHasFailed, OneWasLost, sent_of};
+ghost use Rattle.sdhci_model.specs.Shown.{controller, entry_for, to_go};
 
 use crate::engine::Engine;
-use crate::lent::{Blocks, MOST_BLOCKS};
+use crate::lent::{MOST_BLOCKS, Memory};
 use crate::reading::{bits_of_read, is_good};
-use mmc_card::DataIn;
-use mmc_host::{Data, Host};
+use crate::writing::{bits_of_write, is_accepted};
+use mmc_card::{DataIn, DataOut};
+use mmc_host::{Data, Host, Work};
 use mmc_story::{Call, HasStory};
+
+// After each block but the last the card is looked at so often at most.
+const MOST_LOOKS: u32 = 16;
 
 impl<D: Host, S: HasStory> Engine<D, S> {
     // The next block comes over the lines, or not.
@@ -47,7 +52,7 @@ impl<D: Host, S: HasStory> Engine<D, S> {
     }
 
     // So many blocks come, one after the other, unless one isn't good.
-    fn fetch_blocks(&mut self, count: u16) -> Result<Blocks, DataIn>
+    fn fetch_blocks(&mut self, count: u16) -> Result<Memory, DataIn>
         requires { count ≤ 16 }
         ensures come { IfOk result (λ blocks. HaveRead S.story self.old.diary.past self.old.state blocks.items count self.new.diary.past) }
         ensures full { IfOk result (λ blocks. length blocks.items ≡ count) }
@@ -55,7 +60,7 @@ impl<D: Host, S: HasStory> Engine<D, S> {
         ensures bad { IfErr result (λ got. is_good got ≡ false) }
         ensures state { self.new.state ≡ self.old.state }
     {
-        let mut blocks = Blocks::new();
+        let mut blocks = Memory::new();
         for i in 0..count {
             match self.fetch_next() {
                 Ok(block) => blocks.push(block),
@@ -72,7 +77,10 @@ impl<D: Host, S: HasStory> Engine<D, S> {
             (MovingLook (controller S.story self.old.diary.past self.old.state) result
             (controller S.story self.new.diary.past self.new.state)) (controller S.story self.new.diary.past self.new.state) }
     {
-        if self.manner.is_silent_within(self.exchanges, blocks) {
+        if self
+            .manner
+            .is_silent_within(self.exchanges, u64::from(blocks))
+        {
             self.state.see_nothing();
             return 0;
         }
@@ -93,6 +101,108 @@ impl<D: Host, S: HasStory> Engine<D, S> {
         }
     }
 
+    // Whether the card is no longer busy. The controller waits by itself, and only the look at which it has waited enough counts.
+    fn waits(&mut self) -> bool
+        ensures past { self.new.diary.past ≡ self.old.diary.past }
+        ensures state { self.new.state ≡ self.old.state }
+    {
+        for _look in 0..MOST_LOOKS {
+            if !self.host.is_busy(Work::Settling) {
+                return true;
+            }
+        }
+        false
+    }
+
+    // The last block, which has this number, goes.
+    fn send_last(&mut self, i: usize) -> DataOut
+        requires { i < length (to_go self.old.state) }
+        ensures past { self.new.diary.past ≡ sent_of self.old.state i result ∷ self.old.diary.past }
+        ensures state { self.new.state ≡ self.old.state }
+    {
+        self.host.set_ios(self.state.ios());
+        let block = self.state.block_to_go(i);
+        let got = self.host.write_block(&block);
+        self.note(Call::WriteBlock { block: &block, got });
+        self.moved = self.moved.saturating_add(1);
+        got
+    }
+
+    // The block with this number goes, which isn't the last, and the card is found no longer busy. Where that takes too long it isn't
+    // told that the block was accepted.
+    fn send_another(&mut self, i: usize) -> DataOut
+        requires { i < length (to_go self.old.state) }
+        ensures accepted { is_accepted result ≡ true → self.new.diary.past
+            ≡ entry_for self.old.state (Looked false) ∷ sent_of self.old.state i Went.Accepted ∷ self.old.diary.past }
+        ensures lost { is_accepted result ≡ false → self.new.diary.past ≡ sent_of self.old.state i result ∷ self.old.diary.past }
+        ensures state { self.new.state ≡ self.old.state }
+    {
+        self.host.set_ios(self.state.ios());
+        let block = self.state.block_to_go(i);
+        let got = self.host.write_block(&block);
+        if !is_accepted(got) {
+            self.note(Call::WriteBlock { block: &block, got });
+            return got;
+        }
+        if !self.waits() {
+            let got = DataOut::Nothing;
+            self.note(Call::WriteBlock { block: &block, got });
+            return got;
+        }
+        let got = DataOut::Accepted;
+        self.note(Call::WriteBlock { block: &block, got });
+        self.note(Call::Look { is_busy: false });
+        self.moved = self.moved.saturating_add(1);
+        got
+    }
+
+    // All blocks go, one after the other, unless one isn't accepted, which is the answer.
+    fn send_blocks(&mut self, count: u16) -> DataOut
+        requires some { 0 < count }
+        requires all { length (to_go self.old.state) ≡ count }
+        ensures gone { is_accepted result ≡ true → HaveSent S.story self.old.diary.past self.old.state count self.new.diary.past }
+        ensures lost { is_accepted result ≡ false → OneWasLost S.story self.old.diary.past self.old.state self.new.diary.past }
+        ensures state { self.new.state ≡ self.old.state }
+    {
+        let last = count - 1;
+        for i in 0..last {
+            let got = self.send_another(i as usize);
+            if !is_accepted(got) {
+                return got;
+            }
+        }
+        self.send_last(last as usize)
+    }
+
+    // A look while so many blocks are written.
+    fn see_writes(&mut self, blocks: u16) -> u32
+        requires { self.old.state.transfer ≡ Data.Write blocks }
+        ensures { Settled (controller S.story self.old.diary.past self.old.state)
+            (MovingLook (controller S.story self.old.diary.past self.old.state) result
+            (controller S.story self.new.diary.past self.new.state)) (controller S.story self.new.diary.past self.new.state) }
+    {
+        let exchanges = 2 * u64::from(blocks);
+        if self
+            .manner
+            .is_silent_within(self.exchanges, exchanges.saturating_sub(1))
+        {
+            self.state.see_nothing();
+            return 0;
+        }
+        if blocks == 0 || self.state.count_to_go() != blocks as usize {
+            self.break_off();
+            return 0;
+        }
+        let got = self.send_blocks(blocks);
+        if is_accepted(got) {
+            self.state.end_write();
+            return 2;
+        }
+        let bits = bits_of_write(got);
+        self.state.break_data(bits);
+        bits
+    }
+
     /// A look while no command runs and data is moved: all of it is moved at the first one.
     pub fn see_moving(&mut self) -> u32
         ensures { Settled (controller S.story self.old.diary.past self.old.state)
@@ -102,10 +212,7 @@ impl<D: Host, S: HasStory> Engine<D, S> {
         match self.state.transfer {
             Data::Nothing => self.state.status,
             Data::Read { length, blocks } => self.see_reads(length, blocks),
-            Data::Write { .. } => {
-                self.break_off();
-                0
-            }
+            Data::Write { blocks } => self.see_writes(blocks),
         }
     }
 
@@ -126,6 +233,25 @@ impl<D: Host, S: HasStory> Engine<D, S> {
         });
     }
 
+    // The next block to go is lost, as the answer tells. The card may have got it.
+    fn lose_next_to_go(&mut self) -> DataOut
+        requires { 0 < length (to_go self.old.state) }
+        ensures past { self.new.diary.past ≡ sent_of self.old.state 0 result ∷ self.old.diary.past }
+        ensures lost { is_accepted result ≡ false }
+        ensures state { self.new.state ≡ self.old.state }
+    {
+        let block = self.state.block_to_go(0);
+        let mut got = DataOut::Rejected;
+        if self.manner.is_sent(self.exchanges) {
+            self.host.set_ios(self.state.ios());
+            let _ = self.host.write_block(&block);
+            got = DataOut::Nothing;
+        }
+        self.lost = self.lost.saturating_add(1);
+        self.note(Call::WriteBlock { block: &block, got });
+        got
+    }
+
     /// Software Reset For DAT Line while data is moved: the next block is lost.
     pub fn drop_moving(&mut self)
         requires { self.old.state.is_moving ≡ true }
@@ -137,6 +263,10 @@ impl<D: Host, S: HasStory> Engine<D, S> {
             Data::Nothing => self.state.reset_data(),
             Data::Read { blocks, .. } if blocks > 0 => {
                 self.lose_next();
+                self.state.reset_data();
+            }
+            Data::Write { .. } if self.state.count_to_go() > 0 => {
+                self.lose_next_to_go();
                 self.state.reset_data();
             }
             _ => self.break_off(),

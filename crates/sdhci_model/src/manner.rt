@@ -50,11 +50,11 @@ impl Manner {
 
     /// Whether a look finds nothing while so many exchanges, from this one on, are made by the controller itself: it is silent at one of
     /// them.
-    pub fn is_silent_within(&mut self, first: u64, count: u16) -> bool {
+    pub fn is_silent_within(&mut self, first: u64, count: u64) -> bool {
         let Some(silent) = self.silent else {
             return false;
         };
-        if silent.exchange < first || silent.exchange - first >= u64::from(count) {
+        if silent.exchange < first || silent.exchange - first >= count {
             return false;
         }
         self.is_silent(silent.exchange, true)

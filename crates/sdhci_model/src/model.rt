@@ -5,6 +5,7 @@ ghost use Rattle.sdhci_model.specs.Shown.{controller};
 
 use crate::engine::Engine;
 use crate::manner::Manner;
+use mmc_bus::Blocks;
 use mmc_host::Host;
 use mmc_sdhci::{Registers, Sdhci, StartFault};
 use mmc_story::HasStory;
@@ -103,6 +104,10 @@ impl<D: Host, S: HasStory> Registers for Model<D, S> {
 
     fn lend_room(&mut self, count: usize) -> Option<u32> {
         self.engine.state.lend_room(count)
+    }
+
+    fn lend_blocks<B: Blocks>(&mut self, blocks: &B) -> Option<u32> {
+        self.engine.state.lend_blocks(blocks)
     }
 
     fn lend_table(&mut self, table: &[[u8; 8]; 16]) -> u32 {
