@@ -48,8 +48,8 @@ impl Manner {
         true
     }
 
-    /// Whether a look finds nothing while so many exchanges, from this one on, are made by the controller itself: it is silent at one of
-    /// them.
+    /// Whether a look finds nothing while the controller makes so many exchanges by itself, from this one on: it is silent at one of them,
+    /// which then is the first one.
     pub fn is_silent_within(&mut self, first: u64, count: u64) -> bool {
         let Some(silent) = self.silent else {
             return false;
@@ -57,7 +57,11 @@ impl Manner {
         if silent.exchange < first || silent.exchange - first >= count {
             return false;
         }
-        self.is_silent(silent.exchange, true)
+        self.silent = Some(Silent {
+            exchange: first,
+            ..silent
+        });
+        self.is_silent(first, true)
     }
 
     /// Whether the card gets what is lost at this exchange.
