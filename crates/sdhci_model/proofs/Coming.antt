@@ -1,11 +1,15 @@
 -- Blocks that the controller reads by itself.
-use Rattle.std.proofs.Common.{[], ◌+◌, ◌++◌, ◌<◌, ◌∙◌, ◌≡◌, ◌≤◌, ◌∷◌, List, Some, add-one, ap, arith, false, length, refl, subst, suc, sym, ℕ}
+use Rattle.std.proofs.Common.{[], ◌+◌, ◌++◌, ◌<◌, ◌∙◌, ◌≡◌, ◌≤◌, ◌∷◌, Bool, List, Some, add-one, ap, arith, false, length, refl, subst, suc, sym, true, ℕ}
 use Rattle.std.proofs.Math.ListN.{get_or-append}
 use Rattle.std.proofs.Math.Seq.{get_or-append_seam}
-use Rattle.std.specs.Prelude.{slice_index_or}
+use Rattle.std.specs.Prelude.{if◌then◌else◌, slice_index_or}
+use Rattle.std.proofs.lemmas.Bool.{false≢true}
 use Rattle.arrayvec.specs.ArrayVec.{ArrayVec}
 use Rattle.mmc_frame.specs.Field.{field}
+use Rattle.mmc_bus.specs.Exchanges.{Kept}
 use Rattle.mmc_card.specs.BusView.{BusView}
+use Rattle.mmc_card.specs.Faults.{ReadStep}
+use Rattle.mmc_card.specs.Faults.ReadStep.{brownout, faithful, spoil}
 use Rattle.mmc_card.specs.declared.exchange.DataIn.{DataIn}
 use Rattle.mmc_card.specs.declared.exchange.DataIn.TheVariants as Came
 use Rattle.mmc_host.specs.HostStates.{is_good}
@@ -92,6 +96,55 @@ pub one_failed : (story : Story) (past before after : List Entry) (s : State) (x
 one_failed story past before after s xs got k count few bad have noted =
     subst (λ (es : List Entry). OneHasFailed story past s count got es) (sym noted)
     (one_failed_by story past before s xs got k count few bad have)
+
+-- A bad block of which nobody is told is one that didn't come.
+not_bad : (sends : Bool) (got : DataIn) → got ≡ Came.Bad → got ≡ (if sends then Came.Good else Came.Nothing) → ⊥
+not_bad true got is said = cc
+not_bad false got is said = cc
+
+bad_by : (old new : BusView) (size : ℕ) (got : DataIn) (block : List ℕ) → got ≡ Came.Bad → ReadStep old size got block new
+    → ReadStep old size Came.Nothing block new
+bad_by old new size got block is (faithful choice unharmed card said fits) = absurd (not_bad _ got is said)
+bad_by old new size got block is (spoil choice bits goes_on comes among can one card said) =
+    spoil choice bits goes_on false among can one card refl
+bad_by old new size got block is (brownout choice lands keeps late one card said) =
+    brownout choice lands keeps late one card refl
+
+none_for : (old new : BusView) (size : ℕ) (got : DataIn) (block : List ℕ) → is_good got ≡ false → ReadStep old size got block new
+    → ReadStep old size Came.Nothing block new
+none_for old new size Came.Nothing block bad step = step
+none_for old new size Came.Bad block bad step = bad_by old new size Came.Bad block refl step
+none_for old new size Came.Good block bad step = absurd (false≢true (sym bad))
+
+kept_none : (old new : BusView) (size : ℕ) (got : DataIn) (block : List ℕ) → is_good got ≡ false
+    → Kept old (ReadStep old size got block new) new → Kept old (ReadStep old size Came.Nothing block new) new
+kept_none old new size got block bad step =
+    record {
+      was_kept = step.was_kept;
+      was_card = step.was_card;
+      step = none_for old new size got block bad step.step;
+      is_card = step.is_card;
+      bounded = step.bounded;
+    }
+
+pub failed_untold : (story : Story) (past after : List Entry) (s : State) (some count : ℕ) (got : DataIn) → some ≤ count
+    → is_good got ≡ false → OneHasFailed story past s some got after → OneHasFailed story past s count Came.Nothing after
+failed_untold story past after s some count got few bad failed kept =
+    let h = failed kept in
+    let f = h.1 in
+    let fewer : f.some < some = f.fewer in (
+      h.0,
+      record {
+        blocks = f.blocks;
+        some = f.some;
+        fewer = omega (arith, few, fewer);
+        before = f.before;
+        come = f.come;
+        fails = λ block.
+            let step = f.fails block in
+            record { same = step.same; kept = kept_none f.before (seen (controller story after s)) 512 got block bad step.kept };
+      },
+    )
 
 -- The looks.
 abbrev pub LooksMoving : Story → List Entry → State → ℕ → List Entry → State → Type 0

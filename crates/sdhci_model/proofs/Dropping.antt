@@ -1,27 +1,24 @@
 -- Blocks that are lost by a reset of the data line.
-use Rattle.std.proofs.Common.{[], ◌<◌, ◌∙◌, ◌≡◌, ◌∷◌, Bool, List, None, Option, Some, ap, arith, false, length, refl, subst, sym, true, ℕ}
-use Rattle.std.specs.Prelude.{slice_index_or}
+use Rattle.std.proofs.Common.{◌∙◌, ◌≡◌, ◌∷◌, Bool, List, None, Option, Some, ap, arith, false, length, refl, subst, sym, true, ℕ}
 use Rattle.mmc_bus.specs.Exchanges.{Kept}
-use Rattle.mmc_bus.specs.Together.{none_accepted, writes_none}
 use Rattle.mmc_card.specs.BusView.{BusView}
 use Rattle.mmc_card.specs.Faults.{ReadStep, WriteStep}
 use Rattle.mmc_card.specs.Faults.WriteStep.{brownout, faithful, fall_short, lose_status, reject, turn_out}
 use Rattle.mmc_card.specs.declared.exchange.DataIn.TheVariants as Came
 use Rattle.mmc_card.specs.declared.exchange.DataOut.{DataOut}
 use Rattle.mmc_card.specs.declared.exchange.DataOut.TheVariants as Went
-use Rattle.mmc_host.specs.HostStates.{is_accepted}
 use Rattle.mmc_host.specs.declared.data.Data.{Data}
 use Rattle.mmc_sdhci.specs.Accesses.{Does8, Drops, DropsBy}
 use Rattle.mmc_sdhci.specs.Controller.{ControllerView, Settled, moved, seen}
 use Rattle.mmc_sdhci.specs.DataLooks.{DataDropped, IsOffered, cleared}
-use Rattle.mmc_sdhci.specs.DmaLooks.{SomeMoved, none_came}
+use Rattle.mmc_sdhci.specs.DmaLooks.{SomeMoved}
 use Rattle.mmc_story.specs.Entry.{Entry, Event}
 use Rattle.mmc_story.specs.Entry.Event.{Read, Written}
 use Rattle.mmc_story.specs.Story.{Allows, Outcome, Story}
-use Rattle.sdhci_model.specs.Moves.{ChangesTo, HasSameBus, IsLostAs, sent_of}
-use Rattle.sdhci_model.specs.Shown.{controller, entry_for, shown, to_go}
+use Rattle.sdhci_model.specs.Moves.{ChangesTo, HasSameBus, IsLostAs, OneHasFailed, OneWasLost}
+use Rattle.sdhci_model.specs.Shown.{controller, entry_for, lent_in, shown}
 use Rattle.sdhci_model.specs.declared.state.State.{State}
-use Rattle.sdhci_model.proofs.Moving.{is_none_accepted, kept_any, kept_untold, lost_by, rejected_is, rejected_is_none, some_bytes}
+use Rattle.sdhci_model.proofs.Moving.{kept_any, lost_by, rejected_is, rejected_is_none, some_bytes}
 use Rattle.sdhci_model.proofs.Telling.{if_kept, told}
 
 abbrev reset_from : ControllerView → ControllerView
@@ -93,42 +90,6 @@ loses_read story past after s s1 s2 size blocks block still is noted same change
       clear,
     ))))
 
--- None came that the controller was to move by itself.
-same_bus : (old new : ControllerView) → new ≡ cleared (moved old new)
-    → seen new ≡ record (seen old) { card = new.card; faults = new.faults; may_fall = new.may_fall; is_kept = new.is_kept }
-same_bus old new clear =
-    ap (λ (v : ControllerView). seen v) clear
-    ∙ ap (λ (b : Bool). record (seen old) { card = new.card; faults = new.faults; may_fall = new.may_fall; is_kept = b })
-    (sym (ap (λ (v : ControllerView). v.is_kept) clear))
-
-pub loses_next : (story : Story) (past after : List Entry) (s s1 s2 : State) (size blocks : ℕ) → s.is_moving ≡ true
-    → s.transfer ≡ Data.Read size blocks → 0 < blocks → after ≡ entry_for s (Read 512 Came.Nothing []) ∷ past → s1 ≡ s
-    → ChangesTo s1 reset_from s2 → HasSameBus s1 s2
-    → Settled (controller story past s) (Does8 (controller story past s) 0x2f 4 (controller story after s2)) (controller story after s2)
-loses_next story past after s s1 s2 size blocks moves is some noted same changes bus =
-    let event = Read 512 Came.Nothing [] in
-    let old = controller story past s in
-    subst (λ (es : List Entry). Settled (controller story past s)
-    (Does8 (controller story past s) 0x2f 4 (controller story es s2)) (controller story es s2)) (sym noted)
-    (drops_data story past s s2 event
-    (subst (λ (x : State). ChangesTo x reset_from s2) same changes)
-    (subst (λ (x : State). HasSameBus x s2) same bus)
-    (λ step v sees clear. subst (λ (b : Bool). DropsBy b old v) (sym moves) (
-      subst (λ (t : Data). SomeMoved t old.dma.lent Came.Nothing (seen old) (seen v)) (sym is) (record {
-        blocks = [];
-        some = 0;
-        fewer = some;
-        before = seen old;
-        come = none_came;
-        fails = λ other. record {
-          same = same_bus old v clear;
-          kept = subst (λ (b : BusView). Kept (seen old) (ReadStep (seen old) 512 Came.Nothing other b) b) (sym sees)
-              (kept_any (seen old) (seen (controller story (entry_for s event ∷ past) s2)) 512 Came.Nothing [] other refl step);
-        };
-      }),
-      clear,
-    )))
-
 -- A block that was rejected may be any whose status didn't come.
 any_rejected : (old new : BusView) (block other : List ℕ) (got : DataOut) → got ≡ Went.Rejected → WriteStep old block got new
     → WriteStep old other Went.Nothing new
@@ -180,26 +141,62 @@ loses_write story past after s s1 s2 blocks block got still is lost noted same c
 pub lost_whole : (outgoing block : List ℕ) → block ≡ outgoing → length outgoing ≡ 512 → IsLostAs outgoing block Went.Nothing
 lost_whole outgoing block is long = (is, some_bytes outgoing long)
 
--- Nor did the next one that the controller was to move by itself.
-pub loses_next_to_go : (story : Story) (past after : List Entry) (s s1 s2 : State) (blocks : ℕ) (got : DataOut) → s.is_moving ≡ true
-    → s.transfer ≡ Data.Write blocks → 0 < length (to_go s) → is_accepted got ≡ false → after ≡ sent_of s 0 got ∷ past → s1 ≡ s
-    → ChangesTo s1 reset_from s2 → HasSameBus s1 s2
-    → Settled (controller story past s) (Does8 (controller story past s) 0x2f 4 (controller story after s2)) (controller story after s2)
-loses_next_to_go story past after s s1 s2 blocks got moves is some bad noted same changes bus =
-    let block = slice_index_or (to_go s) 0 [] in
-    let event = Written block got in
+-- Data that the controller moves by itself: some of it was, and a block was lost.
+abbrev pub LosesSome : Story → List Entry → State → List Entry → Type 0
+LosesSome story past s after =
+    Settled (controller story past s)
+    (SomeMoved s.transfer (lent_in s.loan) Came.Nothing (seen (controller story past s)) (seen (controller story after s)))
+    (controller story after s)
+
+drops_some_by : (story : Story) (past after : List Entry) (s s' : State) → s.is_moving ≡ true → LosesSome story past s after
+    → ChangesTo s reset_from s'
+    → Settled (controller story past s) (Does8 (controller story past s) 0x2f 4 (controller story after s')) (controller story after s')
+drops_some_by story past after s s' moves lost changes kept =
     let old = controller story past s in
-    subst (λ (es : List Entry). Settled (controller story past s)
-    (Does8 (controller story past s) 0x2f 4 (controller story es s2)) (controller story es s2)) (sym noted)
-    (drops_data story past s s2 event
-    (subst (λ (x : State). ChangesTo x reset_from s2) same changes)
-    (subst (λ (x : State). HasSameBus x s2) same bus)
-    (λ step v sees clear. subst (λ (b : Bool). DropsBy b old v) (sym moves) (
-      subst (λ (t : Data). SomeMoved t old.dma.lent Came.Nothing (seen old) (seen v)) (sym is)
-          (writes_none 0 (seen old) (seen old) Went.Nothing (seen v) none_accepted refl some is_none_accepted (record {
-            same = same_bus old v clear;
-            kept = subst (λ (b : BusView). Kept (seen old) (WriteStep (seen old) block Went.Nothing b) b) (sym sees)
-                (kept_untold (seen old) (seen (controller story (entry_for s event ∷ past) s2)) block got bad step);
-          })),
-      clear,
-    )))
+    let outcome = story.outcome after in
+    let new = controller story after s' in
+    let dropped = record new { resetting = None } in
+    let e : new ≡ reset_from (shown outcome s) = changes outcome in
+    let still : (shown outcome s).is_kept ≡ true = sym (ap (λ (v : ControllerView). v.is_kept) e) ∙ kept in
+    let h = lost still in
+    let same_bus : seen dropped ≡ seen (shown outcome s) = ap (λ (v : ControllerView). seen v) e in (
+      h.0,
+      record {
+        control = λ at. absurd (omega (arith, at));
+        power = λ at. absurd (omega (arith, at));
+        restart = λ at one. absurd (omega (arith, one));
+        command = λ at two. absurd (omega (arith, two));
+        line = λ at four. (
+          dropped,
+          subst (λ (b : Bool). DropsBy b old dropped) (sym moves) (
+            subst (λ (b : BusView). SomeMoved s.transfer (lent_in s.loan) Came.Nothing (seen old) b) (sym same_bus) h.1,
+            cleared_after outcome s old new e (still ∙ sym h.0),
+          ),
+          ap (λ (o : Option ℕ). record new { resetting = o }) (ap (λ (v : ControllerView). v.resetting) e),
+        );
+      },
+    )
+
+pub drops_some : (story : Story) (past after : List Entry) (s s1 s2 : State) → s.is_moving ≡ true → LosesSome story past s after
+    → s1 ≡ s → ChangesTo s1 reset_from s2
+    → Settled (controller story past s) (Does8 (controller story past s) 0x2f 4 (controller story after s2)) (controller story after s2)
+drops_some story past after s s1 s2 moves lost same changes =
+    drops_some_by story past after s s2 moves lost (subst (λ (x : State). ChangesTo x reset_from s2) same changes)
+
+pub loses_read_some : (story : Story) (past after : List Entry) (s : State) (size count : ℕ) → s.transfer ≡ Data.Read size count
+    → OneHasFailed story past s count Came.Nothing after → LosesSome story past s after
+loses_read_some story past after s size count is failed kept =
+    let h = failed kept in (
+      h.0,
+      subst (λ (t : Data). SomeMoved t (lent_in s.loan) Came.Nothing (seen (controller story past s)) (seen (controller story after s)))
+          (sym is) h.1,
+    )
+
+pub loses_written_some : (story : Story) (past after : List Entry) (s : State) (count : ℕ) → s.transfer ≡ Data.Write count
+    → OneWasLost story past s after → LosesSome story past s after
+loses_written_some story past after s count is lost kept =
+    let h = lost kept in (
+      h.0,
+      subst (λ (t : Data). SomeMoved t (lent_in s.loan) Came.Nothing (seen (controller story past s)) (seen (controller story after s)))
+          (sym is) h.1,
+    )

@@ -1,5 +1,5 @@
 // Data that the controller moves by itself, by ADMA2 (SD Host Controller Simplified Specification 3.00, section 1.13).
-ghost use Rattle.std.specs.Prelude.{[], IfErr, IfOk, ◌<◌, ◌≡◌, ◌≤◌, ◌∷◌, false, length, true};
+ghost use Rattle.std.specs.Prelude.{[], IfErr, IfNone, IfOk, IfSome, ◌<◌, ◌≡◌, ◌≤◌, ◌∷◌, false, length, true};
 ghost use Rattle.mmc_card.specs.declared.exchange.DataIn.TheVariants as Came;
 ghost use Rattle.mmc_card.specs.declared.exchange.DataOut.TheVariants as Went;
 ghost use Rattle.mmc_host.specs.HostStates.{is_accepted, is_good};
@@ -8,7 +8,7 @@ ghost use Rattle.mmc_sdhci.specs.Accesses.{Does8};
 ghost use Rattle.mmc_sdhci.specs.Controller.{Settled};
 ghost use Rattle.mmc_sdhci.specs.DmaLooks.{MovingLook, MovingLooked};
 ghost use Rattle.mmc_story.specs.Entry.Event.{Looked, Read};
-ghost use Rattle.sdhci_model.specs.Moves.{HaveRead, HaveSent, OneHasFailed, OneWasLost, sent_of};
+ghost use Rattle.sdhci_model.specs.Moves.{GoesOn, HaveRead, HaveSent, OneHasFailed, OneWasLost, sent_of};
 ghost use Rattle.sdhci_model.specs.Shown.{controller, entry_for, to_go};
 
 use crate::engine::Engine;
@@ -124,7 +124,7 @@ impl<D: Host, S: HasStory> Engine<D, S> {
         let block = self.state.block_to_go(i);
         let got = self.host.write_block(&block);
         self.note(Call::WriteBlock { block: &block, got });
-        self.moved = self.moved.saturating_add(1);
+        self.moved = self.moved.saturating_add(u64::from(is_accepted(got)));
         got
     }
 
@@ -156,8 +156,25 @@ impl<D: Host, S: HasStory> Engine<D, S> {
         got
     }
 
+    // The first so many blocks go, which aren't all, unless one isn't accepted, which is the answer.
+    fn send_first(&mut self, count: usize) -> Option<DataOut>
+        requires { count < length (to_go self.old.state) }
+        ensures gone { IfNone result (GoesOn S.story self.old.diary.past self.old.state count self.new.diary.past) }
+        ensures lost { IfSome result (λ got. OneWasLost S.story self.old.diary.past self.old.state self.new.diary.past) }
+        ensures bad { IfSome result (λ got. is_accepted got ≡ false) }
+        ensures state { self.new.state ≡ self.old.state }
+    {
+        for i in 0..count {
+            let got = self.send_another(i);
+            if !is_accepted(got) {
+                return Some(got);
+            }
+        }
+        None
+    }
+
     // All blocks go, one after the other, unless one isn't accepted, which is the answer.
-    fn send_blocks(&mut self, count: u16) -> DataOut
+    fn send_blocks(&mut self, count: usize) -> DataOut
         requires some { 0 < count }
         requires all { length (to_go self.old.state) ≡ count }
         ensures gone { is_accepted result ≡ true → HaveSent S.story self.old.diary.past self.old.state count self.new.diary.past }
@@ -165,13 +182,10 @@ impl<D: Host, S: HasStory> Engine<D, S> {
         ensures state { self.new.state ≡ self.old.state }
     {
         let last = count - 1;
-        for i in 0..last {
-            let got = self.send_another(i as usize);
-            if !is_accepted(got) {
-                return got;
-            }
+        match self.send_first(last) {
+            Some(got) => got,
+            None => self.send_last(last),
         }
-        self.send_last(last as usize)
     }
 
     // A look while so many blocks are written.
@@ -193,7 +207,7 @@ impl<D: Host, S: HasStory> Engine<D, S> {
             self.break_off();
             return 0;
         }
-        let got = self.send_blocks(blocks);
+        let got = self.send_blocks(blocks as usize);
         if is_accepted(got) {
             self.state.end_write();
             return 2;
@@ -225,7 +239,6 @@ impl<D: Host, S: HasStory> Engine<D, S> {
             self.host.set_ios(self.state.ios());
             let _ = self.host.read_block(&mut [0; 512]);
         }
-        self.lost = self.lost.saturating_add(1);
         self.note(Call::ReadBlock {
             length: 512,
             got: DataIn::Nothing,
@@ -233,26 +246,57 @@ impl<D: Host, S: HasStory> Engine<D, S> {
         });
     }
 
-    // The next block to go is lost, as the answer tells. The card may have got it.
-    fn lose_next_to_go(&mut self) -> DataOut
-        requires { 0 < length (to_go self.old.state) }
-        ensures past { self.new.diary.past ≡ sent_of self.old.state 0 result ∷ self.old.diary.past }
+    // Of so many blocks that were to come one is lost, before which some may have come.
+    fn lose_one(&mut self, count: u16)
+        requires { 0 < count }
+        ensures lost { OneHasFailed S.story self.old.diary.past self.old.state count Came.Nothing self.new.diary.past }
+        ensures state { self.new.state ≡ self.old.state }
+    {
+        let before = self.manner.blocks_before(self.exchanges, false);
+        let most = (count - 1).min(MOST_BLOCKS as u16);
+        let some = before.min(u64::from(most)) as u16;
+        match self.fetch_blocks(some) {
+            Ok(_) => self.lose_next(),
+            Err(_) => (),
+        }
+    }
+
+    // The block to go with this number is lost, as the answer tells. The card may have got it.
+    fn lose_at(&mut self, i: usize) -> DataOut
+        requires { i < length (to_go self.old.state) }
+        ensures past { self.new.diary.past ≡ sent_of self.old.state i result ∷ self.old.diary.past }
         ensures lost { is_accepted result ≡ false }
         ensures state { self.new.state ≡ self.old.state }
     {
-        let block = self.state.block_to_go(0);
+        let block = self.state.block_to_go(i);
         let mut got = DataOut::Rejected;
         if self.manner.is_sent(self.exchanges) {
             self.host.set_ios(self.state.ios());
             let _ = self.host.write_block(&block);
             got = DataOut::Nothing;
         }
-        self.lost = self.lost.saturating_add(1);
         self.note(Call::WriteBlock { block: &block, got });
         got
     }
 
-    /// Software Reset For DAT Line while data is moved: the next block is lost.
+    // Of the blocks that were to go one is lost, before which some may have gone.
+    fn lose_one_to_go(&mut self)
+        requires { 0 < length (to_go self.old.state) }
+        ensures lost { OneWasLost S.story self.old.diary.past self.old.state self.new.diary.past }
+        ensures state { self.new.state ≡ self.old.state }
+    {
+        let before = self.manner.blocks_before(self.exchanges, true);
+        let most = self.state.count_to_go() - 1;
+        let some = before.min(most as u64) as usize;
+        match self.send_first(some) {
+            Some(_) => (),
+            None => {
+                self.lose_at(some);
+            }
+        }
+    }
+
+    /// Software Reset For DAT Line while data is moved: a block of it is lost.
     pub fn drop_moving(&mut self)
         requires { self.old.state.is_moving ≡ true }
         ensures { Settled (controller S.story self.old.diary.past self.old.state)
@@ -262,11 +306,13 @@ impl<D: Host, S: HasStory> Engine<D, S> {
         match self.state.transfer {
             Data::Nothing => self.state.reset_data(),
             Data::Read { blocks, .. } if blocks > 0 => {
-                self.lose_next();
+                self.lost = self.lost.saturating_add(1);
+                self.lose_one(blocks);
                 self.state.reset_data();
             }
             Data::Write { .. } if self.state.count_to_go() > 0 => {
-                self.lose_next_to_go();
+                self.lost = self.lost.saturating_add(1);
+                self.lose_one_to_go();
                 self.state.reset_data();
             }
             _ => self.break_off(),

@@ -48,8 +48,8 @@ impl Manner {
         true
     }
 
-    /// Whether a look finds nothing while the controller makes so many exchanges by itself, from this one on: it is silent at one of them,
-    /// which then is the first one.
+    /// Whether a look finds nothing while the controller makes so many exchanges by itself, from this one on: it is silent at one of
+    /// them.
     pub fn is_silent_within(&mut self, first: u64, count: u64) -> bool {
         let Some(silent) = self.silent else {
             return false;
@@ -57,11 +57,25 @@ impl Manner {
         if silent.exchange < first || silent.exchange - first >= count {
             return false;
         }
-        self.silent = Some(Silent {
-            exchange: first,
-            ..silent
-        });
-        self.is_silent(first, true)
+        self.is_silent(silent.exchange, true)
+    }
+
+    /// How many blocks the controller moves by itself, from this exchange on, before the one at which it is silent. Where blocks have
+    /// looks between them, it is silent at the block before a look.
+    pub fn blocks_before(&mut self, first: u64, has_looks: bool) -> u64 {
+        let Some(silent) = self.silent else {
+            return 0;
+        };
+        let before = silent.exchange.saturating_sub(first);
+        if has_looks {
+            self.silent = Some(Silent {
+                exchange: silent.exchange - before % 2,
+                ..silent
+            });
+            before / 2
+        } else {
+            before
+        }
     }
 
     /// Whether the card gets what is lost at this exchange.

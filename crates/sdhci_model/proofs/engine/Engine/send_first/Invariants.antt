@@ -1,6 +1,6 @@
 use Rattle.std.proofs.Common.{◌≡◌}
 use Rattle.sdhci_model.specs.Moves.{GoesOn}
-use Rattle.sdhci_model.proofs.engine.Engine.send_blocks.Given as goal
+use Rattle.sdhci_model.proofs.engine.Engine.send_first.Given as goal
 
 abbrev pub invariant-loop-i : goal.invariant-loop-i
 invariant-loop-i g l = record {
