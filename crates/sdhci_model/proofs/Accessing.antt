@@ -1,17 +1,18 @@
 -- Accesses to single registers.
 use Rattle.std.proofs.Common.{◌∙◌, ◌≡◌, Bool, List, None, Option, Some, ap, arith, false, refl, subst, sym, true, ℕ}
-use Rattle.std.specs.Prelude.{◌&&◌, ◌==◌, ◌||◌, if◌then◌else◌, is_none, is_some, length, not}
+use Rattle.std.specs.Prelude.{◌&&◌, if◌then◌else◌, is_none, is_some, length, not}
 use Rattle.std.proofs.lemmas.Bool.{false≢true}
-use Rattle.mmc_frame.specs.Field.{field}
 use Rattle.mmc_host.specs.declared.data.Data.{Data}
-use Rattle.mmc_sdhci.specs.Accesses.{Does8, Shows, can_move, is_asked, is_at_rest, may_write, may_write8}
-use Rattle.mmc_sdhci.specs.CommandLooks.{Dropped, data_asked}
-use Rattle.mmc_sdhci.specs.Controller.{ControllerView, Settled, is_still}
+use Rattle.mmc_card.specs.declared.exchange.DataIn.TheVariants as Came
+use Rattle.mmc_sdhci.specs.Accesses.{Does8, DropsBy, Shows, is_at_rest, may_write, may_write8}
+use Rattle.mmc_sdhci.specs.CommandLooks.{Dropped}
+use Rattle.mmc_sdhci.specs.Controller.{ControllerView, Settled, is_still, seen}
 use Rattle.mmc_sdhci.specs.DataLooks.{DataDropped, cleared, is_empty}
+use Rattle.mmc_sdhci.specs.DmaLooks.{SomeMoved}
 use Rattle.mmc_story.specs.Entry.{Entry}
 use Rattle.mmc_story.specs.Story.{Outcome, Story}
 use Rattle.sdhci_model.specs.Moves.{ChangesTo, PopsFrom}
-use Rattle.sdhci_model.specs.Shown.{controller, is_asked_alone, running_in, shown, unjudged_in}
+use Rattle.sdhci_model.specs.Shown.{controller, running_in, shown, unjudged_in}
 use Rattle.sdhci_model.specs.declared.commands.Run.{Run}
 use Rattle.sdhci_model.specs.declared.state.State.{State}
 use Rattle.sdhci_model.proofs.Lengths.{none_left}
@@ -36,6 +37,14 @@ resets_command story past s s' value two none changes kept =
       },
     )
 
+-- no data is dropped
+drops_none : (view : ControllerView) → view.transfer ≡ Data.Nothing → (moves : Bool) → DropsBy moves view (cleared view)
+drops_none view none true = (
+  subst (λ (t : Data). SomeMoved t view.dma.lent Came.Nothing (seen view) (seen (cleared view))) (sym none) refl,
+  refl,
+)
+drops_none view none false = subst (λ (t : Data). DataDropped view t (cleared view)) (sym none) refl
+
 pub resets_data : (story : Story) (past : List Entry) (s s' : State) (value : ℕ) → value ≡ 4 → s.transfer ≡ Data.Nothing
     → ChangesTo s (λ view. record (cleared view) { resetting = Some 0 }) s'
     → Settled (controller story past s) (Does8 (controller story past s) 0x2f value (controller story past s')) (controller story past s')
@@ -50,7 +59,7 @@ resets_data story past s s' value four none changes kept =
         command = λ is two. absurd (omega (arith, four, two));
         line = λ is yes. (
           cleared old,
-          subst (λ (t : Data). DataDropped old t (cleared old)) (sym none) refl,
+          drops_none old none s.is_moving,
           e,
         );
       },
@@ -78,35 +87,17 @@ and_true : (b : Bool) → (b && true) ≡ b
 and_true true = refl
 and_true false = refl
 
-or_false : (b : Bool) → (b || false) ≡ b
-or_false true = refl
-or_false false = refl
-
--- no data can be moved by DMA
-none_moves : (outcome : Outcome) (s : State) (t : Data) → can_move (shown outcome s) t ≡ false
-none_moves outcome s t = refl
-
-abbrev others : ℕ → Bool
-others value =
-    (field 3 2 value == 0)
-    && ((field 15 6 value == 0)
-    && ((field 18 18 value == 0)
-    && ((field 31 30 value == 0) && ((field 23 22 value == 0) || (field 29 22 value == 0x33)))))
-
-pub asked_alone : (outcome : Outcome) (s : State) (value : ℕ) → is_asked_alone value ≡ is_asked (shown outcome s) value
-asked_alone outcome s value =
-    sym (ap (λ (b : Bool). (field 5 5 value == field 1 1 value) && (b && others value))
-    (ap (λ (b : Bool). (field 0 0 value == 0) || b) (none_moves outcome s (data_asked s.sizes value)) ∙ or_false (field 0 0 value == 0)))
-
 pub rest_of : (outcome : Outcome) (s : State) → is_some s.running ≡ false → s.is_stuck ≡ false → s.is_stale ≡ false
-    → s.is_unjudged ≡ false → length s.outgoing.items ≡ 0 → is_at_rest (shown outcome s) ≡ is_still (shown outcome s)
-rest_of outcome s runs stuck stale unjudged empty =
-    let still = is_still (shown outcome s) && true in
+    → s.is_unjudged ≡ false → length s.outgoing.items ≡ 0 → s.is_moving ≡ false
+    → is_at_rest (shown outcome s) ≡ is_still (shown outcome s)
+rest_of outcome s runs stuck stale unjudged empty moves =
+    let still = is_still (shown outcome s) && not s.is_moving in
     ap (λ (b : Bool). b && (not s.is_stuck && (not s.is_stale && (is_none (unjudged_in s.is_unjudged s.block.items) && (is_empty s.outgoing.items && still))))) (none_in s.running runs)
     ∙ (ap (λ (b : Bool). not b && (not s.is_stale && (is_none (unjudged_in s.is_unjudged s.block.items) && (is_empty s.outgoing.items && still)))) stuck
     ∙ (ap (λ (b : Bool). not b && (is_none (unjudged_in s.is_unjudged s.block.items) && (is_empty s.outgoing.items && still))) stale
     ∙ (ap (λ (b : Bool). is_none (unjudged_in b s.block.items) && (is_empty s.outgoing.items && still)) unjudged
-    ∙ (ap (λ (b : Bool). b && still) (sym (none_left s.outgoing.items empty)) ∙ and_true (is_still (shown outcome s))))))
+    ∙ (ap (λ (b : Bool). b && still) (sym (none_left s.outgoing.items empty))
+    ∙ (ap (λ (b : Bool). is_still (shown outcome s) && not b) moves ∙ and_true (is_still (shown outcome s)))))))
 
 -- The judge.
 pub at_offset : (view : ControllerView) (offset at value : ℕ) (may : Bool) → offset ≡ at → may ≡ may_write view at value

@@ -1,5 +1,5 @@
 -- Blocks that are lost by a reset of the data line.
-use Rattle.std.proofs.Common.{◌∙◌, ◌≡◌, ◌∷◌, Bool, List, None, Option, Some, ap, arith, false, length, refl, subst, sym, ℕ}
+use Rattle.std.proofs.Common.{◌∙◌, ◌≡◌, ◌∷◌, Bool, List, None, Option, Some, ap, arith, false, length, refl, subst, sym, true, ℕ}
 use Rattle.mmc_bus.specs.Exchanges.{Kept}
 use Rattle.mmc_card.specs.BusView.{BusView}
 use Rattle.mmc_card.specs.Faults.{ReadStep, WriteStep}
@@ -8,14 +8,15 @@ use Rattle.mmc_card.specs.declared.exchange.DataIn.TheVariants as Came
 use Rattle.mmc_card.specs.declared.exchange.DataOut.{DataOut}
 use Rattle.mmc_card.specs.declared.exchange.DataOut.TheVariants as Went
 use Rattle.mmc_host.specs.declared.data.Data.{Data}
-use Rattle.mmc_sdhci.specs.Accesses.{Does8}
+use Rattle.mmc_sdhci.specs.Accesses.{Does8, Drops, DropsBy}
 use Rattle.mmc_sdhci.specs.Controller.{ControllerView, Settled, moved, seen}
 use Rattle.mmc_sdhci.specs.DataLooks.{DataDropped, IsOffered, cleared}
+use Rattle.mmc_sdhci.specs.DmaLooks.{SomeMoved}
 use Rattle.mmc_story.specs.Entry.{Entry, Event}
 use Rattle.mmc_story.specs.Entry.Event.{Read, Written}
 use Rattle.mmc_story.specs.Story.{Allows, Outcome, Story}
-use Rattle.sdhci_model.specs.Moves.{ChangesTo, HasSameBus, IsLostAs}
-use Rattle.sdhci_model.specs.Shown.{controller, entry_for, shown}
+use Rattle.sdhci_model.specs.Moves.{ChangesTo, HasSameBus, IsLostAs, OneHasFailed, OneWasLost}
+use Rattle.sdhci_model.specs.Shown.{controller, entry_for, lent_in, shown}
 use Rattle.sdhci_model.specs.declared.state.State.{State}
 use Rattle.sdhci_model.proofs.Moving.{kept_any, lost_by, rejected_is, rejected_is_none, some_bytes}
 use Rattle.sdhci_model.proofs.Telling.{if_kept, told}
@@ -39,7 +40,7 @@ drops_data : (story : Story) (past : List Entry) (s s' : State) (event : Event)
     (seen (controller story (entry_for s event ∷ past) s'))
     → (after : ControllerView) → seen after ≡ seen (controller story (entry_for s event ∷ past) s')
     → after ≡ cleared (moved (controller story past s) after)
-    → DataDropped (controller story past s) s.transfer after)
+    → Drops (controller story past s) after)
     → Settled (controller story past s)
     (Does8 (controller story past s) 0x2f 4 (controller story (entry_for s event ∷ past) s'))
     (controller story (entry_for s event ∷ past) s')
@@ -67,12 +68,15 @@ drops_data story past s s' event changes same drops kept =
       },
     )
 
+drops_unmoved : (old new : ControllerView) → old.dma.is_moving ≡ false → DataDropped old old.transfer new → Drops old new
+drops_unmoved old new still drops = subst (λ (b : Bool). DropsBy b old new) (sym still) drops
+
 -- No block came.
 pub loses_read : (story : Story) (past after : List Entry) (s s1 s2 : State) (size : ℕ) (blocks : ℕ) (block : List ℕ)
-    → s.transfer ≡ Data.Read size blocks → after ≡ entry_for s (Read size Came.Nothing block) ∷ past → s1 ≡ s
+    → s.is_moving ≡ false → s.transfer ≡ Data.Read size blocks → after ≡ entry_for s (Read size Came.Nothing block) ∷ past → s1 ≡ s
     → ChangesTo s1 reset_from s2 → HasSameBus s1 s2
     → Settled (controller story past s) (Does8 (controller story past s) 0x2f 4 (controller story after s2)) (controller story after s2)
-loses_read story past after s s1 s2 size blocks block is noted same changes bus =
+loses_read story past after s s1 s2 size blocks block still is noted same changes bus =
     let event = Read size Came.Nothing block in
     let old = controller story past s in
     subst (λ (es : List Entry). Settled (controller story past s)
@@ -80,11 +84,11 @@ loses_read story past after s s1 s2 size blocks block is noted same changes bus 
     (drops_data story past s s2 event
     (subst (λ (x : State). ChangesTo x reset_from s2) same changes)
     (subst (λ (x : State). HasSameBus x s2) same bus)
-    (λ step v sees clear. subst (λ (t : Data). DataDropped old t v) (sym is) (
+    (λ step v sees clear. drops_unmoved old v still (subst (λ (t : Data). DataDropped old t v) (sym is) (
       λ other. subst (λ (b : BusView). Kept (seen old) (ReadStep (seen old) size Came.Nothing other b) b) (sym sees)
           (kept_any (seen old) (seen (controller story (entry_for s event ∷ past) s2)) size Came.Nothing block other refl step),
       clear,
-    )))
+    ))))
 
 -- A block that was rejected may be any whose status didn't come.
 any_rejected : (old new : BusView) (block other : List ℕ) (got : DataOut) → got ≡ Went.Rejected → WriteStep old block got new
@@ -116,10 +120,10 @@ kept_lost old new outgoing block other got lost offered step =
 
 -- The block didn't go.
 pub loses_write : (story : Story) (past after : List Entry) (s s1 s2 : State) (blocks : ℕ) (block : List ℕ) (got : DataOut)
-    → s.transfer ≡ Data.Write blocks → IsLostAs s.outgoing.items block got → after ≡ entry_for s (Written block got) ∷ past → s1 ≡ s
+    → s.is_moving ≡ false → s.transfer ≡ Data.Write blocks → IsLostAs s.outgoing.items block got → after ≡ entry_for s (Written block got) ∷ past → s1 ≡ s
     → ChangesTo s1 reset_from s2 → HasSameBus s1 s2
     → Settled (controller story past s) (Does8 (controller story past s) 0x2f 4 (controller story after s2)) (controller story after s2)
-loses_write story past after s s1 s2 blocks block got is lost noted same changes bus =
+loses_write story past after s s1 s2 blocks block got still is lost noted same changes bus =
     let event = Written block got in
     let old = controller story past s in
     subst (λ (es : List Entry). Settled (controller story past s)
@@ -127,12 +131,72 @@ loses_write story past after s s1 s2 blocks block got is lost noted same changes
     (drops_data story past s s2 event
     (subst (λ (x : State). ChangesTo x reset_from s2) same changes)
     (subst (λ (x : State). HasSameBus x s2) same bus)
-    (λ step v sees clear. subst (λ (t : Data). DataDropped old t v) (sym is) (
+    (λ step v sees clear. drops_unmoved old v still (subst (λ (t : Data). DataDropped old t v) (sym is) (
       λ other offered. subst (λ (b : BusView). Kept (seen old) (WriteStep (seen old) other Went.Nothing b) b) (sym sees)
           (kept_lost (seen old) (seen (controller story (entry_for s event ∷ past) s2)) s.outgoing.items block other got lost offered step),
       clear,
-    )))
+    ))))
 
 -- All of it was in the buffer, and its status is lost.
 pub lost_whole : (outgoing block : List ℕ) → block ≡ outgoing → length outgoing ≡ 512 → IsLostAs outgoing block Went.Nothing
 lost_whole outgoing block is long = (is, some_bytes outgoing long)
+
+-- Data that the controller moves by itself: some of it was, and a block was lost.
+abbrev pub LosesSome : Story → List Entry → State → List Entry → Type 0
+LosesSome story past s after =
+    Settled (controller story past s)
+    (SomeMoved s.transfer (lent_in s.loan) Came.Nothing (seen (controller story past s)) (seen (controller story after s)))
+    (controller story after s)
+
+drops_some_by : (story : Story) (past after : List Entry) (s s' : State) → s.is_moving ≡ true → LosesSome story past s after
+    → ChangesTo s reset_from s'
+    → Settled (controller story past s) (Does8 (controller story past s) 0x2f 4 (controller story after s')) (controller story after s')
+drops_some_by story past after s s' moves lost changes kept =
+    let old = controller story past s in
+    let outcome = story.outcome after in
+    let new = controller story after s' in
+    let dropped = record new { resetting = None } in
+    let e : new ≡ reset_from (shown outcome s) = changes outcome in
+    let still : (shown outcome s).is_kept ≡ true = sym (ap (λ (v : ControllerView). v.is_kept) e) ∙ kept in
+    let h = lost still in
+    let same_bus : seen dropped ≡ seen (shown outcome s) = ap (λ (v : ControllerView). seen v) e in (
+      h.0,
+      record {
+        control = λ at. absurd (omega (arith, at));
+        power = λ at. absurd (omega (arith, at));
+        restart = λ at one. absurd (omega (arith, one));
+        command = λ at two. absurd (omega (arith, two));
+        line = λ at four. (
+          dropped,
+          subst (λ (b : Bool). DropsBy b old dropped) (sym moves) (
+            subst (λ (b : BusView). SomeMoved s.transfer (lent_in s.loan) Came.Nothing (seen old) b) (sym same_bus) h.1,
+            cleared_after outcome s old new e (still ∙ sym h.0),
+          ),
+          ap (λ (o : Option ℕ). record new { resetting = o }) (ap (λ (v : ControllerView). v.resetting) e),
+        );
+      },
+    )
+
+pub drops_some : (story : Story) (past after : List Entry) (s s1 s2 : State) → s.is_moving ≡ true → LosesSome story past s after
+    → s1 ≡ s → ChangesTo s1 reset_from s2
+    → Settled (controller story past s) (Does8 (controller story past s) 0x2f 4 (controller story after s2)) (controller story after s2)
+drops_some story past after s s1 s2 moves lost same changes =
+    drops_some_by story past after s s2 moves lost (subst (λ (x : State). ChangesTo x reset_from s2) same changes)
+
+pub loses_read_some : (story : Story) (past after : List Entry) (s : State) (size count : ℕ) → s.transfer ≡ Data.Read size count
+    → OneHasFailed story past s count Came.Nothing after → LosesSome story past s after
+loses_read_some story past after s size count is failed kept =
+    let h = failed kept in (
+      h.0,
+      subst (λ (t : Data). SomeMoved t (lent_in s.loan) Came.Nothing (seen (controller story past s)) (seen (controller story after s)))
+          (sym is) h.1,
+    )
+
+pub loses_written_some : (story : Story) (past after : List Entry) (s : State) (count : ℕ) → s.transfer ≡ Data.Write count
+    → OneWasLost story past s after → LosesSome story past s after
+loses_written_some story past after s count is lost kept =
+    let h = lost kept in (
+      h.0,
+      subst (λ (t : Data). SomeMoved t (lent_in s.loan) Came.Nothing (seen (controller story past s)) (seen (controller story after s)))
+          (sym is) h.1,
+    )

@@ -132,7 +132,7 @@ any_block old new size got block other bad (spoil choice bits goes_on any among 
 any_block old new size got block other bad (read_brownout choice lands keeps late one card is) =
     read_brownout choice lands keeps late one card is
 
-abbrev broken_state : State → ℕ → State → State
+abbrev pub broken_state : State → ℕ → State → State
 broken_state s bits s' =
     record s {
       outgoing = s'.outgoing;
@@ -238,6 +238,9 @@ pub rejected_is_none : Went.Rejected ≡ Went.Nothing → ⊥
 unfolding is_rejected
 rejected_is_none e = false≢true (sym (ap (λ (d : DataOut). is_rejected d) e))
 
+pub is_none_accepted : Went.Nothing ≡ Went.Accepted → ⊥
+is_none_accepted e = false≢true (ap (λ (d : DataOut). is_accepted d) e)
+
 pub lost_by : (accepted_was : Bool) (got : DataOut) → got ≡ Went.Rejected → got ≡ (if accepted_was then Went.Accepted else Went.Nothing) → ⊥
 lost_by true got is other = rejected_is (sym is ∙ other)
 lost_by false got is other = rejected_is_none (sym is ∙ other)
@@ -257,7 +260,7 @@ untold old new block Went.Nothing bad step = step
 untold old new block Went.Accepted bad step = absurd (false≢true (sym bad))
 untold old new block Went.Rejected bad step = unrejected old new block Went.Rejected refl step
 
-kept_untold : (old new : BusView) (block : List ℕ) (got : DataOut) → is_accepted got ≡ false
+pub kept_untold : (old new : BusView) (block : List ℕ) (got : DataOut) → is_accepted got ≡ false
     → Kept old (WriteStep old block got new) new → Kept old (WriteStep old block Went.Nothing new) new
 kept_untold old new block got bad step =
     record {

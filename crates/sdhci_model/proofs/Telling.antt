@@ -5,6 +5,7 @@ use Rattle.std.proofs.lemmas.Bool.{false≢true}
 use Rattle.mmc_card.specs.BusView.{BusView}
 use Rattle.mmc_bus.specs.Exchanges.{Kept}
 use Rattle.mmc_sdhci.specs.Controller.{ControllerView, limits_in, lines_in, seen}
+use Rattle.mmc_sdhci.specs.DmaLooks.{StepsAlone}
 use Rattle.mmc_story.specs.Entry.{Entry, Event}
 use Rattle.mmc_story.specs.Story.{Allows, IsStep, Outcome, Story, bus_at}
 use Rattle.sdhci_model.specs.Shown.{controller, entry_for, shown}
@@ -54,3 +55,13 @@ told story past s after event sound still control capabilities conformed =
 
 pub same_kept : (view : ControllerView) (kept : Bool) → view.is_kept ≡ kept → view ≡ record view { is_kept = kept }
 same_kept view kept is = ap (λ (b : Bool). record view { is_kept = b }) is
+
+-- A call that is noted is one step, beside which nothing changes.
+pub alone : (story : Story) (past : List Entry) (s : State) (event : Event)
+    → (controller story (entry_for s event ∷ past) s).is_kept ≡ true
+    → StepsAlone (seen (controller story past s))
+    (Allows (seen (controller story past s)) event (seen (controller story (entry_for s event ∷ past) s)))
+    (seen (controller story (entry_for s event ∷ past) s))
+alone story past s event kept =
+    let k = if_kept s.is_sound (story.outcome (entry_for s event ∷ past)).conformed kept in
+    record { same = refl; kept = told story past s s event k.0 k.0 refl refl k.1 }

@@ -1,15 +1,23 @@
 -- What the model's registers do while blocks are moved.
-use Rattle.std.specs.Prelude.{[], List, Some, false, true, ℕ, ◌≡◌}
+use Rattle.std.specs.Prelude.{[], List, None, Option, Some, false, slice_index_or, true, ℕ, ◌≡◌}
 use Rattle.mmc_frame.specs.Field.{field}
+use Rattle.mmc_bus.specs.Together.{RestsBehind}
+use Rattle.mmc_card.specs.BusView.{BusView}
+use Rattle.mmc_card.specs.declared.exchange.DataIn.{DataIn}
 use Rattle.mmc_card.specs.declared.exchange.DataOut.{DataOut}
 use Rattle.mmc_card.specs.declared.exchange.DataOut.TheVariants as Went
 use Rattle.mmc_host.specs.HostStates.{less_one}
 use Rattle.mmc_host.specs.declared.data.Data.{Data}
-use Rattle.mmc_story.specs.Story.{Outcome}
+use Rattle.mmc_story.specs.Entry.{Entry}
+use Rattle.mmc_story.specs.Entry.Event.{Written}
+use Rattle.mmc_story.specs.Story.{Outcome, Story}
 use Rattle.mmc_sdhci.specs.Accesses.{ClockSeen, Pops, ResetSeen, is_ready_in, written}
-use Rattle.mmc_sdhci.specs.Controller.{ControllerView}
+use Rattle.mmc_sdhci.specs.Controller.{ControllerView, Settled, seen}
 use Rattle.mmc_sdhci.specs.DataLooks.{has_news, is_empty, is_gone}
-use Rattle.sdhci_model.specs.Shown.{shown}
+use Rattle.mmc_sdhci.specs.DmaLooks.{CardRests, HaveCome, HaveGone, OneFails, OneIsLost}
+use Rattle.mmc_sdhci.specs.Lending.{lends}
+use Rattle.mmc_sdhci.specs.Lent.{Lent}
+use Rattle.sdhci_model.specs.Shown.{controller, entry_for, shown, to_go}
 use Rattle.sdhci_model.specs.declared.state.State.{State}
 
 -- these interrupts tell that the block that was taken is good, or it isn't time
@@ -80,3 +88,49 @@ SeesClock old value new = (outcome : Outcome) → ClockSeen (shown outcome old) 
 
 abbrev pub SeesReset : State → ℕ → State → Type 0
 SeesReset old value new = (outcome : Outcome) → ResetSeen (shown outcome old) old.resetting value (shown outcome new)
+
+-- memory is lent, or nothing happens
+abbrev pub LendsFrom : State → Lent → Option ℕ → State → Type 0
+LendsFrom old lent None new = new ≡ old
+LendsFrom old lent (Some start) new = ChangesTo old (λ view. lends view lent start) new
+
+-- So many of these blocks came, one after the other; or some did, and then one of so many that wasn't good.
+abbrev pub HaveRead : Story → List Entry → State → List (List ℕ) → ℕ → List Entry → Type 0
+HaveRead story past state blocks count after =
+    Settled (controller story past state)
+    (HaveCome blocks (seen (controller story past state)) count (seen (controller story after state)))
+    (controller story after state)
+
+abbrev pub OneHasFailed : Story → List Entry → State → ℕ → DataIn → List Entry → Type 0
+OneHasFailed story past state count got after =
+    Settled (controller story past state)
+    (OneFails count got (seen (controller story past state)) (seen (controller story after state)))
+    (controller story after state)
+
+-- So many blocks of those that are to go went, and the next one can; or one of them was lost.
+pub record CanGoOn (blocks : List (List ℕ)) (old : BusView) (count : ℕ) (ready : BusView) : Type 0 where
+  pub view : BusView
+  pub gone : HaveGone blocks old count view
+  pub rests : RestsBehind CardRests count view ready
+
+abbrev pub GoesOn : Story → List Entry → State → ℕ → List Entry → Type 0
+GoesOn story past state count after =
+    Settled (controller story past state)
+    (CanGoOn (to_go state) (seen (controller story past state)) count (seen (controller story after state)))
+    (controller story after state)
+
+abbrev pub HaveSent : Story → List Entry → State → ℕ → List Entry → Type 0
+HaveSent story past state count after =
+    Settled (controller story past state)
+    (HaveGone (to_go state) (seen (controller story past state)) count (seen (controller story after state)))
+    (controller story after state)
+
+abbrev pub OneWasLost : Story → List Entry → State → List Entry → Type 0
+OneWasLost story past state after =
+    Settled (controller story past state)
+    (OneIsLost (to_go state) (seen (controller story past state)) (seen (controller story after state)))
+    (controller story after state)
+
+-- what is noted of the block with this number
+abbrev pub sent_of : State → ℕ → DataOut → Entry
+sent_of state i got = entry_for state (Written (slice_index_or (to_go state) i []) got)

@@ -13,9 +13,10 @@ use Rattle.mmc_story.specs.Story.{Outcome, Story}
 use Rattle.mmc_sdhci.specs.CommandLooks.{IsShown}
 use Rattle.mmc_sdhci.specs.Commands.{response_flags}
 use Rattle.mmc_sdhci.specs.Controller.{ControllerView, Running, limits_in, lines_in}
-use Rattle.mmc_sdhci.specs.Lent.{nothing_lent}
+use Rattle.mmc_sdhci.specs.Lent.{Come, Lent, Room, ToGo, blocks_to_go}
 use Rattle.sdhci_model.specs.declared.commands.Run.{Run}
 use Rattle.sdhci_model.specs.declared.commands.Told.{Told}
+use Rattle.sdhci_model.specs.declared.lent.Loan.{Loan}
 use Rattle.sdhci_model.specs.declared.state.State.{State}
 
 abbrev pub running_of : Run → Running
@@ -29,6 +30,21 @@ running_in (Some run) = Some (running_of run)
 abbrev pub unjudged_in : Bool → List ℕ → Option (List ℕ)
 unjudged_in false block = None
 unjudged_in true block = Some block
+
+-- what is lent
+abbrev pub lent_in : Loan → Option Lent
+lent_in Loan.Nothing = None
+lent_in (Loan.Room count) = Some (Room count)
+lent_in (Loan.Come blocks) = Some (Come blocks.items)
+lent_in (Loan.ToGo blocks) = Some (ToGo blocks.items)
+
+-- the blocks that are to go
+abbrev pub to_go : State → List (List ℕ)
+to_go state = blocks_to_go (lent_in state.loan)
+
+-- where it stands, always
+abbrev pub memory : ℕ
+memory = 0x10000000
 
 abbrev pub shown : Outcome → State → ControllerView
 shown outcome state =
@@ -60,18 +76,22 @@ shown outcome state =
       is_ready = state.is_ready;
       incoming = drop state.taken state.block.items;
       outgoing = state.outgoing.items;
-      dma = nothing_lent;
+      dma = record {
+        lent = lent_in state.loan;
+        start = memory;
+        table = state.table;
+        address = state.address;
+        is_moving = state.is_moving;
+      };
     }
 
--- What Transfer Mode and Command may ask for where there is no DMA.
-abbrev pub is_asked_alone : ℕ → Bool
-is_asked_alone value =
-    (field 5 5 value == field 1 1 value)
-    && ((field 0 0 value == 0)
-    && ((field 3 2 value == 0)
+-- no command of the controller's own, and no suspending
+abbrev pub is_plain : ℕ → Bool
+is_plain value =
+    (field 3 2 value == 0)
     && ((field 15 6 value == 0)
     && ((field 18 18 value == 0)
-    && ((field 31 30 value == 0) && ((field 23 22 value == 0) || (field 29 22 value == 0x33)))))))
+    && ((field 31 30 value == 0) && ((field 23 22 value == 0) || (field 29 22 value == 0x33)))))
 
 -- what a host was told that has these lines
 abbrev pub told_of : ℕ → HostState

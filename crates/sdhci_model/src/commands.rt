@@ -54,8 +54,8 @@ fn blocks_asked(sizes: u32, mode: u32) -> u16
     }
 }
 
-// The data that Transfer Mode and Command ask for.
-fn data_asked(sizes: u32, word: u32) -> Data
+/// The data that Transfer Mode and Command ask for.
+pub fn data_asked(sizes: u32, word: u32) -> Data
     ensures { result ≡ data_asked sizes word }
 {
     if word / 0x20_0000 % 2 == 0 {
@@ -160,7 +160,6 @@ impl State {
 
     /// Transfer Mode and Command are written: the command runs.
     pub fn begin(&mut self, value: u32)
-        requires { value % 2 ≡ 0 }
         ensures { WritesTo self.old 0x0c value self.new }
     {
         self.running = Some(Run {
@@ -170,6 +169,7 @@ impl State {
             transfer: data_asked(self.sizes, value),
         });
         self.is_stale = self.is_stale || has_data(self.transfer);
+        self.is_moving = value % 2 == 1;
     }
 
     /// The command that ran is over.

@@ -6,7 +6,7 @@ ghost use Rattle.mmc_sdhci.specs.Driver.{IsNew};
 ghost use Rattle.mmc_host.specs.HostStates.{is_good};
 ghost use Rattle.mmc_host.specs.declared.response.Response.TheVariants.{Nothing};
 ghost use Rattle.mmc_host.specs.declared.told.ResponseFault.TheVariants.{Timeout};
-ghost use Rattle.mmc_sdhci.specs.Accesses.{Does8, Looked, Passes, Polls, Reads, Reads8, Writes, Writes8, may_write, may_write8};
+ghost use Rattle.mmc_sdhci.specs.Accesses.{DataLookedBy, Does8, Looked, Passes, Polls, Reads, Reads8, Writes, Writes8, may_write, may_write8};
 ghost use Rattle.mmc_sdhci.specs.DataLooks.{DataLooked, ReadLook, WriteLook};
 ghost use Rattle.mmc_story.specs.Noted.{event_of};
 ghost use Rattle.mmc_sdhci.specs.Controller.{Settled};
@@ -34,14 +34,16 @@ pub struct Engine<D: Host, S: HasStory> {
     pub host: D,
     pub diary: Diary,
     pub state: State,
-    manner: Manner,
+    pub manner: Manner,
     // how many exchanges were noted, and how many of them were lost by a reset
     pub exchanges: u64,
     pub lost: u64,
+    // how many blocks were moved by DMA
+    pub moved: u64,
     // what became of the block that is shown
     came: DataIn,
     // a block was rejected, which the driver learns with the next one
-    has_rejected: bool,
+    pub has_rejected: bool,
     of: PhantomData<S>,
     ghost unkept: { (D.view host).is_kept ≡ true → ⊥ },
 }
@@ -59,8 +61,8 @@ fn noted(diary: &Diary, state: &State, call: Call<'_>) -> Diary
 }
 
 impl<D: Host, S: HasStory> Engine<D, S> {
-    // Notes a call with its answer.
-    fn note(&mut self, call: Call<'_>)
+    /// Notes a call with its answer.
+    pub fn note(&mut self, call: Call<'_>)
         ensures past { self.new.diary.past ≡ entry_for self.old.state (event_of call.entry) ∷ self.old.diary.past }
         ensures state { self.new.state ≡ self.old.state }
     {
@@ -68,8 +70,8 @@ impl<D: Host, S: HasStory> Engine<D, S> {
         self.exchanges = self.exchanges.saturating_add(1);
     }
 
-    // Sends the command that runs, and tells what was heard. Where no host sends it, or the response is of another kind, it is lost.
-    fn send(&mut self, run: Run) -> Result<Told, ResponseFault>
+    /// Sends the command that runs, and tells what was heard. Where no host sends it, or the response is of another kind, it is lost.
+    pub fn send(&mut self, run: Run) -> Result<Told, ResponseFault>
         ensures told { IfOk result (λ told. IsTold run told) }
         ensures past { self.new.diary.past ≡ self.old.diary.past }
         ensures state { self.new.state ≡ self.old.state }
@@ -92,8 +94,13 @@ impl<D: Host, S: HasStory> Engine<D, S> {
         })
     }
 
-    // Notes the command that runs, with what was heard.
-    fn note_command(&mut self, run: Run, response: Response, heard: Result<Heard, ResponseFault>)
+    /// Notes the command that runs, with what was heard.
+    pub fn note_command(
+        &mut self,
+        run: Run,
+        response: Response,
+        heard: Result<Heard, ResponseFault>,
+    )
         ensures past { self.new.diary.past ≡ entry_for self.old.state (Sent (command_of run response) heard) ∷ self.old.diary.past }
         ensures state { self.new.state ≡ self.old.state }
     {
@@ -254,9 +261,9 @@ impl<D: Host, S: HasStory> Engine<D, S> {
         0x0020_8000
     }
 
-    // Offers a block to the card. Where errors come late, one that isn't the last and is rejected is taken for accepted, and the next
-    // one isn't sent: the card ignores all after it.
-    fn offer(&mut self, block: &[u8; 512]) -> DataOut
+    /// Offers a block to the card. Where errors come late, one that isn't the last and is rejected is taken for accepted, and the next
+    /// one isn't sent: the card ignores all after it.
+    pub fn offer(&mut self, block: &[u8; 512]) -> DataOut
         ensures past { self.new.diary.past ≡ self.old.diary.past }
         ensures state { self.new.state ≡ self.old.state }
     {
@@ -287,6 +294,19 @@ impl<D: Host, S: HasStory> Engine<D, S> {
         }
     }
 
+    // A look while no command runs: where data is moved by DMA, or not.
+    fn see_any_data(&mut self) -> u32
+        ensures { Settled (controller S.story self.old.diary.past self.old.state)
+            (DataLookedBy self.old.state.is_moving (controller S.story self.old.diary.past self.old.state) result
+            (controller S.story self.new.diary.past self.new.state)) (controller S.story self.new.diary.past self.new.state) }
+    {
+        if self.state.is_moving {
+            self.see_moving()
+        } else {
+            self.see_data()
+        }
+    }
+
     // A look at the interrupts.
     fn look(&mut self) -> u32
         ensures { Settled (controller S.story self.old.diary.past self.old.state)
@@ -295,105 +315,7 @@ impl<D: Host, S: HasStory> Engine<D, S> {
     {
         match self.state.running {
             Some(run) => self.see_command(run),
-            None => self.see_data(),
-        }
-    }
-
-    // The command that runs is lost by a reset of the command line. The card may have got it.
-    fn lose_command(&mut self, run: Run)
-        ensures past { self.new.diary.past ≡ entry_for self.old.state (Sent (command_of run Nothing) (Err Timeout)) ∷ self.old.diary.past }
-        ensures state { self.new.state ≡ self.old.state }
-    {
-        if self.manner.is_sent(self.exchanges) {
-            let _ = self.send(run);
-        }
-        self.note_command(run, Response::Nothing, Err(ResponseFault::Timeout));
-    }
-
-    // The block of this length that was to come is lost by a reset of the data line.
-    fn lose_read(&mut self, length: u16, blocks: u16)
-        requires { self.old.state.transfer ≡ Data.Read length blocks }
-        ensures past { (size counted : ℕ) → self.old.state.transfer ≡ Data.Read size counted
-            → self.new.diary.past ≡ entry_for self.old.state (Read size Came.Nothing []) ∷ self.old.diary.past }
-        ensures state { self.new.state ≡ self.old.state }
-    {
-        self.note(Call::ReadBlock {
-            length: length as usize,
-            got: DataIn::Nothing,
-            block: &[],
-        });
-    }
-
-    // The block that was to go is lost by a reset of the data line. The card may have got it, where all of it was in the buffer. The
-    // answer is what was noted.
-    fn lose_block(&mut self) -> ([u8; 512], DataOut)
-        ensures lost { IsLostAs self.old.state.outgoing.items result.0 result.1 }
-        ensures past { self.new.diary.past ≡ entry_for self.old.state (Written result.0 result.1) ∷ self.old.diary.past }
-        ensures state { self.new.state ≡ self.old.state }
-    {
-        if self.manner.is_sent(self.exchanges)
-            && let Some(block) = self.state.whole()
-        {
-            let _ = self.offer(&block);
-            let got = DataOut::Nothing;
-            self.note(Call::WriteBlock { block: &block, got });
-            return (block, got);
-        }
-        let block = [0; 512];
-        let got = DataOut::Rejected;
-        self.note(Call::WriteBlock { block: &block, got });
-        (block, got)
-    }
-
-    // Software Reset For CMD Line.
-    fn reset_command(&mut self)
-        ensures { Settled (controller S.story self.old.diary.past self.old.state)
-            (Does8 (controller S.story self.old.diary.past self.old.state) 0x2f 2
-            (controller S.story self.new.diary.past self.new.state)) (controller S.story self.new.diary.past self.new.state) }
-    {
-        match self.state.running {
-            None => self.state.reset_command(),
-            Some(run) => {
-                self.lost = self.lost.saturating_add(1);
-                self.lose_command(run);
-                self.state.drop_command();
-            }
-        }
-    }
-
-    // Software Reset For DAT Line: a block that was to come or to go is lost.
-    fn reset_data(&mut self)
-        ensures { Settled (controller S.story self.old.diary.past self.old.state)
-            (Does8 (controller S.story self.old.diary.past self.old.state) 0x2f 4
-            (controller S.story self.new.diary.past self.new.state)) (controller S.story self.new.diary.past self.new.state) }
-    {
-        self.has_rejected = false;
-        match self.state.transfer {
-            Data::Nothing => self.state.reset_data(),
-            Data::Read { length, blocks } => {
-                self.lost = self.lost.saturating_add(1);
-                self.lose_read(length, blocks);
-                self.state.reset_data();
-            }
-            Data::Write { .. } => {
-                self.lost = self.lost.saturating_add(1);
-                self.lose_block();
-                self.state.reset_data();
-            }
-        }
-    }
-
-    // A reset.
-    fn reset(&mut self, value: u8)
-        ensures { Settled (controller S.story self.old.diary.past self.old.state)
-            (Does8 (controller S.story self.old.diary.past self.old.state) 0x2f value
-            (controller S.story self.new.diary.past self.new.state)) (controller S.story self.new.diary.past self.new.state) }
-    {
-        match value {
-            1 if !self.state.is_unjudged => self.state.restart(),
-            2 => self.reset_command(),
-            4 => self.reset_data(),
-            _ => self.break_off(),
+            None => self.see_any_data(),
         }
     }
 
@@ -437,6 +359,7 @@ impl<D: Host, S: HasStory> Engine<D, S> {
             manner,
             exchanges: 0,
             lost: 0,
+            moved: 0,
             came: DataIn::Nothing,
             has_rejected: false,
             of: PhantomData,

@@ -48,6 +48,36 @@ impl Manner {
         true
     }
 
+    /// Whether a look finds nothing while the controller makes so many exchanges by itself, from this one on: it is silent at one of
+    /// them.
+    pub fn is_silent_within(&mut self, first: u64, count: u64) -> bool {
+        let Some(silent) = self.silent else {
+            return false;
+        };
+        if silent.exchange < first || silent.exchange - first >= count {
+            return false;
+        }
+        self.is_silent(silent.exchange, true)
+    }
+
+    /// How many blocks the controller moves by itself, from this exchange on, before the one at which it is silent. Where blocks have
+    /// looks between them, it is silent at the block before a look.
+    pub fn blocks_before(&mut self, first: u64, has_looks: bool) -> u64 {
+        let Some(silent) = self.silent else {
+            return 0;
+        };
+        let before = silent.exchange.saturating_sub(first);
+        if has_looks {
+            self.silent = Some(Silent {
+                exchange: silent.exchange - before % 2,
+                ..silent
+            });
+            before / 2
+        } else {
+            before
+        }
+    }
+
     /// Whether the card gets what is lost at this exchange.
     pub fn is_sent(&self, exchange: u64) -> bool {
         match self.silent {

@@ -5,6 +5,7 @@ ghost use Rattle.sdhci_model.specs.Shown.{controller};
 
 use crate::engine::Engine;
 use crate::manner::Manner;
+use mmc_bus::Blocks;
 use mmc_host::Host;
 use mmc_sdhci::{Registers, Sdhci, StartFault};
 use mmc_story::HasStory;
@@ -65,6 +66,11 @@ impl<D: Host, S: HasStory> Model<D, S> {
         self.engine.lost
     }
 
+    /// How many blocks were moved by DMA.
+    pub fn moved(&self) -> u64 {
+        self.engine.moved
+    }
+
     /// The host.
     pub fn host(&self) -> &D
         ensures { result.now ≡ self.now.engine.host }
@@ -96,21 +102,34 @@ impl<D: Host, S: HasStory> Registers for Model<D, S> {
         self.engine.write8(offset, value);
     }
 
-    // There is no DMA.
+    fn lend_room(&mut self, count: usize) -> Option<u32> {
+        self.engine.state.lend_room(count)
+    }
+
+    fn lend_blocks<B: Blocks>(&mut self, blocks: &B) -> Option<u32> {
+        self.engine.state.lend_blocks(blocks)
+    }
+
     fn lend_table(&mut self, table: &[[u8; 8]; 16]) -> u32 {
-        let _ = table;
-        self.engine.break_off();
-        0
+        match self.engine.state.lend_table(table) {
+            Some(address) => address,
+            None => {
+                self.engine.break_off();
+                0
+            }
+        }
     }
 
     fn take_place(&mut self, index: usize, block: &mut [u8; 512]) {
-        let _ = index;
-        let _ = block;
-        self.engine.break_off();
+        if !self.engine.state.is_at_rest() || !self.engine.state.fill(index, block) {
+            self.engine.break_off();
+        }
     }
 
     fn take_back(&mut self) {
-        self.engine.break_off();
+        if !self.engine.state.take_back() {
+            self.engine.break_off();
+        }
     }
 
     fn pause(&mut self, micros: u32) {

@@ -1,11 +1,14 @@
 // The rules: what a driver may write. They are those of `mmc_sdhci`, one function for each register.
-ghost use Rattle.std.specs.Prelude.{◌&&◌, ◌||◌, ◌≡◌, is_none};
+ghost use Rattle.std.specs.Prelude.{◌&&◌, ◌==◌, ◌||◌, ◌≡◌, is_none};
 ghost use Rattle.mmc_frame.specs.Field.{field};
-ghost use Rattle.mmc_sdhci.specs.Accesses.{can_put, is_able, is_at_rest, is_clean, is_clock, is_idle, is_selected, may_write, may_write8};
+ghost use Rattle.mmc_sdhci.specs.Accesses.{can_move, can_put, is_able, is_asked, is_at_rest, is_clean, is_clock, is_dma_set, is_idle, is_selected, may_write, may_write8};
 ghost use Rattle.mmc_sdhci.specs.Controller.{is_set, is_settled, is_still};
+ghost use Rattle.mmc_sdhci.specs.Lent.{is_lent_for, is_pointed};
 ghost use Rattle.mmc_story.specs.Story.{Outcome};
-ghost use Rattle.sdhci_model.specs.Shown.{is_asked_alone, shown};
+ghost use Rattle.sdhci_model.specs.Shown.{is_plain, shown};
 
+use crate::commands::data_asked;
+use crate::lent::Loan;
 use crate::state::State;
 use mmc_host::Data;
 use mmc_sdhci::has_data;
@@ -24,14 +27,25 @@ fn either(a: bool, b: bool) -> bool
     a || b
 }
 
-// Whether these flags and this mode are what a command may ask for: no DMA, no command of the controller's own, no suspending, and
-// several blocks only where they are counted.
-fn is_asked(value: u32) -> bool
-    ensures { result ≡ is_asked_alone value }
+// Whether several blocks are counted.
+fn is_counted(value: u32) -> bool
+    ensures { result ≡ (field 5 5 value == field 1 1 value) }
 {
     value / 32 % 2 == value / 2 % 2
-        && value % 2 == 0
-        && value / 4 % 4 == 0
+}
+
+// Whether the data goes through the Buffer Data Port.
+fn is_by_port(value: u32) -> bool
+    ensures { result ≡ (field 0 0 value == 0) }
+{
+    value % 2 == 0
+}
+
+// Whether these flags and this mode ask for no command of the controller's own, and no suspending.
+fn is_plain(value: u32) -> bool
+    ensures { result ≡ is_plain value }
+{
+    value / 4 % 4 == 0
         && value / 64 % 1024 == 0
         && value / 0x4_0000 % 2 == 0
         && value / 0x4000_0000 == 0
@@ -84,7 +98,8 @@ impl State {
         both(self.is_settled(), self.starting.is_none())
     }
 
-    fn is_at_rest(&self) -> bool
+    /// Whether no command runs, nothing is left of an older one, nothing settles, the card has started, and no data is moved by DMA.
+    pub fn is_at_rest(&self) -> bool
         ensures { (outcome : Outcome) → result ≡ is_at_rest (shown outcome self.now) }
     {
         if self.running.is_some() {
@@ -100,6 +115,9 @@ impl State {
             return false;
         }
         if self.outgoing.len() != 0 {
+            return false;
+        }
+        if self.is_moving {
             return false;
         }
         self.is_still()
@@ -132,6 +150,56 @@ impl State {
         }
     }
 
+    // Whether the memory that is lent is for just this data.
+    fn is_lent_for(&self, transfer: Data) -> bool
+        ensures { (outcome : Outcome) → result ≡ is_lent_for (shown outcome self.now).dma.lent transfer }
+    {
+        match (&self.loan, transfer) {
+            (Loan::Room(room), Data::Read { length, blocks }) => {
+                length == 512 && *room == blocks as usize
+            }
+            (Loan::ToGo(blocks), Data::Write { blocks: count }) => blocks.len() == count as usize,
+            _ => false,
+        }
+    }
+
+    // Whether its table is at ADMA System Address.
+    fn is_pointed(&self) -> bool
+        ensures { (outcome : Outcome) → result ≡ is_pointed (shown outcome self.now).dma.table self.now.address }
+    {
+        match self.table {
+            None => false,
+            Some(table) => table == self.address,
+        }
+    }
+
+    // Whether ADMA2 is selected, and its errors are shown.
+    fn is_dma_set(&self) -> bool
+        ensures { (outcome : Outcome) → result ≡ is_dma_set (shown outcome self.now) }
+    {
+        both(
+            self.is_pointed(),
+            both(self.control / 8 % 4 == 2, self.shown / 0x200_0000 % 2 == 1),
+        )
+    }
+
+    // Whether this data can be moved by DMA.
+    fn can_move(&self, transfer: Data) -> bool
+        ensures { (outcome : Outcome) → result ≡ can_move (shown outcome self.now) transfer }
+    {
+        both(self.is_lent_for(transfer), self.is_dma_set())
+    }
+
+    fn is_asked(&self, value: u32) -> bool
+        ensures { (outcome : Outcome) → result ≡ is_asked (shown outcome self.now) value }
+    {
+        let is_movable = either(
+            is_by_port(value),
+            self.can_move(data_asked(self.sizes, value)),
+        );
+        both(is_counted(value), both(is_movable, is_plain(value)))
+    }
+
     fn can_put(&self) -> bool
         ensures { (outcome : Outcome) → result ≡ can_put (shown outcome self.now) }
     {
@@ -159,7 +227,10 @@ impl State {
     {
         both(
             self.is_at_rest(),
-            both(self.is_clean(value), both(self.is_set(), is_asked(value))),
+            both(
+                self.is_clean(value),
+                both(self.is_set(), self.is_asked(value)),
+            ),
         )
     }
 

@@ -28,6 +28,7 @@ impl State {
         self.is_ready = false;
         self.block = ArrayVec::new();
         self.taken = 0;
+        self.address = 0;
         self.resetting = Some(0);
     }
 
@@ -52,6 +53,7 @@ impl State {
         self.block = ArrayVec::new();
         self.taken = 0;
         self.outgoing = ArrayVec::new();
+        self.is_moving = false;
         self.resetting = Some(0);
     }
 

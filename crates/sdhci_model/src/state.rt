@@ -6,6 +6,7 @@ ghost use Rattle.mmc_story.specs.Story.{Outcome};
 ghost use Rattle.sdhci_model.specs.Shown.{shown};
 
 use crate::commands::Run;
+use crate::lent::Loan;
 use arrayvec::ArrayVec;
 use mmc_host::Data;
 
@@ -59,6 +60,14 @@ pub struct State {
     pub taken: usize,
     /// What is in the buffer of a block that is to go.
     pub outgoing: ArrayVec<u8, 512>,
+    /// Memory that is lent.
+    pub loan: Loan,
+    /// The bus address of its descriptor table.
+    pub table: Option<u32>,
+    /// ADMA System Address.
+    pub address: u32,
+    /// The data of the command that was begun last is moved by DMA.
+    pub is_moving: bool,
     /// The driver has kept to the rules.
     pub is_sound: bool,
 }
@@ -97,6 +106,10 @@ impl State {
             block: ArrayVec::new(),
             taken: 0,
             outgoing: ArrayVec::new(),
+            loan: Loan::Nothing,
+            table: None,
+            address: 0,
+            is_moving: false,
             is_sound: true,
         }
     }

@@ -12,19 +12,20 @@ impl State {
         self.status &= 0xffff_ffff - value;
     }
 
-    /// A write of 32 bits. It tells whether there is such a register, with room for it. There is no DMA.
+    /// A write of 32 bits. It tells whether there is such a register, with room for it.
     pub fn write(&mut self, offset: u8, value: u32) -> bool
         ensures { result ≡ true → WritesTo self.old offset value self.new }
     {
         match offset {
             0x04 => self.set_sizes(value),
             0x08 => self.set_argument(value),
-            0x0c if value % 2 == 0 => self.begin(value),
+            0x0c => self.begin(value),
             0x20 => return self.put(value),
             0x2c => self.set_clock(value),
             0x30 => self.clear(value),
             0x34 => self.show(value),
             0x38 => (),
+            0x58 => self.set_address(value),
             _ => return false,
         }
         true

@@ -1,5 +1,6 @@
 // Blocks that are written.
 ghost use Rattle.std.specs.Prelude.{◌≡◌, IfNone, IfSome, length, true};
+ghost use Rattle.mmc_frame.specs.Field.{field};
 ghost use Rattle.mmc_host.specs.HostStates.{is_accepted};
 ghost use Rattle.sdhci_model.specs.Moves.{AwaitsGone, Goes, TellsGone, WritesTo};
 
@@ -15,6 +16,16 @@ pub fn is_accepted(got: DataOut) -> bool
     match got {
         DataOut::Accepted => true,
         DataOut::Rejected | DataOut::Nothing => false,
+    }
+}
+
+/// The interrupts that tell that a block was lost: Data CRC Error, also of the card's status, or Data Timeout Error, and Error Interrupt.
+pub fn bits_of_write(got: DataOut) -> u32
+    ensures { field 15 15 result ≡ 1 }
+{
+    match got {
+        DataOut::Rejected => 0x0020_8000,
+        DataOut::Accepted | DataOut::Nothing => 0x0010_8000,
     }
 }
 

@@ -16,19 +16,29 @@ use std::default::Default;
 use std::marker::Brand;
 use std::test::Fail;
 
-// Capabilities: a base clock of 50 MHz, 3.3 V, high speed, and eight lines.
+// Capabilities: a base clock of 50 MHz, 3.3 V, high speed, and eight lines; and beside them ADMA2.
 const CAPABILITIES: u32 = 0x0124_3200;
 
-type Device = BlockDev<Narrow<HostBus<Sdhci<Model<Controller, Brand>>>>>;
+const WITH_ADMA2: u32 = CAPABILITIES + 0x8_0000;
 
-// What came of a run: the lines that the card was opened on, how many exchanges it took, by the card's count and the controller's, and
-// how many were lost by resets.
+type Driver = HostBus<Sdhci<Model<Controller, Brand>>>;
+
+// How blocks are moved: through the Buffer Data Port, over such lines at most; or by DMA, over all.
+#[derive(Clone, Copy)]
+enum Way {
+    Port(Lines),
+    Dma,
+}
+
+// What came of a run: the lines that the card was opened on, how many exchanges it took, by the card's count and the controller's, how
+// many were lost by resets, and how many blocks were moved by DMA.
 #[derive(Clone, Copy)]
 struct Served {
     lines: Lines,
     exchanges: u64,
     noted: u64,
     lost: u64,
+    moved: u64,
 }
 
 // What goes wrong: a fault of the card at this exchange, and what the controller does late or never.
@@ -48,27 +58,33 @@ fn over(card: SimCard) -> Controller {
     }
 }
 
-// Opens the card behind the model, over such lines at most.
-fn open(alloc: Global, card: SimCard, most: Lines, manner: Manner) -> Option<Device> {
-    let controller = over(card);
-    match driver::<Controller, Brand>(controller, CAPABILITIES, 2, manner) {
-        Ok(host) => BlockDev::open(alloc, Narrow::new(HostBus::new(host), most)).ok(),
+// The driver of a controller with these Capabilities, over this card.
+fn driven(card: SimCard, capabilities: u32, manner: Manner) -> Option<Driver> {
+    match driver::<Controller, Brand>(over(card), capabilities, 2, manner) {
+        Ok(host) => Some(HostBus::new(host)),
         Err(_) => None,
     }
 }
 
-// Sectors 1 and 2 are written and read back.
-fn submit(alloc: Global, device: &mut Device) -> Result<(), Fail> {
+// So many sectors, from sector 1 on, are written and read back, each byte this one.
+fn submit<B: Bus>(
+    alloc: Global,
+    device: &mut BlockDev<B>,
+    count: u8,
+    byte: u8,
+) -> Result<(), Fail> {
+    let size = 512 * usize::from(count);
+    let count = u64::from(count);
     let write = Request::Write {
         part: Part::User,
         start: 1,
-        count: 2,
-        bytes: Bytes::new(vec![in alloc; 0x5a; 1024]?),
+        count,
+        bytes: Bytes::new(vec![in alloc; byte; size]?),
     };
     let read = Request::Read {
         part: Part::User,
         start: 1,
-        count: 2,
+        count,
     };
     for request in [write, read] {
         device.submit(alloc, 1, request).ok().ok_or("refused")?;
@@ -80,8 +96,8 @@ fn is_all(bytes: &[u8], byte: u8) -> bool {
     bytes.iter().all(|b| *b == byte)
 }
 
-// The write was done, and what was written was read.
-fn is_served(answers: &[Completion]) -> bool {
+// The write was done, and what was written was read: so many sectors of this byte.
+fn is_served(answers: &[Completion], count: usize, byte: u8) -> bool {
     match answers {
         [
             Completion {
@@ -92,7 +108,7 @@ fn is_served(answers: &[Completion]) -> bool {
                 answer: Answer::Data(bytes),
                 ..
             },
-        ] => is_all(bytes.as_slice(), 0x5a),
+        ] => bytes.as_slice().len() == count * 512 && is_all(bytes.as_slice(), byte),
         _ => false,
     }
 }
@@ -108,37 +124,76 @@ fn holds(contents: &[u8]) -> bool {
     contents.len() >= 1536
 }
 
-// The driver over a card and a controller with this trouble opens it, writes and reads back, and keeps to the rules.
-fn serve(alloc: Global, spec: CardSpec, most: Lines, trouble: Trouble) -> Result<Served, Fail> {
-    let mut card = SimCard::build(alloc, spec).ok().ok_or("no card")?;
-    card.plan(trouble.exchange, trouble.fault)
-        .ok()
-        .ok_or("not planned")?;
-    let mut device = open(alloc, card, most, trouble.manner).ok_or("no device")?;
-    submit(alloc, &mut device)?;
-    let answers = device.run(alloc)?;
-    let lines = Lines {
+fn lines_of<B: Bus>(device: &BlockDev<B>) -> Lines {
+    Lines {
         width: device.info().width,
         timing: device.info().timing,
-    };
-    let narrow = device.close();
-    let model = narrow.bus.host().registers();
-    if narrow.bus.is_misused() || !model.is_sound() {
+    }
+}
+
+// The driver has kept to the rules.
+fn check(bus: &Driver) -> Result<(), Fail> {
+    let model = bus.host().registers();
+    if bus.is_misused() || !model.is_sound() {
         return Err("the driver broke a rule".into());
     }
-    let controller = model.host();
-    if controller.was_too_fast {
+    if model.host().was_too_fast {
         return Err("too fast a clock".into());
     }
-    if !is_served(answers.as_slice()) || !holds(controller.card.contents(Part::User)) {
+    Ok(())
+}
+
+// It has, and the sectors hold what was written.
+fn judge(bus: &Driver, lines: Lines) -> Result<Served, Fail> {
+    check(bus)?;
+    let model = bus.host().registers();
+    let card = &model.host().card;
+    if !holds(card.contents(Part::User)) {
         return Err("not served".into());
     }
     Ok(Served {
         lines,
-        exchanges: controller.card.exchanges(),
+        exchanges: card.exchanges(),
         noted: model.exchanges(),
         lost: model.lost(),
+        moved: model.moved(),
     })
+}
+
+// Sectors 1 and 2 are written and read back.
+fn write_and_read<B: Bus>(alloc: Global, device: &mut BlockDev<B>) -> Result<(), Fail> {
+    submit(alloc, device, 2, 0x5a)?;
+    let answers = device.run(alloc)?;
+    if is_served(answers.as_slice(), 2, 0x5a) {
+        Ok(())
+    } else {
+        Err("not served".into())
+    }
+}
+
+// The driver over a card and a controller with this trouble opens it, writes and reads back, and keeps to the rules.
+fn serve(alloc: Global, spec: CardSpec, way: Way, trouble: Trouble) -> Result<Served, Fail> {
+    let mut card = SimCard::build(alloc, spec).ok().ok_or("no card")?;
+    card.plan(trouble.exchange, trouble.fault)
+        .ok()
+        .ok_or("not planned")?;
+    match way {
+        Way::Port(most) => {
+            let bus = driven(card, CAPABILITIES, trouble.manner).ok_or("no driver")?;
+            let narrow = Narrow::new(bus, most);
+            let mut device = BlockDev::open(alloc, narrow).ok().ok_or("no device")?;
+            write_and_read(alloc, &mut device)?;
+            let lines = lines_of(&device);
+            judge(&device.close().bus, lines)
+        }
+        Way::Dma => {
+            let bus = driven(card, WITH_ADMA2, trouble.manner).ok_or("no driver")?;
+            let mut device = BlockDev::open(alloc, bus).ok().ok_or("no device")?;
+            write_and_read(alloc, &mut device)?;
+            let lines = lines_of(&device);
+            judge(&device.close(), lines)
+        }
+    }
 }
 
 // A card of each kind, with four sectors.
@@ -203,8 +258,8 @@ const FAULTS: [Fault; 8] = [
     Fault::Brownout(Outcome::Old),
 ];
 
-fn fail_each(alloc: Global, which: Which, most: Lines) -> Result<Lines, Fail> {
-    let whole = serve(alloc, spec_of(which), most, no_trouble())?;
+fn fail_each(alloc: Global, which: Which, way: Way) -> Result<Served, Fail> {
+    let whole = serve(alloc, spec_of(which), way, no_trouble())?;
     for exchange in 0..whole.exchanges {
         for fault in FAULTS {
             let trouble = Trouble {
@@ -212,26 +267,26 @@ fn fail_each(alloc: Global, which: Which, most: Lines) -> Result<Lines, Fail> {
                 fault,
                 ..no_trouble()
             };
-            serve(alloc, spec_of(which), most, trouble)?;
+            serve(alloc, spec_of(which), way, trouble)?;
         }
     }
-    Ok(whole.lines)
+    Ok(whole)
 }
 
 // At each exchange once the controller is silent, for a few looks or for good. For good: the command is never over, whether the card
 // heard it or not; a block or room for one is never shown, or, once a block was, Transfer Complete isn't nor what is next. So the
 // driver gives up, and resets what runs.
-fn silence_each(alloc: Global, which: Which, most: Lines) -> Result<(), Fail> {
-    let whole = serve(alloc, spec_of(which), most, no_trouble())?;
+fn silence_each(alloc: Global, which: Which, way: Way) -> Result<(), Fail> {
+    let whole = serve(alloc, spec_of(which), way, no_trouble())?;
     for silence in [Silence::Before, Silence::After, Silence::Unsent] {
         let mut lost: u64 = 0;
         for exchange in 0..whole.noted {
             let slow = silent_at(exchange, 5, silence);
-            if serve(alloc, spec_of(which), most, slow)?.lost != 0 {
+            if serve(alloc, spec_of(which), way, slow)?.lost != 0 {
                 return Err("a slow controller was given up".into());
             }
             let silent = silent_at(exchange, u64::MAX, silence);
-            if serve(alloc, spec_of(which), most, silent)?.lost > 0 {
+            if serve(alloc, spec_of(which), way, silent)?.lost > 0 {
                 lost = lost.saturating_add(1);
             }
         }
@@ -244,8 +299,8 @@ fn silence_each(alloc: Global, which: Which, most: Lines) -> Result<(), Fail> {
 
 // At each exchange once a block is damaged or lost, and the controller's error comes a look after it has shown the block, or with the
 // next one.
-fn fail_each_late(alloc: Global, which: Which, most: Lines) -> Result<(), Fail> {
-    let whole = serve(alloc, spec_of(which), most, no_trouble())?;
+fn fail_each_late(alloc: Global, which: Which, way: Way) -> Result<(), Fail> {
+    let whole = serve(alloc, spec_of(which), way, no_trouble())?;
     for exchange in 0..whole.exchanges {
         for fault in FAULTS {
             let trouble = Trouble {
@@ -256,7 +311,7 @@ fn fail_each_late(alloc: Global, which: Which, most: Lines) -> Result<(), Fail> 
                     has_late_errors: true,
                 },
             };
-            serve(alloc, spec_of(which), most, trouble)?;
+            serve(alloc, spec_of(which), way, trouble)?;
         }
     }
     Ok(())
@@ -287,9 +342,9 @@ fn each_exchange_fails_on_a_strict_controller(rt: HostRuntime) -> Result<(), Fai
     for timing in [Timing::Default, Timing::High] {
         for width in [Width::One, Width::Four, Width::Eight] {
             let most = Lines { width, timing };
-            let mmc = fail_each(rt.alloc(), Which::Mmc, most)?;
+            let mmc = fail_each(rt.alloc(), Which::Mmc, Way::Port(most))?.lines;
             assert!(rt; mmc == most);
-            let sd = fail_each(rt.alloc(), Which::Sd, most)?;
+            let sd = fail_each(rt.alloc(), Which::Sd, Way::Port(most))?.lines;
             assert!(rt; sd.width == width.fewer(Width::Four));
         }
     }
@@ -303,26 +358,69 @@ fn each_exchange_is_silent_on_a_strict_controller(rt: HostRuntime) -> Result<(),
         timing: Timing::Default,
     };
     for most in [one, Lines::all()] {
-        silence_each(rt.alloc(), Which::Mmc, most)?;
-        silence_each(rt.alloc(), Which::Sd, most)?;
+        silence_each(rt.alloc(), Which::Mmc, Way::Port(most))?;
+        silence_each(rt.alloc(), Which::Sd, Way::Port(most))?;
     }
     Ok(())
 }
 
 #[test]
 fn errors_come_late_on_a_strict_controller(rt: HostRuntime) -> Result<(), Fail> {
-    fail_each_late(rt.alloc(), Which::Mmc, Lines::all())?;
-    fail_each_late(rt.alloc(), Which::Sd, Lines::all())
+    let way = Way::Port(Lines::all());
+    fail_each_late(rt.alloc(), Which::Mmc, way)?;
+    fail_each_late(rt.alloc(), Which::Sd, way)
 }
 
 #[test]
 fn serves_cards_on_a_strict_controller(rt: HostRuntime) -> Result<(), Fail> {
-    let most = Lines::all();
-    let open_ended = serve(rt.alloc(), sdsc(), most, no_trouble())?;
+    let way = Way::Port(Lines::all());
+    let open_ended = serve(rt.alloc(), sdsc(), way, no_trouble())?;
     assert!(rt; open_ended.lines.timing == Timing::Default);
-    let four = serve(rt.alloc(), sdhc(), most, no_trouble())?;
+    let four = serve(rt.alloc(), sdhc(), way, no_trouble())?;
     assert!(rt; four.lines.timing == Timing::High);
-    let eight = serve(rt.alloc(), emmc(), most, no_trouble())?;
+    let eight = serve(rt.alloc(), emmc(), way, no_trouble())?;
     assert!(rt; eight.lines.width == Width::Eight);
+    Ok(())
+}
+
+#[test]
+fn each_exchange_fails_where_the_controller_moves_the_blocks(rt: HostRuntime) -> Result<(), Fail> {
+    for which in [Which::Mmc, Which::Sd] {
+        let whole = fail_each(rt.alloc(), which, Way::Dma)?;
+        assert_eq!(rt; whole.moved, 4);
+    }
+    Ok(())
+}
+
+#[test]
+fn each_exchange_is_silent_where_the_controller_moves_the_blocks(
+    rt: HostRuntime,
+) -> Result<(), Fail> {
+    silence_each(rt.alloc(), Which::Mmc, Way::Dma)?;
+    silence_each(rt.alloc(), Which::Sd, Way::Dma)
+}
+
+// Runs of 1 to 16 sectors are written and read back. The answer is how many blocks were moved by DMA.
+fn move_runs(alloc: Global, spec: CardSpec) -> Result<u64, Fail> {
+    let card = SimCard::build(alloc, spec).ok().ok_or("no card")?;
+    let bus = driven(card, WITH_ADMA2, Manner::default()).ok_or("no driver")?;
+    let mut device = BlockDev::open(alloc, bus).ok().ok_or("no device")?;
+    for count in 1..17 {
+        submit(alloc, &mut device, count, count)?;
+        let answers = device.run(alloc)?;
+        if !is_served(answers.as_slice(), count as usize, count) {
+            return Err("not served".into());
+        }
+    }
+    let bus = device.close();
+    check(&bus)?;
+    Ok(bus.host().registers().moved())
+}
+
+#[test]
+fn runs_are_moved_by_dma(rt: HostRuntime) -> Result<(), Fail> {
+    // Each run twice, and 1 + 2 + .. + 16 is 136.
+    assert_eq!(rt; move_runs(rt.alloc(), sdhc())?, 272);
+    assert_eq!(rt; move_runs(rt.alloc(), emmc())?, 272);
     Ok(())
 }

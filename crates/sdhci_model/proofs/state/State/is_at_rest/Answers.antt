@@ -6,4 +6,4 @@ pub returns : goal.returns
 returns c outcome =
     c.is_still.ensures outcome
     ∙ sym (rest_of outcome c.args.self.now (sym c.is_some.ensures ∙ c.if-is_some.false) c.if-self.false c.if-self-2.false
-    c.if-self-3.false (omega arith))
+    c.if-self-3.false (omega arith) c.if-self-4.false)

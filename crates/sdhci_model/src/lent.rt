@@ -1,0 +1,195 @@
+// Memory that is lent to the controller, and its ADMA2 (SD Host Controller Simplified Specification 3.00, section 1.13).
+ghost use Rattle.std.specs.Prelude.{[], ◌<◌, ◌≡◌, ◌≤◌, IfSome, List, None, Some, false, length, slice_index_or, true, ℕ};
+ghost use Rattle.mmc_host.specs.declared.data.Data.TheVariants as Data;
+ghost use Rattle.mmc_sdhci.specs.Lending.{Fits, unlent};
+ghost use Rattle.mmc_sdhci.specs.Lent.{Come, Room, ToGo};
+ghost use Rattle.sdhci_model.specs.Moves.{ChangesTo, LendsFrom, WritesTo};
+ghost use Rattle.sdhci_model.specs.Shown.{lent_in, to_go};
+
+use crate::state::State;
+use crate::tables::names_just;
+use arrayvec::ArrayVec;
+use mmc_bus::Blocks;
+use mmc_host::Data;
+
+/// So many blocks are lent at most.
+pub const MOST_BLOCKS: usize = 16;
+
+/// Blocks of 512 bytes in memory that is lent.
+pub type Memory = ArrayVec<[u8; 512], MOST_BLOCKS>;
+
+// The bus address of the memory, and that of the table, which are never elsewhere.
+const START: u32 = 0x1000_0000;
+
+const TABLE: u32 = 0x2000_0000;
+
+/// Memory that is lent.
+#[derive(Drop)]
+pub enum Loan {
+    Nothing,
+    /// Room for so many blocks.
+    Room(usize),
+    /// The blocks that have come.
+    Come(Memory),
+    /// The blocks that are to go.
+    ToGo(Memory),
+}
+
+impl Loan {
+    // How many bytes.
+    fn size(&self) -> usize
+        ensures { result ≤ 8192 }
+    {
+        match self {
+            Loan::Nothing => 0,
+            Loan::Room(room) => (*room).min(MOST_BLOCKS) * 512,
+            Loan::Come(blocks) | Loan::ToGo(blocks) => blocks.len() * 512,
+        }
+    }
+}
+
+// A copy of a block, whose length the proofs know.
+fn copied(block: &[u8; 512]) -> [u8; 512]
+    ensures same { result ≡ block.now }
+    ensures long { length result ≡ 512 }
+{
+    *block
+}
+
+// Copies of these blocks.
+fn copies<D: Blocks>(blocks: &D) -> Memory
+    requires { length (D.blocks blocks.now) ≤ 16 }
+    ensures { result.items ≡ D.blocks blocks.now }
+{
+    let mut memory = Memory::new();
+    for i in 0..blocks.len() {
+        memory.push(*blocks.block(i));
+    }
+    memory
+}
+
+impl State {
+    // Whether memory for so many blocks can be lent: there is ADMA2, and nothing is at work or lent.
+    fn can_lend(&self, count: usize) -> bool {
+        let has_adma2 = self.capabilities / 0x8_0000 % 2 == 1;
+        let is_free = matches!(self.loan, Loan::Nothing);
+        has_adma2 && is_free && self.is_at_rest() && count >= 1 && count <= MOST_BLOCKS
+    }
+
+    /// Lends room for so many blocks of 512 bytes.
+    pub fn lend_room(&mut self, count: usize) -> Option<u32>
+        ensures lends { LendsFrom self.old (Room count) result self.new }
+        ensures fits { Fits result count }
+    {
+        if count > MOST_BLOCKS || !self.can_lend(count) {
+            return None;
+        }
+        self.loan = Loan::Room(count);
+        self.table = None;
+        Some(START)
+    }
+
+    /// Lends these blocks.
+    pub fn lend_blocks<D: Blocks>(&mut self, blocks: &D) -> Option<u32>
+        ensures lends { LendsFrom self.old (ToGo (D.blocks blocks.now)) result self.new }
+        ensures fits { Fits result (length (D.blocks blocks.now)) }
+    {
+        let count = blocks.len();
+        if count > MOST_BLOCKS || !self.can_lend(count) {
+            return None;
+        }
+        self.loan = Loan::ToGo(copies(blocks));
+        self.table = None;
+        Some(START)
+    }
+
+    /// Lends a descriptor table, which has to name just the memory that is lent.
+    pub fn lend_table(&mut self, table: &[[u8; 8]; 16]) -> Option<u32>
+        ensures { IfSome result (λ address. ChangesTo self.old
+            (λ view. record view { dma = record view.dma { table = Some address } }) self.new) }
+    {
+        if self.is_moving || !names_just(table, START, self.loan.size()) {
+            return None;
+        }
+        self.table = Some(TABLE);
+        Some(TABLE)
+    }
+
+    /// Fills a block with what has come into its place. It tells whether there is such a place.
+    pub fn fill(&self, index: usize, block: &mut [u8; 512]) -> bool
+        ensures filled { result ≡ true → (come : List (List ℕ)) → lent_in self.now.loan ≡ Some (Come come)
+            → block.new ≡ slice_index_or come index [] }
+        ensures whole { length block.new ≡ 512 }
+    {
+        match &self.loan {
+            Loan::Nothing | Loan::ToGo(_) => false,
+            Loan::Room(room) => index < *room,
+            Loan::Come(blocks) => {
+                if index >= blocks.len() {
+                    return false;
+                }
+                *block = copied(&blocks.as_slice()[index]);
+                true
+            }
+        }
+    }
+
+    /// How many blocks are to go.
+    pub fn count_to_go(&self) -> usize
+        ensures { result ≡ length (to_go self.now) }
+    {
+        match &self.loan {
+            Loan::ToGo(blocks) => blocks.len(),
+            Loan::Nothing | Loan::Room(_) | Loan::Come(_) => 0,
+        }
+    }
+
+    /// The block to go with this number.
+    pub fn block_to_go(&self, index: usize) -> [u8; 512]
+        requires { index < length (to_go self.now) }
+        ensures { result ≡ slice_index_or (to_go self.now) index [] }
+    {
+        match &self.loan {
+            Loan::ToGo(blocks) => copied(&blocks.as_slice()[index]),
+            Loan::Nothing | Loan::Room(_) | Loan::Come(_) => [0; 512],
+        }
+    }
+
+    /// Takes back what is lent. It tells whether something is.
+    pub fn take_back(&mut self) -> bool
+        ensures { result ≡ true → ChangesTo self.old (λ view. unlent view) self.new }
+    {
+        if matches!(self.loan, Loan::Nothing) || !self.is_at_rest() {
+            return false;
+        }
+        self.loan = Loan::Nothing;
+        self.table = None;
+        true
+    }
+
+    /// ADMA System Address is written.
+    pub fn set_address(&mut self, value: u32)
+        ensures { WritesTo self.old 0x58 value self.new }
+    {
+        self.address = value;
+    }
+
+    /// All blocks that were to come have come, with Transfer Complete.
+    pub fn end_read(&mut self, blocks: Memory)
+        ensures { self.new ≡ record self.old { status = 2; transfer = Data.Nothing; loan = Loan.Come blocks; is_moving = false } }
+    {
+        self.status = 2;
+        self.transfer = Data::Nothing;
+        self.loan = Loan::Come(blocks);
+        self.is_moving = false;
+    }
+
+    /// All blocks that were to go have gone, with Transfer Complete.
+    pub fn end_write(&mut self)
+        ensures { self.new ≡ record self.old { status = 2; transfer = Data.Nothing; is_moving = false } }
+    {
+        self.status = 2;
+        self.transfer = Data::Nothing;
+        self.is_moving = false;
+    }
+}
