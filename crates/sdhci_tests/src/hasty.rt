@@ -35,6 +35,10 @@ impl Registers for Hasty {
         self.model.write8(offset, value);
     }
 
+    fn lend_room(&mut self, count: usize) -> Option<u32> {
+        self.model.lend_room(count)
+    }
+
     fn lend_table(&mut self, table: &[[u8; 8]; 16]) -> u32 {
         self.model.lend_table(table)
     }

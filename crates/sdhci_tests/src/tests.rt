@@ -9,7 +9,7 @@ use mmc_card_sim::{CardSpec, Fault, Outcome, SimCard};
 use mmc_frame::commands::GO_IDLE_STATE;
 use mmc_frame::encode;
 use mmc_host::HostBus;
-use mmc_sdhci::Sdhci;
+use mmc_sdhci::{Registers, Sdhci};
 use sdhci_model::{Manner, Model, Silence, Silent, driver};
 use std::alloc::Global;
 use std::default::Default;
@@ -422,5 +422,37 @@ fn runs_are_moved_by_dma(rt: HostRuntime) -> Result<(), Fail> {
     // Each run twice, and 1 + 2 + .. + 16 is 136.
     assert_eq!(rt; move_runs(rt.alloc(), sdhc())?, 272);
     assert_eq!(rt; move_runs(rt.alloc(), emmc())?, 272);
+    Ok(())
+}
+
+// Whether a controller that was lent room for two blocks takes this for the first line of its table, after which there is none.
+fn takes(alloc: Global, line: [u8; 8]) -> Result<bool, Fail> {
+    let card = SimCard::build(alloc, sdsc()).ok().ok_or("no card")?;
+    let model = Model::new(over(card), WITH_ADMA2, 2, Manner::default());
+    let mut registers = Hasty { model, longest: 0 };
+    if registers.lend_room(2) != Some(0x1000_0000) {
+        return Err("no room".into());
+    }
+    let mut table = [[0; 8]; 16];
+    table[0] = line;
+    registers.lend_table(&table);
+    Ok(registers.model.is_sound())
+}
+
+#[test]
+fn a_table_names_just_what_is_lent(rt: HostRuntime) -> Result<(), Fail> {
+    // Valid, the last one, and Tran; 1,024 bytes at 1000_0000h.
+    assert!(rt; takes(rt.alloc(), [0x23, 0, 0, 4, 0, 0, 0, 0x10])?);
+    let others = [
+        [0x22, 0, 0, 4, 0, 0, 0, 0x10],
+        [0x21, 0, 0, 4, 0, 0, 0, 0x10],
+        [0x03, 0, 0, 4, 0, 0, 0, 0x10],
+        [0x23, 0, 0, 2, 0, 0, 0, 0x10],
+        [0x23, 0, 0, 4, 4, 0, 0, 0x10],
+        [0x23, 0, 0, 0, 0, 0, 0, 0x10],
+    ];
+    for line in others {
+        assert!(rt; !takes(rt.alloc(), line)?);
+    }
     Ok(())
 }
