@@ -10,6 +10,7 @@
 #include "trace.h"
 
 enum { CALLS = 10, LONGEST = 1030 };
+enum { IDLE_BITS = 0x47 }; /* 6 and 2 to 0 (SD Physical Layer 6.00, section 4.10.1) */
 enum way { BY_HOST, BY_TRANSFERS, BY_TRANSFERS_ALONE, BY_REGISTERS, BY_ONE_BLOCK, BY_PORT, BY_WORDS, BY_DMA, WAYS };
 
 static struct card card;
@@ -25,6 +26,8 @@ static uint32_t cid[4], csd[4], ocr, own_rca;
 static uint8_t scr[8], ext_csd[512], switch_status[64];
 static unsigned faults, garbled_registers, busy_rounds, busy_left;
 static int is_byte_addressed, is_old, is_locked, is_strict;
+/* Bits of a status that nobody judges are any. */
+static int has_idle_bits;
 /* How many looks at it find the card busy still, how many readings of registers find the same dead controller, and how many looks find
    neither a block in its buffer nor room for one. */
 static unsigned long stuck, dead, without_buffers;
@@ -220,6 +223,8 @@ static void as_drawn(const struct kelifandro_command *command, uint32_t response
         response[0] |= is_strict && one_in(3) ? 1u << 31 : 0;
         break;
     }
+    if (has_idle_bits && (command->response == KELIFANDRO_R1 || command->response == KELIFANDRO_R1B))
+        response[0] ^= any() & IDLE_BITS;
 }
 
 /* A response with one wrong thing: a bit, an error in the status, or all of it. */
@@ -428,6 +433,7 @@ static void begin(uint64_t seed)
     faults = rates[any() % 8];
     garbled_registers = one_in(4) ? rates[any() % 8] / 4 : 0;
     draw_card(is_emmc);
+    has_idle_bits = seed % 6 == 5;
     begin_way(way);
     memset(&sd, 0, sizeof sd);
     if (way >= BY_REGISTERS)
