@@ -97,7 +97,8 @@ fn is_all(bytes: &[u8], byte: u8) -> bool {
 }
 
 // The write was done, and what was written was read: so many sectors of this byte.
-fn is_served(answers: &[Completion], count: usize, byte: u8) -> bool {
+fn is_served(answers: &[Completion], count: u8, byte: u8) -> bool {
+    let size = 512 * usize::from(count);
     match answers {
         [
             Completion {
@@ -108,7 +109,7 @@ fn is_served(answers: &[Completion], count: usize, byte: u8) -> bool {
                 answer: Answer::Data(bytes),
                 ..
             },
-        ] => bytes.as_slice().len() == count * 512 && is_all(bytes.as_slice(), byte),
+        ] => bytes.as_slice().len() == size && is_all(bytes.as_slice(), byte),
         _ => false,
     }
 }
@@ -408,7 +409,7 @@ fn move_runs(alloc: Global, spec: CardSpec) -> Result<u64, Fail> {
     for count in 1..17 {
         submit(alloc, &mut device, count, count)?;
         let answers = device.run(alloc)?;
-        if !is_served(answers.as_slice(), count as usize, count) {
+        if !is_served(answers.as_slice(), count, count) {
             return Err("not served".into());
         }
     }
