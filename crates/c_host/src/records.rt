@@ -1,4 +1,4 @@
-// The records that go to C: the first byte says what is asked; numbers are little endian. And what its answers mean.
+// The records that go to C, by their first bytes, and what its answers mean. Numbers are little endian.
 ghost use Rattle.std.specs.Prelude.{◌≡◌, ◌≤◌, length, true, ℕ};
 ghost use Rattle.std.specs.Int.{from_le_bytes};
 ghost use Rattle.c_host.specs.Records.{command_record, count_number, data_number, failed_by, fault_by, good_by};
@@ -14,22 +14,31 @@ use mmc_bus::Moved;
 use mmc_card::{DataIn, DataOut, Timing, Width};
 use mmc_host::{Data, Heard, HostCommand, Ios, Response, ResponseFault};
 
+// A command goes out, and its response comes.
 const SEND: u8 = 1;
 
+/// DAT0 is looked at.
 pub const LOOK: u8 = 4;
 
+// Lines, timing and clock are set.
 const SET_IOS: u8 = 5;
 
+/// So many microseconds pass.
 pub const PAUSE: u8 = 6;
 
+/// What lines and timing the host has is asked.
 pub const LIMITS: u8 = 7;
 
+/// A register is read.
 pub const READ_REGISTER: u8 = 8;
 
+/// A register is written.
 pub const WRITE_REGISTER: u8 = 9;
 
+/// A command goes out, and the blocks after it are read.
 pub const READ_WITH: u8 = 10;
 
+/// A command goes out, and the blocks after it are written.
 pub const WRITE_WITH: u8 = 11;
 
 /// Memory is wanted for DMA, to be read into.
@@ -38,8 +47,10 @@ pub const LEND_ROOM: u8 = 14;
 /// The same to be written.
 pub const LEND_BLOCKS: u8 = 15;
 
+/// What has come into the room that was lent is wanted.
 pub const TAKE_PLACES: u8 = 16;
 
+/// What was lent is taken back.
 pub const TAKE_BACK: u8 = 17;
 
 // The kind of a response, as a number for C.
