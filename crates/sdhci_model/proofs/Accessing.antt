@@ -4,7 +4,7 @@ use Rattle.std.specs.Prelude.{◌&&◌, if◌then◌else◌, is_none, is_some, l
 use Rattle.std.proofs.lemmas.Bool.{false≢true}
 use Rattle.mmc_host.specs.declared.data.Data.{Data}
 use Rattle.mmc_card.specs.declared.exchange.DataIn.TheVariants as Came
-use Rattle.mmc_sdhci.specs.Accesses.{Does8, DropsBy, Shows, is_at_rest, may_write, may_write8}
+use Rattle.mmc_sdhci.specs.Accesses.{Does8, DropsBy, Shows, is_at_rest}
 use Rattle.mmc_sdhci.specs.CommandLooks.{Dropped}
 use Rattle.mmc_sdhci.specs.Controller.{ControllerView, Settled, is_still, seen}
 use Rattle.mmc_sdhci.specs.DataLooks.{DataDropped, cleared, is_empty}
@@ -98,12 +98,3 @@ rest_of outcome s runs stuck stale unjudged empty moves =
     ∙ (ap (λ (b : Bool). is_none (unjudged_in b s.block.items) && (is_empty s.outgoing.items && still)) unjudged
     ∙ (ap (λ (b : Bool). b && still) (sym (none_left s.outgoing.items empty))
     ∙ (ap (λ (b : Bool). is_still (shown outcome s) && not b) moves ∙ and_true (is_still (shown outcome s)))))))
-
--- The judge.
-pub at_offset : (view : ControllerView) (offset at value : ℕ) (may : Bool) → offset ≡ at → may ≡ may_write view at value
-    → may ≡ may_write view offset value
-at_offset view offset at value may is judged = judged ∙ ap (λ n. may_write view n value) (sym is)
-
-pub at_offset8 : (view : ControllerView) (offset at value : ℕ) (may : Bool) → offset ≡ at → may ≡ may_write8 view at value
-    → may ≡ may_write8 view offset value
-at_offset8 view offset at value may is judged = judged ∙ ap (λ n. may_write8 view n value) (sym is)
