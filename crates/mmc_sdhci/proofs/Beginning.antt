@@ -1,8 +1,8 @@
 -- A command begins: its registers say what was asked for.
-use Rattle.std.proofs.Common.{◌%◌, ◌*◌, ◌+◌, ◌-◌, ◌/◌, ◌<◌, ◌∙◌, ◌≡◌, ◌≤◌, Bool, Some, ap, arith, bit_and, false, inl, inr, refl, rules, suc, sym, true, zero, ℕ}
-use Rattle.std.proofs.lemmas.Bool.{eq-eqb, eqb-true, false≢true, lt-ltb}
+use Rattle.std.proofs.Common.{◌%◌, ◌*◌, ◌+◌, ◌-◌, ◌/◌, ◌<◌, ◌∙◌, ◌≡◌, ◌≤◌, Bool, None, Some, ap, arith, bit_and, false, inl, inr, refl, rules, suc, sym, true, zero, ℕ}
+use Rattle.std.proofs.lemmas.Bool.{eq-eqb, eqb-true, false≢true}
 use Rattle.std.proofs.lemmas.Nat.{and_assoc}
-use Rattle.std.specs.Prelude.{◌&&◌, ◌==◌, ◌||◌, if◌then◌else◌, is_none, nat_lt, not}
+use Rattle.std.specs.Prelude.{◌&&◌, ◌==◌, ◌||◌, if◌then◌else◌, is_none, not}
 use Rattle.mmc_frame.specs.Field.{field}
 use Rattle.mmc_frame.specs.declared.commands.TheConstants as Index
 use Rattle.mmc_host.specs.HostStates.{AreMovable, IsFree}
@@ -83,21 +83,21 @@ small_bit By.Controller = omega arith
 
 -- one block, or several that are counted
 asked_to_read : (size count i f d : ℕ) (one : Bool) → d ≤ 1 → (count == 1) ≡ one → size ≤ 512 → count < 0x10000 → f / 32 % 2 ≡ 1
-    → data_asked (size + 0x10000 * count) (word i f (0x10 + (if one then 0 else 0x22) + d)) ≡ Data.Read size count
+    → data_asked (size + 0x7000 + 0x10000 * count) (word i f (0x10 + (if one then 0 else 0x22) + d)) ≡ Data.Read size count
 asked_to_read size count i f d true low single short few is =
-    by_bits _ i f (0x10 + d) (size + 0x10000 * count) 1 1 0 size count is (omega (arith, low)) (omega (arith, low)) (omega (arith, short))
+    by_bits _ i f (0x10 + d) (size + 0x7000 + 0x10000 * count) 1 1 0 size count is (omega (arith, low)) (omega (arith, low)) (omega (arith, short))
     (omega (arith, short, few)) (omega (arith, low)) (ap (λ n. Data.Read size n) (sym (eqb-true count 1 single)))
 asked_to_read size count i f d false low several short few is =
-    by_bits _ i f (0x32 + d) (size + 0x10000 * count) 1 1 1 size count is (omega (arith, low)) (omega (arith, low)) (omega (arith, short))
+    by_bits _ i f (0x32 + d) (size + 0x7000 + 0x10000 * count) 1 1 1 size count is (omega (arith, low)) (omega (arith, low)) (omega (arith, short))
     (omega (arith, short, few)) (omega (arith, low)) refl
 
 asked_to_write : (count i f d : ℕ) (one : Bool) → d ≤ 1 → (count == 1) ≡ one → count < 0x10000 → f / 32 % 2 ≡ 1
-    → data_asked (512 + 0x10000 * count) (word i f ((if one then 0 else 0x22) + d)) ≡ Data.Write count
+    → data_asked (0x7200 + 0x10000 * count) (word i f ((if one then 0 else 0x22) + d)) ≡ Data.Write count
 asked_to_write count i f d true low single few is =
-    by_bits _ i f (0 + d) (512 + 0x10000 * count) 1 0 0 512 count is (omega (arith, low)) (omega (arith, low)) (omega arith)
+    by_bits _ i f (0 + d) (0x7200 + 0x10000 * count) 1 0 0 512 count is (omega (arith, low)) (omega (arith, low)) (omega arith)
     (omega (arith, few)) (omega (arith, low)) (ap (λ n. Data.Write n) (sym (eqb-true count 1 single)))
 asked_to_write count i f d false low several few is =
-    by_bits _ i f (0x22 + d) (512 + 0x10000 * count) 1 0 1 512 count is (omega (arith, low)) (omega (arith, low)) (omega arith)
+    by_bits _ i f (0x22 + d) (0x7200 + 0x10000 * count) 1 0 1 512 count is (omega (arith, low)) (omega (arith, low)) (omega arith)
     (omega (arith, few)) (omega (arith, low)) refl
 
 no_bits : (n : ℕ) → bit_and n 0 ≡ 0
@@ -125,7 +125,7 @@ running view argument index byte transfer moving =
     record view {
       running = Some (record { index = index; argument = argument; flags = byte; transfer = transfer });
       is_stale = view.is_stale || has_data view.transfer;
-      dma = record view.dma { is_moving = moving };
+      dma = record view.dma { sdma_address = None; is_moving = moving };
     }
 
 -- where data is asked for none is under way
@@ -402,17 +402,18 @@ may_argue v1 v2 command rests sets kept =
     let s = sets kept in
     ap (λ (v : ControllerView). is_none v.running) s.1 ∙ is_running_none v1 (rests s.0)
 
-small_sizes : (t : Data) → AreMovable t → field 15 0 (sizes_of t) < 0x1000
-small_sizes Data.Nothing movable = omega arith
-small_sizes (Data.Read size count) movable = omega (arith, movable.0.0)
-small_sizes (Data.Write count) movable = omega arith
+-- SDMA stops at each 512 KiB
+stops_late : (t : Data) → has_data t ≡ true → AreMovable t → field 15 12 (sizes_of t) ≡ 7
+stops_late Data.Nothing some movable = absurd (false≢true some)
+stops_late (Data.Read size count) some movable = omega (arith, movable.0.0)
+stops_late (Data.Write count) some movable = omega arith
 
 pub may_size : (view : ControllerView) (transfer : Data) (sizes : ℕ) → IsAtRest view → AreMovable transfer → IsIdleFor view transfer
     → has_data transfer ≡ true → sizes ≡ sizes_of transfer → IsAllowed view 0x04 sizes
 may_size view transfer sizes rests movable idle some is kept =
-    ap (λ (b : Bool). b && not (has_data view.transfer) && nat_lt (field 15 0 sizes) 0x1000) (is_running_none view (rests kept))
-    ∙ (ap (λ (b : Bool). not b && nat_lt (field 15 0 sizes) 0x1000) (idle kept some)
-    ∙ (ap (λ n. nat_lt (field 15 0 n) 0x1000) is ∙ lt-ltb _ 0x1000 (small_sizes transfer movable)))
+    ap (λ (b : Bool). b && not (has_data view.transfer) && (field 15 12 sizes == 7)) (is_running_none view (rests kept))
+    ∙ (ap (λ (b : Bool). not b && (field 15 12 sizes == 7)) (idle kept some)
+    ∙ (ap (λ n. field 15 12 n == 7) is ∙ eq-eqb _ 7 (stops_late transfer some movable)))
 
 pub sizes_set : (v0 v1 : ControllerView) (transfer : Data) (sizes : ℕ) → has_data transfer ≡ true → sizes ≡ sizes_of transfer
     → Writes v0 0x04 sizes v1 → SetsSizes v0 transfer v1

@@ -1,5 +1,5 @@
 -- Lines within Capabilities.
-use Rattle.std.proofs.Common.{◌≡◌, ◌≤◌, ◌∙◌, Bool, ap, arith, false, refl, true, ℕ}
+use Rattle.std.proofs.Common.{◌≡◌, ◌≤◌, ◌∙◌, Bool, Some, ap, arith, false, refl, true, ℕ}
 use Rattle.std.specs.Prelude.{◌&&◌, ◌==◌, ◌||◌, bit_and, if◌then◌else◌, is_none, not}
 use Rattle.std.proofs.lemmas.Bool.{eq-eqb}
 use Rattle.mmc_frame.specs.Field.{field}
@@ -9,8 +9,12 @@ use Rattle.mmc_card.specs.declared.exchange.Width.TheVariants.{Eight, Four, One}
 use Rattle.mmc_host.specs.Hosts.{IsWithin, lines_number}
 use Rattle.mmc_host.specs.declared.data.Data.{Data}
 use Rattle.mmc_sdhci.specs.Accesses.{is_able, is_at_rest, is_selected, may_write8}
+use Rattle.mmc_sdhci.specs.Commands.{selection}
 use Rattle.mmc_sdhci.specs.Controller.{ControllerView, has_data, is_settled, is_still, limits_in, lines_in}
 use Rattle.mmc_sdhci.specs.DataLooks.{is_empty}
+use Rattle.mmc_sdhci.specs.Finishing.{Reaches}
+use Rattle.mmc_sdhci.specs.declared.dma.Dma.{Dma}
+use Rattle.mmc_sdhci.specs.declared.dma.Dma.TheVariants as Way
 use Rattle.mmc_sdhci.proofs.Blocks.{both}
 
 or_last : (b : Bool) → (b || true) ≡ true
@@ -65,15 +69,24 @@ fits view control =
     (bit_and control 0x3e == control)
     && (is_able view.built.capabilities view.settings.control control && is_selected view.built.capabilities control)
 
+abbrev selected : ℕ → ℕ → ℕ → Bool
+selected way adma wide = (way == 0) || ((adma == 1) && ((way == 2) || ((way == 3) && (wide == 1))))
+
 -- the Buffer Data Port is always there
 pub selects_port : (capabilities control : ℕ) → field 4 3 control ≡ 0 → is_selected capabilities control ≡ true
 selects_port capabilities control none =
-    ap (λ n. (n == 0) || ((n == 2) && (field 19 19 capabilities == 1))) none
+    ap (λ n. selected n (field 19 19 capabilities) (field 28 28 capabilities)) none
 
-pub selects_memory : (capabilities control : ℕ) → field 4 3 control ≡ 2 → field 19 19 capabilities ≡ 1
-    → is_selected capabilities control ≡ true
-selects_memory capabilities control two can =
-    ap (λ n. (n == 0) || ((n == 2) && (field 19 19 capabilities == 1))) two ∙ ap (λ n. n == 1) can
+-- and so is a way that reaches some memory
+pub selects_memory : (capabilities control start size : ℕ) (dma : Dma) → field 4 3 control ≡ selection (Some dma)
+    → Reaches capabilities dma start size → is_selected capabilities control ≡ true
+selects_memory capabilities control start size Way.Sdma is reaches = selects_port capabilities control is
+selects_memory capabilities control start size Way.Adma32 is reaches =
+    ap (λ n. selected n (field 19 19 capabilities) (field 28 28 capabilities)) is
+    ∙ ap (λ n. selected 2 n (field 28 28 capabilities)) reaches.0
+selects_memory capabilities control start size Way.Adma64 is reaches =
+    ap (λ n. selected n (field 19 19 capabilities) (field 28 28 capabilities)) is
+    ∙ (ap (λ n. selected 3 n (field 28 28 capabilities)) reaches.0 ∙ ap (λ n. selected 3 1 n) reaches.1.0)
 
 -- Host Control 1 is written at rest, where no data is under way.
 pub may_set : (view : ControllerView) (control : ℕ) → is_at_rest view ≡ true → view.transfer ≡ Data.Nothing
@@ -100,10 +113,11 @@ may_control view control rests idle alone port within =
     may_set view control rests idle alone (able control view.settings.control view.built.capabilities within)
     (selects_port view.built.capabilities control port)
 
--- those that are set, with ADMA2
-pub may_select : (view : ControllerView) (control : ℕ) → is_at_rest view ≡ true → view.transfer ≡ Data.Nothing
-    → bit_and control 0x3e ≡ control → field 4 3 control ≡ 2 → field 19 19 view.built.capabilities ≡ 1
-    → lines_in control ≡ lines_in view.settings.control → may_write8 view 0x28 control ≡ true
-may_select view control rests idle alone moves can same =
+-- those that are set, with DMA
+pub may_select : (view : ControllerView) (control start size : ℕ) (dma : Dma) → is_at_rest view ≡ true → view.transfer ≡ Data.Nothing
+    → bit_and control 0x3e ≡ control → field 4 3 control ≡ selection (Some dma)
+    → Reaches view.built.capabilities dma start size → lines_in control ≡ lines_in view.settings.control
+    → may_write8 view 0x28 control ≡ true
+may_select view control start size dma rests idle alone moves reaches same =
     may_set view control rests idle alone (able_again control view.settings.control view.built.capabilities same)
-    (selects_memory view.built.capabilities control moves can)
+    (selects_memory view.built.capabilities control start size dma moves reaches)

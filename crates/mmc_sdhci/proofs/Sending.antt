@@ -61,7 +61,7 @@ record IsLost (old : ControllerView) (command : HostCommand) (mover : Mover) (ne
   transfer : new.transfer ≡ Data.Nothing
   settings : new.settings ≡ old.settings
   built : new.built ≡ old.built
-  dma : new.dma ≡ record old.dma { is_moving = moves mover }
+  dma : new.dma ≡ record old.dma { sdma_address = None; is_moving = moves mover }
 
 lost_by : (v0 v2 v3 : ControllerView) (status : ℕ) (command : HostCommand) (mover : Mover) (bits : ℕ)
     → (bits % 2 ≡ 0) ⊎ (bits / 0x10000 % 16 ≡ 0 → ⊥) → Look (begun v0 status command mover) (run_of command) bits v2 → Dropped v2 v2.running v3 → IsLost v0 command mover v3
@@ -195,7 +195,7 @@ record IsOver (old : ControllerView) (mover : Mover) (new : ControllerView) : Ty
   outgoing : new.outgoing ≡ old.outgoing
   resetting : new.resetting ≡ old.resetting
   settings : new.settings ≡ old.settings
-  dma : new.dma ≡ record old.dma { is_moving = moves mover }
+  dma : new.dma ≡ record old.dma { sdma_address = None; is_moving = moves mover }
 
 over_by : (v0 v2 v3 : ControllerView) (status : ℕ) (command : HostCommand) (mover : Mover) (bits : ℕ) → (bits % 2 ≡ 0 → ⊥)
     → bits / 0x10000 % 16 ≡ 0 → Look (begun v0 status command mover) (run_of command) bits v2 → v3 ≡ v2 → IsOver v0 mover v3
@@ -278,7 +278,7 @@ pub heard_lent : (v0 v1 v2 v3 : ControllerView) (command : HostCommand) (mover :
     → Tells v2 command.response heard v3 → KeepsLent v0 (is_moved_by mover (Ok heard)) v3
 heard_lent v0 v1 v2 v3 command mover bits heard over fine begins ends tells kept =
     let o = heard_over v0 v1 v2 v3 command mover bits heard over fine begins ends tells kept in
-    (o.0, o.1.dma ∙ ap (λ (b : Bool). record v0.dma { is_moving = b }) (by_mover mover heard))
+    (o.0, o.1.dma ∙ ap (λ (b : Bool). record v0.dma { sdma_address = None; is_moving = b }) (by_mover mover heard))
 
 -- What was under way is dropped, and all is at rest.
 rests_dropped : (v3 v4 : ControllerView) → v4 ≡ cleared v3 → is_at_rest v4 ≡ true → is_at_rest (unmoved v4) ≡ true
@@ -325,7 +325,7 @@ dropped_lent v0 v1 v2 v3 v4 under_way command mover bits heard over fine some is
       s.0,
       ap (λ (v : ControllerView). v.dma) d
           ∙ (ap (λ (m : Dma). record m { is_moving = false }) o.1.dma
-          ∙ ap (λ (b : Bool). record v0.dma { is_moving = b })
+          ∙ ap (λ (b : Bool). record v0.dma { sdma_address = None; is_moving = b })
           (sym (driver_moves mover v0 command.transfer under_way heard s.0 can (is s.0) some))),
     )
 
@@ -356,5 +356,5 @@ lost_lent v0 v1 v2 v3 v4 command mover bits fault why begins ends resets clears 
       e.0,
       ap (λ (v : ControllerView). v.dma) (all_cleared v3 v4 l.transfer c.1)
           ∙ (ap (λ (m : Dma). record m { is_moving = false }) l.dma
-          ∙ ap (λ (b : Bool). record v0.dma { is_moving = b }) (sym (not_moved mover fault))),
+          ∙ ap (λ (b : Bool). record v0.dma { sdma_address = None; is_moving = b }) (sym (not_moved mover fault))),
     )

@@ -11,7 +11,7 @@ use Rattle.mmc_sdhci.specs.Controller.{has_data, is_enough, is_set, is_settled, 
 use Rattle.mmc_sdhci.specs.CommandLooks.{Dropped, Look, data_asked, of_a_command, word}
 use Rattle.mmc_sdhci.specs.DataLooks.{DataDropped, DataLooked, is_empty}
 use Rattle.mmc_sdhci.specs.DmaLooks.{MovingDropped, MovingLooked}
-use Rattle.mmc_sdhci.specs.Lent.{is_lent_for, is_pointed}
+use Rattle.mmc_sdhci.specs.Lent.{crosses_none, is_lent_for, is_pointed, size_of}
 
 -- The internal clock is set anew where it is on and the card's isn't.
 abbrev pub stabilizing_from : Option ℕ → ℕ → Option ℕ
@@ -26,7 +26,8 @@ starting_anew (Some waited) = Some 0
 -- the registers after a write of 32 bits
 abbrev pub written : ControllerView → ℕ → ℕ → ControllerView
 written old offset value =
-    if offset == 0x04 then record old { sizes = value }
+    if offset == 0x00 then record old { dma = record old.dma { sdma_address = Some value } }
+    else (if offset == 0x04 then record old { sizes = value }
     else (if offset == 0x08 then record old { argument = value }
     else (if offset == 0x0c then
     record old {
@@ -37,7 +38,7 @@ written old offset value =
         transfer = data_asked old.sizes value;
       });
       is_stale = old.is_stale || has_data old.transfer;
-      dma = record old.dma { is_moving = field 0 0 value == 1 };
+      dma = record old.dma { sdma_address = None; is_moving = field 0 0 value == 1 };
     }
     else (if offset == 0x20 then record old { outgoing = old.outgoing ++ to_le_bytes w32 value; is_ready = false }
     else (if offset == 0x2c then
@@ -51,7 +52,8 @@ written old offset value =
     }
     else (if offset == 0x30 then record old { status = bit_and old.status (0xffffffff - value) }
     else (if offset == 0x34 then record old { settings = record old.settings { shown = value } }
-    else (if offset == 0x58 then record old { dma = record old.dma { address = value } } else old)))))))
+    else (if offset == 0x58 then record old { dma = record old.dma { adma_address = value } }
+    else (if offset == 0x5c then record old { dma = record old.dma { adma_upper = value } } else old)))))))))
 
 -- no command runs, nothing is left of one that failed or of data that was broken off, nothing settles, the card has started, and no data
 -- is moved by DMA
@@ -93,12 +95,22 @@ is_clean view value =
 abbrev pub is_idle : ControllerView → Bool
 is_idle view = is_none view.running && not (has_data view.transfer)
 
--- What DMA wants (bit 0 of Transfer Mode): memory that is lent for just this data, with a table of it at ADMA System Address; ADMA2 with
--- addresses of 32 bits selected (28h: bits 4 and 3 are 10b), and its errors shown (36h, bit 9).
+-- What DMA wants (bit 0 of Transfer Mode): memory that is lent for just this data. SDMA (28h: bits 4 and 3 are 00b) has to be there
+-- (bit 22 of Capabilities), wants the memory at SDMA System Address, and none that it would stop in.
+abbrev pub is_sdma_set : ControllerView → Bool
+is_sdma_set view =
+    (field 22 22 view.built.capabilities == 1)
+    && (is_pointed view.dma.sdma_address view.dma.start && crosses_none view.dma.start (size_of view.dma.lent))
+
+-- ADMA2 by addresses of 32 bits (10b), or of 64 (11b), wants a table of it at ADMA System Address, and its errors shown (36h, bit 9).
+abbrev pub is_adma_set : ControllerView → Bool
+is_adma_set view =
+    (if field 4 3 view.settings.control == 2 then is_pointed view.dma.table view.dma.adma_address
+    else is_pointed view.dma.wide_table (view.dma.adma_address + 0x100000000 * view.dma.adma_upper))
+    && (field 25 25 view.settings.shown == 1)
+
 abbrev pub is_dma_set : ControllerView → Bool
-is_dma_set view =
-    is_pointed view.dma.table view.dma.address
-    && ((field 4 3 view.settings.control == 2) && (field 25 25 view.settings.shown == 1))
+is_dma_set view = if field 4 3 view.settings.control == 0 then is_sdma_set view else is_adma_set view
 
 abbrev pub can_move : ControllerView → Data → Bool
 can_move view transfer = is_lent_for view.dma.lent transfer && is_dma_set view
@@ -126,10 +138,11 @@ is_shown_set value = are_shown value && (bit_and value 0x027f003f == value)
 
 -- THE RULES for writes of 32 bits, register by register: no others are written. A command is begun at rest, once the card has started,
 -- with all set that it needs, and no old interrupt; no interrupt is cleared that wasn't judged; a word of a block is written where it
--- can be; none raises an interrupt of the processor.
+-- can be; none raises an interrupt of the processor. SDMA is to stop at multiples of 512 KiB alone (04h, bits 14 to 12 are 111b).
 abbrev pub may_write : ControllerView → ℕ → ℕ → Bool
 may_write view offset value =
-    if offset == 0x04 then is_idle view && nat_lt (field 15 0 value) 0x1000
+    if offset == 0x00 then is_idle view
+    else (if offset == 0x04 then is_idle view && (field 15 12 value == 7)
     else (if offset == 0x08 then is_none view.running
     else (if offset == 0x0c then
     is_at_rest view && (is_clean view value && (is_set view.settings && is_asked view value))
@@ -137,13 +150,14 @@ may_write view offset value =
     else (if offset == 0x2c then is_idle view && (is_settled view && is_clock view.settings value)
     else (if offset == 0x30 then can_clear view value
     else (if offset == 0x34 then is_idle view && is_shown_set value
-    else (if offset == 0x38 then value == 0 else (if offset == 0x58 then is_idle view else false))))))))
+    else (if offset == 0x38 then value == 0
+    else (if offset == 0x58 then is_idle view else (if offset == 0x5c then is_idle view else false))))))))))
 
 abbrev pub IsAllowed : ControllerView → ℕ → ℕ → Type 0
 IsAllowed view offset value = view.is_kept ≡ true → may_write view offset value ≡ true
 
 -- Host Control 1 asks for eight lines and for high speed only where Capabilities have them (bits 18 and 21), or where it did before, and
--- selects ADMA2 (bits 4 and 3) where they have that (bit 19), and otherwise nothing.
+-- selects ADMA2 (bits 4 and 3) where they have that (bit 19), by addresses of 64 bits where the system bus has so many (bit 28).
 abbrev pub is_able : ℕ → ℕ → ℕ → Bool
 is_able capabilities before control =
     (not (field 5 5 control == 1) || ((field 18 18 capabilities == 1) || (field 5 5 before == 1)))
@@ -151,7 +165,9 @@ is_able capabilities before control =
 
 abbrev pub is_selected : ℕ → ℕ → Bool
 is_selected capabilities control =
-    (field 4 3 control == 0) || ((field 4 3 control == 2) && (field 19 19 capabilities == 1))
+    (field 4 3 control == 0)
+    || ((field 19 19 capabilities == 1)
+    && ((field 4 3 control == 2) || ((field 4 3 control == 3) && (field 28 28 capabilities == 1))))
 
 -- And of 8 bits: lines, high speed and ADMA2 alone, as far as there are such (28h), 3.3 V (29h), and resets (2Fh) of the command line
 -- and of the data line. The whole controller is reset before the card has power, for the card loses it.
@@ -280,7 +296,7 @@ restarted view =
       status = 0;
       is_ready = false;
       incoming = [];
-      dma = record view.dma { address = 0 };
+      dma = record view.dma { sdma_address = None; adma_address = 0; adma_upper = 0 };
     }
 
 -- the data line is reset

@@ -1,5 +1,5 @@
 -- What the driver's functions leave.
-use Rattle.std.specs.Prelude.{◌%◌, ◌*◌, ◌+◌, ◌==◌, ◌||◌, ◌≡◌, Bool, Ok, Result, Some, bit_and, false, if◌then◌else◌, is_ok, true, ℕ}
+use Rattle.std.specs.Prelude.{◌%◌, ◌*◌, ◌+◌, ◌==◌, ◌||◌, ◌≡◌, Bool, None, Ok, Option, Result, Some, bit_and, false, if◌then◌else◌, is_ok, true, ℕ}
 use Rattle.mmc_card.specs.CardAnswer.{CardAnswer}
 use Rattle.mmc_frame.specs.Field.{field}
 use Rattle.mmc_frame.specs.declared.commands.TheConstants as Index
@@ -16,6 +16,8 @@ use Rattle.mmc_sdhci.specs.Controller.{ControllerView, Running, Settled, Steps}
 use Rattle.mmc_sdhci.specs.CommandLooks.{Dropped, IsShown, Look}
 use Rattle.mmc_sdhci.specs.Accesses.{Drops, can_move, is_at_rest}
 use Rattle.mmc_sdhci.specs.DataLooks.{any_bits}
+use Rattle.mmc_sdhci.specs.declared.dma.Dma.{Dma}
+use Rattle.mmc_sdhci.specs.declared.dma.Dma.TheVariants as Way
 use Rattle.mmc_sdhci.specs.declared.mover.Mover.{Mover}
 use Rattle.mmc_sdhci.specs.declared.mover.Mover.TheVariants as By
 use Rattle.mmc_sdhci.specs.Controller.{has_data, is_set, seen}
@@ -60,15 +62,18 @@ moves By.Controller = true
 abbrev pub dma_bit : Mover → ℕ
 dma_bit mover = if moves mover then 1 else 0
 
--- Host Control 1, bits 4 and 3: none, or ADMA2 with addresses of 32 bits
-abbrev pub selection : Mover → ℕ
-selection mover = if moves mover then 2 else 0
+-- Host Control 1, bits 4 and 3: SDMA or none, or ADMA2 with addresses of 32 or 64 bits
+abbrev pub selection : Option Dma → ℕ
+selection None = 0
+selection (Some Way.Sdma) = 0
+selection (Some Way.Adma32) = 2
+selection (Some Way.Adma64) = 3
 
--- Block Size, and Block Count above it
+-- Block Size, above it that SDMA stops at each 512 KiB, and Block Count
 abbrev pub sizes_of : Data → ℕ
 sizes_of Data.Nothing = 0
-sizes_of (Data.Read size blocks) = size + 0x10000 * blocks
-sizes_of (Data.Write blocks) = 512 + 0x10000 * blocks
+sizes_of (Data.Read size blocks) = size + 0x7000 + 0x10000 * blocks
+sizes_of (Data.Write blocks) = 0x7200 + 0x10000 * blocks
 
 -- they are set where there is data
 abbrev pub sizes_after : ℕ → Data → ℕ
@@ -99,7 +104,7 @@ begun view status command mover =
       argument = command.argument;
       running = Some (run_of command);
       is_stale = view.is_stale || has_data view.transfer;
-      dma = record view.dma { is_moving = moves mover };
+      dma = record view.dma { sdma_address = None; is_moving = moves mover };
     }
 
 abbrev pub Begins : ControllerView → HostCommand → Mover → ControllerView → Type 0
@@ -152,7 +157,7 @@ is_moved_by By.Driver heard = false
 is_moved_by By.Controller heard = is_ok heard
 
 abbrev pub KeepsLent : ControllerView → Bool → ControllerView → Type 0
-KeepsLent old moving new = Settled old (new.dma ≡ record old.dma { is_moving = moving }) new
+KeepsLent old moving new = Settled old (new.dma ≡ record old.dma { sdma_address = None; is_moving = moving }) new
 
 -- all is at rest but the data that is moved
 abbrev pub unmoved : ControllerView → ControllerView

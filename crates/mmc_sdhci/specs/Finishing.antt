@@ -1,5 +1,5 @@
 -- What the driver's functions leave, where the controller moves the data.
-use Rattle.std.specs.Prelude.{Err, None, Ok, Option, Result, Some, is_ok, true, ℕ, ◌≡◌}
+use Rattle.std.specs.Prelude.{Err, None, Ok, Option, Result, Some, is_ok, true, ℕ, ◌%◌, ◌+◌, ◌<◌, ◌^◌, ◌≡◌, ◌≤◌}
 use Rattle.mmc_frame.specs.Field.{field}
 use Rattle.mmc_bus.specs.declared.moved.Moved.{Moved}
 use Rattle.mmc_bus.specs.declared.moved.Moved.TheVariants as Move
@@ -13,12 +13,18 @@ use Rattle.mmc_host.specs.declared.told.ResponseFault.{ResponseFault}
 use Rattle.mmc_sdhci.specs.Accesses.{is_at_rest, is_dma_set}
 use Rattle.mmc_sdhci.specs.Commands.{KeepsLent, Sends}
 use Rattle.mmc_sdhci.specs.Controller.{ControllerView, Settled, has_data, is_set, lines_in, seen}
-use Rattle.mmc_sdhci.specs.Lent.{is_lent_for, size_of}
+use Rattle.mmc_sdhci.specs.Lent.{crosses_none, is_lent_for, size_of}
+use Rattle.mmc_sdhci.specs.declared.dma.Dma.{Dma}
+use Rattle.mmc_sdhci.specs.declared.dma.Dma.TheVariants as Way
 use Rattle.mmc_sdhci.specs.DmaLooks.{AllMoved, SomeMoved}
 
--- DMA can be had: ADMA2, bit 19 of Capabilities
-abbrev pub IsAbleToMove : ControllerView → Type 0
-IsAbleToMove view = view.is_kept ≡ true → field 19 19 view.built.capabilities ≡ 1
+-- Memory that a controller reaches: by SDMA (bit 22 of Capabilities) within 32 bits, where it crosses no multiple of 512 KiB; by ADMA2
+-- (bit 19) within 32 bits, or, where the system bus has 64 (bit 28), anywhere at a multiple of 8.
+abbrev pub Reaches : ℕ → Dma → ℕ → ℕ → Type 0
+Reaches capabilities Way.Sdma start size =
+    (field 22 22 capabilities ≡ 1) × ((start < 2 ^ 32) × (crosses_none start size ≡ true))
+Reaches capabilities Way.Adma32 start size = (field 19 19 capabilities ≡ 1) × (start + size ≤ 2 ^ 32)
+Reaches capabilities Way.Adma64 start size = (field 19 19 capabilities ≡ 1) × ((field 28 28 capabilities ≡ 1) × (start % 8 ≡ 0))
 
 -- between two commands, with no data under way
 abbrev pub IsFreeOf : ControllerView → Type 0
@@ -40,6 +46,16 @@ pub record Prepared (old new : ControllerView) : Type 0 where
 
 abbrev pub Prepares : ControllerView → ControllerView → Type 0
 Prepares old new = Settled old (Prepared old new) new
+
+-- A table of what is lent stands at this bus address.
+abbrev pub IsTabled : ControllerView → Dma → ℕ → Type 0
+IsTabled view Way.Sdma table = ⊥
+IsTabled view Way.Adma32 table = (view.dma.table ≡ Some table) × (table < 2 ^ 32)
+IsTabled view Way.Adma64 table = view.dma.wide_table ≡ Some table
+
+-- Capabilities are these
+abbrev pub AreCapabilities : ControllerView → ℕ → Type 0
+AreCapabilities view capabilities = view.is_kept ≡ true → view.built.capabilities ≡ capabilities
 
 -- data is moved
 abbrev pub IsMoving : ControllerView → Type 0

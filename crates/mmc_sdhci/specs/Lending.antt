@@ -1,8 +1,8 @@
 -- What a port does with memory that it lends to a controller, and takes back.
-use Rattle.std.specs.Prelude.{IfSome, List, None, Option, Some, [], false, length, slice_index_or, suc, true, zero, ℕ, ◌<◌, ◌%◌, ◌*◌, ◌+◌, ◌^◌, ◌≡◌, ◌≤◌}
+use Rattle.std.specs.Prelude.{Bool, IfSome, List, None, Option, Some, [], false, length, slice_index_or, suc, true, zero, ℕ, ◌<◌, ◌%◌, ◌*◌, ◌+◌, ◌^◌, ◌≡◌}
 use Rattle.mmc_sdhci.specs.Controller.{ControllerView, Settled}
 use Rattle.mmc_sdhci.specs.Lent.{Come, Lent, size_of}
-use Rattle.mmc_sdhci.specs.Tables.{Names}
+use Rattle.mmc_sdhci.specs.declared.tables.Table.{Table}
 
 -- memory is lent while no data is moved
 abbrev pub IsUnmoved : ControllerView → Type 0
@@ -10,26 +10,37 @@ IsUnmoved view = view.is_kept ≡ true → view.dma.is_moving ≡ false
 
 -- it is lent, from this bus address on, without a table as yet; or the controller can't have it
 abbrev pub lends : ControllerView → Lent → ℕ → ControllerView
-lends view lent start = record view { dma = record view.dma { lent = Some lent; start = start; table = None } }
+lends view lent start =
+    record view { dma = record view.dma { lent = Some lent; start = start; table = None; wide_table = None } }
 
 abbrev pub Lends : ControllerView → Lent → Option ℕ → ControllerView → Type 0
 Lends old lent None new = Settled old (new ≡ old) new
 Lends old lent (Some start) new = Settled old (new ≡ lends old lent start) new
 
--- words, within 32 bits
+-- words, within 64 bits
 abbrev pub Fits : Option ℕ → ℕ → Type 0
-Fits start count = IfSome start (λ address. (address % 4 ≡ 0) × (address + 512 * count ≤ 2 ^ 32))
+Fits start count = IfSome start (λ address. (address % 4 ≡ 0) × (address + 512 * count < 2 ^ 64))
 
 -- a table names what is lent
-abbrev pub NamesLent : ControllerView → List (List ℕ) → Type 0
-NamesLent view table = view.is_kept ≡ true → Names view.dma.start (size_of view.dma.lent) table
+abbrev pub NamesLent : ControllerView → Table → Type 0
+NamesLent view table = view.is_kept ≡ true → (view.dma.start ≡ table.start) × (size_of view.dma.lent ≡ table.size)
 
-abbrev pub LendsTable : ControllerView → ℕ → ControllerView → Type 0
-LendsTable old address new = Settled old (new ≡ record old { dma = record old.dma { table = Some address } }) new
+-- it is lent, at this bus address, or there is no room for it
+abbrev pub lends_table : ControllerView → Bool → ℕ → ControllerView
+lends_table view true address = record view { dma = record view.dma { wide_table = Some address } }
+lends_table view false address = record view { dma = record view.dma { table = Some address } }
+
+abbrev pub LendsTable : ControllerView → Bool → Option ℕ → ControllerView → Type 0
+LendsTable old is_wide None new = Settled old (new ≡ old) new
+LendsTable old is_wide (Some address) new = Settled old (new ≡ lends_table old is_wide address) new
+
+-- words of 64 bits, within 32 bits where the table's addresses are
+abbrev pub FitsTable : Bool → Option ℕ → Type 0
+FitsTable is_wide place = IfSome place (λ address. (address % 8 ≡ 0) × (is_wide ≡ false → address < 2 ^ 32))
 
 -- nothing is lent any more
 abbrev pub unlent : ControllerView → ControllerView
-unlent view = record view { dma = record view.dma { lent = None; table = None } }
+unlent view = record view { dma = record view.dma { lent = None; table = None; wide_table = None } }
 
 -- so many of these blocks stand in their places
 abbrev pub placed : {S : Type 0} → (S → ℕ → List ℕ → S) → List (List ℕ) → S → ℕ → S

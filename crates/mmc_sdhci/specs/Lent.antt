@@ -1,6 +1,6 @@
--- Memory that is lent to a controller, so that it moves blocks by itself (ADMA2; SD Host Controller Simplified Specification 3.00, section
--- 1.13).
-use Rattle.std.specs.Prelude.{Bool, List, None, Option, Some, [], false, length, ℕ, ◌&&◌, ◌*◌, ◌==◌}
+-- Memory that is lent to a controller, so that it moves blocks by itself (SDMA and ADMA2; SD Host Controller Simplified Specification 3.00,
+-- sections 1.4 and 1.13).
+use Rattle.std.specs.Prelude.{Bool, List, None, Option, Some, [], false, length, nat_le, ℕ, ◌%◌, ◌&&◌, ◌*◌, ◌+◌, ◌==◌}
 use Rattle.mmc_host.specs.declared.data.Data.{Data}
 
 -- Blocks of 512 bytes: room for so many, of which nothing is known until all have come; those that have come; or those that are
@@ -14,16 +14,30 @@ pub record Dma : Type 0 where
   -- what is lent, if anything is, and its bus address
   pub lent : Option Lent
   pub start : ℕ
-  -- where the table stands that names its pieces, once it is lent too
+  -- where a table stands that names its pieces, once one is lent too: by addresses of 32 bits, or of 64
   pub table : Option ℕ
-  -- ADMA System Address (58h)
-  pub address : ℕ
+  pub wide_table : Option ℕ
+  -- SDMA System Address (00h), as it was written since the last command: data that is moved counts it on
+  pub sdma_address : Option ℕ
+  -- ADMA System Address, its lower half (58h) and its upper one (5Ch)
+  pub adma_address : ℕ
+  pub adma_upper : ℕ
   -- the controller moves data by itself: that of the command that was begun last
   pub is_moving : Bool
 
 -- nothing is lent
 abbrev pub nothing_lent : Dma
-nothing_lent = record { lent = None; start = 0; table = None; address = 0; is_moving = false }
+nothing_lent =
+    record {
+      lent = None;
+      start = 0;
+      table = None;
+      wide_table = None;
+      sdma_address = None;
+      adma_address = 0;
+      adma_upper = 0;
+      is_moving = false;
+    }
 
 -- what is lent serves this data: it is room for just so many blocks, or just so many that are to go
 abbrev pub is_lent_for : Option Lent → Data → Bool
@@ -43,7 +57,11 @@ size_of (Some (Come blocks)) = 512 * length blocks
 size_of (Some (ToGo blocks)) = 512 * length blocks
 size_of None = 0
 
--- the table is where the controller looks for it
+-- it is where the controller looks for it
 abbrev pub is_pointed : Option ℕ → ℕ → Bool
 is_pointed None address = false
 is_pointed (Some table) address = table == address
+
+-- memory that crosses no multiple of 512 KiB, at which SDMA would stop
+abbrev pub crosses_none : ℕ → ℕ → Bool
+crosses_none start size = nat_le (start % 0x80000 + size) 0x80000

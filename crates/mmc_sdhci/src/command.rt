@@ -100,14 +100,15 @@ fn mode_of(transfer: Data) -> u32
     }
 }
 
-// Block Size and Block Count.
+// Block Size, with the boundary at which SDMA stops, 512 KiB, and Block Count.
 fn sizes_of(transfer: Data) -> u32
+    requires { AreMovable transfer }
     ensures { result ≡ sizes_of transfer }
 {
     match transfer {
         Data::Nothing => 0,
-        Data::Read { length, blocks } => length as u32 + 0x1_0000 * blocks as u32,
-        Data::Write { blocks } => 512 + 0x1_0000 * blocks as u32,
+        Data::Read { length, blocks } => length as u32 + 0x7000 + 0x1_0000 * blocks as u32,
+        Data::Write { blocks } => 0x7200 + 0x1_0000 * blocks as u32,
     }
 }
 

@@ -1,21 +1,25 @@
-// Data that the controller moves by itself, by ADMA2.
-ghost use Rattle.std.specs.Prelude.{◌+◌, ◌≡◌, ◌≤◌, ◌^◌, IfSome, length};
+// Data that the controller moves by itself.
+ghost use Rattle.std.specs.Prelude.{◌+◌, ◌<◌, ◌≡◌, ◌^◌, IfSome, false, length, true};
 ghost use Rattle.mmc_card.specs.declared.exchange.DataIn.TheVariants as Came;
-ghost use Rattle.mmc_sdhci.specs.Accesses.{IsAtRest};
+ghost use Rattle.mmc_sdhci.specs.Accesses.{IsAtRest, Stays};
 ghost use Rattle.mmc_sdhci.specs.Commands.{RestsButMoves};
 ghost use Rattle.mmc_sdhci.specs.Controller.{lines_in};
-ghost use Rattle.mmc_sdhci.specs.Finishing.{Finishes, IsAbleToMove, IsFreeOf, IsLent, IsMoving, Prepares};
+ghost use Rattle.mmc_sdhci.specs.Finishing.{AreCapabilities, Finishes, IsFreeOf, IsLent, IsMoving, IsTabled, Prepares, Reaches};
+ghost use Rattle.mmc_sdhci.specs.Lent.{size_of};
+ghost use Rattle.mmc_sdhci.specs.declared.dma.Dma.TheVariants.{Sdma};
 ghost use Rattle.mmc_sdhci.specs.Lending.{TakesBack};
 ghost use Rattle.mmc_sdhci.specs.Moving.{WhereKept};
 
 use crate::command::reset_data;
 use crate::data::came;
-use crate::mover::Mover;
-use crate::offsets::{CONTROL, DMA_ADDRESS, INTERRUPTS, SHOWN_INTERRUPTS};
+use crate::dma::{Dma, dma_for};
+use crate::offsets::{
+    ADMA_ADDRESS, ADMA_UPPER, CONTROL, INTERRUPTS, SDMA_ADDRESS, SHOWN_INTERRUPTS,
+};
 use crate::registers::Registers;
 use crate::settling::pause;
 use crate::start::{SHOWN, control_of};
-use crate::tables::table_of;
+use crate::tables::Table;
 use mmc_bus::BlocksMut;
 use mmc_card::{DataIn, Lines};
 
@@ -33,21 +37,68 @@ fn between(look: u32) -> u32 {
     if look < FIRST_LOOKS { 1 } else { 50 }
 }
 
-/// Sets all for DMA with memory of so many bytes that was lent, from this bus address on: ADMA2 is selected, beside the lines that are
-/// set, and a table of the memory is lent.
-pub fn prepare<R: Registers>(registers: &mut R, lines: Lines, start: u32, size: u32)
+// Selects SDMA, beside the lines that are set, with the memory that was lent, from this bus address on.
+fn point_at_memory<R: Registers>(registers: &mut R, lines: Lines, start: u32)
     requires free { IsFreeOf (R.view registers.old) }
-    requires able { IsAbleToMove (R.view registers.old) }
     requires lines { WhereKept (R.view registers.old) (lines_in (R.view registers.old).settings.control ≡ lines) }
-    requires lent { IsLent (R.view registers.old) start size }
-    requires small { size ≤ 0x80000 }
-    requires inside { start + size ≤ 2 ^ 32 }
+    requires reaches { WhereKept (R.view registers.old) ((R.view registers.old).dma.start ≡ start
+        × Reaches (R.view registers.old).built.capabilities Sdma start (size_of (R.view registers.old).dma.lent)) }
     ensures { Prepares (R.view registers.old) (R.view registers.new) }
 {
-    let table = registers.lend_table(&table_of(start, size));
-    registers.write8(CONTROL, control_of(lines, Mover::Controller));
+    registers.write32(SDMA_ADDRESS, start);
+    registers.write8(CONTROL, control_of(lines, Some(Dma::Sdma)));
+}
+
+// Selects ADMA2, beside the lines that are set, with the table that was lent, at this bus address.
+fn point_at_table<R: Registers>(registers: &mut R, lines: Lines, dma: Dma, table: u64)
+    requires free { IsFreeOf (R.view registers.old) }
+    requires lines { WhereKept (R.view registers.old) (lines_in (R.view registers.old).settings.control ≡ lines) }
+    requires reaches { WhereKept (R.view registers.old) (Reaches (R.view registers.old).built.capabilities dma
+        (R.view registers.old).dma.start (size_of (R.view registers.old).dma.lent)) }
+    requires tabled { WhereKept (R.view registers.old) (IsTabled (R.view registers.old) dma table) }
+    ensures { Prepares (R.view registers.old) (R.view registers.new) }
+{
+    registers.write8(CONTROL, control_of(lines, Some(dma)));
     registers.write32(SHOWN_INTERRUPTS, SHOWN + DMA_ERROR);
-    registers.write32(DMA_ADDRESS, table);
+    registers.write32(ADMA_ADDRESS, (table % 0x1_0000_0000) as u32);
+    registers.write32(ADMA_UPPER, (table / 0x1_0000_0000) as u32);
+}
+
+/// Sets all for DMA with memory of so many bytes that was lent, from this bus address on: a way is selected, beside the lines that are
+/// set, and the controller is told where the memory is, or a table of it. Whether that could be done: it may not reach the memory, and
+/// there may be no room for a table. Then nothing has happened.
+pub fn prepare<R: Registers>(
+    registers: &mut R,
+    lines: Lines,
+    capabilities: u32,
+    start: u64,
+    size: u32,
+) -> bool
+    requires free { IsFreeOf (R.view registers.old) }
+    requires built { AreCapabilities (R.view registers.old) capabilities }
+    requires inside { start + size < 2 ^ 64 }
+    requires lines { WhereKept (R.view registers.old) (lines_in (R.view registers.old).settings.control ≡ lines) }
+    requires lent { IsLent (R.view registers.old) start size }
+    requires small { size < 0x2000000 }
+    ensures ready { result ≡ true → Prepares (R.view registers.old) (R.view registers.new) }
+    ensures same { result ≡ false → Stays (R.view registers.old) (R.view registers.new) }
+{
+    match dma_for(capabilities, start, size) {
+        None => false,
+        Some(Dma::Sdma) => {
+            point_at_memory(registers, lines, start as u32);
+            true
+        }
+        Some(dma) => {
+            match registers.lend_table(&Table::new(start, size, dma == Dma::Adma64)) {
+                None => false,
+                Some(table) => {
+                    point_at_table(registers, lines, dma, table);
+                    true
+                }
+            }
+        }
+    }
 }
 
 /// Fills these places with what has come into the room that was lent for them, and takes it back.

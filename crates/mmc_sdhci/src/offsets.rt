@@ -1,5 +1,7 @@
 // The registers that are used, by their offsets (SD Host Controller Simplified Specification 3.00, section 2.1).
 
+/// SDMA System Address.
+pub const SDMA_ADDRESS: u8 = 0x00;
 /// Block Size and Block Count.
 pub const SIZES: u8 = 0x04;
 /// Argument.
@@ -31,7 +33,9 @@ pub const SHOWN_INTERRUPTS: u8 = 0x34;
 /// Normal and Error Interrupt Signal Enable: what raises an interrupt of the processor.
 pub const SIGNALS: u8 = 0x38;
 /// ADMA System Address, its lower 32 bits.
-pub const DMA_ADDRESS: u8 = 0x58;
+pub const ADMA_ADDRESS: u8 = 0x58;
+/// Its upper ones.
+pub const ADMA_UPPER: u8 = 0x5c;
 /// Capabilities, its first word.
 pub const CAPABILITIES: u8 = 0x40;
 /// The version of the specification, in the lower byte of Host Controller Version.

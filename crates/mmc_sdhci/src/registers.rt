@@ -1,12 +1,13 @@
 ghost use Rattle.std.specs.Prelude.{◌≡◌, length};
 ghost use Rattle.mmc_sdhci.specs.Controller.{ControllerView, Settled};
 ghost use Rattle.mmc_sdhci.specs.Beside.{Beside, IsBeside, read_on, waited_on};
-ghost use Rattle.mmc_sdhci.specs.Lending.{Fits, IsUnmoved, Lends, LendsTable, NamesLent, TakesPlace, unlent};
+ghost use Rattle.mmc_sdhci.specs.Lending.{Fits, FitsTable, IsUnmoved, Lends, LendsTable, NamesLent, TakesPlace, unlent};
 ghost use Rattle.mmc_sdhci.specs.Lent.{Room, ToGo};
 ghost use Rattle.mmc_sdhci.specs.Accesses.{IsAllowed, IsAllowed8, IsAtRest, Passes, Reads, Reads8, Writes, Writes8};
 ghost use Rattle.mmc_sdhci.specs.Moving.{HasRoom, Puts, Takes};
 
 use crate::offsets::PORT;
+use crate::tables::Table;
 use mmc_bus::Blocks;
 
 /// The registers of an SD host controller, by their offsets in bytes. Each access reaches the controller, in order.
@@ -71,9 +72,10 @@ pub trait Registers {
 
     /// Lends the controller room for so many blocks of 512 bytes, into which it moves what the card sends by itself, and tells its bus
     /// address, a multiple of 4: the places of the blocks themselves, of which a port writes back what caches hold, and drops it, or
-    /// a buffer of its own. `None` where there is no DMA, or no memory that the controller can reach by 32 bits: then the blocks are
-    /// read through the Buffer Data Port.
-    fn lend_room(&mut self, count: usize) -> Option<u32>
+    /// a buffer of its own. `None` where there is no such memory: then the blocks are read through the Buffer Data Port. So they are
+    /// where the controller can't reach it: without ADMA2 what crosses a multiple of 512 KiB, and, but for ADMA2 with addresses of 64
+    /// bits, what lies beyond 32. Then it is taken back at once.
+    fn lend_room(&mut self, count: usize) -> Option<u64>
         requires { IsUnmoved (view self.old) }
         ensures lends { Lends (view self.old) (Room count) result (view self.new) }
         ensures fits { Fits result count }
@@ -84,7 +86,7 @@ pub trait Registers {
 
     /// Lends these blocks to the controller, which then moves them to the card by itself: where they stand, once caches are written
     /// back, or in a buffer of the port's. `None` as of `lend_room`.
-    fn lend_blocks<D: Blocks>(&mut self, blocks: &D) -> Option<u32>
+    fn lend_blocks<D: Blocks>(&mut self, blocks: &D) -> Option<u64>
         requires { IsUnmoved (view self.old) }
         ensures lends { Lends (view self.old) (ToGo (D.blocks blocks.now)) result (view self.new) }
         ensures fits { Fits result (length (D.blocks blocks.now)) }
@@ -93,12 +95,17 @@ pub trait Registers {
         None
     }
 
-    /// Lends a descriptor table of the memory that was lent last, and tells its bus address, a multiple of 4: a port keeps a copy where
-    /// the controller can read it.
-    fn lend_table(&mut self, table: &[[u8; 8]; 16]) -> u32
+    /// Lends a descriptor table of the memory that was lent last, and tells its bus address, a multiple of 8, and within 32 bits where
+    /// the addresses in it are: a port keeps its lines where the controller can read them. `None` where it has no room for so many.
+    fn lend_table(&mut self, table: &Table) -> Option<u64>
         requires still { IsUnmoved (view self.old) }
         requires names { NamesLent (view self.old) table.now }
-        ensures { LendsTable (view self.old) result (view self.new) };
+        ensures lends { LendsTable (view self.old) table.now.is_wide result (view self.new) }
+        ensures fits { FitsTable table.now.is_wide result }
+    {
+        let _ = table;
+        None
+    }
 
     /// Fills a block with what has come into its place in the room that was lent, of which no cache holds anything else.
     fn take_place(&mut self, index: usize, block: &mut [u8; 512])

@@ -8,7 +8,7 @@ ghost use Rattle.mmc_sdhci.specs.Beside.{is_inserted, is_protected};
 ghost use Rattle.mmc_sdhci.specs.Commands.{IsSet, LosesAll};
 ghost use Rattle.mmc_sdhci.specs.Driver.{IsAtEase, IsBaseClock, IsNew, IsReady, IsSameCard, IsUnready, are_words, clock_limit, host_over, speed_limit};
 ghost use Rattle.mmc_sdhci.specs.declared.start.StartFault.TheVariants.{NoBaseClock};
-ghost use Rattle.mmc_sdhci.specs.Finishing.{IsAbleToMove};
+ghost use Rattle.mmc_sdhci.specs.Finishing.{AreCapabilities};
 ghost use Rattle.mmc_sdhci.specs.Moving.{WhereKept};
 
 use crate::busy::is_busy;
@@ -34,8 +34,7 @@ pub struct Sdhci<R: Registers> {
     // in MHz
     base: u32,
     version: u8,
-    // whether it can move data by itself
-    pub(crate) has_dma: bool,
+    pub(crate) capabilities: u32,
     ghost rest: { IsAtRest (R.view registers) },
     ghost transfer: { WhereKept (R.view registers) ((R.view registers).transfer ≡ state.transfer) },
     ghost words: { are_words state.transfer ≡ true },
@@ -45,14 +44,7 @@ pub struct Sdhci<R: Registers> {
     ghost set: { IsSet (R.view registers) },
     ghost base_clock: { IsBaseClock base version (R.view registers) },
     ghost small: { base < 256 },
-    ghost able: { has_dma ≡ true → IsAbleToMove (R.view registers) },
-}
-
-// ADMA2, by Capabilities.
-fn has_dma(capabilities: u32) -> bool
-    ensures { result ≡ true → field 19 19 capabilities ≡ 1 }
-{
-    capabilities / 0x8_0000 % 2 == 1
+    ghost built: { AreCapabilities (R.view registers) capabilities },
 }
 
 // 3.3 V, on.
@@ -100,7 +92,7 @@ impl<R: Registers> Sdhci<R> {
             limits: limits_in(capabilities),
             base,
             version,
-            has_dma: has_dma(capabilities),
+            capabilities,
         })
     }
 
@@ -132,7 +124,7 @@ impl<R: Registers> Sdhci<R> {
             limits: limits_in(capabilities),
             base,
             version,
-            has_dma: has_dma(capabilities),
+            capabilities,
         })
     }
 
@@ -167,7 +159,7 @@ impl<R: Registers> Sdhci<R> {
             limits: limits_in(capabilities),
             base,
             version,
-            has_dma: has_dma(capabilities),
+            capabilities,
         })
     }
 
@@ -210,7 +202,7 @@ impl<R: Registers> Host for Sdhci<R> {
 
     fn set_ios(&mut self, ios: Ios) {
         self.registers
-            .write8(CONTROL, control_of(ios.lines(), Mover::Driver));
+            .write8(CONTROL, control_of(ios.lines(), None));
         set_clock(
             &mut self.registers,
             self.base,

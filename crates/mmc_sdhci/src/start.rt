@@ -10,7 +10,7 @@ ghost use Rattle.mmc_sdhci.specs.Driver.{IsBaseClock, IsNew, Restarts};
 ghost use Rattle.mmc_sdhci.specs.Moving.{WhereKept};
 ghost use Rattle.mmc_sdhci.specs.Settling.{IsClocked, PowersUp};
 
-use crate::mover::Mover;
+use crate::dma::Dma;
 use crate::offsets::{PRESENT, RESET, SHOWN_INTERRUPTS, SIGNALS};
 use crate::registers::Registers;
 use crate::settling::{pause, settle_reset};
@@ -55,11 +55,11 @@ pub fn limits_in(capabilities: u32) -> Lines
     Lines { width, timing }
 }
 
-/// Host Control 1 for these lines, and with ADMA2 selected where the controller moves data.
-pub fn control_of(lines: Lines, mover: Mover) -> u8
+/// Host Control 1 for these lines, and the way in which the controller moves data, if it does.
+pub fn control_of(lines: Lines, dma: Option<Dma>) -> u8
     ensures lines { lines_in result ≡ lines }
     ensures alone { bit_and result 0x3e ≡ result }
-    ensures selects { field 4 3 result ≡ selection mover }
+    ensures selects { field 4 3 result ≡ selection dma }
 {
     let width = match lines.width {
         Width::One => 0,
@@ -70,9 +70,10 @@ pub fn control_of(lines: Lines, mover: Mover) -> u8
         Timing::Default => 0,
         Timing::High => 0x04,
     };
-    let selection = match mover {
-        Mover::Driver => 0,
-        Mover::Controller => 0x10,
+    let selection = match dma {
+        None | Some(Dma::Sdma) => 0,
+        Some(Dma::Adma32) => 0x10,
+        Some(Dma::Adma64) => 0x18,
     };
     width + timing + selection
 }

@@ -5,6 +5,7 @@ ghost use Rattle.mmc_host.specs.Hosts.{IsSlowEnough, Where};
 ghost use Rattle.mmc_host.specs.Together.{AreAhead, AreBehind, ReadsWith, WritesWith};
 ghost use Rattle.mmc_host.specs.declared.data.Data.TheVariants as Behind;
 ghost use Rattle.mmc_host.specs.declared.response.Response.TheVariants.{R1};
+ghost use Rattle.mmc_sdhci.specs.Accesses.{Stays};
 ghost use Rattle.mmc_sdhci.specs.Commands.{IsWord};
 ghost use Rattle.mmc_sdhci.specs.Driver.{StaysHost, host_over};
 ghost use Rattle.mmc_sdhci.specs.Finishing.{IsLent, IsLentFor, MovesWith, ended};
@@ -12,11 +13,11 @@ ghost use Rattle.mmc_sdhci.specs.Moving.{WhereKept};
 
 use crate::command::{is_ok, is_word, send};
 use crate::data::{is_accepted, is_good};
+use crate::dma::has_dma;
 use crate::mover::Mover;
 use crate::moving::{finish, prepare, take_places};
 use crate::registers::Registers;
 use crate::sdhci::Sdhci;
-use crate::tables::MOST_BLOCKS;
 use mmc_bus::{Blocks, BlocksMut, Moved};
 use mmc_card::{DataIn, DataOut};
 use mmc_host::{Data, Heard, Host, HostCommand, ResponseFault};
@@ -43,31 +44,38 @@ fn writes_whole(transfer: Data, count: usize) -> bool
 
 impl<R: Registers> Sdhci<R> {
     // Sends a command and lets the controller move its blocks, in memory that is lent from this bus address on. All data is over then.
+    // `None` where it can't, and then nothing has happened.
     fn move_blocks(
         &mut self,
         command: HostCommand,
-        start: u32,
+        start: u64,
         count: usize,
-    ) -> (Result<Heard, ResponseFault>, Moved<DataIn>)
+    ) -> Option<(Result<Heard, ResponseFault>, Moved<DataIn>)>
         requires index { command.index < 64 }
         requires movable { AreMovable command.transfer }
         requires free { WhereKept (R.view self.old.registers) (IsFree self.old.state.transfer command) }
-        requires able { self.old.has_dma ≡ true }
         requires lent { IsLent (R.view self.old.registers) start (512 * count) }
         requires serves { IsLentFor (R.view self.old.registers) command.transfer }
-        requires few { count ≤ 1024 }
-        requires inside { start + 512 * count ≤ 2 ^ 32 }
-        ensures moves { MovesWith (R.view self.old.registers) command result.0 count result.1 (R.view self.new.registers) }
-        ensures word { command.response ≡ R1 → IfOk result.0 IsWord }
-        ensures state { self.new.state ≡ ended (sent self.old.state command (is_ok result.0)) }
+        requires few { count < 0x10000 }
+        requires inside { start + 512 * count < 2 ^ 64 }
+        ensures moves { IfSome result (λ done. MovesWith (R.view self.old.registers) command done.0 count done.1
+            (R.view self.new.registers)) }
+        ensures word { IfSome result (λ done. command.response ≡ R1 → IfOk done.0 IsWord) }
+        ensures state { IfSome result (λ done. self.new.state ≡ ended (sent self.old.state command (is_ok done.0))) }
+        ensures same { IsNone result → Stays (R.view self.old.registers) (R.view self.new.registers)
+            × (self.new.state ≡ self.old.state) }
         ensures limits { self.new.limits ≡ self.old.limits }
     {
-        prepare(
+        let size = 512 * count as u32;
+        if !prepare(
             &mut self.registers,
             self.state.ios.lines(),
+            self.capabilities,
             start,
-            512 * count as u32,
-        );
+            size,
+        ) {
+            return None;
+        }
         let heard = send(
             &mut self.registers,
             self.state.transfer,
@@ -76,13 +84,13 @@ impl<R: Registers> Sdhci<R> {
         );
         self.state = self.state.sent(command, is_ok(heard));
         if !is_ok(heard) {
-            return (heard, Moved::Good(0));
+            return Some((heard, Moved::Good(0)));
         }
         let failed = finish(&mut self.registers);
         self.state.transfer = Data::Nothing;
         match failed {
-            None => (heard, Moved::Good(count)),
-            Some(got) => (heard, Moved::Failed(got)),
+            None => Some((heard, Moved::Good(count))),
+            Some(got) => Some((heard, Moved::Failed(got))),
         }
     }
 
@@ -104,13 +112,16 @@ impl<R: Registers> Sdhci<R> {
             blocks.new (host_over (R.view self.new.registers) self.new.state self.new.limits)) }
     {
         let count = blocks.len();
-        if !self.has_dma || count > MOST_BLOCKS || !reads_whole(command.transfer, count) {
+        if !has_dma(self.capabilities) || !reads_whole(command.transfer, count) {
             return None;
         }
         let start = self.registers.lend_room(count)?;
-        let (heard, moved) = self.move_blocks(command, start, count);
+        let Some(done) = self.move_blocks(command, start, count) else {
+            self.registers.take_back();
+            return None;
+        };
         take_places(&mut self.registers, blocks);
-        Some((heard, moved))
+        Some(done)
     }
 
     /// Writes by DMA; `None` where the controller or its port can't, and then nothing has happened. The controller waits by itself until
@@ -131,12 +142,13 @@ impl<R: Registers> Sdhci<R> {
             command (D.blocks blocks.now) done.0 done.1 (host_over (R.view self.new.registers) self.new.state self.new.limits)) }
     {
         let count = blocks.len();
-        if !self.has_dma || count > MOST_BLOCKS || !writes_whole(command.transfer, count) {
+        if !has_dma(self.capabilities) || !writes_whole(command.transfer, count) {
             return None;
         }
         let start = self.registers.lend_blocks(blocks)?;
-        let (heard, moved) = self.move_blocks(command, start, count);
+        let done = self.move_blocks(command, start, count);
         self.registers.take_back();
+        let (heard, moved) = done?;
         match moved {
             Moved::Good(done) => Some((heard, Moved::Good(done))),
             Moved::Failed(_) => Some((heard, Moved::Failed(DataOut::Nothing))),

@@ -6,7 +6,7 @@ pub returns-then-not-is_ok-clause-moves : goal.returns-then-not-is_ok-clause-mov
 returns-then-not-is_ok-clause-moves g c = record {
   set = g.R.Registers.view c.prepare.new.registers;
   behind = g.R.Registers.view c.send-heard.new.registers;
-  prepared = c.prepare.ensures;
+  prepared = (c.prepare.ensures.ready c.if-not-prepare.false);
   sent = c.send-heard.ensures.sent;
   lent = c.send-heard.ensures.lent;
   moves = none_moved (g.R.Registers.view c.send-heard.new.registers) c.send-heard.result c.args.count
@@ -17,14 +17,14 @@ pub finish-failed-requires-clause-moving : goal.finish-failed-requires-clause-mo
 finish-failed-requires-clause-moving g c =
     moves_behind (g.R.Registers.view c.args.self.now.registers) (g.R.Registers.view c.prepare.new.registers)
     (g.R.Registers.view c.send-heard.new.registers) c.args.command c.send-heard.result
-    (sym c.is_ok-2.ensures ∙ c.if-not-is_ok.false) c.requires.serves c.prepare.ensures c.send-heard.ensures.sent
+    (sym c.is_ok-2.ensures ∙ c.if-not-is_ok.false) c.requires.serves (c.prepare.ensures.ready c.if-not-prepare.false) c.send-heard.ensures.sent
     c.send-heard.ensures.lent
 
 pub returns-in-None-clause-moves : goal.returns-in-None-clause-moves
 returns-in-None-clause-moves g c = record {
   set = g.R.Registers.view c.prepare.new.registers;
   behind = g.R.Registers.view c.send-heard.new.registers;
-  prepared = c.prepare.ensures;
+  prepared = (c.prepare.ensures.ready c.if-not-prepare.false);
   sent = c.send-heard.ensures.sent;
   lent = c.send-heard.ensures.lent;
   moves = all_moved (g.R.Registers.view c.send-heard.new.registers) (g.R.Registers.view c.finish-failed.new.registers)
@@ -35,7 +35,7 @@ pub returns-in-Some-clause-moves : goal.returns-in-Some-clause-moves
 returns-in-Some-clause-moves g c = record {
   set = g.R.Registers.view c.prepare.new.registers;
   behind = g.R.Registers.view c.send-heard.new.registers;
-  prepared = c.prepare.ensures;
+  prepared = (c.prepare.ensures.ready c.if-not-prepare.false);
   sent = c.send-heard.ensures.sent;
   lent = c.send-heard.ensures.lent;
   moves = one_unmoved (g.R.Registers.view c.send-heard.new.registers) (g.R.Registers.view c.finish-failed.new.registers)

@@ -12,24 +12,24 @@ pub returns-in-Good-clause-writes : goal.returns-in-Good-clause-writes
 returns-in-Good-clause-writes g c =
     let asked = c.writes_whole.ensures c.if-not-writes_whole.false in
     let some = (subst (λ (t : Data). AreMovable t) asked c.requires.movable).0 in
-    let done = c.move_blocks-heard.ensures in
-    let moves = subst (λ (m : Moved DataIn). MovesWith (g.R.Registers.view c.lend_blocks.new.self) c.args.command c.move_blocks-heard.result.0
-    c.len-count.result m (g.R.Registers.view c.move_blocks-heard.new.self.registers)) c.in-Good.is done.moves in
+    let done = c.in_ok-heard.ensures in
+    let moves = subst (λ (m : Moved DataIn). MovesWith (g.R.Registers.view c.lend_blocks.new.self) c.args.command c.in_ok-heard.heard
+    c.len-count.result m (g.R.Registers.view c.move_blocks-done.new.self.registers)) c.in-Good.is done.moves in
     rw (done.state, done.limits) (writes_by_dma (g.D.Blocks.blocks c.args.blocks.now) (g.R.Registers.view c.args.self.now.registers)
-    (g.R.Registers.view c.lend_blocks.new.self) (g.R.Registers.view c.move_blocks-heard.new.self.registers)
+    (g.R.Registers.view c.lend_blocks.new.self) (g.R.Registers.view c.move_blocks-done.new.self.registers)
     (g.R.Registers.view c.take_back.new.self) c.in_ok-start.start c.args.self.now.state c.args.self.now.limits c.args.command
     c.len-count.result c.args.self.now.lines c.args.self.now.most c.in_ok-start.ensures.lends c.take_back.ensures some
-    c.len-count.ensures asked c.requires.response c.move_blocks-heard.result.0 (Move.Good c.in-Good.done) (done.word c.requires.response) moves)
+    c.len-count.ensures asked c.requires.response c.in_ok-heard.heard (Move.Good c.in-Good.done) (done.word c.requires.response) moves)
 
 pub returns-in-Failed-clause-writes : goal.returns-in-Failed-clause-writes
 returns-in-Failed-clause-writes g c =
     let asked = c.writes_whole.ensures c.if-not-writes_whole.false in
     let some = (subst (λ (t : Data). AreMovable t) asked c.requires.movable).0 in
-    let done = c.move_blocks-heard.ensures in
-    let moves = subst (λ (m : Moved DataIn). MovesWith (g.R.Registers.view c.lend_blocks.new.self) c.args.command c.move_blocks-heard.result.0
-    c.len-count.result m (g.R.Registers.view c.move_blocks-heard.new.self.registers)) c.in-Failed.is done.moves in
+    let done = c.in_ok-heard.ensures in
+    let moves = subst (λ (m : Moved DataIn). MovesWith (g.R.Registers.view c.lend_blocks.new.self) c.args.command c.in_ok-heard.heard
+    c.len-count.result m (g.R.Registers.view c.move_blocks-done.new.self.registers)) c.in-Failed.is done.moves in
     rw (done.state, done.limits) (writes_by_dma (g.D.Blocks.blocks c.args.blocks.now) (g.R.Registers.view c.args.self.now.registers)
-    (g.R.Registers.view c.lend_blocks.new.self) (g.R.Registers.view c.move_blocks-heard.new.self.registers)
+    (g.R.Registers.view c.lend_blocks.new.self) (g.R.Registers.view c.move_blocks-done.new.self.registers)
     (g.R.Registers.view c.take_back.new.self) c.in_ok-start.start c.args.self.now.state c.args.self.now.limits c.args.command
     c.len-count.result c.args.self.now.lines c.args.self.now.most c.in_ok-start.ensures.lends c.take_back.ensures some
-    c.len-count.ensures asked c.requires.response c.move_blocks-heard.result.0 (Move.Failed c.in-Failed.field-0) (done.word c.requires.response) moves)
+    c.len-count.ensures asked c.requires.response c.in_ok-heard.heard (Move.Failed c.in-Failed.field-0) (done.word c.requires.response) moves)
