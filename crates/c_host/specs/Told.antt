@@ -1,7 +1,7 @@
 -- What C is told by each call, and how its answer is read: the talk behind a call, by the talk before it.
-use Rattle.std.specs.Int.{from_le_bytes, to_le_bytes, w32, w64}
-use Rattle.std.specs.List.{flat_map}
-use Rattle.std.specs.Prelude.{[], ◌%◌, ◌*◌, ◌+◌, ◌==◌, ◌^◌, ◌||◌, ◌∷◌, ◌≡◌, Bool, List, None, Option, Result, Some, if◌then◌else◌, length, nat_lt, not}
+use Rattle.std.specs.Int.{from_le_bytes, to_le_bytes, w64}
+use Rattle.std.specs.Prelude.{[], ◌%◌, ◌*◌, ◌+◌, ◌==◌, ◌^◌, ◌||◌, ◌∷◌, ◌≡◌, Bool, List, None, Option, Result, Some, if◌then◌else◌, length, nat_le, not}
+use Rattle.std.specs.Prelude.{◌&&◌}
 use Rattle.std.specs.Prelude.{slice_index_or, suc, take, zero, ℕ}
 use Rattle.mmc_card.specs.declared.exchange.DataIn.{DataIn}
 use Rattle.mmc_card.specs.declared.exchange.DataOut.{DataOut}
@@ -10,6 +10,8 @@ use Rattle.mmc_host.specs.declared.told.Heard.{Heard}
 use Rattle.mmc_host.specs.declared.told.HostCommand.{HostCommand}
 use Rattle.mmc_host.specs.declared.told.Ios.{Ios}
 use Rattle.mmc_host.specs.declared.told.ResponseFault.{ResponseFault}
+use Rattle.mmc_sdhci.specs.Tables.{line_at, lines_for}
+use Rattle.mmc_sdhci.specs.declared.tables.Table.{Table}
 use Rattle.c_host.specs.Records.{block_by, command_record, heard_by, ios_record, is_busy_by, look_record, pause_record, read_by}
 use Rattle.c_host.specs.Records.{status_by, touched_by, with_record, written_by}
 use Rattle.c_host.specs.Talk.{Talk, last_answer, last_count}
@@ -61,20 +63,31 @@ abbrev pub TellsPort : List ℕ → List Talk → List Talk → Type 0
 TellsPort block old new = new ≡ Came (last_count new) block ∷ old
 
 -- Memory for so many blocks is wanted for DMA, to be read into or written: its bus address is what came, unless that is 0, no multiple of 4
--- or the blocks don't lie within 32 bits from there on.
+-- or the blocks don't lie within 64 bits from there on.
 abbrev pub lent_at : ℕ → ℕ → Option ℕ
 lent_at address count =
-    if (address == 0) || (not (address % 4 == 0) || nat_lt (2 ^ 32) (address + 512 * count)) then None else Some address
+    if (address == 0) || (not (address % 4 == 0) || nat_le (2 ^ 64) (address + 512 * count)) then None else Some address
 
 abbrev pub TellsLending : ℕ → ℕ → Option ℕ → List Talk → List Talk → Type 0
 TellsLending operation count lent old new =
     (new ≡ Asked (operation ∷ take 2 (to_le_bytes w64 count)) (last_answer new) ∷ old)
-    × (lent ≡ lent_at (from_le_bytes w32 (last_answer new)) count)
+    × (lent ≡ lent_at (from_le_bytes w64 (last_answer new)) count)
 
--- the table of it, whose bus address is what came
-abbrev pub TellsTable : List (List ℕ) → ℕ → List Talk → List Talk → Type 0
-TellsTable table address old new =
-    (new ≡ Asked (flat_map (λ row. row) table) (last_answer new) ∷ old) × (address ≡ from_le_bytes w32 (last_answer new))
+-- The lines of its table are told, one after the other, and its bus address is what came, unless that is 0, no multiple of 8 or, of a
+-- table of addresses of 32 bits, beyond those.
+abbrev pub with_lines : Table → ℕ → List Talk → List Talk
+with_lines table zero past = past
+with_lines table (suc i) past =
+    Told (line_at table.is_wide table.start table.size i) ∷ with_lines table i past
+
+abbrev pub table_at : Bool → ℕ → Option ℕ
+table_at is_wide address =
+    if (address == 0) || (not (address % 8 == 0) || (not is_wide && nat_le (2 ^ 32) address)) then None else Some address
+
+abbrev pub TellsTable : Table → Option ℕ → List Talk → List Talk → Type 0
+TellsTable table place old new =
+    (new ≡ Asked (18 ∷ []) (last_answer new) ∷ with_lines table (lines_for table.size) old)
+    × (place ≡ table_at table.is_wide (from_le_bytes w64 (last_answer new)))
 
 -- that the blocks are wanted that have come there, before the first of them, and this is one
 abbrev pub TellsTaking : ℕ → List ℕ → List Talk → List Talk → Type 0

@@ -4,8 +4,8 @@ ghost use Rattle.std.specs.Int.{from_le_bytes};
 ghost use Rattle.c_host.specs.Records.{command_record, count_number, data_number, failed_by, fault_by, good_by};
 ghost use Rattle.c_host.specs.Records.{heard_by, heard_in, ios_record, is_word, length_number, lines_number, moved_by};
 ghost use Rattle.c_host.specs.Records.{refused_by, response_number, timing_number, touched_by};
-ghost use Rattle.c_host.specs.Told.{lent_at};
-ghost use Rattle.mmc_sdhci.specs.Lending.{Fits};
+ghost use Rattle.c_host.specs.Told.{lent_at, table_at};
+ghost use Rattle.mmc_sdhci.specs.Lending.{Fits, FitsTable};
 ghost use Rattle.mmc_card.specs.CardAnswer.{Silent};
 ghost use Rattle.mmc_host.specs.Hosts.{answer_heard};
 ghost use Rattle.mmc_host.specs.declared.response.Response.TheVariants.{R1};
@@ -52,6 +52,9 @@ pub const TAKE_PLACES: u8 = 16;
 
 /// What was lent is taken back.
 pub const TAKE_BACK: u8 = 17;
+
+/// The table of the lines that were told is wanted where the controller can read it.
+pub const LEND_TABLE: u8 = 18;
 
 // The kind of a response, as a number for C.
 fn response_number(response: Response) -> u8
@@ -162,13 +165,25 @@ pub fn touched_by(moved: Moved<DataIn>, count: usize) -> usize
     }
 }
 
-/// Where memory for so many blocks is lent; `None` where C has none, or it doesn't lie within 32 bits.
-pub fn lent_at(address: u32, count: usize) -> Option<u32>
+/// Where memory for so many blocks is lent; `None` where C has none, or it doesn't lie within 64 bits.
+pub fn lent_at(address: u64, count: usize) -> Option<u64>
     ensures lent { result ≡ lent_at address count }
     ensures fits { Fits result count }
 {
-    let most = (0x1_0000_0000 - u64::from(address)) / 512;
+    let most = (u64::MAX - address) / 512;
     if address == 0 || address % 4 != 0 || count as u64 > most {
+        None
+    } else {
+        Some(address)
+    }
+}
+
+/// Where a table stands; `None` where C has no room for it, or it stands beyond 32 bits and its addresses don't.
+pub fn table_at(is_wide: bool, address: u64) -> Option<u64>
+    ensures lent { result ≡ table_at is_wide address }
+    ensures fits { FitsTable is_wide result }
+{
+    if address == 0 || address % 8 != 0 || !is_wide && address > 0xffff_ffff {
         None
     } else {
         Some(address)

@@ -4,7 +4,7 @@ ghost use Rattle.mmc_sdhci.specs.Accesses.{Passes, Reads, Reads8, Writes, Writes
 ghost use Rattle.mmc_sdhci.specs.Beside.{untold};
 ghost use Rattle.mmc_sdhci.specs.Driver.{unkept_controller};
 ghost use Rattle.mmc_sdhci.specs.Controller.{Settled};
-ghost use Rattle.mmc_sdhci.specs.Lending.{Fits, Lends, LendsTable, TakesPlace, unlent};
+ghost use Rattle.mmc_sdhci.specs.Lending.{Fits, FitsTable, Lends, LendsTable, TakesPlace, unlent};
 ghost use Rattle.mmc_sdhci.specs.Lent.{Room, ToGo};
 ghost use Rattle.mmc_sdhci.specs.Moving.{Puts, Takes};
 ghost use Rattle.c_host.specs.Talk.Talk.{Asked, Told};
@@ -14,7 +14,7 @@ ghost use Rattle.c_host.specs.Told.{TellsLending, TellsPause, TellsPort, TellsTa
 use crate::records::{LEND_BLOCKS, LEND_ROOM};
 use crate::stream::Stream;
 use mmc_bus::Blocks;
-use mmc_sdhci::Registers;
+use mmc_sdhci::{Registers, Table};
 
 /// Registers of an SD host controller that C reads and writes.
 #[derive(Drop)]
@@ -75,7 +75,7 @@ impl Registers for CRegisters {
         self.stream.write_port(block);
     }
 
-    fn lend_room(&mut self, count: usize) -> Option<u32>
+    fn lend_room(&mut self, count: usize) -> Option<u64>
         ensures lends { Lends unkept_controller (Room count) result unkept_controller }
         ensures fits { Fits result count }
         ensures told { TellsLending 14 count result self.old.stream.diary.past self.new.stream.diary.past }
@@ -83,7 +83,7 @@ impl Registers for CRegisters {
         self.stream.lend(LEND_ROOM, count)
     }
 
-    fn lend_blocks<D: Blocks>(&mut self, blocks: &D) -> Option<u32>
+    fn lend_blocks<D: Blocks>(&mut self, blocks: &D) -> Option<u64>
         ensures lends { Lends unkept_controller (ToGo (D.blocks blocks.now)) result unkept_controller }
         ensures fits { Fits result (length (D.blocks blocks.now)) }
         ensures told { TellsLending 15 (length (D.blocks blocks.now)) result self.old.stream.diary.past self.new.stream.diary.past }
@@ -91,8 +91,9 @@ impl Registers for CRegisters {
         self.stream.lend(LEND_BLOCKS, blocks.len())
     }
 
-    fn lend_table(&mut self, table: &[[u8; 8]; 16]) -> u32
-        ensures lends { LendsTable unkept_controller result unkept_controller }
+    fn lend_table(&mut self, table: &Table) -> Option<u64>
+        ensures lends { LendsTable unkept_controller table.now.is_wide result unkept_controller }
+        ensures fits { FitsTable table.now.is_wide result }
         ensures told { TellsTable table.now result self.old.stream.diary.past self.new.stream.diary.past }
     {
         self.stream.lend_table(table)

@@ -8,21 +8,23 @@ ghost use Rattle.c_host.specs.Records.{command_record, failed_by, good_by};
 ghost use Rattle.c_host.specs.Records.{heard_by, ios_record, is_word, lines_by, moved_by};
 ghost use Rattle.c_host.specs.Records.{refused_by, touched_by, with_record};
 ghost use Rattle.c_host.specs.Told.{TellsCommand, TellsIos, TellsLending, TellsLook, TellsPause, TellsPort, TellsRead, TellsReadWith};
-ghost use Rattle.c_host.specs.Told.{TellsTable, TellsTaking, TellsWrite, TellsWriteWith, lent_at};
-ghost use Rattle.mmc_sdhci.specs.Lending.{Fits};
+ghost use Rattle.c_host.specs.Told.{TellsTable, TellsTaking, TellsWrite, TellsWriteWith};
+ghost use Rattle.mmc_sdhci.specs.Lending.{Fits, FitsTable};
+ghost use Rattle.mmc_sdhci.specs.Tables.{bytes_of};
 ghost use Rattle.mmc_host.specs.Hosts.{unkept_host};
 ghost use Rattle.mmc_host.specs.Together.{ReadsWith, WritesWith};
 ghost use Rattle.mmc_host.specs.declared.response.Response.TheVariants.{R1};
 
 use crate::diary::{Call, Diary, Note};
 use crate::records::{
-    LEND_BLOCKS, LEND_ROOM, LIMITS, LOOK, PAUSE, READ_REGISTER, READ_WITH, TAKE_BACK, TAKE_PLACES,
+    LEND_TABLE, LIMITS, LOOK, PAUSE, READ_REGISTER, READ_WITH, TAKE_BACK, TAKE_PLACES,
     WRITE_REGISTER, WRITE_WITH, command_record, failed_by, good_by, heard_by, ios_record, is_word,
-    lent_at, moved_by, refused_by, touched_by,
+    lent_at, moved_by, refused_by, table_at, touched_by,
 };
 use mmc_bus::{BlocksMut, Moved};
 use mmc_card::{DataIn, DataOut, Lines, Timing, Width};
 use mmc_host::{Data, Heard, HostCommand, Ios, Response, ResponseFault};
+use mmc_sdhci::{Line, Table};
 
 /// A stream, with a diary of what went over it, which exists only in proofs.
 ///
@@ -253,23 +255,37 @@ impl Stream {
     }
 
     /// Asks for memory for so many blocks by `LEND_ROOM` or `LEND_BLOCKS`, and tells its bus address.
-    pub fn lend(&mut self, operation: u8, count: usize) -> Option<u32>
+    pub fn lend(&mut self, operation: u8, count: usize) -> Option<u64>
         ensures tells { TellsLending operation count result self.old.diary.past self.new.diary.past }
         ensures fits { Fits result count }
     {
         let [a, b, ..] = count.to_le_bytes();
-        let mut answer = [0; 4];
+        let mut answer = [0; 8];
         self.ask(&[operation, a, b], &mut answer);
-        lent_at(u32::from_le_bytes(answer), count)
+        lent_at(u64::from_le_bytes(answer), count)
+    }
+
+    // Tells a line of a table, as it is: no record begins with its attributes.
+    fn tell_line(&mut self, line: Line)
+        ensures { self.new.diary.past ≡ Told (bytes_of line) ∷ self.old.diary.past }
+    {
+        match line {
+            Line::Narrow(bytes) => self.tell(&bytes),
+            Line::Wide(bytes) => self.tell(&bytes),
+        }
     }
 
     /// Lends a descriptor table, and tells its bus address.
-    pub fn lend_table(&mut self, table: &[[u8; 8]; 16]) -> u32
-        ensures { TellsTable table.now result self.old.diary.past self.new.diary.past }
+    pub fn lend_table(&mut self, table: &Table) -> Option<u64>
+        ensures tells { TellsTable table.now result self.old.diary.past self.new.diary.past }
+        ensures fits { FitsTable table.now.is_wide result }
     {
-        let mut answer = [0; 4];
-        self.ask(table.as_flattened(), &mut answer);
-        u32::from_le_bytes(answer)
+        for i in 0..table.len() {
+            self.tell_line(table.line(i));
+        }
+        let mut answer = [0; 8];
+        self.ask(&[LEND_TABLE], &mut answer);
+        table_at(table.is_wide(), u64::from_le_bytes(answer))
     }
 
     /// Takes a block that has come into memory that was lent.
