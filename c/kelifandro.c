@@ -45,13 +45,16 @@ enum {
     LEND_BLOCKS,
     TAKE_PLACES,
     TAKE_BACK,
-    /* no records: a block was put, or was got as a bad one, or a table was put */
+    LEND_TABLE,
+    /* a line of a table begins with its attributes: one of several, and the last */
+    LINE = 0x21,
+    LAST_LINE = 0x23,
+    /* no records: a block was put, or was got as a bad one */
     WROTE_BLOCK,
-    GOT_BAD,
-    LENT_TABLE
+    GOT_BAD
 };
 
-enum { BLOCK = 512, TABLE = 128 };
+enum { BLOCK = 512 };
 
 /* What is called seldom stands apart from what is called for each register and block: that saves few registers then. */
 #if defined __GNUC__
@@ -70,10 +73,11 @@ static uint8_t register_offset, register_size;
    have been written to. */
 static void *memory;
 static uint16_t behind, came;
-/* How many blocks of it are lent for DMA, whether they are written to, and where the controller's table of them stands. */
+/* How many blocks of it are lent for DMA, and whether they are written to; how many bytes their table has so far, and how many are
+   lent. */
 static uint16_t lent;
 static uint8_t is_room;
-static uint32_t table_address;
+static size_t table_length, table_lent;
 /* The block behind a command of a host that has transfer alone, and what read_block answers to it. */
 static uint8_t one_block[BLOCK];
 static int one_answer;
@@ -100,6 +104,12 @@ static void answer_word(uint8_t *bytes, uint32_t word)
 {
     answer_half(bytes, word);
     answer_half(bytes + 2, word >> 16);
+}
+
+static void answer_long(uint8_t *bytes, uint64_t number)
+{
+    answer_word(bytes, (uint32_t)number);
+    answer_word(bytes + 4, (uint32_t)(number >> 32));
 }
 
 /* The highest byte first. */
@@ -238,21 +248,41 @@ static void write_port(const struct kelifandro_registers *registers, const uint8
 
 static void take_back(const struct kelifandro_registers *registers)
 {
+    if (table_lent)
+        registers->take_back(registers->context, registers->table, table_lent, 0);
     if (lent)
         registers->take_back(registers->context, memory, (size_t)lent * BLOCK, is_room);
-    lent = 0;
+    table_lent = lent = 0;
 }
 
 /* Lends the first blocks of the request's memory for DMA, if the port can. An address that is none for the library is given back: then
    the blocks go through the Buffer Data Port. */
-static uint32_t lend(const struct kelifandro_registers *registers)
+static uint64_t lend(const struct kelifandro_registers *registers)
 {
     size_t n = (size_t)lent * BLOCK;
-    uint32_t address = registers->lend ? registers->lend(registers->context, memory, n, is_room) : 0;
+    uint64_t address = registers->lend ? registers->lend(registers->context, memory, n, is_room) : 0;
     if (!address)
         lent = 0;
-    else if (address % 4 || n - 1 > UINT32_MAX - address)
+    else if (address % 4 || n > UINT64_MAX - address)
         take_back(registers);
+    return address;
+}
+
+/* The next line of the table, as far as there is room. */
+static void put_line(const struct kelifandro_registers *registers, const uint8_t *line, size_t n)
+{
+    uint8_t *table = registers->table;
+    for (size_t i = 0; table_length + n <= registers->table_size && i < n; i++)
+        table[table_length + i] = line[i];
+    table_length += n;
+}
+
+static uint64_t lend_table(const struct kelifandro_registers *registers)
+{
+    uint64_t address = 0;
+    if (table_length <= registers->table_size)
+        address = registers->lend(registers->context, registers->table, table_length, 0);
+    table_lent = address ? table_length : 0;
     return address;
 }
 
@@ -265,7 +295,7 @@ static void pause_for(uint32_t microseconds)
 }
 
 /* Does what a record says where nothing comes of it; else notes what is asked. */
-APART static void take_record(const uint8_t *record)
+APART static void take_record(const uint8_t *record, size_t n)
 {
     switch (operation) {
     case WRITE_REGISTER:
@@ -289,6 +319,11 @@ APART static void take_record(const uint8_t *record)
     case LEND_BLOCKS:
         lent = half_at(record + 1);
         is_room = operation == LEND_ROOM;
+        table_length = 0;
+        break;
+    case LINE:
+    case LAST_LINE:
+        put_line(now->registers, record, n);
         break;
     case TAKE_PLACES:
         /* they have come to their places */
@@ -323,18 +358,13 @@ int64_t kelifandro_put(int32_t stream, const uint8_t *bytes, uint64_t n)
         take_block(bytes);
         return BLOCK;
     }
-    if (n == TABLE) {
-        table_address = now->registers->lend_table(now->registers->context, bytes, TABLE);
-        operation = LENT_TABLE;
-        return TABLE;
-    }
     operation = bytes[0];
     if (operation == READ_REGISTER) {
         register_size = bytes[1];
         register_offset = bytes[2];
         return 3;
     }
-    take_record(bytes);
+    take_record(bytes, (size_t)n);
     return (int64_t)n;
 }
 
@@ -373,11 +403,11 @@ APART static int64_t answer(uint8_t *bytes, size_t n)
         return 1;
     case LEND_ROOM:
     case LEND_BLOCKS:
-        answer_word(bytes, lend(now->registers));
-        return 4;
-    case LENT_TABLE:
-        answer_word(bytes, table_address);
-        return 4;
+        answer_long(bytes, lend(now->registers));
+        return 8;
+    case LEND_TABLE:
+        answer_long(bytes, lend_table(now->registers));
+        return 8;
     case LIMITS:
         bytes[0] = host->lines;
         bytes[1] = host->high_speed;
@@ -420,10 +450,12 @@ static void *memory_of(const void *bytes, size_t count)
     return count ? (void *)bytes : one_block;
 }
 
+enum { MOST = 65535 };
+
 /* More blocks than a request may name are one more: it is refused before any is touched. */
 static uint64_t at_most(size_t count)
 {
-    return count > 1024 ? 1025 : count;
+    return count > MOST ? MOST + 1 : count;
 }
 
 enum { SOFTWARE_RESET = 0x2f, RESET_COMMAND_AND_DATA = 6 };
@@ -446,6 +478,7 @@ static uint8_t begin(const struct kelifandro *kelifandro)
     now = kelifandro;
     operation = NOTHING;
     came = lent = 0;
+    table_lent = 0;
     if (kelifandro->host)
         return 0;
     return 1;
@@ -515,17 +548,23 @@ int32_t kelifandro_trim(struct kelifandro *kelifandro, enum kelifandro_part part
     return give_up(kelifandro, part, start, count, 1);
 }
 
-enum { LONGEST_REQUEST = 1024 };
+/* What a request may name of a longer one: where a table of memory names less, what it names by lines of 12 bytes. */
+static size_t longest(const struct kelifandro *kelifandro)
+{
+    const struct kelifandro_registers *registers = kelifandro->host ? 0 : kelifandro->registers;
+    size_t lines = registers && registers->lend ? registers->table_size / 12 : 0;
+    return lines && lines < MOST / 64 ? 64 * lines : MOST;
+}
 
 /* Reads or writes any number of sectors, none where they don't all lie in the partition. */
 static int32_t in_parts(struct kelifandro *kelifandro, enum kelifandro_part part, uint64_t start, size_t count, uint8_t *bytes,
                         int is_write, size_t *done)
 {
     uint64_t size = kelifandro_sectors(kelifandro, part);
-    size_t sectors = 0;
+    size_t sectors = 0, most = longest(kelifandro);
     int32_t result = size && (start > size || count > size - start) ? KELIFANDRO_OUT_OF_RANGE : KELIFANDRO_DONE;
     while (result == KELIFANDRO_DONE && (sectors < count || count == 0)) {
-        size_t n = count - sectors < LONGEST_REQUEST ? count - sectors : LONGEST_REQUEST;
+        size_t n = count - sectors < most ? count - sectors : most;
         uint8_t *at = count ? bytes + 512 * sectors : bytes;
         result = is_write ? kelifandro_write(kelifandro, part, start + sectors, n, at)
                           : kelifandro_read(kelifandro, part, start + sectors, n, at);
@@ -604,7 +643,7 @@ const char *kelifandro_text(int32_t result)
     case KELIFANDRO_OUT_OF_RANGE:
         return "sectors past the partition's end";
     case KELIFANDRO_COUNT:
-        return "no sector, or more than 1,024";
+        return "no sector, or more than 65,535";
     case KELIFANDRO_READ_ONLY:
         return "the card is write protected";
     case KELIFANDRO_NOT_ERASABLE:

@@ -35,7 +35,7 @@ enum kelifandro_result {
     KELIFANDRO_NO_PARTITION = -2,
     /* Sectors that are named lie past the partition's end. */
     KELIFANDRO_OUT_OF_RANGE = -3,
-    /* No sector is named, or more than 1,024 of a read or a write. */
+    /* No sector is named, or more than 65,535 of a read or a write. */
     KELIFANDRO_COUNT = -4,
     /* The card is write protected. */
     KELIFANDRO_READ_ONLY = -5,
@@ -149,17 +149,22 @@ struct kelifandro_registers {
     /* May be 0. So many words through the Buffer Data Port (20h), the lowest byte of a word first in memory: as readsl and writesl. */
     void (*read_port)(void *context, void *bytes, size_t words);
     void (*write_port)(void *context, const void *bytes, size_t words);
-    /* May be 0, all three: DMA (ADMA2, section 1.13), which is used where Capabilities have it, bit 19, and `lend` gives memory.
+    /* May be 0, both: DMA, which is used where Capabilities have ADMA2 (bit 19; section 1.13) or SDMA (bit 22; section 1.4), and `lend`
+       gives memory.
        lend: the controller is to read from these bytes or, where `is_written` is 1, to write to them. Writes back what caches hold of
        them, and drops it where they are written to. Answers their bus address, a multiple of 4; 0 where the controller can't have them
-       (not in one piece, not aligned, beyond 32 bits): then they go through the Buffer Data Port. It may lend a buffer of its own.
-       lend_table: copies a table of 128 bytes to where the controller can read it, and answers its bus address, a multiple of 4. Nothing
-       but the controller uses it until take_back.
-       take_back: what was lent last is the library's again: where it was written to, it holds what the controller has left there. The
-       controller is at rest then. */
-    uint32_t (*lend)(void *context, void *bytes, size_t n, int is_written);
-    uint32_t (*lend_table)(void *context, const void *table, size_t n);
+       (not in one piece, not aligned). It may lend a buffer of its own. What a controller can't reach is taken back at once, and goes
+       through the Buffer Data Port: without bit 28 what lies beyond 32 bits, with it what doesn't begin at a multiple of 8 there, and by
+       SDMA what crosses a multiple of 512 KiB.
+       take_back: these bytes, which were lent, are the library's again: where they were written to, they hold what the controller has
+       left there. The controller is at rest then. */
+    uint64_t (*lend)(void *context, void *bytes, size_t n, int is_written);
     void (*take_back)(void *context, void *bytes, size_t n, int is_written);
+    /* Memory for a table that ADMA2 wants, which is lent by `lend` too, at a bus address that is a multiple of 8 and within 32 bits where
+       the request's memory is: 8 bytes for each 64 sectors of a request, or 12 beyond 32 bits; 8,192 serve each request there. Without it,
+       and where a request wants more, it goes through the Buffer Data Port. */
+    void *table;
+    size_t table_size;
     /* What a board knows in place of its controller; 0 is as the registers say. */
     uint8_t is_there;      /* 1: there is always a card: it is soldered, or the slot's switch isn't wired */
     uint8_t is_by_words;   /* 1: the controller takes 32-bit accesses alone: `size` is 4 then, and `offset` a multiple of 4 */
@@ -231,12 +236,12 @@ int32_t kelifandro_open(struct kelifandro *kelifandro);
 /* The size of a partition in sectors of 512 bytes, 0 where there is no such one, or the card isn't open. */
 uint64_t kelifandro_sectors(const struct kelifandro *kelifandro, enum kelifandro_part part);
 
-/* Reads or writes 1 to 1,024 sectors. `bytes` has room for all of them; of no sector (KELIFANDRO_COUNT) it may be null. */
+/* Reads or writes 1 to 65,535 sectors. `bytes` has room for all of them; of no sector (KELIFANDRO_COUNT) it may be null. */
 int32_t kelifandro_read(struct kelifandro *kelifandro, enum kelifandro_part part, uint64_t start, size_t count, void *bytes);
 int32_t kelifandro_write(struct kelifandro *kelifandro, enum kelifandro_part part, uint64_t start, size_t count,
                          const void *bytes);
 
-/* The same of any number of sectors, in requests of 1,024 at most, from the first on; of none where they don't all lie in the partition.
+/* The same of any number of sectors, in requests of 65,535 at most, by DMA as many as a table has lines for, from the first on; of none where they don't all lie in the partition.
    It ends with the first request that isn't done: `*done`, where it isn't null, says how many sectors are done before that one. Each
    sector of that one is old or new then, of a write, and none after it has changed. */
 int32_t kelifandro_read_long(struct kelifandro *kelifandro, enum kelifandro_part part, uint64_t start, size_t count, void *bytes,

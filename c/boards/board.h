@@ -20,15 +20,16 @@ uint32_t mapped_read(void *context, unsigned offset, unsigned size);
 void mapped_write(void *context, unsigned offset, unsigned size, uint32_t value);
 /* Memory for DMA, on a board whose controller has all memory at the processor's addresses, and no cache between. A port to a board with
    caches writes them back and drops them here. */
-uint32_t board_lend(void *context, void *bytes, size_t n, int is_written);
-uint32_t board_lend_table(void *context, const void *table, size_t n);
+uint64_t board_lend(void *context, void *bytes, size_t n, int is_written);
 void board_take_back(void *context, void *bytes, size_t n, int is_written);
 /* how often memory was lent */
 extern unsigned long board_lendings;
-/* A controller's registers that are plain memory; DMA is used where its Capabilities have ADMA2. */
+/* lines of a table of memory, enough for each request within 32 bits */
+extern uint64_t board_table[1024];
+/* A controller's registers that are plain memory; DMA is used where its Capabilities have ADMA2 or SDMA. */
 #define MAPPED \
-    .read = mapped_read, .write = mapped_write, .pause = board_pause, .lend = board_lend, .lend_table = board_lend_table, \
-    .take_back = board_take_back
+    .read = mapped_read, .write = mapped_write, .pause = board_pause, .lend = board_lend, .take_back = board_take_back, \
+    .table = board_table, .table_size = sizeof board_table
 
 /* The first SD host controller on the first bus of PCI Express, whose configuration space begins at `space`: its registers come to
    `place`. Answers 0 where there is none. */

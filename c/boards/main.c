@@ -62,27 +62,13 @@ void mapped_write(void *context, unsigned offset, unsigned size, uint32_t value)
 
 unsigned long board_lendings;
 
-uint32_t board_lend(void *context, void *bytes, size_t n, int is_written)
-{
-    uintptr_t at = (uintptr_t)bytes;
-    (void)context, (void)is_written;
-    if (at % 4 || at > UINT32_MAX - n)
-        return 0;
-    board_lendings++;
-    return (uint32_t)at;
-}
+uint64_t board_table[1024];
 
-uint32_t board_lend_table(void *context, const void *table, size_t n)
+uint64_t board_lend(void *context, void *bytes, size_t n, int is_written)
 {
-    static union {
-        uint8_t bytes[128];
-        uint64_t aligned;
-    } copy;
-    const uint8_t *bytes = table;
-    (void)context;
-    for (size_t i = 0; i < n && i < sizeof copy.bytes; i++)
-        copy.bytes[i] = bytes[i];
-    return (uint32_t)(uintptr_t)copy.bytes;
+    (void)context, (void)n, (void)is_written;
+    board_lendings++;
+    return (uintptr_t)bytes;
 }
 
 void board_take_back(void *context, void *bytes, size_t n, int is_written)

@@ -3,8 +3,10 @@
 
 enum { COMMAND_COMPLETE = 1, TRANSFER_COMPLETE = 2, ERROR = 0x8000 };
 enum { COMMAND_TIMEOUT = 1 << 16, DATA_TIMEOUT = 1 << 20, DATA_CRC = 1 << 21, DMA_ERROR = 1 << 25 };
-/* bus addresses of memory that is lent, and of its table */
-enum { LENT_AT = 0x10000000, TABLE_AT = 0x20000000 };
+enum { SDMA = 0, ADMA2 = 0x10, ADMA2_WIDE = 0x18 }; /* Host Control 1, bits 4 and 3 */
+
+/* What the port keeps of a table of the memory that is lent: sixteen lines, or ten that are wide. */
+static uint64_t table[16];
 
 void controller_begin(struct controller *controller, const struct kelifandro_host *host, int one_block)
 {
@@ -15,6 +17,8 @@ void controller_begin(struct controller *controller, const struct kelifandro_hos
     controller->one_block = one_block;
     controller->capabilities = 1 << 24 | 1 << 21 | 1 << 18 | 50 << 8;
     controller->version = 2;
+    controller->lent_at = 0x10000000;
+    controller->table_at = 0x20000000;
 }
 
 static void fail(struct controller *controller, uint32_t error)
@@ -89,28 +93,53 @@ static void transmit(struct controller *controller)
     }
 }
 
-/* Whether the table names just the memory that is lent, line by line (section 1.13.3). */
-static int names_all(const struct controller *controller)
+static uint64_t number_at(const uint8_t *bytes, size_t n)
 {
+    uint64_t number = 0;
+    for (size_t i = 0; i < n; i++)
+        number |= (uint64_t)bytes[i] << (8 * i);
+    return number;
+}
+
+/* Whether the table names just the memory that is lent, line by line, with addresses of so many bytes (section 1.13.3). */
+static int names_all(const struct controller *controller, size_t width)
+{
+    const uint8_t *line = (const uint8_t *)table;
     size_t done = 0;
-    for (const uint8_t *line = controller->table; line < controller->table + sizeof controller->table; line += 8) {
-        size_t length = line[2] | (size_t)line[3] << 8;
-        uint32_t address = line[4] | (uint32_t)line[5] << 8 | (uint32_t)line[6] << 16 | (uint32_t)line[7] << 24;
-        if ((line[0] & 0x3d) != 0x21 || line[1] || length == 0 || address != LENT_AT + done)
+    for (size_t left = controller->table_length; left >= 4 + width; left -= 4 + width, line += 4 + width) {
+        size_t length = (size_t)number_at(line + 2, 2);
+        if ((line[0] & 0x3d) != 0x21 || line[1] || length == 0 || number_at(line + 4, width) != controller->lent_at + done)
             return 0;
         done += length;
         if (line[0] & 2)
-            return done == controller->lent_size;
+            return done == controller->lent_size && left == 4 + width;
     }
     return 0;
 }
 
-/* All that DMA wants: ADMA2 selected, its errors shown, and memory for just this data. */
+/* What the way that is selected wants: of SDMA, which would stop at the next multiple of 512 KiB, that all memory lies before that; of
+   ADMA2 a table, and that its errors are shown. */
+static int is_pointed(const struct controller *controller)
+{
+    uint64_t upper = (uint64_t)controller->adma_upper << 32;
+    switch (controller->control & 0x18) {
+    case SDMA:
+        return controller->capabilities & 1 << 22 && controller->sdma_address == controller->lent_at
+               && controller->lent_at % 0x80000 + controller->lent_size <= 0x80000;
+    case ADMA2:
+        return controller->enabled & DMA_ERROR && controller->adma_address == controller->table_at && names_all(controller, 4);
+    case ADMA2_WIDE:
+        return controller->enabled & DMA_ERROR && (upper | controller->adma_address) == controller->table_at && names_all(controller, 8);
+    default:
+        return 0;
+    }
+}
+
+/* All that DMA wants: memory for just this data, to which it is led. */
 static int can_move(const struct controller *controller)
 {
-    return (controller->control & 0x18) == 0x10 && controller->enabled & DMA_ERROR && controller->table_at == TABLE_AT && controller->lent
-           && controller->lent_size == 512 * (size_t)controller->left && controller->is_room == (controller->direction == KELIFANDRO_READ)
-           && names_all(controller);
+    return controller->lent && controller->lent_size == 512 * (size_t)controller->left
+           && controller->is_room == (controller->direction == KELIFANDRO_READ) && is_pointed(controller);
 }
 
 /* Moves a block, and waits after one that is written until the card isn't busy. */
@@ -136,6 +165,8 @@ static void move_by_dma(struct controller *controller)
     }
     for (uint8_t *block = controller->lent; controller->direction != KELIFANDRO_NO_DATA; block += 512) {
         int what = move(controller, block);
+        controller->sdma_address += 512;
+        controller->moved++;
         if (what)
             fail(controller, what == 1 ? DATA_CRC : DATA_TIMEOUT);
         else
@@ -250,6 +281,9 @@ static void reset(struct controller *controller, uint32_t lines)
         controller->capabilities = was.capabilities;
         controller->version = was.version;
         controller->misuses = was.misuses;
+        controller->moved = was.moved;
+        controller->lent = was.lent, controller->lent_size = was.lent_size, controller->is_room = was.is_room;
+        controller->lent_at = was.lent_at, controller->table_at = was.table_at, controller->table_length = was.table_length;
         set_ios(controller);
     }
     if (lines & 4) {
@@ -322,6 +356,12 @@ static uint32_t read(void *context, unsigned offset, unsigned size)
     }
 }
 
+/* Whether ADMA2 can be selected so, by Capabilities. */
+static int has_way(const struct controller *controller, uint32_t way)
+{
+    return controller->capabilities & 1 << 19 && (way == ADMA2 || (way == ADMA2_WIDE && controller->capabilities & 1 << 28));
+}
+
 /* Sizes, lines, power, clock, and a command with data wait until no data is under way; several blocks are counted; eight lines and high speed are
    in Capabilities; the port wants data; and while data is under way
    only a command's bits are cleared. */
@@ -331,9 +371,13 @@ static int is_misuse(const struct controller *controller, unsigned offset, uint3
     switch (offset) {
     case 0x28:
         return is_moving || (value & 0x20 && !(controller->capabilities & 1 << 18))
-               || (value & 4 && !(controller->capabilities & 1 << 21)) || (value & 0x18 && !(controller->capabilities & 1 << 19));
-    case 0x04:
+               || (value & 4 && !(controller->capabilities & 1 << 21)) || (value & 0x18 && !has_way(controller, value & 0x18));
+    case 0x04: /* SDMA stops at each 512 KiB */
+        return is_moving || (value >> 12 & 15) != 7;
+    case 0x00:
     case 0x29:
+    case 0x58:
+    case 0x5c:
         return is_moving;
     case 0x2c: /* by its word it is written as it is, with a reset */
         return is_moving && ((value ^ controller->clock) & 0xfffd);
@@ -360,6 +404,9 @@ static void write(void *context, unsigned offset, unsigned size, uint32_t value)
         return;
     }
     switch (offset) {
+    case 0x00:
+        controller->sdma_address = value;
+        break;
     case 0x04:
         controller->sizes = value;
         break;
@@ -393,37 +440,42 @@ static void write(void *context, unsigned offset, unsigned size, uint32_t value)
         controller->status &= ~value;
         break;
     case 0x58:
-        controller->table_at = value;
+        controller->adma_address = value;
+        break;
+    case 0x5c:
+        controller->adma_upper = value;
         break;
     }
 }
 
-/* Memory is lent and taken back while no data is under way, each time the same. */
-static uint32_t lend(void *context, void *bytes, size_t n, int is_written)
+/* Memory is lent, and then a table of it, and taken back while no data is under way. */
+static uint64_t lend(void *context, void *bytes, size_t n, int is_written)
 {
     struct controller *controller = context;
-    controller->misuses += controller->direction != KELIFANDRO_NO_DATA || controller->lent;
+    controller->misuses += controller->direction != KELIFANDRO_NO_DATA;
+    if (bytes == (void *)table) {
+        controller->misuses += !controller->lent || controller->table_length || n > sizeof table || is_written;
+        controller->table_length = n;
+        return controller->table_at;
+    }
+    controller->misuses += controller->lent != 0;
     controller->lent = bytes;
     controller->lent_size = n;
     controller->is_room = is_written;
-    return LENT_AT;
-}
-
-static uint32_t lend_table(void *context, const void *table, size_t n)
-{
-    struct controller *controller = context;
-    const uint8_t *from = table;
-    controller->misuses += n != sizeof controller->table;
-    for (size_t i = 0; i < sizeof controller->table; i++)
-        controller->table[i] = from[i];
-    return TABLE_AT;
+    return controller->lent_at;
 }
 
 static void take_back(void *context, void *bytes, size_t n, int is_written)
 {
     struct controller *controller = context;
-    controller->misuses += controller->direction != KELIFANDRO_NO_DATA || controller->lent != bytes || controller->lent_size != n
-                           || controller->is_room != is_written;
+    controller->misuses += controller->direction != KELIFANDRO_NO_DATA;
+    if (bytes == (void *)table) {
+        controller->misuses += controller->table_length != n || is_written;
+        controller->table_length = 0;
+        return;
+    }
+    controller->misuses += controller->lent != bytes || controller->lent_size != n || controller->is_room != is_written
+                           || controller->table_length;
     controller->lent = 0;
 }
 
@@ -456,8 +508,9 @@ const struct kelifandro_registers dma_registers = {.read = read,
                                                    .write = write,
                                                    .pause = pause,
                                                    .lend = lend,
-                                                   .lend_table = lend_table,
-                                                   .take_back = take_back};
+                                                   .take_back = take_back,
+                                                   .table = table,
+                                                   .table_size = sizeof table};
 
 const struct kelifandro_registers board_registers = {.read = read,
                                                      .write = write,

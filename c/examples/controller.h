@@ -23,12 +23,18 @@ struct controller {
     /* An error that isn't shown yet, and after how many looks at the status it is. A bad block is in the buffer before its error shows. */
     uint32_t error;
     int looks;
-    /* Memory that is lent for DMA, whether it is written to, the descriptor table of it, and ADMA System Address (58h). */
+    /* Memory that is lent for DMA, where, whether it is written to, and how long its descriptor table is, and where that stands. The two
+       bus addresses may be set after controller_begin. */
     uint8_t *lent;
     size_t lent_size;
+    uint64_t lent_at;
     int is_room;
-    uint8_t table[128];
-    uint32_t table_at;
+    size_t table_length;
+    uint64_t table_at;
+    /* SDMA System Address (00h), and ADMA System Address (58h, 5Ch). */
+    uint32_t sdma_address, adma_address, adma_upper;
+    /* blocks that DMA has moved */
+    unsigned long moved;
     /* how often it was told what its registers don't allow at that time */
     unsigned long misuses;
 };
@@ -39,7 +45,7 @@ void controller_begin(struct controller *controller, const struct kelifandro_hos
 extern const struct kelifandro_registers controller_registers;
 /* The same with a block through the port by one call. */
 extern const struct kelifandro_registers port_registers;
-/* Those with memory for DMA, which is used where Capabilities have ADMA2 (bit 19). */
+/* Those with memory for DMA, which is used where Capabilities have ADMA2 (bit 19) or SDMA (bit 22). */
 extern const struct kelifandro_registers dma_registers;
 /* Those of a bare board, which says itself what they don't. */
 extern const struct kelifandro_registers board_registers;

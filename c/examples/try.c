@@ -31,10 +31,11 @@ static void expect(int is_so, const char *what, unsigned long n)
         printf("wrong: %s (%lu)\n", what, n);
 }
 
-enum way { HOST, TRANSFERS, ONE_BLOCK, SEVERAL_BLOCKS, BY_PORT, WHOLE, BARE, DMA };
+enum way { HOST, TRANSFERS, ONE_BLOCK, SEVERAL_BLOCKS, BY_PORT, WHOLE, BARE, DMA_BY_ADDRESS, DMA_BY_TABLE, DMA_BY_WIDE_TABLE };
 static const char *const ways[] = {"a host", "a host with transfers", "registers, room for one block", "registers, room for several",
                                    "registers, room for one block, a call a block", "a host with transfers alone",
-                                   "registers of a bare board", "registers with memory for DMA"};
+                                   "registers of a bare board", "registers with memory for SDMA", "registers with memory for ADMA2",
+                                   "registers with memory for ADMA2 beyond 32 bits"};
 
 static int has_registers(enum way way)
 {
@@ -55,8 +56,11 @@ static void begin(int is_emmc, enum way way)
     controller_begin(&controller, &host, one_block);
     controller.is_bare = way == BARE;
     controller.capabilities = 1u << 24 | (uint32_t)high_speed << 21 | (uint32_t)(lines == 8) << 18 | 50 << 8;
-    registers = way == BY_PORT ? port_registers : way == BARE ? board_registers : way == DMA ? dma_registers : controller_registers;
-    controller.capabilities |= way == DMA ? 1 << 19 : 0;
+    registers = way == BY_PORT ? port_registers : way == BARE ? board_registers : way >= DMA_BY_ADDRESS ? dma_registers : controller_registers;
+    if (way >= DMA_BY_ADDRESS)
+        controller.capabilities |= way == DMA_BY_ADDRESS ? 1u << 22 : way == DMA_BY_TABLE ? 1u << 19 : 1u << 19 | 1u << 28;
+    if (way == DMA_BY_WIDE_TABLE)
+        controller.lent_at = 0x1010000000, controller.table_at = 0x2020000000;
     registers.context = &controller;
     if (way == BARE)
         registers.capabilities = controller.capabilities;
@@ -110,6 +114,7 @@ static unsigned long whole(int is_emmc, enum way way, unsigned long lost, int is
     expect(card.user[8][0] == 0 && card.user[9][511] == 0, "erased sectors", lost);
     expect(memcmp(card.user[7], data, 512) == 0 && memcmp(card.user[10], data + 3 * 512, 512) == 0, "their neighbours", lost);
     expect(controller.misuses == 0, "what the registers allow", lost);
+    expect((controller.moved > 0) == (way >= DMA_BY_ADDRESS), "blocks that DMA moved", lost);
     counts(is_emmc ? 5 : 3, lost >= opened && lost < card.answers && !card.is_look_lost, lost);
     return card.answers;
 }
@@ -204,6 +209,36 @@ static void clocks(void)
     expect(kelifandro_open(&sd) == KELIFANDRO_DONE, "the same clock of a later version", 0);
 }
 
+/* Memory that a controller can't reach, or a table for which there is no room: the blocks go through the Buffer Data Port. */
+static void beyond_reach(void)
+{
+    static const struct {
+        uint64_t lent_at;
+        uint32_t capabilities;
+        size_t table_size;
+    } cases[] = {
+        {0x1007fe00, 1u << 22, 128},                /* SDMA, across a multiple of 512 KiB */
+        {0x1010000000, 1u << 22, 128},              /* SDMA, beyond 32 bits */
+        {0xfffffe00, 1u << 19, 128},                /* ADMA2 by 32 bits, across their end */
+        {0x1010000004, 1u << 19 | 1u << 28, 128},   /* by 64, at no multiple of 8 */
+        {0x10000000, 1u << 19, 7},                  /* no room for a line */
+        {0x10000002, 1u << 19 | 1u << 22, 128},     /* at no multiple of 4 */
+        {0xfffffffffffffff8, 1u << 19 | 1u << 28, 128}, /* across the end of all */
+    };
+    for (size_t i = 0; i < sizeof cases / sizeof *cases; i++) {
+        begin(0, DMA_BY_TABLE);
+        controller.capabilities = (controller.capabilities & ~(1u << 19)) | cases[i].capabilities;
+        controller.lent_at = cases[i].lent_at;
+        registers.table_size = cases[i].table_size;
+        expect(kelifandro_open(&sd) == KELIFANDRO_DONE, "open", i);
+        expect(kelifandro_write(&sd, KELIFANDRO_USER, 7, 4, data) == KELIFANDRO_DONE, "write beyond reach", i);
+        expect(memcmp(card.user[7], data, 4 * 512) == 0, "what was written beyond reach", i);
+        expect(kelifandro_read(&sd, KELIFANDRO_USER, 7, 4, back) == KELIFANDRO_DONE, "read beyond reach", i);
+        expect(memcmp(back, data, 4 * 512) == 0, "what was read beyond reach", i);
+        expect(controller.moved == 0 && controller.misuses == 0 && !controller.lent, "nothing is moved by DMA", i);
+    }
+}
+
 /* Bytes of any kind for a card: each call returns, and nothing outside of its room is touched (the card's own sectors apart). */
 static void junk(unsigned long rounds)
 {
@@ -239,13 +274,14 @@ int main(int words, char **word)
         profile(strtoul(word[1], 0, 10), strtoul(word[2], 0, 10), (enum way)(word[3][0] - '0'));
         return 0;
     }
-    for (int way = HOST; way <= DMA; way++)
+    for (int way = HOST; way <= DMA_BY_WIDE_TABLE; way++)
         for (int is_emmc = 0; is_emmc < 2; is_emmc++)
             each_in_turn(is_emmc, way);
-    for (int way = HOST; way <= DMA; way++)
+    for (int way = HOST; way <= DMA_BY_WIDE_TABLE; way++)
         refusals(way), long_requests(way), switches(way);
     lost_ways();
     clocks();
+    beyond_reach();
     junk(100000 / EVERY);
     printf("junk for a card: %d calls\n%lu wrong\n", 100000 / EVERY, wrong);
     return wrong != 0;

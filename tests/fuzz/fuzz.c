@@ -185,10 +185,19 @@ static void write_register(void *context, unsigned offset, unsigned size, uint32
     controller_registers.write(context, offset, size, value);
 }
 
-static uint32_t lend_anywhere(void *context, void *bytes, size_t n, int is_written)
+static uint64_t lend_anywhere(void *context, void *bytes, size_t n, int is_written)
 {
     (void)context, (void)bytes, (void)n, (void)is_written;
-    return any();
+    return any() | (uint64_t)(any() % 4) << 32;
+}
+
+/* ADMA2 within 32 bits, SDMA, ADMA2 beyond 32 bits, or SDMA with memory that it would stop in. */
+static void begin_dma(unsigned kind)
+{
+    static const uint32_t ways[] = {1u << 19, 1u << 22, 1u << 19 | 1u << 28, 1u << 22};
+    static const uint64_t places[] = {0x10000000, 0x10000000, 0x1010000000, 0x1007fe00};
+    controller.capabilities |= ways[kind];
+    controller.lent_at = places[kind];
 }
 
 static void begin(void)
@@ -214,7 +223,8 @@ static void begin(void)
     controller_begin(&controller, &host, way == BY_ONE_BLOCK || way == BY_PORT);
     controller.is_bare = way == BY_WORDS;
     registers = way == BY_PORT ? port_registers : way == BY_WORDS ? board_registers : way == BY_DMA ? dma_registers : controller_registers;
-    controller.capabilities |= way == BY_DMA ? 1 << 19 : 0;
+    if (way == BY_DMA)
+        begin_dma(limits / 8 % 4);
     if (way == BY_DMA && is_hostile)
         registers.lend = lend_anywhere;
     registers.read = read_register, registers.write = write_register, registers.context = &controller;
@@ -251,7 +261,7 @@ static struct call next_call(void)
     else if (shape % 8 == 3)
         call.count = shape / 8;
     else if (shape % 4 == 0 && (call.kind == READ_LONG || call.kind == WRITE_LONG))
-        call.count += 1010; /* around the most of one request */
+        call.count += 630; /* around the most of one request by DMA */
     return call;
 }
 
@@ -274,7 +284,7 @@ static uint64_t size_of(unsigned part)
 static int is_right(struct call call)
 {
     uint64_t size = size_of(call.part);
-    uint64_t most = call.kind == READ || call.kind == WRITE ? 1024 : size;
+    uint64_t most = call.kind == READ || call.kind == WRITE ? 65535 : size;
     if (!is_open || call.count == 0 || call.count > most || call.start > size || call.count > size - call.start)
         return 0;
     if (call.kind == TRIM)
@@ -360,7 +370,7 @@ static uint64_t failures_in(const struct kelifandro_healed *healed)
 }
 
 /* What a call adds to the counts: an attempt by which it is done, or four that failed; each failure but the last is settled. A long
-   one makes a request for each 1,024 sectors. */
+   one makes a request for each 640 sectors by DMA, for which there are lines of a table. */
 static void judge_counts(struct call call, int32_t result, const struct kelifandro_healed *then)
 {
     uint64_t failures = failures_in(&sd->healed) - failures_in(then), attempts = sd->healed.attempts - then->attempts;
@@ -370,7 +380,7 @@ static void judge_counts(struct call call, int32_t result, const struct kelifand
         check(memcmp(&sd->healed, then, sizeof *then) == 0, "what is refused isn't counted", result);
         return;
     }
-    check(call.count > 1024 || attempts - failures == (uint64_t)is_done, "attempts that were counted", result);
+    check(call.count > 640 || attempts - failures == (uint64_t)is_done, "attempts that were counted", result);
     check(is_done || failures >= 4, "failures that were counted", result);
     check(settlings + !is_done >= failures && settlings <= failures + 1, "settlings that were counted", result);
     check(sd->healed.resets - then->resets <= settlings, "resets that were counted", result);

@@ -28,9 +28,9 @@ static unsigned faults, garbled_registers, busy_rounds, busy_left;
 static int is_byte_addressed, is_old, is_locked, is_strict;
 /* Bits of a status that nobody judges are any. */
 static int has_idle_bits;
-/* How many looks at it find the card busy still, how many readings of registers find the same dead controller, and how many looks find
-   neither a block in its buffer nor room for one. */
-static unsigned long stuck, dead, without_buffers;
+/* How many looks at it find the card busy still, how many readings of registers find the same dead controller, how many looks find
+   neither a block in its buffer nor room for one, and how many find all its data moved, and aren't told. */
+static unsigned long stuck, dead, without_buffers, untold;
 /* How many statuses show it at work still. */
 static unsigned at_work;
 static uint32_t dead_value;
@@ -137,7 +137,7 @@ static void draw_card(int is_emmc)
     is_old = one_in(8);
     is_locked = one_in(24);
     is_strict = one_in(6);
-    stuck = dead = without_buffers = at_work = 0;
+    stuck = dead = without_buffers = untold = at_work = 0;
     busy_rounds = one_in(3) ? any() % 20 : 0;
     garble(cid, sizeof cid);
     draw_csd(is_emmc);
@@ -369,6 +369,10 @@ static uint32_t read_register(void *context, unsigned offset, unsigned size)
         without_buffers--;
         return 0;
     }
+    if (offset == 0x30 && value & 2 && untold) {
+        untold--;
+        return value & ~2u;
+    }
     /* at any time, and mostly where data is to come or to go */
     if (garbled_registers && one_in(offset == 0x25 && controller.direction != KELIFANDRO_NO_DATA ? 40 : 3000))
         die(value);
@@ -383,10 +387,24 @@ static void write_register(void *context, unsigned offset, unsigned size, uint32
 }
 
 /* Memory is had, or not, or anywhere. */
-static uint32_t lend(void *context, void *bytes, size_t n, int is_written)
+static uint64_t lend(void *context, void *bytes, size_t n, int is_written)
 {
-    uint32_t at = one_in(8) ? 0 : dma_registers.lend(context, bytes, n, is_written);
-    return at && one_in(24) ? any() : at;
+    uint64_t at = one_in(8) ? 0 : dma_registers.lend(context, bytes, n, is_written);
+    return at && one_in(24) ? any() | (uint64_t)(one_in(2) ? any() : 0) << 32 : at;
+}
+
+/* How a controller moves blocks by itself, where memory for it stands, and how much room there is for a table. */
+static void draw_dma(void)
+{
+    static const uint32_t ways[] = {1u << 22, 1u << 19, 1u << 19 | 1u << 28, 0};
+    static const uint64_t places[] = {0x10000000, 0x1010000000, 0x1007e000, 0xffff8000, 0x1010000004, 0xfffffffffff80000};
+    controller.capabilities &= ~(1u << 19 | 1u << 22 | 1u << 28);
+    controller.capabilities |= ways[any() % 3 + (one_in(8) ? 1 : 0)];
+    if (one_in(2))
+        controller.lent_at = places[any() % 6], controller.table_at = one_in(2) ? 0x2020000000 : 0x20000000;
+    registers.lend = lend, registers.take_back = dma_registers.take_back;
+    registers.table = dma_registers.table;
+    registers.table_size = one_in(4) ? any() % 40 : dma_registers.table_size;
 }
 
 /* What host or controller can: a record may have been written over one that could more. */
@@ -412,10 +430,8 @@ static void begin_way(enum way way)
     controller.version = (uint8_t)(one_in(4) ? any() % 2 : one_in(8) ? any() : 2);
     draw_limits();
     registers = way == BY_PORT ? port_registers : way == BY_WORDS ? board_registers : controller_registers;
-    if (way == BY_DMA) {
-        controller.capabilities |= one_in(8) ? 0 : 1u << 19;
-        registers.lend = lend, registers.lend_table = dma_registers.lend_table, registers.take_back = dma_registers.take_back;
-    }
+    if (way == BY_DMA)
+        draw_dma();
     if (way != BY_PORT && way != BY_WORDS)
         registers.read = read_register, registers.write = write_register;
     registers.context = &controller;
@@ -545,7 +561,7 @@ static void one_call(void)
 {
     enum kelifandro_part part = (enum kelifandro_part)(one_in(3) ? any() % 9 : 0);
     uint64_t start = drawn_start(kelifandro_sectors(&sd, part));
-    size_t count = one_in(12) ? any() % LONGEST : one_in(40) ? 1023 + any() % 3 : 1 + any() % 9;
+    size_t count = one_in(12) ? any() % LONGEST : one_in(40) ? 1023 + any() % 3 : one_in(40) ? 65536 + any() % 3 : 1 + any() % 9;
     if (one_in(4))
         start = kelifandro_sectors(&sd, part) - count;
     trace_no_part = (uint8_t)(7 + any() % 249);
@@ -553,6 +569,8 @@ static void one_call(void)
         draw_limits();
     if (one_in(200))
         without_buffers = 12000;
+    if (one_in(100))
+        untold = one_in(4) ? 210000 : 1200;
     switch (any() % 12) {
     case 0:
         junk();
