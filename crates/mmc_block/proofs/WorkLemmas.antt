@@ -1,11 +1,15 @@
 -- How many attempts are left, and that each turn lowers the work that is left.
-use Rattle.std.proofs.Common.{◌*◌, ◌+◌, ◌-◌, ◌<◌, ◌∷◌, ◌≡◌, ◌≤◌, Bool, List, [], ap, arith, false, if◌then◌else◌}
+use Rattle.std.proofs.Common.{◌*◌, ◌+◌, ◌-◌, ◌<◌, ◌∙◌, ◌∷◌, ◌≡◌, ◌≤◌, Bool, List, [], ap, arith, false, if◌then◌else◌}
 use Rattle.std.proofs.Common.{inl, inr, length, refl, suc, true, ℕ}
 use Rattle.mmc_card.specs.declared.part.Part.{Part}
 use Rattle.mmc_queue.specs.declared.entry.Entry.{Entry}
 use Rattle.mmc_queue.specs.declared.extent.Extent.{Extent}
+use Rattle.mmc_queue.specs.declared.group.Group.{Group}
+use Rattle.mmc_queue.specs.declared.request.TheConstants.{MAX_COUNT}
 use Rattle.mmc_queue.specs.Group.{IsFair, IsMerged}
 use Rattle.mmc_queue.specs.Lent.{AreLent}
+use Rattle.mmc_queue.specs.Requests.{can_merge}
+use Rattle.mmc_switch.specs.declared.info.Info.{Info}
 use Rattle.mmc_switch.specs.declared.broken.Broken.{Broken}
 use Rattle.mmc_block.specs.declared.completion.Completion.{Completion}
 use Rattle.mmc_block.specs.declared.service.Attempt.{Attempt}
@@ -16,11 +20,51 @@ use Rattle.mmc_switch.specs.declared.progress.Progress.TheVariants.{Done, Failed
 use Rattle.mmc_block.specs.Service.{Service}
 use Rattle.mmc_block.specs.Service.Service.{Idle, Serving, Taken}
 use Rattle.mmc_block.specs.declared.service.Stage.{Stage}
-use Rattle.mmc_block.specs.declared.service.Stage.TheVariants.{At}
+use Rattle.mmc_block.specs.declared.service.Stage.TheVariants.{At, Running}
+use Rattle.mmc_block.specs.declared.service.Work.{Work}
+use Rattle.mmc_block.specs.declared.service.Work.TheVariants.{Blocks, Erase}
+use Rattle.mmc_transfer.specs.declared.way.Way.{Way}
+use Rattle.mmc_transfer.specs.declared.way.Way.TheVariants as way
 use Rattle.mmc_block.specs.declared.work.TheConstants.{TURNS_OF_AN_ATTEMPT, TURNS_OF_A_REQUEST, TURNS_OF_A_RUN}
 use Rattle.mmc_block.specs.Entries.{waits_of}
-use Rattle.mmc_block.specs.Service.{AfterFailure, Concludes, HasStarted, IsFirstTry, IsNext, tries}
-use Rattle.mmc_block.specs.Work.{attempts_left, is_on, left_behind, service_left, split, stage_left}
+use Rattle.mmc_block.specs.Machine.{Waiting}
+use Rattle.mmc_block.specs.Service.{AfterFailure, Concludes, HasStarted, IsFirstTry, IsNext, IsStageOf, IsWorkOf, ServiceOk}
+use Rattle.mmc_block.specs.Service.{kind_of_way, tries}
+use Rattle.mmc_block.specs.Work.{IsCountable, IsShort, IsShortAt, attempts_left, is_on, left_behind, service_left, split}
+use Rattle.mmc_block.specs.Work.{stage_left}
+
+-- The blocks of a run.
+
+-- reads and writes are joined up to so many sectors
+can_join : (w : Way) → can_merge (kind_of_way w) ≡ true
+can_join way.Read = refl
+can_join way.Write = refl
+
+module _ (g : Group) (short : can_merge g.extent.kind ≡ true → g.extent.end ≤ g.extent.start + MAX_COUNT) where
+  -- so that a run for them has no more blocks
+  run_short : (work : Work) → IsWorkOf g work → IsShort work
+  run_short (Blocks run) of =
+      let count = of.0.count_is in
+      let few = short (ap can_merge of.1 ∙ can_join run.job.way) in
+      omega (arith, count, few)
+  run_short (Erase run) of = tt
+
+  stage_short : (stage : Stage) → IsStageOf g stage → IsShortAt stage
+  stage_short (At link) of = tt
+  stage_short (Running work) of = run_short work of
+
+-- what a device has in service is bounded
+pub countable : (info : Info) (service : Service) (waits : List Waiting) (next : ℕ) → ServiceOk info service waits next
+    → IsCountable service
+countable info (Idle link) waits next ok = tt
+countable info (Serving stage attempt) waits next ok =
+    let attempted = ok.2 in (
+      attempted.joined.some,
+      attempted.fits,
+      attempted.few,
+      stage_short attempt.group attempted.joined.short stage ok.1,
+    )
+countable info Taken waits next ok = absurd ok
 
 -- Attempts.
 

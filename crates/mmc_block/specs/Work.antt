@@ -11,6 +11,7 @@ use Rattle.mmc_erase.specs.Run.{exchanges_left as erases_left}
 use Rattle.mmc_transfer.specs.Run.{exchanges_left as moves_left}
 use Rattle.mmc_queue.specs.declared.entry.Entry.{Entry}
 use Rattle.mmc_queue.specs.declared.extent.TheConstants.{MAX_GROUP}
+use Rattle.mmc_queue.specs.declared.request.TheConstants.{MAX_COUNT}
 use Rattle.mmc_recovery.specs.declared.settling.TheConstants.{EXCHANGES_OF_A_SETTLE}
 use Rattle.mmc_switch.specs.declared.mmc.TheConstants.{EXCHANGES_OF_A_SWITCH}
 use Rattle.mmc_transfer.specs.declared.pace.Pace.{Pace}
@@ -72,12 +73,22 @@ attempts_left attempt =
     (tries attempt.group.members.items - (attempt.failed + 1)) + split attempt.group.members.items
     + 4 * length attempt.others.items
 
--- an attempt at some requests, of which not all have failed, and not at too many
+-- a run that moves blocks has no more of them than a request may have
+abbrev pub IsShort : Work → Type 0
+IsShort (Blocks run) = run.job.count ≤ MAX_COUNT
+IsShort (Erase run) = Unit {0}
+
+-- the same of an attempt's run, where it is under way
+abbrev pub IsShortAt : Stage → Type 0
+IsShortAt (At link) = Unit {0}
+IsShortAt (Running work) = IsShort work
+
+-- an attempt at some requests, of which not all have failed, and not at too many, by a run that isn't too long
 abbrev pub IsCountable : Service → Type 0
 IsCountable (Idle link) = Unit {0}
 IsCountable (Serving stage attempt) =
     (0 < length attempt.group.members.items) × (attempt.failed < tries attempt.group.members.items)
-    × (length attempt.group.members.items + length attempt.others.items ≤ MAX_GROUP)
+    × (length attempt.group.members.items + length attempt.others.items ≤ MAX_GROUP) × IsShortAt stage
 IsCountable Taken = Unit {0}
 
 -- a bound on the turns of those in service

@@ -1,23 +1,24 @@
 // How much work is left, as a bound on the turns.
 //
-// 1. A run takes a turn for each of its exchanges, and has 1,024 blocks at most; an attempt also a settle and a select.
+// 1. A run takes a turn for each of its exchanges, and for a group it has 1,024 blocks at most; an attempt also takes a settle and a
+//    select.
 // 2. After this attempt come those at the group that are left, and then, for a group of several, four at each request; and
 //    four at each of the others.
 // 3. A request that waits has at most one part in two attempts of a group and four of its own: 131,072 turns are enough.
 ghost use Rattle.std.specs.Prelude.{◌*◌, ◌+◌, ◌-◌, ◌<◌, ◌≡◌, ◌≤◌, ◌↔◌, [], length};
 ghost use Rattle.mmc_queue.specs.declared.extent.TheConstants.{MAX_GROUP};
 ghost use Rattle.mmc_block.specs.Service.{in_service_of, service_of, tries};
-ghost use Rattle.mmc_block.specs.Work.{IsCountable, attempts_left, is_on, run_left, service_left, split, stage_left};
+ghost use Rattle.mmc_block.specs.Work.{IsCountable, IsShort, IsShortAt, attempts_left, is_on, run_left, service_left, split, stage_left};
 
 use crate::conclude::tries;
 use crate::device::BlockDev;
 use crate::service::{Attempt, Link, Phase, Stage, Work};
 use mmc_bus::{Bus, Part};
-use mmc_queue::Members;
-use mmc_transfer::{EXCHANGES_BESIDE_BLOCKS, EXCHANGES_OF_A_BLOCK, MAX_BLOCKS};
+use mmc_queue::{MAX_COUNT, Members};
+use mmc_transfer::{EXCHANGES_BESIDE_BLOCKS, EXCHANGES_OF_A_BLOCK};
 
-/// The most turns of a run.
-pub const TURNS_OF_A_RUN: u64 = EXCHANGES_OF_A_BLOCK * MAX_BLOCKS as u64 + EXCHANGES_BESIDE_BLOCKS;
+/// The most turns of a run for a group.
+pub const TURNS_OF_A_RUN: u64 = EXCHANGES_OF_A_BLOCK * MAX_COUNT + EXCHANGES_BESIDE_BLOCKS;
 
 /// The most turns of an attempt.
 pub const TURNS_OF_AN_ATTEMPT: u64 = TURNS_OF_A_RUN + 2;
@@ -34,6 +35,7 @@ fn is_on(selected: Option<Part>, part: Part) -> bool
 
 // What is left of a run.
 fn run_left(work: &Work) -> u64
+    requires { IsShort work.now }
     ensures left { result ≡ run_left work.now }
     ensures some { 0 < result }
     ensures bounded { result ≤ TURNS_OF_A_RUN }
@@ -46,6 +48,7 @@ fn run_left(work: &Work) -> u64
 
 // What is left of an attempt at a group of this partition.
 fn stage_left(stage: &Stage, part: Part) -> u64
+    requires { IsShortAt stage.now }
     ensures left { result ≡ stage_left stage.now part }
     ensures some { 0 < result }
     ensures bounded { result ≤ TURNS_OF_AN_ATTEMPT }
@@ -102,7 +105,7 @@ impl<B: Bus> BlockDev<B> {
     ghost use Rattle.mmc_block.specs.Device.{unanswered_of, work_of};
 
     /// A bound on the turns until no request is without an answer. It is 0 exactly where none is, and each turn lowers it.
-    #[tactic(auto, unfolding(crate::specs::Device::work_of))]
+    #[tactic(auto, unfolding(crate::specs::Device::work_of), using(crate::proofs::WorkLemmas::countable))]
     pub fn work_left(&self) -> u64
         ensures work { result ≡ work_of self.now }
         ensures none { (result ≡ 0) ↔ (unanswered_of self.now ≡ 0) }

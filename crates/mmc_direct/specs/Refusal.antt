@@ -18,7 +18,7 @@ abbrev pub is_read : Action → Bool
 is_read Read = true
 is_read _ = false
 
--- its blocks are moved one by one, so that there may not be too many
+-- it moves blocks, of which a run has so many at most
 abbrev pub moves_blocks : Action → Bool
 moves_blocks Read = true
 moves_blocks Write = true

@@ -10,7 +10,7 @@ pub enum Refused {
     /// It names no sector.
     #[error("the request names no sector")]
     Empty,
-    /// A read or a write of more than 1,024 sectors.
+    /// A read or a write of more than 65,535 sectors.
     #[error("the request names too many sectors")]
     TooLong,
     /// The last sector lies past the end of the partition.

@@ -20,7 +20,7 @@ use mmc_bus::{Blocks, BlocksMut, Bus, Part};
 use mmc_erase::How;
 use mmc_recovery::Healed;
 
-/// Reads these blocks, 1 to 1,024, from this sector of a partition on, in at most four attempts: each settles the card where
+/// Reads these blocks, 1 to 65,535, from this sector of a partition on, in at most four attempts: each settles the card where
 /// something has failed, selects the partition where another one is selected, and makes the run. What the blocks hold is open
 /// unless it is done.
 pub fn read<B: Bus, D: BlocksMut>(
@@ -59,7 +59,7 @@ pub fn read<B: Bus, D: BlocksMut>(
     }
 }
 
-/// Writes these blocks, 1 to 1,024, from this sector of a partition on, in attempts as `read`. Where it has failed each sector
+/// Writes these blocks, 1 to 65,535, from this sector of a partition on, in attempts as `read`. Where it has failed each sector
 /// that is named is old or new. No other may hold more than it might before.
 pub fn write<B: Bus, D: Blocks>(
     bus: &mut B,

@@ -3,7 +3,7 @@ use crate::cards::*;
 use crate::transfer::{filled, is_all};
 use mmc_bus::{Bytes, Part};
 use mmc_card_sim::{Fault, SimCard};
-use mmc_direct::{Healed, How, NotDone, Refused, Stands, erase, read, write};
+use mmc_direct::{Action, Healed, How, NotDone, Refused, Stands, erase, read, refusal, write};
 use mmc_switch::{Cause, Session};
 use std::alloc::Global;
 use std::test::Fail;
@@ -58,6 +58,17 @@ fn refuses_for_the_first_reason(rt: HostRuntime) -> Result<(), Fail> {
     Ok(())
 }
 
+#[test]
+fn refuses_more_sectors_than_a_run_has(rt: HostRuntime) -> Result<(), Fail> {
+    let mut card = built(rt.alloc(), spec_of(Which::Emmc))?;
+    let session = opened(&mut card).ok_or("not opened")?;
+    for (count, refused) in [(65_535, Refused::OutOfRange), (65_536, Refused::TooLong)] {
+        let why = refusal(session.info(), Action::Read, Part::User, 0, count);
+        assert_eq!(rt; why, Some(refused));
+    }
+    Ok(())
+}
+
 // Writes two sectors across the end of an erase unit, trims the second and erases the first with its unit.
 fn changed(card: &mut SimCard, stands: Stands, blocks: &Bytes) -> Stands {
     let mut healed = Healed::new();
@@ -98,6 +109,33 @@ fn serves_one_request_after_another(rt: HostRuntime) -> Result<(), Fail> {
     assert_eq!(rt; healed.attempts, 2);
     assert!(rt; is_all(room.as_slice(), 0x5a));
     assert!(rt; is_all(card.contents(Part::User), 0xff));
+    Ok(())
+}
+
+// Twice as many sectors as a request of the queue has at most, in one run each way: CMD23, CMD25, a block and a poll for each sector, and
+// the last status; then CMD23, CMD18 and the blocks.
+#[test]
+fn moves_a_whole_card_in_one_run(rt: HostRuntime) -> Result<(), Fail> {
+    let mut card = built(rt.alloc(), spec_of(Which::Emmc))?;
+    let session = opened(&mut card).ok_or("not opened")?;
+    let blocks = filled(rt.alloc(), 0x5a, 2048)?;
+    let mut room = filled(rt.alloc(), 0, 2048)?;
+    let mut healed = Healed::new();
+    let before = card.exchanges();
+    let ready = Stands::Ready(session);
+    let written = write(&mut card, &mut healed, ready, Part::User, 0, &blocks);
+    assert_eq!(rt; Some(card.exchanges()), before.checked_add(4099));
+    let served = read(
+        &mut card,
+        &mut healed,
+        written.stands,
+        Part::User,
+        0,
+        &mut room,
+    );
+    assert_eq!(rt; served.answer, Ok(()));
+    assert_eq!(rt; Some(card.exchanges()), before.checked_add(6149));
+    assert!(rt; is_all(room.as_slice(), 0x5a));
     Ok(())
 }
 

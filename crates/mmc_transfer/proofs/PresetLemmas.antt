@@ -17,6 +17,7 @@ use Rattle.mmc_transfer.specs.Commands.{CanPreset}
 use Rattle.mmc_transfer.specs.Running.{Exact, IsIn, Turned, preset_of}
 use Rattle.mmc_switch.specs.UnderWay.{IsIdle}
 use Rattle.mmc_transfer.specs.declared.job.Job.{Job}
+use Rattle.mmc_transfer.specs.declared.job.TheConstants.{MAX_BLOCKS}
 use Rattle.mmc_transfer.specs.declared.phase.Phase.{Phase}
 use Rattle.mmc_transfer.specs.declared.phase.Phase.TheVariants.{Other}
 use Rattle.mmc_transfer.specs.declared.phase.Step.TheVariants.{Command, Preset}
@@ -33,7 +34,7 @@ knows_by : (b : Bool) (n : ℕ) → IsTrue (b && nat_lt 1 n) → (b ≡ true) ×
 knows_by true n fits = (refl, grind (arith, nat_tests))
 knows_by false n fits = cc
 
-count_by : (sd b : Bool) (n : ℕ) → b ≡ true → 1 < n → n ≤ 1024
+count_by : (sd b : Bool) (n : ℕ) → b ≡ true → 1 < n → n ≤ MAX_BLOCKS
     → (if sd then n else field 15 0 n) ≡ (if n == 1 then 0 else if b then n else 0)
 count_by true true n knows many few = let several : (n == 1) ≡ false = grind (arith, nat_tests) in rw several refl
 count_by false true n knows many few =

@@ -11,8 +11,9 @@ use crate::phase::Step;
 use crate::way::Way;
 use mmc_switch::Session;
 
-/// The most blocks of a run.
-pub const MAX_BLOCKS: u32 = 1024;
+/// The most blocks of a run: the 16 bits in which CMD23 tells an eMMC device how many come (JESD84-B51, section 6.10.4), and in which
+/// the Block Count register of an SD host controller counts them.
+pub const MAX_BLOCKS: u32 = 65_535;
 
 /// So many blocks, from this sector of the session's partition on.
 #[derive(Debug, Drop)]

@@ -1,4 +1,4 @@
-//! Runs of blocks: reads and writes of 1 to 1,024 sectors, an exchange at a time or as a whole.
+//! Runs of blocks: reads and writes of 1 to 65,535 sectors, an exchange at a time or as a whole.
 #![tactic(auto)]
 
 mod commands;

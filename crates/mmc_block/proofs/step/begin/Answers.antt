@@ -1,6 +1,6 @@
 use Rattle.mmc_erase.specs.declared.how.How.TheVariants as how
 use Rattle.mmc_queue.specs.Requests.{can_merge}
-use Rattle.std.proofs.Common.{◌∙◌, ap, rules, sym}
+use Rattle.std.proofs.Common.{◌∙◌, ap, arith, rules, sym}
 use Rattle.mmc_block.proofs.BeginLemmas.{run_erasable, run_inside, run_suits, run_writable}
 use Rattle.mmc_block.proofs.step.begin.Goals as goal
 
@@ -67,7 +67,10 @@ pub returns-in-Read : goal.returns-in-Read
 returns-in-Read c = record {
   of = search rules;
   session_is = search rules;
-  bounded = search rules;
+  bounded =
+      let most = c.begin.ensures.bounded in
+      let short = c.requires.joined.short (ap can_merge c.in-Read.is) in
+      omega (arith, most, short);
   under_way = λ view ready. c.begin.ensures.running view _ ready;
 }
 
@@ -75,6 +78,9 @@ pub returns-in-Write : goal.returns-in-Write
 returns-in-Write c = record {
   of = search rules;
   session_is = search rules;
-  bounded = search rules;
+  bounded =
+      let most = c.begin-in-Write.ensures.bounded in
+      let short = c.requires.joined.short (ap can_merge c.in-Write.is) in
+      omega (arith, most, short);
   under_way = λ view ready. c.begin-in-Write.ensures.running view _ ready;
 }
