@@ -6,6 +6,9 @@
 #include "kelifandro.h"
 #include "kelifandro_core.h"
 
+/* of the C library, whose header a freestanding compiler needn't have */
+void *memcpy(void *to, const void *from, size_t n);
+
 /* The proved library reads and writes struct kelifandro_card by these places (crates/mmc_record/src/record.rt), and counts in eight
    numbers (crates/mmc_recovery/src/healed.rt), the lowest byte of each first. An array of -1 is refused on any processor where that
    isn't so. */
@@ -84,32 +87,34 @@ static int one_answer;
 /* What became of the block that was written last. */
 static int written;
 
+/* Numbers in records have the lowest byte first, as this processor has. */
 static uint16_t half_at(const uint8_t *bytes)
 {
-    return (uint16_t)(bytes[0] | bytes[1] << 8);
+    uint16_t half;
+    memcpy(&half, bytes, sizeof half);
+    return half;
 }
 
 static uint32_t word_at(const uint8_t *bytes)
 {
-    return half_at(bytes) | (uint32_t)half_at(bytes + 2) << 16;
+    uint32_t word;
+    memcpy(&word, bytes, sizeof word);
+    return word;
 }
 
-static void answer_half(uint8_t *bytes, uint32_t half)
+static void answer_half(uint8_t *bytes, uint16_t half)
 {
-    bytes[0] = (uint8_t)half;
-    bytes[1] = (uint8_t)(half >> 8);
+    memcpy(bytes, &half, sizeof half);
 }
 
 static void answer_word(uint8_t *bytes, uint32_t word)
 {
-    answer_half(bytes, word);
-    answer_half(bytes + 2, word >> 16);
+    memcpy(bytes, &word, sizeof word);
 }
 
 static void answer_long(uint8_t *bytes, uint64_t number)
 {
-    answer_word(bytes, (uint32_t)number);
-    answer_word(bytes + 4, (uint32_t)(number >> 32));
+    memcpy(bytes, &number, sizeof number);
 }
 
 /* The highest byte first. */
