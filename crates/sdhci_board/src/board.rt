@@ -127,11 +127,6 @@ impl<W: Words> Registers for Board<W> {
     }
 
     // No memory is lent: a board has no DMA.
-    fn lend_table(&mut self, table: &[[u8; 8]; 16]) -> u32 {
-        let _ = table;
-        0
-    }
-
     fn take_place(&mut self, index: usize, block: &mut [u8; 512]) {
         let _ = index;
         let _ = block;

@@ -42,10 +42,6 @@ lent_in (Loan.ToGo blocks) = Some (ToGo blocks.items)
 abbrev pub to_go : State → List (List ℕ)
 to_go state = blocks_to_go (lent_in state.loan)
 
--- where it stands, always
-abbrev pub memory : ℕ
-memory = 0x10000000
-
 abbrev pub shown : Outcome → State → ControllerView
 shown outcome state =
     record {
@@ -78,9 +74,12 @@ shown outcome state =
       outgoing = state.outgoing.items;
       dma = record {
         lent = lent_in state.loan;
-        start = memory;
+        start = state.memory;
         table = state.table;
-        address = state.address;
+        wide_table = state.wide_table;
+        sdma_address = state.sdma_address;
+        adma_address = state.address;
+        adma_upper = state.upper;
         is_moving = state.is_moving;
       };
     }

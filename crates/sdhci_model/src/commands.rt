@@ -169,6 +169,7 @@ impl State {
             transfer: data_asked(self.sizes, value),
         });
         self.is_stale = self.is_stale || has_data(self.transfer);
+        self.sdma_address = None;
         self.is_moving = value % 2 == 1;
     }
 

@@ -343,8 +343,8 @@ impl<D: Host, S: HasStory> Engine<D, S> {
         if is_busy { 0xe0 } else { 0xf0 }
     }
 
-    /// A controller with these Capabilities over a host, before any access.
-    pub fn new(host: D, capabilities: u32, version: u8, manner: Manner) -> Engine<D, S>
+    /// A controller with these Capabilities over a host, before any access. Memory is lent at this bus address.
+    pub fn new(host: D, capabilities: u32, version: u8, memory: u64, manner: Manner) -> Engine<D, S>
         requires { (D.view host).is_kept ≡ false }
         ensures past { result.diary.past ≡ [] }
         ensures capabilities { result.state.capabilities ≡ capabilities }
@@ -355,7 +355,7 @@ impl<D: Host, S: HasStory> Engine<D, S> {
         Engine {
             host,
             diary: Diary::new(),
-            state: State::new(capabilities, version),
+            state: State::new(capabilities, version, memory),
             manner,
             exchanges: 0,
             lost: 0,

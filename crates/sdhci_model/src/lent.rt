@@ -1,8 +1,8 @@
-// Memory that is lent to the controller, and its ADMA2 (SD Host Controller Simplified Specification 3.00, section 1.13).
-ghost use Rattle.std.specs.Prelude.{[], ◌<◌, ◌≡◌, ◌≤◌, IfSome, List, None, Some, false, length, slice_index_or, true, ℕ};
+// Memory that is lent to the controller for SDMA and ADMA2 (SD Host Controller Simplified Specification 3.00, sections 1.4 and 1.13).
+ghost use Rattle.std.specs.Prelude.{[], ◌%◌, ◌<◌, ◌≡◌, ◌≤◌, IfSome, List, None, Some, false, length, slice_index_or, true, ℕ};
 ghost use Rattle.mmc_host.specs.declared.data.Data.TheVariants as Data;
-ghost use Rattle.mmc_sdhci.specs.Lending.{Fits, unlent};
-ghost use Rattle.mmc_sdhci.specs.Lent.{Come, Room, ToGo};
+ghost use Rattle.mmc_sdhci.specs.Lending.{Fits, FitsTable, lends_table, unlent};
+ghost use Rattle.mmc_sdhci.specs.Lent.{Come, Room, ToGo, size_of};
 ghost use Rattle.sdhci_model.specs.Moves.{ChangesTo, LendsFrom, WritesTo};
 ghost use Rattle.sdhci_model.specs.Shown.{lent_in, to_go};
 
@@ -11,6 +11,7 @@ use crate::tables::names_just;
 use arrayvec::ArrayVec;
 use mmc_bus::Blocks;
 use mmc_host::Data;
+use mmc_sdhci::Table;
 
 /// So many blocks are lent at most.
 pub const MOST_BLOCKS: usize = 16;
@@ -18,17 +19,20 @@ pub const MOST_BLOCKS: usize = 16;
 /// Blocks of 512 bytes in memory that is lent.
 pub type Memory = ArrayVec<[u8; 512], MOST_BLOCKS>;
 
-// The bus address of the memory, and that of the table, which are never elsewhere.
-const START: u32 = 0x1000_0000;
-
+// The bus address of a table by addresses of 32 bits, and of one by 64, beyond 32 itself: they are never elsewhere.
 const TABLE: u32 = 0x2000_0000;
+
+const WIDE_TABLE: u64 = 0x20_2000_0000;
+
+// Memory is lent below it, so that all of it has bus addresses of 64 bits.
+const HIGHEST: u64 = 0xffff_ffff_0000_0000;
 
 /// Memory that is lent.
 #[derive(Drop)]
 pub enum Loan {
     Nothing,
     /// Room for so many blocks.
-    Room(usize),
+    Room(u16),
     /// The blocks that have come.
     Come(Memory),
     /// The blocks that are to go.
@@ -36,14 +40,15 @@ pub enum Loan {
 }
 
 impl Loan {
-    // How many bytes.
-    fn size(&self) -> usize
-        ensures { result ≤ 8192 }
+    /// How many bytes.
+    pub fn size(&self) -> u32
+        ensures value { result ≡ size_of (lent_in self.now) }
+        ensures small { result ≤ 0x1fffe00 }
     {
         match self {
             Loan::Nothing => 0,
-            Loan::Room(room) => (*room).min(MOST_BLOCKS) * 512,
-            Loan::Come(blocks) | Loan::ToGo(blocks) => blocks.len() * 512,
+            Loan::Room(room) => 512 * u32::from(*room),
+            Loan::Come(blocks) | Loan::ToGo(blocks) => 512 * blocks.len() as u32,
         }
     }
 }
@@ -69,50 +74,66 @@ fn copies<D: Blocks>(blocks: &D) -> Memory
 }
 
 impl State {
-    // Whether memory for so many blocks can be lent: there is ADMA2, and nothing is at work or lent.
+    // Whether the memory stands at whole words, and all of it within 64 bits.
+    fn is_placed(&self) -> bool
+        ensures { result ≡ true → (self.now.memory % 4 ≡ 0) × (self.now.memory < 0xffffffff00000000) }
+    {
+        self.memory % 4 == 0 && self.memory < HIGHEST
+    }
+
+    // Whether so much of it can be lent: there is ADMA2 (bit 19 of Capabilities) or SDMA (bit 22), and nothing is at work or lent.
     fn can_lend(&self, count: usize) -> bool {
-        let has_adma2 = self.capabilities / 0x8_0000 % 2 == 1;
+        let has_dma = self.capabilities / 0x8_0000 % 2 == 1
+            || self.capabilities / 0x40_0000 % 2 == 1;
         let is_free = matches!(self.loan, Loan::Nothing);
-        has_adma2 && is_free && self.is_at_rest() && count >= 1 && count <= MOST_BLOCKS
+        has_dma && is_free && self.is_at_rest() && count >= 1
     }
 
     /// Lends room for so many blocks of 512 bytes.
-    pub fn lend_room(&mut self, count: usize) -> Option<u32>
+    pub fn lend_room(&mut self, count: usize) -> Option<u64>
         ensures lends { LendsFrom self.old (Room count) result self.new }
         ensures fits { Fits result count }
     {
-        if count > MOST_BLOCKS || !self.can_lend(count) {
+        if count > MOST_BLOCKS || !self.is_placed() || !self.can_lend(count) {
             return None;
         }
-        self.loan = Loan::Room(count);
+        self.loan = Loan::Room(count as u16);
         self.table = None;
-        Some(START)
+        self.wide_table = None;
+        Some(self.memory)
     }
 
     /// Lends these blocks.
-    pub fn lend_blocks<D: Blocks>(&mut self, blocks: &D) -> Option<u32>
+    pub fn lend_blocks<D: Blocks>(&mut self, blocks: &D) -> Option<u64>
         ensures lends { LendsFrom self.old (ToGo (D.blocks blocks.now)) result self.new }
         ensures fits { Fits result (length (D.blocks blocks.now)) }
     {
         let count = blocks.len();
-        if count > MOST_BLOCKS || !self.can_lend(count) {
+        if count > MOST_BLOCKS || !self.is_placed() || !self.can_lend(count) {
             return None;
         }
         self.loan = Loan::ToGo(copies(blocks));
         self.table = None;
-        Some(START)
+        self.wide_table = None;
+        Some(self.memory)
     }
 
-    /// Lends a descriptor table, which has to name just the memory that is lent.
-    pub fn lend_table(&mut self, table: &[[u8; 8]; 16]) -> Option<u32>
-        ensures { IfSome result (λ address. ChangesTo self.old
-            (λ view. record view { dma = record view.dma { table = Some address } }) self.new) }
+    /// Lends a descriptor table, and tells where it stands; `None` where it doesn't name just the memory that is lent.
+    pub fn lend_table(&mut self, table: &Table) -> Option<u64>
+        ensures lends { IfSome result (λ address. ChangesTo self.old
+            (λ view. lends_table view table.now.is_wide address) self.new) }
+        ensures fits { FitsTable table.now.is_wide result }
     {
-        if self.is_moving || !names_just(table, START, self.loan.size()) {
+        if self.is_moving || !names_just(table, self.memory, self.loan.size()) {
             return None;
         }
-        self.table = Some(TABLE);
-        Some(TABLE)
+        if table.is_wide() {
+            self.wide_table = Some(WIDE_TABLE);
+            Some(WIDE_TABLE)
+        } else {
+            self.table = Some(TABLE);
+            Some(u64::from(TABLE))
+        }
     }
 
     /// Fills a block with what has come into its place. It tells whether there is such a place.
@@ -123,7 +144,7 @@ impl State {
     {
         match &self.loan {
             Loan::Nothing | Loan::ToGo(_) => false,
-            Loan::Room(room) => index < *room,
+            Loan::Room(room) => index < usize::from(*room),
             Loan::Come(blocks) => {
                 if index >= blocks.len() {
                     return false;
@@ -164,14 +185,29 @@ impl State {
         }
         self.loan = Loan::Nothing;
         self.table = None;
+        self.wide_table = None;
         true
     }
 
-    /// ADMA System Address is written.
+    /// SDMA System Address is written.
+    pub fn set_sdma_address(&mut self, value: u32)
+        ensures { WritesTo self.old 0x00 value self.new }
+    {
+        self.sdma_address = Some(value);
+    }
+
+    /// ADMA System Address is written, its lower 32 bits.
     pub fn set_address(&mut self, value: u32)
         ensures { WritesTo self.old 0x58 value self.new }
     {
         self.address = value;
+    }
+
+    /// Its upper ones are written.
+    pub fn set_upper(&mut self, value: u32)
+        ensures { WritesTo self.old 0x5c value self.new }
+    {
+        self.upper = value;
     }
 
     /// All blocks that were to come have come, with Transfer Complete.

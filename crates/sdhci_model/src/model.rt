@@ -7,7 +7,7 @@ use crate::engine::Engine;
 use crate::manner::Manner;
 use mmc_bus::Blocks;
 use mmc_host::Host;
-use mmc_sdhci::{Registers, Sdhci, StartFault};
+use mmc_sdhci::{Registers, Sdhci, StartFault, Table};
 use mmc_story::HasStory;
 
 // Present State.
@@ -33,8 +33,9 @@ fn present_after(present: u32, offset: u8, value: u32) -> u32
 }
 
 impl<D: Host, S: HasStory> Model<D, S> {
-    /// A controller with these Capabilities over a host, before any access.
-    pub fn new(host: D, capabilities: u32, version: u8, manner: Manner) -> Model<D, S>
+    /// A controller with these Capabilities over a host, before any access. Where its driver asks for memory that is lent, that stands at
+    /// this bus address; at one that is no multiple of 4, or in the last 4 GiB of 64 bits, none is.
+    pub fn new(host: D, capabilities: u32, version: u8, memory: u64, manner: Manner) -> Model<D, S>
         requires { (D.view host).is_kept ≡ false }
         ensures past { result.engine.diary.past ≡ [] }
         ensures capabilities { result.engine.state.capabilities ≡ capabilities }
@@ -43,7 +44,7 @@ impl<D: Host, S: HasStory> Model<D, S> {
         ensures sound { result.engine.state.is_sound ≡ true }
     {
         Model {
-            engine: Engine::new(host, capabilities, version, manner),
+            engine: Engine::new(host, capabilities, version, memory, manner),
             waited: 0,
             present: 0,
         }
@@ -102,20 +103,20 @@ impl<D: Host, S: HasStory> Registers for Model<D, S> {
         self.engine.write8(offset, value);
     }
 
-    fn lend_room(&mut self, count: usize) -> Option<u32> {
+    fn lend_room(&mut self, count: usize) -> Option<u64> {
         self.engine.state.lend_room(count)
     }
 
-    fn lend_blocks<B: Blocks>(&mut self, blocks: &B) -> Option<u32> {
+    fn lend_blocks<B: Blocks>(&mut self, blocks: &B) -> Option<u64> {
         self.engine.state.lend_blocks(blocks)
     }
 
-    fn lend_table(&mut self, table: &[[u8; 8]; 16]) -> u32 {
+    fn lend_table(&mut self, table: &Table) -> Option<u64> {
         match self.engine.state.lend_table(table) {
-            Some(address) => address,
+            Some(address) => Some(address),
             None => {
                 self.engine.break_off();
-                0
+                None
             }
         }
     }
@@ -142,7 +143,7 @@ impl<D: Host, S: HasStory> Registers for Model<D, S> {
     }
 }
 
-/// The driver over such a controller: a host that conforms where the story is true and the driver keeps to the rules.
+/// The driver over such a controller, with memory at this bus address: a host that conforms where the story is true and the driver keeps to the rules.
 ///
 /// # Errors
 /// What `Sdhci::new` says.
@@ -150,10 +151,11 @@ pub fn driver<D: Host, S: HasStory>(
     host: D,
     capabilities: u32,
     version: u8,
+    memory: u64,
     manner: Manner,
 ) -> Result<Sdhci<Model<D, S>>, (Model<D, S>, StartFault)>
     requires { (D.view host).is_kept ≡ false }
     ensures unused { IfOk result (λ host. IsUnused (⟦<Sdhci<Model<D, S>> as Host>⟧.view host)) }
 {
-    Sdhci::new(Model::new(host, capabilities, version, manner))
+    Sdhci::new(Model::new(host, capabilities, version, memory, manner))
 }

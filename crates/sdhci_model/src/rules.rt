@@ -1,27 +1,25 @@
 // The rules: what a driver may write. They are those of `mmc_sdhci`, one function for each register.
 ghost use Rattle.std.specs.Prelude.{◌&&◌, ◌==◌, ◌||◌, ◌≡◌, is_none};
 ghost use Rattle.mmc_frame.specs.Field.{field};
-ghost use Rattle.mmc_sdhci.specs.Accesses.{can_move, can_put, is_able, is_asked, is_at_rest, is_clean, is_clock, is_dma_set, is_idle, is_selected, may_write, may_write8};
+ghost use Rattle.mmc_sdhci.specs.Accesses.{can_put, is_able, is_asked, is_at_rest, is_clean, is_clock, is_idle, is_selected, may_write, may_write8};
 ghost use Rattle.mmc_sdhci.specs.Controller.{is_set, is_settled, is_still};
-ghost use Rattle.mmc_sdhci.specs.Lent.{is_lent_for, is_pointed};
 ghost use Rattle.mmc_story.specs.Story.{Outcome};
 ghost use Rattle.sdhci_model.specs.Shown.{is_plain, shown};
 
 use crate::commands::data_asked;
-use crate::lent::Loan;
 use crate::state::State;
 use mmc_host::Data;
 use mmc_sdhci::has_data;
 
-// Both; with `&&` the proofs would lose what each says.
-fn both(a: bool, b: bool) -> bool
+/// Both; with `&&` the proofs would lose what each says.
+pub fn both(a: bool, b: bool) -> bool
     ensures { result ≡ (a && b) }
 {
     a && b
 }
 
-// One at least.
-fn either(a: bool, b: bool) -> bool
+/// One at least.
+pub fn either(a: bool, b: bool) -> bool
     ensures { result ≡ (a || b) }
 {
     a || b
@@ -68,21 +66,28 @@ fn is_able(capabilities: u32, before: u8, control: u8) -> bool
     )
 }
 
-// Whether it selects ADMA2 where Capabilities have it, and otherwise nothing.
+// Whether it selects ADMA2 where Capabilities have it (bit 19), by addresses of 64 bits where they have those (bit 28), and otherwise
+// none.
 fn is_selected(capabilities: u32, control: u8) -> bool
     ensures { result ≡ is_selected capabilities control }
 {
     either(
         control / 8 % 4 == 0,
-        both(control / 8 % 4 == 2, capabilities / 0x8_0000 % 2 == 1),
+        both(
+            capabilities / 0x8_0000 % 2 == 1,
+            either(
+                control / 8 % 4 == 2,
+                both(control / 8 % 4 == 3, capabilities / 0x1000_0000 % 2 == 1),
+            ),
+        ),
     )
 }
 
-// Block Size, which stands below Block Count.
-fn block_size(sizes: u32) -> u32
-    ensures { result ≡ field 15 0 sizes }
+// At which multiples SDMA stops, above Block Size: 7 is 512 KiB.
+fn boundary(sizes: u32) -> u32
+    ensures { result ≡ field 15 12 sizes }
 {
-    sizes % 0x1_0000
+    sizes / 0x1000 % 16
 }
 
 impl State {
@@ -150,46 +155,6 @@ impl State {
         }
     }
 
-    // Whether the memory that is lent is for just this data.
-    fn is_lent_for(&self, transfer: Data) -> bool
-        ensures { (outcome : Outcome) → result ≡ is_lent_for (shown outcome self.now).dma.lent transfer }
-    {
-        match (&self.loan, transfer) {
-            (Loan::Room(room), Data::Read { length, blocks }) => {
-                length == 512 && *room == blocks as usize
-            }
-            (Loan::ToGo(blocks), Data::Write { blocks: count }) => blocks.len() == count as usize,
-            _ => false,
-        }
-    }
-
-    // Whether its table is at ADMA System Address.
-    fn is_pointed(&self) -> bool
-        ensures { (outcome : Outcome) → result ≡ is_pointed (shown outcome self.now).dma.table self.now.address }
-    {
-        match self.table {
-            None => false,
-            Some(table) => table == self.address,
-        }
-    }
-
-    // Whether ADMA2 is selected, and its errors are shown.
-    fn is_dma_set(&self) -> bool
-        ensures { (outcome : Outcome) → result ≡ is_dma_set (shown outcome self.now) }
-    {
-        both(
-            self.is_pointed(),
-            both(self.control / 8 % 4 == 2, self.shown / 0x200_0000 % 2 == 1),
-        )
-    }
-
-    // Whether this data can be moved by DMA.
-    fn can_move(&self, transfer: Data) -> bool
-        ensures { (outcome : Outcome) → result ≡ can_move (shown outcome self.now) transfer }
-    {
-        both(self.is_lent_for(transfer), self.is_dma_set())
-    }
-
     fn is_asked(&self, value: u32) -> bool
         ensures { (outcome : Outcome) → result ≡ is_asked (shown outcome self.now) value }
     {
@@ -219,7 +184,7 @@ impl State {
     fn may_size(&self, value: u32) -> bool
         ensures { (outcome : Outcome) → result ≡ may_write (shown outcome self.now) 0x04 value }
     {
-        both(self.is_idle(), block_size(value) < 0x1000)
+        both(self.is_idle(), boundary(value) == 7)
     }
 
     fn may_begin(&self, value: u32) -> bool
@@ -297,6 +262,7 @@ impl State {
         ensures { (outcome : Outcome) → result ≡ may_write (shown outcome self.now) offset value }
     {
         match offset {
+            0x00 => self.is_idle(),
             0x04 => self.may_size(value),
             0x08 => self.running.is_none(),
             0x0c => self.may_begin(value),
@@ -306,6 +272,7 @@ impl State {
             0x34 => self.may_show(value),
             0x38 => value == 0,
             0x58 => self.is_idle(),
+            0x5c => self.is_idle(),
             _ => false,
         }
     }

@@ -28,7 +28,9 @@ impl State {
         self.is_ready = false;
         self.block = ArrayVec::new();
         self.taken = 0;
+        self.sdma_address = None;
         self.address = 0;
+        self.upper = 0;
         self.resetting = Some(0);
     }
 

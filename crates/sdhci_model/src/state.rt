@@ -60,12 +60,20 @@ pub struct State {
     pub taken: usize,
     /// What is in the buffer of a block that is to go.
     pub outgoing: ArrayVec<u8, 512>,
+    /// The bus address of memory that is lent, which is never elsewhere.
+    pub memory: u64,
     /// Memory that is lent.
     pub loan: Loan,
-    /// The bus address of its descriptor table.
+    /// The bus address of its descriptor table by addresses of 32 bits.
     pub table: Option<u32>,
-    /// ADMA System Address.
+    /// And of that by addresses of 64 bits.
+    pub wide_table: Option<u64>,
+    /// SDMA System Address, as it was written since the last command.
+    pub sdma_address: Option<u32>,
+    /// ADMA System Address, its lower 32 bits.
     pub address: u32,
+    /// Its upper ones.
+    pub upper: u32,
     /// The data of the command that was begun last is moved by DMA.
     pub is_moving: bool,
     /// The driver has kept to the rules.
@@ -73,8 +81,8 @@ pub struct State {
 }
 
 impl State {
-    /// Before any access: Capabilities and the version, and no power.
-    pub fn new(capabilities: u32, version: u8) -> State
+    /// Before any access: Capabilities and the version, the bus address of memory that will be lent, and no power.
+    pub fn new(capabilities: u32, version: u8, memory: u64) -> State
         ensures rest { (outcome : Outcome) → is_at_rest (shown outcome result) ≡ true }
         ensures transfer { result.transfer ≡ Nothing }
         ensures power { result.power ≡ 0 }
@@ -106,9 +114,13 @@ impl State {
             block: ArrayVec::new(),
             taken: 0,
             outgoing: ArrayVec::new(),
+            memory,
             loan: Loan::Nothing,
             table: None,
+            wide_table: None,
+            sdma_address: None,
             address: 0,
+            upper: 0,
             is_moving: false,
             is_sound: true,
         }

@@ -17,6 +17,7 @@ impl State {
         ensures { result ≡ true → WritesTo self.old offset value self.new }
     {
         match offset {
+            0x00 => self.set_sdma_address(value),
             0x04 => self.set_sizes(value),
             0x08 => self.set_argument(value),
             0x0c => self.begin(value),
@@ -26,6 +27,7 @@ impl State {
             0x34 => self.show(value),
             0x38 => (),
             0x58 => self.set_address(value),
+            0x5c => self.set_upper(value),
             _ => return false,
         }
         true

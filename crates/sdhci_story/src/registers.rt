@@ -82,12 +82,6 @@ impl<R: Registers, S: HasRegisterStory> Registers for StoryRegisters<R, S> {
         self.note(Note::Write8 { offset, value });
     }
 
-    fn lend_table(&mut self, table: &[[u8; 8]; 16]) -> u32 {
-        let address = self.registers.lend_table(table);
-        self.note(Note::Dma);
-        address
-    }
-
     fn take_place(&mut self, index: usize, block: &mut [u8; 512]) {
         self.registers.take_place(index, block);
         self.note(Note::Dma);

@@ -1,5 +1,8 @@
 use Rattle.sdhci_model.proofs.state.State.may_write.Goals as goal
 
+pub returns-in-0 : goal.returns-in-0
+returns-in-0 c outcome = rw c.in-0.is (c.is_idle.ensures outcome)
+
 pub returns-in-4 : goal.returns-in-4
 returns-in-4 c outcome = rw c.in-4.is (c.may_size.ensures outcome)
 
@@ -19,4 +22,7 @@ pub returns-in-52 : goal.returns-in-52
 returns-in-52 c outcome = rw c.in-52.is (c.may_show.ensures outcome)
 
 pub returns-in-88 : goal.returns-in-88
-returns-in-88 c outcome = rw c.in-88.is (c.is_idle.ensures outcome)
+returns-in-88 c outcome = rw c.in-88.is (c.is_idle-in-88.ensures outcome)
+
+pub returns-in-92 : goal.returns-in-92
+returns-in-92 c outcome = rw c.in-92.is (c.is_idle-in-92.ensures outcome)

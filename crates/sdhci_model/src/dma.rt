@@ -1,4 +1,4 @@
-// Data that the controller moves by itself, by ADMA2 (SD Host Controller Simplified Specification 3.00, section 1.13).
+// Data that the controller moves by itself, by SDMA or ADMA2 (SD Host Controller Simplified Specification 3.00, sections 1.4 and 1.13).
 ghost use Rattle.std.specs.Prelude.{[], IfErr, IfNone, IfOk, IfSome, ◌<◌, ◌≡◌, ◌≤◌, ◌∷◌, false, length, true};
 ghost use Rattle.mmc_card.specs.declared.exchange.DataIn.TheVariants as Came;
 ghost use Rattle.mmc_card.specs.declared.exchange.DataOut.TheVariants as Went;
