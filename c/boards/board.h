@@ -24,6 +24,8 @@ uint64_t board_lend(void *context, void *bytes, size_t n, int is_written);
 void board_take_back(void *context, void *bytes, size_t n, int is_written);
 /* how often memory was lent */
 extern unsigned long board_lendings;
+/* memory beyond 32 bits that a controller can have, 64 sectors and more; 0 on a board that doesn't say so */
+extern const uint64_t board_far;
 /* lines of a table of memory, enough for each request within 32 bits */
 extern uint64_t board_table[1024];
 /* A controller's registers that are plain memory; DMA is used where its Capabilities have ADMA2 or SDMA. */

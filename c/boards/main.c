@@ -63,6 +63,7 @@ void mapped_write(void *context, unsigned offset, unsigned size, uint32_t value)
 unsigned long board_lendings;
 
 uint64_t board_table[1024];
+__attribute__((weak)) const uint64_t board_far = 0;
 
 uint64_t board_lend(void *context, void *bytes, size_t n, int is_written)
 {

@@ -35,9 +35,9 @@ void board_pause(void *context, uint32_t microseconds)
 }
 
 /* Its Capabilities tell no base clock: it's the SDIO reference clock, a twentieth of the IO PLL's 1,250 MHz at most. A controller of
-   version 2.00, as this one, can't tell more than 63 MHz. */
+   version 2.00, as this one, can't tell more than 63 MHz. It has ADMA2 and SDMA. */
 static const struct kelifandro_registers registers = {
-    .context = (void *)CONTROLLER, MAPPED, .capabilities = 1u << 24 | 1u << 21 | 63u << 8};
+    .context = (void *)CONTROLLER, MAPPED, .capabilities = 1u << 24 | 1u << 22 | 1u << 21 | 1u << 19 | 63u << 8};
 
 const struct kelifandro_registers *board_begin(void)
 {

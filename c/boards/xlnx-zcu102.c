@@ -18,6 +18,9 @@ void board_put(char character)
     WORD(SERIAL + SERIAL_DATA) = (uint8_t)character;
 }
 
+/* The upper part of 4 GiB of memory. */
+const uint64_t board_far = 0x800000000;
+
 static const struct kelifandro_registers registers = {.context = (void *)CONTROLLER, MAPPED};
 
 const struct kelifandro_registers *board_begin(void)

@@ -1,10 +1,13 @@
-/* Makes random requests of a card: reads, writes and erases of 1 to 64 sectors, each from sector 2 on. Where the controller has DMA every
-   other one goes without. How many, and by which seed, stands in sector 0, where tests/boards/run has written it. The same numbers come to that script, which knows from them what the card has
-   to hold, and what was read. */
+/* Makes random requests of a card: reads, writes and erases of 1 to 64 sectors, each from sector 2 on. Where the controller has DMA one of
+   four goes without, one by SDMA, and one, where the board has such memory, beyond 32 bits. How many, and by which seed, stands in sector
+   0, where tests/boards/run has written it. The same numbers come to that script, which knows from them what the card has to hold, and
+   what was read. */
 #include "board.h"
 
 enum { LONGEST = 64 };
-static uint8_t blocks[LONGEST][512];
+/* So aligned that SDMA needn't stop in it. */
+static uint8_t near[LONGEST][512] __attribute__((aligned(0x8000)));
+static uint8_t (*blocks)[512] = near;
 static uint32_t state, check = 0xffffffff;
 
 /* A random number: xorshift (Marsaglia). */
@@ -70,18 +73,35 @@ static void request(struct kelifandro *sd, uint32_t size)
         erase_units(sd, start, count, size);
 }
 
+enum way { BY_TABLE, BY_PORT, BY_ADDRESS, BEYOND_32_BITS, WAYS };
+
+/* The registers by which this request goes, and where its memory is. */
+static const struct kelifandro_registers *go_by(enum way way, const struct kelifandro_registers *registers)
+{
+    static struct kelifandro_registers others;
+    uint32_t capabilities = registers->capabilities ? registers->capabilities : registers->read(registers->context, 0x40, 4);
+    others = *registers;
+    blocks = way == BEYOND_32_BITS && board_far ? (uint8_t (*)[512])(uintptr_t)board_far : near;
+    if (way == BY_PORT)
+        others.lend = 0;
+    if (way == BY_ADDRESS)
+        others.capabilities = capabilities & ~(1u << 19);
+    return &others;
+}
+
 void program(struct kelifandro *sd)
 {
     const struct kelifandro_registers *registers = sd->registers;
-    struct kelifandro_registers by_port = *registers;
+    unsigned long lent[WAYS] = {0};
     uint32_t count;
-    by_port.lend = 0;
     expect_done("read", kelifandro_read(sd, KELIFANDRO_USER, 0, 1, blocks));
     count = word(blocks[0]);
     state = word(blocks[0] + 4);
     for (uint32_t i = 0; i < count; i++) {
-        sd->registers = i % 2 ? &by_port : registers;
+        unsigned long before = board_lendings;
+        sd->registers = go_by((enum way)(i % WAYS), registers);
         request(sd, (uint32_t)kelifandro_sectors(sd, KELIFANDRO_USER));
+        lent[i % WAYS] += board_lendings > before;
     }
     print("unit ");
     print_number(sd->card.erase_unit);
@@ -90,7 +110,11 @@ void program(struct kelifandro *sd)
     print(" lines ");
     print_number(sd->card.lines);
     print(" lent ");
-    print_number(board_lendings);
+    print_number(lent[BY_TABLE] + (board_far ? 0 : lent[BEYOND_32_BITS]));
+    print(" single ");
+    print_number(lent[BY_ADDRESS]);
+    print(" far ");
+    print_number(board_far ? lent[BEYOND_32_BITS] : 0);
     print(" check ");
     print_number(~check);
     print("\n");
