@@ -1,10 +1,10 @@
-ghost use Rattle.std.specs.Prelude.{◌<◌, ◌≤◌, None};
+ghost use Rattle.std.specs.Prelude.{◌<◌, ◌≤◌, None, length};
 ghost use Rattle.mmc_sdhci.specs.Beside.{untold};
 ghost use Rattle.mmc_sdhci.specs.Driver.{unkept_controller};
 
 use crate::protocol::Conversation;
 use mmc_bus::Blocks;
-use mmc_sdhci::Registers;
+use mmc_sdhci::{Line, Registers, Table};
 use sdhci_board::Words;
 
 // Where the controller's registers stand; tests/qemu/run sets this up.
@@ -35,20 +35,30 @@ fn place_of(index: usize) -> u32
 }
 
 impl QemuRegisters {
-    // Copies a block to the machine's memory.
-    fn put_block(&mut self, index: usize, block: &[u8; 512])
-        requires { index < 320 }
+    // Copies whole words to the machine's memory.
+    fn put_words(&mut self, place: u32, bytes: &[u8])
+        requires few { length bytes.now ≤ 512 }
+        requires inside { place ≤ 0x00227e00 }
     {
-        let place = place_of(index);
-        for i in 0..128 {
+        for i in 0..bytes.len() / 4 {
             let word = [
-                block[4 * i],
-                block[4 * i + 1],
-                block[4 * i + 2],
-                block[4 * i + 3],
+                bytes[4 * i],
+                bytes[4 * i + 1],
+                bytes[4 * i + 2],
+                bytes[4 * i + 3],
             ];
             self.conversation
                 .write(b"writel", place + 4 * i as u32, u32::from_le_bytes(word));
+        }
+    }
+
+    // Copies a line of a table there.
+    fn put_line(&mut self, index: usize, line: Line)
+        requires { index < 1024 }
+    {
+        match line {
+            Line::Narrow(bytes) => self.put_words(TABLE + 8 * index as u32, &bytes),
+            Line::Wide(bytes) => self.put_words(TABLE + 12 * index as u32, &bytes),
         }
     }
 }
@@ -77,35 +87,30 @@ impl Registers for QemuRegisters {
             .write(b"writeb", BASE + u32::from(offset), u32::from(value));
     }
 
-    fn lend_room(&mut self, count: usize) -> Option<u32> {
+    fn lend_room(&mut self, count: usize) -> Option<u64> {
         if self.lends && count <= MOST_BLOCKS {
-            Some(BLOCKS)
+            Some(u64::from(BLOCKS))
         } else {
             None
         }
     }
 
-    fn lend_blocks<D: Blocks>(&mut self, blocks: &D) -> Option<u32> {
+    fn lend_blocks<D: Blocks>(&mut self, blocks: &D) -> Option<u64> {
         let count = blocks.len();
         if !self.lends || count > MOST_BLOCKS {
             return None;
         }
         for i in 0..count {
-            self.put_block(i, blocks.block(i));
+            self.put_words(place_of(i), blocks.block(i));
         }
-        Some(BLOCKS)
+        Some(u64::from(BLOCKS))
     }
 
-    fn lend_table(&mut self, table: &[[u8; 8]; 16]) -> u32 {
-        for i in 0..16 {
-            let [a, b, c, d, e, f, g, h] = table[i];
-            let place = TABLE + 8 * i as u32;
-            self.conversation
-                .write(b"writel", place, u32::from_le_bytes([a, b, c, d]));
-            self.conversation
-                .write(b"writel", place + 4, u32::from_le_bytes([e, f, g, h]));
+    fn lend_table(&mut self, table: &Table) -> Option<u64> {
+        for i in 0..table.len() {
+            self.put_line(i, table.line(i));
         }
-        TABLE
+        Some(u64::from(TABLE))
     }
 
     fn take_place(&mut self, index: usize, block: &mut [u8; 512]) {

@@ -1,6 +1,6 @@
 // The registers of the strict controller, for a driver that waits too short.
 use crate::controller::Controller;
-use mmc_sdhci::Registers;
+use mmc_sdhci::{Registers, Table};
 use sdhci_model::Model;
 use std::marker::Brand;
 
@@ -35,11 +35,11 @@ impl Registers for Hasty {
         self.model.write8(offset, value);
     }
 
-    fn lend_room(&mut self, count: usize) -> Option<u32> {
+    fn lend_room(&mut self, count: usize) -> Option<u64> {
         self.model.lend_room(count)
     }
 
-    fn lend_table(&mut self, table: &[[u8; 8]; 16]) -> u32 {
+    fn lend_table(&mut self, table: &Table) -> Option<u64> {
         self.model.lend_table(table)
     }
 

@@ -1,4 +1,6 @@
 // The driver opens cards, writes and reads back, also where an answer is lost.
+ghost use Rattle.std.specs.Prelude.{◌<◌, ◌≤◌};
+
 use crate::controller::Controller;
 use crate::hasty::Hasty;
 use crate::narrow::Narrow;
@@ -9,25 +11,52 @@ use mmc_card_sim::{CardSpec, Fault, Outcome, SimCard};
 use mmc_frame::commands::GO_IDLE_STATE;
 use mmc_frame::encode;
 use mmc_host::HostBus;
-use mmc_sdhci::{Registers, Sdhci};
+use mmc_sdhci::{Registers, Sdhci, Table};
 use sdhci_model::{Manner, Model, Silence, Silent, driver};
 use std::alloc::Global;
 use std::default::Default;
 use std::marker::Brand;
 use std::test::Fail;
 
-// Capabilities: a base clock of 50 MHz, 3.3 V, high speed, and eight lines; and beside them ADMA2.
+// Capabilities: a base clock of 50 MHz, 3.3 V, high speed, and eight lines.
 const CAPABILITIES: u32 = 0x0124_3200;
 
-const WITH_ADMA2: u32 = CAPABILITIES + 0x8_0000;
+// A controller: its Capabilities, and the bus address of memory that is lent to it.
+#[derive(Clone, Copy)]
+struct Built {
+    capabilities: u32,
+    memory: u64,
+}
+
+const NO_DMA: Built = Built {
+    capabilities: CAPABILITIES,
+    memory: 0x1000_0000,
+};
+
+const SDMA: Built = Built {
+    capabilities: CAPABILITIES + 0x40_0000,
+    memory: 0x1000_0000,
+};
+
+// ADMA2 by addresses of 32 bits.
+const ADMA2: Built = Built {
+    capabilities: CAPABILITIES + 0x8_0000,
+    memory: 0x1000_0000,
+};
+
+// And by addresses of 64, with memory beyond 32.
+const WIDE: Built = Built {
+    capabilities: CAPABILITIES + 0x1008_0000,
+    memory: 0x10_1000_0000,
+};
 
 type Driver = HostBus<Sdhci<Model<Controller, Brand>>>;
 
-// How blocks are moved: through the Buffer Data Port, over such lines at most; or by DMA, over all.
+// How blocks are moved: through the Buffer Data Port, over such lines at most; or by DMA of such a controller, over all.
 #[derive(Clone, Copy)]
 enum Way {
     Port(Lines),
-    Dma,
+    Dma(Built),
 }
 
 // What came of a run: the lines that the card was opened on, how many exchanges it took, by the card's count and the controller's, how
@@ -58,9 +87,13 @@ fn over(card: SimCard) -> Controller {
     }
 }
 
-// The driver of a controller with these Capabilities, over this card.
-fn driven(card: SimCard, capabilities: u32, manner: Manner) -> Option<Driver> {
-    match driver::<Controller, Brand>(over(card), capabilities, 2, manner) {
+// The driver of such a controller, over this card.
+fn driven(card: SimCard, built: Built, manner: Manner) -> Option<Driver> {
+    let Built {
+        capabilities,
+        memory,
+    } = built;
+    match driver::<Controller, Brand>(over(card), capabilities, 2, memory, manner) {
         Ok(host) => Some(HostBus::new(host)),
         Err(_) => None,
     }
@@ -180,15 +213,15 @@ fn serve(alloc: Global, spec: CardSpec, way: Way, trouble: Trouble) -> Result<Se
         .ok_or("not planned")?;
     match way {
         Way::Port(most) => {
-            let bus = driven(card, CAPABILITIES, trouble.manner).ok_or("no driver")?;
+            let bus = driven(card, NO_DMA, trouble.manner).ok_or("no driver")?;
             let narrow = Narrow::new(bus, most);
             let mut device = BlockDev::open(alloc, narrow).ok().ok_or("no device")?;
             write_and_read(alloc, &mut device)?;
             let lines = lines_of(&device);
             judge(&device.close().bus, lines)
         }
-        Way::Dma => {
-            let bus = driven(card, WITH_ADMA2, trouble.manner).ok_or("no driver")?;
+        Way::Dma(built) => {
+            let bus = driven(card, built, trouble.manner).ok_or("no driver")?;
             let mut device = BlockDev::open(alloc, bus).ok().ok_or("no device")?;
             write_and_read(alloc, &mut device)?;
             let lines = lines_of(&device);
@@ -321,7 +354,7 @@ fn fail_each_late(alloc: Global, which: Which, way: Way) -> Result<(), Fail> {
 // Whether the driver keeps to the rules with its first command, where no pause takes longer than this.
 fn is_sound_in(alloc: Global, longest: u32) -> Result<bool, Fail> {
     let card = SimCard::build(alloc, sdsc()).ok().ok_or("no card")?;
-    let model = Model::new(over(card), CAPABILITIES, 2, Manner::default());
+    let model = Model::new(over(card), CAPABILITIES, 2, 0x1000_0000, Manner::default());
     let Ok(host) = Sdhci::new(Hasty { model, longest }) else {
         return Err("no driver".into());
     };
@@ -384,10 +417,13 @@ fn serves_cards_on_a_strict_controller(rt: HostRuntime) -> Result<(), Fail> {
     Ok(())
 }
 
+// A card by each way of DMA.
+const MOVED: [(Which, Built); 3] = [(Which::Sd, SDMA), (Which::Mmc, ADMA2), (Which::Sd, WIDE)];
+
 #[test]
 fn each_exchange_fails_where_the_controller_moves_the_blocks(rt: HostRuntime) -> Result<(), Fail> {
-    for which in [Which::Mmc, Which::Sd] {
-        let whole = fail_each(rt.alloc(), which, Way::Dma)?;
+    for (which, built) in MOVED {
+        let whole = fail_each(rt.alloc(), which, Way::Dma(built))?;
         assert_eq!(rt; whole.moved, 4);
     }
     Ok(())
@@ -397,14 +433,16 @@ fn each_exchange_fails_where_the_controller_moves_the_blocks(rt: HostRuntime) ->
 fn each_exchange_is_silent_where_the_controller_moves_the_blocks(
     rt: HostRuntime,
 ) -> Result<(), Fail> {
-    silence_each(rt.alloc(), Which::Mmc, Way::Dma)?;
-    silence_each(rt.alloc(), Which::Sd, Way::Dma)
+    for (which, built) in MOVED {
+        silence_each(rt.alloc(), which, Way::Dma(built))?;
+    }
+    Ok(())
 }
 
 // Runs of 1 to 16 sectors are written and read back. The answer is how many blocks were moved by DMA.
-fn move_runs(alloc: Global, spec: CardSpec) -> Result<u64, Fail> {
+fn move_runs(alloc: Global, spec: CardSpec, built: Built) -> Result<u64, Fail> {
     let card = SimCard::build(alloc, spec).ok().ok_or("no card")?;
-    let bus = driven(card, WITH_ADMA2, Manner::default()).ok_or("no driver")?;
+    let bus = driven(card, built, Manner::default()).ok_or("no driver")?;
     let mut device = BlockDev::open(alloc, bus).ok().ok_or("no device")?;
     for count in 1..17 {
         submit(alloc, &mut device, count, count)?;
@@ -421,39 +459,60 @@ fn move_runs(alloc: Global, spec: CardSpec) -> Result<u64, Fail> {
 #[test]
 fn runs_are_moved_by_dma(rt: HostRuntime) -> Result<(), Fail> {
     // Each run twice, and 1 + 2 + .. + 16 is 136.
-    assert_eq!(rt; move_runs(rt.alloc(), sdhc())?, 272);
-    assert_eq!(rt; move_runs(rt.alloc(), emmc())?, 272);
+    assert_eq!(rt; move_runs(rt.alloc(), sdhc(), SDMA)?, 272);
+    assert_eq!(rt; move_runs(rt.alloc(), emmc(), ADMA2)?, 272);
+    assert_eq!(rt; move_runs(rt.alloc(), sdhc(), WIDE)?, 272);
     Ok(())
 }
 
-// Whether a controller that was lent room for two blocks takes this for the first line of its table, after which there is none.
-fn takes(alloc: Global, line: [u8; 8]) -> Result<bool, Fail> {
+// How many are, from this bus address on.
+fn move_from(alloc: Global, built: Built, memory: u64) -> Result<u64, Fail> {
+    move_runs(alloc, sdhc(), Built { memory, ..built })
+}
+
+#[test]
+fn runs_that_dma_does_not_reach_go_through_the_port(rt: HostRuntime) -> Result<(), Fail> {
+    // SDMA stops at multiples of 512 KiB: eight blocks before one it moves runs of 1 to 8, each twice, and 1 + 2 + .. + 8 is 36.
+    assert_eq!(rt; move_from(rt.alloc(), SDMA, 0x1007_f000)?, 72);
+    // So does ADMA2 by addresses of 32 bits, eight blocks before they end.
+    assert_eq!(rt; move_from(rt.alloc(), ADMA2, 0xffff_f000)?, 72);
+    assert_eq!(rt; move_from(rt.alloc(), SDMA, 0x10_1000_0000)?, 0);
+    assert_eq!(rt; move_from(rt.alloc(), ADMA2, 0x10_1000_0000)?, 0);
+    // Addresses of 64 bits are multiples of 8.
+    assert_eq!(rt; move_from(rt.alloc(), WIDE, 0x10_1000_0004)?, 0);
+    Ok(())
+}
+
+// Whether a controller that was lent room for two blocks, from 1000_0000h on, takes a table of so many bytes from this address on.
+fn takes(alloc: Global, start: u64, size: u32, is_wide: bool) -> Result<bool, Fail>
+    requires low { start < 0x20000000 }
+    requires small { size ≤ 1536 }
+{
     let card = SimCard::build(alloc, sdsc()).ok().ok_or("no card")?;
-    let model = Model::new(over(card), WITH_ADMA2, 2, Manner::default());
+    let model = Model::new(
+        over(card),
+        ADMA2.capabilities,
+        2,
+        ADMA2.memory,
+        Manner::default(),
+    );
     let mut registers = Hasty { model, longest: 0 };
     if registers.lend_room(2) != Some(0x1000_0000) {
         return Err("no room".into());
     }
-    let mut table = [[0; 8]; 16];
-    table[0] = line;
-    registers.lend_table(&table);
+    registers.lend_table(&Table::new(start, size, is_wide));
     Ok(registers.model.is_sound())
 }
 
 #[test]
 fn a_table_names_just_what_is_lent(rt: HostRuntime) -> Result<(), Fail> {
-    // Valid, the last one, and Tran; 1,024 bytes at 1000_0000h.
-    assert!(rt; takes(rt.alloc(), [0x23, 0, 0, 4, 0, 0, 0, 0x10])?);
-    let others = [
-        [0x22, 0, 0, 4, 0, 0, 0, 0x10],
-        [0x21, 0, 0, 4, 0, 0, 0, 0x10],
-        [0x03, 0, 0, 4, 0, 0, 0, 0x10],
-        [0x23, 0, 0, 2, 0, 0, 0, 0x10],
-        [0x23, 0, 0, 4, 4, 0, 0, 0x10],
-        [0x23, 0, 0, 0, 0, 0, 0, 0x10],
-    ];
-    for line in others {
-        assert!(rt; !takes(rt.alloc(), line)?);
+    for is_wide in [false, true] {
+        assert!(rt; takes(rt.alloc(), 0x1000_0000, 1024, is_wide)?);
+        assert!(rt; !takes(rt.alloc(), 0x1000_0000, 512, is_wide)?);
+        assert!(rt; !takes(rt.alloc(), 0x1000_0000, 1536, is_wide)?);
+        assert!(rt; !takes(rt.alloc(), 0x1000_0200, 512, is_wide)?);
+        assert!(rt; !takes(rt.alloc(), 0x1000_0200, 1024, is_wide)?);
+        assert!(rt; !takes(rt.alloc(), 0x0fff_fe00, 1536, is_wide)?);
     }
     Ok(())
 }
