@@ -36,7 +36,7 @@ IsLent view start size = view.is_kept ≡ true → (view.dma.start ≡ start) ×
 
 -- All is set for DMA, and nothing else is changed.
 pub record Prepared (old new : ControllerView) : Type 0 where
-  pub same : new ≡ record old { settings = new.settings; dma = new.dma }
+  pub same : new ≡ record old { settings = new.settings; sizes = new.sizes; dma = new.dma }
   pub lines : lines_in new.settings.control ≡ lines_in old.settings.control
   pub clock : new.settings.clock ≡ old.settings.clock
   pub set : is_set new.settings ≡ true

@@ -14,7 +14,7 @@ use crate::command::reset_data;
 use crate::data::came;
 use crate::dma::{Dma, dma_for};
 use crate::offsets::{
-    ADMA_ADDRESS, ADMA_UPPER, CONTROL, INTERRUPTS, SDMA_ADDRESS, SHOWN_INTERRUPTS,
+    ADMA_ADDRESS, ADMA_UPPER, CONTROL, INTERRUPTS, SDMA_ADDRESS, SHOWN_INTERRUPTS, SIZES,
 };
 use crate::registers::Registers;
 use crate::settling::pause;
@@ -37,6 +37,10 @@ fn between(look: u32) -> u32 {
     if look < FIRST_LOOKS { 1 } else { 50 }
 }
 
+// Block Size and Block Count of no data, with the boundary of SDMA. A write of its address also goes on with what has stopped at a
+// boundary (section 2.2.1), and QEMU's controller takes any blocks that are counted still for that.
+const NO_BLOCKS: u32 = 0x7000;
+
 // Selects SDMA, beside the lines that are set, with the memory that was lent, from this bus address on.
 fn point_at_memory<R: Registers>(registers: &mut R, lines: Lines, start: u32)
     requires free { IsFreeOf (R.view registers.old) }
@@ -45,6 +49,7 @@ fn point_at_memory<R: Registers>(registers: &mut R, lines: Lines, start: u32)
         × Reaches (R.view registers.old).built.capabilities Sdma start (size_of (R.view registers.old).dma.lent)) }
     ensures { Prepares (R.view registers.old) (R.view registers.new) }
 {
+    registers.write32(SIZES, NO_BLOCKS);
     registers.write32(SDMA_ADDRESS, start);
     registers.write8(CONTROL, control_of(lines, Some(Dma::Sdma)));
 }
