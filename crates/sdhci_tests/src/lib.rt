@@ -4,8 +4,14 @@
 #[cfg(test)]
 mod controller;
 #[cfg(test)]
+mod dma_tests;
+#[cfg(test)]
 mod hasty;
 #[cfg(test)]
 mod narrow;
+#[cfg(test)]
+mod serving;
+#[cfg(test)]
+mod sweeps;
 #[cfg(test)]
 mod tests;
