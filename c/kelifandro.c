@@ -6,8 +6,14 @@
 #include "kelifandro.h"
 #include "kelifandro_core.h"
 
-/* of the C library, whose header a freestanding compiler needn't have */
+/* A copy of a few bytes, which is an access of memory also where a compiler is told that it knows no library; else it is memcpy, whose
+   header a freestanding compiler needn't have. */
+#if defined __GNUC__
+#define COPY __builtin_memcpy
+#else
+#define COPY memcpy
 void *memcpy(void *to, const void *from, size_t n);
+#endif
 
 /* The proved library reads and writes struct kelifandro_card by these places (crates/mmc_record/src/record.rt), and counts in eight
    numbers (crates/mmc_recovery/src/healed.rt), the lowest byte of each first. An array of -1 is refused on any processor where that
@@ -91,30 +97,30 @@ static int written;
 static uint16_t half_at(const uint8_t *bytes)
 {
     uint16_t half;
-    memcpy(&half, bytes, sizeof half);
+    COPY(&half, bytes, sizeof half);
     return half;
 }
 
 static uint32_t word_at(const uint8_t *bytes)
 {
     uint32_t word;
-    memcpy(&word, bytes, sizeof word);
+    COPY(&word, bytes, sizeof word);
     return word;
 }
 
 static void answer_half(uint8_t *bytes, uint16_t half)
 {
-    memcpy(bytes, &half, sizeof half);
+    COPY(bytes, &half, sizeof half);
 }
 
 static void answer_word(uint8_t *bytes, uint32_t word)
 {
-    memcpy(bytes, &word, sizeof word);
+    COPY(bytes, &word, sizeof word);
 }
 
 static void answer_long(uint8_t *bytes, uint64_t number)
 {
-    memcpy(bytes, &number, sizeof number);
+    COPY(bytes, &number, sizeof number);
 }
 
 /* The highest byte first. */
