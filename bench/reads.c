@@ -1,9 +1,11 @@
 /* Reads 256 sectors in runs of 64, by DMA where the controller has it and through its port, and tells the nanoseconds of each on the
-   board's own clock. Started by bench/boards, whose QEMU lets each instruction take one. */
+   board's own clock; and, by DMA, 16 MiB, and tells how many commands that took. Started by bench/boards, whose QEMU lets each
+   instruction take one. */
 #include "board.h"
 
-enum { RUN = 64, RUNS = 4 };
-static uint8_t blocks[RUN][512];
+enum { RUN = 64, RUNS = 4, MANY = 32768 };
+static uint8_t blocks[MANY][512];
+static unsigned long commands;
 
 #ifdef __x86_64__
 static uint64_t nanoseconds(void)
@@ -47,14 +49,37 @@ static void measure(const char *way, struct kelifandro *sd)
     print("\n");
 }
 
+/* As the board does, whose commands it counts. */
+static void write(void *context, unsigned offset, unsigned size, uint32_t value)
+{
+    commands += offset == 0x0c;
+    mapped_write(context, offset, size, value);
+}
+
+static void count_commands(struct kelifandro *sd)
+{
+    static struct kelifandro_registers counted;
+    const struct kelifandro_registers *registers = sd->registers;
+    counted = *registers;
+    counted.write = write;
+    sd->registers = &counted;
+    expect_done("long read", kelifandro_read_long(sd, KELIFANDRO_USER, 0, MANY, blocks, 0));
+    sd->registers = registers;
+    print("commands ");
+    print_number(commands);
+    print("\n");
+}
+
 void program(struct kelifandro *sd)
 {
     static struct kelifandro_registers by_port;
     by_port = *sd->registers;
     by_port.lend = 0;
     measure("first ", sd);
-    if (board_lendings > 0)
+    if (board_lendings > 0) {
         measure("dma ", sd);
+        count_commands(sd);
+    }
     sd->registers = &by_port;
     measure("port ", sd);
 }

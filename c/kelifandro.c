@@ -6,15 +6,6 @@
 #include "kelifandro.h"
 #include "kelifandro_core.h"
 
-/* A copy of a few bytes, which is an access of memory also where a compiler is told that it knows no library; else it is memcpy, whose
-   header a freestanding compiler needn't have. */
-#if defined __GNUC__
-#define COPY __builtin_memcpy
-#else
-#define COPY memcpy
-void *memcpy(void *to, const void *from, size_t n);
-#endif
-
 /* The proved library reads and writes struct kelifandro_card by these places (crates/mmc_record/src/record.rt), and counts in eight
    numbers (crates/mmc_recovery/src/healed.rt), the lowest byte of each first. An array of -1 is refused on any processor where that
    isn't so. */
@@ -93,34 +84,32 @@ static int one_answer;
 /* What became of the block that was written last. */
 static int written;
 
-/* Numbers in records have the lowest byte first, as this processor has. */
 static uint16_t half_at(const uint8_t *bytes)
 {
-    uint16_t half;
-    COPY(&half, bytes, sizeof half);
-    return half;
+    return (uint16_t)(bytes[0] | bytes[1] << 8);
 }
 
 static uint32_t word_at(const uint8_t *bytes)
 {
-    uint32_t word;
-    COPY(&word, bytes, sizeof word);
-    return word;
+    return half_at(bytes) | (uint32_t)half_at(bytes + 2) << 16;
 }
 
-static void answer_half(uint8_t *bytes, uint16_t half)
+static void answer_half(uint8_t *bytes, uint32_t half)
 {
-    COPY(bytes, &half, sizeof half);
+    bytes[0] = (uint8_t)half;
+    bytes[1] = (uint8_t)(half >> 8);
 }
 
 static void answer_word(uint8_t *bytes, uint32_t word)
 {
-    COPY(bytes, &word, sizeof word);
+    answer_half(bytes, word);
+    answer_half(bytes + 2, word >> 16);
 }
 
-static void answer_long(uint8_t *bytes, uint64_t number)
+APART static void answer_long(uint8_t *bytes, uint64_t number)
 {
-    COPY(bytes, &number, sizeof number);
+    answer_word(bytes, (uint32_t)number);
+    answer_word(bytes + 4, (uint32_t)(number >> 32));
 }
 
 /* The highest byte first. */
@@ -268,7 +257,7 @@ static void take_back(const struct kelifandro_registers *registers)
 
 /* Lends the first blocks of the request's memory for DMA, if the port can. An address that is none for the library is given back: then
    the blocks go through the Buffer Data Port. */
-static uint64_t lend(const struct kelifandro_registers *registers)
+APART static uint64_t lend(const struct kelifandro_registers *registers)
 {
     size_t n = (size_t)lent * BLOCK;
     uint64_t address = registers->lend ? registers->lend(registers->context, memory, n, is_room) : 0;
@@ -512,7 +501,7 @@ int32_t kelifandro_open(struct kelifandro *kelifandro)
 }
 
 /* Reads into the memory, or writes what is there. */
-static int32_t move(struct kelifandro *kelifandro, enum kelifandro_part part, uint64_t start, size_t count, void *bytes, int is_write)
+APART static int32_t move(struct kelifandro *kelifandro, enum kelifandro_part part, uint64_t start, size_t count, void *bytes, int is_write)
 {
     int32_t result;
     if (!has_way(kelifandro))
@@ -599,7 +588,7 @@ int32_t kelifandro_write_long(struct kelifandro *kelifandro, enum kelifandro_par
 }
 
 /* A bit of Present State. */
-static int32_t is_present(const struct kelifandro *kelifandro, int bit)
+APART static int32_t is_present(const struct kelifandro *kelifandro, int bit)
 {
     const struct kelifandro_registers *registers = kelifandro->registers;
     if (kelifandro->host || !registers)
