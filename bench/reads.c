@@ -8,7 +8,7 @@ static uint8_t blocks[MANY][512];
 static unsigned long commands;
 
 #ifdef __x86_64__
-static uint64_t nanoseconds(void)
+static uint64_t of_processor(void)
 {
     uint32_t low, high;
     __asm__ volatile("rdtsc" : "=a"(low), "=d"(high));
@@ -16,14 +16,14 @@ static uint64_t nanoseconds(void)
 }
 #elif defined __riscv
 enum { MEGAHERTZ = 10 }; /* of QEMU's virtual board */
-static uint64_t nanoseconds(void)
+static uint64_t of_processor(void)
 {
     unsigned long count;
     __asm__ volatile("rdtime %0" : "=r"(count));
     return (uint64_t)count * (1000 / MEGAHERTZ);
 }
 #else
-static uint64_t nanoseconds(void)
+static uint64_t of_processor(void)
 {
     uint64_t count, hertz;
 #ifdef __aarch64__
@@ -38,6 +38,11 @@ static uint64_t nanoseconds(void)
     return count * (1000000000 / hertz);
 }
 #endif
+
+static uint64_t nanoseconds(void)
+{
+    return board_nanoseconds ? board_nanoseconds() : of_processor();
+}
 
 static void measure(const char *way, struct kelifandro *sd)
 {

@@ -11,6 +11,9 @@ void board_put(char character);
 /* Waits so long at least. */
 void board_pause(void *context, uint32_t microseconds);
 
+/* The time, on a board whose processor has no clock that a program reads by an instruction: for bench/reads.c. May be left out. */
+uint64_t board_nanoseconds(void) __attribute__((weak));
+
 /* A word, or a byte, of a device at this address. */
 #define WORD(address) (*(volatile uint32_t *)(uintptr_t)(address))
 #define BYTE(address) (*(volatile uint8_t *)(uintptr_t)(address))

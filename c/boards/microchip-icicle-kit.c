@@ -25,6 +25,11 @@ void board_pause(void *context, uint32_t microseconds)
         ;
 }
 
+uint64_t board_nanoseconds(void)
+{
+    return WORD(TIME) * 1000ull;
+}
+
 static const struct kelifandro_registers registers = {.context = (void *)CONTROLLER, MAPPED};
 
 const struct kelifandro_registers *board_begin(void)

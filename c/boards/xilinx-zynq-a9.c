@@ -34,6 +34,12 @@ void board_pause(void *context, uint32_t microseconds)
         ;
 }
 
+/* QEMU's timer goes by 100 MHz. */
+uint64_t board_nanoseconds(void)
+{
+    return WORD(TIME) * 10ull;
+}
+
 /* Its Capabilities tell no base clock: it's the SDIO reference clock, a twentieth of the IO PLL's 1,250 MHz at most. A controller of
    version 2.00, as this one, can't tell more than 63 MHz. It has ADMA2 and SDMA. */
 static const struct kelifandro_registers registers = {
