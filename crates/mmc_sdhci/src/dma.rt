@@ -1,6 +1,7 @@
 // How a controller moves blocks by itself.
-ghost use Rattle.std.specs.Prelude.{◌+◌, ◌<◌, ◌^◌, IfSome};
+ghost use Rattle.std.specs.Prelude.{◌+◌, ◌<◌, ◌≡◌, ◌^◌, IfSome, IsNone, false, ℕ};
 ghost use Rattle.mmc_sdhci.specs.Finishing.{Reaches};
+ghost use Rattle.mmc_sdhci.specs.declared.dma.Dma.{Dma};
 
 /// How a controller moves blocks by itself (SD Host Controller Simplified Specification 3.00, sections 1.4 and 1.13; bits 4 and 3 of
 /// Host Control 1).
@@ -15,7 +16,9 @@ pub enum Dma {
 }
 
 /// Whether there is any, by Capabilities: bit 19 ADMA2, bit 22 SDMA.
-pub fn has_dma(capabilities: u32) -> bool {
+pub fn has_dma(capabilities: u32) -> bool
+    ensures { result ≡ false → (dma : Dma) (start size : ℕ) → Reaches capabilities dma start size → ⊥ }
+{
     capabilities / 0x8_0000 % 2 == 1 || capabilities / 0x40_0000 % 2 == 1
 }
 
@@ -23,7 +26,8 @@ pub fn has_dma(capabilities: u32) -> bool {
 /// the Buffer Data Port. ADMA2 where there is any, and its wide tables only for memory beyond 32 bits.
 pub fn dma_for(capabilities: u32, start: u64, size: u32) -> Option<Dma>
     requires { start + size < 2 ^ 64 }
-    ensures { IfSome result (λ dma. Reaches capabilities dma start size) }
+    ensures reaches { IfSome result (λ dma. Reaches capabilities dma start size) }
+    ensures none { IsNone result → (dma : Dma) → Reaches capabilities dma start size → ⊥ }
 {
     let is_low = start + u64::from(size) <= 0x1_0000_0000;
     if capabilities / 0x8_0000 % 2 == 1 {
