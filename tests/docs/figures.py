@@ -21,7 +21,7 @@ FACTS = [
     (r"(\w+) s and \w+ ms a sector", WORK, r"\(([\d_]+) \+ 16_000", 1000000),
     (r"\w+ s and (\w+) ms a sector", WORK, r"\(10_000_000 \+ ([\d_]+)", 1000),
     (r"(\w+) minutes at most for an erase", WORK, r"\.min\(([\d_]+)\)", 60000000),
-    (r"(\w+) ms after an R3 that isn't ready", "crates/mmc_host/src/host_bus.rt", r"BETWEEN_INQUIRIES: u32 = ([\d_]+)", 1000),
+    (r"(\w+) ms after an R3 that isn't ready", "crates/mmc_host/src/replies.rt", r"BETWEEN_INQUIRIES: u32 = ([\d_]+)", 1000),
     (r"(\w+) attempts have failed", "crates/mmc_direct/src/attempts.rt", r"ATTEMPTS: u64 = (\d+)", 1),
     (r"(?:write of 1 to|requests and) ([\d,]+) sectors", "crates/mmc_queue/src/request.rt", r"MAX_COUNT: u64 = (\d+)", 1),
     (r"(?:writes of|or writes) 1 to ([\d,]+) sectors", "crates/mmc_transfer/src/job.rt", r"MAX_BLOCKS: u32 = ([\d_]+)", 1),

@@ -1,24 +1,27 @@
 ghost use Rattle.std.specs.Prelude.{◌<◌, ◌==◌, ◌||◌, ◌≡◌, ◌≤◌, if◌then◌else◌, IfSome, IsNone, None, false, length, not, true};
 ghost use Rattle.mmc_bus.specs.Exchanges.{Commanded, DataRead, DataWritten, Polled, SetsLines};
 ghost use Rattle.mmc_bus.specs.Together.{ReadWith, WrittenWith};
-ghost use Rattle.mmc_card.specs.Faults.{CommandStep, PollStep, ReadStep, Spells, WriteStep};
+ghost use Rattle.mmc_card.specs.Faults.{CommandStep, PollStep, ReadStep, WriteStep};
 ghost use Rattle.mmc_bus.specs.Wires.{bus_view_with};
-ghost use Rattle.mmc_host.specs.Hosts.{Does, GoesOn, IsLined, IsUnused, IsWithin, OnlySets, ReadsBlock, Replies, Rests};
+ghost use Rattle.mmc_host.specs.Hosts.{Does, GoesOn, IsLined, IsUnused, IsWithin, OnlySets, Replies, Rests};
 ghost use Rattle.mmc_frame.specs.Frame.{command_in};
 ghost use Rattle.mmc_host.specs.Misuse.{can_send, has_data};
-ghost use Rattle.mmc_host.specs.Pace.{IsClocked, IsPaced, IsTimed, pause_after, shows_work};
+ghost use Rattle.mmc_host.specs.Pace.{IsClocked, IsPaced, IsTimed, pause_after};
 ghost use Rattle.mmc_frame.specs.declared.commands.TheConstants.{GO_IDLE_STATE};
-ghost use Rattle.mmc_host.specs.Hosts.{Where, WritesBlock, answer_heard, bus_over};
-ghost use Rattle.mmc_host.specs.Together.{CanRead, CanWrite, IsBegun, IsUnderWay, number_of, all_noted, all_writes_noted, poll_noted, writes_noted};
+ghost use Rattle.mmc_host.specs.Hosts.{Where, bus_over};
+ghost use Rattle.mmc_host.specs.Together.{CanRead, CanWrite, IsBegun, IsUnderWay, number_of};
 ghost use Rattle.mmc_host.specs.HostStates.{AreMovable, IsBetween, IsCounted, IsFree, IsTold, IsToCome, IsToGo, lines_of, resting};
 
 use crate::host::Host;
+use crate::limits::{are_within, limited};
+use crate::noting::{MOST_BLOCKS, note_blocks, note_written, number_of};
+use crate::replies::{pause_after, spelled};
 use crate::response::Response;
-use crate::told::{Heard, HostCommand, HostState, Ios, ResponseFault};
+use crate::told::{HostCommand, HostState, Ios};
 use mmc_bus::{Blocks, BlocksMut, Bus, Moved, Wire};
 use mmc_card::{DataIn, DataOut, Exchange, Lines, Reply, Timing, Want, Width};
-use mmc_frame::commands::{GO_IDLE_STATE, SD_SEND_OP_COND, SEND_OP_COND, SEND_STATUS};
-use mmc_frame::{encode_r2, encode_r3, encode_response, read_command, with_check};
+use mmc_frame::commands::GO_IDLE_STATE;
+use mmc_frame::read_command;
 
 /// The bus over a host controller.
 ///
@@ -34,116 +37,6 @@ pub struct HostBus<H: Host> {
     is_misused: bool,
     ghost told: { Where (H.view host) ((H.view host).state ≡ state) },
     ghost within: { Where (H.view host) ((H.view host).limits ≡ wire.limits) },
-}
-
-// The reply to a command, with its checks.
-fn spelled(command: HostCommand, heard: Result<Heard, ResponseFault>) -> Reply
-    requires { command.index < 64 }
-    ensures { Spells (answer_heard command.response command.index heard) result }
-{
-    let Ok(heard) = heard else {
-        return Reply::Silent;
-    };
-    match (command.response, heard) {
-        (Response::R2, Heard::Register(bytes)) => Reply::Long(encode_r2(&with_check(&bytes))),
-        (Response::R3, Heard::Word(ocr)) => Reply::Short(encode_r3(ocr)),
-        (Response::R1 | Response::R1b | Response::R6 | Response::R7, Heard::Word(argument)) =>
-            Reply::Short(encode_response(command.index, argument)),
-        _ => Reply::Silent,
-    }
-}
-
-// For how many microseconds the card is left alone after this was heard.
-fn pause_after(is_app: bool, command: HostCommand, heard: Result<Heard, ResponseFault>) -> u32
-    ensures { result ≡ pause_after is_app command heard }
-{
-    let Ok(Heard::Word(word)) = heard else {
-        return 0;
-    };
-    match command.index {
-        SEND_OP_COND if word < READY => BETWEEN_INQUIRIES,
-        SD_SEND_OP_COND if is_app && word < READY => BETWEEN_INQUIRIES,
-        SEND_STATUS if shows_work(word) => BETWEEN_STATUSES,
-        _ => 0,
-    }
-}
-
-// Whether a card status shows the card at work: prg, or tran without READY_FOR_DATA.
-fn shows_work(status: u32) -> bool
-    ensures { result ≡ shows_work status }
-{
-    let state = status / 512 % 16;
-    state == 7 || state == 4 && status / 256 % 2 == 0
-}
-
-// As many of these lines and as fast as the limits allow.
-fn limited(lines: Lines, limits: Lines) -> Lines
-    ensures within { IsWithin result limits }
-    ensures same { IsWithin lines limits → result ≡ lines }
-{
-    Lines {
-        width: lines.width.fewer(limits.width),
-        timing: lines.timing.slower(limits.timing),
-    }
-}
-
-// Whether the limits allow these lines.
-fn are_within(lines: Lines, limits: Lines) -> bool
-    ensures within { result ≡ true → IsWithin lines limits }
-    ensures can { IsWithin lines limits → result ≡ true }
-{
-    limited(lines, limits) == lines
-}
-
-// How many blocks a controller is told to count.
-fn number_of(count: usize) -> u16
-    ensures number { result ≡ number_of count }
-    ensures some { 1 ≤ result }
-{
-    count.clamp(1, MOST_BLOCKS as usize) as u16
-}
-
-// Keeps the exchanges of these blocks; where one failed, of it alone, since nobody tells how many came before it.
-fn note_blocks(wire: &mut Wire, moved: Moved<DataIn>)
-    ensures { wire.new ≡ all_noted moved wire.old }
-{
-    match moved {
-        Moved::Failed(got) => wire.note(Exchange::In { len: 512, got }),
-        Moved::Good(good) => {
-            for _done in 0..good {
-                wire.note(Exchange::In {
-                    len: 512,
-                    got: DataIn::Good,
-                });
-            }
-        }
-    }
-}
-
-// Keeps the poll before a block that isn't the first.
-fn note_poll(wire: &mut Wire, done: usize)
-    ensures { wire.new ≡ poll_noted done wire.old }
-{
-    if done > 0 {
-        wire.note(Exchange::Busy { yes: false });
-    }
-}
-
-// The same of blocks that are written, with the polls between them.
-fn note_written(wire: &mut Wire, moved: Moved<DataOut>)
-    ensures { wire.new ≡ all_writes_noted moved wire.old }
-{
-    match moved {
-        Moved::Failed(got) => wire.note(Exchange::Out { got }),
-        Moved::Good(good) => {
-            for done in 0..good {
-                note_poll(wire, done);
-                wire.note(Exchange::Out {
-                    got: DataOut::Accepted,
-                });
-            }
-        }
-    }
 }
 
 impl<H: Host> HostBus<H> {
@@ -418,15 +311,6 @@ impl<H: Host> HostBus<H> {
         self.host.is_busy(self.state.work)
     }
 }
-
-const READY: u32 = 0x8000_0000;
-
-// The most blocks that a controller counts.
-const MOST_BLOCKS: u16 = 0xffff;
-
-const BETWEEN_INQUIRIES: u32 = 64_000;
-
-const BETWEEN_STATUSES: u32 = 32_000;
 
 impl<H: Host> Bus for HostBus<H> {
     ghost view = { λ s. bus_over (H.view s.host) s.wire s.is_misused };
