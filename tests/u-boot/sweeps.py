@@ -160,7 +160,7 @@ def table(sweeps):
         if kind is not None and not own and not other:
             continue
         mark = "**" if kind is None else ""
-        lines.append("| %s | %s%d / %d%s | %d / %d | %d | %d | %s%d%s |" % (
-            name, mark, own["right"], sum(own.values()), mark, other["right"], sum(other.values()), other["refused"],
-            other["dead until rescan"] + other["dead"], mark, other["wrong, said good"], mark))
+        lines.append("| {} | {m}{:,} / {:,}{m} | {:,} / {:,} | {:,} | {:,} | {m}{:,}{m} |".format(
+            name, own["right"], sum(own.values()), other["right"], sum(other.values()), other["refused"],
+            other["dead until rescan"] + other["dead"], other["wrong, said good"], m=mark))
     return "\n".join(lines)
