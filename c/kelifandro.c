@@ -58,7 +58,7 @@ enum { BLOCK = 512 };
 
 /* What is called seldom stands apart from what is called for each register and block: that saves few registers then. */
 #if defined __GNUC__
-#define APART __attribute__((noinline))
+#define APART __attribute__((__noinline__)) /* of which some systems have a macro without underscores */
 #else
 #define APART
 #endif

@@ -10,6 +10,4 @@
 #define UINT32_C(number) number##u
 #define UINT64_C(number) number##ull
 #endif
-/* U-Boot has a macro of the attribute's name */
-#undef noinline
 #endif

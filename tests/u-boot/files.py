@@ -1,8 +1,7 @@
-"""Files by each way, read, saved and compared: what U-Boot reads with what lies on the card, what it saves with what mtools, debugfs and fsck
-find on the image."""
+"""Files by each way, read, saved and compared: what U-Boot reads with what lies on the card, what it saves with what mtools, debugfs
+and fsck find on the image."""
 import re
 import zlib
-from pathlib import Path
 
 from images import run, take, with_both
 from machine import Machine
@@ -105,17 +104,15 @@ def try_card(program, folder, size):
             card.load("mmc 0", part, "/" + name, content, TO)
         saved = card.save("mmc 0", 1, "own", LENGTH, FROM)
         card.load("kelifandro 0", 1, "/own", saved, TO)
-        told = machine.say("kelifandro info")
-    return card.compare(), re.search(r"SD card by \w+", told + machine_info(told)).group()
-
-
-def machine_info(told):
-    return "" if "SD card by" in told else "SD card by what isn't told"
+        kind = re.search(r"SD card by \w+", machine.say("kelifandro info"))
+    if not kind:
+        raise RuntimeError("kelifandro info doesn't tell of an SD card")
+    return card.compare(), kind.group()
 
 
 def try_files(program, folder):
     for size in (64 << 20, 4 << 30):
-        own = Path(folder) / str(size)
+        own = folder / str(size)
         own.mkdir()
         n, kind = try_card(program, own, size)
         print("%s of %d MiB: files by U-Boot's driver, by registers and by U-Boot's own stack: %d saved ones as they have to be"
