@@ -21,7 +21,7 @@ mod with_blocks;
 
 pub use clock::base_clock;
 pub use command::{has_data, register_in};
-pub use dma::Dma;
+pub use dma::{Dma, crosses_none, has_dma};
 pub use following::{Following, following_of};
 pub use mover::Mover;
 pub use offsets::{CAPABILITIES, PRESENT};

@@ -2,7 +2,7 @@
 ghost use Rattle.std.specs.Prelude.{◌*◌, ◌+◌, ◌==◌, ◌≡◌, if◌then◌else◌};
 ghost use Rattle.mmc_frame.specs.Field.{field};
 ghost use Rattle.mmc_sdhci.specs.Accesses.{can_move, is_adma_set, is_dma_set, is_sdma_set};
-ghost use Rattle.mmc_sdhci.specs.Lent.{crosses_none, is_lent_for, is_pointed};
+ghost use Rattle.mmc_sdhci.specs.Lent.{is_lent_for, is_pointed};
 ghost use Rattle.mmc_story.specs.Story.{Outcome};
 ghost use Rattle.sdhci_model.specs.Shown.{shown};
 
@@ -10,13 +10,7 @@ use crate::lent::Loan;
 use crate::rules::both;
 use crate::state::State;
 use mmc_host::Data;
-
-// Whether memory crosses no multiple of 512 KiB, at which SDMA would stop.
-fn crosses_none(start: u64, size: u32) -> bool
-    ensures { result ≡ crosses_none start size }
-{
-    start % 0x8_0000 + u64::from(size) <= 0x8_0000
-}
+use mmc_sdhci::crosses_none;
 
 impl State {
     // Whether the memory that is lent is for just this data.

@@ -11,7 +11,7 @@ use crate::tables::names_just;
 use arrayvec::ArrayVec;
 use mmc_bus::Blocks;
 use mmc_host::Data;
-use mmc_sdhci::Table;
+use mmc_sdhci::{Table, has_dma};
 
 /// So many blocks are lent at most.
 pub const MOST_BLOCKS: usize = 16;
@@ -81,12 +81,10 @@ impl State {
         self.memory % 4 == 0 && self.memory < HIGHEST
     }
 
-    // Whether so much of it can be lent: there is ADMA2 (bit 19 of Capabilities) or SDMA (bit 22), and nothing is at work or lent.
+    // Whether so much of it can be lent: there is DMA, and nothing is at work or lent.
     fn can_lend(&self, count: usize) -> bool {
-        let has_dma = self.capabilities / 0x8_0000 % 2 == 1
-            || self.capabilities / 0x40_0000 % 2 == 1;
         let is_free = matches!(self.loan, Loan::Nothing);
-        has_dma && is_free && self.is_at_rest() && count >= 1
+        has_dma(self.capabilities) && is_free && self.is_at_rest() && count >= 1
     }
 
     /// Lends room for so many blocks of 512 bytes.
