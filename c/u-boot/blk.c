@@ -19,7 +19,7 @@ static enum kelifandro_part part_of(int hwpart)
 {
     static const enum kelifandro_part parts[] = {
         KELIFANDRO_USER, KELIFANDRO_BOOT1, KELIFANDRO_BOOT2, KELIFANDRO_NO_PART,
-        KELIFANDRO_GP1, KELIFANDRO_GP2, KELIFANDRO_GP3, KELIFANDRO_GP4,
+        KELIFANDRO_GP1,  KELIFANDRO_GP2,   KELIFANDRO_GP3,   KELIFANDRO_GP4,
     };
 
     return hwpart >= 0 && hwpart < ARRAY_SIZE(parts) ? parts[hwpart] : KELIFANDRO_NO_PART;
@@ -66,7 +66,7 @@ static void describe(struct blk_desc *desc, const struct kelifandro *kelifandro)
     snprintf(desc->vendor, sizeof(desc->vendor), "Man %02x", cid[0]);
     snprintf(desc->product, sizeof(desc->product), "%.*s", kelifandro->card.kind ? 6 : 5, (const char *)cid + 3);
     snprintf(desc->revision, sizeof(desc->revision), "%x.%x", cid[kelifandro->card.kind ? 9 : 8] >> 4,
-         cid[kelifandro->card.kind ? 9 : 8] & 15);
+             cid[kelifandro->card.kind ? 9 : 8] & 15);
 }
 
 /* The card of U-Boot's own stack behind the same controller, or NULL. */
@@ -127,7 +127,7 @@ static size_t move_aligned(struct kelifandro_blk *own, int hwpart, u64 start, si
     size_t moved = 0;
 
     own->last = is_write ? kelifandro_write_long(&own->kelifandro, part_of(hwpart), start, count, bytes, &moved)
-                 : kelifandro_read_long(&own->kelifandro, part_of(hwpart), start, count, bytes, &moved);
+                         : kelifandro_read_long(&own->kelifandro, part_of(hwpart), start, count, bytes, &moved);
     return moved;
 }
 
@@ -159,7 +159,7 @@ static ulong move(struct udevice *blk, lbaint_t start, lbaint_t count, void *byt
         size_t n = min(count - done, longest);
 
         done += is_aligned ? move_aligned(own, desc->hwpart, start + done, n, bytes + done * 512, is_write)
-                   : move_bounced(own, desc->hwpart, start + done, n, bytes + done * 512, is_write);
+                           : move_bounced(own, desc->hwpart, start + done, n, bytes + done * 512, is_write);
     }
     if (own->last != KELIFANDRO_DONE)
         log_err("%s: %s at " LBAFU ": %s\n", blk->name, is_write ? "write" : "read", start + done, kelifandro_text(own->last));
@@ -254,7 +254,7 @@ static struct udevice *way_below(struct udevice *controller, const char *name)
 {
     struct udevice *way;
 
-    device_foreach_child(way, controller)
+    device_foreach_child (way, controller)
         if (!strcmp(way->driver->name, name))
             return way;
     return device_bind_driver(controller, name, name, &way) ? NULL : way;

@@ -69,13 +69,13 @@ static void show_bytes(const char *name, const u8 *bytes, int n)
 
 static void show_card(const struct kelifandro_card *card)
 {
-    static const char *const parts[] = { "user", "boot1", "boot2", "gp1", "gp2", "gp3", "gp4" };
-    const u64 sectors[] = { card->user, card->boot, card->boot, card->gp1, card->gp2, card->gp3, card->gp4 };
+    static const char *const parts[] = {"user", "boot1", "boot2", "gp1", "gp2", "gp3", "gp4"};
+    const u64 sectors[] = {card->user, card->boot, card->boot, card->gp1, card->gp2, card->gp3, card->gp4};
     int i;
 
-    printf("  %s by %s, RCA %04x, %d lines%s%s%s%s\n", card->kind ? "eMMC" : "SD card", card->addressing ? "sectors" : "bytes",
-           card->rca, card->lines, card->high_speed ? ", high speed" : "", card->cmd23 ? ", CMD23" : "",
-           card->trims ? ", trims" : "", card->read_only ? ", read only" : "");
+    printf("  %s by %s, RCA %04x, %d lines%s%s%s%s\n", card->kind ? "eMMC" : "SD card", card->addressing ? "sectors" : "bytes", card->rca,
+           card->lines, card->high_speed ? ", high speed" : "", card->cmd23 ? ", CMD23" : "", card->trims ? ", trims" : "",
+           card->read_only ? ", read only" : "");
     show_bytes("CID", card->cid, 16);
     show_bytes("CSD", card->csd, 16);
     for (i = 0; i < ARRAY_SIZE(parts); i++)
@@ -88,8 +88,8 @@ static void show_healed(const struct kelifandro_blk *own)
 {
     const struct kelifandro_healed *healed = &own->kelifandro.healed;
 
-    printf("  attempts %llu, failed by answer %llu, by data %llu, by status %llu, by busy %llu, by recovery %llu\n",
-           healed->attempts, healed->by_answer, healed->by_data, healed->by_status, healed->by_busy, healed->by_recovery);
+    printf("  attempts %llu, failed by answer %llu, by data %llu, by status %llu, by busy %llu, by recovery %llu\n", healed->attempts,
+           healed->by_answer, healed->by_data, healed->by_status, healed->by_busy, healed->by_recovery);
     printf("  settlings %llu, resets %llu; opened anew in %lu calls, %lu times another card; bounced %lu\n", healed->settlings,
            healed->resets, own->opened_anew, own->exchanged, own->bounced);
     printf("  last answer: %s\n", kelifandro_text(own->last));
@@ -126,8 +126,7 @@ static int do_kelifandro(struct cmd_tbl *table, int flag, int argc, char *const 
     if (argc < 2)
         return CMD_RET_USAGE;
     if (!strcmp(argv[1], "open"))
-        return open_card(argc > 2 ? !strcmp(argv[2], "pci") : !IS_ENABLED(CONFIG_KELIFANDRO_MMC),
-                 argc > 3 ? dectoul(argv[3], NULL) : 0);
+        return open_card(argc > 2 ? !strcmp(argv[2], "pci") : !IS_ENABLED(CONFIG_KELIFANDRO_MMC), argc > 3 ? dectoul(argv[3], NULL) : 0);
     if (!strcmp(argv[1], "info"))
         return show_info();
     if (!strcmp(argv[1], "erase") && argc == 4)
@@ -136,10 +135,10 @@ static int do_kelifandro(struct cmd_tbl *table, int flag, int argc, char *const 
 }
 
 U_BOOT_CMD(kelifandro, 6, 0, do_kelifandro, "SD cards and eMMC by libkelifandro",
-       "open [mmc|pci [N]] - open the card of the Nth MMC controller, or SD host controller on PCI\n"
-       "kelifandro info - what is known of the card, and what was healed since it was opened\n"
-       "kelifandro erase START COUNT - erase sectors\n"
-       "kelifandro device [N] - show or set the device\n"
-       "kelifandro part [N] - list the partitions\n"
-       "kelifandro read ADDRESS START COUNT - read sectors\n"
-       "kelifandro write ADDRESS START COUNT - write sectors");
+           "open [mmc|pci [N]] - open the card of the Nth MMC controller, or SD host controller on PCI\n"
+           "kelifandro info - what is known of the card, and what was healed since it was opened\n"
+           "kelifandro erase START COUNT - erase sectors\n"
+           "kelifandro device [N] - show or set the device\n"
+           "kelifandro part [N] - list the partitions\n"
+           "kelifandro read ADDRESS START COUNT - read sectors\n"
+           "kelifandro write ADDRESS START COUNT - write sectors");

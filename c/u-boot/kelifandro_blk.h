@@ -12,11 +12,11 @@ struct kelifandro_blk {
     struct kelifandro kelifandro; /* its host or its registers are set by the way */
     /* Gives the card 3.3 V and its first clock, as kelifandro_open wants it. May be null. Answers 0, or -ENOMEDIUM and the like. */
     int (*make_ready)(struct udevice *way);
-    ulong longest;         /* how many sectors one command may move */
-    int32_t last;          /* what the library answered last */
-    ulong opened_anew;     /* calls within which the card was reset and opened anew */
-    ulong exchanged;       /* and how often it was another card then */
-    ulong bounced;         /* requests whose memory isn't aligned to a cache line */
+    ulong longest;     /* how many sectors one command may move */
+    int32_t last;      /* what the library answered last */
+    ulong opened_anew; /* calls within which the card was reset and opened anew */
+    ulong exchanged;   /* and how often it was another card then */
+    ulong bounced;     /* requests whose memory isn't aligned to a cache line */
     u8 *bounce;
 };
 

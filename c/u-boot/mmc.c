@@ -33,13 +33,13 @@ static int fault_of(int error)
 }
 
 static int send_with_data(struct kelifandro_mmc *way, struct mmc_cmd *cmd, const struct kelifandro_command *command, void *memory,
-              size_t blocks, struct kelifandro_moved *moved)
+                          size_t blocks, struct kelifandro_moved *moved)
 {
     size_t length = command->block_length;
     bool is_read = command->data == KELIFANDRO_READ;
     /* a register, whose memory is the library's; all other memory is aligned as blk.c gives it */
     bool is_bounced = !IS_ALIGNED((ulong)memory | length, ARCH_DMA_MINALIGN);
-    struct mmc_data data = { .flags = is_read ? MMC_DATA_READ : MMC_DATA_WRITE, .blocksize = length, .blocks = is_bounced ? 1 : blocks };
+    struct mmc_data data = {.flags = is_read ? MMC_DATA_READ : MMC_DATA_WRITE, .blocksize = length, .blocks = is_bounced ? 1 : blocks};
     int error;
 
     data.dest = is_bounced ? (char *)way->one_block : memory;
@@ -57,18 +57,18 @@ static int send_with_data(struct kelifandro_mmc *way, struct mmc_cmd *cmd, const
 }
 
 static int mmc_transfer(void *context, const struct kelifandro_command *command, uint32_t response[4], void *memory, size_t blocks,
-            struct kelifandro_moved *moved)
+                        struct kelifandro_moved *moved)
 {
     struct kelifandro_mmc *way = context;
     struct mmc_cmd cmd = {
         .cmdidx = command->index,
         .cmdarg = command->argument,
         .resp_type = responses[command->response],
-        .response = { NOT_HEARD, NOT_HEARD, NOT_HEARD, NOT_HEARD },
+        .response = {NOT_HEARD, NOT_HEARD, NOT_HEARD, NOT_HEARD},
     };
     size_t n = min_t(size_t, blocks, command->blocks);
     int error = command->data != KELIFANDRO_NO_DATA && n ? send_with_data(way, &cmd, command, memory, n, moved)
-                                 : mmc_send_cmd(way->mmc, &cmd, NULL);
+                                                         : mmc_send_cmd(way->mmc, &cmd, NULL);
 
     if (!error)
         memcpy(response, cmd.response, sizeof(cmd.response));
