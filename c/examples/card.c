@@ -41,6 +41,13 @@ static uint32_t status(struct card *card, unsigned state)
     return shown;
 }
 
+/* The card has come to tran from this state, and its next statuses lag behind: they show that state, and not ready for data. */
+static void lag(struct card *card, unsigned before)
+{
+    card->before = before;
+    card->lagging = card->late;
+}
+
 static void set_byte(uint8_t *block, unsigned index, uint8_t value)
 {
     block[index] = value;
@@ -169,6 +176,7 @@ static int identify(struct card *card, const struct kelifandro_command *command,
     case 7:
         response[0] = status(card, was);
         card->state = TRAN;
+        lag(card, STBY);
         return was == STBY && argument >> 16 == card->rca;
     }
     return 0;
@@ -232,8 +240,16 @@ static int respond(struct card *card, const struct kelifandro_command *command, 
     uint32_t count = card->count;
     card->is_app = card->is_switching = 0;
     card->count = 0;
-    if (was == PRG)
+    if (was == PRG) {
         was = card->state = TRAN;
+        lag(card, PRG);
+    }
+    if (command->index == 13 && card->lagging) {
+        card->lagging--;
+        response[0] = status(card, card->before) & ~(uint32_t)READY_FOR_DATA;
+        return 1;
+    }
+    card->lagging = 0;
     if (command->index == 0) {
         card->state = IDLE;
         card->lines = 1;
@@ -254,6 +270,8 @@ static int respond(struct card *card, const struct kelifandro_command *command, 
     if (command->index == 12) {
         response[0] = status(card, was);
         card->state = was == RCV ? PRG : TRAN;
+        if (was == DATA)
+            lag(card, DATA);
         return was == DATA || was == RCV;
     }
     if (was < TRAN)

@@ -23,6 +23,8 @@ struct card {
     int lines, high_speed, host_lines, host_high_speed, is_switching;
     uint32_t hertz;
     unsigned long told; /* how often the host behind it was told lines, timing or clock */
+    /* how many statuses lag after CMD7, CMD12 and a write, as a test sets it; how many are left of them, and the state that they show */
+    unsigned late, lagging, before;
     /* how many answers there were, and which of them is lost; or damaged: a response comes with a bad check, a block that is read with
        other bytes and a bad check, and one that is written is rejected */
     unsigned long answers, lost;

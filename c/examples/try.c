@@ -1,6 +1,6 @@
 /* Tries the library over a card in memory, by a host and by registers: an SD card and an eMMC device are opened, written, read, erased
-   and trimmed, on one, four and eight lines, at default and high speed; each answer is lost and damaged in turn; and bytes of any kind are
-   given for a card. Prints what it has tried, and ends with status 0 where nothing was wrong. Built with EVERY it loses one of so many
+   and trimmed, on one, four and eight lines, at default and high speed; each answer is lost and damaged in turn, also where statuses of
+   the card lag; and bytes of any kind are given for a card. Prints what it has tried, and ends with status 0 where nothing was wrong. Built with EVERY it loses one of so many
    answers alone, for a slow processor.
 
        try             all of it
@@ -42,12 +42,14 @@ static int has_registers(enum way way)
     return way != HOST && way != TRANSFERS && way != WHOLE;
 }
 
-/* How many lines are wired, and whether there is high speed. */
+/* How many lines are wired, and whether there is high speed; how many statuses of the card lag. */
 static int lines = 8, high_speed = 1;
+static unsigned late;
 
 static void begin(int is_emmc, enum way way)
 {
     card_begin(&card, is_emmc);
+    card.late = late;
     int one_block = way == ONE_BLOCK || way == BY_PORT;
     host = way == TRANSFERS ? transfer_host : way == WHOLE ? whole_host : card_host;
     host.context = &card;
@@ -131,7 +133,7 @@ static void each_in_turn(int is_emmc, enum way way)
         }
     lines = 8;
     high_speed = 1;
-    printf("%s by %s: %lu answers lost and damaged in turn\n", is_emmc ? "eMMC" : "SD", ways[way], tried);
+    printf("%s by %s%s: %lu answers lost and damaged in turn\n", is_emmc ? "eMMC" : "SD", ways[way], late ? ", statuses lag" : "", tried);
 }
 
 /* What is refused is told neither to the card nor to its host. */
@@ -277,6 +279,10 @@ int main(int words, char **word)
     for (int way = HOST; way <= DMA_BY_WIDE_TABLE; way++)
         for (int is_emmc = 0; is_emmc < 2; is_emmc++)
             each_in_turn(is_emmc, way);
+    late = 2;
+    for (int is_emmc = 0; is_emmc < 2; is_emmc++)
+        each_in_turn(is_emmc, HOST), each_in_turn(is_emmc, SEVERAL_BLOCKS);
+    late = 0;
     for (int way = HOST; way <= DMA_BY_WIDE_TABLE; way++)
         refusals(way), long_requests(way), switches(way);
     lost_ways();

@@ -31,7 +31,7 @@ found_text line =
 -- what is wrong, and what was expected
 abbrev pub cause_words : Cause → List ℕ
 cause_words CarriageReturn = codes "it ends with a carriage return (0d); lines end with a line feed alone"
-cause_words UnknownKey = codes "no such key; the keys are kind, ocr, cid, csd, sectors, ready, busy, early, length, stop, slow-status, locked, fault, scr, rca, cmd8, highspeed and ext, each with a space behind it"
+cause_words UnknownKey = codes "no such key; the keys are kind, ocr, cid, csd, sectors, ready, busy, early, length, stop, slow-status, late-status, long-ready, long-busy, long-slow-status, locked, fault, scr, rca, cmd8, highspeed, r6-app, ext and ext-changes, each with a space behind it"
 cause_words (Value key) = expected_words key
 cause_words (OtherKind Sd) = codes "an SD card has no such line, and kind is sd"
 cause_words (OtherKind Mmc) = codes "an eMMC device has no such line, and kind is mmc"

@@ -1,6 +1,6 @@
 // The keys of card files, with what stands behind each.
 ghost use Rattle.std.specs.Prelude.{◌≡◌, option_map};
-ghost use Rattle.card_check.specs.Keys.{expected_words, key_of};
+ghost use Rattle.card_check.specs.Keys.{expected_words, further_key_of, key_of};
 
 /// A key of a card file.
 #[derive(Clone, Copy, Debug, PartialEq, Eq)]
@@ -16,13 +16,19 @@ pub enum Key {
     Length,
     Stop,
     SlowStatus,
+    LateStatus,
+    LongReady,
+    LongBusy,
+    LongSlowStatus,
     Locked,
     Fault,
     Scr,
     Rca,
     Cmd8,
     HighSpeed,
+    R6App,
     Ext,
+    ExtChanges,
 }
 
 impl Key {
@@ -68,6 +74,28 @@ impl Key {
         } else if name == b"ext".as_slice() {
             Some(Key::Ext)
         } else {
+            Key::further(name)
+        }
+    }
+
+    // The key of this name, where it is none of the others.
+    #[tactic(auto, unfolding(crate::specs::Keys::further_key_of))]
+    fn further(name: &[u8]) -> Option<Key>
+        ensures { result ≡ further_key_of name.now }
+    {
+        if name == b"late-status".as_slice() {
+            Some(Key::LateStatus)
+        } else if name == b"long-ready".as_slice() {
+            Some(Key::LongReady)
+        } else if name == b"long-busy".as_slice() {
+            Some(Key::LongBusy)
+        } else if name == b"long-slow-status".as_slice() {
+            Some(Key::LongSlowStatus)
+        } else if name == b"r6-app".as_slice() {
+            Some(Key::R6App)
+        } else if name == b"ext-changes".as_slice() {
+            Some(Key::ExtChanges)
+        } else {
             None
         }
     }
@@ -88,13 +116,19 @@ impl Key {
             Key::Length => b"length is kept or named",
             Key::Stop => b"stop is busy or ready",
             Key::SlowStatus => b"slow-status is a number from 0 to 8",
+            Key::LateStatus => b"late-status is a number from 0 to 8",
+            Key::LongReady => b"long-ready is a number from 0 to 15",
+            Key::LongBusy => b"long-busy is a number from 0 to 15",
+            Key::LongSlowStatus => b"long-slow-status is a number from 0 to 15",
             Key::Locked => b"locked is yes or no",
             Key::Fault =>
-                b"fault is an exchange and one of lose-command, flip-command A [B], lose-reply, flip-reply A [B], fail-switch, fail-switch-late, left-over crc|illegal, bad-block, no-block, read-error, reject, reject-all, lose-status old|new, fail old|new [8 digits], busy, brownout old|new",
+                b"fault is an exchange and one of lose-command, flip-command A [B], lose-reply, flip-reply A [B], fail-switch, fail-switch-late, lose-failed-switch, find-protection, left-over crc|illegal, bad-block, no-block, read-error, lose-block, reject, reject-busy, reject-all, lose-status old|new, fail old|new [8 digits], fail-early old|new [8 digits], busy, brownout old|new",
             Key::Scr => b"scr is 16 hexadecimal digits",
             Key::Rca => b"rca is 4 hexadecimal digits, or changes",
             Key::Cmd8 => b"cmd8 is yes or no",
             Key::HighSpeed => b"highspeed is yes, no, refused-15 or refused-0",
+            Key::R6App => b"r6-app is yes or no",
+            Key::ExtChanges => b"ext-changes is yes or no",
             Key::Ext => b"ext is a place from 0 to 511, and a byte of two hexadecimal digits",
         }
     }

@@ -11,7 +11,7 @@ use Rattle.text_out.specs.Hex.{hex_text}
 use Rattle.card_text.specs.declared.card_line.CardLine.TheVariants.{Cid, Cmd8, Csd, Ext, HighSpeed, Kind, Ocr, Scr, Sectors}
 use Rattle.card_text.specs.declared.card_line.HighSpeedChoice.TheVariants.{Taken}
 use Rattle.card_text.specs.declared.text_line.Line.TheVariants.{Says, Skipped}
-use Rattle.card_text.specs.CardLines.{card_line_of, card_line_of_fields, choice_of, ext_line_of, free_line_of, high_speed_of}
+use Rattle.card_text.specs.CardLines.{card_line_of, card_line_of_fields, choice_of, ext_line_of, free_line_of, high_speed_of, late_line_of}
 use Rattle.card_text.specs.CardLines.{kind_of, line_of_key, sd_line_of, value_line_of}
 use Rattle.card_text.specs.Parts.{parts}
 use Rattle.card_maker.specs.CardText.{byte_name, ext_line, kind_title, kind_word, name_line, title_line}
@@ -50,7 +50,7 @@ csd_said bs long bytes =
     rw (two_fields (codes "csd") (hex_text bs) refl (without_hex 32 bs (omega arith)), bytes_of-hex 16 bs long bytes) refl
 
 pub scr_said : (bs : List ℕ) → length bs ≡ 8 → AreBytes bs → card_line_of (register_line (codes "scr") bs) ≡ Says (Scr bs)
-unfolding card_line_of card_line_of_fields value_line_of line_of_key free_line_of sd_line_of
+unfolding card_line_of card_line_of_fields value_line_of line_of_key free_line_of late_line_of sd_line_of
 scr_said bs long bytes =
     rw (two_fields (codes "scr") (hex_text bs) refl (without_hex 32 bs (omega arith)), bytes_of-hex 8 bs long bytes) refl
 
@@ -60,13 +60,13 @@ sectors_said n fits =
     rw (two_fields (codes "sectors") (decimal n) refl (without_decimal 32 n (omega arith) fits), number_of-decimal n fits) refl
 
 pub cmd8_said : (choice : Bool) → card_line_of (word_line (codes "cmd8") (choice_word choice)) ≡ Says (Cmd8 choice)
-unfolding card_line_of card_line_of_fields value_line_of line_of_key free_line_of sd_line_of choice_of parts
+unfolding card_line_of card_line_of_fields value_line_of line_of_key free_line_of late_line_of sd_line_of choice_of parts
 cmd8_said true = refl
 cmd8_said false = refl
 
 pub high_speed_said : (choice : Bool)
     → card_line_of (word_line (codes "highspeed") (choice_word choice)) ≡ Says (HighSpeed (Taken choice))
-unfolding card_line_of card_line_of_fields value_line_of line_of_key free_line_of sd_line_of high_speed_of choice_of parts
+unfolding card_line_of card_line_of_fields value_line_of line_of_key free_line_of late_line_of sd_line_of high_speed_of choice_of parts
 high_speed_said true = refl
 high_speed_said false = refl
 

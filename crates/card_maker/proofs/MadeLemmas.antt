@@ -166,7 +166,7 @@ size_is_refused wanted (NotASize sectors below above) h =
     size_fault wanted.kind wanted.sectors (NotASize sectors below above) h
 size_is_refused wanted fault h = absurd h
 
-short_waits : (ready busy : ℕ) → ready ≡ 0 → busy ≡ 0 → (nat_le ready 8 && nat_le busy 8) ≡ true
+short_waits : (ready busy : ℕ) → ready ≡ 0 → busy ≡ 0 → (nat_le ready 15 && nat_le busy 15) ≡ true
 short_waits ready busy a b = rw (a, b) refl
 
 right_size : (user n : ℕ) → user ≡ n → 4 ≤ n → has_user_sectors user n ≡ true

@@ -18,6 +18,9 @@ pub record IsPlain (spec : CardSpec) : Type 0 where
   pub refusal : spec.refusal ≡ None
   pub stays_busy : spec.stays_busy ≡ false
   pub lagging : spec.lagging ≡ 0
+  pub late : spec.late ≡ 0
+  pub shows_app_cmd : spec.shows_app_cmd ≡ false
+  pub ages : spec.ages ≡ false
   pub image : spec.image ≡ None
   pub unlocked : spec.registers.is_locked ≡ false
   pub rca : HasFirstRca spec.registers.kind

@@ -228,6 +228,9 @@ fn plain(registers: Registers, sectors: u64) -> CardSpec
         refusal: None,
         stays_busy: false,
         lagging: 0,
+        late: 0,
+        shows_app_cmd: false,
+        ages: false,
         image: None,
     }
 }

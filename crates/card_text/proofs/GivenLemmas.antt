@@ -6,11 +6,11 @@ use Rattle.std.specs.Prelude.{slice_set}
 use Rattle.card_text.specs.declared.card_line.CardLine.{CardLine}
 use Rattle.card_text.specs.declared.card_line.CardLine.TheVariants.{Busy, Cid, Cmd8, Csd, Ext, Fault, HighSpeed, Kind}
 use Rattle.card_text.specs.declared.card_line.CardLine.TheVariants.{Early, KeepsLength, Locked, Ocr, Rca, Ready, Scr}
-use Rattle.card_text.specs.declared.card_line.CardLine.TheVariants.{Sectors, SlowStatus, StaysBusy}
+use Rattle.card_text.specs.declared.card_line.CardLine.TheVariants.{ExtChanges, LateStatus, R6App, Sectors, SlowStatus, StaysBusy}
 use Rattle.card_text.specs.declared.card_spec.Given.{Given}
 use Rattle.card_text.specs.CardSpecs.{busy_of_line, cid_of_line, cmd8_of_line, csd_of_line, early_of_line, ext_csd_of}
 use Rattle.card_text.specs.CardSpecs.{first_of, given_by, high_speed_of_line, keeps_length_of_line, kind_of_line, lagging_of_line}
-use Rattle.card_text.specs.CardSpecs.{locked_of_line, ocr_of_line, rca_of_line}
+use Rattle.card_text.specs.CardSpecs.{ages_of_line, late_of_line, locked_of_line, ocr_of_line, rca_of_line, shows_app_cmd_of_line}
 use Rattle.card_text.specs.CardSpecs.{ready_of_line, scr_of_line, sectors_of_line, stays_busy_of_line, with_byte}
 
 option_or_none : {A : Type 0} (o : Option A) → option_or o None ≡ o
@@ -41,11 +41,14 @@ with_line given (Early value) = record given { early = option_or given.early (So
 with_line given (KeepsLength value) = record given { keeps_length = option_or given.keeps_length (Some value) }
 with_line given (StaysBusy value) = record given { stays_busy = option_or given.stays_busy (Some value) }
 with_line given (SlowStatus value) = record given { lagging = option_or given.lagging (Some value) }
+with_line given (LateStatus value) = record given { late = option_or given.late (Some value) }
 with_line given (Locked value) = record given { locked = option_or given.locked (Some value) }
 with_line given (Scr value) = record given { scr = option_or given.scr (Some value) }
 with_line given (Rca value) = record given { rca = option_or given.rca (Some value) }
 with_line given (Cmd8 value) = record given { cmd8 = option_or given.cmd8 (Some value) }
 with_line given (HighSpeed value) = record given { high_speed = option_or given.high_speed (Some value) }
+with_line given (R6App value) = record given { shows_app_cmd = option_or given.shows_app_cmd (Some value) }
+with_line given (ExtChanges value) = record given { ages = option_or given.ages (Some value) }
 with_line given (Ext place value) = record given { ext_csd = slice_set given.ext_csd place value }
 with_line given (Fault exchange fault) = given
 
@@ -63,11 +66,14 @@ by_fields given line = record {
   keeps_length = option_or given.keeps_length (keeps_length_of_line line);
   stays_busy = option_or given.stays_busy (stays_busy_of_line line);
   lagging = option_or given.lagging (lagging_of_line line);
+  late = option_or given.late (late_of_line line);
   locked = option_or given.locked (locked_of_line line);
   scr = option_or given.scr (scr_of_line line);
   rca = option_or given.rca (rca_of_line line);
   cmd8 = option_or given.cmd8 (cmd8_of_line line);
   high_speed = option_or given.high_speed (high_speed_of_line line);
+  shows_app_cmd = option_or given.shows_app_cmd (shows_app_cmd_of_line line);
+  ages = option_or given.ages (ages_of_line line);
   ext_csd = with_byte given.ext_csd line;
 }
 

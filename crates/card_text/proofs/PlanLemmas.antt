@@ -14,7 +14,7 @@ use Rattle.card_text.specs.declared.text_line.Line.{Line}
 use Rattle.card_text.specs.declared.text_line.Line.TheVariants.{Bad, Says, Skipped}
 use Rattle.card_text.specs.CardFile.{AreCardLines, card_lines_in, plan_of}
 use Rattle.card_text.specs.CardLines.{byte_by, card_line_of, card_line_of_fields, ext_line_of, planned_by, fault_line_of}
-use Rattle.card_text.specs.CardLines.{free_line_of, line_of_key, repeats, sd_line_of, value_line_of}
+use Rattle.card_text.specs.CardLines.{free_line_of, late_line_of, line_of_key, repeats, sd_line_of, value_line_of}
 use Rattle.card_text.specs.FaultTexts.{fault_of}
 use Rattle.card_text.specs.Numbers.{byte_of, number_of}
 use Rattle.card_text.specs.Parts.{parts}
@@ -69,11 +69,15 @@ by_map f (Some a) h = record { early = h a }
 
 early_sd : (key text : List ℕ) → EarlyLine (sd_line_of key text)
 unfolding sd_line_of
-early_sd key text = search (rules, by_if, by_map, nothing) depth 14
+early_sd key text = search (rules, by_if, by_map, nothing) depth 17
+
+early_late : (key text : List ℕ) → EarlyLine (late_line_of key text)
+unfolding late_line_of
+early_late key text = search (rules, by_if, by_map, early_sd) depth 17
 
 early_free : (key text : List ℕ) → EarlyLine (free_line_of key text)
 unfolding free_line_of
-early_free key text = search (rules, by_if, by_map, early_sd)
+early_free key text = search (rules, by_if, by_map, early_late)
 
 early_key : (key text : List ℕ) → EarlyLine (line_of_key key text)
 unfolding line_of_key

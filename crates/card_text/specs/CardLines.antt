@@ -9,7 +9,7 @@ use Rattle.mmc_frame.specs.declared.kind.Kind.TheVariants.{Mmc, Sd}
 use Rattle.card_text.specs.declared.card_line.CardLine.{CardLine}
 use Rattle.card_text.specs.declared.card_line.CardLine.TheVariants.{Busy, Cid, Cmd8, Csd, Ext, Fault, HighSpeed, Kind}
 use Rattle.card_text.specs.declared.card_line.CardLine.TheVariants.{Early, KeepsLength, Locked, Ocr, Rca, Ready, Scr}
-use Rattle.card_text.specs.declared.card_line.CardLine.TheVariants.{Sectors, SlowStatus, StaysBusy}
+use Rattle.card_text.specs.declared.card_line.CardLine.TheVariants.{ExtChanges, LateStatus, R6App, Sectors, SlowStatus, StaysBusy}
 use Rattle.card_text.specs.declared.card_line.HighSpeedChoice.{HighSpeedChoice}
 use Rattle.card_text.specs.declared.card_line.HighSpeedChoice.TheVariants.{Refused, Taken}
 use Rattle.mmc_card_sim.specs.declared.spec.Refusal.TheVariants.{SelectsDefault, SelectsNone}
@@ -38,6 +38,10 @@ choice_of text =
 -- how many answers come late, at most 8
 unfoldable pub delay_of : List ℕ → Option ℕ
 delay_of text = option_and_then (λ n. if nat_le n 8 then Some n else None) (number_of text)
+
+-- the same, at most 15
+unfoldable pub long_delay_of : List ℕ → Option ℕ
+long_delay_of text = option_and_then (λ n. if nat_le n 15 then Some n else None) (number_of text)
 
 -- bits 30 and 29 of an OCR
 unfoldable pub early_of : List ℕ → Option ℕ
@@ -74,16 +78,27 @@ sd_line_of key text =
     if bytes_eq key (codes "scr") then option_map (λ bytes. Scr bytes) (bytes_of 8 text)
     else (if bytes_eq key (codes "rca") then option_map (λ rca. Rca rca) (published_rca_of text)
     else (if bytes_eq key (codes "cmd8") then option_map (λ choice. Cmd8 choice) (choice_of text)
-    else (if bytes_eq key (codes "highspeed") then option_map (λ choice. HighSpeed choice) (high_speed_of text) else None)))
+    else (if bytes_eq key (codes "highspeed") then option_map (λ choice. HighSpeed choice) (high_speed_of text)
+    else (if bytes_eq key (codes "r6-app") then option_map (λ choice. R6App choice) (choice_of text) else None))))
 
--- a key of what a card does where it is free, or of SD cards, with its value
+-- a key of how long a card may take, of eMMC devices, or of SD cards, with its value
+unfoldable pub late_line_of : List ℕ → List ℕ → Option CardLine
+late_line_of key text =
+    if bytes_eq key (codes "late-status") then option_map (λ count. LateStatus count) (delay_of text)
+    else (if bytes_eq key (codes "long-ready") then option_map (λ count. Ready count) (long_delay_of text)
+    else (if bytes_eq key (codes "long-busy") then option_map (λ count. Busy count) (long_delay_of text)
+    else (if bytes_eq key (codes "long-slow-status") then option_map (λ count. SlowStatus count) (long_delay_of text)
+    else (if bytes_eq key (codes "ext-changes") then option_map (λ choice. ExtChanges choice) (choice_of text)
+    else sd_line_of key text))))
+
+-- a key of what a card does where it is free, or another one, with its value
 unfoldable pub free_line_of : List ℕ → List ℕ → Option CardLine
 free_line_of key text =
     if bytes_eq key (codes "early") then option_map (λ bits. Early bits) (early_of text)
     else (if bytes_eq key (codes "length") then option_map (λ choice. KeepsLength choice) (keeps_length_of text)
     else (if bytes_eq key (codes "stop") then option_map (λ choice. StaysBusy choice) (stays_busy_of text)
     else (if bytes_eq key (codes "slow-status") then option_map (λ count. SlowStatus count) (delay_of text)
-    else sd_line_of key text)))
+    else late_line_of key text)))
 
 -- a key that stands once with its value
 unfoldable pub line_of_key : List ℕ → List ℕ → Option CardLine
@@ -133,6 +148,7 @@ card_line_of line = if is_skipped line then Skipped else line_by (card_line_of_f
 -- an SD card may have it
 abbrev pub is_of_sd : CardLine → Bool
 is_of_sd (Ext place value) = false
+is_of_sd (ExtChanges choice) = false
 is_of_sd line = true
 
 -- an eMMC device may have it
@@ -141,6 +157,7 @@ is_of_mmc (Scr bytes) = false
 is_of_mmc (Rca rca) = false
 is_of_mmc (Cmd8 choice) = false
 is_of_mmc (HighSpeed choice) = false
+is_of_mmc (R6App choice) = false
 is_of_mmc line = true
 
 -- a card of this kind may have it
@@ -161,10 +178,13 @@ repeats (Early bits) (Early other) = true
 repeats (KeepsLength choice) (KeepsLength other) = true
 repeats (StaysBusy choice) (StaysBusy other) = true
 repeats (SlowStatus count) (SlowStatus other) = true
+repeats (LateStatus count) (LateStatus other) = true
 repeats (Locked choice) (Locked other) = true
 repeats (Scr bytes) (Scr others) = true
 repeats (Rca rca) (Rca other) = true
 repeats (Cmd8 choice) (Cmd8 other) = true
 repeats (HighSpeed choice) (HighSpeed other) = true
+repeats (R6App choice) (R6App other) = true
+repeats (ExtChanges choice) (ExtChanges other) = true
 repeats (Fault exchange fault) (Fault other another) = exchange == other
 repeats line other = false

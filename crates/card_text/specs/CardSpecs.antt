@@ -13,7 +13,7 @@ use Rattle.card_text.specs.declared.card_line.CardLine.TheVariants.{Early, Keeps
 use Rattle.card_text.specs.declared.card_line.HighSpeedChoice.{HighSpeedChoice}
 use Rattle.card_text.specs.declared.card_line.HighSpeedChoice.TheVariants.{Refused, Taken}
 use Rattle.mmc_card_sim.specs.declared.spec.Refusal.{Refusal}
-use Rattle.card_text.specs.declared.card_line.CardLine.TheVariants.{SlowStatus, StaysBusy}
+use Rattle.card_text.specs.declared.card_line.CardLine.TheVariants.{ExtChanges, LateStatus, R6App, SlowStatus, StaysBusy}
 use Rattle.card_text.specs.declared.card_line.PublishedRca.{PublishedRca}
 use Rattle.card_text.specs.declared.card_line.PublishedRca.TheVariants.{Changes, Fixed}
 use Rattle.card_text.specs.declared.card_spec.Given.{Given}
@@ -68,6 +68,10 @@ abbrev pub lagging_of_line : CardLine → Option ℕ
 lagging_of_line (SlowStatus count) = Some count
 lagging_of_line line = None
 
+abbrev pub late_of_line : CardLine → Option ℕ
+late_of_line (LateStatus count) = Some count
+late_of_line line = None
+
 abbrev pub locked_of_line : CardLine → Option Bool
 locked_of_line (Locked choice) = Some choice
 locked_of_line line = None
@@ -87,6 +91,14 @@ cmd8_of_line line = None
 abbrev pub high_speed_of_line : CardLine → Option HighSpeedChoice
 high_speed_of_line (HighSpeed choice) = Some choice
 high_speed_of_line line = None
+
+abbrev pub shows_app_cmd_of_line : CardLine → Option Bool
+shows_app_cmd_of_line (R6App choice) = Some choice
+shows_app_cmd_of_line line = None
+
+abbrev pub ages_of_line : CardLine → Option Bool
+ages_of_line (ExtChanges choice) = Some choice
+ages_of_line line = None
 
 -- the byte that a line gives, in its place
 abbrev pub with_byte : List ℕ → CardLine → List ℕ
@@ -117,11 +129,14 @@ given_by ls = record {
   keeps_length = first_of keeps_length_of_line ls;
   stays_busy = first_of stays_busy_of_line ls;
   lagging = first_of lagging_of_line ls;
+  late = first_of late_of_line ls;
   locked = first_of locked_of_line ls;
   scr = first_of scr_of_line ls;
   rca = first_of rca_of_line ls;
   cmd8 = first_of cmd8_of_line ls;
   high_speed = first_of high_speed_of_line ls;
+  shows_app_cmd = first_of shows_app_cmd_of_line ls;
+  ages = first_of ages_of_line ls;
   ext_csd = ext_csd_of ls;
 }
 
@@ -183,6 +198,9 @@ spec_by given = do
     refusal = refusal_of given.high_speed;
     stays_busy = unwrap_or given.stays_busy false;
     lagging = unwrap_or given.lagging 0;
+    late = unwrap_or given.late 0;
+    shows_app_cmd = unwrap_or given.shows_app_cmd false;
+    ages = unwrap_or given.ages false;
     image = None;
   })
 

@@ -8,7 +8,8 @@ use Rattle.mmc_card_sim.specs.declared.fault.Fault.{Fault}
 use Rattle.mmc_card_sim.specs.declared.fault.Fault.TheVariants.{BadBlock, Brownout, Busy, Fail, FailWith, FlipCommand}
 use Rattle.mmc_card_sim.specs.declared.fault.Fault.TheVariants.{FailSwitch, FailSwitchLate, FlipReply, LeaveOver}
 use Rattle.mmc_card_sim.specs.declared.fault.Fault.TheVariants.{LoseCommand, LoseReply, LoseStatus, NoBlock, ReadError}
-use Rattle.mmc_card_sim.specs.declared.fault.Fault.TheVariants.{Reject, RejectAll}
+use Rattle.mmc_card_sim.specs.declared.fault.Fault.TheVariants.{FailEarly, FindProtection, LoseBlock, LoseFailedSwitch}
+use Rattle.mmc_card_sim.specs.declared.fault.Fault.TheVariants.{Reject, RejectAll, RejectBusy}
 use Rattle.mmc_card_sim.specs.declared.fault.Flips.{Flips}
 use Rattle.mmc_card_sim.specs.declared.fault.Outcome.{Outcome}
 use Rattle.mmc_card_sim.specs.declared.fault.Outcome.TheVariants.{New, Old}
@@ -59,6 +60,22 @@ failure_of (word ∷ digits ∷ []) =
     (λ outcome. option_map (λ bytes. FailWith outcome (from_be_bytes w32 bytes)) (bytes_of 4 digits)) (outcome_in word)
 failure_of words = None
 
+-- what fails so, but early: without error bits it is ERROR
+abbrev pub early_failure : Fault → Fault
+early_failure (Fail outcome) = FailEarly outcome 0x00080000
+early_failure (FailWith outcome bits) = FailEarly outcome bits
+early_failure fault = fault
+
+-- a fault that one word says: of a switch, of a block that is lost, or of what a card does besides
+unfoldable pub further_lone_fault_of : List ℕ → Option Fault
+further_lone_fault_of word =
+    if bytes_eq word (codes "fail-switch") then Some FailSwitch
+    else (if bytes_eq word (codes "fail-switch-late") then Some FailSwitchLate
+    else (if bytes_eq word (codes "lose-failed-switch") then Some LoseFailedSwitch
+    else (if bytes_eq word (codes "find-protection") then Some FindProtection
+    else (if bytes_eq word (codes "lose-block") then Some LoseBlock
+    else (if bytes_eq word (codes "reject-busy") then Some RejectBusy else None)))))
+
 -- a fault that one word says
 unfoldable pub lone_fault_of : List ℕ → Option Fault
 lone_fault_of word =
@@ -69,9 +86,8 @@ lone_fault_of word =
     else (if bytes_eq word (codes "read-error") then Some ReadError
     else (if bytes_eq word (codes "reject") then Some Reject
     else (if bytes_eq word (codes "reject-all") then Some RejectAll
-    else (if bytes_eq word (codes "fail-switch") then Some FailSwitch
-    else (if bytes_eq word (codes "fail-switch-late") then Some FailSwitchLate
-    else (if bytes_eq word (codes "busy") then Some Busy else None)))))))))
+    else (if bytes_eq word (codes "busy") then Some Busy
+    else further_lone_fault_of word)))))))
 
 -- a fault whose name has further words
 unfoldable pub fault_with_words_of : List ℕ → List (List ℕ) → Option Fault
@@ -81,8 +97,9 @@ fault_with_words_of name words =
     else (if bytes_eq name (codes "left-over") then option_map (λ error. LeaveOver error) (command_error_of words)
     else (if bytes_eq name (codes "lose-status") then option_map (λ outcome. LoseStatus outcome) (outcome_of words)
     else (if bytes_eq name (codes "fail") then failure_of words
+    else (if bytes_eq name (codes "fail-early") then option_map (λ fault. early_failure fault) (failure_of words)
     else (if bytes_eq name (codes "brownout") then option_map (λ outcome. Brownout outcome) (outcome_of words)
-    else None)))))
+    else None))))))
 
 -- the text of a fault, by its fields
 unfoldable pub fault_of : List (List ℕ) → Option Fault

@@ -2,7 +2,7 @@
 ghost use Rattle.std.specs.Prelude.{◌≡◌};
 ghost use Rattle.card_text.specs.CardLines.{card_line_of, card_line_of_fields, choice_of, delay_of, early_of, ext_line_of};
 ghost use Rattle.card_text.specs.CardLines.{fault_line_of, free_line_of, high_speed_of, keeps_length_of, kind_of};
-ghost use Rattle.card_text.specs.CardLines.{line_of_key, published_rca_of, sd_line_of, value_line_of, stays_busy_of};
+ghost use Rattle.card_text.specs.CardLines.{late_line_of, line_of_key, long_delay_of, published_rca_of, sd_line_of, value_line_of, stays_busy_of};
 ghost use Rattle.card_text.specs.Parts.{left_parts, parts};
 
 use crate::cut::cut;
@@ -44,9 +44,9 @@ pub enum CardLine {
     Csd([u8; 16]),
     /// The number of sectors of the user partition. The card's building judges it.
     Sectors(u64),
-    /// How many of the first readiness inquiries are answered with not ready, 0 to 8.
+    /// How many of the first readiness inquiries are answered with not ready, 0 to 15.
     Ready(u8),
-    /// How many of the first polls of a busy time are answered yes, 0 to 8.
+    /// How many of the first polls of a busy time are answered yes, 0 to 15.
     Busy(u8),
     /// Bits 30 and 29 of the OCR while the card isn't ready, 0 to 3.
     Early(u8),
@@ -54,8 +54,10 @@ pub enum CardLine {
     KeepsLength(bool),
     /// Whether CMD12 that ends a read leaves the card busy.
     StaysBusy(bool),
-    /// How many statuses behind the end of a programming still show prg, 0 to 8.
+    /// How many statuses behind the end of a programming still show prg, 0 to 15.
     SlowStatus(u8),
+    /// How many statuses behind CMD7 still show stby, and behind CMD12 that ends a read data, 0 to 8.
+    LateStatus(u8),
     /// Whether the card is locked.
     Locked(bool),
     /// The SCR of an SD card, the highest byte first.
@@ -66,6 +68,10 @@ pub enum CardLine {
     Cmd8(bool),
     /// Whether an SD card has high speed, and whether it takes it.
     HighSpeed(HighSpeedChoice),
+    /// Whether an SD card shows APP_CMD in its R6.
+    R6App(bool),
+    /// Whether the EXT_CSD of an eMMC device changes at each CMD0.
+    ExtChanges(bool),
     /// A byte of the EXT_CSD of an eMMC device.
     Ext {
         /// Its place, 0 to 511.
@@ -90,10 +96,12 @@ impl CardLine {
         ensures { result ≡ is_of kind self.now }
     {
         match *self {
-            CardLine::Ext { .. } => kind == Kind::Mmc,
-            CardLine::Scr(_) | CardLine::Rca(_) | CardLine::Cmd8(_) | CardLine::HighSpeed(_) => {
-                kind == Kind::Sd
-            }
+            CardLine::Ext { .. } | CardLine::ExtChanges(_) => kind == Kind::Mmc,
+            CardLine::Scr(_)
+            | CardLine::Rca(_)
+            | CardLine::Cmd8(_)
+            | CardLine::HighSpeed(_)
+            | CardLine::R6App(_) => kind == Kind::Sd,
             _ => true,
         }
     }
@@ -115,11 +123,14 @@ impl CardLine {
             | (CardLine::KeepsLength(_), CardLine::KeepsLength(_))
             | (CardLine::StaysBusy(_), CardLine::StaysBusy(_))
             | (CardLine::SlowStatus(_), CardLine::SlowStatus(_))
+            | (CardLine::LateStatus(_), CardLine::LateStatus(_))
             | (CardLine::Locked(_), CardLine::Locked(_))
             | (CardLine::Scr(_), CardLine::Scr(_))
             | (CardLine::Rca(_), CardLine::Rca(_))
             | (CardLine::Cmd8(_), CardLine::Cmd8(_))
-            | (CardLine::HighSpeed(_), CardLine::HighSpeed(_)) => true,
+            | (CardLine::HighSpeed(_), CardLine::HighSpeed(_))
+            | (CardLine::R6App(_), CardLine::R6App(_))
+            | (CardLine::ExtChanges(_), CardLine::ExtChanges(_)) => true,
             (
                 CardLine::Fault { exchange, .. },
                 CardLine::Fault {
@@ -167,6 +178,15 @@ fn delay(text: &[u8]) -> Option<u8>
 {
     let count = number(text)?;
     if count <= 8 { Some(count as u8) } else { None }
+}
+
+// A number from 0 to 15.
+#[tactic(auto, unfolding(crate::specs::CardLines::long_delay_of))]
+fn long_delay(text: &[u8]) -> Option<u8>
+    ensures { result ≡ long_delay_of text.now }
+{
+    let count = number(text)?;
+    if count <= 15 { Some(count as u8) } else { None }
 }
 
 // Bits 30 and 29 of an OCR: a number from 0 to 3.
@@ -245,12 +265,34 @@ fn sd_line(key: &[u8], text: &[u8]) -> Option<CardLine>
         Some(CardLine::Cmd8(choice(text)?))
     } else if key == b"highspeed".as_slice() {
         Some(CardLine::HighSpeed(high_speed(text)?))
+    } else if key == b"r6-app".as_slice() {
+        Some(CardLine::R6App(choice(text)?))
     } else {
         None
     }
 }
 
-// A key of what a card does where it is free, or of SD cards, with its value.
+// A key of how long a card may take, of eMMC devices, or of SD cards, with its value.
+#[tactic(auto, unfolding(crate::specs::CardLines::late_line_of))]
+fn late_line(key: &[u8], text: &[u8]) -> Option<CardLine>
+    ensures { result ≡ late_line_of key.now text.now }
+{
+    if key == b"late-status".as_slice() {
+        Some(CardLine::LateStatus(delay(text)?))
+    } else if key == b"long-ready".as_slice() {
+        Some(CardLine::Ready(long_delay(text)?))
+    } else if key == b"long-busy".as_slice() {
+        Some(CardLine::Busy(long_delay(text)?))
+    } else if key == b"long-slow-status".as_slice() {
+        Some(CardLine::SlowStatus(long_delay(text)?))
+    } else if key == b"ext-changes".as_slice() {
+        Some(CardLine::ExtChanges(choice(text)?))
+    } else {
+        sd_line(key, text)
+    }
+}
+
+// A key of what a card does where it is free, or another one, with its value.
 #[tactic(auto, unfolding(crate::specs::CardLines::free_line_of))]
 fn free_line(key: &[u8], text: &[u8]) -> Option<CardLine>
     ensures { result ≡ free_line_of key.now text.now }
@@ -264,7 +306,7 @@ fn free_line(key: &[u8], text: &[u8]) -> Option<CardLine>
     } else if key == b"slow-status".as_slice() {
         Some(CardLine::SlowStatus(delay(text)?))
     } else {
-        sd_line(key, text)
+        late_line(key, text)
     }
 }
 

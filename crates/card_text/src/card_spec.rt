@@ -21,11 +21,14 @@ pub struct Given {
     keeps_length: Option<bool>,
     stays_busy: Option<bool>,
     lagging: Option<u8>,
+    late: Option<u8>,
     locked: Option<bool>,
     scr: Option<[u8; 8]>,
     rca: Option<PublishedRca>,
     cmd8: Option<bool>,
     high_speed: Option<HighSpeedChoice>,
+    shows_app_cmd: Option<bool>,
+    ages: Option<bool>,
     // A byte that no line gives is 00, and of two lines for a place the last one counts.
     ext_csd: [u8; 512],
 }
@@ -48,11 +51,14 @@ impl Given {
             keeps_length: None,
             stays_busy: None,
             lagging: None,
+            late: None,
             locked: None,
             scr: None,
             rca: None,
             cmd8: None,
             high_speed: None,
+            shows_app_cmd: None,
+            ages: None,
             ext_csd: [0; 512],
         }
     }
@@ -74,11 +80,14 @@ impl Given {
             CardLine::KeepsLength(choice) => self.keeps_length = self.keeps_length.or(Some(choice)),
             CardLine::StaysBusy(choice) => self.stays_busy = self.stays_busy.or(Some(choice)),
             CardLine::SlowStatus(count) => self.lagging = self.lagging.or(Some(count)),
+            CardLine::LateStatus(count) => self.late = self.late.or(Some(count)),
             CardLine::Locked(choice) => self.locked = self.locked.or(Some(choice)),
             CardLine::Scr(bytes) => self.scr = self.scr.or(Some(bytes)),
             CardLine::Rca(rca) => self.rca = self.rca.or(Some(rca)),
             CardLine::Cmd8(choice) => self.cmd8 = self.cmd8.or(Some(choice)),
             CardLine::HighSpeed(choice) => self.high_speed = self.high_speed.or(Some(choice)),
+            CardLine::R6App(choice) => self.shows_app_cmd = self.shows_app_cmd.or(Some(choice)),
+            CardLine::ExtChanges(choice) => self.ages = self.ages.or(Some(choice)),
             CardLine::Ext { place, value } => put_byte(&mut self.ext_csd, place, value),
             CardLine::Fault { .. } => {}
         }
@@ -178,6 +187,9 @@ pub fn card_spec(lines: &[CardLine]) -> Option<CardSpec>
         refusal: refusal_of(given.high_speed),
         stays_busy: given.stays_busy.unwrap_or(false),
         lagging: given.lagging.unwrap_or(0),
+        late: given.late.unwrap_or(0),
+        shows_app_cmd: given.shows_app_cmd.unwrap_or(false),
+        ages: given.ages.unwrap_or(false),
         image: None,
     })
 }

@@ -2,7 +2,7 @@
 ghost use Rattle.std.specs.Prelude.{◌≡◌, option_map};
 ghost use Rattle.card_text.specs.FaultTexts.{command_error_in, command_error_of, failure_of, fault_of};
 ghost use Rattle.card_text.specs.FaultTexts.{fault_with_words_of, flips_of, lone_fault_of, lone_word_of, outcome_in};
-ghost use Rattle.card_text.specs.FaultTexts.{outcome_of, position_of};
+ghost use Rattle.card_text.specs.FaultTexts.{early_failure, further_lone_fault_of, outcome_of, position_of};
 ghost use Rattle.card_text.specs.Parts.{left_parts, parts};
 
 use crate::cut::cut;
@@ -111,6 +111,39 @@ fn failure(words: &[u8]) -> Option<Fault>
     }
 }
 
+// What fails so, but early: without error bits it is ERROR.
+fn early_failure(fault: Fault) -> Fault
+    ensures { result ≡ early_failure fault }
+{
+    match fault {
+        Fault::Fail(outcome) => Fault::FailEarly(outcome, 0x0008_0000),
+        Fault::FailWith(outcome, bits) => Fault::FailEarly(outcome, bits),
+        other => other,
+    }
+}
+
+// A fault that one word says: of a switch, of a block that is lost, or of what a card does besides.
+#[tactic(auto, unfolding(crate::specs::FaultTexts::further_lone_fault_of))]
+fn further_lone_fault(word: &[u8]) -> Option<Fault>
+    ensures { result ≡ further_lone_fault_of word.now }
+{
+    if word == b"fail-switch".as_slice() {
+        Some(Fault::FailSwitch)
+    } else if word == b"fail-switch-late".as_slice() {
+        Some(Fault::FailSwitchLate)
+    } else if word == b"lose-failed-switch".as_slice() {
+        Some(Fault::LoseFailedSwitch)
+    } else if word == b"find-protection".as_slice() {
+        Some(Fault::FindProtection)
+    } else if word == b"lose-block".as_slice() {
+        Some(Fault::LoseBlock)
+    } else if word == b"reject-busy".as_slice() {
+        Some(Fault::RejectBusy)
+    } else {
+        None
+    }
+}
+
 // A fault that one word says.
 #[tactic(auto, unfolding(crate::specs::FaultTexts::lone_fault_of))]
 fn lone_fault(word: &[u8]) -> Option<Fault>
@@ -130,14 +163,10 @@ fn lone_fault(word: &[u8]) -> Option<Fault>
         Some(Fault::Reject)
     } else if word == b"reject-all".as_slice() {
         Some(Fault::RejectAll)
-    } else if word == b"fail-switch".as_slice() {
-        Some(Fault::FailSwitch)
-    } else if word == b"fail-switch-late".as_slice() {
-        Some(Fault::FailSwitchLate)
     } else if word == b"busy".as_slice() {
         Some(Fault::Busy)
     } else {
-        None
+        further_lone_fault(word)
     }
 }
 
@@ -156,6 +185,8 @@ fn fault_with_words(name: &[u8], words: &[u8]) -> Option<Fault>
         Some(Fault::LoseStatus(outcome(words)?))
     } else if name == b"fail".as_slice() {
         failure(words)
+    } else if name == b"fail-early".as_slice() {
+        Some(early_failure(failure(words)?))
     } else if name == b"brownout".as_slice() {
         Some(Fault::Brownout(outcome(words)?))
     } else {

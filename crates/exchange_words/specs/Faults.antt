@@ -9,7 +9,8 @@ use Rattle.mmc_card_sim.specs.declared.fault.Fault.{Fault}
 use Rattle.mmc_card_sim.specs.declared.fault.Fault.TheVariants.{BadBlock, Brownout, Busy, Fail, FailWith, FlipCommand}
 use Rattle.mmc_card_sim.specs.declared.fault.Fault.TheVariants.{FailSwitch, FailSwitchLate, FlipReply, LeaveOver}
 use Rattle.mmc_card_sim.specs.declared.fault.Fault.TheVariants.{LoseCommand, LoseReply, LoseStatus, NoBlock, ReadError}
-use Rattle.mmc_card_sim.specs.declared.fault.Fault.TheVariants.{Reject, RejectAll}
+use Rattle.mmc_card_sim.specs.declared.fault.Fault.TheVariants.{FailEarly, FindProtection, LoseBlock, LoseFailedSwitch}
+use Rattle.mmc_card_sim.specs.declared.fault.Fault.TheVariants.{Reject, RejectAll, RejectBusy}
 use Rattle.mmc_card_sim.specs.declared.fault.Flips.{Flips}
 use Rattle.mmc_card_sim.specs.declared.fault.Outcome.{Outcome}
 use Rattle.mmc_card_sim.specs.declared.fault.Outcome.TheVariants.{New, Old}
@@ -22,15 +23,20 @@ name_of LoseReply = codes "lose-reply"
 name_of (FlipReply flips) = codes "flip-reply"
 name_of FailSwitch = codes "fail-switch"
 name_of FailSwitchLate = codes "fail-switch-late"
+name_of LoseFailedSwitch = codes "lose-failed-switch"
+name_of FindProtection = codes "find-protection"
 name_of (LeaveOver error) = codes "left-over"
 name_of BadBlock = codes "bad-block"
 name_of NoBlock = codes "no-block"
 name_of ReadError = codes "read-error"
+name_of LoseBlock = codes "lose-block"
 name_of Reject = codes "reject"
+name_of RejectBusy = codes "reject-busy"
 name_of RejectAll = codes "reject-all"
 name_of (LoseStatus outcome) = codes "lose-status"
 name_of (Fail outcome) = codes "fail"
 name_of (FailWith outcome bits) = codes "fail"
+name_of (FailEarly outcome bits) = codes "fail-early"
 name_of Busy = codes "busy"
 name_of (Brownout outcome) = codes "brownout"
 
@@ -59,6 +65,7 @@ details_text (LeaveOver error) = error_name error
 details_text (LoseStatus outcome) = outcome_name outcome
 details_text (Fail outcome) = outcome_name outcome
 details_text (FailWith outcome bits) = outcome_name outcome ++ (codes " " ++ hex_text (to_be_bytes w32 bits))
+details_text (FailEarly outcome bits) = outcome_name outcome ++ (codes " " ++ hex_text (to_be_bytes w32 bits))
 details_text (Brownout outcome) = outcome_name outcome
 details_text fault = []
 

@@ -18,14 +18,19 @@ fn name_of(fault: Fault) -> &'static [u8]
         Fault::FlipReply(_) => b"flip-reply",
         Fault::FailSwitch => b"fail-switch",
         Fault::FailSwitchLate => b"fail-switch-late",
+        Fault::LoseFailedSwitch => b"lose-failed-switch",
+        Fault::FindProtection => b"find-protection",
         Fault::LeaveOver(_) => b"left-over",
         Fault::BadBlock => b"bad-block",
         Fault::NoBlock => b"no-block",
         Fault::ReadError => b"read-error",
+        Fault::LoseBlock => b"lose-block",
         Fault::Reject => b"reject",
+        Fault::RejectBusy => b"reject-busy",
         Fault::RejectAll => b"reject-all",
         Fault::LoseStatus(_) => b"lose-status",
         Fault::Fail(_) | Fault::FailWith(..) => b"fail",
+        Fault::FailEarly(..) => b"fail-early",
         Fault::Busy => b"busy",
         Fault::Brownout(_) => b"brownout",
     }
@@ -88,7 +93,7 @@ pub fn put_fault(out: &mut Vec<u8>, fault: Fault) -> Result<(), AllocError>
             let outcome = outcome_name(outcome);
             say(out, &[Piece::Text(outcome)])
         }
-        Fault::FailWith(outcome, bits) => {
+        Fault::FailWith(outcome, bits) | Fault::FailEarly(outcome, bits) => {
             let outcome = outcome_name(outcome);
             let bits = bits.to_be_bytes();
             say(

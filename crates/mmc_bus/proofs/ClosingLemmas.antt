@@ -1,12 +1,12 @@
 -- What statuses in a row tell, while the card is at work and then not any more.
 use Rattle.std.proofs.lemmas.Bool.{ltb-true}
 use Rattle.std.proofs.Common.{◌+◌, ◌<◌, ◌-◌, ◌∙◌, ◌≡◌, ◌≤◌, ◌↔◌, Bool, ap, arith, cond, false, inl, inr, refl, subst, sym, true, ℕ}
-use Rattle.std.specs.Prelude.{Err, IsErr, IsOk, Ok, Result}
+use Rattle.std.specs.Prelude.{Err, IsErr, IsOk, Ok, Result, if◌then◌else◌}
 use Rattle.mmc_bus.proofs.PollLemmas.{Counts, polled_as}
 use Rattle.mmc_bus.proofs.WorkLemmas.{joined, narrows_then, quiet_parts, refuted, set_then, stays_same, stays_then, worked_as}
 use Rattle.mmc_bus.specs.CommandLaws.{LeftOver, TellsStatus}
 use Rattle.mmc_bus.specs.declared.host.Unheard.{Unheard}
-use Rattle.mmc_bus.specs.Closings.{Closes, ClosesSoon, CountsOn, HasLagged, HasShown}
+use Rattle.mmc_bus.specs.Closings.{Closes, ClosesSoon, HasLagged, HasShown, WasAtWork}
 use Rattle.mmc_bus.specs.Learned.{Stays}
 use Rattle.mmc_bus.specs.Work.{Narrows, StaysSet, Worked}
 use Rattle.mmc_bus.specs.declared.cause.Cause.{Cause}
@@ -27,8 +27,8 @@ use Rattle.mmc_frame.specs.declared.kind.Kind.{Kind}
 use Rattle.mmc_frame.specs.Status.{IsAtWork, IsClean, error_bits, own_status}
 
 -- A closing status, by what it says.
-pub closes_by : (kind : Kind) (r : Result Closing Cause) (old new : Card)
-    → (r ≡ Ok Clean → IsInOrder kind old × (new ≡ shown old)) → (r ≡ Ok AtWork → HasNoErrorOfItsOwn kind old × HasShown old new × CountsOn old new)
+pub closes_by : {E : Type 0} (kind : Kind) (r : Result Closing E) (old new : Card)
+    → (r ≡ Ok Clean → IsInOrder kind old × (new ≡ shown old)) → (r ≡ Ok AtWork → WasAtWork kind old new)
     → Closes kind r old new
 closes_by kind (Ok Clean) old new clean work = clean refl
 closes_by kind (Ok AtWork) old new clean work = work refl
@@ -40,7 +40,7 @@ as_shown old new e = subst (HasShown old) (sym e) refl
 -- of a card whose statuses don't lag it is clean
 comes_clean : (r : Result Closing Cause) (old new : Card) → old.lags ≡ false → ClosesSoon r old new → r ≡ Ok Clean
 comes_clean (Ok Clean) old new up soon = refl
-comes_clean (Ok AtWork) old new up soon = absurd (cc (up, soon.0))
+comes_clean (Ok AtWork) old new up soon = absurd (cc (up, soon.0.0))
 comes_clean (Err cause) old new up soon = absurd soon
 
 -- What one status asks, as work.
@@ -72,10 +72,10 @@ order_back kind old new none e order = record {
   rests = sym (ap (λ (c : Card). c.is_busy) e) ∙ order.rests;
 }
 
-order_on : (kind : Kind) (old new : Card) → HasShown old new → IsInOrder kind old → IsInOrder kind new
-order_on kind old new e order =
+order_on : (kind : Kind) (old new : Card) → HasShown old new → new.errors ≡ 0 → IsInOrder kind old → IsInOrder kind new
+order_on kind old new e none order =
     subst (IsInOrder kind) (sym e) (record {
-      no_error = record { errors = refl; switch_error = λ mmc. refl };
+      no_error = record { errors = none; switch_error = λ mmc. refl };
       tran = order.tran;
       rests = order.rests;
     })
@@ -117,12 +117,12 @@ asking_on kind rca old statuses now new p q =
     let after : (same : NoFault old new) (order : IsInOrder kind old.card) (app : old.card.app ≡ false)
     (is : old.card.rca ≡ rca) → IsInOrder kind now.card × (now.card.app ≡ false) × (now.card.rca ≡ rca)
     × (now.card.polled ≡ old.card.polled + statuses) × (now.card.polled < patience)
-    × (new.card.polled ≡ now.card.polled + 1) =
+    × (new.card.polled ≡ now.card.polled + 1) × (new.card.errors ≡ 0) =
     λ same order app is.
     let parts = quiet_parts old now new p.stays q.stays same in
     let was = p.soon parts.0 order app is in
     let comes = q.fine parts.1 was.0 was.1 was.2 in
-    (was.0, was.1, was.2, was.3, comes.1, comes.2) in
+    (was.0, was.1, was.2, was.3, comes.0.1, comes.0.2, comes.1) in
     record {
       was_kept = p.was_kept;
       was_card = λ k. p.was_card q.was_card;
@@ -130,15 +130,15 @@ asking_on kind rca old statuses now new p q =
       stays = stays_then old now new p.stays q.stays;
       set = set_then old now new p.set q.set;
       narrows = narrows_then old now new p.narrows q.sectors;
-      back = λ order. p.back (order_back kind now.card new.card own.0 own.1 order);
-      card = ap shown own.1 ∙ ap (λ (c : Card). polled_as c new.card.polled) p.card;
+      back = λ order. p.back (order_back kind now.card new.card (own.held_none order.no_error.errors) own.shown order);
+      card = ap shown own.shown ∙ ap (λ (c : Card). polled_as c new.card.polled) p.card;
       soon = λ same order app is.
           let all = after same order app is in
           let was = all.3 in
           let more = all.5 in (
-            order_on kind now.card new.card own.1 all.0,
-            ap (λ (c : Card). c.app) own.1,
-            ap (λ (c : Card). c.rca) own.1 ∙ all.2,
+            order_on kind now.card new.card own.shown all.6 all.0,
+            ap (λ (c : Card). c.app) own.shown,
+            ap (λ (c : Card). c.rca) own.shown ∙ all.2,
             omega (arith, was, more),
           );
       few = λ same order app is some.
@@ -273,22 +273,56 @@ CleanLaw =
 abbrev pub LagLaw : Type 0
 LagLaw =
     (kind : Kind) (choice : Choice) (told : ℕ) (card : Card) → IsCard card → ShowsItself (at_work choice card) told
-    → (IsAtWork kind (own_status told) ↔ HasNoErrorOfItsOwn kind card)
+    → (IsAtWork kind (own_status told) ↔ HasNoErrorOfItsOwn kind (at_work choice card))
 
 abbrev pub UncleanLaw : Type 0
 UncleanLaw =
     (kind : Kind) (choice : Choice) (told : ℕ) (card : Card) → IsCard card → ShowsItself (at_work choice card) told
     → IsClean kind (own_status told) → ⊥
 
-lagged : (old new : Card) → may_lag old ≡ true → new ≡ lagging old → HasLagged old new
-lagged old new may e =
+lagged : (choice : Choice) (old new : Card) → may_lag old ≡ true → new ≡ lagging choice old → HasLagged old new
+lagged choice old new may e =
     let soon = both old.lags _ (both (is_in old.state Tran) _ may).1 in
     let below : old.polled < patience = ltb-true old.polled patience soon.1 in
     let count : new.polled ≡ counted old.polled = ap (λ (c : Card). c.polled) e in
     (soon.0, below, omega (arith, below, count))
 
-lagging_shown : (old new : Card) → new ≡ lagging old → HasShown old new
-lagging_shown old new e = subst (HasShown old) (sym e) refl
+lagging_shown : (choice : Choice) (old new : Card) → new ≡ lagging choice old → HasShown old new
+lagging_shown choice old new e = subst (HasShown old) (sym e) refl
+
+-- errors of the programming show at once, or are to show yet
+late_none : (late : Bool) (errors : ℕ) → (if late then 0 else errors) ≡ 0 → (if late then errors else 0) ≡ 0 → errors ≡ 0
+late_none true errors seen left = left
+late_none false errors seen left = seen
+
+late_gets : (late : Bool) (errors : ℕ) → errors ≡ 0 → (if late then errors else 0) ≡ 0
+late_gets true errors none = none
+late_gets false errors none = refl
+
+late_seen : (late : Bool) (errors : ℕ) → errors ≡ 0 → (if late then 0 else errors) ≡ 0
+late_seen true errors none = refl
+late_seen false errors none = none
+
+-- what such a status leaves
+lags_at_work : (kind : Kind) (choice : Choice) (left : ℕ) (old new : Card) → may_lag old ≡ true → new ≡ lagging choice old
+    → HasNoErrorOfItsOwn kind (at_work choice (left_with left old)) → WasAtWork kind old new
+lags_at_work kind choice left old new may e seen =
+    let errors : new.errors ≡ (if choice.tells_late then old.errors else 0) = ap (λ (c : Card). c.errors) e in
+    record {
+      shown = lagging_shown choice old new e;
+      held_none = λ none. record {
+        errors = late_none choice.tells_late old.errors seen.errors (sym errors ∙ none);
+        switch_error = seen.switch_error;
+      };
+      gets_none = λ none. errors ∙ late_gets choice.tells_late old.errors none;
+      counts = λ still. lagged choice old new may e;
+    }
+
+-- a card in order shows no error in it
+seen_in_order : (kind : Kind) (choice : Choice) (card : Card) → HasNoErrorOfItsOwn kind card
+    → HasNoErrorOfItsOwn kind (at_work choice card)
+seen_in_order kind choice card none =
+    record { errors = late_seen choice.tells_late card.errors none.errors; switch_error = none.switch_error }
 
 -- a status that was heard, by the card that told it: as it is, or as it lags behind
 told_by : (old new : Card) (heard : Result ℕ Unheard) → IsCard old
@@ -297,7 +331,7 @@ told_by : (old new : Card) (heard : Result ℕ Unheard) → IsCard old
     → ((left told : ℕ) → IsCard (left_with left old) → ShowsItself (left_with left old) told → P (own_status told)
     → new ≡ shown old → X)
     → ((left told : ℕ) (choice : Choice) → IsCard (left_with left old) → ShowsItself (at_work choice (left_with left old)) told
-    → P (own_status told) → may_lag old ≡ true → new ≡ lagging old → X)
+    → P (own_status told) → may_lag old ≡ true → new ≡ lagging choice old → X)
     → X
 told_by old new heard k tells P X judged itself lags =
     let says = tells judged.0 judged.1 in
@@ -307,7 +341,7 @@ told_by old new heard k tells P X judged itself lags =
       | inr is ↦ lags says.0 judged.0 is.choice met is.told_is judged.2 is.may is.card
     ]
 
-pub told_closing : (kind : Kind) (old new : Card) (heard : Result ℕ Unheard) (r : Result Closing Cause) → IsCard old
+pub told_closing : {E : Type 0} (kind : Kind) (old new : Card) (heard : Result ℕ Unheard) (r : Result Closing E) → IsCard old
     → OwnLaw → CleanLaw → LagLaw → UncleanLaw
     → ((told : ℕ) → heard ≡ Ok told → LeftOver (λ card. TellsStatus card told new) old)
     → (r ≡ Ok Clean → (told : ℕ) × (heard ≡ Ok told) × IsClean kind (own_status told))
@@ -320,32 +354,32 @@ told_closing kind old new heard r k own clean lag unclean tells is_clean is_work
     (order_like kind (left_with left old) old refl refl refl refl ((clean kind told _ met shows).0 says), e))
     (λ left told choice met shows says may e. absurd (unclean kind choice told _ met shows says)))
     (λ is. told_by old new heard k tells (IsAtWork kind) _ (is_work is)
-    (λ left told met shows says e. (
-      none_like kind (left_with left old) old refl refl ((own kind told _ met shows).0 says.no_error),
-      as_shown old new e,
-      λ still. cc (ap (λ (c : Card). c.lags) e, still),
-    ))
-    (λ left told choice met shows says may e. (
-      none_like kind (left_with left old) old refl refl ((lag kind choice told _ met shows).0 says),
-      lagging_shown old new e,
-      λ still. lagged old new may e,
-    )))
+    (λ left told met shows says e. record {
+      shown = as_shown old new e;
+      held_none = λ none. none_like kind (left_with left old) old refl refl ((own kind told _ met shows).0 says.no_error);
+      gets_none = λ none. ap (λ (c : Card). c.errors) e;
+      counts = λ still. cc (ap (λ (c : Card). c.lags) e, still);
+    })
+    (λ left told choice met shows says may e.
+    lags_at_work kind choice left old new may e ((lag kind choice told _ met shows).0 says)))
 
-pub told_soon : (kind : Kind) (old new : Card) (heard : Result ℕ Unheard) (r : Result Closing Cause) → IsCard old
+pub told_soon : {E : Type 0} (kind : Kind) (old new : Card) (heard : Result ℕ Unheard) (r : Result Closing E) → IsCard old
     → CleanLaw → LagLaw → UncleanLaw → (told : ℕ) → heard ≡ Ok told → TellsStatus old told new → IsInOrder kind old
     → ((told : ℕ) → heard ≡ Ok told → IsClean kind (own_status told) → r ≡ Ok Clean)
     → ((told : ℕ) → heard ≡ Ok told → (IsClean kind (own_status told) → ⊥) → IsAtWork kind (own_status told)
     → r ≡ Ok AtWork)
     → ClosesSoon r old new
-told_soon kind old new heard r k clean lag unclean told is tells order all_clean all_work =
+told_soon {E} kind old new heard r k clean lag unclean told is tells order all_clean all_work =
     elim tells [
-      | inl itself ↦ subst (λ r. ClosesSoon r old new)
+      | inl itself ↦ subst (λ (r : Result Closing E). ClosesSoon r old new)
           (sym (all_clean told is ((clean kind told old k itself.0).1 order))) tt
       | inr lags ↦
-          subst (λ r. ClosesSoon r old new)
+          subst (λ (r : Result Closing E). ClosesSoon r old new)
           (sym (all_work told is (unclean kind lags.choice told old k lags.told_is)
-          ((lag kind lags.choice told old k lags.told_is).1 order.no_error)))
-          (lagged old new lags.may lags.card)
+          ((lag kind lags.choice told old k lags.told_is).1 (seen_in_order kind lags.choice old order.no_error)))) (
+            lagged lags.choice old new lags.may lags.card,
+            ap (λ (c : Card). c.errors) lags.card ∙ late_gets lags.choice.tells_late old.errors order.no_error.errors,
+          )
     ]
 
 -- One status that has to be clean.

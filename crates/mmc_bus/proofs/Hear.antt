@@ -28,18 +28,18 @@ use Rattle.mmc_card.proofs.Standing.{command_stands, write_stands, poll_stands, 
 use Rattle.mmc_card.specs.CardAnswer.{CardAnswer, Choice, Silent, left_with, refused}
 use Rattle.mmc_card.proofs.Landing.{snoc_length}
 use Rattle.mmc_card.specs.Blocks.{accepted, can_send, can_accept, fallen_short, next_block, next_written, rested, sent}
-use Rattle.mmc_card.specs.Blocks.{waited, will_send}
+use Rattle.mmc_card.specs.Blocks.{ignoring, waited, will_send}
 use Rattle.mmc_card.specs.Card.{AreAmong, Card, IsCard, holds, is_in, is_selected, patience}
 use Rattle.mmc_card.specs.ErrorBits.{command_error_bits}
 use Rattle.mmc_bus.specs.Exchanges.{Exchanged}
-use Rattle.mmc_card.specs.Faults.{CommandStep, FallNoMore, IsFaultless, NoFault, OneFault, Replies, WriteStep}
-use Rattle.mmc_card.specs.Faults.{PollStep, ReadStep, RepliesFlipped, brownout, fail, faithful, fall_short}
+use Rattle.mmc_card.specs.Faults.{CommandStep, FallNoMore, IsFaultless, NoFault, OneFault, Replies, WriteStep, outlive}
+use Rattle.mmc_card.specs.Faults.{PollStep, ReadStep, RepliesFlipped, brownout, fail, fail_early, faithful, fall_short}
 use Rattle.mmc_card.specs.Faults.{busy, fail_switch, flip_command, flip_reply, leave_over, lose_command, lose_reply}
-use Rattle.mmc_card.specs.Faults.{lose_status, reject, slow_inquiry, spoil, turn_out}
+use Rattle.mmc_card.specs.Faults.{find_protection, lose_block, lose_status, reject, slow_inquiry, spoil, turn_out}
 use Rattle.mmc_bus.specs.Heard.{cause_of, cause_of_command}
 use Rattle.mmc_card.specs.Laws.{CountsAtMostOne, erased_by, is_frame_of_run, maybe_erased}
 use Rattle.mmc_bus.specs.Learned.{Asked, CommandFacts, Faithful, Hears, IsAccepted, Obeyed, PollFacts, ReadFacts, WriteFacts, carried_out}
-use Rattle.mmc_bus.specs.Learned.{may_fail, meant}
+use Rattle.mmc_bus.specs.Learned.{IsThereAfter, may_fail, meant, polled_to}
 use Rattle.mmc_card.specs.declared.command.Command.{Command as Meaning}
 use Rattle.mmc_card.specs.declared.command.Command.TheVariants.{GoIdleState}
 use Rattle.mmc_card.specs.Rows.{command_of, answered, is_foreign, is_legal, reached, respond}
@@ -78,10 +78,10 @@ obeyed_by : {X : Type 0} (answers : CardAnswer → Result X Unheard) (choice : C
     → legal ≡ is_legal (meant old index) (left_with left old)
     → AreAmong left command_error_bits → ((x : X) → answers Silent ≡ Ok x → ⊥)
     → new ≡ (cond foreign (left_with left old, Silent) (cond legal (carried_out choice (left_with left old) index argument)
-    (refused (reached (meant old index) (left_with left old)), Silent))).0
+    (refused (reached choice (meant old index) (left_with left old)), Silent))).0
     → Hears answers old (cond foreign (left_with left old, Silent)
     (cond legal (carried_out choice (left_with left old) index argument)
-    (refused (reached (meant old index) (left_with left old)), Silent))).1 heard
+    (refused (reached choice (meant old index) (left_with left old)), Silent))).1 heard
     → (x : X) → heard ≡ Ok x → Obeyed answers old index argument heard new
 obeyed_by answers choice left old index argument heard new true legal f l among mute card answer x h =
     absurd (mute x (sym (silence answers old heard answer) ∙ h))
@@ -136,7 +136,7 @@ faithfully answers choice old index argument heard new faultless card answer =
     ≡ (old, Silent) = λ foreign. rw foreign refl in
     let refuses : (own : is_foreign (meant old index) old argument ≡ false)
     (legal : is_legal (meant old index) old ≡ false)
-    → respond choice old index argument ≡ (refused (reached (meant old index) old), Silent) =
+    → respond choice old index argument ≡ (refused (reached choice (meant old index) old), Silent) =
     λ own legal. rw (own, legal) refl in
     record {
       choice = choice;
@@ -206,6 +206,14 @@ command_sound Fits hears answers old frame index argument reply new reads fits c
     (card_at choice old.card new.card frame index argument command card)
     (heard_at Fits hears answers choice old.card old.card frame index argument reply reads (fits _ choice) command spells) x h
 command_sound Fits hears answers old frame index argument reply new reads fits command
+    (find_protection choice finds patient writes count card spells) x h =
+    obeyed answers choice old.card index argument (hears reply) new.card reads.mute
+    (card_at choice old.card new.card frame index argument command card)
+    (heard_at Fits hears answers choice old.card old.card frame index argument reply reads (fits _ choice) command spells) x h
+command_sound Fits hears answers old frame index argument reply new reads fits command
+    (outlive choice bits resets among patient is_reset count card silent) x h =
+    absurd (reads.silent x (ap hears (sym silent) ∙ h))
+command_sound Fits hears answers old frame index argument reply new reads fits command
     (leave_over choice bits of patient count card spells) x h =
     obeyed_left answers choice bits old.card index argument (hears reply) new.card of.0 reads.mute
     (card_at choice (left_with bits old.card) new.card frame index argument command card)
@@ -239,6 +247,10 @@ command_fine Fits hears answers old frame index argument reply new reads fits co
 command_fine Fits hears answers old frame index argument reply new reads fits command
     (fail_switch choice fails switch count card spells) same = fell old new count same
 command_fine Fits hears answers old frame index argument reply new reads fits command
+    (find_protection choice finds patient writes count card spells) same = fell old new count same
+command_fine Fits hears answers old frame index argument reply new reads fits command
+    (outlive choice bits resets among patient is_reset count card silent) same = fell old new count same
+command_fine Fits hears answers old frame index argument reply new reads fits command
     (leave_over choice bits of patient count card spells) same = fell old new count same
 command_fine Fits hears answers old frame index argument reply new reads fits command
     (brownout choice lands keeps_length after patient count card silent) same = fell old new count same
@@ -268,16 +280,6 @@ command_facts Fits hears answers old frame index argument reply new reads fits c
 
 -- Polls.
 
--- by its answer
-polled_ways : (choice : Choice) (old : Card) (b said : Bool) (new : Card) → b ≡ (old.is_busy && choice.is_slow)
-    → new ≡ (cond {A = Card × Bool} b (waited old, true) (rested old, false)).0
-    → said ≡ (cond {A = Card × Bool} b (waited old, true) (rested old, false)).1
-    → (said ≡ true → (old.is_busy ≡ true) × (choice.is_slow ≡ true) × (new ≡ waited old))
-    × (said ≡ false → new ≡ rested old)
-polled_ways choice old true said new e card answer =
-    let parts = both old.is_busy choice.is_slow (sym e) in (λ h. (parts.0, parts.1, card), λ h. cc)
-polled_ways choice old false said new e card answer = (λ h. cc, λ h. card)
-
 -- failed programming leaves its sign
 signed : (errors bits : ℕ) → (bits ≡ 0 → ⊥) → bit_or errors bits ≡ 0 → ⊥
 signed errors bits some h = let below = le_or_r errors bits in some (omega (arith, below, h))
@@ -301,60 +303,82 @@ goes_on : (old : BusView) (said : Bool) (new : BusView) → PollStep old said ne
 goes_on old said new step =
     after_poll (GoesOn old.card) old said new (λ h. (h, refl))
     (by_cond (GoesOn old.card) (is_in old.card.state Prg) (λ _ h. cc) (λ _ h. (h, refl))) (λ _ h. (h, refl))
-    (λ lands prg h. cc) (λ lands rcv h. (h, omega arith)) (λ bits card _ k. k) (λ lands keeps card _ h. cc) step
+    (λ lands prg h. cc) (λ lands prg h. cc (in_state old.card.state Prg prg, h)) (λ lands rcv h. (h, omega arith))
+    (λ ignores card k. by_cond (GoesOn old.card) ignores (λ _ h. k h) (λ _. k)) (λ bits card _ k. k)
+    (λ lands keeps card _ h. cc) step
 
 -- what the answer of a poll tells
 record PollWays (old : BusView) (said : Bool) (new : BusView) : Type 0 where
-  yes : said ≡ true → (old.card.is_busy ≡ true) × (new.card ≡ waited old.card)
-  calm : said ≡ false → is_selected new.card.state ≡ true → may_fail old.card ≡ false → new.card ≡ rested old.card
-  shown : said ≡ false → is_selected new.card.state ≡ true → new.card.errors ≡ 0 → new.card ≡ rested old.card
+  busy : said ≡ true → old.card.is_busy ≡ true
+  calm : IsThereAfter said new.card → may_fail old.card ≡ false → new.card ≡ polled_to said old.card
+  shown : IsThereAfter said new.card → new.card.errors ≡ 0 → new.card ≡ polled_to said old.card
   patient : NoFault old new → said ≡ true → old.card.polled < patience
-  fine : NoFault old new → said ≡ false → new.card ≡ rested old.card
+  fine : NoFault old new → new.card ≡ polled_to said old.card
 
 -- where programming fails, error bits tell it
-unprogrammed : (old : BusView) (said : Bool) (new : BusView) (bits : ℕ) → (bits ≡ 0 → ⊥) → said ≡ false
+unprogrammed : (old : BusView) (said : Bool) (new : BusView) (bits : ℕ) → (bits ≡ 0 → ⊥)
+    → (said ≡ true → old.card.is_busy ≡ true)
     → may_fail old.card ≡ true → OneFault old new → new.card.errors ≡ bit_or old.card.errors bits
     → PollWays old said new
-unprogrammed old said new bits some answer may count errors =
+unprogrammed old said new bits some was_busy may count errors =
     record {
-      yes = λ h. cc (answer, h);
-      calm = λ h up quiet. cc (may, quiet);
-      shown = λ h up none. absurd (signed old.card.errors bits some (sym errors ∙ none));
+      busy = was_busy;
+      calm = λ there quiet. cc (may, quiet);
+      shown = λ there none. absurd (signed old.card.errors bits some (sym errors ∙ none));
       patient = λ same h. fell old new count same;
-      fine = λ same h. fell old new count same;
+      fine = λ same. fell old new count same;
     }
+
+-- ignoring further blocks raises no error
+ignoring_errors : (ignores : Bool) (card : Card) → (ignoring ignores card).errors ≡ card.errors
+ignoring_errors true card = refl
+ignoring_errors false card = refl
+
+faithful_poll : (choice : Choice) (old : Card) (b said : Bool) (new : Card) → b ≡ (old.is_busy && choice.is_slow)
+    → new ≡ (cond {A = Card × Bool} b (waited old, true) (rested old, false)).0
+    → said ≡ (cond {A = Card × Bool} b (waited old, true) (rested old, false)).1
+    → (said ≡ true → (old.is_busy ≡ true) × (choice.is_slow ≡ true)) × (new ≡ polled_to said old)
+faithful_poll choice old true said new e card answer =
+    (λ h. both old.is_busy choice.is_slow (sym e), card ∙ ap (λ s. polled_to s old) (sym answer))
+faithful_poll choice old false said new e card answer =
+    (λ h. cc, card ∙ ap (λ s. polled_to s old) (sym answer))
 
 poll_ways : (old : BusView) (said : Bool) (new : BusView) → PollStep old said new → PollWays old said new
 poll_ways old said new (faithful choice patient count card answer) =
-    let ways = polled_ways choice old.card (old.card.is_busy && choice.is_slow) said new.card refl card answer in
+    let ways = faithful_poll choice old.card (old.card.is_busy && choice.is_slow) said new.card refl card answer in
     record {
-      yes = λ h. let w = ways.0 h in (w.0, w.2);
-      calm = λ h up quiet. ways.1 h;
-      shown = λ h up none. ways.1 h;
+      busy = λ h. (ways.0 h).0;
+      calm = λ there quiet. ways.1;
+      shown = λ there none. ways.1;
       patient = λ same h. patient (ways.0 h).1;
-      fine = λ same h. ways.1 h;
+      fine = λ same. ways.1;
     }
 poll_ways old said new (busy is_busy late count card answer) =
+    let is : new.card ≡ polled_to said old.card = card ∙ ap (λ s. polled_to s old.card) (sym answer) in
     record {
-      yes = λ h. (is_busy, card);
-      calm = λ h up quiet. cc;
-      shown = λ h up none. cc;
+      busy = λ h. is_busy;
+      calm = λ there quiet. is;
+      shown = λ there none. is;
       patient = λ same h. fell old new count same;
-      fine = λ same h. fell old new count same;
+      fine = λ same. fell old new count same;
     }
 poll_ways old said new (fail lands bits of prg switching count card answer) =
-    unprogrammed old said new bits of.1 answer (fails old.card prg switching) count
+    unprogrammed old said new bits of.1 (λ h. cc (answer, h)) (fails old.card prg switching) count
     (ap (λ (c : Card). c.errors) card)
-poll_ways old said new (fall_short lands bits of rcv is_busy count card answer) =
-    unprogrammed old said new bits of.1 answer (falls_short old.card rcv) count (ap (λ (c : Card). c.errors) card)
+poll_ways old said new (fail_early lands bits of prg switching is_busy count card answer) =
+    unprogrammed old said new bits of.1 (λ h. is_busy) (fails old.card prg switching) count
+    (ap (λ (c : Card). c.errors) card)
+poll_ways old said new (fall_short lands bits ignores of rcv is_busy count card answer) =
+    unprogrammed old said new bits of.1 (λ h. cc (answer, h)) (falls_short old.card rcv) count
+    (ap (λ (c : Card). c.errors) card ∙ ap (λ n. bit_or n bits) (ignoring_errors ignores (fallen_short lands old.card)))
 poll_ways old said new (brownout choice lands keeps_length after patient count card answer) =
     let idle : new.card.state ≡ Idle = ap (λ (c : Card). c.state) card in
     record {
-      yes = λ h. cc;
-      calm = λ h up quiet. down new.card.state idle up;
-      shown = λ h up none. down new.card.state idle up;
+      busy = λ h. cc;
+      calm = λ there quiet. down new.card.state idle (there answer);
+      shown = λ there none. down new.card.state idle (there answer);
       patient = λ same h. fell old new count same;
-      fine = λ same h. fell old new count same;
+      fine = λ same. fell old new count same;
     }
 
 pub poll_facts : (old : BusView) (said : Bool) (new : BusView) → new.limits ≡ old.limits → FallNoMore old new
@@ -372,7 +396,7 @@ poll_facts old said new limits bounded step =
       };
       narrows = keeps.narrows;
       stands = poll_stands old said new step;
-      yes = ways.yes;
+      busy = ways.busy;
       calm = ways.calm;
       shown = ways.shown;
       goes_on = goes_on old said new step;
@@ -401,6 +425,10 @@ one_further card block = let long = snoc_length card.values block in omega (arit
 
 behind : (lands : ℕ → Bool) (card : Card) → next_written (fallen_short lands card) + 1 ≡ next_written card + 1
 behind lands card = omega arith
+
+ignoring_next : (ignores : Bool) (card : Card) → next_written (ignoring ignores card) ≡ next_written card
+ignoring_next true card = refl
+ignoring_next false card = refl
 
 -- with a fault it isn't accepted
 unaccepted : (old : BusView) (block : Sector) (got : DataOut) (new : BusView) → OneFault old new
@@ -431,19 +459,24 @@ write_ways old block got new (faithful count card answer) =
       fine = λ same t. ways.1 t;
       refuses = λ same f. ways.2 f;
     }
-write_ways old block got new (fall_short lands bits of can count card answer) =
+write_ways old block got new (fall_short lands bits ignores of can count card answer) =
     record {
       accepts = λ h. record {
         could = can;
-        goes_on = ap next_written card ∙ one_further (fallen_short lands old.card) block ∙ behind lands old.card;
-        shown = λ none. absurd (signed old.card.errors bits of.1 (sym (ap (λ (c : Card). c.errors) card) ∙ none));
+        goes_on = ap next_written card ∙ ignoring_next ignores (accepted block (fallen_short lands old.card))
+            ∙ one_further (fallen_short lands old.card) block ∙ behind lands old.card;
+        shown = λ none. absurd (signed old.card.errors bits of.1
+            (sym (ap (λ (c : Card). c.errors) card
+            ∙ ap (λ n. bit_or n bits) (ignoring_errors ignores (accepted block (fallen_short lands old.card)))) ∙ none));
       };
       fine = λ same t. fell old new count same;
       refuses = λ same f. fell old new count same;
     }
-write_ways old block got new (reject ignores can count card answer) = unaccepted old block got new count
+write_ways old block got new (lose_block can count card answer) = unaccepted old block got new count
+    (not_nothing got answer)
+write_ways old block got new (reject ignores is_busy can count card answer) = unaccepted old block got new count
     (not_rejected got answer)
-write_ways old block got new (lose_status is_accepted ignores can count card answer) = unaccepted old block got new count
+write_ways old block got new (lose_status is_accepted ignores is_busy can count card answer) = unaccepted old block got new count
     (not_nothing got answer)
 write_ways old block got new (turn_out lands several can count card answer) = unaccepted old block got new count
     (not_nothing got answer)

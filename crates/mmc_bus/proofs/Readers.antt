@@ -18,12 +18,13 @@ use Rattle.mmc_bus.specs.declared.host.Unheard.TheVariants.{Unsound}
 use Rattle.mmc_card.proofs.Conditions.{by_cond, neither}
 use Rattle.mmc_card.specs.CardAnswer.{CardAnswer, Checked, Choice, Silent, R3, R2, raised, refused, shown, status}
 use Rattle.mmc_card.specs.ErrorBits.{block_len_error, erase_param}
-use Rattle.mmc_card.specs.Card.{Both, Card, First, Held, NoAddress}
+use Rattle.mmc_card.specs.Card.{Both, Card, First, Held, NoAddress, is_in}
 use Rattle.mmc_card.specs.Faults.{IsFlipped, Spells}
 use Rattle.mmc_bus.specs.Heard.{index_of_inquiry, is_inquiry_index, nothing_heard, nothing_of, ocr_heard, ocr_of}
 use Rattle.mmc_bus.specs.Heard.{or_unsound, register_heard, register_of, response_heard, response_of}
 use Rattle.mmc_card.specs.Made.{HasRegisters}
 use Rattle.mmc_card.specs.declared.command.Command.{Command}
+use Rattle.mmc_card.specs.declared.command.Command.TheVariants.{StopTransmission}
 use Rattle.mmc_card.specs.declared.command.Command.TheVariants.{SdSendOpCond, AllSendCid, Erase, EraseEnd, EraseStart}
 use Rattle.mmc_card.specs.declared.command.Command.TheVariants.{GoIdleState, ReadMultipleBlock, ReadSingleBlock}
 use Rattle.mmc_card.specs.declared.command.Command.TheVariants.{SendCsd, SendIfCond, SendOpCond, SendStatus, SetBlocklen}
@@ -34,7 +35,8 @@ use Rattle.mmc_card.specs.RowsErase.{erase_held, erases, erasing, forgotten, hol
 use Rattle.mmc_card.specs.RowsErase.{is_trim}
 use Rattle.mmc_card.specs.RowsIdentify.{at_work, inquired, is_served, lagging, may_lag}
 use Rattle.mmc_card.specs.RowsSwitch.{switch_row, switched}
-use Rattle.mmc_card.specs.RowsTransfer.{transfer_errors, transferred}
+use Rattle.mmc_card.specs.RowsTransfer.{stopped, transfer_errors, transferred, write_errors}
+use Rattle.mmc_frame.specs.declared.card_state.State.TheVariants.{Tran}
 
 -- The kinds of answer.
 
@@ -107,7 +109,7 @@ row_answer choice SendCsd c index argument r = record { size = r.csd; check = r.
 row_answer choice SendIfCond c index argument r = by_cond (IsAnswerTo SendIfCond)
     (field 11 8 argument == 1) {x = Checked 8 (field 11 0 argument)} {y = Silent} (λ _. refl) (λ _. tt)
 row_answer choice SendStatus c index argument r =
-    answer_cond SendStatus (may_lag c && choice.is_behind) (lagging c, Checked 13 (status false (at_work choice c)))
+    answer_cond SendStatus (may_lag c && choice.is_behind) (lagging choice c, Checked 13 (status false (at_work choice c)))
     (shown c, Checked 13 (status false c)) refl refl
 row_answer choice SetBlocklen c index argument r =
     answer_cond SetBlocklen (argument == 512) (record (shown c) { block_length = 512 }, Checked 16 (status false c))
@@ -117,9 +119,12 @@ row_answer choice ReadSingleBlock c index argument r = transferred_answer ReadSi
 row_answer choice ReadMultipleBlock c index argument r = transferred_answer ReadMultipleBlock 18
     (transfer_errors false c argument) c _ refl
 row_answer choice WriteBlock c index argument r = transferred_answer WriteBlock 24
-    (transfer_errors true c argument) c _ refl
+    (write_errors choice c argument) c _ refl
 row_answer choice WriteMultipleBlock c index argument r = transferred_answer WriteMultipleBlock 25
-    (transfer_errors true c argument) c _ refl
+    (write_errors choice c argument) c _ refl
+row_answer choice StopTransmission c index argument r =
+    answer_cond StopTransmission (is_in c.state Tran && not choice.answers_stop) (refused c, Silent)
+    (stopped choice.stays_busy c, Checked 12 (status false c)) tt refl
 row_answer choice EraseStart c index argument r = first_answer index c argument c.erase
 row_answer choice EraseEnd c index argument r = last_answer index c argument c.erase
 row_answer choice Erase c index argument r = erase_answer c argument c.erase
@@ -132,20 +137,21 @@ row_answer choice _ c index argument r = refl
 abbrev pub with_errors : ℕ → Card → Card
 with_errors errors card = record card { command_errors = errors }
 
-registers_reached : (command : Command) (c : Card) → HasRegisters c.made → HasRegisters (reached command c).made
-registers_reached command c r =
+registers_reached : (choice : Choice) (command : Command) (c : Card) → HasRegisters c.made
+    → HasRegisters (reached choice command c).made
+registers_reached choice command c r =
     let Has : Card → Type 0 = λ card. HasRegisters card.made in
-    by_cond Has (leaves_erase command) (λ _. r) (λ _. by_cond Has (holds_address c.erase) (λ _. r) (λ _. r))
+    by_cond Has (leaves_erase command) (λ _. r) (λ _. by_cond Has (holds_address c.erase) (λ _. by_cond Has choice.drops_quietly (λ _. r) (λ _. r)) (λ _. r))
 
 pub responded_answer : (choice : Choice) (command : Command) (c : Card) (index argument : ℕ) → HasRegisters c.made
     → IsAnswerTo command (responded choice command c index argument).1
 responded_answer choice command c index argument r =
     answer_cond command (is_foreign command c argument) (c, Silent)
-    (cond (is_legal command c) (row choice command (reached command c) index argument)
-    (refused (reached command c), Silent)) tt
-    (answer_cond command (is_legal command c) (row choice command (reached command c) index argument)
-    (refused (reached command c), Silent)
-    (row_answer choice command (reached command c) index argument (registers_reached command c r)) tt)
+    (cond (is_legal command c) (row choice command (reached choice command c) index argument)
+    (refused (reached choice command c), Silent)) tt
+    (answer_cond command (is_legal command c) (row choice command (reached choice command c) index argument)
+    (refused (reached choice command c), Silent)
+    (row_answer choice command (reached choice command c) index argument (registers_reached choice command c r)) tt)
 
 -- no other index than those of the inquiries means one
 named_so : (kind : Kind) (app : Bool) (index : ℕ) → index < 64
@@ -183,15 +189,15 @@ ocr_inquired false c = tt
 pub inquiry_answer : (kind own : Kind) (app : Bool) (choice : Choice) (c : Card) (argument : ℕ)
     → IsOcrOrNone (responded choice (command_of own app (index_of_inquiry kind)) c (index_of_inquiry kind) argument).1
 inquiry_answer Sd Sd true choice c argument =
-    ocr_where_legal (is_legal SdSendOpCond c) _ (row choice SdSendOpCond (reached SdSendOpCond c) 41 argument)
-    (ocr_inquired (is_served (reached SdSendOpCond c) argument && not choice.is_slow)
-    (reached SdSendOpCond c))
+    ocr_where_legal (is_legal SdSendOpCond c) _ (row choice SdSendOpCond (reached choice SdSendOpCond c) 41 argument)
+    (ocr_inquired (is_served (reached choice SdSendOpCond c) argument && not choice.is_slow)
+    (reached choice SdSendOpCond c))
 inquiry_answer Sd Sd false choice c argument = tt
 inquiry_answer Sd Mmc app choice c argument = tt
 inquiry_answer Mmc Sd app choice c argument = tt
 inquiry_answer Mmc Mmc app choice c argument =
-    ocr_where_legal (is_legal SendOpCond c) _ (row choice SendOpCond (reached SendOpCond c) 1 argument)
-    (ocr_inquired (not choice.is_slow) (reached SendOpCond c))
+    ocr_where_legal (is_legal SendOpCond c) _ (row choice SendOpCond (reached choice SendOpCond c) 1 argument)
+    (ocr_inquired (not choice.is_slow) (reached choice SendOpCond c))
 
 -- Readers.
 

@@ -1,16 +1,15 @@
 -- The status that closes programming.
 use Rattle.std.specs.Prelude.{◌+◌, ◌<◌, ◌≡◌, Err, Ok, Result, true}
 use Rattle.mmc_frame.specs.declared.kind.Kind.{Kind}
-use Rattle.mmc_bus.specs.declared.cause.Cause.{Cause}
 use Rattle.mmc_bus.specs.declared.status.Closing.{Closing}
 use Rattle.mmc_bus.specs.declared.status.Closing.TheVariants.{AtWork, Clean}
 use Rattle.mmc_card.specs.Card.{Card, patience}
 use Rattle.mmc_card.specs.CardAnswer.{shown}
 use Rattle.mmc_card.specs.CardLaws.{HasNoErrorOfItsOwn, IsInOrder}
 
--- the card has shown its status, and only how its statuses lag behind may differ
+-- the card has shown its status, and only how its statuses lag behind may differ, and errors that are to show yet
 abbrev pub HasShown : Card → Card → Type 0
-HasShown old new = new ≡ record (shown old) { lags = new.lags; polled = new.polled }
+HasShown old new = new ≡ record (shown old) { lags = new.lags; polled = new.polled; errors = new.errors }
 
 -- its status lagged behind, and was counted
 abbrev pub HasLagged : Card → Card → Type 0
@@ -20,15 +19,21 @@ HasLagged old new = (old.lags ≡ true) × (old.polled < patience) × (new.polle
 abbrev pub CountsOn : Card → Card → Type 0
 CountsOn old new = new.lags ≡ true → HasLagged old new
 
--- What a closing status tells of the card, fault or not: it is in order, or it holds no error of its own and may be at work
--- still.
-abbrev pub Closes : Kind → Result Closing Cause → Card → Card → Type 0
+-- What a status tells of a card that may be at work still: it held no error of its own, if it holds none now.
+pub record WasAtWork (kind : Kind) (old new : Card) : Type 0 where
+  pub shown : HasShown old new
+  pub held_none : new.errors ≡ 0 → HasNoErrorOfItsOwn kind old
+  pub gets_none : old.errors ≡ 0 → new.errors ≡ 0
+  pub counts : CountsOn old new
+
+-- What a closing status tells of the card, fault or not: it is in order, or may be at work still.
+abbrev pub Closes : {E : Type 0} → Kind → Result Closing E → Card → Card → Type 0
 Closes kind (Ok Clean) old new = IsInOrder kind old × (new ≡ shown old)
-Closes kind (Ok AtWork) old new = HasNoErrorOfItsOwn kind old × HasShown old new × CountsOn old new
+Closes kind (Ok AtWork) old new = WasAtWork kind old new
 Closes kind (Err cause) old new = Unit {0}
 
 -- What a card in order shows: a clean status, or one that lags, at most so often.
-abbrev pub ClosesSoon : Result Closing Cause → Card → Card → Type 0
+abbrev pub ClosesSoon : {E : Type 0} → Result Closing E → Card → Card → Type 0
 ClosesSoon (Ok Clean) old new = Unit {0}
-ClosesSoon (Ok AtWork) old new = HasLagged old new
+ClosesSoon (Ok AtWork) old new = HasLagged old new × (new.errors ≡ 0)
 ClosesSoon (Err cause) old new = ⊥

@@ -28,6 +28,7 @@ use Rattle.mmc_card.specs.Wanted.{response_to}
 use Rattle.mmc_card.specs.declared.exchange.DataIn.TheVariants as Received
 use Rattle.mmc_card.specs.declared.exchange.DataOut.TheVariants as Sent
 use Rattle.mmc_card.specs.declared.exchange.Exchange.TheVariants as Did
+use Rattle.std.specs.Prelude.{if◌then◌else◌}
 
 -- What the card is made with stays, and the sizes of its partitions, and what the host can; the count of faults doesn't
 -- fall, and no more are to fall than before.
@@ -46,7 +47,7 @@ meant card index = command_of card.made.kind card.app index
 -- what the card does with the command where it is legal
 abbrev pub carried_out : Choice → Card → ℕ → ℕ → Card × CardAnswer
 carried_out choice card index argument =
-    row choice (meant card index) (reached (meant card index) card) index argument
+    row choice (meant card index) (reached choice (meant card index) card) index argument
 
 -- this is heard of a card's answer, in which what isn't judged is open
 abbrev pub Hears : {X : Type 0} → (CardAnswer → X) → Card → CardAnswer → X → Type 0
@@ -71,7 +72,7 @@ pub record Faithful {X : Type 0} (answers : CardAnswer → X) (old : Card) (inde
   pub obeys : is_foreign (meant old index) old argument ≡ false → is_legal (meant old index) old ≡ true
       → (new ≡ (carried_out choice old index argument).0) × Hears answers old (carried_out choice old index argument).1 heard
   pub refuses : is_foreign (meant old index) old argument ≡ false → is_legal (meant old index) old ≡ false
-      → (new ≡ refused (reached (meant old index) old)) × (heard ≡ answers Silent)
+      → (new ≡ refused (reached choice (meant old index) old)) × (heard ≡ answers Silent)
   -- it names another card
   pub passes : is_foreign (meant old index) old argument ≡ true → (new ≡ old) × (heard ≡ answers Silent)
 
@@ -108,20 +109,28 @@ pub record Asked {X : Type 0} (hears : Reply → Result X Unheard) (answers : Ca
 abbrev pub may_fail : Card → Bool
 may_fail card = is_in card.state Rcv || (is_in card.state Prg && not card.is_switching)
 
+-- a card after a poll that it answered so
+abbrev pub polled_to : Bool → Card → Card
+polled_to said card = if said then waited card else rested card
+
+-- a card that said no is selected still
+abbrev pub IsThereAfter : Bool → Card → Type 0
+IsThereAfter said card = said ≡ false → is_selected card.state ≡ true
+
 pub record PollFacts (old : BusView) (said : Bool) (new : BusView) : Type 0 where
   pub stays : Stays old new
   pub narrows : Within (holds new.card) (holds old.card)
   pub stands : StillStands old.card new.card
-  -- a card that says yes is busy, and stays as it is
-  pub yes : said ≡ true → (old.card.is_busy ≡ true) × (new.card ≡ waited old.card)
-  -- a no is the card's, fault or not, where it is selected still and either can't have failed or holds no error
-  pub calm : said ≡ false → is_selected new.card.state ≡ true → may_fail old.card ≡ false → new.card ≡ rested old.card
-  pub shown : said ≡ false → is_selected new.card.state ≡ true → new.card.errors ≡ 0 → new.card ≡ rested old.card
+  -- a card that says yes is busy
+  pub busy : said ≡ true → old.card.is_busy ≡ true
+  -- what is said is so, fault or not, where the card can't have failed or holds no error
+  pub calm : IsThereAfter said new.card → may_fail old.card ≡ false → new.card ≡ polled_to said old.card
+  pub shown : IsThereAfter said new.card → new.card.errors ≡ 0 → new.card ≡ polled_to said old.card
   -- in rcv a write goes on where it was, fault or not
   pub goes_on : is_in new.card.state Rcv ≡ true
       → (is_in old.card.state Rcv ≡ true) × (next_written new.card ≡ next_written old.card)
   pub patient : NoFault old new → said ≡ true → old.card.polled < patience
-  pub fine : NoFault old new → said ≡ false → new.card ≡ rested old.card
+  pub fine : NoFault old new → new.card ≡ polled_to said old.card
 
 -- Blocks.
 

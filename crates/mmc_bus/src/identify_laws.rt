@@ -9,7 +9,7 @@ ghost use Rattle.mmc_frame.specs.declared.commands.TheConstants as Index;
 ghost use Rattle.mmc_bus.specs.declared.host.Unheard.{Unheard};
 ghost use Rattle.mmc_card.specs.CardAnswer.{busied, done, refused, reset, shown};
 ghost use Rattle.mmc_card.specs.Judged.{Shows};
-ghost use Rattle.mmc_card.specs.Card.{IsCard, is_identified};
+ghost use Rattle.mmc_card.specs.Card.{IsCard, NoAddress, is_identified};
 ghost use Rattle.mmc_bus.specs.CommandLaws.{Does, DoesOne, Inquires, IsUnheard, Names, Responded, TellsStatus};
 ghost use Rattle.mmc_card.specs.Faults.{NoFault};
 ghost use Rattle.mmc_bus.specs.Heard.{nothing_of, ocr_of, register_of};
@@ -18,6 +18,7 @@ ghost use Rattle.mmc_card.specs.Rows.{without_addresses};
 ghost use Rattle.mmc_card.specs.RowsErase.{forgotten};
 ghost use Rattle.mmc_card.specs.RowsIdentify.{is_served};
 ghost use Rattle.mmc_card.specs.BusView.{BusView};
+ghost use Rattle.mmc_bus.specs.CommandLaws.{ShowsDropped};
 
 use mmc_frame::laws;
 
@@ -74,12 +75,12 @@ pub fn cmd3_gives_the_rca()
         old heard new }
 {}
 
-/// CMD7, SELECT_CARD: a card in stby that is named is in tran after it, and may be busy.
+/// CMD7, SELECT_CARD: a card in stby that is named is in tran after it, and may be busy; statuses may lag behind.
 pub fn cmd7_selects_the_card()
     ensures { (old new : BusView) (argument : ℕ) (heard : Result ℕ Unheard)
         → Responded Index.SELECT_CARD old argument heard new → IsCard old.card
         → Does ((old.card.state ≡ Stby) × Names argument old.card)
-        Shows (record (busied (shown old.card)) { state = Tran }) old heard new }
+        Shows (record (busied (shown old.card)) { state = Tran; lags = true }) old heard new }
 {}
 
 /// CMD8 of SD, SEND_IF_COND, for 2.7 to 3.6 V: a card in idle that knows CMD8 accepts it, and tells the voltage and the
@@ -109,8 +110,8 @@ pub fn cmd9_tells_the_csd()
     laws::register_comes_back();
 }
 
-/// CMD13, SEND_STATUS: an identified card tells its status, which behind its programming may lag, and holds no error after
-/// it.
+/// CMD13, SEND_STATUS: an identified card tells its status, and holds no error after it. Behind CMD7, CMD12 and its programming
+/// the status may lag, and errors may show later still.
 pub fn cmd13_tells_the_status()
     ensures { (old new : BusView) (argument : ℕ) (heard : Result ℕ Unheard)
         → Responded Index.SEND_STATUS old argument heard new
@@ -134,13 +135,13 @@ pub fn cmd55_announces_an_application_command()
         → Responded Index.APP_CMD old argument heard new → IsCard old.card
         → Does ((old.card.made.kind ≡ Sd) × ((old.card.state ≡ Idle) ⊎ (is_identified old.card.state ≡ true))
         × Names argument old.card)
-        (λ card. Shows (without_addresses card))
+        ShowsDropped
         (record (shown (forgotten old.card)) { app = true })
         old heard new }
     ensures mmc { (old new : BusView) (argument : ℕ) (heard : Result ℕ Unheard)
         → Responded Index.APP_CMD old argument heard new → IsCard old.card
-        → old.card.made.kind ≡ Mmc → Names argument old.card
-        → IsUnheard (refused (without_addresses old.card)) old heard new }
+        → old.card.made.kind ≡ Mmc → Names argument old.card → old.card.erase ≡ NoAddress
+        → IsUnheard (refused old.card) old heard new }
 {}
 
 /// CMD7, CMD9, CMD13 and CMD55 to another card: nothing is heard, and nothing changes.

@@ -35,9 +35,10 @@ pub use mmc_card::{DataIn, DataOut, Exchange, Lines, Part, Reply, Timing, Want, 
 pub use moved::Moved;
 pub use scripted::{BusAnswer, ScriptedBus};
 pub use status::{
-    Closing, ask_closing, check_own, check_r1, confirm, rca_argument, wait_and_confirm,
+    Closing, ask_closing, check_closing, check_own, check_r1, confirm, rca_argument,
+    wait_and_confirm,
 };
 pub use together::{ask_reading, ask_writing};
 pub use trace::{MAX_KEPT, TraceBus};
-pub use wait::{MAX_POLLS, wait_while_busy};
+pub use wait::{MAX_POLLS, count_polls, wait_while_busy};
 pub use wire::Wire;

@@ -58,13 +58,16 @@ pub fn check_own(kind: Kind, heard: Result<u32, Unheard>) -> Result<(), Cause>
 pub enum Closing {
     /// The card is in tran, and ready for data.
     Clean,
-    /// It is in prg, or in tran and not ready for data: not yet.
+    /// It is on its way there still: in stby, data, rcv or prg, or in tran and not ready for data.
     AtWork,
 }
 
-// Judges the R1 of a closing CMD13: a clean status, or one that shows the card still at work. Errors of an earlier command
-// say nothing of the card as it is now.
-fn check_closing(kind: Kind, heard: Result<u32, Unheard>) -> Result<Closing, Cause>
+/// Judges the R1 of a closing CMD13: a clean status, or one that shows the card still at work. Errors of an earlier command
+/// say nothing of the card as it is now.
+///
+/// # Errors
+/// `Answer` where no sound response was heard, `Status` where it shows anything else.
+pub fn check_closing(kind: Kind, heard: Result<u32, Unheard>) -> Result<Closing, Cause>
     ensures clean { result ≡ Ok Clean → (status : ℕ) × (heard ≡ Ok status) × IsClean kind (own_status status) }
     ensures at_work { result ≡ Ok AtWork → (status : ℕ) × (heard ≡ Ok status) × IsAtWork kind (own_status status) }
     ensures all_clean { (status : ℕ) → heard ≡ Ok status → IsClean kind (own_status status) → result ≡ Ok Clean }
@@ -83,7 +86,7 @@ fn check_closing(kind: Kind, heard: Result<u32, Unheard>) -> Result<Closing, Cau
 }
 
 /// Asks the card with this RCA for its status (CMD13), which has to show no error but those of an earlier command, and the
-/// state tran and that it is ready for data, or prg or that it isn't ready yet.
+/// state tran and that it is ready for data, or that it isn't there yet.
 ///
 /// # Errors
 /// `Answer` where no sound response was heard, `Status` where it shows anything else.

@@ -7,8 +7,8 @@ ghost use Rattle.mmc_frame.specs.declared.commands.TheConstants as Index;
 ghost use Rattle.mmc_bus.specs.declared.host.Unheard.{Unheard};
 ghost use Rattle.mmc_card.specs.CardAnswer.{shown};
 ghost use Rattle.mmc_card.specs.Judged.{Shows};
-ghost use Rattle.mmc_card.specs.Card.{Card};
-ghost use Rattle.mmc_bus.specs.CommandLaws.{Does, IsSwitchSource, Responded, bytes_sent, Switches};
+ghost use Rattle.mmc_card.specs.Card.{Card, NoAddress};
+ghost use Rattle.mmc_bus.specs.CommandLaws.{Does, IsSwitchSource, Responded, ShowsDropped, Switches, bytes_sent};
 ghost use Rattle.mmc_card.specs.Laws.{timing_once_sent};
 ghost use Rattle.mmc_card.specs.Made.{has_switch_function};
 ghost use Rattle.mmc_card.specs.Rows.{without_addresses};
@@ -21,7 +21,7 @@ ghost use Rattle.mmc_card.specs.BusView.{BusView};
 pub fn cmd6_switches_an_emmc_device()
     ensures { (old new : BusView) (argument : ℕ) (heard : Result ℕ Unheard) (switched_card : Card)
         → Responded Index.SWITCH_FUNC old argument heard new
-        → old.card.made.kind ≡ Mmc → switched (without_addresses old.card) argument ≡ Some switched_card
+        → old.card.made.kind ≡ Mmc → old.card.erase ≡ NoAddress → switched old.card argument ≡ Some switched_card
         → Switches switched_card old heard new }
 {}
 
@@ -31,7 +31,7 @@ pub fn cmd6_sends_the_switch_status()
         → Responded Index.SWITCH_FUNC old argument heard new
         → old.card.made.kind ≡ Sd → old.card.app ≡ false
         → Does ((old.card.state ≡ Tran) × (has_switch_function old.card.made ≡ true))
-        (λ card. Shows (without_addresses card))
+        ShowsDropped
         (sending (bytes_sent new.card.source) (timing_once_sent new.card.source old.card.timing) (forgotten old.card))
         old heard new }
     ensures sends { (old new : BusView) (argument told : ℕ) (heard : Result ℕ Unheard)
@@ -46,7 +46,7 @@ pub fn acmd6_sets_the_width()
         → Responded Index.SET_BUS_WIDTH old argument heard new
         → old.card.made.kind ≡ Sd → old.card.app ≡ true
         → Does (old.card.state ≡ Tran)
-        (λ card. Shows (without_addresses card))
+        ShowsDropped
         (record (shown (forgotten old.card)) { width = width_by (field 1 0 argument) old.card.width })
         old heard new }
 {}
@@ -57,7 +57,7 @@ pub fn cmd8_sends_the_ext_csd()
         → Responded Index.SEND_IF_COND old argument heard new
         → old.card.made.kind ≡ Mmc
         → Does (old.card.state ≡ Tran)
-        (λ card. Shows (without_addresses card))
+        ShowsDropped
         (sending (bytes_sent new.card.source) old.card.timing (forgotten old.card))
         old heard new }
     ensures sends { (old new : BusView) (argument told : ℕ) (heard : Result ℕ Unheard)

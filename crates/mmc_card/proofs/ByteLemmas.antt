@@ -82,30 +82,30 @@ ext_csd_bytes c group bytes =
 
 -- As it is sent.
 
-pub reread_bytes : (others : List (ℕ × ℕ)) (bytes : List ℕ) → AreBytes bytes → AreBytes (reread others bytes)
-reread_bytes [] bytes are = are
-reread_bytes (other ∷ others) bytes are =
-    reread_bytes others _
+pub reread_bytes : (is_read : ℕ → Bool) (others : List (ℕ × ℕ)) (bytes : List ℕ) → AreBytes bytes → AreBytes (reread is_read others bytes)
+reread_bytes is_read [] bytes are = are
+reread_bytes is_read (other ∷ others) bytes are =
+    reread_bytes is_read others _
     (by_cond AreBytes (is_read other.0) (λ _. are) (λ _. bytes_set bytes other.0 (other.1 % 256) (omega arith) are))
 
-pub reread_length : (others : List (ℕ × ℕ)) (bytes : List ℕ) → length (reread others bytes) ≡ length bytes
-reread_length [] bytes = refl
-reread_length (other ∷ others) bytes =
-    reread_length others _
+pub reread_length : (is_read : ℕ → Bool) (others : List (ℕ × ℕ)) (bytes : List ℕ) → length (reread is_read others bytes) ≡ length bytes
+reread_length is_read [] bytes = refl
+reread_length is_read (other ∷ others) bytes =
+    reread_length is_read others _
     ∙ by_cond (λ (xs : List ℕ). length xs ≡ length bytes) (is_read other.0) (λ _. refl)
     (λ _. length-set bytes other.0 (other.1 % 256))
 
-pub reread_at : (others : List (ℕ × ℕ)) (bytes : List ℕ) (i : ℕ) → is_read i ≡ true
-    → slice_index (reread others bytes) i ≡ slice_index bytes i
-reread_at [] bytes i read = refl
-reread_at (other ∷ others) bytes i read =
-    reread_at others _ i read
+pub reread_at : (is_read : ℕ → Bool) (others : List (ℕ × ℕ)) (bytes : List ℕ) (i : ℕ) → is_read i ≡ true
+    → slice_index (reread is_read others bytes) i ≡ slice_index bytes i
+reread_at is_read [] bytes i read = refl
+reread_at is_read (other ∷ others) bytes i read =
+    reread_at is_read others _ i read
     ∙ by_cond (λ (xs : List ℕ). slice_index xs i ≡ slice_index bytes i) (is_read other.0) (λ _. refl)
     (λ unread. get_or-set_other bytes other.0 i (other.1 % 256) 0 (λ same. cc (ap is_read same, read, unread)))
 
-pub reread_is : (unread : List (ℕ × ℕ)) (card : Card) → IsExtCsdOf card (reread unread (ext_csd_now card))
+pub reread_is : (unread : List (ℕ × ℕ)) (card : Card) → IsExtCsdOf card (reread is_read unread (ext_csd_now card))
 reread_is unread card =
-    record { len = reread_length unread (ext_csd_now card); read = λ i read. reread_at unread (ext_csd_now card) i read }
+    record { len = reread_length is_read unread (ext_csd_now card); read = λ i read. reread_at is_read unread (ext_csd_now card) i read }
 
 -- A switch status that refuses.
 

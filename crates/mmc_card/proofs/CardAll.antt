@@ -21,7 +21,7 @@ use Rattle.mmc_card.proofs.Settled.{IsSettled, accepts_still, settled_accepted, 
 use Rattle.mmc_card.proofs.Settled.{settled_garbled, settled_left, settled_programmed, settled_raised, settled_reached}
 use Rattle.mmc_card.proofs.Settled.{settled_rejected, settled_reset, settled_rested, settled_sent_from, settled_waited}
 use Rattle.mmc_card.proofs.Steps.{after_command, after_write, after_poll, after_read}
-use Rattle.mmc_card.specs.CardAnswer.{left_with, raised}
+use Rattle.mmc_card.specs.CardAnswer.{Choice, left_with, raised}
 use Rattle.mmc_card.specs.Card.{AreAmong, AreBlocks, Card, HasItsSizes, IsBlock, IsCard, powered_on, stored}
 use Rattle.mmc_card.specs.Laws.{Carried}
 use Rattle.mmc_card.specs.ErrorBits.{command_error_bits, error_bits}
@@ -33,6 +33,9 @@ use Rattle.mmc_card.specs.Rows.{leaves_erase, reached}
 use Rattle.mmc_card.specs.RowsErase.{holds_address}
 use Rattle.mmc_card.specs.Sectors.{Sector}
 use Rattle.mmc_card.specs.BusView.{BusView}
+use Rattle.mmc_card.proofs.Ordered.{ordered_fallen_early, ordered_ignoring}
+use Rattle.mmc_card.proofs.Settled.{settled_fallen_early, settled_ignoring}
+use Rattle.mmc_card.proofs.Sending.{sending_fallen_early, sending_ignoring}
 
 basic : (c : Card) → IsCard c → IsBasic c
 basic c k = record {
@@ -92,15 +95,16 @@ sizes_then : (a b : Card) → Carried a b → IsCard a → HasItsSizes b
 sizes_then a b carried k part =
     carried.sizes part ∙ k.sizes part ∙ ap (λ (m : Made). sectors_in m part) (sym carried.made)
 
-reached_sizes : (command : Command) (c : Card) → IsCard c → HasItsSizes (reached command c)
-reached_sizes command c k =
+reached_sizes : (choice : Choice) (command : Command) (c : Card) → IsCard c → HasItsSizes (reached choice command c)
+reached_sizes choice command c k =
     by_cond HasItsSizes (leaves_erase command) (λ _. k.sizes)
-    (λ _. by_cond HasItsSizes (holds_address c.erase) (λ _. k.sizes) (λ _. k.sizes))
+    (λ _. by_cond HasItsSizes (holds_address c.erase)
+    (λ _. by_cond HasItsSizes choice.drops_quietly (λ _. k.sizes) (λ _. k.sizes)) (λ _. k.sizes))
 
-pub card_reached : (command : Command) (c : Card) → IsCard c → IsCard (reached command c)
-card_reached command c k =
-    whole _ (reached_sizes command c k) (cards.card_reached command c (basic c k)) (ordered_reached command c (ordered c k))
-    (settled_reached command c (settled c k)) (sending_reached command c (sending c k))
+pub card_reached : (choice : Choice) (command : Command) (c : Card) → IsCard c → IsCard (reached choice command c)
+card_reached choice command c k =
+    whole _ (reached_sizes choice command c k) (cards.card_reached choice command c (basic c k)) (ordered_reached choice command c (ordered c k))
+    (settled_reached choice command c (settled c k)) (sending_reached choice command c (sending c k))
 
 pub card_left : (bits : ℕ) (c : Card) → AreAmong bits command_error_bits → IsCard c → IsCard (left_with bits c)
 card_left bits c among k =
@@ -125,17 +129,17 @@ command_leaves_card old frame reply new step k =
     (after_command IsOrdered old frame reply new o
     (λ choice. ordered_answered choice old.card (command_in frame) o)
     (λ choice bits _. ordered_answered choice _ (command_in frame) (ordered_left bits old.card o))
-    (λ keeps. ordered_garbled keeps old.card o)
+    (λ keeps. ordered_garbled keeps old.card o) (λ bits card _ k. ordered_raised bits card k)
     (λ lands keeps card _. ordered_reset lands keeps card) step)
     (after_command IsSettled old frame reply new s
     (λ choice. settled_answered choice old.card (command_in frame) s)
     (λ choice bits _. settled_answered choice _ (command_in frame) (settled_left bits old.card s))
-    (λ keeps. settled_garbled keeps old.card s)
+    (λ keeps. settled_garbled keeps old.card s) (λ bits card _ k. settled_raised bits card k)
     (λ lands keeps card _. settled_reset lands keeps card) step)
     (after_command IsSending old frame reply new g
     (λ choice. sending_answered choice old.card (command_in frame) g)
     (λ choice bits _. sending_answered choice _ (command_in frame) (sending_left bits old.card g))
-    (λ keeps. sending_garbled keeps old.card g) sending_reset step)
+    (λ keeps. sending_garbled keeps old.card g) (λ bits card _ k. sending_raised bits card k) sending_reset step)
 
 pub poll_leaves_card : (old : BusView) (said : Bool) (new : BusView) → PollStep old said new → IsCard old.card
     → IsCard new.card
@@ -146,15 +150,18 @@ poll_leaves_card old said new step k =
     whole new.card (sizes_then old.card new.card (poll_keeps old said new step).carried k)
     (rows.poll_leaves_card old said new step (basic old.card k))
     (after_poll IsOrdered old said new o (ordered_rested old.card o) (λ _. ordered_waited old.card o)
-    (λ lands prg. ordered_programmed lands old.card prg o) (λ lands rcv. ordered_fallen_short lands old.card rcv o)
+    (λ lands prg. ordered_programmed lands old.card prg o) (λ lands _. ordered_fallen_early lands old.card o)
+    (λ lands rcv. ordered_fallen_short lands old.card rcv o) ordered_ignoring
     (λ bits card _ k. ordered_raised bits card k)
     (λ lands keeps card _. ordered_reset lands keeps card) step)
     (after_poll IsSettled old said new s (settled_rested old.card s) (λ _. settled_waited old.card s)
-    (λ lands prg. settled_programmed lands old.card prg s) (λ lands _. settled_fallen_short lands old.card s)
+    (λ lands prg. settled_programmed lands old.card prg s) (λ lands _. settled_fallen_early lands old.card s)
+    (λ lands _. settled_fallen_short lands old.card s) settled_ignoring
     (λ bits card _ k. settled_raised bits card k)
     (λ lands keeps card _. settled_reset lands keeps card) step)
     (after_poll IsSending old said new g (sending_rested old.card g) (λ _. sending_waited old.card g)
-    (λ lands _. sending_programmed lands old.card g) (λ lands _. sending_fallen_short lands old.card g)
+    (λ lands _. sending_programmed lands old.card g) (λ lands _. sending_fallen_early lands old.card g)
+    (λ lands _. sending_fallen_short lands old.card g) sending_ignoring
     (λ bits card _ k. sending_raised bits card k)
     sending_reset step)
 
@@ -168,28 +175,31 @@ write_leaves_card old block got new h step k =
     (rows.write_leaves_card old block got new h step (basic old.card k))
     (after_write IsOrdered old block got new o
     (λ accepts. ordered_accepted block old.card (accepts_in_rcv old.lines old.card accepts) o)
-    (λ ignores accepts. ordered_rejected ignores old.card (accepts_in_rcv old.lines old.card accepts) o)
+    (λ ignores is_busy accepts. ordered_rejected ignores is_busy old.card (accepts_in_rcv old.lines old.card accepts) o)
     (λ lands accepts.
     let rcv = accepts_in_rcv old.lines old.card accepts in
     ordered_accepted block _ rcv (ordered_fallen_short lands old.card rcv o))
     (λ lands accepts.
     let rcv = accepts_in_rcv old.lines old.card accepts in
-    ordered_rejected true _ rcv (ordered_fallen_short lands old.card rcv o))
+    ordered_rejected true false _ rcv (ordered_fallen_short lands old.card rcv o))
+    ordered_ignoring
     (λ bits card _ k. ordered_raised bits card k)
     (λ lands keeps card _. ordered_reset lands keeps card) step)
     (after_write IsSettled old block got new s
     (λ accepts. settled_accepted block old.lines old.card accepts s)
-    (λ ignores accepts. settled_rejected ignores old.card (accepts_in_rcv old.lines old.card accepts) s)
+    (λ ignores is_busy accepts. settled_rejected ignores is_busy old.card (accepts_in_rcv old.lines old.card accepts) s)
     (λ lands accepts. settled_accepted block old.lines _ (accepts_still lands old.lines old.card accepts)
     (settled_fallen_short lands old.card s))
-    (λ lands accepts. settled_rejected true _ (accepts_in_rcv old.lines old.card accepts)
+    (λ lands accepts. settled_rejected true false _ (accepts_in_rcv old.lines old.card accepts)
     (settled_fallen_short lands old.card s))
+    settled_ignoring
     (λ bits card _ k. settled_raised bits card k)
     (λ lands keeps card _. settled_reset lands keeps card) step)
     (after_write IsSending old block got new g (λ _. sending_accepted block old.card g)
-    (λ ignores _. sending_rejected ignores old.card g)
+    (λ ignores is_busy _. sending_rejected ignores is_busy old.card g)
     (λ lands _. sending_accepted block _ (sending_fallen_short lands old.card g))
-    (λ lands _. sending_rejected true _ (sending_fallen_short lands old.card g))
+    (λ lands _. sending_rejected true false _ (sending_fallen_short lands old.card g))
+    sending_ignoring
     (λ bits card _ k. sending_raised bits card k) sending_reset step)
 
 pub read_leaves_card : (old : BusView) (size : ℕ) (got : DataIn) (block : Sector) (new : BusView)

@@ -9,7 +9,7 @@ use Rattle.mmc_card.specs.declared.exchange.DataOut.{DataOut}
 use Rattle.mmc_card.specs.declared.exchange.Reply.{Reply}
 use Rattle.mmc_card.proofs.ByteLemmas.{erased_block}
 use Rattle.mmc_card.proofs.Cards.{IsBasic, IsLike, among_more, apart_card, blocks_replicate, blocks_snoc, card_app}
-use Rattle.mmc_card.proofs.Cards.{card_done, card_fallen_short, card_forgotten, card_garbled, card_left, card_programmed, card_raised, card_reached}
+use Rattle.mmc_card.proofs.Cards.{card_done, card_fallen_early, card_fallen_short, card_forgotten, card_garbled, card_left, card_programmed, card_raised, card_reached}
 use Rattle.mmc_card.proofs.Cards.{card_told}
 use Rattle.mmc_card.proofs.Cards.{card_refused, card_reset, card_rested, card_shown, card_slow, chosen_card, in_state}
 use Rattle.mmc_card.proofs.Cards.{like_done, like_same, like_shown, stays_card}
@@ -18,7 +18,7 @@ use Rattle.mmc_card.proofs.Narrow.{AreSwitched, accepts_in_rcv, both, may_switch
 use Rattle.mmc_card.proofs.Responses.{after_answer, after_response}
 use Rattle.mmc_card.proofs.Steps.{after_command, after_write, after_poll, after_read}
 use Rattle.mmc_card.specs.CardAnswer.{Choice, raised}
-use Rattle.mmc_card.specs.Blocks.{accepted, end_errors, is_last, rejected, sent_from}
+use Rattle.mmc_card.specs.Blocks.{accepted, end_errors, ignoring, is_last, over, rejected, sent_from}
 use Rattle.mmc_card.specs.Card.{AreAmong, AreBlocks, Both, Card, First, FromBytes, FromSectors, Held, IsBlock}
 use Rattle.mmc_card.specs.Card.{NoAddress, Source, is_in, is_selected, is_writing}
 use Rattle.mmc_card.specs.ErrorBits.{erase_reset, error_bits, out_of_range}
@@ -36,8 +36,8 @@ use Rattle.mmc_card.specs.Rows.{answered, is_legal, leaves_erase, reached, respo
 use Rattle.mmc_card.specs.RowsErase.{erase_held, erases, erasing, forgotten, hold_first, hold_last, holds_address}
 use Rattle.mmc_card.specs.RowsErase.{is_no_range, is_trim}
 use Rattle.mmc_card.specs.RowsIdentify.{inquired, is_served, may_lag}
-use Rattle.mmc_card.specs.RowsSwitch.{ext_csd_now, reread, switch_row, switch_source}
-use Rattle.mmc_card.specs.RowsTransfer.{begun, preset, sending_from, stopped, transfer_errors, transferred}
+use Rattle.mmc_card.specs.RowsSwitch.{ext_csd_now, is_read, reread, switch_row, switch_source}
+use Rattle.mmc_card.specs.RowsTransfer.{begun, preset, sending_from, stopped, transfer_errors, transferred, write_errors}
 use Rattle.mmc_card.specs.Sectors.{Sector}
 use Rattle.mmc_card.specs.BusView.{BusView}
 
@@ -86,17 +86,19 @@ card_sending : (source : Source) (c : Card) → c.state ≡ Tran → IsBasic c �
 card_sending source c e k =
     chosen_card c _ k (like_shown c _ refl refl refl refl) refl refl (λ h. none_in c Tran k e refl) k.new_values
 
-not_both : (a b : Bool) → (a || b) ≡ true → b ≡ false → a ≡ true
-not_both true b h n = refl
-not_both false b h n = cc
+-- nothing is written in tran and in data
+idle_by : (s : State) → (is_in s Tran || (is_in s Data || is_in s Rcv)) ≡ true → is_in s Rcv ≡ false → is_writing s ≡ false
+idle_by Rcv h n = cc
+idle_by Prg h n = cc
+idle_by _ h n = refl
 
-card_stopped : (stays_busy : Bool) (c : Card) → IsBasic c → (is_in c.state Data || is_in c.state Rcv) ≡ true
+card_stopped : (stays_busy : Bool) (c : Card) → IsBasic c → (is_in c.state Tran || (is_in c.state Data || is_in c.state Rcv)) ≡ true
     → IsBasic (stopped stays_busy c)
 card_stopped stays_busy c k l =
     by_cond IsBasic (is_in c.state Rcv)
     (λ h. chosen_card c _ k (like_shown c _ refl refl refl refl) refl refl (λ h. cc) k.new_values)
     (λ h.
-    let none = none_in c Data k (in_state c.state Data (not_both (is_in c.state Data) (is_in c.state Rcv) l h)) refl in
+    let none = k.finished (idle_by c.state l h) in
     by_cond IsBasic stays_busy
     (λ _. chosen_card c _ k (like_shown c _ refl refl refl refl) refl refl (λ _. none) k.new_values)
     (λ _. chosen_card c _ k (like_shown c _ refl refl refl refl) refl refl (λ _. none) k.new_values))
@@ -157,13 +159,21 @@ card_row choice SelectCard c index argument l k =
     (λ _. none_in c Stby k (in_state c.state Stby l) refl) k.new_values
 card_row choice SendIfCond c index argument l k = card_told _ c k
 card_row choice SendExtCsd c index argument l k =
-    card_sending (FromBytes (reread choice.unread (ext_csd_now c)) c.timing) c (in_state c.state Tran l) k
+    card_sending (FromBytes (reread is_read choice.unread (ext_csd_now c)) c.timing) c (in_state c.state Tran l) k
 card_row choice SendCsd c index argument l k = card_done c k
-card_row choice StopTransmission c index argument l k = card_stopped choice.stays_busy c k l
+card_row choice StopTransmission c index argument l k =
+    first_by_cond IsBasic (is_in c.state Tran && not choice.answers_stop) _ _ (λ _. card_refused c k)
+    (λ _. card_stopped choice.stays_busy c k l)
 card_row choice SendStatus c index argument l k =
     first_by_cond IsBasic (may_lag c && choice.is_behind) _ _
-    (λ _. stays_card c _ k (like_shown c _ refl refl refl refl) refl refl refl refl refl refl refl (λ h. h)
-    (λ h. refl) (λ h. h))
+    (λ _. stays_card c _ k
+    (record {
+      made = refl;
+      block_length = inl refl;
+      command_errors = refl;
+      errors = by_cond (λ n. AreAmong n error_bits) choice.tells_late (λ _. k.errors) (λ _. refl);
+    })
+    refl refl refl refl refl refl refl (λ h. h) (λ h. refl) (λ h. h))
     (λ _. card_shown c k)
 card_row choice SetBlocklen c index argument l k =
     first_by_cond IsBasic (argument == 512) _ _
@@ -180,9 +190,9 @@ card_row choice SetBlockCount c index argument l k =
     (in_state c.state Tran (both (is_in c.state Tran) (has_cmd23 c.made) l).0) k
     (like_shown c _ refl refl refl refl) refl refl refl
 card_row choice WriteBlock c index argument l k =
-    card_transferred 24 (transfer_errors true c argument) c _ k (card_begun Rcv true (Some 1) c argument refl k)
+    card_transferred 24 (write_errors choice c argument) c _ k (card_begun Rcv true (Some 1) c argument refl k)
 card_row choice WriteMultipleBlock c index argument l k =
-    card_transferred 25 (transfer_errors true c argument) c _ k (card_begun Rcv false (preset c) c argument refl k)
+    card_transferred 25 (write_errors choice c argument) c _ k (card_begun Rcv false (preset c) c argument refl k)
 card_row choice EraseStart c index argument l k = card_first index c argument c.erase (in_state c.state Tran l) k
 card_row choice EraseEnd c index argument l k = card_last index c argument c.erase (in_state c.state Tran l) k
 card_row choice Erase c index argument l k = card_erase c argument c.erase k
@@ -197,24 +207,29 @@ card_row choice AppCmd c index argument l k = card_app c k
 card_row choice Unknown c index argument l k = cc
 
 -- whether a command is carried out doesn't rest on held addresses
-legal_dropped : (command : Command) (c : Card)
-    → is_legal command (raised erase_reset (forgotten c)) ≡ is_legal command c
-legal_dropped Erase c = refl
-legal_dropped _ c = refl
+legal_dropped : (bits : ℕ) (command : Command) (c : Card)
+    → is_legal command (raised bits (forgotten c)) ≡ is_legal command c
+legal_dropped bits Erase c = refl
+legal_dropped bits _ c = refl
 
-pub legal_reached : (command : Command) (c : Card) → is_legal command (reached command c) ≡ is_legal command c
-legal_reached command c =
+legal_without : (command : Command) (c : Card) → is_legal command (forgotten c) ≡ is_legal command c
+legal_without Erase c = refl
+legal_without _ c = refl
+
+pub legal_reached : (choice : Choice) (command : Command) (c : Card) → is_legal command (reached choice command c) ≡ is_legal command c
+legal_reached choice command c =
     let Same : Card → Type 0 = λ d. is_legal command d ≡ is_legal command c in
     by_cond Same (leaves_erase command) (λ _. refl)
-    (λ _. by_cond Same (holds_address c.erase) (λ _. legal_dropped command c) (λ _. refl))
+    (λ _. by_cond Same (holds_address c.erase)
+    (λ _. by_cond Same choice.drops_quietly (λ _. legal_without command c) (λ _. legal_dropped erase_reset command c)) (λ _. refl))
 
 pub card_responded : (choice : Choice) (command : Command) (c : Card) (index argument : ℕ) → IsBasic c
     → IsBasic (responded choice command c index argument).0
 card_responded choice command c index argument k =
-    let now = card_reached command c k in
+    let now = card_reached choice command c k in
     after_response IsBasic choice command c index argument k
-    (λ l. card_row choice command (reached command c) index argument (legal_reached command c ∙ l) now)
-    (card_refused (reached command c) now)
+    (λ l. card_row choice command (reached choice command c) index argument (legal_reached choice command c ∙ l) now)
+    (card_refused (reached choice command c) now)
 
 pub card_answered : (choice : Choice) (c : Card) (sent : Option (ℕ × ℕ)) → IsBasic c
     → IsBasic (answered choice c sent).0
@@ -235,12 +250,21 @@ card_accepted block c h k =
     chosen_card c _ k (like_same c _ k refl refl refl refl) (up_if (is_last c.left) Prg Rcv refl refl) refl
     (λ w. cc (writing, w)) (blocks_snoc c.values block k.new_values h)
 
-card_rejected : (ignores : Bool) (c : Card) → IsBasic c → IsBasic (rejected ignores c)
-card_rejected ignores c k =
+card_ignoring : (ignores : Bool) (c : Card) → IsBasic c → IsBasic (ignoring ignores c)
+card_ignoring ignores c k =
     by_cond IsBasic ignores
     (λ _. stays_card c _ k (like_same c _ k refl refl refl refl) refl refl refl refl refl refl refl (λ h. h) (λ h. h) (λ h. h))
-    (λ _. by_cond IsBasic c.is_single
-    (λ _. chosen_card c _ k (like_same c _ k refl refl refl refl) refl refl (λ _. refl) tt) (λ _. k))
+    (λ _. k)
+
+card_over : (is_busy : Bool) (c : Card) → IsBasic c → IsBasic (over is_busy c)
+card_over is_busy c k =
+    by_cond IsBasic is_busy (λ _. chosen_card c _ k (like_same c _ k refl refl refl refl) refl refl (λ _. refl) tt)
+    (λ _. chosen_card c _ k (like_same c _ k refl refl refl refl) refl refl (λ _. refl) tt)
+
+card_rejected : (ignores is_busy : Bool) (c : Card) → IsBasic c → IsBasic (rejected ignores is_busy c)
+card_rejected ignores is_busy c k =
+    by_cond IsBasic ignores (λ _. card_ignoring true c k)
+    (λ _. by_cond IsBasic c.is_single (λ _. card_over is_busy c k) (λ _. k))
 
 end_among : (b : Bool) → AreAmong (if b then out_of_range else 0) error_bits
 end_among true = refl
@@ -269,24 +293,25 @@ command_leaves_card old frame reply new step k =
     after_command IsBasic old frame reply new k
     (λ choice. card_answered choice old.card (command_in frame) k)
     (λ choice bits among. card_answered choice _ (command_in frame) (card_left bits old.card among k)) (λ keeps. card_garbled keeps old.card k)
-    card_reset step
+    (λ bits card among k. card_raised bits card among k) card_reset step
 
 pub poll_leaves_card : (old : BusView) (said : Bool) (new : BusView) → PollStep old said new → IsBasic old.card
     → IsBasic new.card
 poll_leaves_card old said new step k =
     after_poll IsBasic old said new k (card_rested old.card k) (λ _. card_slow old.card k)
-    (λ lands _. card_programmed lands old.card k) (λ lands rcv. card_fallen_short lands old.card rcv k)
+    (λ lands _. card_programmed lands old.card k) (λ lands prg. card_fallen_early lands old.card prg k)
+    (λ lands rcv. card_fallen_short lands old.card rcv k) card_ignoring
     (λ bits card among k. card_raised bits card among k) card_reset step
 
 pub write_leaves_card : (old : BusView) (block : Sector) (got : DataOut) (new : BusView) → IsBlock block
     → WriteStep old block got new → IsBasic old.card → IsBasic new.card
 write_leaves_card old block got new h step k =
     after_write IsBasic old block got new k (λ _. card_accepted block old.card h k)
-    (λ ignores _. card_rejected ignores old.card k)
+    (λ ignores is_busy _. card_rejected ignores is_busy old.card k)
     (λ lands accepts. card_accepted block _ h
     (card_fallen_short lands old.card (accepts_in_rcv old.lines old.card accepts) k))
-    (λ lands accepts. card_rejected true _
-    (card_fallen_short lands old.card (accepts_in_rcv old.lines old.card accepts) k))
+    (λ lands accepts. card_rejected true false _
+    (card_fallen_short lands old.card (accepts_in_rcv old.lines old.card accepts) k)) card_ignoring
     (λ bits card among k. card_raised bits card among k) card_reset step
 
 pub read_leaves_card : (old : BusView) (size : ℕ) (got : DataIn) (block : Sector) (new : BusView)

@@ -8,8 +8,8 @@ use Rattle.mmc_frame.specs.declared.card_state.State.TheVariants.{Data, Dis, Ide
 use Rattle.mmc_card.specs.declared.part.Part.{Part}
 use Rattle.mmc_card.proofs.Conditions.{along, by_cond}
 use Rattle.mmc_card.proofs.Landing.{one_set}
-use Rattle.mmc_card.specs.CardAnswer.{done, garbled, left_with, raised, refused, reset, shown}
-use Rattle.mmc_card.specs.Blocks.{fallen_short, programmed, rested, waited}
+use Rattle.mmc_card.specs.CardAnswer.{Choice, done, garbled, left_with, raised, refused, reset, shown}
+use Rattle.mmc_card.specs.Blocks.{fallen_early, fallen_short, programmed, rested, waited}
 use Rattle.mmc_card.specs.Card.{AreAmong, AreBlocks, Card, IsApart, IsBlock, NoAddress, is_in, is_selected, is_writing}
 use Rattle.mmc_card.specs.Card.{landed, landed_in, stored}
 use Rattle.mmc_card.specs.ErrorBits.{com_crc_error, command_error_bits, erase_reset, error_bits, illegal_command}
@@ -292,6 +292,10 @@ card_raised bits c among k =
     })
     refl refl refl refl refl refl refl (λ h. h) (λ h. h) (λ h. h)
 
+card_without : (c : Card) → IsBasic c → IsBasic (forgotten c)
+card_without c k =
+    stays_card c _ k (like_same c _ k refl refl refl refl) refl refl refl refl refl refl refl (λ h. h) (λ h. h) (λ h. refl)
+
 card_dropped : (c : Card) → IsBasic c → IsBasic (raised erase_reset (forgotten c))
 card_dropped c k =
     stays_card c _ k
@@ -303,10 +307,11 @@ card_dropped c k =
     })
     refl refl refl refl refl refl refl (λ h. h) (λ h. h) (λ h. refl)
 
-pub card_reached : (command : Command) (c : Card) → IsBasic c → IsBasic (reached command c)
-card_reached command c k =
+pub card_reached : (choice : Choice) (command : Command) (c : Card) → IsBasic c → IsBasic (reached choice command c)
+card_reached choice command c k =
     by_cond IsBasic (leaves_erase command) (λ _. k)
-    (λ _. by_cond IsBasic (holds_address c.erase) (λ _. card_dropped c k) (λ _. k))
+    (λ _. by_cond IsBasic (holds_address c.erase)
+    (λ _. by_cond IsBasic choice.drops_quietly (λ _. card_without c k) (λ _. card_dropped c k)) (λ _. k))
 
 -- it stays, or is the one that the registers name
 length_by : (keeps_length : Bool) (was named : ℕ) → ((if keeps_length then was else named) ≡ was)
@@ -344,6 +349,12 @@ pub card_fallen_short : (lands : ℕ → Bool) (c : Card) → is_in c.state Rcv 
 card_fallen_short lands c rcv k =
     made_card c (fallen_short lands c) k (like_same c _ k refl refl refl refl)
     (λ h. cc (ap is_selected (in_state c.state Rcv rcv), h)) (λ h. refl) (blocks_landed lands c k) tt
+
+pub card_fallen_early : (lands : ℕ → Bool) (c : Card) → is_in c.state Prg ≡ true → IsBasic c
+    → IsBasic (fallen_early lands c)
+card_fallen_early lands c prg k =
+    made_card c (fallen_early lands c) k (like_same c _ k refl refl refl refl)
+    (λ h. cc (ap is_selected (in_state c.state Prg prg), h)) (λ h. refl) (blocks_landed lands c k) tt
 
 pub card_rested : (c : Card) → IsBasic c → IsBasic (rested c)
 card_rested c k =

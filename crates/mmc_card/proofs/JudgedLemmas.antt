@@ -1,5 +1,5 @@
 -- What a response says of a card, by the bits that are judged.
-use Rattle.std.proofs.Common.{◌*◌, ◌+◌, ◌<◌, ◌^◌, ◌↔◌, ◌∙◌, ◌≡◌, ap, arith, false, inl, inr, refl, sym, ℕ}
+use Rattle.std.proofs.Common.{ℕ, ◌*◌, ◌+◌, ◌<◌, ◌^◌, ◌↔◌, ◌∙◌, ◌≡◌, ◌≤◌, ap, arith, false, inl, refl, subst, sym}
 use Rattle.std.specs.Prelude.{◌%◌, ◌-◌, ◌/◌}
 use Rattle.std.specs.Int.{bit_at}
 use Rattle.std.specs.Int.RustNames.{bit_and}
@@ -7,6 +7,7 @@ use Rattle.std.proofs.lemmas.Nat.{and_block, and_le_r, and_mask}
 use Rattle.std.proofs.lemmas.Nat.Bits.{bit_at-lt, bit_at_and, same_from_bits}
 use Rattle.mmc_frame.specs.Field.{field}
 use Rattle.mmc_frame.specs.Status.{IsAtWork, IsClean, error_bits, error_mask, own_status, state_number}
+use Rattle.mmc_frame.specs.declared.card_state.State.TheVariants.{Prg, Stby}
 use Rattle.mmc_frame.specs.declared.kind.Kind.{Kind}
 use Rattle.mmc_frame.specs.declared.kind.Kind.TheVariants.{Mmc, Sd}
 use Rattle.mmc_card.proofs.StatusLemmas.{bit_among, clean_status, lagging_is_not_clean, lagging_status, own_status_errors}
@@ -167,10 +168,9 @@ at_work_as kind a b same works =
     let work = same_own_work a b same in
     record {
       no_error = sym (same_own kind a b same) ∙ works.no_error;
-      works = elim works.works [
-        | inl prg ↦ inl (sym work.0 ∙ prg)
-        | inr tran ↦ inr (sym work.0 ∙ tran.0, sym work.1 ∙ tran.1)
-      ];
+      from_stby = subst (λ n. state_number Stby ≤ n) work.0 works.from_stby;
+      to_prg = subst (λ n. n ≤ state_number Prg) work.0 works.to_prg;
+      unready = λ tran. sym work.1 ∙ works.unready (work.0 ∙ tran);
     }
 
 -- What is told of a card.
@@ -203,7 +203,7 @@ pub told_at_end : (kind : Kind) (told : ℕ) (card : Card) → IsCard card → S
 told_at_end kind told card k shows none end = same_errors kind told _ shows ∙ status_at_end kind false card k none end
 
 pub told_at_work : (kind : Kind) (choice : Choice) (told : ℕ) (card : Card) → IsCard card
-    → ShowsItself (at_work choice card) told → (IsAtWork kind (own_status told) ↔ HasNoErrorOfItsOwn kind card)
+    → ShowsItself (at_work choice card) told → (IsAtWork kind (own_status told) ↔ HasNoErrorOfItsOwn kind (at_work choice card))
 told_at_work kind choice told card k shows =
     let law = lagging_status kind choice card k in
     (λ works. law.0 (at_work_as kind told _ shows works), λ none. at_work_as kind _ told (sym shows) (law.1 none))

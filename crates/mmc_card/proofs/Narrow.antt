@@ -5,7 +5,7 @@ use Rattle.std.proofs.Common.{inr, length, not, refl, subst, true, ℕ, ◌≤�
 use Rattle.std.specs.Prelude.{◌==◌, None, Option, Some, slice_index_or, if◌then◌else◌}
 use Rattle.mmc_frame.specs.Field.{field}
 use Rattle.mmc_frame.specs.declared.card_state.State.{State}
-use Rattle.mmc_frame.specs.declared.card_state.State.TheVariants.{Data, Prg, Rcv}
+use Rattle.mmc_frame.specs.declared.card_state.State.TheVariants.{Data, Prg, Rcv, Tran}
 use Rattle.mmc_ext_csd.specs.ExtCsd.{high_speed_at_52_mhz, partition_config}
 use Rattle.mmc_card.specs.declared.exchange.Lines.{Lines}
 use Rattle.mmc_card.specs.declared.part.Part.{Part}
@@ -16,7 +16,7 @@ use Rattle.mmc_card.proofs.SectorLemmas.{by_touch, cond_in_new, cond_in_old, in_
 use Rattle.mmc_card.proofs.SectorLemmas.{same_part, touched_by, untouched, within_same}
 use Rattle.mmc_card.specs.CardAnswer.{Choice, garbled, left_with, raised, refused, reset}
 use Rattle.mmc_card.specs.Blocks.{accepted, can_send, can_accept, fallen_short, programmed, rejected, rested, sent_from}
-use Rattle.mmc_card.specs.Blocks.{waited}
+use Rattle.mmc_card.specs.Blocks.{fallen_early, ignoring, waited}
 use Rattle.mmc_card.specs.Card.{Both, Card, First, FromBytes, FromSectors, Held, NoAddress, Source, at_sector, holds}
 use Rattle.mmc_card.specs.Card.{is_in, known, landed, stored, unfinished}
 use Rattle.mmc_card.specs.Laws.{Carried, WithinOrAccepted, erased_by, erased_by_command, erased_by_held, maybe_erased}
@@ -33,7 +33,7 @@ use Rattle.mmc_card.specs.RowsErase.{erase_held, erases, erasing, hold_first, ho
 use Rattle.mmc_card.specs.RowsErase.{is_trim}
 use Rattle.mmc_card.specs.RowsIdentify.{inquired, is_served, may_lag}
 use Rattle.mmc_card.specs.RowsSwitch.{access_switched, accessed, part_accessed, switch_row, switched, write_byte}
-use Rattle.mmc_card.specs.RowsTransfer.{begun, preset, stopped, transfer_errors, transferred}
+use Rattle.mmc_card.specs.RowsTransfer.{begun, preset, stopped, transfer_errors, transferred, write_errors}
 use Rattle.mmc_card.specs.Sectors.{Change, IsIn, Sector, Sets, Within, maybe_changed, part_number, touches, value_of}
 
 -- made the same, of the same sizes, and no sector may hold more
@@ -153,6 +153,9 @@ keeps_programmed lands c = over c (programmed lands c) lands refl refl refl
 
 pub keeps_fallen_short : (lands : ℕ → Bool) (c : Card) → Keeps c (fallen_short lands c)
 keeps_fallen_short lands c = over c (fallen_short lands c) lands refl refl refl
+
+pub keeps_fallen_early : (lands : ℕ → Bool) (c : Card) → Keeps c (fallen_early lands c)
+keeps_fallen_early lands c = over c (fallen_early lands c) lands refl refl refl
 
 pub keeps_raised : (bits : ℕ) (c : Card) → Keeps c (raised bits c)
 keeps_raised bits c = plain c (raised bits c) refl refl refl
@@ -286,7 +289,10 @@ widens_row choice SelectCard c index argument = wide _ c _ (plain c _ refl refl 
 widens_row choice SendIfCond c index argument = wide _ c _ (plain c _ refl refl refl)
 widens_row choice SendExtCsd c index argument = wide _ c _ (plain c _ refl refl refl)
 widens_row choice SendCsd c index argument = wide _ c _ (plain c _ refl refl refl)
-widens_row choice StopTransmission c index argument = wide _ c _ (keeps_stopped choice.stays_busy c)
+widens_row choice StopTransmission c index argument =
+    wide _ c _
+    (first_by_cond (Keeps c) (is_in c.state Tran && not choice.answers_stop) _ _ (λ _. plain c _ refl refl refl)
+    (λ _. keeps_stopped choice.stays_busy c))
 widens_row choice SendStatus c index argument =
     wide _ c _
     (first_by_cond (Keeps c) (may_lag c && choice.is_behind) _ _ (λ _. plain c _ refl refl refl)
@@ -301,10 +307,10 @@ widens_row choice ReadMultipleBlock c index argument =
     (keeps_transferred 18 (transfer_errors false c argument) c _ (keeps_begun Data false (preset c) c argument))
 widens_row choice SetBlockCount c index argument = wide _ c _ (plain c _ refl refl refl)
 widens_row choice WriteBlock c index argument =
-    wide _ c _ (keeps_transferred 24 (transfer_errors true c argument) c _ (keeps_begun Rcv true (Some 1) c argument))
+    wide _ c _ (keeps_transferred 24 (write_errors choice c argument) c _ (keeps_begun Rcv true (Some 1) c argument))
 widens_row choice WriteMultipleBlock c index argument =
     wide _ c _
-    (keeps_transferred 25 (transfer_errors true c argument) c _ (keeps_begun Rcv false (preset c) c argument))
+    (keeps_transferred 25 (write_errors choice c argument) c _ (keeps_begun Rcv false (preset c) c argument))
 widens_row choice EraseStart c index argument = wide _ c _ (keeps_first index c argument c.erase)
 widens_row choice EraseEnd c index argument = wide _ c _ (keeps_last index c argument c.erase)
 widens_row choice Erase c index argument = widens_erase c argument c.erase
@@ -316,26 +322,27 @@ widens_row choice SendScr c index argument = wide _ c _ (plain c _ refl refl ref
 widens_row choice AppCmd c index argument = wide _ c _ (plain c _ refl refl refl)
 widens_row choice Unknown c index argument = wide _ c _ (plain c _ refl refl refl)
 
-pub keeps_reached : (command : Command) (c : Card) → Keeps c (reached command c)
-keeps_reached command c =
+pub keeps_reached : (choice : Choice) (command : Command) (c : Card) → Keeps c (reached choice command c)
+keeps_reached choice command c =
     by_cond (Keeps c) (leaves_erase command) (λ _. keeps_same c)
-    (λ _. by_cond (Keeps c) (holds_address c.erase) (λ _. plain c _ refl refl refl) (λ _. keeps_same c))
+    (λ _. by_cond (Keeps c) (holds_address c.erase)
+    (λ _. by_cond (Keeps c) choice.drops_quietly (λ _. plain c _ refl refl refl) (λ _. plain c _ refl refl refl)) (λ _. keeps_same c))
 
 -- only CMD38 may erase, and it is reached as it is
-same_erased : (command : Command) (c : Card) (argument : ℕ)
-    → erased_by_command command (reached command c) argument ≡ erased_by_command command c argument
-same_erased Erase c argument = refl
-same_erased _ c argument = refl
+same_erased : (choice : Choice) (command : Command) (c : Card) (argument : ℕ)
+    → erased_by_command command (reached choice command c) argument ≡ erased_by_command command c argument
+same_erased choice Erase c argument = refl
+same_erased choice _ c argument = refl
 
 widens_reached : (choice : Choice) (command : Command) (c : Card) (index argument : ℕ)
-    → Widens (erased_by_command command c argument) c (row choice command (reached command c) index argument).0
+    → Widens (erased_by_command command c argument) c (row choice command (reached choice command c) index argument).0
 widens_reached choice command c index argument =
-    wide_then (erased_by_command command c argument) c (reached command c) _ (keeps_reached command c)
+    wide_then (erased_by_command command c argument) c (reached choice command c) _ (keeps_reached choice command c)
     (subst
-    (λ (t : Option Change). Widens t (reached command c)
-    (row choice command (reached command c) index argument).0)
-    (same_erased command c argument)
-    (widens_row choice command (reached command c) index argument))
+    (λ (t : Option Change). Widens t (reached choice command c)
+    (row choice command (reached choice command c) index argument).0)
+    (same_erased choice command c argument)
+    (widens_row choice command (reached choice command c) index argument))
 
 pub widens_responded : (choice : Choice) (command : Command) (c : Card) (index argument : ℕ)
     → Widens (erased_by_command command c argument) c (responded choice command c index argument).0
@@ -343,7 +350,7 @@ widens_responded choice command c index argument =
     let change = erased_by_command command c argument in
     after_response (Widens change c) choice command c index argument (wide change c c (keeps_same c))
     (λ _. widens_reached choice command c index argument)
-    (wide change c _ (keeps_then (keeps_reached command c) (keeps_refused (reached command c))))
+    (wide change c _ (keeps_then (keeps_reached choice command c) (keeps_refused (reached choice command c))))
 
 pub widens_answered : (choice : Choice) (c : Card) (sent : Option (ℕ × ℕ))
     → Widens (erased_by c sent) c (answered choice c sent).0
@@ -379,10 +386,14 @@ pub keeps_sent_from : (source : Source) (choice : Choice) (c : Card) → Keeps c
 keeps_sent_from FromSectors choice c = plain c _ refl refl refl
 keeps_sent_from (FromBytes bytes timing) choice c = plain c _ refl refl refl
 
-pub keeps_rejected : (ignores : Bool) (c : Card) → Keeps c (rejected ignores c)
-keeps_rejected ignores c =
+pub keeps_ignoring : (ignores : Bool) (c : Card) → Keeps c (ignoring ignores c)
+keeps_ignoring ignores c = by_cond (Keeps c) ignores (λ _. plain c _ refl refl refl) (λ _. keeps_same c)
+
+pub keeps_rejected : (ignores is_busy : Bool) (c : Card) → Keeps c (rejected ignores is_busy c)
+keeps_rejected ignores is_busy c =
     by_cond (Keeps c) ignores (λ _. plain c _ refl refl refl)
-    (λ _. by_cond (Keeps c) c.is_single (λ _. cleared c _ refl refl refl) (λ _. keeps_same c))
+    (λ _. by_cond (Keeps c) c.is_single
+    (λ _. by_cond (Keeps c) is_busy (λ _. cleared c _ refl refl refl) (λ _. cleared c _ refl refl refl)) (λ _. keeps_same c))
 
 -- a block that the card accepted
 pub accepted_adds : (block : Sector) (c : Card) → is_in c.state Rcv ≡ true → WithinOrAccepted c block (accepted block c)

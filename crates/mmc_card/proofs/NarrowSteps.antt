@@ -1,12 +1,13 @@
 -- The law of narrowing, step by step.
-use Rattle.std.proofs.Common.{◌≡◌, Bool, List, arith, inl, inr, true, ℕ}
+use Rattle.std.proofs.Common.{Bool, List, ℕ, ◌≡◌, arith, false, inl, inr, true}
 use Rattle.std.specs.Prelude.{Option}
 use Rattle.mmc_frame.specs.Frame.{command_in}
 use Rattle.mmc_card.specs.declared.exchange.DataIn.{DataIn}
 use Rattle.mmc_card.specs.declared.exchange.DataOut.{DataOut}
 use Rattle.mmc_card.specs.declared.exchange.Lines.{Lines}
 use Rattle.mmc_card.specs.declared.exchange.Reply.{Reply}
-use Rattle.mmc_card.proofs.Narrow.{Keeps, Widens, accepted_adds, carried_accepted, carried_then, keeps_fallen_short}
+use Rattle.mmc_card.proofs.Narrow.{Keeps, Widens, accepted_adds, carried_accepted, carried_then, keeps_fallen_early, keeps_fallen_short}
+use Rattle.mmc_card.proofs.Narrow.{keeps_ignoring}
 use Rattle.mmc_card.proofs.Narrow.{keeps_garbled, keeps_programmed, keeps_raised, keeps_rejected, keeps_reset, keeps_rested, keeps_same}
 use Rattle.mmc_card.proofs.Narrow.{keeps_sent_from, keeps_slow, keeps_then, accepts_in_rcv, wide, widens_answered, widens_left}
 use Rattle.mmc_card.proofs.Steps.{after_command, after_write, after_poll, after_read}
@@ -73,12 +74,14 @@ command_widens old frame reply new step =
     (λ choice. widens_answered choice old.card (command_in frame))
     (λ choice bits _. widens_left choice bits old.card (command_in frame))
     (λ keeps. wide change old.card _ (keeps_garbled keeps old.card))
+    (λ bits card _ w. wide_after change old.card card _ w (keeps_raised bits card))
     (λ lands keeps card w. wide_after change old.card card _ w (keeps_reset lands keeps card)) step
 
 pub poll_keeps : (old : BusView) (said : Bool) (new : BusView) → PollStep old said new → Keeps old.card new.card
 poll_keeps old said new step =
     after_poll (Keeps old.card) old said new (keeps_same old.card) (keeps_rested old.card) (λ _. keeps_slow old.card)
-    (λ lands _. keeps_programmed lands old.card) (λ lands _. keeps_fallen_short lands old.card)
+    (λ lands _. keeps_programmed lands old.card) (λ lands _. keeps_fallen_early lands old.card)
+    (λ lands _. keeps_fallen_short lands old.card) (λ ignores card k. keeps_then k (keeps_ignoring ignores card))
     (λ bits card _ k. keeps_then k (keeps_raised bits card)) (λ lands keeps card k. keeps_then k (keeps_reset lands keeps card)) step
 
 pub write_adds : (old : BusView) (block : Sector) (got : DataOut) (new : BusView) → WriteStep old block got new
@@ -86,10 +89,11 @@ pub write_adds : (old : BusView) (block : Sector) (got : DataOut) (new : BusView
 write_adds old block got new step =
     after_write (Adds block old.card) old block got new (adds_none block old.card _ (keeps_same old.card))
     (λ accepts. adds_accepted block old.lines old.card accepts)
-    (λ ignores _. adds_none block old.card _ (keeps_rejected ignores old.card))
+    (λ ignores is_busy _. adds_none block old.card _ (keeps_rejected ignores is_busy old.card))
     (λ lands accepts. adds_behind block lands old.lines old.card accepts)
     (λ lands _. adds_none block old.card _
-    (keeps_then (keeps_fallen_short lands old.card) (keeps_rejected true (fallen_short lands old.card))))
+    (keeps_then (keeps_fallen_short lands old.card) (keeps_rejected true false (fallen_short lands old.card))))
+    (λ ignores card a. adds_then block old.card card _ a (keeps_ignoring ignores card))
     (λ bits card _ a. adds_then block old.card card _ a (keeps_raised bits card))
     (λ lands keeps card a. adds_then block old.card card _ a (keeps_reset lands keeps card)) step
 

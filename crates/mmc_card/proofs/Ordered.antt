@@ -11,7 +11,8 @@ use Rattle.mmc_card.proofs.Conditions.{along, by_cond, first_by_cond}
 use Rattle.mmc_card.proofs.Responses.{after_answer, after_response}
 use Rattle.mmc_card.proofs.Narrow.{AreSwitched, both, may_switch}
 use Rattle.mmc_card.specs.CardAnswer.{Choice, counted, done, garbled, left_with, raised, refused, reset, shown}
-use Rattle.mmc_card.specs.Blocks.{accepted, fallen_short, is_last, programmed, rejected, rested, sent_from, waited}
+use Rattle.mmc_card.specs.Blocks.{accepted, fallen_early, fallen_short, ignoring, is_last, over, programmed, rejected}
+use Rattle.mmc_card.specs.Blocks.{rested, sent_from, waited}
 use Rattle.mmc_card.specs.Card.{Both, Card, First, FromBytes, FromSectors, HasItsRca, Held, NoAddress, Source}
 use Rattle.mmc_card.specs.Card.{is_identified, is_in, patience}
 use Rattle.mmc_card.specs.Made.{Made, first_rca, has_switch_function, is_sd}
@@ -28,7 +29,7 @@ use Rattle.mmc_card.specs.RowsErase.{erase_held, erases, erasing, forgotten, hol
 use Rattle.mmc_card.specs.RowsErase.{is_no_range, is_trim}
 use Rattle.mmc_card.specs.RowsIdentify.{inquired, is_served, may_lag}
 use Rattle.mmc_card.specs.RowsSwitch.{switch_row}
-use Rattle.mmc_card.specs.RowsTransfer.{transfer_errors, transferred}
+use Rattle.mmc_card.specs.RowsTransfer.{transfer_errors, transferred, write_errors}
 
 pub record IsOrdered (card : Card) : Type 0 where
   pub held : is_in card.state Tran ≡ false → card.erase ≡ NoAddress
@@ -115,11 +116,13 @@ ordered_garbled keeps c k = ordered_like c _ k refl refl refl (λ h. h) (λ h. h
 pub ordered_raised : (bits : ℕ) (c : Card) → IsOrdered c → IsOrdered (raised bits c)
 ordered_raised bits c k = ordered_like c _ k refl refl refl (λ h. h) (λ h. h) k.app k.inquiries k.polled
 
-pub ordered_reached : (command : Command) (c : Card) → IsOrdered c → IsOrdered (reached command c)
-ordered_reached command c k =
+pub ordered_reached : (choice : Choice) (command : Command) (c : Card) → IsOrdered c → IsOrdered (reached choice command c)
+ordered_reached choice command c k =
     by_cond IsOrdered (leaves_erase command) (λ _. k)
     (λ _. by_cond IsOrdered (holds_address c.erase)
-    (λ _. ordered_like c _ k refl refl refl (λ h. refl) (λ h. h) k.app k.inquiries k.polled) (λ _. k))
+    (λ _. by_cond IsOrdered choice.drops_quietly
+    (λ _. ordered_like c _ k refl refl refl (λ h. refl) (λ h. h) k.app k.inquiries k.polled)
+    (λ _. ordered_like c _ k refl refl refl (λ h. refl) (λ h. h) k.app k.inquiries k.polled)) (λ _. k))
 
 pub ordered_reset : (lands : ℕ → Bool) (keeps_length : Bool) (c : Card) → IsOrdered (reset lands keeps_length c)
 ordered_reset lands keeps_length c = record {
@@ -147,6 +150,14 @@ ordered_fallen_short lands c rcv k = record {
   inquiries = k.inquiries;
   polled = omega arith;
 }
+
+pub ordered_fallen_early : (lands : ℕ → Bool) (c : Card) → IsOrdered c → IsOrdered (fallen_early lands c)
+ordered_fallen_early lands c k = ordered_like c _ k refl refl refl (λ h. h) (λ h. h) k.app k.inquiries k.polled
+
+pub ordered_ignoring : (ignores : Bool) (c : Card) → IsOrdered c → IsOrdered (ignoring ignores c)
+ordered_ignoring ignores c k =
+    by_cond IsOrdered ignores
+    (λ _. ordered_like c _ k refl refl refl (λ h. h) (λ h. h) k.app k.inquiries k.polled) (λ _. k)
 
 pub ordered_rested : (c : Card) → IsOrdered c → IsOrdered (rested c)
 ordered_rested c k =
@@ -249,16 +260,11 @@ not_tran Rcv h = refl
 not_tran Prg h = refl
 not_tran Dis h = refl
 
-either_up : (s : State) → (is_in s Data || is_in s Rcv) ≡ true → (is_identified s ≡ true) × (is_in s Tran ≡ false)
-either_up Idle h = cc
-either_up Ready h = cc
-either_up Ident h = cc
-either_up Stby h = cc
-either_up Tran h = cc
-either_up Data h = (refl, refl)
-either_up Rcv h = (refl, refl)
-either_up Prg h = cc
-either_up Dis h = cc
+either_up : (s : State) → (is_in s Tran || (is_in s Data || is_in s Rcv)) ≡ true → is_identified s ≡ true
+either_up Tran h = refl
+either_up Data h = refl
+either_up Rcv h = refl
+either_up _ h = cc
 
 ordered_row : (choice : Choice) (command : Command) (c : Card) (index argument : ℕ) → is_legal command c ≡ true
     → (leaves_erase command ≡ false → c.erase ≡ NoAddress) → IsOrdered c
@@ -284,12 +290,13 @@ ordered_row choice SendExtCsd c index argument l none k =
     ordered_from c _ l k refl refl refl (none refl) (λ h. cc) refl k.inquiries k.polled
 ordered_row choice SendCsd c index argument l none k = ordered_done c k
 ordered_row choice StopTransmission c index argument l none k =
-    let up = (either_up c.state l).0 in
-    by_cond IsOrdered (is_in c.state Rcv)
+    let up = either_up c.state l in
+    first_by_cond IsOrdered (is_in c.state Tran && not choice.answers_stop) _ _ (λ _. ordered_refused c k)
+    (λ _. by_cond IsOrdered (is_in c.state Rcv)
     (λ h. ordered_up c _ k up refl refl refl (λ _. none refl) (λ _. refl) (λ _. refl) k.inquiries (omega arith))
     (λ h. by_cond IsOrdered choice.stays_busy
     (λ _. ordered_up c _ k up refl refl refl (λ _. none refl) (λ h. cc) (λ _. refl) k.inquiries (omega arith))
-    (λ _. ordered_up c _ k up refl refl refl (λ _. none refl) (λ h. cc) (λ _. refl) k.inquiries k.polled))
+    (λ _. ordered_up c _ k up refl refl refl (λ _. none refl) (λ h. cc) (λ _. refl) k.inquiries (omega arith))))
 ordered_row choice SendStatus c index argument l none k =
     first_by_cond IsOrdered (may_lag c && choice.is_behind) _ _
     (λ _. ordered_like c _ k refl refl refl (λ h. h) (λ h. h) (λ _. refl) k.inquiries (counted_below c.polled))
@@ -306,10 +313,10 @@ ordered_row choice ReadMultipleBlock c index argument l none k =
 ordered_row choice SetBlockCount c index argument l none k =
     ordered_like c _ k refl refl refl (λ h. h) (λ h. h) (λ _. refl) k.inquiries k.polled
 ordered_row choice WriteBlock c index argument l none k =
-    ordered_transferred 24 (transfer_errors true c argument) c _ k
+    ordered_transferred 24 (write_errors choice c argument) c _ k
     (ordered_from c _ l k refl refl refl (none refl) (λ h. cc) refl k.inquiries k.polled)
 ordered_row choice WriteMultipleBlock c index argument l none k =
-    ordered_transferred 25 (transfer_errors true c argument) c _ k
+    ordered_transferred 25 (write_errors choice c argument) c _ k
     (ordered_from c _ l k refl refl refl (none refl) (λ h. cc) refl k.inquiries k.polled)
 ordered_row choice EraseStart c index argument l none k =
     ordered_first index c argument c.erase (in_state c.state Tran l) k
@@ -330,24 +337,28 @@ ordered_row choice AppCmd c index argument l none k =
     (λ mmc. sd_alone c.made.kind (both (is_sd c.made.kind) _ l).0 mmc) k.inquiries k.polled
 ordered_row choice Unknown c index argument l none k = cc
 
-dropped_none : (c : Card) (held : Held) → c.erase ≡ held → (without_addresses c).erase ≡ NoAddress
-dropped_none c NoAddress e = rw e refl
-dropped_none c (First first) e = rw e refl
-dropped_none c (Both first last) e = rw e refl
+dropped_none : (quietly : Bool) (c : Card) (held : Held) → c.erase ≡ held → (without_addresses quietly c).erase ≡ NoAddress
+dropped_none true c NoAddress e = rw e refl
+dropped_none true c (First first) e = rw e refl
+dropped_none true c (Both first last) e = rw e refl
+dropped_none false c NoAddress e = rw e refl
+dropped_none false c (First first) e = rw e refl
+dropped_none false c (Both first last) e = rw e refl
 
-pub none_reached : (command : Command) (c : Card) → leaves_erase command ≡ false → (reached command c).erase ≡ NoAddress
-none_reached command c h =
+pub none_reached : (choice : Choice) (command : Command) (c : Card) → leaves_erase command ≡ false
+    → (reached choice command c).erase ≡ NoAddress
+none_reached choice command c h =
     by_cond (λ (d : Card). d.erase ≡ NoAddress) (leaves_erase command) (λ t. cc (h, t))
-    (λ _. dropped_none c c.erase refl)
+    (λ _. dropped_none choice.drops_quietly c c.erase refl)
 
 pub ordered_responded : (choice : Choice) (command : Command) (c : Card) (index argument : ℕ) → IsOrdered c
     → IsOrdered (responded choice command c index argument).0
 ordered_responded choice command c index argument k =
-    let now = ordered_reached command c k in
+    let now = ordered_reached choice command c k in
     after_response IsOrdered choice command c index argument k
-    (λ l. ordered_row choice command (reached command c) index argument (legal_reached command c ∙ l)
-    (none_reached command c) now)
-    (ordered_refused (reached command c) now)
+    (λ l. ordered_row choice command (reached choice command c) index argument (legal_reached choice command c ∙ l)
+    (none_reached choice command c) now)
+    (ordered_refused (reached choice command c) now)
 
 pub ordered_answered : (choice : Choice) (c : Card) (sent : Option (ℕ × ℕ)) → IsOrdered c
     → IsOrdered (answered choice c sent).0
@@ -368,15 +379,20 @@ ordered_accepted block c rcv k =
     ordered_up c _ k (identified_in c.state Rcv e refl) (identified_if (is_last c.left) Prg Rcv refl refl) refl refl
     (λ _. k.held (not_in c.state Rcv Tran e refl)) (λ _. refl) k.app k.inquiries (omega arith)
 
-pub ordered_rejected : (ignores : Bool) (c : Card) → is_in c.state Rcv ≡ true → IsOrdered c
-    → IsOrdered (rejected ignores c)
-ordered_rejected ignores c rcv k =
+ordered_over : (is_busy : Bool) (c : Card) → is_in c.state Rcv ≡ true → IsOrdered c → IsOrdered (over is_busy c)
+ordered_over is_busy c rcv k =
     let e = in_state c.state Rcv rcv in
-    by_cond IsOrdered ignores
-    (λ _. ordered_like c _ k refl refl refl (λ h. h) (λ h. h) k.app k.inquiries k.polled)
-    (λ _. by_cond IsOrdered c.is_single
+    by_cond IsOrdered is_busy
+    (λ _. ordered_up c _ k (identified_in c.state Rcv e refl) refl refl refl
+    (λ _. k.held (not_in c.state Rcv Tran e refl)) (λ _. refl) k.app k.inquiries (omega arith))
     (λ _. ordered_up c _ k (identified_in c.state Rcv e refl) refl refl refl (λ h. cc) (λ h. cc)
-    k.app k.inquiries k.polled) (λ _. k))
+    k.app k.inquiries k.polled)
+
+pub ordered_rejected : (ignores is_busy : Bool) (c : Card) → is_in c.state Rcv ≡ true → IsOrdered c
+    → IsOrdered (rejected ignores is_busy c)
+ordered_rejected ignores is_busy c rcv k =
+    by_cond IsOrdered ignores (λ _. ordered_ignoring true c k)
+    (λ _. by_cond IsOrdered c.is_single (λ _. ordered_over is_busy c rcv k) (λ _. k))
 
 quiet_if : (b : Bool) → is_in (if b then Tran else Data) Prg ≡ false
 quiet_if true = refl

@@ -8,8 +8,8 @@ use Rattle.mmc_card.specs.Rows.{answered, is_foreign, is_legal, reached, respond
 use Rattle.mmc_card.specs.declared.command.Command.{Command}
 
 pub after_response : (P : Card → Type 0) (choice : Choice) (command : Command) (c : Card) (index argument : ℕ) → P c
-    → (is_legal command c ≡ true → P (row choice command (reached command c) index argument).0)
-    → P (refused (reached command c)) → P (responded choice command c index argument).0
+    → (is_legal command c ≡ true → P (row choice command (reached choice command c) index argument).0)
+    → P (refused (reached choice command c)) → P (responded choice command c index argument).0
 after_response P choice command c index argument stays does refuses =
     first_by_cond P (is_foreign command c argument) _ _ (λ _. stays)
     (λ _. first_by_cond P (is_legal command c) _ _ does (λ _. refuses))

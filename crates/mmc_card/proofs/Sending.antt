@@ -2,14 +2,14 @@
 use Rattle.std.proofs.Common.{◌&&◌, ◌≡◌, ◌≤◌, Bool, arith, not, refl, true, ℕ, List, false}
 use Rattle.std.specs.Prelude.{◌==◌, None, Option, Some}
 use Rattle.mmc_frame.specs.declared.card_state.State.{State}
-use Rattle.mmc_frame.specs.declared.card_state.State.TheVariants.{Data, Prg, Rcv}
+use Rattle.mmc_frame.specs.declared.card_state.State.TheVariants.{Data, Prg, Rcv, Tran}
 use Rattle.mmc_frame.specs.Flips.{AreBytes}
 use Rattle.mmc_card.proofs.ByteLemmas.{ext_csd_bytes, refusal_bytes, reread_bytes}
 use Rattle.mmc_card.proofs.Conditions.{along, by_cond, first_by_cond}
 use Rattle.mmc_card.proofs.Responses.{after_answer, after_response}
 use Rattle.mmc_card.proofs.Narrow.{AreSwitched, may_switch}
 use Rattle.mmc_card.specs.CardAnswer.{Choice, garbled, left_with, raised, refused, reset, shown}
-use Rattle.mmc_card.specs.Blocks.{accepted, fallen_short, programmed, rejected, rested, sent_from, waited}
+use Rattle.mmc_card.specs.Blocks.{accepted, fallen_early, fallen_short, programmed, rejected, rested, sent_from, waited}
 use Rattle.mmc_card.specs.Card.{Both, Card, First, FromBytes, FromSectors, Held, NoAddress, SendsBytes, Source, is_in}
 use Rattle.mmc_card.specs.Made.{HasRegisters}
 use Rattle.mmc_card.specs.declared.command.Command.{Command}
@@ -21,8 +21,10 @@ use Rattle.mmc_card.specs.declared.command.Command.TheVariants.{WriteMultipleBlo
 use Rattle.mmc_card.specs.Rows.{answered, leaves_erase, reached, responded, row}
 use Rattle.mmc_card.specs.RowsErase.{erase_held, hold_first, hold_last, holds_address, is_no_range}
 use Rattle.mmc_card.specs.RowsIdentify.{inquired, is_served, may_lag}
-use Rattle.mmc_card.specs.RowsSwitch.{ext_csd_now, is_to_speed_up, switch_row, switch_source}
-use Rattle.mmc_card.specs.RowsTransfer.{begun, preset, transfer_errors, transferred}
+use Rattle.mmc_card.specs.RowsSwitch.{ext_csd_now, is_read_of_status, is_to_speed_up, switch_row, switch_source}
+use Rattle.mmc_card.specs.RowsTransfer.{begun, preset, transfer_errors, transferred, write_errors}
+use Rattle.mmc_card.specs.Blocks.{ignoring}
+use Rattle.mmc_card.specs.RowsSwitch.{is_read}
 
 pub record IsSending (card : Card) : Type 0 where
   pub registers : HasRegisters card.made
@@ -62,10 +64,12 @@ sending_garbled keeps c k = sending_like c _ k refl refl refl
 pub sending_raised : (bits : ℕ) (c : Card) → IsSending c → IsSending (raised bits c)
 sending_raised bits c k = sending_like c _ k refl refl refl
 
-pub sending_reached : (command : Command) (c : Card) → IsSending c → IsSending (reached command c)
-sending_reached command c k =
+pub sending_reached : (choice : Choice) (command : Command) (c : Card) → IsSending c → IsSending (reached choice command c)
+sending_reached choice command c k =
     by_cond IsSending (leaves_erase command) (λ _. k)
-    (λ _. by_cond IsSending (holds_address c.erase) (λ _. sending_like c _ k refl refl refl) (λ _. k))
+    (λ _. by_cond IsSending (holds_address c.erase)
+    (λ _. by_cond IsSending choice.drops_quietly (λ _. sending_like c _ k refl refl refl) (λ _. sending_like c _ k refl refl refl))
+    (λ _. k))
 
 pub sending_reset : (lands : ℕ → Bool) (keeps_length : Bool) (c : Card) → IsSending c
     → IsSending (reset lands keeps_length c)
@@ -76,6 +80,12 @@ sending_programmed lands c k = sending_like c _ k refl refl refl
 
 pub sending_fallen_short : (lands : ℕ → Bool) (c : Card) → IsSending c → IsSending (fallen_short lands c)
 sending_fallen_short lands c k = sending_like c _ k refl refl refl
+
+pub sending_fallen_early : (lands : ℕ → Bool) (c : Card) → IsSending c → IsSending (fallen_early lands c)
+sending_fallen_early lands c k = sending_like c _ k refl refl refl
+
+pub sending_ignoring : (ignores : Bool) (c : Card) → IsSending c → IsSending (ignoring ignores c)
+sending_ignoring ignores c k = by_cond IsSending ignores (λ _. sending_like c _ k refl refl refl) (λ _. k)
 
 pub sending_rested : (c : Card) → IsSending c → IsSending (rested c)
 sending_rested c k =
@@ -133,7 +143,7 @@ switch_source_bytes : (choice : Choice) (c : Card) (argument : ℕ) → AreBytes
     → SendsBytes (switch_source choice c argument)
 switch_source_bytes choice c argument bytes =
     by_cond SendsBytes (is_to_speed_up c argument && choice.refuses_speed)
-    (λ _. refusal_bytes choice.selects_none c.made.switch_status bytes) (λ _. bytes)
+    (λ _. reread_bytes is_read_of_status choice.unread _ (refusal_bytes choice.selects_none c.made.switch_status bytes)) (λ _. bytes)
 
 sending_row : (choice : Choice) (command : Command) (c : Card) (index argument : ℕ) → IsSending c
     → IsSending (row choice command c index argument).0
@@ -142,11 +152,12 @@ sending_row choice SendOpCond c index argument k = sending_inquired (not choice.
 sending_row choice SdSendOpCond c index argument k =
     sending_inquired (is_served c argument && not choice.is_slow) c k
 sending_row choice StopTransmission c index argument k =
-    by_cond IsSending (is_in c.state Rcv) (λ _. sending_like c _ k refl refl refl)
-    (λ _. by_cond IsSending choice.stays_busy (λ _. sending_from c _ k refl refl tt) (λ _. sending_from c _ k refl refl tt))
+    first_by_cond IsSending (is_in c.state Tran && not choice.answers_stop) _ _ (λ _. sending_refused c k)
+    (λ _. by_cond IsSending (is_in c.state Rcv) (λ _. sending_like c _ k refl refl refl)
+    (λ _. by_cond IsSending choice.stays_busy (λ _. sending_from c _ k refl refl tt) (λ _. sending_from c _ k refl refl tt)))
 sending_row choice SendExtCsd c index argument k =
     sending_from c _ k refl refl
-    (reread_bytes choice.unread (ext_csd_now c) (ext_csd_bytes c k.erase_group_def k.registers.ext_csd_bytes))
+    (reread_bytes is_read choice.unread (ext_csd_now c) (ext_csd_bytes c k.erase_group_def k.registers.ext_csd_bytes))
 sending_row choice SetBlocklen c index argument k =
     first_by_cond IsSending (argument == 512) _ _ (λ _. sending_like c _ k refl refl refl) (λ _. sending_shown c k)
 sending_row choice SendStatus c index argument k =
@@ -157,9 +168,9 @@ sending_row choice ReadSingleBlock c index argument k =
 sending_row choice ReadMultipleBlock c index argument k =
     sending_transferred 18 (transfer_errors false c argument) c _ k (sending_begun Data false (preset c) c argument k)
 sending_row choice WriteBlock c index argument k =
-    sending_transferred 24 (transfer_errors true c argument) c _ k (sending_begun Rcv true (Some 1) c argument k)
+    sending_transferred 24 (write_errors choice c argument) c _ k (sending_begun Rcv true (Some 1) c argument k)
 sending_row choice WriteMultipleBlock c index argument k =
-    sending_transferred 25 (transfer_errors true c argument) c _ k (sending_begun Rcv false (preset c) c argument k)
+    sending_transferred 25 (write_errors choice c argument) c _ k (sending_begun Rcv false (preset c) c argument k)
 sending_row choice EraseStart c index argument k = sending_first index c argument c.erase k
 sending_row choice EraseEnd c index argument k = sending_last index c argument c.erase k
 sending_row choice Erase c index argument k = sending_erase c argument c.erase k
@@ -173,9 +184,9 @@ sending_row choice _ c index argument k = sending_like c _ k refl refl refl
 sending_responded : (choice : Choice) (command : Command) (c : Card) (index argument : ℕ) → IsSending c
     → IsSending (responded choice command c index argument).0
 sending_responded choice command c index argument k =
-    let now = sending_reached command c k in
+    let now = sending_reached choice command c k in
     after_response IsSending choice command c index argument k
-    (λ _. sending_row choice command (reached command c) index argument now) (sending_refused (reached command c) now)
+    (λ _. sending_row choice command (reached choice command c) index argument now) (sending_refused (reached choice command c) now)
 
 pub sending_answered : (choice : Choice) (c : Card) (sent : Option (ℕ × ℕ)) → IsSending c
     → IsSending (answered choice c sent).0
@@ -188,10 +199,11 @@ sending_answered choice c sent k =
 pub sending_accepted : (block : List ℕ) (c : Card) → IsSending c → IsSending (accepted block c)
 sending_accepted block c k = sending_like c _ k refl refl refl
 
-pub sending_rejected : (ignores : Bool) (c : Card) → IsSending c → IsSending (rejected ignores c)
-sending_rejected ignores c k =
+pub sending_rejected : (ignores is_busy : Bool) (c : Card) → IsSending c → IsSending (rejected ignores is_busy c)
+sending_rejected ignores is_busy c k =
     by_cond IsSending ignores (λ _. sending_like c _ k refl refl refl)
-    (λ _. by_cond IsSending c.is_single (λ _. sending_like c _ k refl refl refl) (λ _. k))
+    (λ _. by_cond IsSending c.is_single
+    (λ _. by_cond IsSending is_busy (λ _. sending_like c _ k refl refl refl) (λ _. sending_like c _ k refl refl refl)) (λ _. k))
 
 pub sending_sent_from : (source : Source) (choice : Choice) (c : Card) → IsSending c
     → IsSending (sent_from source choice c)

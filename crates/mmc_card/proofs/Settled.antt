@@ -14,8 +14,8 @@ use Rattle.mmc_card.proofs.Responses.{after_answer, after_response}
 use Rattle.mmc_card.proofs.Landing.{landed_size, snoc_length}
 use Rattle.mmc_card.proofs.Narrow.{AreSwitched, both, may_switch}
 use Rattle.mmc_card.specs.CardAnswer.{Choice, done, garbled, left_with, raised, refused, reset, shown}
-use Rattle.mmc_card.specs.Blocks.{accepted, awaits, can_accept, fallen_short, is_last, next_written, lines_fit}
-use Rattle.mmc_card.specs.Blocks.{programmed, rejected, rested, sent_from, waited}
+use Rattle.mmc_card.specs.Blocks.{accepted, awaits, can_accept, fallen_short, is_last, lines_fit, next_written, over}
+use Rattle.mmc_card.specs.Blocks.{fallen_early, ignoring, programmed, rejected, rested, sent_from, waited}
 use Rattle.mmc_card.specs.Card.{Both, Card, First, FitsPart, FromBytes, FromSectors, Held, NoAddress, Source, is_in}
 use Rattle.mmc_card.specs.Card.{stored}
 use Rattle.mmc_card.specs.Made.{is_mmc, sector_at}
@@ -32,7 +32,7 @@ use Rattle.mmc_card.specs.RowsErase.{erase_held, erased_from, erased_to, forgott
 use Rattle.mmc_card.specs.RowsErase.{holds_address, is_boot, is_no_range, is_trim}
 use Rattle.mmc_card.specs.RowsIdentify.{inquired, is_served, may_lag}
 use Rattle.mmc_card.specs.RowsSwitch.{switch_row, switched}
-use Rattle.mmc_card.specs.RowsTransfer.{begun, preset, transfer_errors, transferred}
+use Rattle.mmc_card.specs.RowsTransfer.{begun, preset, transfer_errors, transferred, write_errors}
 
 pub record IsSettled (card : Card) : Type 0 where
   pub fits : FitsPart card
@@ -87,10 +87,12 @@ settled_garbled keeps c k = settled_like c _ k refl k.fits refl refl refl
 pub settled_raised : (bits : ℕ) (c : Card) → IsSettled c → IsSettled (raised bits c)
 settled_raised bits c k = settled_like c _ k refl k.fits refl refl refl
 
-pub settled_reached : (command : Command) (c : Card) → IsSettled c → IsSettled (reached command c)
-settled_reached command c k =
+pub settled_reached : (choice : Choice) (command : Command) (c : Card) → IsSettled c → IsSettled (reached choice command c)
+settled_reached choice command c k =
     by_cond IsSettled (leaves_erase command) (λ _. k)
-    (λ _. by_cond IsSettled (holds_address c.erase) (λ _. settled_like c _ k refl k.fits refl refl refl) (λ _. k))
+    (λ _. by_cond IsSettled (holds_address c.erase)
+    (λ _. by_cond IsSettled choice.drops_quietly (λ _. settled_like c _ k refl k.fits refl refl refl)
+    (λ _. settled_like c _ k refl k.fits refl refl refl)) (λ _. k))
 
 pub settled_reset : (lands : ℕ → Bool) (keeps_length : Bool) (c : Card) → IsSettled (reset lands keeps_length c)
 settled_reset lands keeps_length c =
@@ -109,6 +111,18 @@ settled_fallen_short lands c k = record {
   switches = λ h w. refl;
   source = k.source;
 }
+
+pub settled_fallen_early : (lands : ℕ → Bool) (c : Card) → IsSettled c → IsSettled (fallen_early lands c)
+settled_fallen_early lands c k = record {
+  fits = fits_none (fallen_early lands c) refl;
+  receives = k.receives;
+  switches = λ h w. refl;
+  source = k.source;
+}
+
+pub settled_ignoring : (ignores : Bool) (c : Card) → IsSettled c → IsSettled (ignoring ignores c)
+settled_ignoring ignores c k =
+    by_cond IsSettled ignores (λ _. settled_like c _ k refl k.fits refl refl refl) (λ _. k)
 
 pub settled_rested : (c : Card) → IsSettled c → IsSettled (rested c)
 settled_rested c k =
@@ -249,7 +263,8 @@ settled_row choice SendIfCond c index argument l k = settled_like c _ k refl k.f
 settled_row choice SendExtCsd c index argument l k = settled_rest _ Data refl refl refl k.fits (λ h. cc)
 settled_row choice SendCsd c index argument l k = settled_done c k
 settled_row choice StopTransmission c index argument l k =
-    by_cond IsSettled (is_in c.state Rcv)
+    first_by_cond IsSettled (is_in c.state Tran && not choice.answers_stop) _ _ (λ _. settled_refused c k)
+    (λ _. by_cond IsSettled (is_in c.state Rcv)
     (λ rcv. record {
       fits = k.fits;
       receives = λ h. cc;
@@ -257,7 +272,7 @@ settled_row choice StopTransmission c index argument l k =
       source = λ h. source_at c Rcv k (in_state c.state Rcv rcv) refl;
     })
     (λ _. by_cond IsSettled choice.stays_busy (λ _. settled_rest _ Tran refl refl refl k.fits (λ _. refl))
-    (λ _. settled_rest _ Tran refl refl refl k.fits (λ _. refl)))
+    (λ _. settled_rest _ Tran refl refl refl k.fits (λ _. refl))))
 settled_row choice SendStatus c index argument l k =
     first_by_cond IsSettled (may_lag c && choice.is_behind) _ _
     (λ _. settled_like c _ k refl k.fits refl refl refl) (λ _. settled_shown c k)
@@ -270,9 +285,9 @@ settled_row choice ReadMultipleBlock c index argument l k =
     settled_transferred 18 (transfer_errors false c argument) c _ k (settled_begun Data false (preset c) c argument)
 settled_row choice SetBlockCount c index argument l k = settled_like c _ k refl k.fits refl refl refl
 settled_row choice WriteBlock c index argument l k =
-    settled_transferred 24 (transfer_errors true c argument) c _ k (settled_begun Rcv true (Some 1) c argument)
+    settled_transferred 24 (write_errors choice c argument) c _ k (settled_begun Rcv true (Some 1) c argument)
 settled_row choice WriteMultipleBlock c index argument l k =
-    settled_transferred 25 (transfer_errors true c argument) c _ k (settled_begun Rcv false (preset c) c argument)
+    settled_transferred 25 (write_errors choice c argument) c _ k (settled_begun Rcv false (preset c) c argument)
 settled_row choice EraseStart c index argument l k = settled_first index c argument c.erase k
 settled_row choice EraseEnd c index argument l k = settled_last index c argument c.erase k
 settled_row choice Erase c index argument l k = settled_erase c argument c.erase l k
@@ -287,10 +302,10 @@ settled_row choice Unknown c index argument l k = cc
 settled_responded : (choice : Choice) (command : Command) (c : Card) (index argument : ℕ) → IsSettled c
     → IsSettled (responded choice command c index argument).0
 settled_responded choice command c index argument k =
-    let now = settled_reached command c k in
+    let now = settled_reached choice command c k in
     after_response IsSettled choice command c index argument k
-    (λ l. settled_row choice command (reached command c) index argument (legal_reached command c ∙ l) now)
-    (settled_refused (reached command c) now)
+    (λ l. settled_row choice command (reached choice command c) index argument (legal_reached choice command c ∙ l) now)
+    (settled_refused (reached choice command c) now)
 
 pub settled_answered : (choice : Choice) (c : Card) (sent : Option (ℕ × ℕ)) → IsSettled c
     → IsSettled (answered choice c sent).0
@@ -336,13 +351,23 @@ settled_accepted block lines c accepts k =
       source = λ h. source_at c Rcv k (in_state c.state Rcv rcv) refl;
     }
 
-pub settled_rejected : (ignores : Bool) (c : Card) → is_in c.state Rcv ≡ true → IsSettled c
-    → IsSettled (rejected ignores c)
-settled_rejected ignores c rcv k =
-    by_cond IsSettled ignores (λ _. settled_like c _ k refl k.fits refl refl refl)
-    (λ _. by_cond IsSettled c.is_single
+settled_over : (is_busy : Bool) (c : Card) → is_in c.state Rcv ≡ true → IsSettled c → IsSettled (over is_busy c)
+settled_over is_busy c rcv k =
+    by_cond IsSettled is_busy
+    (λ _. record {
+      fits = λ some. absurd (omega (arith, some));
+      receives = λ h. cc;
+      switches = λ h w. refl;
+      source = λ h. source_at c Rcv k (in_state c.state Rcv rcv) refl;
+    })
     (λ _. settled_rest _ Tran refl refl refl (λ some. absurd (omega (arith, some)))
-    (λ _. source_at c Rcv k (in_state c.state Rcv rcv) refl)) (λ _. k))
+    (λ _. source_at c Rcv k (in_state c.state Rcv rcv) refl))
+
+pub settled_rejected : (ignores is_busy : Bool) (c : Card) → is_in c.state Rcv ≡ true → IsSettled c
+    → IsSettled (rejected ignores is_busy c)
+settled_rejected ignores is_busy c rcv k =
+    by_cond IsSettled ignores (λ _. settled_ignoring true c k)
+    (λ _. by_cond IsSettled c.is_single (λ _. settled_over is_busy c rcv k) (λ _. k))
 
 settled_sent : (b : Bool) (d : Card) → d.state ≡ (if b then Tran else Data) → FitsPart d → d.source ≡ FromSectors
     → IsSettled d

@@ -1,5 +1,5 @@
 -- The steps of a run leave a card selected as it was, or as after CMD0.
-use Rattle.std.proofs.Common.{◌||◌, ◌∙◌, ◌≡◌, ◌⊎◌, Bool, List, ap, false, inl, inr, refl, sym, true, ℕ}
+use Rattle.std.proofs.Common.{Bool, List, ℕ, ◌||◌, ◌∙◌, ◌≡◌, ap, false, not, refl, sym, true}
 use Rattle.std.specs.Prelude.{◌&&◌, ◌==◌, None, Option, Some}
 use Rattle.mmc_frame.specs.Frame.{command_in}
 use Rattle.mmc_frame.specs.declared.card_state.State.{State}
@@ -30,9 +30,10 @@ use Rattle.mmc_card.specs.declared.command.Command.TheVariants.{WriteMultipleBlo
 use Rattle.mmc_card.specs.Rows.{answered, command_of, is_legal, leaves_erase, reached, responded, row}
 use Rattle.mmc_card.specs.RowsErase.{erase_held, forgotten, hold_first, hold_last, holds_address, is_no_range}
 use Rattle.mmc_card.specs.RowsIdentify.{may_lag}
-use Rattle.mmc_card.specs.RowsTransfer.{begun, preset, transfer_errors, transferred}
+use Rattle.mmc_card.specs.RowsTransfer.{begun, preset, transfer_errors, transferred, write_errors}
 use Rattle.mmc_card.specs.Sectors.{Sector}
 use Rattle.mmc_card.specs.BusView.{BusView}
+use Rattle.mmc_card.specs.Blocks.{fallen_early, ignoring}
 
 -- Makers.
 
@@ -131,19 +132,22 @@ stands_garbled s keeps c h =
     (λ b. by_cond (λ n. n ≡ 0) keeps (λ _. b) (λ _. refl)) (λ b. b) (λ b. b) refl (λ b. b) refl)
     h
 
-stands_raised : (s : Setting) (bits : ℕ) (c : Card) → Stands s c → Stands s (raised bits c)
+pub stands_raised : (s : Setting) (bits : ℕ) (c : Card) → Stands s c → Stands s (raised bits c)
 stands_raised s bits c h =
     stands_like s c (raised bits c) refl refl refl
     (reset_like c (raised bits c) refl refl refl (λ b. b) (λ b. b) (λ b. b) (λ b. b) refl (λ b. b) refl) h
 
-pub stands_reached : (s : Setting) (command : Command) (c : Card) → Stands s c → Stands s (reached command c)
-stands_reached s command c h =
+pub stands_reached : (s : Setting) (choice : Choice) (command : Command) (c : Card) → Stands s c → Stands s (reached choice command c)
+stands_reached s choice command c h =
     by_cond (Stands s) (leaves_erase command) (λ _. h)
     (λ _. by_cond (Stands s) (holds_address c.erase)
+    (λ _. by_cond (Stands s) choice.drops_quietly
+    (λ _. stands_like s c (forgotten c) refl refl refl
+    (reset_like c (forgotten c) refl refl refl (λ b. b) (λ b. b) (λ b. refl) (λ b. b) refl (λ b. b) refl) h)
     (λ _. stands_like s c (raised erase_reset (forgotten c)) refl refl refl
     (reset_like c (raised erase_reset (forgotten c)) refl refl refl (λ b. b) (λ b. b) (λ b. refl) (λ b. b)
     refl (λ b. b) refl)
-    h)
+    h))
     (λ _. h))
 
 -- Rows.
@@ -192,23 +196,22 @@ stands_erase s c argument (Both first last) tran h =
     first_by_cond (Stands s) (is_no_range c first last) _ _ (λ _. stands_forgotten s c h)
     (λ _. stands_quiet s c _ refl refl (up_in c Tran tran refl) refl h)
 
-either : (a b : Bool) → (a || b) ≡ true → (a ≡ true) ⊎ (b ≡ true)
-either true b h = inl refl
-either false b h = inr h
+pub stoppable_is_selected : (s : State) → (is_in s Tran || (is_in s Data || is_in s Rcv)) ≡ true → is_selected s ≡ true
+stoppable_is_selected Tran h = refl
+stoppable_is_selected Data h = refl
+stoppable_is_selected Rcv h = refl
+stoppable_is_selected _ h = cc
 
 stands_row : (s : Setting) (choice : Choice) (command : Command) (c : Card) (index argument : ℕ)
     → is_of_run command ≡ true → is_legal command c ≡ true → Stands s c
     → Stands s (row choice command c index argument).0
 stands_row s choice StopTransmission c index argument o l h =
-    let u : is_selected c.state ≡ true =
-    elim (either (is_in c.state Data) (is_in c.state Rcv) l) [
-      | inl d ↦ up_in c Data d refl
-      | inr r ↦ up_in c Rcv r refl
-    ] in
-    by_cond (Stands s) (is_in c.state Rcv)
+    let u = stoppable_is_selected c.state l in
+    first_by_cond (Stands s) (is_in c.state Tran && not choice.answers_stop) _ _ (λ _. stands_refused s c h)
+    (λ _. by_cond (Stands s) (is_in c.state Rcv)
     (λ _. stands_quiet s c _ refl refl u refl h)
     (λ _. by_cond (Stands s) choice.stays_busy (λ _. stands_quiet s c _ refl refl u refl h)
-    (λ _. stands_quiet s c _ refl refl u refl h))
+    (λ _. stands_quiet s c _ refl refl u refl h)))
 stands_row s choice SendStatus c index argument o l h =
     first_by_cond (Stands s) (may_lag c && choice.is_behind) _ _
     (λ lag.
@@ -224,10 +227,10 @@ stands_row s choice ReadMultipleBlock c index argument o l h =
     stands_transferred s 18 (transfer_errors false c argument) c _ h
     (stands_begun s Data false (preset c) c argument refl l h)
 stands_row s choice WriteBlock c index argument o l h =
-    stands_transferred s 24 (transfer_errors true c argument) c _ h
+    stands_transferred s 24 (write_errors choice c argument) c _ h
     (stands_begun s Rcv true (Some 1) c argument refl l h)
 stands_row s choice WriteMultipleBlock c index argument o l h =
-    stands_transferred s 25 (transfer_errors true c argument) c _ h
+    stands_transferred s 25 (write_errors choice c argument) c _ h
     (stands_begun s Rcv false (preset c) c argument refl l h)
 stands_row s choice EraseStart c index argument o l h = stands_first s index c argument c.erase l h
 stands_row s choice EraseEnd c index argument o l h = stands_last s index c argument c.erase l h
@@ -238,10 +241,10 @@ stands_row s choice _ c index argument o l h = cc
 stands_responded : (s : Setting) (choice : Choice) (command : Command) (c : Card) (index argument : ℕ)
     → is_of_run command ≡ true → Stands s c → Stands s (responded choice command c index argument).0
 stands_responded s choice command c index argument o h =
-    let now = stands_reached s command c h in
+    let now = stands_reached s choice command c h in
     after_response (Stands s) choice command c index argument h
-    (λ l. stands_row s choice command (reached command c) index argument o (legal_reached command c ∙ l) now)
-    (stands_refused s (reached command c) now)
+    (λ l. stands_row s choice command (reached choice command c) index argument o (legal_reached choice command c ∙ l) now)
+    (stands_refused s (reached choice command c) now)
 
 stands_answered : (s : Setting) (choice : Choice) (c : Card) (sent : Option (ℕ × ℕ)) → is_frame_of_run c sent ≡ true
     → Stands s c → Stands s (answered choice c sent).0
@@ -261,6 +264,19 @@ stands_fallen_short s lands c rcv h =
     let up = up_in c Rcv rcv refl in
     stands_quiet s c _ up (ap (λ x. is_in x Data) (in_state c.state Rcv rcv)) up refl h
 
+stands_fallen_early : (s : Setting) (lands : ℕ → Bool) (c : Card) → is_in c.state Prg ≡ true → Stands s c
+    → Stands s (fallen_early lands c)
+stands_fallen_early s lands c prg h =
+    let up = up_in c Prg prg refl in
+    stands_quiet s c _ up (ap (λ x. is_in x Data) (in_state c.state Prg prg)) up refl h
+
+stands_ignoring : (s : Setting) (ignores : Bool) (c : Card) → Stands s c → Stands s (ignoring ignores c)
+stands_ignoring s ignores c h =
+    by_cond (Stands s) ignores
+    (λ _. stands_like s c _ refl refl refl
+    (reset_like c _ refl refl refl (λ b. b) (λ b. b) (λ b. b) (λ b. b) refl (λ b. b) refl) h)
+    (λ _. h)
+
 stands_rested : (s : Setting) (c : Card) → Stands s c → Stands s (rested c)
 stands_rested s c h =
     by_cond (Stands s) (is_in c.state Prg)
@@ -277,12 +293,14 @@ stands_accepted s block c rcv h =
     stands_quiet s c _ (up_if (is_last c.left) Prg Rcv refl refl)
     (by_cond (λ t. is_in t Data ≡ false) (is_last c.left) (λ _. refl) (λ _. refl)) (up_in c Rcv rcv refl) refl h
 
-stands_rejected : (s : Setting) (ignores : Bool) (c : Card) → is_in c.state Rcv ≡ true → Stands s c
-    → Stands s (rejected ignores c)
-stands_rejected s ignores c rcv h =
-    by_cond (Stands s) ignores
-    (λ _. stands_like s c _ refl refl refl (λ a. cc (ap (λ x. is_in x Rcv) a.state, rcv)) h)
-    (λ _. by_cond (Stands s) c.is_single (λ _. stands_quiet s c _ refl refl (up_in c Rcv rcv refl) refl h) (λ _. h))
+stands_rejected : (s : Setting) (ignores is_busy : Bool) (c : Card) → is_in c.state Rcv ≡ true → Stands s c
+    → Stands s (rejected ignores is_busy c)
+stands_rejected s ignores is_busy c rcv h =
+    let up = up_in c Rcv rcv refl in
+    by_cond (Stands s) ignores (λ _. stands_ignoring s true c h)
+    (λ _. by_cond (Stands s) c.is_single
+    (λ _. by_cond (Stands s) is_busy (λ _. stands_quiet s c _ refl refl up refl h) (λ _. stands_quiet s c _ refl refl up refl h))
+    (λ _. h))
 
 stands_sent_from : (s : Setting) (source : Source) (choice : Choice) (c : Card) → is_in c.state Data ≡ true
     → timing_once_sent source c.timing ≡ s.timing → Stands s c → Stands s (sent_from source choice c)
@@ -303,14 +321,14 @@ command_stands old frame reply new o step s h =
     after_command (Stands s) old frame reply new h
     (λ choice. stands_answered s choice old.card (command_in frame) o h)
     (λ choice bits _. stands_answered s choice (left_with bits old.card) (command_in frame) o (stands_left s bits old.card h))
-    (λ keeps. stands_garbled s keeps old.card h)
+    (λ keeps. stands_garbled s keeps old.card h) (λ bits card _ k. stands_raised s bits card k)
     (λ lands keeps card _. stands_reset s lands keeps card) step
 
 pub poll_stands : (old : BusView) (said : Bool) (new : BusView) → PollStep old said new → StillStands old.card new.card
 poll_stands old said new step s h =
     after_poll (Stands s) old said new h (stands_rested s old.card h) (λ busy. stands_slow s old.card busy h)
-    (λ lands prg. stands_programmed s lands old.card prg h)
-    (λ lands rcv. stands_fallen_short s lands old.card rcv h) (λ bits card _ k. stands_raised s bits card k)
+    (λ lands prg. stands_programmed s lands old.card prg h) (λ lands prg. stands_fallen_early s lands old.card prg h)
+    (λ lands rcv. stands_fallen_short s lands old.card rcv h) (λ ignores card k. stands_ignoring s ignores card k) (λ bits card _ k. stands_raised s bits card k)
     (λ lands keeps card _. stands_reset s lands keeps card) step
 
 pub write_stands : (old : BusView) (block : Sector) (got : DataOut) (new : BusView) → WriteStep old block got new
@@ -319,9 +337,10 @@ write_stands old block got new step s h =
     let rcv = accepts_in_rcv old.lines old.card in
     after_write (Stands s) old block got new h
     (λ accepts. stands_accepted s block old.card (rcv accepts) h)
-    (λ ignores accepts. stands_rejected s ignores old.card (rcv accepts) h)
+    (λ ignores is_busy accepts. stands_rejected s ignores is_busy old.card (rcv accepts) h)
     (λ lands accepts. stands_accepted s block _ (rcv accepts) (stands_fallen_short s lands old.card (rcv accepts) h))
-    (λ lands accepts. stands_rejected s true _ (rcv accepts) (stands_fallen_short s lands old.card (rcv accepts) h))
+    (λ lands accepts. stands_rejected s true false _ (rcv accepts) (stands_fallen_short s lands old.card (rcv accepts) h))
+    (λ ignores card k. stands_ignoring s ignores card k)
     (λ bits card _ k. stands_raised s bits card k)
     (λ lands keeps card _. stands_reset s lands keeps card) step
 

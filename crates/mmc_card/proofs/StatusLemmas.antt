@@ -1,5 +1,5 @@
 -- What a status says of its card.
-use Rattle.std.proofs.Common.{◌*◌, ◌+◌, ◌<◌, ◌∙◌, ◌≡◌, ◌≤◌, ◌⊎◌, ◌↔◌, ◌^◌, Bool, ap, arith, bit_or, false, inl, inr, refl, sym, true}
+use Rattle.std.proofs.Common.{◌*◌, ◌+◌, ◌<◌, ◌∙◌, ◌≡◌, ◌≤◌, ◌↔◌, ◌^◌, Bool, ap, arith, bit_or, false, refl, sym, true}
 use Rattle.std.proofs.Common.{ℕ}
 use Rattle.std.specs.Prelude.{◌%◌, ◌-◌, ◌&&◌, ◌/◌, ◌==◌, if◌then◌else◌, not}
 use Rattle.std.specs.Int.{bit_at}
@@ -13,11 +13,12 @@ use Rattle.mmc_frame.specs.declared.card_state.State.TheVariants.{Data, Dis, Ide
 use Rattle.mmc_frame.specs.declared.kind.Kind.{Kind}
 use Rattle.mmc_frame.specs.declared.kind.Kind.TheVariants.{Mmc, Sd}
 use Rattle.mmc_card.proofs.Cards.{among_more, in_state}
+use Rattle.mmc_card.proofs.Conditions.{along, by_cond}
 use Rattle.mmc_card.specs.CardAnswer.{Choice, bit, status}
 use Rattle.mmc_card.specs.Card.{AreAmong, Card, IsCard}
 use Rattle.mmc_card.specs.ErrorBits.{card_is_locked, command_error_bits, error_bits as held_bits, out_of_range}
 use Rattle.mmc_card.specs.Judged.{whole_status}
-use Rattle.mmc_card.specs.RowsIdentify.{at_work}
+use Rattle.mmc_card.specs.RowsIdentify.{at_work, leads_to_tran}
 use Rattle.mmc_card.specs.CardLaws.{HasNoError, HasNoErrorOfItsOwn, IsInOrder}
 
 -- Bits.
@@ -275,33 +276,39 @@ clean_status kind app c k =
 
 -- The status of a card that lags behind its programming.
 
-works_by : (prg ready : Bool) → let s = if prg then Prg else Tran in
-    (state_number s ≡ state_number Prg) ⊎ ((state_number s ≡ state_number Tran) × (bit (not (not (prg && ready))) ≡ 0))
-works_by true ready = inl refl
-works_by false ready = inr (refl, refl)
+works_by : (shows : State) (ready : Bool) → let s = if leads_to_tran shows then shows else Tran in
+    (state_number Stby ≤ state_number s) × (state_number s ≤ state_number Prg)
+    × (state_number s ≡ state_number Tran → bit (not (not (leads_to_tran shows && ready))) ≡ 0)
+works_by Stby ready = (omega arith, omega arith, λ tran. cc)
+works_by Data ready = (omega arith, omega arith, λ tran. cc)
+works_by Rcv ready = (omega arith, omega arith, λ tran. cc)
+works_by Prg ready = (omega arith, omega arith, λ tran. cc)
+works_by Idle ready = (omega arith, omega arith, λ tran. refl)
+works_by Ready ready = (omega arith, omega arith, λ tran. refl)
+works_by Ident ready = (omega arith, omega arith, λ tran. refl)
+works_by Tran ready = (omega arith, omega arith, λ tran. refl)
+works_by Dis ready = (omega arith, omega arith, λ tran. refl)
 
-not_clean_by : (prg ready : Bool) → let s = if prg then Prg else Tran in
-    state_number s ≡ state_number Tran → bit (not (not (prg && ready))) ≡ 1 → ⊥
-not_clean_by true ready tran r = cc
-not_clean_by false ready tran r = cc
+-- it shows no other errors than the card's
+seen_errors : (choice : Choice) (c : Card) → AreAmong c.errors held_bits → AreAmong (at_work choice c).errors held_bits
+seen_errors choice c among = by_cond (λ n. AreAmong n held_bits) choice.tells_late (λ _. refl) (λ _. among)
 
 pub lagging_status : (kind : Kind) (choice : Choice) (card : Card) → IsCard card
-    → (IsAtWork kind (own_status (status false (at_work choice card))) ↔ HasNoErrorOfItsOwn kind card)
+    → (IsAtWork kind (own_status (status false (at_work choice card))) ↔ HasNoErrorOfItsOwn kind (at_work choice card))
 lagging_status kind choice c k =
     let seen = at_work choice c in
-    let holds : HoldsErrors seen = (k.command_errors, k.errors) in
+    let holds : HoldsErrors seen = (k.command_errors, seen_errors choice c k.errors) in
     let own = own_parts false seen holds in
     let errors = own_errors kind false seen holds in
     let state = ap (field 12 9) own ∙ status_state false (without_errors seen) in
-    let ready = ap (field 8 8) own ∙ status_ready false (without_errors seen) in (
-      λ h. (let none = errors.0 h.no_error in
-          record { errors = none.errors; switch_error = none.switch_error }),
+    let ready = ap (field 8 8) own ∙ status_ready false (without_errors seen) in
+    let works = works_by choice.shows choice.shows_ready in (
+      λ h. errors.0 h.no_error,
       λ h. record {
-        no_error = errors.1 (record { errors = h.errors; switch_error = h.switch_error });
-        works = elim (works_by choice.shows_prg choice.shows_ready) [
-          | inl prg ↦ inl (state ∙ prg)
-          | inr tran ↦ inr (state ∙ tran.0, ready ∙ tran.1)
-        ];
+        no_error = errors.1 h;
+        from_stby = along (λ n. state_number Stby ≤ n) state works.0;
+        to_prg = along (λ n. n ≤ state_number Prg) state works.1;
+        unready = λ tran. ready ∙ works.2 (sym state ∙ tran);
       },
     )
 
@@ -309,7 +316,7 @@ pub lagging_is_not_clean : (kind : Kind) (choice : Choice) (card : Card) → IsC
     → IsClean kind (own_status (status false (at_work choice card))) → ⊥
 lagging_is_not_clean kind choice c k h =
     let seen = at_work choice c in
-    let own = own_parts false seen (k.command_errors, k.errors) in
-    not_clean_by choice.shows_prg choice.shows_ready
-    (sym (ap (field 12 9) own ∙ status_state false (without_errors seen)) ∙ h.in_tran)
-    (sym (ap (field 8 8) own ∙ status_ready false (without_errors seen)) ∙ h.ready_for_data)
+    let own = own_parts false seen (k.command_errors, seen_errors choice c k.errors) in
+    let tran = sym (ap (field 12 9) own ∙ status_state false (without_errors seen)) ∙ h.in_tran in
+    let ready = sym (ap (field 8 8) own ∙ status_ready false (without_errors seen)) ∙ h.ready_for_data in
+    cc ((works_by choice.shows choice.shows_ready).2 tran, ready)

@@ -1,5 +1,5 @@
 -- What holds of a card holds after a step, if all that a step may do to the card keeps it.
-use Rattle.std.proofs.Common.{◌&&◌, ◌≡◌, Bool, List, not, refl, true, ℕ}
+use Rattle.std.proofs.Common.{Bool, List, ℕ, ◌&&◌, ◌≡◌, false, not, refl, true}
 use Rattle.mmc_frame.specs.Frame.{command_in}
 use Rattle.mmc_frame.specs.declared.card_state.State.TheVariants.{Prg, Rcv}
 use Rattle.mmc_card.specs.declared.exchange.DataIn.{DataIn}
@@ -10,12 +10,12 @@ use Rattle.mmc_card.proofs.Conditions.{along, by_cond, first_by_cond}
 use Rattle.mmc_card.proofs.Narrow.{both}
 use Rattle.mmc_card.specs.CardAnswer.{Choice, garbled, left_with, raised, reset}
 use Rattle.mmc_card.specs.ErrorBits.{command_error_bits, error_bits, execution_error_bits}
-use Rattle.mmc_card.specs.Blocks.{accepted, asked_for, can_send, can_accept, fallen_short, offered, polled_once}
-use Rattle.mmc_card.specs.Blocks.{programmed, rejected, rested, sent, waited, will_send}
+use Rattle.mmc_card.specs.Blocks.{accepted, asked_for, can_send, can_accept, fallen_early, fallen_short, ignoring, offered}
+use Rattle.mmc_card.specs.Blocks.{polled_once, programmed, rejected, rested, sent, waited, will_send}
 use Rattle.mmc_card.specs.Card.{AreAmong, Card, is_in}
-use Rattle.mmc_card.specs.Faults.{CommandStep, PollStep, ReadStep, WriteStep, brownout, busy, fail, faithful}
-use Rattle.mmc_card.specs.Faults.{fail_switch, fall_short, flip_command, flip_reply, leave_over, lose_command}
-use Rattle.mmc_card.specs.Faults.{lose_reply, lose_status, reject, slow_inquiry, spoil, turn_out}
+use Rattle.mmc_card.specs.Faults.{CommandStep, PollStep, ReadStep, WriteStep, brownout, busy, fail, fail_early, faithful}
+use Rattle.mmc_card.specs.Faults.{fail_switch, fall_short, find_protection, flip_command, flip_reply, leave_over, lose_block}
+use Rattle.mmc_card.specs.Faults.{lose_command, lose_reply, lose_status, outlive, reject, slow_inquiry, spoil, turn_out}
 use Rattle.mmc_card.specs.Rows.{answered}
 use Rattle.mmc_card.specs.Sectors.{Sector}
 use Rattle.mmc_card.specs.BusView.{BusView}
@@ -28,6 +28,10 @@ Survives P = (lands : ℕ → Bool) (keeps_length : Bool) (card : Card) → P ca
 abbrev pub Bears : (Card → Type 0) → Type 0
 Bears P = (bits : ℕ) (card : Card) → AreAmong bits error_bits → P card → P (raised bits card)
 
+-- it holds of a card that ignores further blocks too
+abbrev pub Ignores : (Card → Type 0) → Type 0
+Ignores P = (ignores : Bool) (card : Card) → P card → P (ignoring ignores card)
+
 -- error bits of execution are error bits
 among_all : (bits : ℕ) → AreAmong bits execution_error_bits → AreAmong bits error_bits
 among_all bits among = among_wider bits execution_error_bits error_bits among refl
@@ -36,8 +40,8 @@ pub after_command : (P : Card → Type 0) (old : BusView) (frame : List ℕ) (re
     → ((choice : Choice) → P (answered choice old.card (command_in frame)).0)
     → ((choice : Choice) (bits : ℕ) → AreAmong bits command_error_bits
     → P (answered choice (left_with bits old.card) (command_in frame)).0)
-    → ((keeps : Bool) → P (garbled keeps old.card)) → Survives P → CommandStep old frame reply new → P new.card
-after_command P old frame reply new stays answers leaves garbles survives step =
+    → ((keeps : Bool) → P (garbled keeps old.card)) → Bears P → Survives P → CommandStep old frame reply new → P new.card
+after_command P old frame reply new stays answers leaves garbles bears survives step =
     elim step [
       | faithful choice patient count card spells ↦ along P card (answers choice)
       | lose_command count card silent ↦ along P card stays
@@ -46,6 +50,8 @@ after_command P old frame reply new stays answers leaves garbles survives step =
       | flip_reply choice patient count card flipped ↦ along P card (answers choice)
       | slow_inquiry choice slow late inquiry count card spells ↦ along P card (answers choice)
       | fail_switch choice fails switch count card spells ↦ along P card (answers choice)
+      | find_protection choice finds patient writes count card spells ↦ along P card (answers choice)
+      | outlive choice bits argument among patient resets count card silent ↦ along P card (bears bits _ among (answers choice))
       | leave_over choice bits of patient count card spells ↦ along P card (leaves choice bits of.0)
       | brownout choice lands keeps_length after patient count card silent ↦ along P card
           (survives lands keeps_length _ (by_cond P after (λ _. answers choice) (λ _. stays)))
@@ -54,9 +60,10 @@ after_command P old frame reply new stays answers leaves garbles survives step =
 pub after_poll : (P : Card → Type 0) (old : BusView) (said : Bool) (new : BusView) → P old.card → P (rested old.card)
     → (old.card.is_busy ≡ true → P (waited old.card))
     → ((lands : ℕ → Bool) → is_in old.card.state Prg ≡ true → P (programmed lands old.card))
-    → ((lands : ℕ → Bool) → is_in old.card.state Rcv ≡ true → P (fallen_short lands old.card)) → Bears P
+    → ((lands : ℕ → Bool) → is_in old.card.state Prg ≡ true → P (fallen_early lands old.card))
+    → ((lands : ℕ → Bool) → is_in old.card.state Rcv ≡ true → P (fallen_short lands old.card)) → Ignores P → Bears P
     → Survives P → PollStep old said new → P new.card
-after_poll P old said new stays rests slows fails falls bears survives step =
+after_poll P old said new stays rests slows fails early falls ignored bears survives step =
     let polls : (choice : Choice) → P (polled_once choice old.card).0 =
     λ choice. first_by_cond P (old.card.is_busy && choice.is_slow) _ _
     (λ b. slows (both old.card.is_busy choice.is_slow b).0) (λ _. rests) in
@@ -65,28 +72,31 @@ after_poll P old said new stays rests slows fails falls bears survives step =
       | busy is_busy late count card answer ↦ along P card (slows is_busy)
       | fail lands bits of prg switching count card answer ↦ along P card
           (bears bits _ (among_all bits of.0) (fails lands prg))
-      | fall_short lands bits of rcv is_busy count card answer ↦ along P card
-          (bears bits _ (among_all bits of.0) (falls lands rcv))
+      | fail_early lands bits of prg switching is_busy count card answer ↦ along P card
+          (bears bits _ (among_all bits of.0) (early lands prg))
+      | fall_short lands bits ignores of rcv is_busy count card answer ↦ along P card
+          (bears bits _ (among_all bits of.0) (ignored ignores _ (falls lands rcv)))
       | brownout choice lands keeps_length after patient count card answer ↦ along P card
           (survives lands keeps_length _ (by_cond P after (λ _. polls choice) (λ _. stays)))
     ]
 
 pub after_write : (P : Card → Type 0) (old : BusView) (block : Sector) (got : DataOut) (new : BusView) → P old.card
     → (can_accept old.lines old.card ≡ true → P (accepted block old.card))
-    → ((ignores : Bool) → can_accept old.lines old.card ≡ true → P (rejected ignores old.card))
+    → ((ignores is_busy : Bool) → can_accept old.lines old.card ≡ true → P (rejected ignores is_busy old.card))
     → ((lands : ℕ → Bool) → can_accept old.lines old.card ≡ true → P (accepted block (fallen_short lands old.card)))
-    → ((lands : ℕ → Bool) → can_accept old.lines old.card ≡ true → P (rejected true (fallen_short lands old.card)))
-    → Bears P → Survives P → WriteStep old block got new → P new.card
-after_write P old block got new stays accepts rejects falls turns bears survives step =
+    → ((lands : ℕ → Bool) → can_accept old.lines old.card ≡ true → P (rejected true false (fallen_short lands old.card)))
+    → Ignores P → Bears P → Survives P → WriteStep old block got new → P new.card
+after_write P old block got new stays accepts rejects falls turns ignored bears survives step =
     let offers : P (offered old.lines block old.card) =
     by_cond P (can_accept old.lines old.card) accepts (λ _. stays) in
     elim step [
       | faithful count card answer ↦ along P card offers
-      | reject ignores can count card answer ↦ along P card (rejects ignores can)
-      | lose_status is_accepted ignores can count card answer ↦ along P card
-          (by_cond P is_accepted (λ _. accepts can) (λ _. rejects ignores can))
-      | fall_short lands bits of can count card answer ↦ along P card
-          (bears bits _ (among_all bits of.0) (falls lands can))
+      | lose_block can count card answer ↦ along P card stays
+      | reject ignores is_busy can count card answer ↦ along P card (rejects ignores is_busy can)
+      | lose_status is_accepted ignores is_busy can count card answer ↦ along P card
+          (by_cond P is_accepted (λ _. accepts can) (λ _. rejects ignores is_busy can))
+      | fall_short lands bits ignores of can count card answer ↦ along P card
+          (bears bits _ (among_all bits of.0) (ignored ignores _ (falls lands can)))
       | turn_out lands several can count card answer ↦ along P card (turns lands can)
       | brownout lands keeps_length after count card answer ↦ along P card
           (survives lands keeps_length _ (by_cond P after (λ _. offers) (λ _. stays)))

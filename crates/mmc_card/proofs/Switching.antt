@@ -15,7 +15,7 @@ use Rattle.mmc_card.specs.declared.part.Part.TheVariants.{Boot1, Boot2, Gp1, Gp2
 use Rattle.mmc_card.proofs.ByteLemmas.{access_below}
 use Rattle.mmc_card.proofs.CardRows.{legal_reached}
 use Rattle.mmc_card.proofs.Conditions.{by_cond, first_by_cond}
-use Rattle.mmc_card.proofs.Standing.{stands_garbled, stands_left, stands_quiet, stands_reached, stands_refused, stands_reset, up_in}
+use Rattle.mmc_card.proofs.Standing.{stands_garbled, stands_left, stands_quiet, stands_raised, stands_reached, stands_refused, stands_reset, up_in}
 use Rattle.mmc_card.proofs.Steps.{after_command}
 use Rattle.mmc_card.specs.CardAnswer.{Choice, left_with}
 use Rattle.mmc_card.specs.Card.{Card, is_in, stored}
@@ -25,6 +25,7 @@ use Rattle.mmc_card.specs.Made.{Made}
 use Rattle.mmc_card.specs.declared.command.Command.TheVariants.{Switch}
 use Rattle.mmc_card.specs.Rows.{answered, command_of, is_legal, reached, respond, responded}
 use Rattle.mmc_card.specs.RowsSwitch.{access_number, accessed, part_accessed, partition_config_for, programs_switch}
+use Rattle.mmc_card.specs.RowsErase.{holds_address}
 use Rattle.mmc_card.specs.RowsSwitch.{switch_row, switched, write_byte}
 use Rattle.mmc_card.specs.BusView.{BusView}
 
@@ -112,20 +113,22 @@ switch_stands s part late c None is tran h = inl (stands_quiet s c _ refl refl (
 switch_stands s part late c (Some d) is tran h =
     inr (subst (λ x. Stands (record s { part = part }) (programs_switch x)) (sym is) (programs_there s part c tran h))
 
-same_made : (c : Card) → (reached Switch c).made ≡ c.made
-same_made c = by_cond (λ (d : Card). d.made ≡ c.made) _ (λ _. refl) (λ _. refl)
+same_made : (choice : Choice) (c : Card) → (reached choice Switch c).made ≡ c.made
+same_made choice c =
+    by_cond (λ (d : Card). d.made ≡ c.made) (holds_address c.erase)
+    (λ _. by_cond (λ (d : Card). d.made ≡ c.made) choice.drops_quietly (λ _. refl) (λ _. refl)) (λ _. refl)
 
 switch_responds : (s : Setting) (part : Part) (choice : Choice) (c : Card) (argument : ℕ)
     → argument ≡ write_byte 179 (partition_config_for c.made part) → Stands s c
     → Switched part s (responded choice Switch c 6 argument).0
 switch_responds s part choice c argument is h =
-    let d = reached Switch c in
-    let held = stands_reached s Switch c h in
+    let d = reached choice Switch c in
+    let held = stands_reached s choice Switch c h in
     first_by_cond (Switched part s) (is_legal Switch c) _ _
     (λ l. switch_stands s part choice.says_late d _
     (may_fail part d argument choice.fails_switch
-    (is ∙ ap (λ (m : Made). write_byte 179 (partition_config_for m part)) (sym (same_made c))))
-    (legal_reached Switch c ∙ l) held)
+    (is ∙ ap (λ (m : Made). write_byte 179 (partition_config_for m part)) (sym (same_made choice c))))
+    (legal_reached choice Switch c ∙ l) held)
     (λ _. inl (stands_refused s d held))
 
 switch_answers : (s : Setting) (part : Part) (choice : Choice) (kind : Kind) (c : Card) (argument : ℕ) → kind ≡ Mmc
@@ -148,4 +151,5 @@ command_switches part old frame index argument reply new switch command step s h
     after_command (Switched part s) old frame reply new (inl h) (λ choice. answers choice old.card refl h)
     (λ choice bits _. answers choice (left_with bits old.card) refl (stands_left s bits old.card h))
     (λ keeps. inl (stands_garbled s keeps old.card h))
+    (λ bits card _ k. elim k [ inl stays ↦ inl (stands_raised s bits card stays) | inr moves ↦ inr (stands_raised _ bits card moves) ])
     (λ lands keeps card _. inl (stands_reset s lands keeps card)) step

@@ -75,18 +75,30 @@ accepted block card =
       state = if is_last card.left then Prg else Rcv;
     }
 
--- The card rejects the block: it ignores all further blocks until CMD12 (SD Physical Layer 6.00, section 4.3.4), or a write
--- of one block is over, and one of several goes on (the project's own).
-abbrev pub rejected : Bool → Card → Card
-rejected ignores card =
-    if ignores then record card { left = Some 0 }
-    else if card.is_single then record card { state = Tran; values = [] } else card
+-- the card ignores all further blocks until CMD12 (SD Physical Layer 6.00, section 4.3.4), or doesn't
+abbrev pub ignoring : Bool → Card → Card
+ignoring ignores card = if ignores then record card { left = Some 0 } else card
+
+-- a write of one block is over, at once or after a busy time
+abbrev pub over : Bool → Card → Card
+over is_busy card =
+    if is_busy then record (busied card) { state = Prg; values = [] } else record card { state = Tran; values = [] }
+
+-- The card rejects the block: it ignores all further blocks, or a write of one block is over, and one of several goes on
+-- (the project's own).
+abbrev pub rejected : Bool → Bool → Card → Card
+rejected ignores is_busy card =
+    if ignores then ignoring true card else if card.is_single then over is_busy card else card
 
 -- An earlier block of the write turns out not to be programmed, once the card isn't busy any more: of what has come so far
 -- these values have landed, and the transfer goes on behind it (SD Physical Layer 6.00, section 4.3.4).
 abbrev pub fallen_short : (ℕ → Bool) → Card → Card
 fallen_short lands card =
     record card { is_busy = false; polled = 0; sectors = landed lands card; start = next_written card; values = [] }
+
+-- what is unfinished is over before the card rests: these values have landed
+abbrev pub fallen_early : (ℕ → Bool) → Card → Card
+fallen_early lands card = record card { sectors = landed lands card; values = [] }
 
 -- a block that is offered
 abbrev pub offered : Lines → List ℕ → Card → Card

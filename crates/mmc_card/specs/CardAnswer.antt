@@ -4,6 +4,7 @@
 use Rattle.std.specs.Prelude.{◌%◌, ◌*◌, ◌+◌, ◌-◌, ◌^◌, Bool, List, bit_or, false, if◌then◌else◌, min, not, true, ℕ}
 use Rattle.mmc_frame.specs.Field.{field}
 use Rattle.mmc_frame.specs.Status.{state_number}
+use Rattle.mmc_frame.specs.declared.card_state.State.{State}
 use Rattle.mmc_card.specs.Card.{Card, landed, patience, powered_on}
 use Rattle.mmc_card.specs.ErrorBits.{card_is_locked, com_crc_error, illegal_command}
 use Rattle.mmc_card.specs.Made.{Made, named_block_length}
@@ -36,13 +37,21 @@ pub record Choice : Type 0 where
   -- a switch of an eMMC device fails; where none is carried out, the status behind it alone says so
   pub fails_switch : Bool
   pub says_late : Bool
+  -- a write finds its sectors protected
+  pub finds_protection : Bool
   -- CMD12 that ends a read leaves the card busy
   pub stays_busy : Bool
-  -- a status behind programming shows the card still at work: in prg, where it may be ready for data, or in tran
+  -- CMD12 is answered in tran too
+  pub answers_stop : Bool
+  -- erase addresses are dropped without ERASE_RESET
+  pub drops_quietly : Bool
+  -- A status lags behind the card: it shows this state where that leads to tran, ready for data or not, and otherwise tran and
+  -- not ready. Errors of the programming may show later still.
   pub is_behind : Bool
-  pub shows_prg : Bool
+  pub shows : State
   pub shows_ready : Bool
-  -- places in the EXT_CSD, and the bytes that stand there, where nobody reads them
+  pub tells_late : Bool
+  -- places in the EXT_CSD or in a switch status, and the bytes that stand there, where nobody reads them
   pub unread : List (ℕ × ℕ)
 
 abbrev pub bit : Bool → ℕ

@@ -12,13 +12,14 @@ use Rattle.mmc_card.specs.declared.exchange.DataIn.{DataIn}
 use Rattle.mmc_card.specs.declared.exchange.DataOut.{DataOut}
 use Rattle.mmc_card.specs.declared.exchange.Reply.{Reply}
 use Rattle.mmc_card.specs.CardAnswer.{CardAnswer, Checked, Choice, Silent, R3, R2, garbled, left_with, raised, reset}
-use Rattle.mmc_card.specs.ErrorBits.{command_error_bits, execution_error_bits}
-use Rattle.mmc_card.specs.Blocks.{accepted, asked_for, can_send, can_accept, fallen_short, next_block, offered, polled_once}
-use Rattle.mmc_card.specs.Blocks.{programmed, rejected, sent, waited, will_send}
+use Rattle.mmc_card.specs.ErrorBits.{command_error_bits, error_bits, execution_error_bits}
+use Rattle.mmc_card.specs.Blocks.{accepted, asked_for, can_send, can_accept, fallen_early, fallen_short, ignoring, next_block}
+use Rattle.mmc_card.specs.Blocks.{offered, polled_once, programmed, rejected, sent, waited, will_send}
 use Rattle.mmc_card.specs.Card.{AreAmong, Card, is_in, patience}
 use Rattle.mmc_card.specs.declared.command.Command.{Command}
-use Rattle.mmc_card.specs.declared.command.Command.TheVariants.{SdSendOpCond, SendOpCond, Switch}
+use Rattle.mmc_card.specs.declared.command.Command.TheVariants.{SdSendOpCond, SendOpCond, Switch, WriteBlock, WriteMultipleBlock}
 use Rattle.mmc_card.specs.Judged.{IsSaid}
+use Rattle.mmc_frame.specs.declared.commands.TheConstants as Index
 use Rattle.mmc_card.specs.Rows.{answered, command_of}
 use Rattle.mmc_card.specs.RowsIdentify.{is_served}
 use Rattle.mmc_card.specs.RowsSwitch.{switched}
@@ -97,9 +98,20 @@ is_switch_frame card None = false
 abbrev pub IsPatient : Choice → ℕ → Type 0
 IsPatient choice times = choice.is_slow ≡ true → times < patience
 
--- so it is at a command, and no switch fails
+-- so it is at a command, no switch fails, and no write finds its sectors protected
 abbrev pub IsFaultless : Choice → Card → Type 0
-IsFaultless choice card = IsPatient choice card.inquiries × (choice.fails_switch ≡ false)
+IsFaultless choice card =
+    IsPatient choice card.inquiries × (choice.fails_switch ≡ false) × (choice.finds_protection ≡ false)
+
+-- CMD24 or CMD25
+abbrev pub is_write : Command → Bool
+is_write WriteBlock = true
+is_write WriteMultipleBlock = true
+is_write _ = false
+
+abbrev pub is_write_frame : Card → Option (ℕ × ℕ) → Bool
+is_write_frame card (Some command) = is_write (command_of card.made.kind card.app command.0)
+is_write_frame card None = false
 
 -- ILLEGAL_COMMAND, COM_CRC_ERROR, or both
 abbrev pub AreOfACommand : ℕ → Type 0
@@ -116,13 +128,13 @@ pub data CommandStep (old : BusView) (frame : List ℕ) (reply : Reply) (new : B
   -- one bit or two of it are flipped, so its check is bad
   flip_command : (keeps_count : Bool) → OneFault old new → new.card ≡ garbled keeps_count old.card → reply ≡ Came.Silent
       → CommandStep old frame reply new
-  -- the card answers, and the host hears nothing
-  lose_reply : (choice : Choice) → IsFaultless choice old.card → OneFault old new
+  -- The card answers, and the host hears nothing; so it may not learn that a switch failed, or that sectors are protected.
+  lose_reply : (choice : Choice) → IsPatient choice old.card.inquiries → OneFault old new
       → new.card ≡ (answered choice old.card (command_in frame)).0
       → ((answered choice old.card (command_in frame)).1 ≡ Silent → ⊥) → reply ≡ Came.Silent
       → CommandStep old frame reply new
   -- one bit or two of the answer are flipped
-  flip_reply : (choice : Choice) → IsFaultless choice old.card → OneFault old new
+  flip_reply : (choice : Choice) → IsPatient choice old.card.inquiries → OneFault old new
       → new.card ≡ (answered choice old.card (command_in frame)).0
       → RepliesFlipped old.card (answered choice old.card (command_in frame)).1 reply
       → CommandStep old frame reply new
@@ -136,6 +148,17 @@ pub data CommandStep (old : BusView) (frame : List ℕ) (reply : Reply) (new : B
   fail_switch : (choice : Choice) → choice.fails_switch ≡ true → is_switch_frame old.card (command_in frame) ≡ true
       → OneFault old new → new.card ≡ (answered choice old.card (command_in frame)).0
       → Replies old.card (answered choice old.card (command_in frame)).1 reply
+      → CommandStep old frame reply new
+  -- a write finds its sectors protected by CMD28: it doesn't begin, and WP_VIOLATION says so
+  find_protection : (choice : Choice) → choice.finds_protection ≡ true → IsPatient choice old.card.inquiries
+      → is_write_frame old.card (command_in frame) ≡ true → OneFault old new
+      → new.card ≡ (answered choice old.card (command_in frame)).0
+      → Replies old.card (answered choice old.card (command_in frame)).1 reply
+      → CommandStep old frame reply new
+  -- error bits outlive CMD0
+  outlive : (choice : Choice) (bits argument : ℕ) → AreAmong bits error_bits → IsFaultless choice old.card
+      → command_in frame ≡ Some (Index.GO_IDLE_STATE, argument) → OneFault old new
+      → new.card ≡ raised bits (answered choice old.card (command_in frame)).0 → reply ≡ Came.Silent
       → CommandStep old frame reply new
   -- the card has an error to show of something on the line that it took for a command before this one
   -- (SD Physical Layer 6.00, section 4.10.1, clear condition B; JESD84-B51, section 6.13)
@@ -167,10 +190,16 @@ pub data PollStep (old : BusView) (said : Bool) (new : BusView) : Type 0 where
       → old.card.is_switching ≡ false → OneFault old new
       → new.card ≡ raised bits (programmed lands old.card) → said ≡ false
       → PollStep old said new
-  -- in rcv an earlier block turns out not to be programmed: error bits are raised, and the transfer goes on
-  fall_short : (lands : ℕ → Bool) (bits : ℕ) → AreOfExecution bits → is_in old.card.state Rcv ≡ true
+  -- so it does early: error bits are raised while the card still says that it is busy
+  fail_early : (lands : ℕ → Bool) (bits : ℕ) → AreOfExecution bits → is_in old.card.state Prg ≡ true
+      → old.card.is_switching ≡ false → old.card.is_busy ≡ true → OneFault old new
+      → new.card ≡ raised bits (fallen_early lands old.card) → said ≡ true
+      → PollStep old said new
+  -- In rcv an earlier block turns out not to be programmed: error bits are raised, and the transfer goes on, or the card
+  -- ignores all further blocks until CMD12 (SD Physical Layer 6.00, section 4.3.4).
+  fall_short : (lands : ℕ → Bool) (bits : ℕ) (ignores : Bool) → AreOfExecution bits → is_in old.card.state Rcv ≡ true
       → old.card.is_busy ≡ true → OneFault old new
-      → new.card ≡ raised bits (fallen_short lands old.card) → said ≡ false
+      → new.card ≡ raised bits (ignoring ignores (fallen_short lands old.card)) → said ≡ false
       → PollStep old said new
   brownout : (choice : Choice) (lands : ℕ → Bool) (keeps_length after : Bool) → IsPatient choice old.card.polled → OneFault old new
       → new.card ≡ reset lands keeps_length (if after then (polled_once choice old.card).0 else old.card) → said ≡ false
@@ -181,22 +210,26 @@ pub data WriteStep (old : BusView) (block : List ℕ) (got : DataOut) (new : Bus
   faithful : NoFault old new → new.card ≡ offered old.lines block old.card
       → got ≡ (if can_accept old.lines old.card then Sent.Accepted else Sent.Nothing)
       → WriteStep old block got new
+  -- the card doesn't see it
+  lose_block : can_accept old.lines old.card ≡ true → OneFault old new → new.card ≡ old.card → got ≡ Sent.Nothing
+      → WriteStep old block got new
   -- the card rejects it, and may ignore all that come behind it
-  reject : (ignores : Bool) → can_accept old.lines old.card ≡ true → OneFault old new
-      → new.card ≡ rejected ignores old.card → got ≡ Sent.Rejected
+  reject : (ignores is_busy : Bool) → can_accept old.lines old.card ≡ true → OneFault old new
+      → new.card ≡ rejected ignores is_busy old.card → got ≡ Sent.Rejected
       → WriteStep old block got new
   -- the card's status is lost, whether it accepted the block or rejected it
-  lose_status : (is_accepted ignores : Bool) → can_accept old.lines old.card ≡ true → OneFault old new
-      → new.card ≡ (if is_accepted then accepted block old.card else rejected ignores old.card) → got ≡ Sent.Nothing
+  lose_status : (is_accepted ignores is_busy : Bool) → can_accept old.lines old.card ≡ true → OneFault old new
+      → new.card ≡ (if is_accepted then accepted block old.card else rejected ignores is_busy old.card) → got ≡ Sent.Nothing
       → WriteStep old block got new
   -- the card accepts it, and an earlier block turns out not to be programmed, as at a poll
-  fall_short : (lands : ℕ → Bool) (bits : ℕ) → AreOfExecution bits → can_accept old.lines old.card ≡ true
-      → OneFault old new → new.card ≡ raised bits (accepted block (fallen_short lands old.card)) → got ≡ Sent.Accepted
+  fall_short : (lands : ℕ → Bool) (bits : ℕ) (ignores : Bool) → AreOfExecution bits → can_accept old.lines old.card ≡ true
+      → OneFault old new → new.card ≡ raised bits (ignoring ignores (accepted block (fallen_short lands old.card)))
+      → got ≡ Sent.Accepted
       → WriteStep old block got new
   -- Of a write of several, an earlier block was rejected and all after it are ignored, which a host that sends ahead learns
   -- only now. A write of one block has no earlier one, and `lose_status` says of that one that it was rejected.
   turn_out : (lands : ℕ → Bool) → old.card.is_single ≡ false → can_accept old.lines old.card ≡ true → OneFault old new
-      → new.card ≡ rejected true (fallen_short lands old.card) → got ≡ Sent.Nothing
+      → new.card ≡ rejected true false (fallen_short lands old.card) → got ≡ Sent.Nothing
       → WriteStep old block got new
   brownout : (lands : ℕ → Bool) (keeps_length after : Bool) → OneFault old new
       → new.card ≡ reset lands keeps_length (if after then offered old.lines block old.card else old.card) → got ≡ Sent.Nothing

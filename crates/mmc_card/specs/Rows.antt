@@ -83,7 +83,7 @@ is_legal SelectCard card = is_in card.state Stby
 is_legal SendIfCond card = is_in card.state Idle && card.made.answers_cmd8
 is_legal SendExtCsd card = is_in card.state Tran
 is_legal SendCsd card = is_in card.state Stby
-is_legal StopTransmission card = is_in card.state Data || is_in card.state Rcv
+is_legal StopTransmission card = is_in card.state Tran || (is_in card.state Data || is_in card.state Rcv)
 -- ACMD13 is left out
 is_legal SendStatus card = is_identified card.state && not card.app
 is_legal SetBlocklen card = is_in card.state Tran
@@ -120,8 +120,8 @@ row choice SetBlocklen card index argument = set_blocklen card argument
 row choice ReadSingleBlock card index argument = read_single_block card argument
 row choice ReadMultipleBlock card index argument = read_multiple_block card argument
 row choice SetBlockCount card index argument = set_block_count_to card argument
-row choice WriteBlock card index argument = write_block card argument
-row choice WriteMultipleBlock card index argument = write_multiple_block card argument
+row choice WriteBlock card index argument = write_block choice card argument
+row choice WriteMultipleBlock card index argument = write_multiple_block choice card argument
 row choice EraseStart card index argument = hold_first index card argument card.erase
 row choice EraseEnd card index argument = hold_last index card argument card.erase
 row choice Erase card index argument = erase_held card argument card.erase
@@ -140,20 +140,22 @@ leaves_erase EraseEnd = true
 leaves_erase Erase = true
 leaves_erase _ = false
 
--- Any other command drops them with ERASE_RESET, also one that isn't carried out
+-- Any other command drops them, with ERASE_RESET or without, also one that isn't carried out
 -- (SD Physical Layer 6.00, section 4.3.5).
-abbrev pub without_addresses : Card → Card
-without_addresses card = if holds_address card.erase then raised erase_reset (forgotten card) else card
+abbrev pub without_addresses : Bool → Card → Card
+without_addresses quietly card =
+    if holds_address card.erase
+    then (if quietly then forgotten card else raised erase_reset (forgotten card)) else card
 
-abbrev pub reached : Command → Card → Card
-reached command card = if leaves_erase command then card else without_addresses card
+abbrev pub reached : Choice → Command → Card → Card
+reached choice command card = if leaves_erase command then card else without_addresses choice.drops_quietly card
 
 -- A sound command: the card after it, and its answer. One that names another card changes nothing.
 abbrev pub responded : Choice → Command → Card → ℕ → ℕ → Card × CardAnswer
 responded choice command card index argument =
     if is_foreign command card argument then (card, Silent)
-    else if is_legal command card then row choice command (reached command card) index argument
-    else (refused (reached command card), Silent)
+    else if is_legal command card then row choice command (reached choice command card) index argument
+    else (refused (reached choice command card), Silent)
 
 abbrev pub respond : Choice → Card → ℕ → ℕ → Card × CardAnswer
 respond choice card index argument =

@@ -3,7 +3,8 @@
 -- Each row is what a card does with a command in a state where it is legal, and its answer.
 use Rattle.std.specs.Prelude.{◌&&◌, ◌+◌, ◌==◌, ◌^◌, ◌||◌, Bool, false, if◌then◌else◌, nat_lt, not, true, ℕ}
 use Rattle.mmc_frame.specs.Field.{field}
-use Rattle.mmc_frame.specs.declared.card_state.State.TheVariants.{Ident, Prg, Ready, Stby, Tran}
+use Rattle.mmc_frame.specs.declared.card_state.State.{State}
+use Rattle.mmc_frame.specs.declared.card_state.State.TheVariants.{Data, Ident, Prg, Rcv, Ready, Stby, Tran}
 use Rattle.mmc_frame.specs.declared.commands.TheConstants as Index
 use Rattle.mmc_regs.specs.Ocr.{card_capacity_status}
 use Rattle.mmc_card.specs.CardAnswer.{CardAnswer, Checked, Choice, Silent, R3, R2, busied, counted, done, published}
@@ -56,9 +57,10 @@ set_relative_addr card argument = (
       (status false card),
 )
 
--- CMD7, SELECT_CARD; an eMMC device may be busy after it too (the project's own)
+-- CMD7, SELECT_CARD; an eMMC device may be busy after it too (the project's own), and statuses may lag behind
 abbrev pub select_card : Card → Card × CardAnswer
-select_card card = (record (busied (shown card)) { state = Tran }, Checked Index.SELECT_CARD (status false card))
+select_card card =
+    (record (busied (shown card)) { state = Tran; lags = true }, Checked Index.SELECT_CARD (status false card))
 
 -- CMD8 of SD, SEND_IF_COND: voltage 1, 2.7 to 3.6 V, is the only one (SD Physical Layer 6.00, section 4.3.13)
 abbrev pub send_if_cond : Card → ℕ → Card × CardAnswer
@@ -72,29 +74,43 @@ send_if_cond card argument = (
 abbrev pub send_csd : Card → Card × CardAnswer
 send_csd card = (done card, R2 card.made.csd)
 
--- Behind its programming a card's status may still show it at work. Together with the polls of its busy time that were
--- answered yes that is so at most `patience` times (the project's own).
+-- Behind CMD7, CMD12 and its programming a card's status may still show it on its way to tran. Together with the polls of its
+-- busy time that were answered yes that is so at most `patience` times (the project's own).
 abbrev pub may_lag : Card → Bool
 may_lag card = is_in card.state Tran && (card.lags && nat_lt card.polled patience)
 
--- as such a status shows it: in prg, ready for data or not, or in tran and not ready (SD Physical Layer 6.00, section
--- 4.10.1; JESD84-B51, section 6.13)
+-- the states that lead to tran
+abbrev pub leads_to_tran : State → Bool
+leads_to_tran Stby = true
+leads_to_tran Data = true
+leads_to_tran Rcv = true
+leads_to_tran Prg = true
+leads_to_tran _ = false
+
+-- As such a status shows it: in one of these states, ready for data or not, or in tran and not ready (SD Physical Layer 6.00,
+-- section 4.10.1; JESD84-B51, section 6.13). It may not show errors of the programming yet.
 abbrev pub at_work : Choice → Card → Card
 at_work choice card =
     record card {
-      state = if choice.shows_prg then Prg else Tran;
-      is_busy = not (choice.shows_prg && choice.shows_ready);
+      state = if leads_to_tran choice.shows then choice.shows else Tran;
+      is_busy = not (leads_to_tran choice.shows && choice.shows_ready);
+      errors = if choice.tells_late then 0 else card.errors;
     }
 
 -- a card after such a status
-abbrev pub lagging : Card → Card
-lagging card = record (shown card) { lags = true; polled = counted card.polled }
+abbrev pub lagging : Choice → Card → Card
+lagging choice card =
+    record (shown card) {
+      lags = true;
+      polled = counted card.polled;
+      errors = if choice.tells_late then card.errors else 0;
+    }
 
 -- CMD13, SEND_STATUS
 abbrev pub send_status : Choice → Card → Card × CardAnswer
 send_status choice card =
     if may_lag card && choice.is_behind
-    then (lagging card, Checked Index.SEND_STATUS (status false (at_work choice card)))
+    then (lagging choice card, Checked Index.SEND_STATUS (status false (at_work choice card)))
     else (shown card, Checked Index.SEND_STATUS (status false card))
 
 -- CMD55 of SD, APP_CMD (SD Physical Layer 6.00, section 4.3.9)

@@ -42,12 +42,23 @@ abbrev pub refusal : Bool → List ℕ → List ℕ
 refusal selects_none status =
     slice_set status 16 (16 * field 7 4 (slice_index status 16) + (if selects_none then 15 else 0))
 
+-- The bytes that are read of a switch status: which functions of group 1 it has, and which is selected.
+abbrev pub is_read_of_status : ℕ → Bool
+is_read_of_status place = nat_le 12 place && nat_le place 16
+
+-- these bytes, with others in places that aren't read
+abbrev pub reread : (ℕ → Bool) → List (ℕ × ℕ) → List ℕ → List ℕ
+reread is_read [] bytes = bytes
+reread is_read (other ∷ others) bytes =
+    reread is_read others (if is_read other.0 then bytes else slice_set bytes other.0 (other.1 % 256))
+
 -- The 64 bytes that the card sends: its switch status, and once that is sent it has switched; or, where it is to switch
--- and leaves high speed unselected, a status that says so, and the timing stays (SD Physical Layer 6.00, section 4.3.10).
+-- and leaves high speed unselected, a status that says so, maybe with another current or with functions that are busy, and the
+-- timing stays (SD Physical Layer 6.00, section 4.3.10 and table 4-13).
 abbrev pub switch_source : Choice → Card → ℕ → Source
 switch_source choice card argument =
     if is_to_speed_up card argument && choice.refuses_speed
-    then FromBytes (refusal choice.selects_none card.made.switch_status) card.timing
+    then FromBytes (reread is_read_of_status choice.unread (refusal choice.selects_none card.made.switch_status)) card.timing
     else FromBytes card.made.switch_status (timing_after card argument)
 
 -- CMD6 of SD, SWITCH_FUNC
@@ -99,16 +110,10 @@ is_read place =
     || ((place == 185) || ((place == 192) || ((place == 196) || ((nat_le 212 place && nat_le place 215)
     || ((place == 221) || ((place == 224) || ((place == 226) || (place == 231))))))))))))
 
--- these bytes, with others in places that aren't read
-abbrev pub reread : List (ℕ × ℕ) → List ℕ → List ℕ
-reread [] bytes = bytes
-reread (other ∷ others) bytes =
-    reread others (if is_read other.0 then bytes else slice_set bytes other.0 (other.1 % 256))
-
 -- CMD8 of eMMC, SEND_EXT_CSD
 abbrev pub send_ext_csd : Choice → Card → Card × CardAnswer
 send_ext_csd choice card =
-    (sending (reread choice.unread (ext_csd_now card)) card.timing card, Checked Index.SEND_IF_COND (status false card))
+    (sending (reread is_read choice.unread (ext_csd_now card)) card.timing card, Checked Index.SEND_IF_COND (status false card))
 
 -- a block that says what is read of the EXT_CSD
 pub record IsExtCsdOf (card : Card) (block : List ℕ) : Type 0 where

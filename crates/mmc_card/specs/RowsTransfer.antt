@@ -2,17 +2,21 @@
 -- Transfers of blocks (SD Physical Layer 6.00, sections 4.3.3 and 4.3.4; JESD84-B51, sections 6.6.6 to 6.6.8), and the
 -- registers that an SD card sends as blocks. Each row is what a card does with a command in a state where it is legal,
 -- and its answer.
-use Rattle.std.specs.Prelude.{◌&&◌, ◌*◌, ◌+◌, ◌==◌, Bool, List, None, Option, Some, [], false, if◌then◌else◌, length}
+use Rattle.std.specs.Prelude.{◌&&◌, ◌*◌, ◌+◌, ◌==◌, Bool, List, None, Option, Some, [], bit_or, false, if◌then◌else◌, length}
 use Rattle.std.specs.Prelude.{nat_le, not, true, ℕ}
 use Rattle.mmc_frame.specs.Field.{field}
 use Rattle.mmc_frame.specs.declared.card_state.State.{State}
 use Rattle.mmc_frame.specs.declared.card_state.State.TheVariants.{Data, Prg, Rcv, Tran}
 use Rattle.mmc_frame.specs.declared.commands.TheConstants as Index
 use Rattle.mmc_card.specs.declared.exchange.Timing.{Timing}
-use Rattle.mmc_card.specs.CardAnswer.{CardAnswer, Checked, Choice, bit, busied, raised, shown, status}
+use Rattle.mmc_card.specs.CardAnswer.{CardAnswer, Checked, Choice, Silent, bit, busied, raised, refused, shown, status}
 use Rattle.mmc_card.specs.ErrorBits.{address_error, block_len_error, out_of_range, wp_violation}
 use Rattle.mmc_card.specs.Card.{Card, FromBytes, FromSectors, Source, is_in, stored}
 use Rattle.mmc_card.specs.Made.{is_misaligned, is_read_only, is_sd, sector_at}
+
+-- it sends nothing more, and its statuses may lag behind
+abbrev pub ended : Card → Card
+ended card = record (shown card) { state = Tran; source = FromSectors; polled = 0; lags = true }
 
 -- A card after CMD12: of a write it programs what it accepted; of a read it is in tran, and may be busy there (R1b; SD
 -- Physical Layer 6.00, sections 4.3.3 and 4.9.2; JESD84-B51, section 6.6.6).
@@ -20,13 +24,15 @@ abbrev pub stopped : Bool → Card → Card
 stopped stays_busy card =
     if is_in card.state Rcv
     then record (busied (shown card)) { state = Prg; is_switching = false }
-    else if stays_busy then record (busied (shown card)) { state = Tran; source = FromSectors }
-    else record (shown card) { state = Tran; source = FromSectors }
+    else if stays_busy then busied (ended card) else ended card
 
--- CMD12, STOP_TRANSMISSION
+-- CMD12, STOP_TRANSMISSION; in tran, where there is nothing to stop, it may be illegal (SD Physical Layer 6.00, table 4-35;
+-- JESD84-B51, table 60)
 abbrev pub stop_transmission : Choice → Card → Card × CardAnswer
 stop_transmission choice card =
-    (stopped choice.stays_busy card, Checked Index.STOP_TRANSMISSION (status false card))
+    if is_in card.state Tran && not choice.answers_stop
+    then (refused card, Silent)
+    else (stopped choice.stays_busy card, Checked Index.STOP_TRANSMISSION (status false card))
 
 -- CMD16, SET_BLOCKLEN: 512 alone (the project's own: the host sends no other)
 abbrev pub set_blocklen : Card → ℕ → Card × CardAnswer
@@ -89,15 +95,22 @@ read_multiple_block card address =
     transferred Index.READ_MULTIPLE_BLOCK (transfer_errors false card address) card
     (begun Data false (preset card) card address)
 
+-- of a write there may be WP_VIOLATION too, where CMD28 has protected its sectors (SD Physical Layer 6.00, section 4.3.6;
+-- JESD84-B51, section 6.6.15)
+abbrev pub write_errors : Choice → Card → ℕ → ℕ
+write_errors choice card address =
+    if choice.finds_protection then bit_or (transfer_errors true card address) wp_violation
+    else transfer_errors true card address
+
 -- CMD24, WRITE_BLOCK
-abbrev pub write_block : Card → ℕ → Card × CardAnswer
-write_block card address =
-    transferred Index.WRITE_BLOCK (transfer_errors true card address) card (begun Rcv true (Some 1) card address)
+abbrev pub write_block : Choice → Card → ℕ → Card × CardAnswer
+write_block choice card address =
+    transferred Index.WRITE_BLOCK (write_errors choice card address) card (begun Rcv true (Some 1) card address)
 
 -- CMD25, WRITE_MULTIPLE_BLOCK
-abbrev pub write_multiple_block : Card → ℕ → Card × CardAnswer
-write_multiple_block card address =
-    transferred Index.WRITE_MULTIPLE_BLOCK (transfer_errors true card address) card
+abbrev pub write_multiple_block : Choice → Card → ℕ → Card × CardAnswer
+write_multiple_block choice card address =
+    transferred Index.WRITE_MULTIPLE_BLOCK (write_errors choice card address) card
     (begun Rcv false (preset card) card address)
 
 -- the card sends what this names

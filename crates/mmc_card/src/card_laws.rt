@@ -32,7 +32,7 @@ pub fn a_status_tells_of_its_card()
         → error_bits kind told ≡ 2 ^ 31 }
     ensures lagging { (kind : Kind) (choice : Choice) (told : ℕ) (card : Card) → IsCard card
         → ShowsItself (at_work choice card) told
-        → (IsAtWork kind (own_status told) ↔ HasNoErrorOfItsOwn kind card) }
+        → (IsAtWork kind (own_status told) ↔ HasNoErrorOfItsOwn kind (at_work choice card)) }
     ensures lags_unclean { (kind : Kind) (choice : Choice) (told : ℕ) (card : Card) → IsCard card
         → ShowsItself (at_work choice card) told → IsClean kind (own_status told) → ⊥ }
     ensures locked { (told : ℕ) (card : Card) → Shows card told

@@ -2,7 +2,7 @@
 use Rattle.std.proofs.Common.{◌%◌, ◌*◌, ◌+◌, ◌/◌, ◌==◌, ◌^◌, ◌∙◌, ◌≡◌, ◌≤◌, Bool, List, ap, arith, bit_or, false, refl}
 use Rattle.std.proofs.Common.{sym, true, ℕ}
 use Rattle.std.proofs.lemmas.Bool.Decides.{nat_tests}
-use Rattle.std.specs.Prelude.{if◌then◌else◌, nat_le}
+use Rattle.std.specs.Prelude.{◌||◌, if◌then◌else◌, nat_le}
 use Rattle.mmc_frame.proofs.Bytes.{and_true}
 use Rattle.mmc_card.proofs.Cards.{among_wider}
 use Rattle.mmc_card.specs.Faults.{AreOfExecution}
@@ -101,6 +101,45 @@ transfer_errors_known false false true true = refl
 transfer_errors_known false false true false = refl
 transfer_errors_known false false false true = refl
 transfer_errors_known false false false false = refl
+
+-- a write that finds its sectors protected has WP_VIOLATION among its errors
+protected_too : (beyond misaligned other protected : Bool)
+    → out_of_range * bit beyond + address_error * bit misaligned + block_len_error * bit other + wp_violation
+    ≡ bit_or
+    (out_of_range * bit beyond + address_error * bit misaligned + block_len_error * bit other
+    + wp_violation * bit protected)
+    wp_violation
+protected_too true true true true = refl
+protected_too true true true false = refl
+protected_too true true false true = refl
+protected_too true true false false = refl
+protected_too true false true true = refl
+protected_too true false true false = refl
+protected_too true false false true = refl
+protected_too true false false false = refl
+protected_too false true true true = refl
+protected_too false true true false = refl
+protected_too false true false true = refl
+protected_too false true false false = refl
+protected_too false false true true = refl
+protected_too false false true false = refl
+protected_too false false false true = refl
+protected_too false false false false = refl
+
+-- the error bits of a transfer, in a status
+pub errors_by : (beyond misaligned other protected finds : Bool)
+    → 2 ^ 13 * out_of_range * bit beyond + 2 ^ 13 * address_error * bit misaligned
+    + 2 ^ 13 * block_len_error * bit other + 2 ^ 13 * wp_violation * bit (finds || protected)
+    ≡ 2 ^ 13
+    * (if finds
+    then bit_or
+    (out_of_range * bit beyond + address_error * bit misaligned + block_len_error * bit other
+    + wp_violation * bit protected)
+    wp_violation
+    else out_of_range * bit beyond + address_error * bit misaligned + block_len_error * bit other
+    + wp_violation * bit protected)
+errors_by beyond misaligned other protected true = omega (arith, protected_too beyond misaligned other protected)
+errors_by beyond misaligned other protected false = omega arith
 
 -- a chip has an error where the card has one
 some_held : (bits errors : ℕ) → bits ≡ 2 ^ 13 * errors → (bits == 0) ≡ false → (errors == 0) ≡ false

@@ -20,26 +20,26 @@ use Rattle.mmc_card.specs.declared.command.Command.TheVariants as Names
 use Rattle.mmc_frame.specs.Frame.{command_in}
 use Rattle.mmc_card.specs.ErrorBits.{card_ecc_failed, com_crc_error, general_error, illegal_command}
 use Rattle.mmc_card.specs.Faults.{AreOfExecution, CommandStep, IsPatient, PollStep, ReadStep, Spells, WriteStep}
-use Rattle.mmc_card.specs.Faults.{is_switch, is_switch_frame}
+use Rattle.mmc_card.specs.Faults.{is_switch, is_switch_frame, is_write_frame}
 use Rattle.mmc_card.specs.Faults.CommandStep.{brownout as command_brownout, faithful as does_command, flip_command}
-use Rattle.mmc_card.specs.Faults.CommandStep.{fail_switch, flip_reply, leave_over, lose_command, lose_reply}
+use Rattle.mmc_card.specs.Faults.CommandStep.{fail_switch, find_protection, flip_reply, leave_over, lose_command, lose_reply}
 use Rattle.mmc_card.proofs.JudgedLemmas.{replies_as_is}
-use Rattle.mmc_card.specs.Faults.PollStep.{brownout as poll_brownout, busy, fail, faithful as does_poll, fall_short}
+use Rattle.mmc_card.specs.Faults.PollStep.{brownout as poll_brownout, busy, fail, fail_early, faithful as does_poll, fall_short}
 use Rattle.mmc_card.specs.Faults.ReadStep.{brownout as read_brownout, faithful as does_read, spoil}
-use Rattle.mmc_card.specs.Faults.WriteStep.{brownout as write_brownout, faithful as does_write, lose_status, reject}
+use Rattle.mmc_card.specs.Faults.WriteStep.{brownout as write_brownout, faithful as does_write, lose_block, lose_status, reject}
 use Rattle.mmc_card.specs.Sectors.{Sector}
 use Rattle.mmc_frame.specs.declared.card_state.State.TheVariants.{Prg, Rcv, Tran}
 use Rattle.mmc_card.proofs.CardAll.{command_leaves_card, poll_leaves_card, read_leaves_card, write_leaves_card}
 use Rattle.mmc_bus.specs.declared.wire.Wire.{Wire}
 use Rattle.mmc_bus.specs.Exchanges.{Commanded, DataRead, DataWritten, Exchanged, Polled}
 use Rattle.mmc_bus.specs.Wires.{Notes, bus_view_with}
-use Rattle.mmc_card_sim.specs.Chip.{choice_of, command_choice}
+use Rattle.mmc_card_sim.specs.Chip.{KeepsWaits, choice_of, command_choice, finding_protection}
 use Rattle.mmc_card.proofs.Cards.{in_state}
 use Rattle.mmc_card_sim.proofs.ChipLemmas.{execution_held}
 use Rattle.mmc_card_sim.specs.FaultyExchanges.{are_of_execution, failed, may_fail, may_fall_short}
 use Rattle.mmc_card_sim.specs.FaultyExchanges.{Commands, IsHeard, Polls, Reads, Writes, after_command, after_poll}
 use Rattle.mmc_card_sim.specs.FaultyExchanges.{after_read, after_write, fits_command, fits_poll, fits_read, fits_write}
-use Rattle.mmc_card_sim.specs.FaultyExchanges.{done_in, failing, heeded, is_answer, is_busy_fault, poll_choice, read_in, written_out}
+use Rattle.mmc_card_sim.specs.FaultyExchanges.{done_in, failing, heeded, is_answer, is_busy_fault, poll_choice, read_in, says_yes, written_out}
 use Rattle.mmc_card_sim.specs.Plan.{fault_at, to_come}
 use Rattle.mmc_card_sim.specs.SimView.{SimOk, SimView}
 use Rattle.mmc_card_sim.proofs.PlanLemmas.{spent}
@@ -90,49 +90,49 @@ exchanged plan old new faults later before after exchange notes in_bounds was is
 few_times : (limit times : ℕ) → limit ≤ patience → nat_lt times limit ≡ true → times < patience
 few_times limit times few less = grind (arith, nat_tests, few, less)
 
-soon_ready : (delays : Delays) (card : Card) → delays.ready ≤ 8
+soon_ready : (delays : Delays) (card : Card) → delays.ready ≤ patience
     → IsPatient (command_choice delays card) card.inquiries
-soon_ready delays card few slow = few_times delays.ready card.inquiries (omega (arith, few)) slow
+soon_ready delays card few slow = few_times delays.ready card.inquiries few slow
 
 -- A switch that fails.
 
 switch_fails : (choice : Choice) (command : Meaning) (card : Card) (index argument : ℕ) → choice.fails_switch ≡ true
-    → is_switch command card argument ≡ true
+    → choice.drops_quietly ≡ false → is_switch command card argument ≡ true
     → responded choice command card index argument ≡ failing choice.says_late card
-switch_fails choice Names.Switch card index argument fails h =
-    let tran = (and_true (is_in card.state Tran) (is_some (switched card argument)) h).0 in rw (tran, fails) refl
-switch_fails choice Names.SendOpCond card index argument fails h = cc
-switch_fails choice Names.SdSendOpCond card index argument fails h = cc
-switch_fails choice Names.AllSendCid card index argument fails h = cc
-switch_fails choice Names.SendRelativeAddr card index argument fails h = cc
-switch_fails choice Names.SetRelativeAddr card index argument fails h = cc
-switch_fails choice Names.SelectCard card index argument fails h = cc
-switch_fails choice Names.SendIfCond card index argument fails h = cc
-switch_fails choice Names.SendExtCsd card index argument fails h = cc
-switch_fails choice Names.SendCsd card index argument fails h = cc
-switch_fails choice Names.StopTransmission card index argument fails h = cc
-switch_fails choice Names.SendStatus card index argument fails h = cc
-switch_fails choice Names.SetBlocklen card index argument fails h = cc
-switch_fails choice Names.ReadSingleBlock card index argument fails h = cc
-switch_fails choice Names.ReadMultipleBlock card index argument fails h = cc
-switch_fails choice Names.SetBlockCount card index argument fails h = cc
-switch_fails choice Names.WriteBlock card index argument fails h = cc
-switch_fails choice Names.WriteMultipleBlock card index argument fails h = cc
-switch_fails choice Names.EraseStart card index argument fails h = cc
-switch_fails choice Names.EraseEnd card index argument fails h = cc
-switch_fails choice Names.Erase card index argument fails h = cc
-switch_fails choice Names.SwitchFunc card index argument fails h = cc
-switch_fails choice Names.SetBusWidth card index argument fails h = cc
-switch_fails choice Names.SendScr card index argument fails h = cc
-switch_fails choice Names.AppCmd card index argument fails h = cc
-switch_fails choice Names.Unknown card index argument fails h = cc
-switch_fails choice Names.GoIdleState card index argument fails h = cc
+switch_fails choice Names.Switch card index argument fails loud h =
+    let tran = (and_true (is_in card.state Tran) (is_some (switched card argument)) h).0 in rw (tran, fails, loud) refl
+switch_fails choice Names.SendOpCond card index argument fails loud h = cc
+switch_fails choice Names.SdSendOpCond card index argument fails loud h = cc
+switch_fails choice Names.AllSendCid card index argument fails loud h = cc
+switch_fails choice Names.SendRelativeAddr card index argument fails loud h = cc
+switch_fails choice Names.SetRelativeAddr card index argument fails loud h = cc
+switch_fails choice Names.SelectCard card index argument fails loud h = cc
+switch_fails choice Names.SendIfCond card index argument fails loud h = cc
+switch_fails choice Names.SendExtCsd card index argument fails loud h = cc
+switch_fails choice Names.SendCsd card index argument fails loud h = cc
+switch_fails choice Names.StopTransmission card index argument fails loud h = cc
+switch_fails choice Names.SendStatus card index argument fails loud h = cc
+switch_fails choice Names.SetBlocklen card index argument fails loud h = cc
+switch_fails choice Names.ReadSingleBlock card index argument fails loud h = cc
+switch_fails choice Names.ReadMultipleBlock card index argument fails loud h = cc
+switch_fails choice Names.SetBlockCount card index argument fails loud h = cc
+switch_fails choice Names.WriteBlock card index argument fails loud h = cc
+switch_fails choice Names.WriteMultipleBlock card index argument fails loud h = cc
+switch_fails choice Names.EraseStart card index argument fails loud h = cc
+switch_fails choice Names.EraseEnd card index argument fails loud h = cc
+switch_fails choice Names.Erase card index argument fails loud h = cc
+switch_fails choice Names.SwitchFunc card index argument fails loud h = cc
+switch_fails choice Names.SetBusWidth card index argument fails loud h = cc
+switch_fails choice Names.SendScr card index argument fails loud h = cc
+switch_fails choice Names.AppCmd card index argument fails loud h = cc
+switch_fails choice Names.Unknown card index argument fails loud h = cc
+switch_fails choice Names.GoIdleState card index argument fails loud h = cc
 
 fails_to_switch : (choice : Choice) (card : Card) (command : Option (ℕ × ℕ)) → choice.fails_switch ≡ true
-    → is_switch_frame card command ≡ true → failing choice.says_late card ≡ answered choice card command
-fails_to_switch choice card (Some command) fails h =
-    sym (switch_fails choice (command_of card.made.kind card.app command.0) card command.0 command.1 fails h)
-fails_to_switch choice card None fails h = cc
+    → choice.drops_quietly ≡ false → is_switch_frame card command ≡ true → failing choice.says_late card ≡ answered choice card command
+fails_to_switch choice card (Some command) fails loud h =
+    sym (switch_fails choice (command_of card.made.kind card.app command.0) card command.0 command.1 fails loud h)
+fails_to_switch choice card None fails loud h = cc
 
 -- APP_CMD in an R6 isn't judged
 apart_from_app : (kind : Kind) → bit_and 0x20 (judged kind 3) ≡ 0
@@ -168,13 +168,13 @@ said_is kind delays (R2 bytes) = refl
 abbrev failing_choice : Bool → Delays → Card → Choice
 failing_choice late delays card = record (command_choice delays card) { fails_switch = true; says_late = late }
 
-module _ (plan : List Planned) (old new : Card) (delays : Delays) (soon : delays.ready ≤ 8) (faults later : ℕ)
-    (before after : Wire) where
+module _ (plan : List Planned) (old new : Card) (delays : Delays) (soon : delays.ready ≤ patience)
+    (bare : delays.finds_protection ≡ false) (faults later : ℕ) (before after : Wire) where
   failed_switch : (late : Bool) (frame : List ℕ) (reply : Reply) → later ≡ faults + 1
       → is_switch_frame old (command_in frame) ≡ true → new ≡ (failing late old).0 → Spells (failing late old).1 reply
       → CommandStep (kept_with plan old faults before) frame reply (kept_with plan new later after)
   failed_switch late frame reply one fits card heard =
-      let is = fails_to_switch (failing_choice late delays old) old (command_in frame) refl fits in
+      let is = fails_to_switch (failing_choice late delays old) old (command_in frame) refl refl fits in
       fail_switch (failing_choice late delays old) refl fits one (card ∙ ap (λ (x : Card × CardAnswer). x.0) is)
       (replies_as_is old _ reply (subst (λ (x : Card × CardAnswer). Spells x.1 reply) is heard))
 
@@ -186,22 +186,32 @@ module _ (plan : List Planned) (old new : Card) (delays : Delays) (soon : delays
   command_fault (Some Is.LoseCommand) frame reply one fits card heard = lose_command one card heard
   command_fault (Some (Is.FlipCommand flips)) frame reply one fits card heard = flip_command false one card heard
   command_fault (Some Is.LoseReply) frame reply one fits card heard =
-      lose_reply (command_choice delays old) (soon_ready delays old soon, refl) one card
+      lose_reply (command_choice delays old) (soon_ready delays old soon) one card
       (λ none. cc (ap (λ answer. is_answer (said_as delays answer)) none, fits)) heard
   command_fault (Some (Is.FlipReply flips)) frame reply one fits card heard =
-      flip_reply (command_choice delays old) (soon_ready delays old soon, refl) one card
+      flip_reply (command_choice delays old) (soon_ready delays old soon) one card
       (_, said_is old.made.kind delays _, is_flipped flips (heeded delays old frame).1 reply fits heard)
   command_fault (Some Is.FailSwitch) frame reply one fits card heard = failed_switch false frame reply one fits card heard
   command_fault (Some Is.FailSwitchLate) frame reply one fits card heard =
       failed_switch true frame reply one fits card heard
+  command_fault (Some Is.LoseFailedSwitch) frame reply one fits card heard =
+      let is = fails_to_switch (failing_choice false delays old) old (command_in frame) refl refl fits in
+      lose_reply (failing_choice false delays old) (soon_ready delays old soon) one
+      (card ∙ ap (λ (x : Card × CardAnswer). x.0) is)
+      (λ none. cc (ap (λ (x : Card × CardAnswer). x.1) is, none)) heard
+  command_fault (Some Is.FindProtection) frame reply one fits card heard =
+      find_protection (command_choice (finding_protection delays) old) refl
+      (soon_ready (finding_protection delays) old soon)
+      (and_true (is_write_frame old (command_in frame)) (is_in old.state Tran) fits).0 one card
+      (_, said_is old.made.kind (finding_protection delays) _, heard)
   command_fault (Some (Is.LeaveOver ComCrc)) frame reply one fits card heard =
-      leave_over (command_choice delays old) com_crc_error (refl, λ none. cc) (soon_ready delays old soon, refl) one
+      leave_over (command_choice delays old) com_crc_error (refl, λ none. cc) (soon_ready delays old soon, refl, bare) one
       card (_, said_is old.made.kind delays _, heard)
   command_fault (Some (Is.LeaveOver Illegal)) frame reply one fits card heard =
-      leave_over (command_choice delays old) illegal_command (refl, λ none. cc) (soon_ready delays old soon, refl) one
+      leave_over (command_choice delays old) illegal_command (refl, λ none. cc) (soon_ready delays old soon, refl, bare) one
       card (_, said_is old.made.kind delays _, heard)
   command_fault (Some (Is.Brownout outcome)) frame reply one fits card heard =
-      command_brownout (choice_of false) (lands_by outcome) delays.keeps_length false (λ slow. absurd cc, refl) one card
+      command_brownout (choice_of false) (lands_by outcome) delays.keeps_length false (λ slow. absurd cc, refl, refl) one card
       heard
   command_fault (Some Is.BadBlock) frame reply one fits card heard = cc
   command_fault (Some Is.NoBlock) frame reply one fits card heard = cc
@@ -212,13 +222,16 @@ module _ (plan : List Planned) (old new : Card) (delays : Delays) (soon : delays
   command_fault (Some (Is.Fail outcome)) frame reply one fits card heard = cc
   command_fault (Some (Is.FailWith outcome bits)) frame reply one fits card heard = cc
   command_fault (Some Is.Busy) frame reply one fits card heard = cc
+  command_fault (Some Is.LoseBlock) frame reply one fits card heard = cc
+  command_fault (Some Is.RejectBusy) frame reply one fits card heard = cc
+  command_fault (Some (Is.FailEarly outcome bits)) frame reply one fits card heard = cc
 
   command_step : (fault : Option Fault) (frame : List ℕ) (reply : Reply) (fell : Bool)
       → later ≡ (if fell then faults + 1 else faults)
       → Commands fault delays old frame reply fell new
       → CommandStep (kept_with plan old faults before) frame reply (kept_with plan new later after)
   command_step fault frame reply false counts does =
-      does_command (command_choice delays old) (soon_ready delays old soon, refl) counts (does.card refl)
+      does_command (command_choice delays old) (soon_ready delays old soon, refl, bare) counts (does.card refl)
       (_, said_is old.made.kind delays _, does.answer refl)
   command_step fault frame reply true counts does =
       command_fault fault frame reply counts (sym does.fell_is) (does.fault_card refl) (does.fault_reply refl)
@@ -269,6 +282,11 @@ module _ (plan : List Planned) (old new : Card) (delays : Delays) (faults later 
   read_fault (Some (Is.LoseStatus outcome)) size got block one fits card answer = cc
   read_fault (Some (Is.Fail outcome)) size got block one fits card answer = cc
   read_fault (Some (Is.FailWith outcome bits)) size got block one fits card answer = cc
+  read_fault (Some Is.LoseFailedSwitch) size got block one fits card answer = cc
+  read_fault (Some Is.FindProtection) size got block one fits card answer = cc
+  read_fault (Some Is.LoseBlock) size got block one fits card answer = cc
+  read_fault (Some Is.RejectBusy) size got block one fits card answer = cc
+  read_fault (Some (Is.FailEarly outcome bits)) size got block one fits card answer = cc
 
   read_step : (fault : Option Fault) (size : ℕ) (got : DataIn) (block : List ℕ) (fell : Bool)
       → later ≡ (if fell then faults + 1 else faults)
@@ -297,11 +315,13 @@ module _ (plan : List Planned) (old new : Card) (delays : Delays) (faults later 
       → fits_write fault old before.lines ≡ true
       → new ≡ after_write fault delays old block → got ≡ written_out fault
       → WriteStep (kept_with plan old faults before) block got (kept_with plan new later after)
-  write_fault (Some Is.Reject) block got one fits card answer = reject false fits one card answer
+  write_fault (Some Is.LoseBlock) block got one fits card answer = lose_block fits one card answer
+  write_fault (Some Is.RejectBusy) block got one fits card answer = reject false true fits one card answer
+  write_fault (Some Is.Reject) block got one fits card answer = reject false false fits one card answer
   write_fault (Some Is.RejectAll) block got one fits card answer =
-      reject (not old.is_single) fits one card answer
-  write_fault (Some (Is.LoseStatus Old)) block got one fits card answer = lose_status false false fits one card answer
-  write_fault (Some (Is.LoseStatus New)) block got one fits card answer = lose_status true false fits one card answer
+      reject (not old.is_single) false fits one card answer
+  write_fault (Some (Is.LoseStatus Old)) block got one fits card answer = lose_status false false false fits one card answer
+  write_fault (Some (Is.LoseStatus New)) block got one fits card answer = lose_status true false false fits one card answer
   write_fault (Some (Is.Brownout outcome)) block got one fits card answer =
       write_brownout (lands_by outcome) delays.keeps_length false one card answer
   write_fault None block got one fits card answer = cc
@@ -318,6 +338,9 @@ module _ (plan : List Planned) (old new : Card) (delays : Delays) (faults later 
   write_fault (Some Is.ReadError) block got one fits card answer = cc
   write_fault (Some (Is.Fail outcome)) block got one fits card answer = cc
   write_fault (Some (Is.FailWith outcome bits)) block got one fits card answer = cc
+  write_fault (Some Is.LoseFailedSwitch) block got one fits card answer = cc
+  write_fault (Some Is.FindProtection) block got one fits card answer = cc
+  write_fault (Some (Is.FailEarly outcome bits)) block got one fits card answer = cc
 
   write_step : (fault : Option Fault) (block : Sector) (got : DataOut) (fell : Bool)
       → later ≡ (if fell then faults + 1 else faults)
@@ -347,10 +370,10 @@ slow_within true planned limit polled few early slow = few_times limit polled fe
 slow_within false true limit polled few early slow = few_times patience polled (omega arith) slow
 slow_within false false limit polled few early slow = cc
 
-soon_rested : (fault : Option Fault) (delays : Delays) (card : Card) → delays.busy ≤ 8
+soon_rested : (fault : Option Fault) (delays : Delays) (card : Card) → delays.busy ≤ patience
     → IsPatient (poll_choice fault delays card) card.polled
 soon_rested fault delays card few slow =
-    slow_within (nat_lt card.polled delays.busy) (is_busy_fault fault) delays.busy card.polled (omega (arith, few)) refl slow
+    slow_within (nat_lt card.polled delays.busy) (is_busy_fault fault) delays.busy card.polled few refl slow
 
 is_false : (b : Bool) → not b ≡ true → b ≡ false
 is_false true h = cc
@@ -359,7 +382,7 @@ is_false false h = refl
 at_least : (limit times : ℕ) → nat_le limit times ≡ true → limit ≤ times
 at_least limit times h = grind (arith, nat_tests, h)
 
-module _ (plan : List Planned) (old new : Card) (delays : Delays) (soon : delays.busy ≤ 8) (faults later : ℕ)
+module _ (plan : List Planned) (old new : Card) (delays : Delays) (soon : delays.busy ≤ patience) (faults later : ℕ)
     (before after : Wire) where
   -- with these error bits, in prg or in rcv
   failed_by : (bits : ℕ) (lands : ℕ → Bool) (said : Bool) → AreOfExecution (bits / 2 ^ 13) → (programs : Bool)
@@ -372,11 +395,11 @@ module _ (plan : List Planned) (old new : Card) (delays : Delays) (soon : delays
       (card ∙ ap (raised (bits / 2 ^ 13)) (rw parts.0 refl)) is
   failed_by bits lands said of false programs fits one card is =
       let parts = and_true (is_in old.state Rcv) _ fits in
-      fall_short lands (bits / 2 ^ 13) of parts.0 (and_true old.is_busy _ parts.1).0 one
+      fall_short lands (bits / 2 ^ 13) false of parts.0 (and_true old.is_busy _ parts.1).0 one
       (card ∙ ap (raised (bits / 2 ^ 13)) (rw (in_state old.state Rcv parts.0) refl)) is
 
   poll_fault : (fault : Option Fault) (said : Bool) → later ≡ faults + 1 → fits_poll fault old ≡ true
-      → new ≡ after_poll fault delays old → said ≡ is_busy_fault fault
+      → new ≡ after_poll fault delays old → said ≡ says_yes fault
       → PollStep (kept_with plan old faults before) said (kept_with plan new later after)
   poll_fault (Some (Is.Fail outcome)) said one fits card is =
       let parts = and_true (is_in old.state Prg) (not old.is_switching) fits in
@@ -384,6 +407,12 @@ module _ (plan : List Planned) (old new : Card) (delays : Delays) (soon : delays
   poll_fault (Some (Is.FailWith outcome bits)) said one fits card is =
       let parts = and_true (are_of_execution bits) (may_fail old || may_fall_short old) fits in
       failed_by bits (lands_by outcome) said (execution_held bits parts.0) (may_fail old) refl parts.1 one card is
+  poll_fault (Some (Is.FailEarly outcome bits)) said one fits card is =
+      let parts = and_true (are_of_execution bits) (may_fail old && old.is_busy) fits in
+      let state = and_true (may_fail old) old.is_busy parts.1 in
+      let programs = and_true (is_in old.state Prg) (not old.is_switching) state.0 in
+      fail_early (lands_by outcome) (bits / 2 ^ 13) (execution_held bits parts.0) programs.0
+      (is_false old.is_switching programs.1) state.1 one card is
   poll_fault (Some Is.Busy) said one fits card is =
       let parts = and_true old.is_busy (nat_le patience old.polled) fits in
       busy parts.0 (at_least patience old.polled parts.1) one card is
@@ -403,6 +432,10 @@ module _ (plan : List Planned) (old new : Card) (delays : Delays) (soon : delays
   poll_fault (Some Is.Reject) said one fits card is = cc
   poll_fault (Some Is.RejectAll) said one fits card is = cc
   poll_fault (Some (Is.LoseStatus outcome)) said one fits card is = cc
+  poll_fault (Some Is.LoseFailedSwitch) said one fits card is = cc
+  poll_fault (Some Is.FindProtection) said one fits card is = cc
+  poll_fault (Some Is.LoseBlock) said one fits card is = cc
+  poll_fault (Some Is.RejectBusy) said one fits card is = cc
 
   poll_step : (fault : Option Fault) (said fell : Bool) → later ≡ (if fell then faults + 1 else faults)
       → Polls fault delays old said fell new
@@ -458,15 +491,23 @@ room sim fault fell ok is unplanned did =
     λ last. fell_some fell fault sim.plan sim.wire.exchanges is unplanned ok.never did last in
     omega (arith, ok.few, ok.bounded, other)
 
+pub waits_on : (old noted new : Delays) → KeepsWaits old noted → KeepsWaits noted new → KeepsWaits old new
+waits_on old noted new first second = record {
+  ready = second.ready ∙ first.ready;
+  busy = second.busy ∙ first.busy;
+  finds_protection = second.finds_protection ∙ first.finds_protection;
+}
+
 -- the card in memory after an exchange
 pub still_ok : (old new : SimView) (fault : Option Fault) (fell : Bool) (exchange : Exchange)
-    → SimOk old → new.delays.ready ≡ old.delays.ready → new.delays.busy ≡ old.delays.busy → new.plan ≡ old.plan → fault ≡ fault_at old.plan old.wire.exchanges
+    → SimOk old → KeepsWaits old.delays new.delays → new.plan ≡ old.plan → fault ≡ fault_at old.plan old.wire.exchanges
     → (fault ≡ None → fell ≡ false) → new.faults ≡ (if fell then old.faults + 1 else old.faults)
     → Notes old.wire exchange new.wire → IsCard new.card → SimOk new
-still_ok old new fault fell exchange ok as_soon as_rested plan is unplanned counts notes card = record {
+still_ok old new fault fell exchange ok waits plan is unplanned counts notes card = record {
   is_card = card;
-  soon_ready = rw as_soon ok.soon_ready;
-  soon_rested = rw as_rested ok.soon_rested;
+  soon_ready = rw waits.ready ok.soon_ready;
+  soon_rested = rw waits.busy ok.soon_rested;
+  unprotected = waits.finds_protection ∙ ok.unprotected;
   few = few_more fell old.faults new.faults old.wire.exchanges new.wire.exchanges ok.few ok.bounded
       (λ did last. fell_some fell fault old.plan old.wire.exchanges is unplanned ok.never did last) counts
       notes.exchanges;

@@ -7,6 +7,7 @@ use Rattle.mmc_regs.specs.Ocr.{access_mode, power_up_status, window_at_3_3_volts
 use Rattle.mmc_regs.specs.Register.{checked_number}
 use Rattle.mmc_regs.specs.declared.csd.Csd.{Csd}
 use Rattle.mmc_ext_csd.specs.ExtCsd.{boot_sectors, gp_sectors, hc_erase_grp_size}
+use Rattle.mmc_card.specs.Card.{patience}
 use Rattle.mmc_card.specs.Made.{Made, csd_number_of, is_sd, user_sectors}
 use Rattle.mmc_card_sim.specs.Registers.{kind_of, made_of}
 use Rattle.mmc_card_sim.specs.Sizes.{total}
@@ -71,9 +72,9 @@ abbrev pub each_register_is_taken : Registers → Bool
 each_register_is_taken registers =
     has_cid registers && (has_csd registers && (has_ocr registers.ocr && kind_is_taken registers.kind registers.ocr))
 
--- at most 8 inquiries aren't ready, and at most 8 polls of a busy time are busy
+-- at most 15 inquiries aren't ready, and at most 15 polls of a busy time are busy
 abbrev pub has_short_waits : CardSpec → Bool
-has_short_waits spec = nat_le spec.ready 8 && nat_le spec.busy 8
+has_short_waits spec = nat_le spec.ready patience && nat_le spec.busy patience
 
 -- bits 30 and 29 of an OCR, where they are said
 abbrev pub has_early_bits : Option ℕ → Bool

@@ -1,12 +1,19 @@
 -- What a chip in memory stands for, and the choices that it makes where a card is free.
-use Rattle.std.specs.Prelude.{◌&&◌, ◌+◌, ◌/◌, ◌==◌, ◌^◌, ◌≡◌, Bool, List, false, if◌then◌else◌, length, nat_lt, not}
+use Rattle.std.specs.Prelude.{◌%◌, ◌&&◌, ◌+◌, ◌/◌, ◌==◌, ◌^◌, ◌≡◌, Bool, List, bit_or, false, if◌then◌else◌, length, nat_lt, not}
 use Rattle.std.specs.Prelude.{◌∷◌, None, Option, Some, [], true, ℕ}
+use Rattle.mmc_frame.specs.declared.card_state.State.{State}
+use Rattle.mmc_frame.specs.declared.card_state.State.TheVariants.{Prg, Tran}
+use Rattle.mmc_frame.specs.declared.commands.TheConstants as Index
+use Rattle.mmc_frame.specs.declared.kind.Kind.{Kind}
+use Rattle.mmc_frame.specs.declared.kind.Kind.TheVariants.{Mmc}
 use Rattle.mmc_card.specs.declared.exchange.DataIn.{DataIn}
 use Rattle.mmc_card.specs.declared.exchange.DataIn.TheVariants as Received
 use Rattle.mmc_card.specs.declared.exchange.Lines.{Lines}
 use Rattle.mmc_card.specs.Blocks.{asked_for, can_send, next_block}
-use Rattle.mmc_card.specs.Card.{Both, Card, First, FromBytes, FromSectors, Held, NoAddress, Source as CardSource}
+use Rattle.mmc_card.specs.Card.{Both, Card, First, FromBytes, FromSectors, Held, NoAddress, Source as CardSource, is_in}
 use Rattle.mmc_card.specs.CardAnswer.{CardAnswer, Choice}
+use Rattle.mmc_card.specs.ErrorBits.{wp_violation}
+use Rattle.mmc_card.specs.RowsTransfer.{transfer_errors}
 use Rattle.mmc_card_sim.specs.declared.answer.Answer.{Answer}
 use Rattle.mmc_card_sim.specs.declared.chip.Addresses.{Addresses}
 use Rattle.mmc_card_sim.specs.declared.chip.Addresses.TheVariants as Is
@@ -82,10 +89,14 @@ choice_of is_slow = record {
   selects_none = true;
   fails_switch = false;
   says_late = false;
+  finds_protection = false;
   stays_busy = false;
+  answers_stop = false;
+  drops_quietly = false;
   is_behind = false;
-  shows_prg = true;
+  shows = Prg;
   shows_ready = false;
+  tells_late = false;
   unread = [];
 }
 
@@ -99,10 +110,15 @@ abbrev pub selects_none : Option Refusal → Bool
 selects_none (Some SelectsDefault) = false
 selects_none _ = true
 
--- DEVICE_LIFE_TIME_EST_TYP_A, which nobody reads
-abbrev pub life_time_bytes : Option ℕ → List (ℕ × ℕ)
-life_time_bytes (Some life_time) = (268, life_time) ∷ []
-life_time_bytes None = []
+-- DEVICE_LIFE_TIME_EST_TYP_A of an eMMC device, which nobody reads
+abbrev pub life_time_bytes : Kind → Option ℕ → List (ℕ × ℕ)
+life_time_bytes Mmc (Some life_time) = (268, life_time) ∷ []
+life_time_bytes _ _ = []
+
+-- how many statuses lag behind a card that has come to tran from this state
+abbrev pub lagging_behind : State → Delays → ℕ
+lagging_behind Prg delays = delays.lagging
+lagging_behind _ delays = delays.late
 
 -- at a command; the first so many inquiries are answered with not ready
 abbrev pub command_choice : Delays → Card → Choice
@@ -111,16 +127,54 @@ command_choice delays card =
       rca = delays.last_rca;
       keeps_length = delays.keeps_length;
       refuses_speed = refuses delays.refusal;
-      unread = life_time_bytes delays.life_time;
+      unread = life_time_bytes card.made.kind delays.life_time;
       selects_none = selects_none delays.refusal;
+      finds_protection = delays.finds_protection;
       stays_busy = delays.stays_busy;
-      is_behind = nat_lt 0 delays.lagging && nat_lt card.polled (delays.busy + delays.lagging);
+      is_behind =
+          nat_lt 0 (lagging_behind delays.before delays)
+          && nat_lt card.polled (delays.busy + lagging_behind delays.before delays);
+      shows = delays.before;
     }
 
--- what the card chooses behind a command, by the RCA that it goes by then: where the RCA changes, the next one follows it
-abbrev pub delays_after : Delays → ℕ → Delays
-delays_after delays rca =
-    record delays { last_rca = if delays.rca_changes && not (rca == 0) then rca else delays.last_rca }
+-- the command is CMD0
+abbrev pub is_reset : Option (ℕ × ℕ) → Bool
+is_reset (Some command) = command.0 == Index.GO_IDLE_STATE
+is_reset None = false
+
+-- one that ages says one more
+abbrev pub aged : Option ℕ → Option ℕ
+aged (Some life_time) = Some ((life_time + 1) % 256)
+aged None = None
+
+-- What the card chooses behind a command, by the RCA that it goes by then: where the RCA changes, the next one follows it. One
+-- that ages does so at CMD0.
+abbrev pub delays_after : Delays → Option (ℕ × ℕ) → ℕ → Delays
+delays_after delays command rca =
+    record delays {
+      last_rca = if delays.rca_changes && not (rca == 0) then rca else delays.last_rca;
+      life_time = if is_reset command then aged delays.life_time else delays.life_time;
+    }
+
+-- the same, but that a write finds its sectors protected
+abbrev pub finding_protection : Delays → Delays
+finding_protection delays = record delays { finds_protection = true }
+
+-- What it chooses behind any exchange, by the states before it and behind it: what a status shows that lags behind tran.
+abbrev pub moved_on : Delays → State → State → Delays
+moved_on delays old new =
+    record delays { before = if is_in new Tran && not (is_in old Tran) then old else delays.before }
+
+-- it takes as long as before, and finds its sectors protected or not as before
+pub record KeepsWaits (old new : Delays) : Type 0 where
+  pub ready : new.ready ≡ old.ready
+  pub busy : new.busy ≡ old.busy
+  pub finds_protection : new.finds_protection ≡ old.finds_protection
+
+-- why a transfer can't begin, where a write finds its sectors protected or not
+abbrev pub errors_found : Bool → Bool → Card → ℕ → ℕ
+errors_found finds is_write card address =
+    if finds then bit_or (transfer_errors is_write card address) wp_violation else transfer_errors is_write card address
 
 -- the chip is the card after a step, and this is its answer
 abbrev pub Answers : Card × CardAnswer → Chip → Answer → Type 0

@@ -28,6 +28,9 @@ card_with kind ocr csd sectors =
       refusal = None;
       stays_busy = false;
       lagging = 0;
+      late = 0;
+      shows_app_cmd = false;
+      ages = false;
       image = None;
     }
 

@@ -3,7 +3,7 @@
 use Rattle.std.specs.Prelude.{◌&&◌, ◌*◌, ◌/◌, ◌==◌, ◌^◌, ◌||◌, ◌≡◌, Bool, List, Option, Some, bit_or, false}
 use Rattle.std.specs.Prelude.{None, if◌then◌else◌, length, nat_le, nat_lt, not, true, ℕ}
 use Rattle.mmc_frame.specs.Frame.{command_in}
-use Rattle.mmc_frame.specs.declared.card_state.State.TheVariants.{Prg, Rcv}
+use Rattle.mmc_frame.specs.declared.card_state.State.TheVariants.{Prg, Rcv, Tran}
 use Rattle.mmc_card.specs.declared.exchange.DataIn.{DataIn}
 use Rattle.mmc_card.specs.declared.exchange.DataIn.TheVariants as Received
 use Rattle.mmc_card.specs.declared.exchange.DataOut.{DataOut}
@@ -12,17 +12,17 @@ use Rattle.mmc_card.specs.declared.exchange.Lines.{Lines}
 use Rattle.mmc_card.specs.declared.exchange.Reply.{Reply}
 use Rattle.mmc_card.specs.declared.exchange.Reply.TheVariants as Came
 use Rattle.mmc_card.specs.Blocks.{accepted, can_accept, can_send, offered, polled_once, programmed, rejected, sent}
-use Rattle.mmc_card.specs.Blocks.{fallen_short, next_written, waited}
+use Rattle.mmc_card.specs.Blocks.{fallen_early, fallen_short, next_written, waited}
 use Rattle.mmc_card.specs.Card.{Card, is_in, patience, stored}
 use Rattle.mmc_card.specs.CardAnswer.{CardAnswer, Choice, Silent, garbled, left_with, raised, reset}
 use Rattle.mmc_card.specs.ErrorBits.{card_ecc_failed, com_crc_error, execution_error_bits, general_error}
 use Rattle.mmc_card.specs.ErrorBits.{illegal_command}
-use Rattle.mmc_card.specs.Faults.{Spells, is_switch_frame}
+use Rattle.mmc_card.specs.Faults.{Spells, is_switch_frame, is_write_frame}
 use Rattle.mmc_card.specs.Rows.{answered, reached}
 use Rattle.mmc_card.specs.RowsSwitch.{switch_row}
 use Rattle.mmc_card.specs.declared.command.Command.TheVariants.{Switch}
 use Rattle.mmc_card_sim.specs.Answer.{IsHeardFlipped, can_flip, is_flip, said_as}
-use Rattle.mmc_card_sim.specs.Chip.{Sends, choice_of, command_choice}
+use Rattle.mmc_card_sim.specs.Chip.{Sends, choice_of, command_choice, finding_protection}
 use Rattle.mmc_card_sim.specs.Store.{lands_by}
 use Rattle.mmc_card_sim.specs.declared.delays.Delays.{Delays}
 use Rattle.mmc_card_sim.specs.declared.fault.CommandError.{CommandError}
@@ -31,7 +31,8 @@ use Rattle.mmc_card_sim.specs.declared.fault.Fault.{Fault}
 use Rattle.mmc_card_sim.specs.declared.fault.Fault.TheVariants.{BadBlock, Brownout, Busy, Fail, FailWith, FlipCommand}
 use Rattle.mmc_card_sim.specs.declared.fault.Fault.TheVariants.{FailSwitch, FailSwitchLate, FlipReply, LeaveOver}
 use Rattle.mmc_card_sim.specs.declared.fault.Fault.TheVariants.{LoseCommand, LoseReply, LoseStatus, NoBlock, ReadError}
-use Rattle.mmc_card_sim.specs.declared.fault.Fault.TheVariants.{Reject, RejectAll}
+use Rattle.mmc_card_sim.specs.declared.fault.Fault.TheVariants.{FailEarly, FindProtection, LoseBlock, LoseFailedSwitch}
+use Rattle.mmc_card_sim.specs.declared.fault.Fault.TheVariants.{Reject, RejectAll, RejectBusy}
 use Rattle.mmc_card_sim.specs.declared.fault.Outcome.TheVariants.{New}
 
 -- Commands.
@@ -43,7 +44,7 @@ heeded delays card frame =
 
 -- a switch that fails, which is said late or at once
 abbrev pub failing : Bool → Card → Card × CardAnswer
-failing says_late card = switch_row says_late (reached Switch card) None
+failing says_late card = switch_row says_late (reached (choice_of false) Switch card) None
 
 -- the error bit of a command, in units of bit 13
 abbrev pub error_bit : CommandError → ℕ
@@ -58,6 +59,7 @@ heeded_with error delays card frame = heeded delays (left_with (error_bit error)
 abbrev pub done_in : Option Fault → Delays → Card → List ℕ → Card × CardAnswer
 done_in (Some FailSwitch) delays card frame = failing false card
 done_in (Some FailSwitchLate) delays card frame = failing true card
+done_in (Some FindProtection) delays card frame = heeded (finding_protection delays) card frame
 done_in (Some (LeaveOver error)) delays card frame = heeded_with error delays card frame
 done_in _ delays card frame = heeded delays card frame
 
@@ -73,6 +75,8 @@ fits_command (Some LoseReply) delays card frame = is_answer (heeded delays card 
 fits_command (Some (FlipReply flips)) delays card frame = can_flip flips (heeded delays card frame).1
 fits_command (Some FailSwitch) delays card frame = is_switch_frame card (command_in frame)
 fits_command (Some FailSwitchLate) delays card frame = is_switch_frame card (command_in frame)
+fits_command (Some LoseFailedSwitch) delays card frame = is_switch_frame card (command_in frame)
+fits_command (Some FindProtection) delays card frame = is_write_frame card (command_in frame) && is_in card.state Tran
 fits_command (Some (LeaveOver error)) delays card frame = true
 fits_command (Some (Brownout outcome)) delays card frame = true
 fits_command _ delays card frame = false
@@ -84,6 +88,8 @@ after_command (Some LoseReply) delays card frame = (heeded delays card frame).0
 after_command (Some (FlipReply flips)) delays card frame = (heeded delays card frame).0
 after_command (Some FailSwitch) delays card frame = (failing false card).0
 after_command (Some FailSwitchLate) delays card frame = (failing true card).0
+after_command (Some LoseFailedSwitch) delays card frame = (failing false card).0
+after_command (Some FindProtection) delays card frame = (heeded (finding_protection delays) card frame).0
 after_command (Some (LeaveOver error)) delays card frame = (heeded_with error delays card frame).0
 after_command (Some (Brownout outcome)) delays card frame = reset (lands_by outcome) delays.keeps_length card
 after_command _ delays card frame = card
@@ -93,6 +99,7 @@ abbrev pub IsHeard : Option Fault → CardAnswer → Reply → Type 0
 IsHeard (Some (FlipReply flips)) answer reply = IsHeardFlipped flips answer reply
 IsHeard (Some FailSwitch) answer reply = Spells answer reply
 IsHeard (Some FailSwitchLate) answer reply = Spells answer reply
+IsHeard (Some FindProtection) answer reply = Spells answer reply
 IsHeard (Some (LeaveOver error)) answer reply = Spells answer reply
 IsHeard _ answer reply = reply ≡ Came.Silent
 
@@ -141,7 +148,9 @@ pub record Reads (fault : Option Fault) (delays : Delays) (old : Card) (lines : 
 -- Blocks that the host writes.
 
 abbrev pub fits_write : Option Fault → Card → Lines → Bool
+fits_write (Some LoseBlock) card lines = can_accept lines card
 fits_write (Some Reject) card lines = can_accept lines card
+fits_write (Some RejectBusy) card lines = can_accept lines card
 fits_write (Some RejectAll) card lines = can_accept lines card
 fits_write (Some (LoseStatus outcome)) card lines = can_accept lines card
 fits_write (Some (Brownout outcome)) card lines = true
@@ -150,11 +159,14 @@ fits_write _ card lines = false
 abbrev pub after_write : Option Fault → Delays → Card → List ℕ → Card
 after_write (Some (LoseStatus New)) delays card block = accepted block card
 after_write (Some (Brownout outcome)) delays card block = reset (lands_by outcome) delays.keeps_length card
-after_write (Some RejectAll) delays card block = rejected (not card.is_single) card
-after_write _ delays card block = rejected false card
+after_write (Some LoseBlock) delays card block = card
+after_write (Some RejectBusy) delays card block = rejected false true card
+after_write (Some RejectAll) delays card block = rejected (not card.is_single) false card
+after_write _ delays card block = rejected false false card
 
 abbrev pub written_out : Option Fault → DataOut
 written_out (Some Reject) = Sent.Rejected
+written_out (Some RejectBusy) = Sent.Rejected
 written_out (Some RejectAll) = Sent.Rejected
 written_out _ = Sent.Nothing
 
@@ -185,12 +197,22 @@ may_fall_short card =
 abbrev pub can_fail_with : ℕ → Card → Bool
 can_fail_with bits card = are_of_execution bits && (may_fail card || may_fall_short card)
 
+-- it may fail so early that the card is busy still
+abbrev pub can_fail_early : ℕ → Card → Bool
+can_fail_early bits card = are_of_execution bits && (may_fail card && card.is_busy)
+
 abbrev pub failed : (ℕ → Bool) → Card → Card
 failed lands card = if is_in card.state Prg then programmed lands card else fallen_short lands card
 
 abbrev pub is_busy_fault : Option Fault → Bool
 is_busy_fault (Some Busy) = true
 is_busy_fault _ = false
+
+-- the card says that it is busy
+abbrev pub says_yes : Option Fault → Bool
+says_yes (Some Busy) = true
+says_yes (Some (FailEarly outcome bits)) = true
+says_yes _ = false
 
 -- The card is slow at the first polls of a busy time; a planned yes is one of them while it is no fault.
 abbrev pub is_slow_at : Option Fault → Delays → Card → Bool
@@ -202,6 +224,7 @@ poll_choice fault delays card = choice_of (is_slow_at fault delays card)
 abbrev pub fits_poll : Option Fault → Card → Bool
 fits_poll (Some (Fail outcome)) card = may_fail card
 fits_poll (Some (FailWith outcome bits)) card = can_fail_with bits card
+fits_poll (Some (FailEarly outcome bits)) card = can_fail_early bits card
 fits_poll (Some Busy) card = card.is_busy && nat_le patience card.polled
 fits_poll (Some (Brownout outcome)) card = true
 fits_poll _ card = false
@@ -209,6 +232,8 @@ fits_poll _ card = false
 abbrev pub after_poll : Option Fault → Delays → Card → Card
 after_poll (Some (Fail outcome)) delays card = raised general_error (programmed (lands_by outcome) card)
 after_poll (Some (FailWith outcome bits)) delays card = raised (bits / 2 ^ 13) (failed (lands_by outcome) card)
+after_poll (Some (FailEarly outcome bits)) delays card =
+    raised (bits / 2 ^ 13) (fallen_early (lands_by outcome) card)
 after_poll (Some Busy) delays card = waited card
 after_poll (Some (Brownout outcome)) delays card = reset (lands_by outcome) delays.keeps_length card
 after_poll _ delays card = card
@@ -216,6 +241,6 @@ after_poll _ delays card = card
 pub record Polls (fault : Option Fault) (delays : Delays) (old : Card) (said fell : Bool) (new : Card) : Type 0 where
   pub fell_is : fell ≡ fits_poll fault old
   pub fault_card : fell ≡ true → new ≡ after_poll fault delays old
-  pub fault_said : fell ≡ true → said ≡ is_busy_fault fault
+  pub fault_said : fell ≡ true → said ≡ says_yes fault
   pub card : fell ≡ false → new ≡ (polled_once (poll_choice fault delays old) old).0
   pub said_is : fell ≡ false → said ≡ (polled_once (poll_choice fault delays old) old).1

@@ -1,5 +1,5 @@
 -- What a card in memory is made with, by its registers.
-use Rattle.std.specs.Prelude.{◌-◌, Bool, List, [], false, if◌then◌else◌, replicate, slice_set, ℕ}
+use Rattle.std.specs.Prelude.{◌-◌, Bool, List, None, Option, Some, [], false, if◌then◌else◌, replicate, slice_index, slice_set, true, ℕ}
 use Rattle.mmc_frame.specs.declared.kind.Kind.{Kind}
 use Rattle.mmc_frame.specs.declared.kind.Kind.TheVariants as Is
 use Rattle.mmc_card.specs.Made.{Made}
@@ -36,6 +36,11 @@ last_rca_by (Mmc mmc) = 0
 abbrev pub rca_changes_by : KindRegisters → Bool
 rca_changes_by (Sd sd) = sd.rca_changes
 rca_changes_by (Mmc mmc) = false
+
+-- DEVICE_LIFE_TIME_EST_TYP_A of an eMMC device that ages, as it is made with
+abbrev pub first_life_time : Bool → KindRegisters → Option ℕ
+first_life_time true (Mmc mmc) = Some (slice_index mmc.ext_csd 268)
+first_life_time _ _ = None
 
 abbrev pub knows_cmd8 : KindRegisters → Bool
 knows_cmd8 (Sd sd) = sd.answers_cmd8

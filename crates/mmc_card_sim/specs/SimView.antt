@@ -1,14 +1,15 @@
 -- The views of a card in memory that follows a plan of faults: what contracts see of it, and what they see of it as a
 -- bus, which is always kept, and on which no more faults may fall than are planned for exchanges to come.
 use Rattle.std.specs.Prelude.{◌-◌, ◌/◌, ◌^◌, ◌≡◌, ◌≤◌, List, None, Option, Some, false, true, unwrap_or, ℕ}
+use Rattle.mmc_frame.specs.declared.card_state.State.TheVariants.{Idle}
 use Rattle.mmc_bus.specs.declared.wire.Wire.{Wire}
 use Rattle.mmc_bus.specs.Wires.{bus_view_with}
 use Rattle.mmc_card.specs.BusView.{BusView}
-use Rattle.mmc_card.specs.Card.{Card, IsCard}
+use Rattle.mmc_card.specs.Card.{Card, IsCard, patience}
 use Rattle.mmc_card.specs.Made.{erased_byte_of_card}
 use Rattle.mmc_card_sim.specs.CardSpec.{sizes_of}
 use Rattle.mmc_card_sim.specs.Plan.{fault_at, to_come}
-use Rattle.mmc_card_sim.specs.Registers.{last_rca_by, made_of, rca_changes_by}
+use Rattle.mmc_card_sim.specs.Registers.{first_life_time, last_rca_by, made_of, rca_changes_by}
 use Rattle.mmc_card_sim.specs.SectorLists.{first_sectors}
 use Rattle.mmc_card_sim.specs.Sizes.{total}
 use Rattle.mmc_card_sim.specs.Store.{split}
@@ -46,16 +47,20 @@ first_delays spec =
       refusal = spec.refusal;
       stays_busy = spec.stays_busy;
       lagging = spec.lagging;
-      shows_app_cmd = false;
-      life_time = None;
+      late = spec.late;
+      before = Idle;
+      shows_app_cmd = spec.shows_app_cmd;
+      life_time = first_life_time spec.ages spec.registers.kind;
+      finds_protection = false;
     }
 
--- It is a card, whose own delays are eight exchanges at most, no more faults have fallen than exchanges were made, and none
+-- It is a card, whose own delays are fifteen exchanges at most, and which finds no sectors protected of its own; no more faults have fallen than exchanges were made, and none
 -- is planned for the number at which their count stays.
 pub record SimOk (sim : SimView) : Type 0 where
   pub is_card : IsCard sim.card
-  pub soon_ready : sim.delays.ready ≤ 8
-  pub soon_rested : sim.delays.busy ≤ 8
+  pub soon_ready : sim.delays.ready ≤ patience
+  pub soon_rested : sim.delays.busy ≤ patience
+  pub unprotected : sim.delays.finds_protection ≡ false
   pub few : sim.faults ≤ sim.wire.exchanges
   pub bounded : sim.wire.exchanges ≤ 2 ^ 64 - 1
   pub never : fault_at sim.plan (2 ^ 64 - 1) ≡ None

@@ -1,5 +1,5 @@
 // The card in memory: where it is, what it remembers, and what it does with a command.
-ghost use Rattle.std.specs.Prelude.{◌*◌, ◌/◌, ◌<◌, ◌≡◌, ◌≤◌, ◌^◌, if◌then◌else◌};
+ghost use Rattle.std.specs.Prelude.{◌&&◌, ◌*◌, ◌/◌, ◌<◌, ◌^◌, ◌≡◌, ◌≤◌, false, if◌then◌else◌};
 ghost use Rattle.mmc_frame.specs.Status.{bits_in, state_number};
 ghost use Rattle.mmc_card.specs.Card.{AreAmong, patience};
 ghost use Rattle.mmc_card.specs.ErrorBits.{command_error_bits, error_bits};
@@ -76,7 +76,7 @@ pub struct Chip {
     pub inquiries: u8,
     pub is_busy: bool,
     pub polled: u8,
-    // Its programming has ended, and its statuses may lag behind.
+    // Its programming or a transfer has ended, or it was selected, and its statuses may lag behind.
     pub lags: bool,
     // What it sends, its next sector, the blocks to come, of an uncounted transfer none, and a transfer of one block.
     pub source: Source,
@@ -97,8 +97,8 @@ pub struct Chip {
     pub ghost waited: { polled ≤ patience },
 }
 
-// The number of a state in a status.
-fn number_of(state: State) -> u32
+/// The number of a state in a status.
+pub fn number_of(state: State) -> u32
     ensures { result ≡ state_number state }
 {
     match state {
@@ -138,13 +138,14 @@ impl Chip {
     ghost use Rattle.mmc_frame.specs.Frame.{command_in};
     ghost use Rattle.mmc_card.specs.CardAnswer.{Checked, Choice, Silent, done, raised, refused, shown, status};
     ghost use Rattle.mmc_card.specs.Card.{is_identified, is_in, powered_on};
-    ghost use Rattle.mmc_card_sim.specs.Chip.{Answers, card_of, command_choice};
+    ghost use Rattle.mmc_card_sim.specs.Chip.{Answers, card_of, choice_of, command_choice};
     ghost use Rattle.mmc_card_sim.specs.Store.{parts_of, values_of};
     ghost use Rattle.std.specs.Prelude.{[], None};
     ghost use Rattle.mmc_card.specs.Rows.{answered, is_legal, reached, respond, row};
-    ghost use Rattle.mmc_card.specs.Faults.{is_switch_frame};
+    ghost use Rattle.mmc_card.specs.Faults.{is_switch_frame, is_write_frame};
     ghost use Rattle.mmc_card.specs.RowsSwitch.{switch_row};
     ghost use Rattle.mmc_card.specs.declared.command.Command.TheVariants.{Switch};
+    ghost use Rattle.mmc_frame.specs.declared.card_state.State.TheVariants.{Tran};
 
     /// A card after power on. What its registers say is given beside them: the erase unit in sectors, write protection,
     /// and the block length that they name, in bytes.
@@ -279,9 +280,10 @@ impl Chip {
     // Any command but those of the erase sequence and CMD13 drops held addresses.
     #[tactic(auto, using(mmc_card::proofs::Cards::among_more, crate::proofs::ChipLemmas::or_held))]
     fn drop_erase_addresses(&mut self, command: Command)
-        ensures card { card_of self.new ≡ reached command (card_of self.old) }
+        ensures card { card_of self.new ≡ reached (choice_of false) command (card_of self.old) }
         ensures inquiries { self.new.inquiries ≡ self.old.inquiries }
         ensures polled { self.new.polled ≡ self.old.polled }
+        ensures registers { self.new.registers ≡ self.old.registers }
     {
         if leaves_erase(command) || matches!(self.addresses, Addresses::None) {
             return;
@@ -311,7 +313,9 @@ impl Chip {
             }
             Command::SelectCard | Command::SendCsd => self.is_in(State::Stby),
             Command::SendIfCond => self.is_in(State::Idle) && self.registers.answers_cmd8(),
-            Command::StopTransmission => self.is_in(State::Data) || self.is_in(State::Rcv),
+            Command::StopTransmission => {
+                self.is_in(State::Tran) || self.is_in(State::Data) || self.is_in(State::Rcv)
+            }
             Command::SendStatus => self.is_identified() && !self.is_app,
             Command::SetBlockCount => self.is_in(State::Tran) && self.registers.has_cmd23(),
             Command::SwitchFunc => self.is_in(State::Tran) && self.registers.has_switch_function(),
@@ -347,8 +351,8 @@ impl Chip {
             Command::ReadSingleBlock => self.read_single_block(argument),
             Command::ReadMultipleBlock => self.read_multiple_block(argument),
             Command::SetBlockCount => self.set_block_count(argument),
-            Command::WriteBlock => self.write_block(argument),
-            Command::WriteMultipleBlock => self.write_multiple_block(argument),
+            Command::WriteBlock => self.write_block(delays, argument),
+            Command::WriteMultipleBlock => self.write_multiple_block(delays, argument),
             Command::EraseStart => self.hold_first(index, argument),
             Command::EraseEnd => self.hold_last(index, argument),
             Command::Erase => self.erase(argument),
@@ -395,9 +399,23 @@ impl Chip {
         }
     }
 
+    /// Whether a frame is CMD24 or CMD25, in tran.
+    pub fn is_write(&self, frame: &[u8; 6]) -> bool
+        ensures { result ≡ (is_write_frame (card_of self.now) (command_in frame.now) && is_in self.now.state Tran) }
+    {
+        match read_command(frame) {
+            Some((index, _)) => {
+                let command = command_of(self.registers.kind(), self.is_app, index);
+                matches!(command, Command::WriteBlock | Command::WriteMultipleBlock)
+                    && self.is_in(State::Tran)
+            }
+            None => false,
+        }
+    }
+
     /// The answer to a switch that fails.
     pub fn fail_switch(&mut self, says_late: bool) -> Answer
-        ensures { Answers (switch_row says_late (reached Switch (card_of self.old)) None) self.new result }
+        ensures { Answers (switch_row says_late (reached (choice_of false) Switch (card_of self.old)) None) self.new result }
     {
         self.drop_erase_addresses(Command::Switch);
         self.leave_byte(says_late)

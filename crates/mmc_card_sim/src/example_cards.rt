@@ -28,6 +28,9 @@ fn card_with(kind: KindRegisters, ocr: u32, csd: u128, sectors: u64) -> CardSpec
         refusal: None,
         stays_busy: false,
         lagging: 0,
+        late: 0,
+        shows_app_cmd: false,
+        ages: false,
         image: None,
     }
 }

@@ -42,6 +42,10 @@ pub enum Fault {
     FailSwitch,
     /// So it does, and the first status behind its busy time says so.
     FailSwitchLate,
+    /// So it does, and its response, which says so, doesn't come.
+    LoseFailedSwitch,
+    /// CMD24 or CMD25 finds its sectors protected: the write doesn't begin, and its response shows WP_VIOLATION.
+    FindProtection,
     /// The card has this error of an earlier command left over, which the command's response shows if it has a status.
     LeaveOver(CommandError),
     /// A block that is read comes with a bad check.
@@ -50,8 +54,12 @@ pub enum Fault {
     NoBlock,
     /// The card can't correct a block that is read: none comes, and CARD_ECC_FAILED shows.
     ReadError,
+    /// The card doesn't see a block that is written.
+    LoseBlock,
     /// A block that is written is rejected.
     Reject,
+    /// So it is, and after CMD24 the card is busy in prg.
+    RejectBusy,
     /// So it is, and all further blocks of a write of several are ignored until CMD12.
     RejectAll,
     /// The status of a block that is written doesn't come: the card has rejected it, or accepted it.
@@ -61,6 +69,8 @@ pub enum Fault {
     /// So it does, or that of an earlier block of a write, with these error bits, as a status has them. Bits that no
     /// programming raises fit no exchange.
     FailWith(Outcome, u32),
+    /// Programming fails with these error bits, and so early that the card is busy still, as it answers.
+    FailEarly(Outcome, u32),
     /// A poll of a busy card is answered yes. It counts as a fault from the sixteenth yes of one busy time on.
     Busy,
     /// The power fails: no answer, and then the card is as after CMD0.

@@ -1,6 +1,7 @@
 // What the card in memory does in a fault: a function for each row of the card relation that leaves the card otherwise
 // than a faithful step.
-ghost use Rattle.std.specs.Prelude.{◌&&◌, ◌/◌, ◌^◌, ◌≡◌, ◌≤◌, false, length, not, true};
+ghost use Rattle.std.specs.Prelude.{◌&&◌, ◌/◌, ◌^◌, ◌≡◌, ◌≤◌, false, if◌then◌else◌, length, not, true};
+ghost use Rattle.mmc_frame.specs.declared.card_state.State.TheVariants.{Prg, Tran};
 ghost use Rattle.mmc_card_sim.specs.FaultyExchanges.{are_of_execution, error_bit};
 ghost use Rattle.mmc_card_sim.specs.Store.{lands_by};
 
@@ -10,9 +11,9 @@ use bitflags::Flags;
 use mmc_frame::{State, Status};
 
 impl Chip {
-    ghost use Rattle.mmc_card.specs.Blocks.{fallen_short, next_written, programmed, rejected};
+    ghost use Rattle.mmc_card.specs.Blocks.{fallen_early, fallen_short, next_written, programmed, rejected};
     ghost use Rattle.mmc_card.specs.Card.{stored};
-    ghost use Rattle.mmc_card.specs.CardAnswer.{garbled, left_with, raised, reset};
+    ghost use Rattle.mmc_card.specs.CardAnswer.{busied, garbled, left_with, raised, reset};
     ghost use Rattle.mmc_card.specs.ErrorBits.{card_ecc_failed, general_error};
     ghost use Rattle.mmc_card_sim.specs.Chip.{card_of};
 
@@ -43,16 +44,30 @@ impl Chip {
         self.raise(Status::CARD_ECC_FAILED);
     }
 
-    /// A block is rejected: a write of one block is over then, and one of several goes on, or all further blocks are
-    /// ignored.
-    pub fn reject(&mut self, ignores: bool)
-        ensures { card_of self.new ≡ rejected (ignores && not self.old.is_single) (card_of self.old) }
+    /// A block is rejected: a write of one block is over then, at once or after a busy time, and one of several goes on, or all
+    /// further blocks are ignored.
+    pub fn reject(&mut self, ignores: bool, is_busy: bool)
+        ensures { card_of self.new ≡ rejected (ignores && not self.old.is_single) is_busy (card_of self.old) }
     {
         if self.is_single {
-            self.state = State::Tran;
             self.store.drop_values();
+            self.leave_rcv(is_busy);
         } else if ignores {
             self.left = Some(0);
+        }
+    }
+
+    // A write of one block is over, at once or after a busy time.
+    fn leave_rcv(&mut self, is_busy: bool)
+        ensures { card_of self.new
+            ≡ (if is_busy then record (busied (card_of self.old)) { state = Prg }
+            else record (card_of self.old) { state = Tran }) }
+    {
+        if is_busy {
+            self.make_busy();
+            self.state = State::Prg;
+        } else {
+            self.state = State::Tran;
         }
     }
 
@@ -77,6 +92,16 @@ impl Chip {
         self.state = State::Tran;
         self.is_busy = false;
         self.lags = true;
+        self.raise_bits(bits);
+    }
+
+    /// Programming fails with these error bits, and the card is busy still.
+    #[tactic(auto, using(crate::proofs::ChipLemmas::execution_is_error))]
+    pub fn fail_early(&mut self, outcome: Outcome, bits: u32)
+        requires { are_of_execution bits ≡ true }
+        ensures { card_of self.new ≡ raised (bits / 2 ^ 13) (fallen_early (lands_by outcome) (card_of self.old)) }
+    {
+        self.store.settle(self.part, outcome);
         self.raise_bits(bits);
     }
 

@@ -2,7 +2,7 @@
 // its exchange; otherwise the exchange is a faithful step. Each answers beside its result whether the fault fell.
 ghost use Rattle.std.specs.Prelude.{◌/◌, ◌^◌, ◌≡◌, Some, length, true};
 ghost use Rattle.mmc_card_sim.specs.FaultyExchanges.{are_of_execution};
-ghost use Rattle.mmc_card_sim.specs.declared.fault.Fault.TheVariants.{FlipReply, LoseReply};
+ghost use Rattle.mmc_card_sim.specs.declared.fault.Fault.TheVariants.{FindProtection, FlipReply, LoseReply};
 
 use crate::answer::Answer;
 use crate::chip::{Chip, PATIENCE};
@@ -24,8 +24,8 @@ fn is_of_execution(bits: u32) -> bool
 
 impl Chip {
     ghost use Rattle.mmc_card.specs.CardAnswer.{raised};
-    ghost use Rattle.mmc_card_sim.specs.FaultyExchanges.{Commands, Polls, Reads, Spoils, Writes, can_fail_with, failed};
-    ghost use Rattle.mmc_card_sim.specs.FaultyExchanges.{heeded, is_slow_at};
+    ghost use Rattle.mmc_card_sim.specs.FaultyExchanges.{Commands, Polls, Reads, Spoils, Writes, can_fail_early, can_fail_with};
+    ghost use Rattle.mmc_card_sim.specs.FaultyExchanges.{failed, heeded, is_slow_at};
     ghost use Rattle.mmc_card_sim.specs.Store.{lands_by};
     ghost use Rattle.mmc_card_sim.specs.Chip.{Answers, card_of};
 
@@ -59,6 +59,21 @@ impl Chip {
         }
     }
 
+    // The response to a command, of which a write finds its sectors protected.
+    fn command_protected(&mut self, delays: Delays, frame: &[u8; 6]) -> (Reply, bool)
+        ensures { Commands (Some FindProtection) delays (card_of self.old) frame.now result.0 result.1
+            (card_of self.new) }
+    {
+        if !self.is_write(frame) {
+            return (self.heed(delays, frame).spelled(), false);
+        }
+        let finding = Delays {
+            finds_protection: true,
+            ..delays
+        };
+        (self.heed(finding, frame).spelled(), true)
+    }
+
     /// The response to a command.
     pub fn faulty_command(
         &mut self,
@@ -82,6 +97,11 @@ impl Chip {
             Some(Fault::FailSwitchLate) if self.is_switch(frame) => {
                 (self.fail_switch(true).spelled(), true)
             }
+            Some(Fault::LoseFailedSwitch) if self.is_switch(frame) => {
+                let _ = self.fail_switch(false);
+                (Reply::Silent, true)
+            }
+            Some(Fault::FindProtection) => self.command_protected(delays, frame),
             Some(Fault::LeaveOver(error)) => {
                 self.leave_over(error);
                 (self.heed(delays, frame).spelled(), true)
@@ -143,16 +163,21 @@ impl Chip {
         ensures { Writes fault delays (card_of self.old) lines block.now result.0 result.1 (card_of self.new) }
     {
         match fault {
+            Some(Fault::LoseBlock) if self.can_accept(lines) => (DataOut::Nothing, true),
             Some(Fault::Reject) if self.can_accept(lines) => {
-                self.reject(false);
+                self.reject(false, false);
+                (DataOut::Rejected, true)
+            }
+            Some(Fault::RejectBusy) if self.can_accept(lines) => {
+                self.reject(false, true);
                 (DataOut::Rejected, true)
             }
             Some(Fault::RejectAll) if self.can_accept(lines) => {
-                self.reject(true);
+                self.reject(true, false);
                 (DataOut::Rejected, true)
             }
             Some(Fault::LoseStatus(Outcome::Old)) if self.can_accept(lines) => {
-                self.reject(false);
+                self.reject(false, false);
                 (DataOut::Nothing, true)
             }
             Some(Fault::LoseStatus(Outcome::New)) if self.can_accept(lines) => {
@@ -174,6 +199,13 @@ impl Chip {
         is_of_execution(bits)
             && (self.is_in(State::Prg) && !self.is_switching
                 || self.is_in(State::Rcv) && self.is_busy && self.store.is_inside(self.part))
+    }
+
+    // Whether it can while the card is busy still.
+    fn can_fail_early(&self, bits: u32) -> bool
+        ensures { result ≡ can_fail_early bits (card_of self.now) }
+    {
+        is_of_execution(bits) && (self.is_in(State::Prg) && !self.is_switching) && self.is_busy
     }
 
     // It does, in prg or in rcv.
@@ -208,6 +240,10 @@ impl Chip {
             Some(Fault::FailWith(outcome, bits)) if self.can_fail_with(bits) => {
                 self.fail_at_once(outcome, bits);
                 (false, true)
+            }
+            Some(Fault::FailEarly(outcome, bits)) if self.can_fail_early(bits) => {
+                self.fail_early(outcome, bits);
+                (true, true)
             }
             Some(Fault::Busy) if self.is_busy && self.polled >= PATIENCE => {
                 self.wait();

@@ -1,6 +1,8 @@
 // What the card in memory does with the commands of identification (SD Physical Layer 6.00, section 4.2; JESD84-B51,
 // section 6.4), each where it is legal.
 ghost use Rattle.std.specs.Prelude.{◌&&◌, ◌≡◌, false, if◌then◌else◌, not};
+ghost use Rattle.mmc_card.specs.RowsIdentify.{leads_to_tran};
+ghost use Rattle.mmc_frame.specs.declared.card_state.State.TheVariants.{Tran};
 
 use crate::answer::{Answer, IS_READY};
 use crate::chip::{Addresses, Chip, PATIENCE, Source, first_rca};
@@ -12,6 +14,16 @@ use mmc_regs::Ocr;
 
 // Bit 30 of the argument of ACMD41, HCS: the host knows sector addresses (SD Physical Layer 6.00, section 4.2.3.1).
 const HCS: u32 = 0x4000_0000;
+
+// The state that a status shows which lags behind tran: one that leads there.
+fn state_shown(before: State) -> State
+    ensures { result ≡ (if leads_to_tran before then before else Tran) }
+{
+    match before {
+        State::Stby | State::Data | State::Rcv | State::Prg => before,
+        _ => State::Tran,
+    }
+}
 
 impl Chip {
     ghost use Rattle.mmc_card.specs.CardAnswer.{busied, r6_argument};
@@ -167,17 +179,18 @@ impl Chip {
         self.polled = 0;
     }
 
-    // Whether the next status lags behind a programming that has ended.
+    // Whether the next status lags behind the card.
     fn is_behind(&self, delays: Delays) -> bool
         ensures { result ≡ (may_lag (card_of self.now) && (command_choice delays (card_of self.now)).is_behind) }
     {
-        let most = u16::from(delays.busy) + u16::from(delays.lagging);
+        let lagging = delays.lagging_now();
+        let most = u16::from(delays.busy) + u16::from(lagging);
         self.is_in(State::Tran)
             && (self.lags && self.polled < PATIENCE)
-            && (delays.lagging > 0 && u16::from(self.polled) < most)
+            && (lagging > 0 && u16::from(self.polled) < most)
     }
 
-    /// CMD13, whose status may lag behind a programming that has ended: it shows prg then.
+    /// CMD13, whose status may lag behind: it shows the state that led to tran then.
     pub fn send_status(&mut self, delays: Delays) -> Answer
         ensures { Answers (send_status (command_choice delays (card_of self.old)) (card_of self.old)) self.new result }
     {
@@ -185,7 +198,7 @@ impl Chip {
             return self.respond_status(SEND_STATUS, false);
         }
         let is_busy = self.is_busy;
-        self.state = State::Prg;
+        self.state = state_shown(delays.before);
         self.is_busy = true;
         let answer = self.respond_status(SEND_STATUS, false);
         self.state = State::Tran;
@@ -202,6 +215,7 @@ impl Chip {
         let answer = self.respond_status(SELECT_CARD, false);
         self.make_busy();
         self.state = State::Tran;
+        self.lags = true;
         answer
     }
 

@@ -5,6 +5,7 @@ ghost use Rattle.mmc_frame.specs.Flips.{AreBytes};
 ghost use Rattle.mmc_regs.specs.Csd.{IsOfKind};
 ghost use Rattle.mmc_regs.specs.CsdFields.{read_bl_len};
 ghost use Rattle.mmc_regs.specs.Register.{register_number};
+ghost use Rattle.mmc_card.specs.Card.{patience};
 ghost use Rattle.mmc_card.specs.Made.{HasRegisters, erase_unit_of_card, is_read_only, named_block_length, sectors_in};
 ghost use Rattle.mmc_card.specs.Sectors.{part_number};
 ghost use Rattle.mmc_card.specs.declared.part.Part.{Part};
@@ -15,6 +16,7 @@ ghost use Rattle.mmc_card_sim.specs.Registers.{made_of};
 ghost use Rattle.mmc_card_sim.specs.Sizes.{total};
 ghost use Rattle.mmc_card_sim.specs.declared.store.TheConstants.{MAX_LARGE};
 
+use crate::chip::PATIENCE;
 use crate::registers::{KindRegisters, Registers};
 use crate::spec::{BuildFault, CardSpec};
 use byteorder::{BigEndian, ByteOrder};
@@ -43,8 +45,8 @@ pub fn judge(spec: &CardSpec, limit: usize) -> Result<Judged, BuildFault>
     requires { limit ≤ MAX_LARGE }
     ensures refused { IfErr result (λ why. IsRefusalWithin limit spec.now why) }
     ensures taken { OnOk result (refusal_within limit spec.now ≡ None) }
-    ensures soon_ready { OnOk result (spec.now.ready ≤ 8) }
-    ensures soon_rested { OnOk result (spec.now.busy ≤ 8) }
+    ensures soon_ready { OnOk result (spec.now.ready ≤ patience) }
+    ensures soon_rested { OnOk result (spec.now.busy ≤ patience) }
     ensures few { IfOk result (λ judged. total judged.sizes ≤ MAX_LARGE) }
     ensures image { IfOk result (λ judged. IfSome spec.now.image (λ bytes. length bytes ≡ 512 * total judged.sizes)) }
     ensures image_bytes { OnOk result (IfSome spec.now.image AreBytes) }
@@ -149,7 +151,7 @@ fn kind_is_taken(kind: &KindRegisters, ocr: u32) -> bool
 fn has_short_waits(spec: &CardSpec) -> bool
     ensures { result ≡ has_short_waits spec.now }
 {
-    spec.ready <= 8 && spec.busy <= 8
+    spec.ready <= PATIENCE && spec.busy <= PATIENCE
 }
 
 fn has_early_bits(early: Option<u8>) -> bool

@@ -70,7 +70,7 @@ impl Registers {
     ghost use Rattle.mmc_ext_csd.specs.ExtCsd.{high_speed_at_52_mhz, partition_config};
     ghost use Rattle.mmc_card.specs.Made.{erased_byte_of_card, has_cmd23, has_high_speed, has_sector_addresses};
     ghost use Rattle.mmc_card.specs.Made.{has_switch_function};
-    ghost use Rattle.mmc_card_sim.specs.Registers.{last_rca_by, made_of, rca_changes_by};
+    ghost use Rattle.mmc_card_sim.specs.Registers.{first_life_time, last_rca_by, made_of, rca_changes_by};
 
     /// SD or eMMC.
     pub fn kind(&self) -> Kind
@@ -110,6 +110,16 @@ impl Registers {
         match self.kind {
             KindRegisters::Sd(sd) => sd.rca_changes,
             KindRegisters::Mmc(_) => false,
+        }
+    }
+
+    /// What an eMMC device that ages says of its life time at first.
+    pub fn first_life_time(&self, ages: bool) -> Option<u8>
+        ensures { result ≡ first_life_time ages self.now.kind }
+    {
+        match self.kind {
+            KindRegisters::Mmc(mmc) if ages => Some(mmc.ext_csd[268]),
+            _ => None,
         }
     }
 

@@ -1,6 +1,6 @@
 // A card in memory of any kind, that has the faults that are planned.
 ghost use Rattle.std.specs.Prelude.{◌+◌, ◌-◌, ◌<◌, ◌==◌, ◌^◌, ◌≡◌, ◌≤◌, IfErr, IfOk, IsOk, None, OnErr, Some, []};
-ghost use Rattle.std.specs.Prelude.{if◌then◌else◌, length, true, ℕ};
+ghost use Rattle.std.specs.Prelude.{false, if◌then◌else◌, length, true, ℕ};
 ghost use Rattle.mmc_card_sim.specs.Plan.{fault_at, refusal_of};
 ghost use Rattle.mmc_card_sim.specs.FaultyExchanges.{Commands, Polls, Reads, Writes, fits_command, fits_poll};
 ghost use Rattle.mmc_card_sim.specs.FaultyExchanges.{fits_read, fits_write};
@@ -16,6 +16,7 @@ use crate::spec::{BuildFault, CardSpec};
 use crate::store::{MAX_LARGE, MAX_SECTORS, Store};
 use mmc_bus::{Bus, Wire};
 use mmc_card::{DataIn, DataOut, Exchange, Lines, Part, Reply, Timing, Want, Width, laws};
+use mmc_frame::State;
 use std::alloc::Global;
 use std::marker::Model;
 
@@ -34,8 +35,11 @@ fn first_delays(spec: &CardSpec) -> Delays
         refusal: spec.refusal,
         stays_busy: spec.stays_busy,
         lagging: spec.lagging,
-        shows_app_cmd: false,
-        life_time: None,
+        late: spec.late,
+        before: State::Idle,
+        shows_app_cmd: spec.shows_app_cmd,
+        life_time: registers.first_life_time(spec.ages),
+        finds_protection: false,
     }
 }
 
@@ -84,8 +88,9 @@ impl Model for SimCard {
 impl SimCard {
     ghost use Rattle.mmc_bus.specs.Exchanges.{Commanded, DataRead, DataWritten, Polled};
     ghost use Rattle.mmc_bus.specs.Wires.{IsUnused};
-    ghost use Rattle.mmc_card.specs.Card.{HasItsSizes, IsCard, powered_on, stored};
-    ghost use Rattle.mmc_card_sim.specs.Chip.{card_of, delays_after};
+    ghost use Rattle.mmc_frame.specs.Frame.{command_in};
+    ghost use Rattle.mmc_card.specs.Card.{HasItsSizes, IsCard, patience, powered_on, stored};
+    ghost use Rattle.mmc_card_sim.specs.Chip.{card_of, delays_after, moved_on};
     ghost use Rattle.mmc_card_sim.specs.CardSpec.{IsRefusal, IsRefusalWithin, refusal_of as spec_refusal};
     ghost use Rattle.mmc_card_sim.specs.CardSpec.{refusal_within};
     ghost use Rattle.mmc_card_sim.specs.Registers.{made_of};
@@ -95,8 +100,9 @@ impl SimCard {
     /// This card, before any exchange and without a planned fault.
     pub(crate) fn unused(chip: Chip, delays: Delays) -> SimCard
         requires card { IsCard (card_of chip) }
-        requires soon_ready { delays.ready ≤ 8 }
-        requires soon_rested { delays.busy ≤ 8 }
+        requires soon_ready { delays.ready ≤ patience }
+        requires soon_rested { delays.busy ≤ patience }
+        requires unprotected { delays.finds_protection ≡ false }
         ensures card { result.card ≡ card_of chip }
         ensures delays { result.delays ≡ delays }
         ensures unused { IsUnused (sim_bus_view result) }
@@ -215,23 +221,6 @@ impl SimCard {
         self.plan.plan(exchange, fault, self.wire.exchanges)
     }
 
-    /// From now on the card shows APP_CMD, bit 5 of the status, in each response to CMD3, as most SD cards do in their R6:
-    /// ACMD41 is answered by an R3, which has no status (SD Physical Layer 6.00, sections 4.9.5 and 4.10.1).
-    pub fn show_app_cmd(&mut self)
-        ensures { self.new ≡ record self.old { delays = record self.old.delays { shows_app_cmd = true } } }
-    {
-        self.delays.shows_app_cmd = true;
-    }
-
-    /// From now on an eMMC device says this of its life time in DEVICE_LIFE_TIME_EST_TYP_A, byte 268 of its EXT_CSD, which
-    /// nobody reads: 1 to 10 for at most so many tenths that are used up, 11 for more, and 0 for nothing said (JESD84-B51,
-    /// section 7.4). Any byte is taken. An SD card has no EXT_CSD.
-    pub fn age(&mut self, life_time: u8)
-        ensures { self.new ≡ record self.old { delays = record self.old.delays { life_time = Some life_time } } }
-    {
-        self.delays.life_time = Some(life_time);
-    }
-
     /// Sends a command, and gives what came back, whatever response is wanted.
     pub fn command(&mut self, frame: [u8; 6], want: Want) -> Reply
         ensures exchanged { Commanded (sim_bus_view self.old) frame want result (sim_bus_view self.new) }
@@ -240,12 +229,16 @@ impl SimCard {
         ensures counts { self.new.faults
             ≡ (if fits_command (planned_fault self.old) self.old.delays self.old.card frame
             then self.old.faults + 1 else self.old.faults) }
-        ensures delays { self.new.delays ≡ delays_after self.old.delays self.new.card.rca }
+        ensures delays { self.new.delays
+            ≡ moved_on (delays_after self.old.delays (command_in frame) self.new.card.rca) self.old.card.state
+            self.new.card.state }
         ensures plan { self.new.plan ≡ self.old.plan }
     {
         let fault = self.plan.fault(self.wire.exchanges);
+        let state = self.chip.state;
         let (reply, fell) = self.chip.faulty_command(fault, self.delays, &frame);
-        self.delays.note_rca(self.chip.rca);
+        self.delays.note_command(&frame, self.chip.rca);
+        self.delays.note_state(state, self.chip.state);
         self.faults = counted(self.faults, fell);
         self.wire.note(Exchange::Command { frame, want, reply });
         reply
@@ -261,14 +254,16 @@ impl SimCard {
         ensures counts { self.new.faults
             ≡ (if fits_read (planned_fault self.old) self.old.card self.old.wire.lines (length buffer.old)
             then self.old.faults + 1 else self.old.faults) }
-        ensures delays { self.new.delays ≡ self.old.delays }
+        ensures delays { self.new.delays ≡ moved_on self.old.delays self.old.card.state self.new.card.state }
         ensures plan { self.new.plan ≡ self.old.plan }
     {
         let fault = self.plan.fault(self.wire.exchanges);
         let len = buffer.len();
+        let state = self.chip.state;
         let (got, fell) = self
             .chip
             .faulty_send(fault, self.delays, self.wire.lines, buffer);
+        self.delays.note_state(state, self.chip.state);
         self.faults = counted(self.faults, fell);
         self.wire.note(Exchange::In { len, got });
         got
@@ -282,13 +277,15 @@ impl SimCard {
         ensures counts { self.new.faults
             ≡ (if fits_write (planned_fault self.old) self.old.card self.old.wire.lines
             then self.old.faults + 1 else self.old.faults) }
-        ensures delays { self.new.delays ≡ self.old.delays }
+        ensures delays { self.new.delays ≡ moved_on self.old.delays self.old.card.state self.new.card.state }
         ensures plan { self.new.plan ≡ self.old.plan }
     {
         let fault = self.plan.fault(self.wire.exchanges);
+        let state = self.chip.state;
         let (got, fell) = self
             .chip
             .faulty_accept(fault, self.delays, self.wire.lines, block);
+        self.delays.note_state(state, self.chip.state);
         self.faults = counted(self.faults, fell);
         self.wire.note(Exchange::Out { got });
         got
@@ -301,11 +298,13 @@ impl SimCard {
             (fits_poll (planned_fault self.old) self.old.card) self.new.card }
         ensures counts { self.new.faults
             ≡ (if fits_poll (planned_fault self.old) self.old.card then self.old.faults + 1 else self.old.faults) }
-        ensures delays { self.new.delays ≡ self.old.delays }
+        ensures delays { self.new.delays ≡ moved_on self.old.delays self.old.card.state self.new.card.state }
         ensures plan { self.new.plan ≡ self.old.plan }
     {
         let fault = self.plan.fault(self.wire.exchanges);
+        let state = self.chip.state;
         let (yes, fell) = self.chip.faulty_poll(fault, self.delays);
+        self.delays.note_state(state, self.chip.state);
         self.faults = counted(self.faults, fell);
         self.wire.note(Exchange::Busy { yes });
         yes

@@ -19,9 +19,9 @@ pub struct CardSpec {
     pub registers: Registers,
     /// The size of the user partition in sectors, which is to be that of the registers.
     pub sectors: u64,
-    /// How many of the first readiness inquiries are answered with not ready, 0 to 8.
+    /// How many of the first readiness inquiries are answered with not ready, 0 to 15.
     pub ready: u8,
-    /// How many of the first polls of a busy time are answered yes, 0 to 8.
+    /// How many of the first polls of a busy time are answered yes, 0 to 15.
     pub busy: u8,
     /// Bits 30 and 29 of the OCR while the card isn't ready, 0 to 3. Without them they are those of the OCR.
     pub early: Option<u8>,
@@ -35,6 +35,14 @@ pub struct CardSpec {
     /// How many statuses lag behind each programming and still show prg: they and the polls that were answered yes are as many
     /// as this and the delay of busy say, 15 at most.
     pub lagging: u8,
+    /// How many statuses lag behind CMD7, and behind CMD12 that ends a read, and still show stby or data, counted in the same way.
+    pub late: u8,
+    /// Whether an SD card shows APP_CMD, bit 5 of the status, in each response to CMD3, as most do in their R6: ACMD41 is answered
+    /// by an R3, which has no status (SD Physical Layer 6.00, sections 4.9.5 and 4.10.1).
+    pub shows_app_cmd: bool,
+    /// Whether an eMMC device ages: at each CMD0 it says one more of its life time, in DEVICE_LIFE_TIME_EST_TYP_A, byte 268 of its
+    /// EXT_CSD, which nobody reads, and 0 behind 255 (JESD84-B51, section 7.4).
+    pub ages: bool,
     /// The bytes of all sectors, 512 each, a partition behind the other in the order of `Part`; the card keeps its
     /// sectors in them. Without an image all bytes are the erased byte.
     pub image: Option<Bytes>,
@@ -45,7 +53,7 @@ pub struct CardSpec {
 pub enum BuildFault {
     /// The CID or the CSD is refused by its reader; the OCR has not both bits 20 and 21, which are 3.2 to 3.4 V, or it
     /// has bit 31; an SD card publishes RCA 0; an eMMC device has no erase unit, or the reserved access modes 1 and 3;
-    /// `ready` or `busy` is above 8, or `early` above 3; the user partition has no sector, or not as many as `sectors` says.
+    /// `ready` or `busy` is above 15, or `early` above 3; the user partition has no sector, or not as many as `sectors` says.
     #[error("a register is refused")]
     Register,
     /// All partitions together have more sectors than the card that is built may have, `MAX_SECTORS` by

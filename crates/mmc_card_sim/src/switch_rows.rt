@@ -12,8 +12,8 @@ use crate::delays::Delays;
 use crate::spec::Refusal;
 use arrayvec::ArrayVec;
 use mmc_card::{Part, Timing, Width};
-use mmc_frame::State;
 use mmc_frame::commands::{SEND_IF_COND, SEND_SCR, SET_BUS_WIDTH, SWITCH_FUNC};
+use mmc_frame::{Kind, State};
 
 // The arguments of CMD6 of eMMC that write a byte: access 3, then the index of the byte and its value.
 const SET_ERASE_GROUP_DEF: u32 = 0x03af_0100;
@@ -231,7 +231,7 @@ impl Chip {
         ensures { Answers (send_ext_csd (command_choice delays (card_of self.old)) (card_of self.old)) self.new result }
     {
         let mut ext_csd = self.ext_csd_now();
-        if let Some(life_time) = delays.life_time {
+        if let (Kind::Mmc, Some(life_time)) = (self.registers.kind(), delays.life_time) {
             put(&mut ext_csd, 268, life_time);
         }
         self.send_block(SEND_IF_COND, false, ext_csd, self.timing)

@@ -1,6 +1,6 @@
 // What a card does where it is free: the RCA that it publishes, its block length after CMD0.
 use crate::cards::*;
-use mmc_bus::DataIn;
+use mmc_bus::{DataIn, DataOut};
 use mmc_card_sim::example_cards::sdsc;
 use mmc_card_sim::{CardSpec, Fault, KindRegisters, Outcome, Registers, SdRegisters, SimCard};
 use mmc_frame::encode;
@@ -80,6 +80,30 @@ fn names_its_block_length_after_cmd0(rt: HostRuntime) -> Result<(), Fail> {
         expect_r1(&rt, &mut card, 17, 0, 0x900);
         expect_sector(&rt, &mut card, 0x00);
         send(&mut card, encode(0, 0));
+    }
+    Ok(())
+}
+
+// Behind CMD7 and behind CMD12 that ends a read statuses may show what the card was in before tran. They and the polls that were
+// answered yes are as many as both delays say.
+#[test]
+fn shows_late_where_it_is(rt: HostRuntime) -> Result<(), Fail> {
+    let mut spec = sdsc();
+    (spec.busy, spec.late, spec.lagging) = (1, 2, 1);
+    let mut card = selected_sd(rt.alloc(), spec)?;
+    for status in [0x600, 0x600, 0x900, 0x900] {
+        expect_status(&rt, &mut card, status);
+    }
+    expect_r1(&rt, &mut card, 18, 0, 0x900);
+    expect_r1(&rt, &mut card, 12, 0, 0xb00);
+    for status in [0xa00, 0xa00, 0xa00, 0x900] {
+        expect_status(&rt, &mut card, status);
+    }
+    expect_r1(&rt, &mut card, 24, 512, 0x900);
+    expect_taken(&rt, &mut card, 0x5a, DataOut::Accepted);
+    expect_polls(&rt, &mut card, 1);
+    for status in [0xe00, 0x900] {
+        expect_status(&rt, &mut card, status);
     }
     Ok(())
 }

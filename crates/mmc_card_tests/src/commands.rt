@@ -27,6 +27,9 @@ fn with_byte_addresses(alloc: Global, csd: u128, sectors: u32) -> Result<CardSpe
         refusal: None,
         stays_busy: false,
         lagging: 0,
+        late: 0,
+        shows_app_cmd: false,
+        ages: false,
         image: numbered_image(alloc, sectors)?,
     })
 }

@@ -2,7 +2,7 @@
 use crate::cards::*;
 use mmc_bus::{DataOut, Part};
 use mmc_card_sim::example_cards::*;
-use mmc_card_sim::{Fault, Flips, SimCard};
+use mmc_card_sim::{Fault, Flips, Outcome, SimCard};
 use mmc_frame::encode;
 use std::alloc::Global;
 use std::test::Fail;
@@ -88,5 +88,80 @@ fn is_busy_longer(rt: HostRuntime) -> Result<(), Fail> {
         expect_status(&rt, &mut card, 0x900);
         assert_eq!(rt; card.faults(), faults);
     }
+    Ok(())
+}
+
+// A block that the card doesn't see may be offered again.
+#[test]
+fn takes_a_lost_block_later(rt: HostRuntime) -> Result<(), Fail> {
+    let mut card = faulty(rt.alloc(), 1, Fault::LoseBlock)?;
+    expect_r1(&rt, &mut card, 24, 512, 0x900);
+    expect_taken(&rt, &mut card, 0x5a, DataOut::Nothing);
+    expect_status(&rt, &mut card, 0xd00);
+    expect_taken(&rt, &mut card, 0x5b, DataOut::Accepted);
+    expect_polls(&rt, &mut card, 0);
+    expect_filled(&rt, &card, Part::User, 0, &[0, 0x5b, 0, 0]);
+    assert_eq!(rt; card.faults(), 1);
+    Ok(())
+}
+
+// After CMD24 a rejected block may leave the card busy in prg, and nothing is stored.
+#[test]
+fn is_busy_behind_a_rejected_block(rt: HostRuntime) -> Result<(), Fail> {
+    let mut spec = sdsc_cmd23();
+    spec.busy = 2;
+    let mut card = selected_sd(rt.alloc(), spec)?;
+    plan_after(&mut card, 1, Fault::RejectBusy)?;
+    expect_r1(&rt, &mut card, 24, 512, 0x900);
+    expect_taken(&rt, &mut card, 0x5a, DataOut::Rejected);
+    expect_status(&rt, &mut card, 0xe00);
+    expect_polls(&rt, &mut card, 2);
+    expect_status(&rt, &mut card, 0x900);
+    expect_filled(&rt, &card, Part::User, 0, &[0, 0, 0, 0]);
+    Ok(())
+}
+
+// Programming that fails early shows its errors while the card is busy still.
+#[test]
+fn shows_errors_while_it_is_busy(rt: HostRuntime) -> Result<(), Fail> {
+    for (outcome, byte) in [(Outcome::Old, 0), (Outcome::New, 0x5a)] {
+        let mut card = faulty(rt.alloc(), 2, Fault::FailEarly(outcome, 0x0010_0000))?;
+        expect_r1(&rt, &mut card, 24, 512, 0x900);
+        expect_taken(&rt, &mut card, 0x5a, DataOut::Accepted);
+        assert!(rt; card.busy());
+        expect_status(&rt, &mut card, 0x0010_0e00);
+        expect_polls(&rt, &mut card, 0);
+        expect_status(&rt, &mut card, 0x900);
+        expect_filled(&rt, &card, Part::User, 0, &[0, byte, 0, 0]);
+    }
+    Ok(())
+}
+
+// A write of protected sectors doesn't begin, and its response says why.
+#[test]
+fn finds_sectors_protected(rt: HostRuntime) -> Result<(), Fail> {
+    let mut card = faulty(rt.alloc(), 0, Fault::FindProtection)?;
+    expect_r1(&rt, &mut card, 24, 512, 0x0400_0900);
+    expect_taken(&rt, &mut card, 0x5a, DataOut::Nothing);
+    expect_status(&rt, &mut card, 0x900);
+    plan_after(&mut card, 0, Fault::FindProtection)?;
+    expect_r1(&rt, &mut card, 25, 512, 0x0400_0900);
+    expect_taken(&rt, &mut card, 0x5a, DataOut::Nothing);
+    expect_status(&rt, &mut card, 0x900);
+    assert_eq!(rt; card.faults(), 2);
+    Ok(())
+}
+
+// A switch may fail while its response is lost: nothing behind it says so.
+#[test]
+fn loses_what_a_failed_switch_says(rt: HostRuntime) -> Result<(), Fail> {
+    let mut card = selected_mmc(rt.alloc(), emmc())?;
+    plan_after(&mut card, 0, Fault::LoseFailedSwitch)?;
+    expect_silence(&rt, &mut card, encode(6, 0x03b7_0200));
+    expect_status(&rt, &mut card, 0xe00);
+    expect_polls(&rt, &mut card, 0);
+    expect_status(&rt, &mut card, 0x900);
+    expect_r1(&rt, &mut card, 17, 0, 0x900);
+    expect_sector(&rt, &mut card, 0xff);
     Ok(())
 }

@@ -44,3 +44,22 @@ fn shows_what_is_switched(rt: HostRuntime) -> Result<(), Fail> {
     expect_ext_csd(&rt, &mut card, &ext_csd);
     Ok(())
 }
+
+// A device that ages says one more of its life time at each CMD0, and 0 behind 255.
+#[test]
+fn ages(rt: HostRuntime) -> Result<(), Fail> {
+    let mut made = ext_csd_of_emmc();
+    made[268] = 0xfe;
+    let mut spec = emmc_with(made, 2048);
+    spec.ages = true;
+    let mut card = built(rt.alloc(), spec)?;
+    for life_time in [0xff, 0x00, 0x01] {
+        for (index, argument) in [(0, 0), (1, 0x4030_0000), (2, 0), (3, RCA), (7, RCA)] {
+            send(&mut card, encode(index, argument));
+        }
+        wait(&mut card);
+        made[268] = life_time;
+        expect_ext_csd(&rt, &mut card, &made);
+    }
+    Ok(())
+}

@@ -1,5 +1,5 @@
 -- The card status, a number of 32 bits (SD Physical Layer 6.00, section 4.10.1; JESD84-B51, section 6.13).
-use Rattle.std.specs.Prelude.{◌*◌, ◌-◌, ◌^◌, ◌≡◌, ◌⊎◌, ℕ}
+use Rattle.std.specs.Prelude.{◌*◌, ◌-◌, ◌^◌, ◌≡◌, ◌≤◌, ℕ}
 use Rattle.std.specs.Int.RustNames.{bit_and}
 use Rattle.mmc_frame.specs.Field.{field}
 use Rattle.mmc_frame.specs.declared.kind.Kind.{Kind}
@@ -42,8 +42,9 @@ pub record IsClean (kind : Kind) (status : ℕ) : Type 0 where
   pub in_tran : field 12 9 status ≡ state_number Tran
   pub ready_for_data : field 8 8 status ≡ 1
 
--- no error, but the card is still at work: state prg, or tran and not ready for data
+-- no error, but the card is still on its way to tran: in one of the states stby to prg, and in tran not ready for data
 pub record IsAtWork (kind : Kind) (status : ℕ) : Type 0 where
   pub no_error : error_bits kind status ≡ 0
-  pub works : (field 12 9 status ≡ state_number Prg)
-      ⊎ ((field 12 9 status ≡ state_number Tran) × (field 8 8 status ≡ 0))
+  pub from_stby : state_number Stby ≤ field 12 9 status
+  pub to_prg : field 12 9 status ≤ state_number Prg
+  pub unready : field 12 9 status ≡ state_number Tran → field 8 8 status ≡ 0

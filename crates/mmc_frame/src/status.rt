@@ -115,11 +115,11 @@ pub fn is_clean(kind: Kind, status: u32) -> bool
     errors(kind, status).0 == 0 && status / 512 % 16 == 4 && status / 256 % 2 == 1
 }
 
-/// Whether a card status reports no error, and that the card is still at work: the state prg, or tran without bit 8,
-/// READY_FOR_DATA.
+/// Whether a card status reports no error, and that the card is still on its way to tran: the state stby, data, rcv or prg, or
+/// tran without bit 8, READY_FOR_DATA.
 pub fn is_at_work(kind: Kind, status: u32) -> bool
     ensures { IsTrue result ↔ IsAtWork kind status }
 {
     let state = status / 512 % 16;
-    errors(kind, status).0 == 0 && (state == 7 || state == 4 && status / 256 % 2 == 0)
+    errors(kind, status).0 == 0 && (3..=7).contains(&state) && (state != 4 || status / 256 % 2 == 0)
 }

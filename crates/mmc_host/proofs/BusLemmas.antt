@@ -3,9 +3,9 @@ use Rattle.std.proofs.Common.{◌&&◌, ◌+◌, ◌-◌, ◌^◌, ◌∙◌, �
 use Rattle.mmc_frame.specs.Frame.{command_in}
 use Rattle.mmc_card.proofs.Narrow.{both}
 use Rattle.mmc_card.specs.BusView.{BusView}
-use Rattle.mmc_card.specs.Faults.{CommandStep, WriteStep, PollStep, ReadStep, brownout, busy, fail, faithful}
-use Rattle.mmc_card.specs.Faults.{fail_switch, fall_short, flip_command, flip_reply, leave_over, lose_command, lose_reply}
-use Rattle.mmc_card.specs.Faults.{lose_status, reject, slow_inquiry, spoil, turn_out}
+use Rattle.mmc_card.specs.Faults.{CommandStep, WriteStep, PollStep, ReadStep, brownout, busy, fail, fail_early, faithful}
+use Rattle.mmc_card.specs.Faults.{fail_switch, fall_short, find_protection, flip_command, flip_reply, leave_over, lose_block}
+use Rattle.mmc_card.specs.Faults.{lose_command, lose_reply, lose_status, outlive, reject, slow_inquiry, spoil, turn_out}
 use Rattle.mmc_card.specs.declared.exchange.DataIn.{DataIn}
 use Rattle.mmc_card.specs.declared.exchange.DataOut.{DataOut}
 use Rattle.mmc_card.specs.declared.exchange.Exchange.{Exchange}
@@ -54,6 +54,10 @@ moved_command old new l m a b frame reply (slow_inquiry choice slow late inquiry
     slow_inquiry choice slow late inquiry count card spells
 moved_command old new l m a b frame reply (fail_switch choice fails switch count card spells) =
     fail_switch choice fails switch count card spells
+moved_command old new l m a b frame reply (find_protection choice finds late write count card spells) =
+    find_protection choice finds late write count card spells
+moved_command old new l m a b frame reply (outlive choice bits argument are fine idle count card silent) =
+    outlive choice bits argument are fine idle count card silent
 moved_command old new l m a b frame reply (leave_over choice bits are fine count card spells) =
     leave_over choice bits are fine count card spells
 moved_command old new l m a b frame reply (brownout choice lands keeps after fine count card silent) =
@@ -65,19 +69,22 @@ moved_poll old new l m a b said (faithful choice fine count card says) = faithfu
 moved_poll old new l m a b said (busy is late count card says) = busy is late count card says
 moved_poll old new l m a b said (fail lands bits are prg switching count card says) =
     fail lands bits are prg switching count card says
-moved_poll old new l m a b said (fall_short lands bits are rcv is count card says) =
-    fall_short lands bits are rcv is count card says
+moved_poll old new l m a b said (fail_early lands bits are prg switching is count card says) =
+    fail_early lands bits are prg switching is count card says
+moved_poll old new l m a b said (fall_short lands bits ignores are rcv is count card says) =
+    fall_short lands bits ignores are rcv is count card says
 moved_poll old new l m a b said (brownout choice lands keeps after fine count card says) =
     brownout choice lands keeps after fine count card says
 
 moved_write : (old new : BusView) (m : Lines) (a b : Beside) (block : List ℕ) (got : DataOut)
     → WriteStep old block got new → WriteStep (seen old old.lines a) block got (seen new m b)
 moved_write old new m a b block got (faithful count card is) = faithful count card is
-moved_write old new m a b block got (reject ignores can count card is) = reject ignores can count card is
-moved_write old new m a b block got (lose_status accepted ignores can count card is) =
-    lose_status accepted ignores can count card is
-moved_write old new m a b block got (fall_short lands bits are can count card is) =
-    fall_short lands bits are can count card is
+moved_write old new m a b block got (lose_block can count card is) = lose_block can count card is
+moved_write old new m a b block got (reject ignores is_busy can count card is) = reject ignores is_busy can count card is
+moved_write old new m a b block got (lose_status accepted ignores is_busy can count card is) =
+    lose_status accepted ignores is_busy can count card is
+moved_write old new m a b block got (fall_short lands bits ignores are can count card is) =
+    fall_short lands bits ignores are can count card is
 moved_write old new m a b block got (turn_out lands several can count card is) =
     turn_out lands several can count card is
 moved_write old new m a b block got (brownout lands keeps after count card is) =

@@ -14,8 +14,9 @@ use Rattle.mmc_card.specs.CardAnswer.{CardAnswer, Choice, Silent}
 use Rattle.mmc_card.specs.Rows.{command_of, is_foreign, is_legal, leaves_erase, reached, responded, row}
 use Rattle.mmc_card.specs.RowsErase.{erase_held, hold_first, hold_last, holds_address, is_no_range}
 use Rattle.mmc_card.specs.RowsIdentify.{is_served, may_lag}
-use Rattle.mmc_card.specs.RowsSwitch.{ext_csd_now, is_to_speed_up, reread, switch_row, switch_source, switched}
-use Rattle.mmc_card.specs.RowsTransfer.{begun, preset, sending, sending_from, transfer_errors, transferred}
+use Rattle.mmc_card.specs.RowsSwitch.{ext_csd_now, is_read, is_read_of_status, is_to_speed_up, refusal, reread, switch_row}
+use Rattle.mmc_card.specs.RowsSwitch.{switch_source, switched}
+use Rattle.mmc_card.specs.RowsTransfer.{begun, preset, sending, sending_from, transfer_errors, transferred, write_errors}
 use Rattle.mmc_card.specs.declared.command.Command.{Command}
 use Rattle.mmc_card.specs.declared.command.Command.TheVariants.{SdSendOpCond, SendScr, SetBusWidth, AllSendCid, AppCmd}
 use Rattle.mmc_card.specs.declared.command.Command.TheVariants.{Erase, EraseEnd, EraseStart, GoIdleState}
@@ -42,12 +43,15 @@ record Likeness (old now : Card) : Type 0 where
   count : now.count ≡ old.count
   made : now.made ≡ old.made
 
-like_reached : (command : Command) (card : Card) → Likeness card (reached command card)
-like_reached command card =
+like_reached : (choice : Choice) (command : Command) (card : Card) → Likeness card (reached choice command card)
+like_reached choice command card =
     let same : Likeness card card = record { state = refl; is_busy = refl; count = refl; made = refl } in
     by_cond (Likeness card) (leaves_erase command) (λ _. same)
     (λ _. by_cond (Likeness card) (holds_address card.erase)
-    (λ _. record { state = refl; is_busy = refl; count = refl; made = refl }) (λ _. same))
+    (λ _. by_cond (Likeness card) choice.drops_quietly
+    (λ _. record { state = refl; is_busy = refl; count = refl; made = refl })
+    (λ _. record { state = refl; is_busy = refl; count = refl; made = refl }))
+    (λ _. same))
 
 -- Busy.
 
@@ -72,7 +76,9 @@ busy_row choice SendOpCond card index argument =
 busy_row choice SdSendOpCond card index argument =
     first_by_cond (Rests SdSendOpCond card) (is_served card argument && not choice.is_slow) _ _ (λ _ busy. inl busy) (λ _ busy. inl busy)
 busy_row choice SelectCard card index argument = λ busy. inr refl
-busy_row choice StopTransmission card index argument = λ busy. inr refl
+busy_row choice StopTransmission card index argument =
+    first_by_cond (Rests StopTransmission card) (is_in card.state In.Tran && not choice.answers_stop) _ _
+    (λ _ busy. inl busy) (λ _ busy. inr refl)
 busy_row choice Erase card index argument = λ busy. inr refl
 busy_row choice Switch card index argument = λ busy. inr refl
 busy_row choice SendStatus card index argument =
@@ -84,9 +90,9 @@ busy_row choice ReadSingleBlock card index argument =
 busy_row choice ReadMultipleBlock card index argument =
     first_by_cond (Rests ReadMultipleBlock card) (transfer_errors false card argument == 0) _ _ (λ _ busy. inl busy) (λ _ busy. inl busy)
 busy_row choice WriteBlock card index argument =
-    first_by_cond (Rests WriteBlock card) (transfer_errors true card argument == 0) _ _ (λ _ busy. inl busy) (λ _ busy. inl busy)
+    first_by_cond (Rests WriteBlock card) (write_errors choice card argument == 0) _ _ (λ _ busy. inl busy) (λ _ busy. inl busy)
 busy_row choice WriteMultipleBlock card index argument =
-    first_by_cond (Rests WriteMultipleBlock card) (transfer_errors true card argument == 0) _ _ (λ _ busy. inl busy) (λ _ busy. inl busy)
+    first_by_cond (Rests WriteMultipleBlock card) (write_errors choice card argument == 0) _ _ (λ _ busy. inl busy) (λ _ busy. inl busy)
 busy_row choice EraseStart card index argument = busy_first index card argument card.erase
 busy_row choice EraseEnd card index argument = busy_last index card argument card.erase
 busy_row choice _ card index argument = λ busy. inl busy
@@ -103,8 +109,8 @@ as_busy response old before new same behind = λ busy.
 pub busy_behind : (choice : Choice) (command : Command) (card : Card) (index argument : ℕ)
     → IsBusyBehind (response_of command) card (responded choice command card index argument).0
 busy_behind choice command card index argument =
-    let now = reached command card in
-    let same = (like_reached command card).is_busy in
+    let now = reached choice command card in
+    let same = (like_reached choice command card).is_busy in
     after_response (Rests command card) choice command card index argument (λ busy. inl busy)
     (λ _. as_busy (response_of command) card now (row choice command now index argument).0 same
     (busy_row choice command now index argument))
@@ -180,6 +186,8 @@ answer_row choice AllSendCid card index argument = tt
 answer_row choice SendCsd card index argument = tt
 answer_row choice SendIfCond card index argument =
     by_cond (IsAnswered To.R7 Index.SEND_IF_COND) (field 11 8 argument == 1) (λ _. refl) (λ _. tt)
+answer_row choice StopTransmission card index argument =
+    pair_by (Answers StopTransmission index) (is_in card.state In.Tran && not choice.answers_stop) _ _ tt refl
 answer_row choice SendStatus card index argument =
     pair_by (Answers SendStatus index) (may_lag card && choice.is_behind) _ _ refl refl
 answer_row choice SetBlocklen card index argument = pair_by (Answers SetBlocklen index) (argument == 512) _ _ refl refl
@@ -188,9 +196,9 @@ answer_row choice ReadSingleBlock card index argument =
 answer_row choice ReadMultipleBlock card index argument =
     pair_by (Answers ReadMultipleBlock index) (transfer_errors false card argument == 0) _ _ refl refl
 answer_row choice WriteBlock card index argument =
-    pair_by (Answers WriteBlock index) (transfer_errors true card argument == 0) _ _ refl refl
+    pair_by (Answers WriteBlock index) (write_errors choice card argument == 0) _ _ refl refl
 answer_row choice WriteMultipleBlock card index argument =
-    pair_by (Answers WriteMultipleBlock index) (transfer_errors true card argument == 0) _ _ refl refl
+    pair_by (Answers WriteMultipleBlock index) (write_errors choice card argument == 0) _ _ refl refl
 answer_row choice EraseStart card index argument = answer_first index card argument card.erase
 answer_row choice EraseEnd card index argument = answer_last index card argument card.erase
 answer_row choice Erase card index argument = answer_erase index card argument card.erase
@@ -207,7 +215,7 @@ pub answer_told : (choice : Choice) (kind : Kind) (app : Bool) (card : Card) (in
     (responded choice (command_of kind app index) card index argument).1
 answer_told choice kind app card index argument below =
     let command = command_of kind app index in
-    let now = reached command card in
+    let now = reached choice command card in
     subst (λ i. IsAnswered (response_of command) i (responded choice command card index argument).1)
     (own_index kind app index below)
     (pair_by (Answers command index) (is_foreign command card argument) (card, Silent) _
@@ -286,7 +294,11 @@ module _ (moved : ℕ) where
       → AreSent 64 1 (switch_source choice card argument) card.left
   status_length choice card argument size =
       by_cond (λ source. AreSent 64 1 source card.left) (is_to_speed_up card argument && choice.refuses_speed)
-      (λ _. (length-set card.made.switch_status 16 _ ∙ size, refl)) (λ _. (size, refl))
+      (λ _. (
+        reread_length is_read_of_status choice.unread (refusal choice.selects_none card.made.switch_status)
+            ∙ (length-set card.made.switch_status 16 _ ∙ size),
+        refl,
+      )) (λ _. (size, refl))
 
   ext_csd_length : (card : Card) → length card.made.ext_csd ≡ 512 → length (ext_csd_now card) ≡ 512
   ext_csd_length card size = simp length-set size
@@ -304,9 +316,11 @@ module _ (moved : ℕ) where
   move_row choice SetRelativeAddr card index argument sized = leaves _ card _ refl refl
   move_row choice SelectCard card index argument sized = leaves _ card _ refl refl
   move_row choice StopTransmission card index argument sized =
-      by_cond (Moves StopTransmission card) (is_in card.state In.Rcv) (λ _. leaves _ card _ refl refl)
+      first_by_cond (Moves StopTransmission card) (is_in card.state In.Tran && not choice.answers_stop) _ _
+      (λ _. stays _ card _ refl)
+      (λ _. by_cond (Moves StopTransmission card) (is_in card.state In.Rcv) (λ _. leaves _ card _ refl refl)
       (λ _. by_cond (Moves StopTransmission card) choice.stays_busy (λ _. leaves _ card _ refl refl)
-      (λ _. leaves _ card _ refl refl))
+      (λ _. leaves _ card _ refl refl)))
   move_row choice SendStatus card index argument sized =
       first_by_cond (Moves SendStatus card) (may_lag card && choice.is_behind) _ _ (λ _. stays _ card _ refl)
       (λ _. stays _ card _ refl)
@@ -322,11 +336,11 @@ module _ (moved : ℕ) where
       (begins_to_send (data_of ReadMultipleBlock card.count moved) card after refl (refl, (refl, preset_blocks (card.count == 0) card.count)))
   move_row choice WriteBlock card index argument sized =
       let after = begun In.Rcv true (Some 1) card argument in
-      move_transfer WriteBlock 24 (transfer_errors true card argument) card after
+      move_transfer WriteBlock 24 (write_errors choice card argument) card after
       (begins_to_accept (data_of WriteBlock card.count moved) card after refl (refl, refl))
   move_row choice WriteMultipleBlock card index argument sized =
       let after = begun In.Rcv false (preset card) card argument in
-      move_transfer WriteMultipleBlock 25 (transfer_errors true card argument) card after
+      move_transfer WriteMultipleBlock 25 (write_errors choice card argument) card after
       (begins_to_accept (data_of WriteMultipleBlock card.count moved) card after refl (refl, preset_blocks (card.count == 0) card.count))
   move_row choice EraseStart card index argument sized = move_first index card argument card.erase
   move_row choice EraseEnd card index argument sized = move_last index card argument card.erase
@@ -340,9 +354,9 @@ module _ (moved : ℕ) where
       let after = sending card.made.scr card.timing card in
       begins_to_send (data_of SendScr card.count moved) card after refl (refl, (sized, refl))
   move_row choice SendExtCsd card index argument sized =
-      let bytes = reread choice.unread (ext_csd_now card) in
+      let bytes = reread is_read choice.unread (ext_csd_now card) in
       let after = sending bytes card.timing card in
-      let size : length bytes ≡ 512 = reread_length choice.unread (ext_csd_now card) ∙ ext_csd_length card sized in
+      let size : length bytes ≡ 512 = reread_length is_read choice.unread (ext_csd_now card) ∙ ext_csd_length card sized in
       begins_to_send (data_of SendExtCsd card.count moved) card after refl (refl, (size, refl))
   move_row choice _ card index argument sized = stays _ card _ refl
 
@@ -362,8 +376,8 @@ module _ (moved : ℕ) where
   pub data_behind : (choice : Choice) (command : Command) (card : Card) (index argument : ℕ) → AreSized command card
       → HasDataBehind (data_of command card.count moved) card (responded choice command card index argument).0
   data_behind choice command card index argument sized =
-      let now = reached command card in
-      let like = like_reached command card in
+      let now = reached choice command card in
+      let like = like_reached choice command card in
       after_response (Moves command card) choice command card index argument (stays _ card card refl)
       (λ _. as_before _ card now _ like.state
       (subst (λ n. HasDataBehind (data_of command n moved) now (row choice command now index argument).0) like.count

@@ -1,8 +1,8 @@
 -- What a wire carries, told by command and answer.
 use Rattle.std.proofs.Common.{◌∙◌, ◌≡◌, Option, subst, sym, ℕ}
 use Rattle.mmc_card.specs.CardAnswer.{CardAnswer, Silent}
-use Rattle.mmc_card.specs.Faults.{IsFlipped, RepliesFlipped, brownout, fail_switch, faithful, flip_command, flip_reply, leave_over}
-use Rattle.mmc_card.specs.Faults.{lose_command, lose_reply, slow_inquiry}
+use Rattle.mmc_card.specs.Faults.{IsFlipped, RepliesFlipped, brownout, fail_switch, faithful, find_protection, flip_command}
+use Rattle.mmc_card.specs.Faults.{flip_reply, leave_over, lose_command, lose_reply, outlive, slow_inquiry}
 use Rattle.mmc_card.specs.Judged.{IsSaid}
 use Rattle.mmc_card.specs.Card.{Card}
 use Rattle.mmc_card.specs.Rows.{answered}
@@ -34,6 +34,10 @@ unsound_is_lost old new index argument frame reply command (slow_inquiry choice 
     absurd (unsound spells.0 spells.2)
 unsound_is_lost old new index argument frame reply command (fail_switch choice fails switch count card spells) unsound =
     absurd (unsound spells.0 spells.2)
+unsound_is_lost old new index argument frame reply command (find_protection choice finds late write count card spells) unsound =
+    absurd (unsound spells.0 spells.2)
+unsound_is_lost old new index argument frame reply command (outlive choice bits other are fine idle count card silent) unsound =
+    absurd (unsound Silent silent)
 unsound_is_lost old new index argument frame reply command (leave_over choice bits are fine count card spells) unsound =
     absurd (unsound spells.0 spells.2)
 unsound_is_lost old new index argument frame reply command (brownout choice lands keeps after fine count card silent) unsound =

@@ -11,14 +11,13 @@ use Rattle.mmc_regs.specs.Ocr.{card_capacity_status, power_up_status, window_at_
 use Rattle.mmc_card.specs.BusView.{BusView}
 use Rattle.mmc_card.specs.Card.{Card, IsCard, is_identified, patience}
 use Rattle.mmc_card.specs.CardAnswer.{done, refused, shown}
-use Rattle.mmc_card.specs.Judged.{IsEarlyOcr, Shows}
+use Rattle.mmc_card.specs.Judged.{IsEarlyOcr}
 use Rattle.mmc_card.specs.Faults.{NoFault}
 use Rattle.mmc_card.specs.Made.{first_rca, is_sd}
 use Rattle.mmc_card.specs.Profile.{InProfile}
-use Rattle.mmc_card.specs.Rows.{without_addresses}
 use Rattle.mmc_card.specs.RowsErase.{forgotten}
 use Rattle.mmc_card.specs.RowsIdentify.{is_served}
-use Rattle.mmc_bus.specs.CommandLaws.{Does, Inquires, IsUnheard, Names, TellsReady, TellsWait}
+use Rattle.mmc_bus.specs.CommandLaws.{Does, Inquires, IsUnheard, Names, ShowsDropped, TellsReady, TellsWait}
 use Rattle.mmc_bus.specs.declared.host.Unheard.{Unheard}
 use Rattle.mmc_bus.specs.declared.host.Unheard.TheVariants.{Nothing, Unsound}
 use Rattle.mmc_identify.specs.Judged as judged
@@ -85,7 +84,7 @@ probed old heard new result is repeats same idle =
 abbrev Expects : BusView → Result ℕ Unheard → BusView → Type 0
 Expects old heard new =
     Does ((old.card.made.kind ≡ Sd) × ((old.card.state ≡ Idle) ⊎ (is_identified old.card.state ≡ true))
-    × Names 0 old.card) (λ card. Shows (without_addresses card))
+    × Names 0 old.card) ShowsDropped
     (record (shown (forgotten old.card)) { app = true }) old heard new
 
 -- an SD card in idle goes by the RCA 0, and an eMMC device by 1

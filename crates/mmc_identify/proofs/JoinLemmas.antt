@@ -1,5 +1,5 @@
 -- How the parts of identification join.
-use Rattle.std.proofs.Common.{◌∙◌, ◌≡◌, Bool, List, ap, false, inl, inr, refl, subst, sym, true, ℕ}
+use Rattle.std.proofs.Common.{Bool, List, ℕ, ◌+◌, ◌<◌, ◌∙◌, ◌≡◌, ◌≤◌, ap, false, inl, inr, refl, subst, sym, true}
 use Rattle.std.proofs.lemmas.Result.{IfOk-from_err}
 use Rattle.std.specs.Prelude.{Err, IfOk, IsErr, IsOk, IsOkAnd, Ok, Result, is_ok}
 use Rattle.mmc_frame.specs.declared.card_state.State.{State}
@@ -9,17 +9,20 @@ use Rattle.mmc_frame.specs.declared.kind.Kind.TheVariants.{Mmc, Sd}
 use Rattle.mmc_card.specs.declared.exchange.Lines.{Lines}
 use Rattle.mmc_card.specs.Blocks.{HasRested, rested}
 use Rattle.mmc_card.specs.BusView.{BusView}
-use Rattle.mmc_card.specs.Card.{Card, is_in, is_selected}
+use Rattle.mmc_card.specs.Card.{Card, IsCard, is_in, is_selected, patience}
 use Rattle.mmc_card.specs.Made.{Made, is_sd}
 use Rattle.mmc_card.specs.Profile.{InProfile}
 use Rattle.mmc_bus.specs.declared.cause.Cause.{Cause}
 use Rattle.mmc_bus.specs.Learned.{may_fail}
 use Rattle.mmc_bus.specs.Work.{Moved, Narrows, Worked}
-use Rattle.mmc_bus.proofs.WorkLemmas.{both, moved_as, moved_on, refuted}
-use Rattle.mmc_identify.specs.Stages.{CanStart, HasTold, IsIdle, IsLeft, IsNamed, IsPolled, IsSelected, Looks, echoes}
-use Rattle.mmc_identify.specs.Stages.{IsRcaOf, ready_ocr}
+use Rattle.mmc_bus.proofs.WorkLemmas.{both, moved_as, moved_none, moved_on, moved_then, quiet_parts, refuted}
+use Rattle.mmc_identify.specs.Stages.{CanStart, HasTold, IsIdle, IsLeft, IsNamed, IsResting, IsSelected, IsTaken, Looks, echoes}
+use Rattle.mmc_identify.specs.Stages.{IsRcaOf, IsResting, IsTaken, LooksAfter, RestsAfter, ready_ocr}
 use Rattle.mmc_identify.specs.declared.fault.IdentFault.{IdentFault}
 use Rattle.mmc_identify.specs.declared.identification.Registers.{Registers}
+use Rattle.mmc_bus.specs.declared.status.Closing.{Closing}
+use Rattle.mmc_bus.specs.declared.status.Closing.TheVariants.{AtWork, Clean}
+use Rattle.std.proofs.Common.{arith}
 
 -- Polls.
 
@@ -69,7 +72,6 @@ selected_still rca polls old new e at =
       command_errors = at.command_errors;
       errors = at.errors;
       switch_error = at.switch_error;
-      up_to_date = at.up_to_date;
     })
 
 looks_on : (rca : ℕ) (old new : Card)
@@ -81,62 +83,129 @@ looks_on rca old new calm looks up =
     let e : new ≡ record old { is_busy = false; polled = rests.0 } = rests.1 ∙ rested_is old rests.0 quiet in
     selected_still rca rests.0 old new e (looks (ap (λ (c : Card). is_selected c.state) (sym e) ∙ up))
 
-polled_out : (rca : ℕ) (old new : Card) → HasRested old new → IsPolled true rca old → IsPolled false rca new
-polled_out rca old new is at =
-    let e : new ≡ record old { is_busy = false; polled = is.0 } =
-    is.1 ∙ rested_is old is.0 (ap (λ (s : State). is_in s Prg) at.selected.state) in
+polled_out : (rca polls : ℕ) (old new : Card) → polls ≤ patience → new ≡ rested (record old { polled = polls })
+    → IsTaken rca old → IsResting rca polls new
+polled_out rca polls old new few is at =
+    let e : new ≡ record old { is_busy = false; polled = polls } =
+    is ∙ rested_is old polls (ap (λ (s : State). is_in s Prg) at.selected.state) in
     record {
-      selected = selected_still rca is.0 old new e at.selected;
-      polled = λ never. cc never;
-      is_busy = ap (λ (c : Card). c.is_busy) e;
+      selected = selected_still rca polls old new e at.selected;
+      rests = ap (λ (c : Card). c.is_busy) e;
+      polled = ap (λ (c : Card). c.polled) e;
+      few = few;
     }
 
-abbrev pub Waits : ℕ → Result Unit IdentFault → BusView → BusView → Type 0
+abbrev pub Waits : ℕ → Result ℕ IdentFault → BusView → BusView → Type 0
 Waits rca r a b =
     Moved (λ old new. IsOk r → Looks rca old.card → Looks rca new.card)
-    (λ old new. IsPolled true rca old.card → IsOk r × IsPolled false rca new.card) a b
+    (λ old new. IsTaken rca old.card → IsOkAnd r (λ polls. IsResting rca polls new.card)) a b
 
-pub waited : {Own : BusView → BusView → Type 0} (rca : ℕ) (polls : Result Unit Cause) (r : Result Unit IdentFault)
-    (a b : BusView) → is_ok r ≡ is_ok polls
+-- what the polls leave, by how many there were
+polled_by : (rca : ℕ) (polls : Result ℕ Cause) (r : Result ℕ IdentFault) (old new : Card)
+    → ((n : ℕ) → polls ≡ Ok n → r ≡ Ok n) → IsOkAnd polls (λ polls. (polls ≤ patience) × (new ≡ rested (record old { polled = polls }))) → IsTaken rca old
+    → IsOkAnd r (λ polls. IsResting rca polls new)
+polled_by rca (Ok polls) r old new same told at =
+    subst (λ (r : Result ℕ IdentFault). IsOkAnd r (λ n. IsResting rca n new)) (sym (same polls refl))
+    (polled_out rca polls old new told.0 told.1 at)
+polled_by rca (Err cause) r old new same told at = absurd told
+
+pub waited : {Own : BusView → BusView → Type 0} (rca : ℕ) (polls : Result ℕ Cause)
+    (r : Result ℕ IdentFault) (a b : BusView) → ((n : ℕ) → polls ≡ Ok n → r ≡ Ok n) → is_ok r ≡ is_ok polls
     → (IsOk polls → is_selected b.card.state ≡ true → may_fail a.card ≡ false → HasRested a.card b.card)
-    → Worked Narrows Own (λ old new. old.card.polled ≡ 0 → IsOk polls × HasRested old.card new.card) a b
+    → Worked Narrows Own (λ old new. old.card.polled ≡ 0
+    → IsOkAnd polls (λ polls. (polls ≤ patience) × (new.card ≡ rested (record old.card { polled = polls })))) a b
     → Waits rca r a b
-waited rca polls r a b same calm p =
+waited rca polls r a b cases same calm p =
     moved_as a b p (λ ok. looks_on rca a.card b.card (calm (sym same ∙ ok)))
-    (λ quiet at. let f = p.fine quiet (at.polled refl) in (same ∙ f.0, polled_out rca a.card b.card f.1 at))
+    (λ quiet at. polled_by rca polls r a.card b.card cases (p.fine quiet at.polled) at)
+
+-- Statuses.
+
+-- One status.
+abbrev pub AsksStatus : ℕ → Result Closing IdentFault → BusView → BusView → Type 0
+AsksStatus rca r a b =
+    Moved (λ old new. Looks rca old.card → LooksAfter rca r new.card)
+    (λ old new. InProfile old.card.made → (waits : ℕ) → IsResting rca waits old.card → RestsAfter rca waits r new.card) a b
+
+-- So many showed the card at work.
+abbrev pub IsAtWorkStill : ℕ → ℕ → BusView → BusView → Type 0
+IsAtWorkStill rca statuses a b =
+    Moved (λ old new. Looks rca old.card → Looks rca new.card)
+    (λ old new. InProfile old.card.made → (waits : ℕ) → IsResting rca waits old.card
+    → IsResting rca (waits + statuses) new.card) a b
+
+abbrev pub Confirms : ℕ → ℕ → Result Unit IdentFault → BusView → BusView → Type 0
+Confirms rca polls r a b =
+    Moved (λ old new. Looks rca old.card → IsOk r → IsLeft rca new.card)
+    (λ old new. InProfile old.card.made → IsResting rca polls old.card → IsOk r) a b
+
+pub no_status_yet : (rca : ℕ) (a : BusView) → a.is_kept ≡ true → IsCard a.card → IsAtWorkStill rca 0 a a
+no_status_yet rca a kept card =
+    moved_none a kept card (λ looks. looks)
+    (λ profile waits resting. subst (λ n. IsResting rca n a.card) (omega arith) resting)
+
+-- the next one too
+pub still_at_work : (rca statuses : ℕ) (a b c : BusView) → IsAtWorkStill rca statuses a b → AsksStatus rca (Ok AtWork) b c
+    → IsAtWorkStill rca (statuses + 1) a c
+still_at_work rca statuses a b c p q =
+    moved_then a b c p q (λ looks. q.own (p.own looks))
+    (λ same profile waits resting.
+    let parts = quiet_parts a b c p.stays q.stays same in
+    let was = p.fine parts.0 profile waits resting in
+    let sum : waits + statuses + 1 ≡ waits + (statuses + 1) = omega arith in
+    subst (λ n. IsResting rca n c.card) sum
+    (q.fine parts.1 (subst InProfile (sym p.stays.carried.made) profile) (waits + statuses) was))
+
+-- it is clean
+pub found_clean : (rca polls statuses : ℕ) (a b c : BusView) → IsAtWorkStill rca statuses a b → AsksStatus rca (Ok Clean) b c
+    → Confirms rca polls (Ok tt) a c
+found_clean rca polls statuses a b c p q =
+    moved_then a b c p q (λ looks ok. q.own (p.own looks)) (λ same profile resting. refl)
+
+-- none comes, or one with an error
+pub asked_in_vain : (rca polls statuses : ℕ) (fault : IdentFault) (r : Result Unit IdentFault) (a b c : BusView) → IsErr r
+    → IsAtWorkStill rca statuses a b → AsksStatus rca (Err fault) b c → Confirms rca polls r a c
+asked_in_vain rca polls statuses fault r a b c err p q =
+    moved_then a b c p q (λ looks ok. refuted r err ok)
+    (λ same profile resting.
+    let parts = quiet_parts a b c p.stays q.stays same in
+    let was = p.fine parts.0 profile polls resting in
+    absurd (q.fine parts.1 (subst InProfile (sym p.stays.carried.made) profile) (polls + statuses) was))
+
+-- so many times at work take a fault
+pub asked_too_often : (rca polls statuses : ℕ) (r : Result Unit IdentFault) (a b : BusView) → IsErr r
+    → patience < polls + statuses → IsAtWorkStill rca statuses a b → Confirms rca polls r a b
+asked_too_often rca polls statuses r a b err many p =
+    moved_as a b p (λ looks ok. refuted r err ok)
+    (λ same profile resting. let few = (p.fine same profile polls resting).few in absurd (omega (arith, few, many)))
 
 -- From stby to tran.
 
 abbrev pub Selects : ℕ → Result Unit IdentFault → BusView → BusView → Type 0
 Selects rca r a b =
     Moved (λ old new. IsOk r → Looks rca new.card)
-    (λ old new. InProfile old.card.made → IsNamed rca old.card → IsOk r × IsPolled true rca new.card) a b
-
-abbrev pub Confirms : ℕ → Result Unit IdentFault → BusView → BusView → Type 0
-Confirms rca r a b =
-    Moved (λ old new. Looks rca old.card → IsOk r → IsLeft rca new.card)
-    (λ old new. InProfile old.card.made → IsPolled false rca old.card → IsOk r) a b
+    (λ old new. InProfile old.card.made → IsNamed rca old.card → IsOk r × IsTaken rca new.card) a b
 
 abbrev pub Takes : ℕ → Result Unit IdentFault → BusView → BusView → Type 0
 Takes rca r a b =
     Moved (λ old new. IsOk r → IsLeft rca new.card)
     (λ old new. InProfile old.card.made → IsNamed rca old.card → IsOk r) a b
 
-pub taken : (rca : ℕ) (r : Result Unit IdentFault) (a b c d : BusView) → Selects rca (Ok tt) a b
-    → Waits rca (Ok tt) b c → Confirms rca r c d → Takes rca r a d
-taken rca r a b c d p q s =
+pub taken : (rca polls : ℕ) (r : Result Unit IdentFault) (a b c d : BusView) → Selects rca (Ok tt) a b
+    → Waits rca (Ok polls) b c → Confirms rca polls r c d → Takes rca r a d
+taken rca polls r a b c d p q s =
     let pair = both a b c p q in
     let all = both a c d pair s in
     moved_as a d all (λ ok. s.own (q.own refl (p.own refl)) ok)
     (λ same profile at.
     let f = all.fine same in
-    f.1 (subst InProfile (sym pair.stays.carried.made) profile) (f.0.1 (f.0.0 profile at).1).1)
+    f.1 (subst InProfile (sym pair.stays.carried.made) profile) (f.0.1 (f.0.0 profile at).1))
 
 pub take_fails : (rca : ℕ) (fault : IdentFault) (r : Result Unit IdentFault) (a b c : BusView) → IsErr r
     → Selects rca (Ok tt) a b → Waits rca (Err fault) b c → Takes rca r a c
 take_fails rca fault r a b c err p q =
     let pair = both a b c p q in
-    moved_as a c pair (λ ok. refuted r err ok) (λ same profile at. let f = pair.fine same in cc (f.1 (f.0 profile at).1).0)
+    moved_as a c pair (λ ok. refuted r err ok) (λ same profile at. let f = pair.fine same in absurd (f.1 (f.0 profile at).1))
 
 -- From idle to ready.
 

@@ -1,33 +1,36 @@
 -- What one exchange of identification tells, and where it leaves the card.
-use Rattle.std.proofs.Common.{◌<◌, ◌∙◌, ◌≡◌, ◌↔◌, ◌⊎◌, ◌^◌, Bool, List, ap, arith, cond, false, inl, inr, refl}
+use Rattle.std.proofs.Common.{Bool, List, ◌<◌, ◌^◌, ◌∙◌, ◌≡◌, ◌⊎◌, ap, arith, cond, false, inl, inr, refl}
 use Rattle.std.proofs.Common.{subst, sym, true, ℕ}
-use Rattle.std.specs.Prelude.{◌%◌, ◌&&◌, ◌/◌, ◌==◌, Err, IfOk, IsOk, IsOkAnd, Ok, Result, not}
+use Rattle.std.specs.Prelude.{Err, IfOk, IsOk, IsOkAnd, Ok, Result, ◌%◌, ◌/◌, ◌==◌, if◌then◌else◌, not}
 use Rattle.std.proofs.lemmas.Bool.{eqb-true}
 use Rattle.mmc_frame.specs.Field.{field}
-use Rattle.mmc_frame.specs.Status.{IsClean, error_bits, own_status, state_number}
+use Rattle.mmc_frame.specs.Status.{state_number}
 use Rattle.mmc_frame.specs.declared.card_state.State.{State}
-use Rattle.mmc_frame.specs.declared.card_state.State.TheVariants.{Ident, Ready, Stby, Tran}
+use Rattle.mmc_bus.specs.declared.status.Closing.TheVariants.{AtWork, Clean}
+use Rattle.mmc_frame.specs.declared.card_state.State.TheVariants.{Data, Dis, Ident, Idle, Prg, Rcv, Ready, Stby, Tran}
 use Rattle.mmc_frame.specs.declared.kind.Kind.{Kind}
 use Rattle.mmc_card.specs.BusView.{BusView}
-use Rattle.mmc_card.specs.Card.{Card, IsCard, NoAddress, is_identified, is_in, is_selected}
+use Rattle.mmc_card.specs.Card.{Card, IsCard, NoAddress, is_selected}
 use Rattle.mmc_card.specs.declared.exchange.Timing.TheVariants.{Default}
 use Rattle.mmc_card.specs.declared.exchange.Width.TheVariants.{One}
 use Rattle.mmc_card.specs.declared.part.Part.TheVariants.{User}
-use Rattle.mmc_card.specs.CardAnswer.{Choice, bit, busied, done, left_with, reset, shown, status}
+use Rattle.mmc_card.specs.CardAnswer.{Choice, bit, busied, done, reset, shown, status}
 use Rattle.mmc_card.specs.CardLaws.{IsInOrder}
 use Rattle.mmc_card.specs.Faults.{NoFault}
-use Rattle.mmc_card.proofs.CardAll.{card_left}
-use Rattle.mmc_card.proofs.Narrow.{both}
 use Rattle.mmc_card.specs.RowsIdentify.{at_work}
 use Rattle.mmc_card.specs.Made.{Made}
 use Rattle.mmc_card.specs.Profile.{InProfile}
-use Rattle.mmc_bus.specs.CommandLaws.{Does, DoesOne, IsHeard, Names, TellsStatus}
-use Rattle.mmc_card.specs.Judged.{Shows, ShowsItself}
+use Rattle.mmc_bus.specs.CommandLaws.{Does, IsHeard, Names, TellsStatus}
+use Rattle.mmc_card.specs.Judged.{Shows}
 use Rattle.mmc_bus.specs.declared.host.Unheard.{Unheard}
 use Rattle.mmc_identify.specs.Judged as judged
-use Rattle.mmc_identify.specs.Stages.{IsIdle, IsLeft, IsNamed, IsPolled, IsSelected, Looks}
+use Rattle.mmc_identify.specs.Stages.{IsIdle, IsLeft, IsNamed, IsResting, IsSelected, IsTaken, Looks}
 use Rattle.mmc_identify.specs.declared.fault.IdentFault.{IdentFault}
-use Rattle.mmc_identify.specs.declared.fault.IdentFault.TheVariants.{Locked, NoAnswer, Register}
+use Rattle.mmc_identify.specs.declared.fault.IdentFault.TheVariants.{Register}
+use Rattle.mmc_bus.specs.Closings.{Closes, ClosesSoon, HasShown}
+use Rattle.mmc_bus.specs.declared.status.Closing.{Closing}
+use Rattle.mmc_card.proofs.JudgedLemmas.{less}
+use Rattle.mmc_identify.specs.Stages.{LooksAfter, RestsAfter}
 
 -- CMD0.
 
@@ -130,10 +133,11 @@ described_fine rca argument old heard new is_rca does same named =
 -- CMD7.
 
 -- a card in tran that has just shown what it had to show, busy or not
-shown_selected : (rca : ℕ) (old : Card) (state : State) (busy : Bool) (polled : ℕ) → state ≡ Tran → old.rca ≡ rca
+shown_selected : (rca : ℕ) (old : Card) (state : State) (busy lags : Bool) (polled errors : ℕ) → state ≡ Tran → old.rca ≡ rca
     → old.part ≡ User → old.width ≡ One → old.timing ≡ Default → old.erase_group_def ≡ 0 → old.erase ≡ NoAddress
-    → IsSelected rca (record (shown old) { state = state; is_busy = busy; polled = polled })
-shown_selected rca old state busy polled tran is part width timing erase_group_def erase = record {
+    → errors ≡ 0
+    → IsSelected rca (record (shown old) { state = state; is_busy = busy; polled = polled; lags = lags; errors = errors })
+shown_selected rca old state busy lags polled errors tran is part width timing erase_group_def erase none = record {
   state = tran;
   is_rca = is;
   part = part;
@@ -144,20 +148,18 @@ shown_selected rca old state busy polled tran is part width timing erase_group_d
   app = refl;
   erase = erase;
   command_errors = refl;
-  errors = refl;
+  errors = none;
   switch_error = refl;
-  up_to_date = refl;
 }
 
 selected_after : (rca : ℕ) (old new : Card) → IsCard old → old.state ≡ Stby → old.rca ≡ rca
-    → new ≡ record (busied (shown old)) { state = Tran } → IsPolled true rca new
+    → new ≡ record (busied (shown old)) { state = Tran; lags = true } → IsTaken rca new
 selected_after rca old new card stby is e =
     let apart = card.apart (ap is_selected stby) in
-    subst (IsPolled true rca) (sym e) (record {
-      selected = shown_selected rca old Tran true 0 refl is apart.part apart.width apart.timing apart.erase_group_def
-          apart.erase;
-      polled = λ busy. refl;
-      is_busy = refl;
+    subst (IsTaken rca) (sym e) (record {
+      selected = shown_selected rca old Tran true true 0 0 refl is apart.part apart.width apart.timing apart.erase_group_def
+          apart.erase refl;
+      polled = refl;
     })
 
 bit_below : (b : Bool) → bit b < 2
@@ -189,8 +191,8 @@ selects told none = rw none refl
 pub selected_fine : (rca argument : ℕ) (old : BusView) (heard : Result ℕ Unheard) (new : BusView)
     → field 31 16 argument ≡ rca → LockLaw → IsCard old.card → InProfile old.card.made
     → Does ((old.card.state ≡ Stby) × Names argument old.card) Shows
-    (record (busied (shown old.card)) { state = Tran }) old heard new
-    → NoFault old new → IsNamed rca old.card → IsOk (judged.selected heard) × IsPolled true rca new.card
+    (record (busied (shown old.card)) { state = Tran; lags = true }) old heard new
+    → NoFault old new → IsNamed rca old.card → IsOk (judged.selected heard) × IsTaken rca new.card
 selected_fine rca argument old heard new is_rca locked card profile does same named =
     let f = does.fine same (named.state, is_rca ∙ sym named.is_rca) in
     let none = unlocked old.card Stby named.state (omega arith) named.command_errors named.errors profile.unlocked in
@@ -204,7 +206,7 @@ selected_ok (Err unheard) ok = cc
 pub selected_own : (rca argument : ℕ) (old : BusView) (heard : Result ℕ Unheard) (new : BusView)
     → field 31 16 argument ≡ rca → IsCard old.card
     → Does ((old.card.state ≡ Stby) × Names argument old.card) Shows
-    (record (busied (shown old.card)) { state = Tran }) old heard new
+    (record (busied (shown old.card)) { state = Tran; lags = true }) old heard new
     → IsOk (judged.selected heard) → Looks rca new.card
 selected_own rca argument old heard new is_rca card does ok up =
     let t = selected_ok heard ok in
@@ -213,90 +215,88 @@ selected_own rca argument old heard new is_rca card does ok up =
 
 -- CMD13.
 
-clean_by : (kind : Kind) (told : ℕ) → IsClean kind told → judged.is_clean kind told ≡ true
-clean_by kind told clean = rw (clean.no_error, clean.in_tran, clean.ready_for_data) refl
+number_below : (s : State) → state_number s < 2 ^ 4
+number_below Idle = omega arith
+number_below Ready = omega arith
+number_below Ident = omega arith
+number_below Stby = omega arith
+number_below Tran = omega arith
+number_below Data = omega arith
+number_below Rcv = omega arith
+number_below Prg = omega arith
+number_below Dis = omega arith
 
-clean_of : (kind : Kind) (told : ℕ) (no_error tran ready : Bool) → (error_bits kind told == 0) ≡ no_error
-    → (field 12 9 told == 4) ≡ tran → (field 8 8 told == 1) ≡ ready → (no_error && (tran && ready)) ≡ true
-    → IsClean kind told
-clean_of kind told true true true x y z h = record {
-  no_error = eqb-true (error_bits kind told) 0 x;
-  in_tran = eqb-true (field 12 9 told) 4 y;
-  ready_for_data = eqb-true (field 8 8 told) 1 z;
-}
-clean_of kind told true true false x y z h = cc
-clean_of kind told true false ready x y z h = cc
-clean_of kind told false tran ready x y z h = cc
+late_seen : (late : Bool) (errors : ℕ) → errors ≡ 0 → (if late then 0 else errors) ≡ 0
+late_seen true errors none = refl
+late_seen false errors none = none
 
-confirms : (kind : Kind) (told : ℕ) → told / 0x2000000 % 2 ≡ 0 → judged.is_clean kind (own_status told) ≡ true
-    → judged.confirmed kind (Ok told) ≡ Ok tt
-confirms kind told none clean = rw (none, clean) refl
+-- of a card in profile that looks as CMD7 left it no status shows a lock
+pub shows_unlocked : (rca told : ℕ) (card : Card) → IsSelected rca card → InProfile card.made → LockLaw → Shows card told
+    → field 25 25 told ≡ 0
+shows_unlocked rca told card is profile locked shows =
+    locked told card shows
+    ∙ unlocked card Tran is.state (omega arith) is.command_errors is.errors profile.unlocked
 
--- a card that has programmed nothing tells its status as it is
-never_lags : {told : ℕ} (old new : Card) → old.lags ≡ false → TellsStatus old told new → ShowsItself old told
-never_lags old new up (inl itself) = itself.0
-never_lags old new up (inr behind) =
-    let soon = both old.lags _ (both (is_in old.state Tran) _ behind.may).1 in absurd (cc (up, soon.0))
+-- a status that lags behind shows the lock as the card has it
+lags_unlocked : (rca : ℕ) (choice : Choice) (card : Card) → IsSelected rca card → card.made.is_locked ≡ false
+    → status false (at_work choice card) / 0x2000000 % 2 ≡ 0
+lags_unlocked rca choice card is lock =
+    let seen = at_work choice card in
+    unlocked seen seen.state refl (number_below seen.state) is.command_errors (late_seen choice.tells_late card.errors is.errors) lock
 
-pub confirmed_fine : (rca argument : ℕ) (kind : Kind) (old : BusView) (heard : Result ℕ Unheard) (new : BusView)
-    → field 31 16 argument ≡ rca → InProfile old.card.made
-    → ((told : ℕ) → ShowsItself old.card told → (IsClean kind (own_status told) ↔ IsInOrder kind old.card))
-    → ((told : ℕ) → ShowsItself old.card told → field 25 25 told ≡ field 25 25 (status false old.card))
-    → DoesOne ((is_identified old.card.state ≡ true) × (old.card.app ≡ false) × Names argument old.card)
-    TellsStatus old heard new
-    → NoFault old new → IsPolled false rca old.card → IsOk (judged.confirmed kind heard)
-confirmed_fine rca argument kind old heard new is_rca profile clean locked does same polled =
-    let is = polled.selected in
-    let f = does.fine same (ap is_identified is.state, is.app, is_rca ∙ sym is.is_rca) in
-    let none = unlocked old.card Tran is.state (omega arith) is.command_errors is.errors profile.unlocked in
-    let order : IsInOrder kind old.card = record {
-      no_error = record { errors = is.errors; switch_error = λ _. is.switch_error };
-      tran = is.state;
-      rests = polled.is_busy;
-    } in
-    let shows = never_lags old.card new.card is.up_to_date f.2 in
-    let is_clean = clean_by kind (own_status f.0) ((clean f.0 shows).1 order) in
-    let judges = ap (judged.confirmed kind) f.1 ∙ confirms kind f.0 (locked f.0 shows ∙ none) is_clean in
-    subst IsOk (sym judges) refl
+pub told_unlocked : (rca told : ℕ) (old new : Card) → IsSelected rca old → InProfile old.made → LockLaw
+    → TellsStatus old told new → field 25 25 told ≡ 0
+told_unlocked rca told old new is profile locked (inl itself) =
+    shows_unlocked rca told old is profile locked (less told _ itself.0)
+told_unlocked rca told old new is profile locked (inr behind) =
+    locked told (at_work behind.choice old) (less told _ behind.told_is)
+    ∙ lags_unlocked rca behind.choice old is profile.unlocked
 
-confirmed_by : (kind : Kind) (told : ℕ) (locked clean : Bool) → let result : Result Unit IdentFault = cond locked
-    (Err Locked) (cond clean (Ok tt) (Err NoAnswer)) in IsOk result → clean ≡ true
-confirmed_by kind told true clean ok = cc
-confirmed_by kind told false true ok = refl
-confirmed_by kind told false false ok = cc
-
-confirmed_ok : (kind : Kind) (heard : Result ℕ Unheard) → IsOk (judged.confirmed kind heard)
-    → (told : ℕ) × (heard ≡ Ok told) × IsClean kind (own_status told)
-confirmed_ok kind (Ok told) ok =
-    (told, refl, clean_of kind (own_status told) _ _ _ refl refl refl (confirmed_by kind told _ _ ok))
-confirmed_ok kind (Err unheard) ok = cc
-
--- a clean status leaves the card as it is, but for what it has shown
-left_shown : (rca : ℕ) (old new : Card) → IsSelected rca old → old.is_busy ≡ false → new ≡ shown old → IsLeft rca new
-left_shown rca old new is rests e =
-    subst (IsLeft rca) (sym e) (record {
-      selected = shown_selected rca old old.state old.is_busy old.polled is.state is.is_rca is.part is.width is.timing
-          is.erase_group_def is.erase;
-      rests = rests;
+-- what a clean status leaves
+clean_leaves : (rca : ℕ) (kind : Kind) (old new : Card) → Looks rca old → IsInOrder kind old × (new ≡ shown old) → IsLeft rca new
+clean_leaves rca kind old new looks says =
+    let is = looks (ap is_selected says.0.tran) in
+    subst (IsLeft rca) (sym says.1) (record {
+      selected = shown_selected rca old old.state old.is_busy false old.polled 0 is.state is.is_rca is.part is.width is.timing
+          is.erase_group_def is.erase refl;
+      rests = says.0.rests;
+      up_to_date = refl;
     })
 
-pub confirmed_own : {IsThere : Type 0} (rca : ℕ) (kind : Kind) (old : BusView) (heard : Result ℕ Unheard)
-    (new : BusView) → IsCard old.card
-    → ((told : ℕ) (card : Card) → IsCard card → ShowsItself card told
-    → (IsClean kind (own_status told) ↔ IsInOrder kind card))
-    → ((choice : Choice) (told : ℕ) (card : Card) → IsCard card → ShowsItself (at_work choice card) told
-    → IsClean kind (own_status told) → ⊥)
-    → DoesOne IsThere TellsStatus old heard new
-    → Looks rca old.card → IsOk (judged.confirmed kind heard) → IsLeft rca new.card
-confirmed_own rca kind old heard new card clean unclean does looks ok =
-    let t = confirmed_ok kind heard ok in
-    let says = (does.sound t.0 t.1).1 in
-    let met = left_with says.0 old.card in
-    let is_met = card_left says.0 old.card says.1 card in
-    elim says.2 [
-      | inl itself ↦
-          (let order = (clean t.0 met is_met itself.0).0 t.2 in
-          left_shown rca old.card new.card (looks (ap is_selected order.tran)) order.rests itself.1)
-      | inr behind ↦
-          absurd (unclean behind.choice t.0 met is_met behind.told_is t.2)
-    ]
+-- and one that shows it at work
+work_leaves : (rca : ℕ) (old new : Card) → HasShown old new → new.errors ≡ 0 → IsSelected rca old → IsSelected rca new
+work_leaves rca old new shown none is =
+    subst (IsSelected rca) (sym shown)
+    (shown_selected rca old old.state old.is_busy new.lags new.polled new.errors is.state is.is_rca is.part is.width is.timing
+    is.erase_group_def is.erase none)
+
+pub closing_own : (rca : ℕ) (kind : Kind) (old new : Card) (r : Result Closing IdentFault) → Closes kind r old new
+    → Looks rca old → LooksAfter rca r new
+closing_own rca kind old new (Ok Clean) closes looks = clean_leaves rca kind old new looks closes
+closing_own rca kind old new (Ok AtWork) closes looks = λ up.
+    let is = looks (sym (ap (λ (c : Card). is_selected c.state) closes.shown) ∙ up) in
+    work_leaves rca old new closes.shown (closes.gets_none is.errors) is
+closing_own rca kind old new (Err fault) closes looks = tt
+
+pub closing_fine : (rca waits : ℕ) (kind : Kind) (old new : Card) (r : Result Closing IdentFault) → Closes kind r old new
+    → ClosesSoon r old new → IsResting rca waits old → RestsAfter rca waits r new
+closing_fine rca waits kind old new (Ok Clean) closes soon resting = tt
+closing_fine rca waits kind old new (Ok AtWork) closes soon resting =
+    let before = resting.polled in
+    let below = soon.0.1 in
+    let count = soon.0.2 in
+    record {
+      selected = work_leaves rca old new closes.shown soon.1 resting.selected;
+      rests = ap (λ (c : Card). c.is_busy) closes.shown ∙ resting.rests;
+      polled = omega (arith, before, count);
+      few = omega (arith, before, below);
+    }
+closing_fine rca waits kind old new (Err fault) closes soon resting = soon
+
+-- a card that rests is in order
+pub resting_in_order : (rca waits : ℕ) (kind : Kind) (card : Card) → IsResting rca waits card → IsInOrder kind card
+resting_in_order rca waits kind card resting = record {
+  no_error = record { errors = resting.selected.errors; switch_error = λ mmc. resting.selected.switch_error };
+  tran = resting.selected.state;
+  rests = resting.rests;
+}

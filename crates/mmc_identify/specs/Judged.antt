@@ -2,7 +2,6 @@
 use Rattle.std.specs.Prelude.{◌%◌, ◌&&◌, ◌/◌, ◌==◌, Bool, Err, List, None, Ok, Option, Result, Some, false}
 use Rattle.std.specs.Prelude.{if◌then◌else◌, not, true, ℕ}
 use Rattle.mmc_frame.specs.Field.{field}
-use Rattle.mmc_frame.specs.Status.{error_bits, own_status}
 use Rattle.mmc_frame.specs.declared.addressing.Addressing.{Addressing}
 use Rattle.mmc_frame.specs.declared.addressing.Addressing.TheVariants.{Bytes, Sectors}
 use Rattle.mmc_frame.specs.declared.kind.Kind.{Kind}
@@ -63,16 +62,6 @@ assigned (Err unheard) = Err NoAnswer
 abbrev pub selected : Result ℕ Unheard → Result Unit IdentFault
 selected (Ok status) = if status / 0x2000000 % 2 == 1 then Err Locked else Ok tt
 selected (Err unheard) = Err NoAnswer
-
--- CMD13, which has to be clean but for errors of an earlier command
-abbrev pub is_clean : Kind → ℕ → Bool
-is_clean kind status = (error_bits kind status == 0) && ((field 12 9 status == 4) && (field 8 8 status == 1))
-
-abbrev pub confirmed : Kind → Result ℕ Unheard → Result Unit IdentFault
-confirmed kind (Ok status) =
-    if status / 0x2000000 % 2 == 1 then Err Locked
-    else (if is_clean kind (own_status status) then Ok tt else Err NoAnswer)
-confirmed kind (Err unheard) = Err NoAnswer
 
 -- The registers of a card in tran.
 

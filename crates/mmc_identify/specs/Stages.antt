@@ -1,6 +1,6 @@
 -- Where a card is while it is identified, and what identification leaves (SD Physical Layer 6.00, section 4.2;
 -- JESD84-B51, section 6.4).
-use Rattle.std.specs.Prelude.{◌+◌, ◌<◌, ◌^◌, ◌≡◌, Bool, Err, None, Ok, Option, Result, Some, false, if◌then◌else◌}
+use Rattle.std.specs.Prelude.{◌+◌, ◌<◌, ◌^◌, ◌≡◌, ◌≤◌, Bool, Err, None, Ok, Option, Result, Some, false, if◌then◌else◌}
 use Rattle.std.specs.Prelude.{true, ℕ}
 use Rattle.mmc_frame.specs.declared.card_state.State.TheVariants.{Idle, Ready, Stby, Tran}
 use Rattle.mmc_frame.specs.declared.kind.Kind.TheVariants.{Mmc, Sd}
@@ -12,6 +12,8 @@ use Rattle.mmc_card.specs.declared.exchange.Width.TheVariants.{One}
 use Rattle.mmc_card.specs.declared.part.Part.TheVariants.{User}
 use Rattle.mmc_card.specs.Card.{Card, NoAddress, is_selected, patience}
 use Rattle.mmc_card.specs.Made.{Made, addressing_of, is_sd}
+use Rattle.mmc_bus.specs.declared.status.Closing.{Closing}
+use Rattle.mmc_bus.specs.declared.status.Closing.TheVariants.{AtWork, Clean}
 use Rattle.mmc_identify.specs.declared.fault.IdentFault.{IdentFault}
 use Rattle.mmc_identify.specs.declared.found.Found.{Found}
 use Rattle.mmc_identify.specs.declared.identification.Registers.{Registers}
@@ -69,14 +71,18 @@ pub record IsSelected (rca : ℕ) (card : Card) : Type 0 where
   pub command_errors : card.command_errors ≡ 0
   pub errors : card.errors ≡ 0
   pub switch_error : card.switch_error ≡ false
-  -- it has programmed nothing, so that no status lags
-  pub up_to_date : card.lags ≡ false
 
--- busy and not polled yet, or not busy any more
-pub record IsPolled (busy : Bool) (rca : ℕ) (card : Card) : Type 0 where
+-- as CMD7 leaves it, not polled yet
+pub record IsTaken (rca : ℕ) (card : Card) : Type 0 where
   pub selected : IsSelected rca card
-  pub polled : busy ≡ true → card.polled ≡ 0
-  pub is_busy : card.is_busy ≡ busy
+  pub polled : card.polled ≡ 0
+
+-- not busy any more, and it has said so often that it is busy or at work
+pub record IsResting (rca waits : ℕ) (card : Card) : Type 0 where
+  pub selected : IsSelected rca card
+  pub rests : card.is_busy ≡ false
+  pub polled : card.polled ≡ waits
+  pub few : waits ≤ patience
 
 -- it is as CMD7 left it, or not selected any more
 abbrev pub Looks : ℕ → Card → Type 0
@@ -86,6 +92,20 @@ Looks rca card = is_selected card.state ≡ true → IsSelected rca card
 pub record IsLeft (rca : ℕ) (card : Card) : Type 0 where
   pub selected : IsSelected rca card
   pub rests : card.is_busy ≡ false
+  -- no status lags behind
+  pub up_to_date : card.lags ≡ false
+
+-- what a closing status leaves of a card that looked as CMD7 left it
+abbrev pub LooksAfter : ℕ → Result Closing IdentFault → Card → Type 0
+LooksAfter rca (Ok Clean) new = IsLeft rca new
+LooksAfter rca (Ok AtWork) new = Looks rca new
+LooksAfter rca (Err fault) new = Unit {0}
+
+-- and without a fault: it is clean, or the card was at work once more
+abbrev pub RestsAfter : ℕ → ℕ → Result Closing IdentFault → Card → Type 0
+RestsAfter rca waits (Ok Clean) new = Unit {0}
+RestsAfter rca waits (Ok AtWork) new = IsResting rca (waits + 1) new
+RestsAfter rca waits (Err fault) new = ⊥
 
 -- what was found is the card's own
 pub record IsFound (made : Made) (found : Found) : Type 0 where

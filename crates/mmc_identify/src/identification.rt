@@ -3,7 +3,8 @@
 // 1. CMD0 and one line at default speed. CMD8 tells whether the card is to hear HCS; one that doesn't answer isn't told.
 // 2. CMD55 with RCA 0 tells the kind: an SD card answers, and goes on by ACMD41; of an eMMC device nothing is heard, and
 //    it goes on by CMD0 and CMD1.
-// 3. CMD2, CMD3, CMD9, CMD7, polls until the card isn't busy, and CMD13, whose status has to be clean.
+// 3. CMD2, CMD3, CMD9, CMD7, polls until the card isn't busy, and CMD13, whose status has to be clean. While it shows the card
+//    on its way to tran still, CMD13 comes again, at most `MAX_POLLS` times with the polls that were answered yes.
 // 4. Any other missing or unsound response ends it. Registers are judged at the end.
 ghost use Rattle.std.specs.Prelude.{◌≡◌, ◌+◌, ◌<◌, ◌≤◌, IfOk, IsErr, IsOk, IsOkAnd, Ok, false, true, ℕ};
 ghost use Rattle.mmc_frame.specs.declared.card_state.State.TheVariants.{Ident, Ready};
@@ -12,7 +13,8 @@ ghost use Rattle.mmc_card.specs.declared.exchange.Timing.TheVariants.{Default};
 ghost use Rattle.mmc_card.specs.declared.exchange.Width.TheVariants.{One};
 ghost use Rattle.mmc_card.specs.Profile.{InProfile};
 ghost use Rattle.mmc_bus.specs.Work.{Moves};
-ghost use Rattle.mmc_identify.specs.Stages.{CanStart, HasTold, IsFound, IsIdle, IsLeft, IsNamed, IsPolled, IsRcaOf, Looks, ready_ocr};
+ghost use Rattle.mmc_bus.specs.declared.wait.TheConstants.{MAX_POLLS};
+ghost use Rattle.mmc_identify.specs.Stages.{CanStart, HasTold, IsFound, IsIdle, IsLeft, IsNamed, IsRcaOf, IsResting, IsTaken, Looks, ready_ocr};
 
 use crate::fault::IdentFault;
 use crate::found::Found;
@@ -20,7 +22,7 @@ use crate::judging::found;
 use crate::sd::{announce, probe, publish};
 use crate::shared::{confirm, describe, go_idle, name, select};
 use crate::{mmc, sd};
-use mmc_bus::{Bus, wait_while_busy};
+use mmc_bus::{Bus, count_polls};
 use mmc_card::{Timing, Width, laws};
 use mmc_frame::Kind;
 
@@ -102,15 +104,17 @@ fn register<B: Bus>(bus: &mut B, kind: Kind) -> Result<Registers, IdentFault>
     Ok(Registers { cid, rca, csd })
 }
 
-// Polls until the card isn't busy.
-fn wait<B: Bus>(bus: &mut B, rca: u16) -> Result<(), IdentFault>
+// Polls until the card isn't busy: how many polls were answered yes.
+fn wait<B: Bus>(bus: &mut B, rca: u16) -> Result<u64, IdentFault>
     ensures bounded { (B.view bus.new).exchanges ≤ (B.view bus.old).exchanges + 16 }
+    ensures few { IfOk result (λ polls. (polls < MAX_POLLS)
+        × ((B.view bus.new).exchanges ≤ (B.view bus.old).exchanges + polls + 1)) }
     ensures lines { (B.view bus.new).lines ≡ (B.view bus.old).lines }
     ensures moves { Moves (λ old new. IsOk result → Looks rca old.card → Looks rca new.card)
-        (λ old new. IsPolled true rca old.card → IsOk result × IsPolled false rca new.card)
+        (λ old new. IsTaken rca old.card → IsOkAnd result (λ polls. IsResting rca polls new.card))
         (B.view bus.old) (B.view bus.new) }
 {
-    wait_while_busy(bus).map_err(|_| IdentFault::NoAnswer)
+    count_polls(bus).map_err(|_| IdentFault::NoAnswer)
 }
 
 // From stby to tran.
@@ -122,8 +126,8 @@ fn take<B: Bus>(bus: &mut B, kind: Kind, rca: u16) -> Result<(), IdentFault>
         (B.view bus.old) (B.view bus.new) }
 {
     select(bus, rca)?;
-    wait(bus, rca)?;
-    confirm(bus, kind, rca)
+    let polls = wait(bus, rca)?;
+    confirm(bus, kind, rca, polls)
 }
 
 /// Identifies the card, whatever became of it before: an SD card on one line at default speed, or an eMMC device. It is

@@ -4,13 +4,18 @@
 // 2. The voltage is judged at CMD8's response and at each OCR, unless its window is empty and the card isn't ready yet; an RCA
 //    where it is published.
 // 3. CID, CSD and addressing are judged when the card is in tran.
-ghost use Rattle.std.specs.Prelude.{◌≡◌, IfOk};
+ghost use Rattle.std.specs.Prelude.{◌≡◌, Err, IfOk, Ok, ℕ};
+ghost use Rattle.mmc_frame.specs.Field.{field};
+ghost use Rattle.mmc_frame.specs.Status.{IsAtWork, IsClean, own_status};
+ghost use Rattle.mmc_bus.specs.declared.host.Unheard.{Unheard};
+ghost use Rattle.mmc_bus.specs.declared.status.Closing.TheVariants.{AtWork, Clean};
+ghost use Rattle.mmc_identify.specs.declared.fault.IdentFault.TheVariants.{Locked, NoAnswer};
 ghost use Rattle.mmc_identify.specs.Judged as judged;
 
 use crate::fault::IdentFault;
 use crate::found::Found;
-use mmc_bus::Unheard;
-use mmc_frame::{Addressing, Kind, is_clean, own_status};
+use mmc_bus::{Closing, Unheard, check_closing};
+use mmc_frame::{Addressing, Kind};
 use mmc_regs::{Csd, Ocr, read_cid, read_csd};
 
 /// CMD8: whether the card repeated voltage and pattern.
@@ -102,19 +107,23 @@ pub fn selected(heard: Result<u32, Unheard>) -> Result<(), IdentFault>
     }
 }
 
-/// The closing CMD13: a clean status of a card that isn't locked, but for errors of an earlier command.
-pub fn confirmed(kind: Kind, heard: Result<u32, Unheard>) -> Result<(), IdentFault>
-    ensures { result ≡ judged.confirmed kind heard }
+/// The closing CMD13: a clean status of a card that isn't locked, or one that shows it still at work, but for errors of an
+/// earlier command.
+pub fn confirmed(kind: Kind, heard: Result<u32, Unheard>) -> Result<Closing, IdentFault>
+    ensures clean { result ≡ Ok Clean → (status : ℕ) × (heard ≡ Ok status) × IsClean kind (own_status status) }
+    ensures at_work { result ≡ Ok AtWork → (status : ℕ) × (heard ≡ Ok status) × IsAtWork kind (own_status status) }
+    ensures all_clean { (status : ℕ) → heard ≡ Ok status → field 25 25 status ≡ 0 → IsClean kind (own_status status)
+        → result ≡ Ok Clean }
+    ensures all_at_work { (status : ℕ) → heard ≡ Ok status → field 25 25 status ≡ 0
+        → (IsClean kind (own_status status) → ⊥) → IsAtWork kind (own_status status) → result ≡ Ok AtWork }
+    ensures locked { (status : ℕ) → heard ≡ Ok status → field 25 25 status ≡ 1 → result ≡ Err Locked }
+    ensures unheard { (why : Unheard) → heard ≡ Err why → result ≡ Err NoAnswer }
 {
     let status = heard.map_err(|_| IdentFault::NoAnswer)?;
     if status / 0x0200_0000 % 2 == 1 {
         return Err(IdentFault::Locked);
     }
-    if is_clean(kind, own_status(status)) {
-        Ok(())
-    } else {
-        Err(IdentFault::NoAnswer)
-    }
+    check_closing(kind, heard).map_err(|_| IdentFault::NoAnswer)
 }
 
 // The addressing of an SD card, which its CSD version has to confirm.

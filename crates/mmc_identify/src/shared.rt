@@ -1,13 +1,14 @@
 // What identification does with cards of both kinds, one exchange a function.
-ghost use Rattle.std.specs.Prelude.{◌≡◌, ◌+◌, ◌≤◌, IfOk, IsOk, Ok, false, true};
+ghost use Rattle.std.specs.Prelude.{◌≡◌, ◌+◌, ◌<◌, ◌≤◌, IfOk, IsOk, Ok, false, true, ℕ};
 ghost use Rattle.mmc_frame.specs.declared.card_state.State.TheVariants.{Ident, Ready};
 ghost use Rattle.mmc_card.specs.Profile.{InProfile};
 ghost use Rattle.mmc_bus.specs.Work.{Moves};
-ghost use Rattle.mmc_identify.specs.Stages.{IsIdle, IsLeft, IsNamed, IsPolled, Looks};
+ghost use Rattle.mmc_bus.specs.declared.wait.TheConstants.{MAX_POLLS};
+ghost use Rattle.mmc_identify.specs.Stages.{IsIdle, IsLeft, IsNamed, IsResting, IsTaken, Looks, LooksAfter, RestsAfter};
 
 use crate::fault::IdentFault;
 use crate::judging::{confirmed, selected, told_register};
-use mmc_bus::{Bus, ask, ask_register, identify_laws, rca_argument, tell};
+use mmc_bus::{Bus, Closing, MAX_POLLS, ask, ask_register, identify_laws, rca_argument, tell};
 use mmc_card::{card_laws, laws};
 use mmc_frame::Kind;
 use mmc_frame::commands::{ALL_SEND_CID, GO_IDLE_STATE, SELECT_CARD, SEND_CSD, SEND_STATUS};
@@ -54,7 +55,7 @@ pub fn select<B: Bus>(bus: &mut B, rca: u16) -> Result<(), IdentFault>
     ensures bounded { (B.view bus.new).exchanges ≤ (B.view bus.old).exchanges + 1 }
     ensures lines { (B.view bus.new).lines ≡ (B.view bus.old).lines }
     ensures moves { Moves (λ old new. IsOk result → Looks rca new.card)
-        (λ old new. InProfile old.card.made → IsNamed rca old.card → IsOk result × IsPolled true rca new.card)
+        (λ old new. InProfile old.card.made → IsNamed rca old.card → IsOk result × IsTaken rca new.card)
         (B.view bus.old) (B.view bus.new) }
 {
     identify_laws::cmd7_selects_the_card();
@@ -63,16 +64,35 @@ pub fn select<B: Bus>(bus: &mut B, rca: u16) -> Result<(), IdentFault>
     selected(ask(bus, SELECT_CARD, rca_argument(rca)))
 }
 
-/// CMD13, whose status has to be clean.
-pub fn confirm<B: Bus>(bus: &mut B, kind: Kind, rca: u16) -> Result<(), IdentFault>
+/// CMD13: a clean status, or one that shows the card still at work.
+pub fn ask_status<B: Bus>(bus: &mut B, kind: Kind, rca: u16) -> Result<Closing, IdentFault>
     ensures bounded { (B.view bus.new).exchanges ≤ (B.view bus.old).exchanges + 1 }
     ensures lines { (B.view bus.new).lines ≡ (B.view bus.old).lines }
-    ensures moves { Moves (λ old new. Looks rca old.card → IsOk result → IsLeft rca new.card)
-        (λ old new. InProfile old.card.made → IsPolled false rca old.card → IsOk result)
+    ensures moves { Moves (λ old new. Looks rca old.card → LooksAfter rca result new.card)
+        (λ old new. InProfile old.card.made → (waits : ℕ) → IsResting rca waits old.card → RestsAfter rca waits result new.card)
         (B.view bus.old) (B.view bus.new) }
 {
     identify_laws::cmd13_tells_the_status();
     card_laws::a_status_tells_of_its_card();
     laws::no_command_but_erase_widens();
     confirmed(kind, ask(bus, SEND_STATUS, rca_argument(rca)))
+}
+
+/// CMD13, whose status has to be clean. While it shows the card still at work CMD13 comes again, so that this and the polls
+/// before are at most `MAX_POLLS`.
+pub fn confirm<B: Bus>(bus: &mut B, kind: Kind, rca: u16, polls: u64) -> Result<(), IdentFault>
+    requires { polls < MAX_POLLS }
+    ensures bounded { (B.view bus.new).exchanges + polls ≤ (B.view bus.old).exchanges + MAX_POLLS }
+    ensures lines { (B.view bus.new).lines ≡ (B.view bus.old).lines }
+    ensures moves { Moves (λ old new. Looks rca old.card → IsOk result → IsLeft rca new.card)
+        (λ old new. InProfile old.card.made → IsResting rca polls old.card → IsOk result)
+        (B.view bus.old) (B.view bus.new) }
+{
+    for _statuses in 0..MAX_POLLS - polls {
+        match ask_status(bus, kind, rca)? {
+            Closing::Clean => return Ok(()),
+            Closing::AtWork => {}
+        }
+    }
+    Err(IdentFault::NoAnswer)
 }

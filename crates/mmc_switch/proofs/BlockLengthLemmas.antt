@@ -9,10 +9,9 @@ use Rattle.mmc_card.specs.Card.{Card, IsCard, is_writing}
 use Rattle.mmc_card.specs.CardAnswer.{shown}
 use Rattle.mmc_card.specs.CardLaws.{HasNoError}
 use Rattle.mmc_card.specs.Laws.{erased_by}
-use Rattle.mmc_card.specs.Rows.{without_addresses}
 use Rattle.mmc_card.specs.RowsErase.{forgotten}
 use Rattle.mmc_bus.proofs.WorkLemmas.{moved_by}
-use Rattle.mmc_bus.specs.CommandLaws.{Does}
+use Rattle.mmc_bus.specs.CommandLaws.{Does, ShowsDropped}
 use Rattle.mmc_bus.specs.Exchanges.{Kept}
 use Rattle.mmc_bus.specs.Heard.{response_of}
 use Rattle.mmc_bus.specs.Learned.{CommandFacts}
@@ -20,7 +19,7 @@ use Rattle.mmc_bus.specs.Work.{Moved}
 use Rattle.mmc_bus.specs.declared.cause.Cause.{Cause}
 use Rattle.mmc_bus.specs.declared.host.Unheard.{Unheard}
 use Rattle.mmc_identify.specs.Stages.{IsLeft}
-use Rattle.mmc_switch.proofs.RestLemmas.{nothing_dropped}
+use Rattle.mmc_switch.proofs.RestLemmas.{shows_itself}
 use Rattle.mmc_switch.specs.Stages.{IsSet, first_lines, first_setting}
 use Rattle.mmc_card.specs.Judged.{Shows}
 
@@ -50,7 +49,7 @@ set_after rca old new card left first lines e =
 pub length_set : (kind : Kind) (heard : Result ℕ Unheard) (r : Result Unit Cause) (old new : BusView)
     → erased_by old.card (Some (16, 512)) ≡ None → new.lines ≡ old.lines
     → Kept old (CommandFacts (response_of 16) old 16 512 heard new) new
-    → Does (old.card.state ≡ Tran) (λ card. Shows (without_addresses card))
+    → Does (old.card.state ≡ Tran) ShowsDropped
     (record (shown (forgotten old.card)) { block_length = 512 }) old heard new
     → ((told : ℕ) → Shows old.card told → ((error_bits kind told ≡ 0) ↔ HasNoError kind old.card))
     → (IsOk r → (told : ℕ) × (heard ≡ Ok told) × (error_bits kind (own_status told) ≡ 0))
@@ -65,10 +64,9 @@ length_set kind heard r old new none lines k does clean ok all =
     set_after rca old new k.was_card left first lines (does.sound told.0 told.1).2)
     (λ same rca left.
     let is = left.selected in
-    let plain = nothing_dropped old.card is.erase in
     let told = (does.fine same is.state).0 in
     all told.0 told.1
-    ((clean told.0 (subst (λ (c : Card). Shows c told.0) plain told.2)).1 (record {
+    ((clean told.0 (shows_itself old.card told.0 is.erase told.2)).1 (record {
       command_errors = is.command_errors;
       errors = is.errors;
       switch_error = λ mmc. is.switch_error;

@@ -120,10 +120,10 @@ idle_shown card idle = record {
 }
 
 -- and where the status shows it at work still
-pub idle_after : (old new : Card) → HasShown old new → IsIdle 0 old → IsIdle 0 new
-idle_after old new e idle =
+pub idle_after : (old new : Card) → HasShown old new → new.errors ≡ 0 → IsIdle 0 old → IsIdle 0 new
+idle_after old new e none idle =
     subst (IsIdle 0) (sym e) (record {
-      quiet = quiet_by idle.quiet.state refl refl refl refl refl idle.quiet.erase;
+      quiet = quiet_by idle.quiet.state refl refl none refl refl idle.quiet.erase;
       rests = idle.rests;
     })
 
@@ -139,8 +139,8 @@ never_fails : (waits : ℕ) (old new : Card) (closing : Result Closing Cause) �
     → ClosesSoon closing old new → ⊥
 never_fails waits old new (Ok Clean) fails after soon = fails
 never_fails waits old new (Ok AtWork) fails after soon =
-    let was = after soon.0 soon.1 in
-    let below = soon.1 in
+    let was = after soon.0.0 soon.0.1 in
+    let below = soon.0.1 in
     absurd (omega (arith, was, below, fails))
 never_fails waits old new (Err cause) fails after soon = soon
 
@@ -151,8 +151,8 @@ pub record CanEnd (session : Session) (Exact : Ending → Card → Type 0) : Typ
       → Exact (Wait (polls + 1)) (waited card)
   pub no : ProgramLaw → (polls : ℕ) (card : Card) → Exact (Wait polls) card → FitsPart card
       → (is_selected card.state ≡ true → card.part ≡ part_of session) → Exact (Confirm polls) (rested card)
-  pub works : (waits : ℕ) (card new : Card) → Exact (Confirm waits) card → HasShown card new → CountsOn card new
-      → Exact (Confirm (waits + 1)) new
+  pub works : (waits : ℕ) (card new : Card) → Exact (Confirm waits) card → HasShown card new → new.errors ≡ 0
+      → CountsOn card new → Exact (Confirm (waits + 1)) new
   pub idle : (waits : ℕ) (card : Card) → Exact (Confirm waits) card → IsIdle 0 card
   pub lags : (waits : ℕ) (card : Card) → Exact (Confirm waits) card → LagsAfter waits card
   pub shows : (waits : ℕ) (card : Card) → Exact (Confirm waits) card → Exact (Confirm 0) (shown card)
@@ -175,8 +175,8 @@ change_ends session change part = record {
     carried_out change card law fits (in_part (ap is_selected exact.0.quiet.state) ∙ sym part) exact.0,
     subst (LagsAfter polls) (sym (rested_in Prg card exact.0.quiet.state)) (λ lags few. exact.1.polled few),
   );
-  works = λ waits card new exact shows counts. (
-    idle_after card new shows exact.0,
+  works = λ waits card new exact shows none counts. (
+    idle_after card new shows none exact.0,
     subst (IsCarriedOut change) (sym shows) exact.1,
     lags_on waits card new exact.2 counts,
   );
@@ -202,16 +202,17 @@ module _ (session : Session) (change : Change) (Exact : Ending → Card → Type
         → EndingTurned session change Exact faults a (Err cause) b
     wait_fails cause last work =
         turn_fails session change ShownIn Exact (Exact (Confirm 0)) (Wait polls) faults a b at work cause
-        (λ waits quiet. not_so_often polls a b last work.own (ends.busy polls a.card waits (work.own.yes refl).0) quiet)
+        (λ waits quiet. not_so_often polls a b last work.own (ends.busy polls a.card waits (work.own.busy refl)) quiet)
 
     -- yes
     wait_more : Polls true a b → EndingTurned session change Exact faults a (Ok (Some (Wait (polls + 1)))) b
     wait_more work =
-        let yes = work.own.yes refl in
-        let comes : Exact (Wait polls) a.card → Exact (Wait (polls + 1)) b.card =
-        λ waits. subst (Exact (Wait (polls + 1))) (sym yes.1) (ends.yes polls a.card waits yes.0) in
+        let comes : b.card ≡ waited a.card → Exact (Wait polls) a.card → Exact (Wait (polls + 1)) b.card =
+        λ is waits. subst (Exact (Wait (polls + 1))) (sym is) (ends.yes polls a.card waits (work.own.busy refl)) in
+        let says : b.card.errors ≡ 0 → b.card ≡ waited a.card = λ none. work.own.shown (λ no. cc no) none in
         turn_goes_on session change ShownIn Exact (Exact (Confirm 0)) (Wait polls) faults a b at work (Wait (polls + 1))
-        (λ none. sym (ap (λ (c : Card). c.errors) yes.1) ∙ none) (λ waits none. comes waits) (λ waits quiet. comes waits)
+        (λ none. sym (ap (λ (c : Card). c.errors) (says none)) ∙ none) (λ waits none. comes (says none) waits)
+        (λ waits quiet. comes (work.own.fine quiet) waits)
 
     is_over : ProgramLaw → Exact (Wait polls) a.card → b.card ≡ rested a.card
         → Exact (Confirm polls) b.card
@@ -223,9 +224,9 @@ module _ (session : Session) (change : Change) (Exact : Ending → Card → Type
     wait_ends : ProgramLaw → Polls false a b → EndingTurned session change Exact faults a (Ok (Some (Confirm polls))) b
     wait_ends programs work =
         turn_goes_on session change ShownIn Exact (Exact (Confirm 0)) (Wait polls) faults a b at work (Confirm polls)
-        (λ sound. none_before a.card b.card (work.own.shown refl sound.0 sound.1) sound.1)
-        (λ waits sound. is_over programs waits (work.own.shown refl sound.0 sound.1))
-        (λ waits same. is_over programs waits (work.own.fine same refl))
+        (λ sound. none_before a.card b.card (work.own.shown (λ no. sound.0) sound.1) sound.1)
+        (λ waits sound. is_over programs waits (work.own.shown (λ no. sound.0) sound.1))
+        (λ waits same. is_over programs waits (work.own.fine same))
 
   module _ (waits : ℕ) (at : IsUnderWay session (ShownIn (Confirm waits)) (Exact (Confirm waits)) faults a) where
     -- the status isn't clean
@@ -252,10 +253,11 @@ module _ (session : Session) (change : Change) (Exact : Ending → Card → Type
     works_on work =
         let own = work.own in
         let comes : Exact (Confirm waits) a.card → Exact (Confirm (waits + 1)) b.card =
-        λ rests. ends.works waits a.card b.card rests own.1 own.2 in
+        λ rests. ends.works waits a.card b.card rests own.shown (own.gets_none (ends.idle waits a.card rests).quiet.errors)
+        own.counts in
         turn_goes_on session change ShownIn Exact (Exact (Confirm 0)) (Confirm waits) faults a b at work
         (Confirm (waits + 1))
-        (λ sound. (ap (λ (c : Card). is_selected c.state) (sym own.1) ∙ sound.0, own.0.errors))
+        (λ sound. (ap (λ (c : Card). is_selected c.state) (sym own.shown) ∙ sound.0, (own.held_none sound.1).errors))
         (λ rests sound. comes rests) (λ rests quiet. comes rests)
 
     -- it is clean

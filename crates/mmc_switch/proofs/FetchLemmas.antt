@@ -16,11 +16,10 @@ use Rattle.mmc_card.specs.Card.{Card, FromSectors, IsCard}
 use Rattle.mmc_card.specs.CardAnswer.{Choice}
 use Rattle.mmc_card.specs.Faults.{NoFault}
 use Rattle.mmc_card.specs.Laws.{Setting, erased_by, setting_of}
-use Rattle.mmc_card.specs.Rows.{without_addresses}
 use Rattle.mmc_card.specs.RowsErase.{forgotten}
 use Rattle.mmc_card.specs.RowsSwitch.{IsExtCsdOf, ext_csd_now, timing_number, width_number}
 use Rattle.mmc_card.specs.RowsTransfer.{sending}
-use Rattle.mmc_bus.specs.CommandLaws.{Does}
+use Rattle.mmc_bus.specs.CommandLaws.{Does, ShowsDropped}
 use Rattle.mmc_bus.specs.Heard.{response_heard, response_of}
 use Rattle.mmc_bus.specs.Learned.{Asked}
 use Rattle.mmc_bus.specs.declared.cause.Cause.{Cause}
@@ -29,7 +28,6 @@ use Rattle.mmc_bus.specs.Work.{Moved, Narrows, Worked}
 use Rattle.mmc_bus.proofs.WorkLemmas.{moved_as, moved_by, moved_then, quiet_parts, refuted}
 use Rattle.mmc_switch.specs.Stages.{IsAtRest, IsSet, IsSetOver, lines_of}
 use Rattle.mmc_switch.proofs.RestLemmas.{ErrorsLaw, answers_well, carried_out, set_as}
-use Rattle.mmc_card.specs.Judged.{Shows}
 
 -- the host's lines stay, and the card is to send these bytes
 abbrev pub IsSending : List ℕ → Timing → BusView → BusView → Type 0
@@ -48,7 +46,7 @@ pub commanded : {Asks IsThere : Type 0} (kind : Kind) (bytes : List ℕ) (timing
     → erased_by a.card (Some (index, argument)) ≡ None → ErrorsLaw
     → (IsOk r → (told : ℕ) × (heard ≡ Ok told) × (error_bits kind (own_status told) ≡ 0))
     → ((told : ℕ) → heard ≡ Ok told → error_bits kind told ≡ 0 → IsOk r)
-    → (Asks → Does IsThere (λ card. Shows (without_addresses card)) (sending bytes timing (forgotten a.card)) a heard b)
+    → (Asks → Does IsThere ShowsDropped (sending bytes timing (forgotten a.card)) a heard b)
     → Commands Asks IsThere bytes timing r a b
 commanded kind bytes timing a index argument heard b r asked kept none errors judged judges law =
     let k = asked.exchanged.kept kept in
@@ -56,7 +54,7 @@ commanded kind bytes timing a index argument heard b r asked kept none errors ju
     moved_by a index argument heard b none k
     (λ asks ok. (
       asked.exchanged.lines,
-      (carried_out kind (λ card. Shows (without_addresses card)) after a heard b r judged (law asks) ok).1,
+      (carried_out kind ShowsDropped after a heard b r judged (law asks) ok).1,
     ))
     (λ same is_app asks there rest.
     answers_well kind is_app after a heard b r errors k.was_card judges (law asks) same rest there)

@@ -16,7 +16,7 @@ use Rattle.mmc_card.specs.Faults.{NoFault}
 use Rattle.mmc_card.specs.Laws.{Setting, setting_of}
 use Rattle.mmc_card.specs.Rows.{without_addresses}
 use Rattle.mmc_card.specs.RowsErase.{forgotten}
-use Rattle.mmc_bus.specs.CommandLaws.{Does}
+use Rattle.mmc_bus.specs.CommandLaws.{Does, ShowsDropped}
 use Rattle.mmc_bus.specs.declared.cause.Cause.{Cause}
 use Rattle.mmc_bus.specs.declared.host.Unheard.{Unheard}
 use Rattle.mmc_bus.specs.Work.{Moved}
@@ -25,8 +25,12 @@ use Rattle.mmc_switch.specs.Stages.{IsAtRest, IsSet, IsSetOver, lines_of}
 use Rattle.mmc_card.specs.Judged.{Shows}
 
 -- where no erase address is held none is dropped
-pub nothing_dropped : (card : Card) → card.erase ≡ NoAddress → without_addresses card ≡ card
-nothing_dropped card none = rw none refl
+pub nothing_dropped : (quietly : Bool) (card : Card) → card.erase ≡ NoAddress → without_addresses quietly card ≡ card
+nothing_dropped quietly card none = rw none refl
+
+-- and it shows itself
+pub shows_itself : (card : Card) (told : ℕ) → card.erase ≡ NoAddress → ShowsDropped card told → Shows card told
+shows_itself card told none shows = subst (λ (c : Card). Shows c told) (nothing_dropped shows.0 card none) shows.1
 
 pub no_error : (kind : Kind) (is_app : Bool) (card : Card) → IsAtRest is_app card → HasNoError kind card
 no_error kind is_app card rest =
@@ -52,11 +56,11 @@ ErrorsLaw =
 pub answers_well : {IsThere : Type 0} (kind : Kind) (is_app : Bool) (after : Card) (old : BusView)
     (heard : Result ℕ Unheard) (new : BusView) (r : Result Unit Cause) → ErrorsLaw → IsCard old.card
     → ((status : ℕ) → heard ≡ Ok status → error_bits kind status ≡ 0 → IsOk r)
-    → Does IsThere (λ card. Shows (without_addresses card)) after old heard new → NoFault old new
+    → Does IsThere ShowsDropped after old heard new → NoFault old new
     → IsAtRest is_app old.card → IsThere → IsOk r
 answers_well kind is_app after old heard new r errors card judges does same rest there =
     let told = (does.fine same there).0 in
-    let shows = subst (λ (c : Card). Shows c told.0) (nothing_dropped old.card rest.erase) told.2 in
+    let shows = shows_itself old.card told.0 rest.erase told.2 in
     judges told.0 told.1 ((errors kind told.0 old.card card shows).1 (no_error kind is_app old.card rest))
 
 -- A card that has shown its errors, in this state, with these lines, this timing and this block length.

@@ -15,13 +15,12 @@ use Rattle.mmc_card.specs.declared.part.Part.{Part}
 use Rattle.mmc_card.proofs.Conditions.{by_cond}
 use Rattle.mmc_card.specs.Blocks.{rested}
 use Rattle.mmc_card.specs.BusView.{BusView}
-use Rattle.mmc_card.specs.Card.{Card, is_in, stored}
+use Rattle.mmc_card.specs.Card.{Card, NoAddress, is_in, stored}
 use Rattle.mmc_card.specs.CardAnswer.{shown}
 use Rattle.mmc_card.specs.CardLaws.{HasNoError, IsInOrder}
 use Rattle.mmc_card.specs.Faults.{NoFault}
 use Rattle.mmc_card.specs.Laws.{Setting, StandsIn, StillStands, erased_by, setting_of}
 use Rattle.mmc_card.specs.Made.{Made}
-use Rattle.mmc_card.specs.Rows.{without_addresses}
 use Rattle.mmc_card.specs.RowsSwitch.{access_switched, accessed, part_accessed, programs_switch, switched, width_number}
 use Rattle.mmc_card.specs.RowsSwitch.{write_byte}
 use Rattle.mmc_bus.specs.declared.cause.Cause.{Cause}
@@ -34,7 +33,7 @@ use Rattle.mmc_bus.specs.Work.{Done, Moved, Narrows}
 use Rattle.mmc_bus.proofs.ClosingLemmas.{Ended}
 use Rattle.mmc_bus.proofs.WorkLemmas.{done_as, done_by, done_then, moved_as, moved_on, moved_then, narrows_then, quiet_parts, refuted}
 use Rattle.mmc_switch.specs.Info.{has_high_timing}
-use Rattle.mmc_switch.proofs.RestLemmas.{no_error, nothing_dropped, set_on_lines}
+use Rattle.mmc_switch.proofs.RestLemmas.{no_error, set_on_lines}
 use Rattle.mmc_switch.specs.Stages.{IsAtRest, IsSet, IsSetOver, MayStandIn, first_setting, lines_of, user_setting}
 use Rattle.mmc_card.specs.Judged.{Shows}
 
@@ -52,7 +51,7 @@ Requests argument r =
 pub requested : (argument : ℕ) (heard : Result ℕ Unheard) (r : Result Unit Cause) (old new : BusView)
     → erased_by old.card (Some (6, argument)) ≡ None → new.lines ≡ old.lines
     → Kept old (CommandFacts (response_of 6) old 6 argument heard new) new
-    → ((after : Card) → old.card.made.kind ≡ Mmc → switched (without_addresses old.card) argument ≡ Some after
+    → ((after : Card) → old.card.made.kind ≡ Mmc → old.card.erase ≡ NoAddress → switched old.card argument ≡ Some after
     → Written after old heard new)
     → ((told : ℕ) → Shows old.card told → ((error_bits Mmc told ≡ 0) ↔ HasNoError Mmc old.card))
     → (IsOk r → (told : ℕ) × (heard ≡ Ok told) × (error_bits Mmc (own_status told) ≡ 0))
@@ -60,15 +59,12 @@ pub requested : (argument : ℕ) (heard : Result ℕ Unheard) (r : Result Unit C
 requested argument heard r old new none lines k law clean ok all =
     done_by old new k k.step.stays (record { lines = lines; stands = k.step.switches }) (rw none at k.step.narrows)
     (λ after mmc rest to good.
-    let plain = nothing_dropped old.card rest.erase in
     let told = ok good in
-    ((law after mmc (ap (λ card. switched card argument) plain ∙ to)).sound told.0 told.1 told.2).1)
+    ((law after mmc rest.erase to).sound told.0 told.1 told.2).1)
     (λ same after mmc rest to.
-    let plain = nothing_dropped old.card rest.erase in
-    let does = (law after mmc (ap (λ card. switched card argument) plain ∙ to)).fine same rest.state in
-    let told = does.0 in
-    let shows = subst (λ (c : Card). Shows c told.0) plain told.2 in (
-      all told.0 told.1 ((clean told.0 shows).1 (no_error Mmc false old.card rest)),
+    let does = (law after mmc rest.erase to).fine same rest.state in
+    let told = does.0 in (
+      all told.0 told.1 ((clean told.0 told.2).1 (no_error Mmc false old.card rest)),
       does.1,
     ))
 

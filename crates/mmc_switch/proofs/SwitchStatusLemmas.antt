@@ -6,27 +6,32 @@ use Rattle.std.specs.Prelude.{◌&&◌, ◌*◌, ◌+◌, ◌==◌, if◌then◌
 use Rattle.mmc_frame.specs.Field.{field}
 use Rattle.mmc_frame.specs.declared.kind.Kind.TheVariants.{Sd}
 use Rattle.mmc_regs.specs.SwitchStatus.{access_mode_selected, high_speed_support}
+use Rattle.mmc_card.proofs.ByteLemmas.{reread_at, reread_length}
 use Rattle.mmc_card.proofs.Conditions.{along, by_cond}
 use Rattle.mmc_card.specs.Card.{Card, FromBytes, Source}
 use Rattle.mmc_card.specs.Laws.{timing_once_sent}
 use Rattle.mmc_card.specs.Made.{HasRegisters, has_high_speed}
-use Rattle.mmc_card.specs.RowsSwitch.{is_to_speed_up, refusal, timing_after}
+use Rattle.mmc_card.specs.RowsSwitch.{is_read_of_status, is_to_speed_up, refusal, reread, timing_after}
 use Rattle.mmc_card.specs.declared.exchange.Timing.{Timing}
 use Rattle.mmc_card.specs.declared.exchange.Timing.TheVariants.{High}
 use Rattle.mmc_bus.proofs.CommandLemmas.{switch_bytes}
 use Rattle.mmc_bus.specs.CommandLaws.{IsSwitchSource, bytes_sent}
 use Rattle.mmc_switch.specs.declared.sd.TheConstants as Argument
 
+-- a status that refuses to switch
+abbrev refused_status : List (ℕ × ℕ) → Bool → Card → List ℕ
+refused_status unread selects_none card = reread is_read_of_status unread (refusal selects_none card.made.switch_status)
+
 -- what holds of its own status and of a refusal holds of what was sent
 by_status : (P : List ℕ → Timing → Type 0) (card : Card) (argument : ℕ) (status : List ℕ) (timing : Timing)
     → IsSwitchSource card argument (FromBytes status timing)
     → P card.made.switch_status (timing_after card argument)
-    → ((selects_none : Bool) → P (refusal selects_none card.made.switch_status) card.timing)
+    → ((unread : List (ℕ × ℕ)) (selects_none : Bool) → P (refused_status unread selects_none card) card.timing)
     → P status timing
 by_status P card argument status timing sent own refused =
     let Says : Source → Type 0 = λ s. P (bytes_sent s) (timing_once_sent s card.timing) in
     along Says sent.1
-    (by_cond Says (is_to_speed_up card argument && sent.0.refuses_speed) (λ _. refused sent.0.selects_none) (λ _. own))
+    (by_cond Says (is_to_speed_up card argument && sent.0.refuses_speed) (λ _. refused sent.0.unread sent.0.selects_none) (λ _. own))
 
 pub sent_length : (card : Card) (argument : ℕ) (source : Source) → IsSwitchSource card argument source
     → length card.made.switch_status ≡ 64 → length (bytes_sent source) ≡ 64
@@ -35,7 +40,8 @@ sent_length card argument source sent long =
     let timing = timing_once_sent source card.timing in
     by_status (λ bytes t. length bytes ≡ 64) card argument bytes timing
     (sent.0, switch_bytes card.timing card argument source sent ∙ sent.1) long
-    (λ selects_none. length-set card.made.switch_status 16 _ ∙ long)
+    (λ unread selects_none. reread_length is_read_of_status unread (refusal selects_none card.made.switch_status)
+    ∙ length-set card.made.switch_status 16 _ ∙ long)
 
 -- whether the card has high speed, each status says
 pub same_support : (card : Card) (argument : ℕ) (status : List ℕ) (timing : Timing)
@@ -44,13 +50,16 @@ pub same_support : (card : Card) (argument : ℕ) (status : List ℕ) (timing : 
 same_support card argument status timing sent =
     by_status (λ bytes t. high_speed_support bytes ≡ high_speed_support card.made.switch_status) card argument status
     timing sent refl
-    (λ selects_none. ap (field 1 1) (get_or-set_other card.made.switch_status 16 13 _ 0 (omega arith)))
+    (λ unread selects_none. ap (field 1 1)
+    (reread_at is_read_of_status unread (refusal selects_none card.made.switch_status) 13 refl
+    ∙ get_or-set_other card.made.switch_status 16 13 _ 0 (omega arith)))
 
 -- where high speed is only checked, the timing stays
 pub checks_only : (card : Card) (status : List ℕ) (timing : Timing)
     → IsSwitchSource card Argument.CHECK_HIGH_SPEED (FromBytes status timing) → timing ≡ card.timing
 checks_only card status timing sent =
-    by_status (λ bytes t. t ≡ card.timing) card Argument.CHECK_HIGH_SPEED status timing sent refl (λ selects_none. refl)
+    by_status (λ bytes t. t ≡ card.timing) card Argument.CHECK_HIGH_SPEED status timing sent refl
+    (λ unread selects_none. refl)
 
 selects_own : (has : Bool) (selected : ℕ) (timing : Timing) → selected ≡ (if has then 1 else 15)
     → (if has then High else timing) ≡ (if selected == 1 then High else timing)
@@ -78,5 +87,7 @@ says_timing card status timing registers sd sent =
     Argument.SWITCH_TO_HIGH_SPEED status timing sent
     (selects_own (has_high_speed card.made) (access_mode_selected card.made.switch_status) card.timing
     (registers.selected sd))
-    (λ selects_none. sym (ap (λ (is : Bool). if is then High else card.timing)
-    (refusal_selects selects_none card.made.switch_status inside)))
+    (λ unread selects_none. sym (ap (λ (is : Bool). if is then High else card.timing)
+    (ap (λ byte. field 3 0 byte == 1)
+    (reread_at is_read_of_status unread (refusal selects_none card.made.switch_status) 16 refl)
+    ∙ refusal_selects selects_none card.made.switch_status inside)))

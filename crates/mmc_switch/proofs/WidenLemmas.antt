@@ -371,7 +371,7 @@ left_set rca view card left lines sectors =
         count = is.count;
         erase = is.erase;
         finished = card.finished (ap is_writing is.state);
-        up_to_date = is.up_to_date;
+        up_to_date = left.up_to_date;
       };
       is_set = rw (is.is_rca, is.part, is.width, is.timing, is.erase_group_def, long) refl;
       on_lines = lines;

@@ -61,17 +61,19 @@ fn names_the_cause_of_each_lie(rt: HostRuntime) -> Result<(), Fail> {
             Some(Cause::Status),
         ),
         (&busy[..], Some(Cause::Busy)),
+        // ident
         (
-            &[first, last, erase, rests, Said::Response(13, 0xb00)][..],
+            &[first, last, erase, rests, Said::Response(13, 0x500)][..],
             Some(Cause::Status),
         ),
-        // Its first status shows prg still.
+        // Its first status shows rcv still, its second one prg.
         (
             &[
                 first,
                 last,
                 erase,
                 rests,
+                Said::Response(13, 0xd00),
                 Said::Response(13, 0xe00),
                 Said::Response(13, 0x900),
             ][..],

@@ -126,8 +126,8 @@ fn names_the_cause_of_each_lie(rt: HostRuntime) -> Result<(), Fail> {
     for number in 0..16 {
         let cause = match number {
             4 => None,
-            // The card is asked again, and nothing comes.
-            7 => Some(Cause::Answer),
+            // On its way to tran the card is asked again, and nothing comes.
+            3 | 5 | 6 | 7 => Some(Cause::Answer),
             _ => Some(Cause::Status),
         };
         assert_eq!(rt; cause_of(rt.alloc(), Lie::State(number))?, cause);

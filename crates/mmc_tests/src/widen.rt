@@ -52,8 +52,9 @@ fn names_an_exchange_that_failed(rt: HostRuntime) -> Result<(), Fail> {
 // A card that shows APP_CMD in its R6, as most do: it is opened.
 #[test]
 fn opens_a_card_whose_r6_shows_app_cmd(rt: HostRuntime) -> Result<(), Fail> {
-    let mut card = built(rt.alloc(), spec_of(Which::Sdhc))?;
-    card.show_app_cmd();
+    let mut spec = spec_of(Which::Sdhc);
+    spec.shows_app_cmd = true;
+    let mut card = built(rt.alloc(), spec)?;
     assert!(rt; opened(&mut card).is_some());
     Ok(())
 }
@@ -61,9 +62,10 @@ fn opens_a_card_whose_r6_shows_app_cmd(rt: HostRuntime) -> Result<(), Fail> {
 // An eMMC device whose life time has changed between two openings: it is known again.
 #[test]
 fn opens_a_device_whose_ext_csd_changes(rt: HostRuntime) -> Result<(), Fail> {
-    let mut card = built(rt.alloc(), spec_of(Which::Emmc))?;
+    let mut spec = spec_of(Which::Emmc);
+    spec.ages = true;
+    let mut card = built(rt.alloc(), spec)?;
     let first = opened(&mut card).ok_or("not opened")?;
-    card.age(2);
     let second = opened(&mut card).ok_or("not opened again")?;
     assert!(rt; first.info() == second.info());
     Ok(())

@@ -1,5 +1,5 @@
 -- The commands of a run, each with its R1 judged.
-use Rattle.std.proofs.Common.{◌^◌, ◌∙◌, ◌≡◌, ◌⊎◌, Bool, ap, false, inl, inr, refl}
+use Rattle.std.proofs.Common.{Bool, ◌^◌, ◌∙◌, ◌≡◌, ◌⊎◌, ap, arith, false, inl, inr, refl}
 use Rattle.std.proofs.Common.{subst, sym, true, ℕ}
 use Rattle.std.specs.Prelude.{Err, IfErr, None, Ok, Option, Result, Some}
 use Rattle.mmc_bus.specs.declared.cause.Cause.{Cause}
@@ -9,20 +9,22 @@ use Rattle.mmc_frame.specs.declared.kind.Kind.{Kind}
 use Rattle.mmc_card.specs.BusView.{BusView}
 use Rattle.mmc_card.specs.Card.{Card, Held, IsCard, NoAddress}
 use Rattle.mmc_card.specs.CardLaws.{HasNoError}
-use Rattle.mmc_card.specs.ErrorBits.{out_of_range}
+use Rattle.mmc_card.specs.ErrorBits.{erase_reset, out_of_range}
 use Rattle.mmc_card.specs.Faults.{NoFault}
 use Rattle.mmc_card.specs.Laws.{erased_by, is_frame_of_run}
 use Rattle.mmc_card.specs.Rows.{without_addresses}
-use Rattle.mmc_card.specs.RowsErase.{forgotten}
+use Rattle.mmc_card.specs.RowsErase.{forgotten, holds_address}
 use Rattle.mmc_bus.specs.declared.host.Unheard.{Unheard}
-use Rattle.mmc_bus.specs.CommandLaws.{Begins, Responded}
+use Rattle.mmc_bus.specs.CommandLaws.{Begins, Responded, ShowsDropped}
 use Rattle.mmc_bus.specs.Heard.{response_heard, response_of}
 use Rattle.mmc_bus.specs.Learned.{Asked}
-use Rattle.mmc_switch.proofs.RestLemmas.{ErrorsLaw, nothing_dropped}
+use Rattle.mmc_switch.proofs.RestLemmas.{ErrorsLaw, shows_itself}
 use Rattle.mmc_transfer.specs.Commands.{CanObey, CanStart, CanStop, index_of, is_write, starts}
 use Rattle.mmc_transfer.specs.declared.way.Way.{Way}
 use Rattle.mmc_transfer.specs.declared.way.Way.TheVariants.{Read, Write}
 use Rattle.mmc_card.specs.Judged.{Shows}
+use Rattle.mmc_card.proofs.Conditions.{by_cond}
+use Rattle.std.proofs.lemmas.Nat.{le_or_l}
 
 -- A card that can obey: none of its erase addresses is dropped, and its R1 shows no error.
 
@@ -30,9 +32,9 @@ pub forgets_none : (card : Card) → card.erase ≡ NoAddress → forgotten card
 forgets_none card none = ap (λ (held : Held). record card { erase = held }) (sym none)
 
 pub shows_no_error : (kind : Kind) (card : Card) → ErrorsLaw → IsCard card → CanObey kind card
-    → (told : ℕ) → Shows (without_addresses card) told → error_bits kind told ≡ 0
+    → (told : ℕ) → ShowsDropped card told → error_bits kind told ≡ 0
 shows_no_error kind card errors k can told shows =
-    (errors kind told card k (subst (λ (c : Card). Shows c told) (nothing_dropped card can.erase) shows)).1 can.no_error
+    (errors kind told card k (shows_itself card told can.erase shows)).1 can.no_error
 
 -- Beginning a transfer, whichever way it goes, of one block or of several.
 
@@ -112,6 +114,14 @@ module _ (kind : Kind) (way : Way) (is_single : Bool) (old : BusView) (address :
       let obeys = can.obeys in
       let told = (begins.fine same obeys.tran can.allowed).0 in
       judged told.0 told.1 (shows_no_error kind old.card errors k obeys told.0 told.2)
+
+-- it held no error before it dropped its erase addresses
+pub held_none : (quietly : Bool) (card : Card) → (without_addresses quietly card).errors ≡ 0 → card.errors ≡ 0
+held_none quietly card =
+    by_cond (λ (c : Card). c.errors ≡ 0 → card.errors ≡ 0) (holds_address card.erase)
+    (λ _. by_cond (λ (c : Card). c.errors ≡ 0 → card.errors ≡ 0) quietly (λ _ none. none)
+    (λ _ none. let below = le_or_l card.errors erase_reset in omega (arith, below, none)))
+    (λ _ none. none)
 
 -- The status of a card that can be stopped.
 

@@ -4,20 +4,20 @@ use Rattle.std.specs.Prelude.{◌==◌, IsErr, Ok, Option, Result, Some, if◌th
 use Rattle.std.proofs.lemmas.Bool.{eq-eqb}
 use Rattle.mmc_switch.proofs.UnderWayLemmas.{quiet_by}
 use Rattle.mmc_frame.specs.declared.card_state.State.{State}
-use Rattle.mmc_frame.specs.declared.card_state.State.TheVariants.{Data, Prg, Rcv, Tran}
+use Rattle.mmc_frame.specs.declared.card_state.State.TheVariants.{Data, Prg, Rcv}
 use Rattle.mmc_frame.specs.declared.kind.Kind.{Kind}
 use Rattle.mmc_bus.specs.CommandLaws.{IsStopped}
 use Rattle.mmc_card.proofs.Conditions.{by_cond}
 use Rattle.mmc_card.specs.BusView.{BusView}
-use Rattle.mmc_card.specs.Card.{Card, FromSectors, is_in, is_selected}
+use Rattle.mmc_card.specs.Card.{Card, NoAddress, is_in, is_selected}
 use Rattle.mmc_card.specs.CardAnswer.{busied, shown}
-use Rattle.mmc_card.specs.RowsTransfer.{stopped}
+use Rattle.mmc_card.specs.RowsTransfer.{ended, stopped}
 use Rattle.mmc_card.specs.Sectors.{Sector}
 use Rattle.mmc_bus.specs.Work.{Narrows, Worked}
 use Rattle.mmc_bus.specs.declared.cause.Cause.{Cause}
 use Rattle.mmc_switch.specs.UnderWay.{room_of}
 use Rattle.mmc_transfer.proofs.StepLemmas.{all_written, each_way, either_way, fails, for_both, goes_there}
-use Rattle.mmc_transfer.specs.Commands.{CanStop, IsMoving, may_run_out}
+use Rattle.mmc_transfer.specs.Commands.{CanStop, may_run_out}
 use Rattle.mmc_transfer.specs.Running.{AreStored, Exact, HasStopped, IsIn, IsSending, IsTaking, IsThere, Turned, change_of}
 use Rattle.mmc_switch.specs.Ending.{IsEnding}
 use Rattle.mmc_switch.specs.declared.ending.Ending.TheVariants.{Wait}
@@ -31,24 +31,19 @@ use Rattle.mmc_transfer.specs.declared.phase.Step.TheVariants.{End, Stop}
 abbrev pub Stops : Kind → Bool → Bool → BusView → BusView → Type 0
 Stops kind at_end ok =
     Worked Narrows
-    (λ old new. ok ≡ true → IsMoving old.card × IsStopped old.card new.card × (at_end ≡ false → old.card.errors ≡ 0))
+    (λ old new. ok ≡ true → (is_selected old.card.state ≡ true)
+    × (old.card.erase ≡ NoAddress → IsStopped old.card new.card) × (at_end ≡ false → old.card.errors ≡ 0))
     (λ old new. CanStop kind at_end old.card → ok ≡ true)
-
-moving_is_selected : (card : Card) → IsMoving card → is_selected card.state ≡ true
-moving_is_selected card (inl sends) = ap is_selected sends
-moving_is_selected card (inr accepts) = ap is_selected accepts
 
 -- A card that sent blocks, and one that accepted them.
 
 stopped_in : (state : State) (stays_busy : Bool) (card : Card) → card.state ≡ state
     → stopped stays_busy card
     ≡ (if is_in state Rcv then record (busied (shown card)) { state = Prg; is_switching = false }
-    else if stays_busy then record (busied (shown card)) { state = Tran; source = FromSectors }
-    else record (shown card) { state = Tran; source = FromSectors })
+    else if stays_busy then busied (ended card) else ended card)
 stopped_in state stays_busy card is =
     ap (λ now. if is_in now Rcv then record (busied (shown card)) { state = Prg; is_switching = false }
-    else if stays_busy then record (busied (shown card)) { state = Tran; source = FromSectors }
-    else record (shown card) { state = Tran; source = FromSectors }) is
+    else if stays_busy then busied (ended card) else ended card) is
 
 stopped_reading : (job : Job) (blocks : List Sector) (stays_busy : Bool) (card : Card)
     → IsSending job.count job blocks card
@@ -58,11 +53,19 @@ stopped_reading job blocks stays_busy card sending =
     (sym (stopped_in Data stays_busy card sending.quiet.state))
     (by_cond (λ next. HasStopped (Wait 0) next × AreStored job.count job blocks next) stays_busy
     (λ busy. (
-      (quiet_by refl refl refl refl refl refl sending.quiet.erase, λ yes. record { busy = refl; polled = λ few. refl }, refl),
+      (
+        quiet_by refl refl refl refl refl refl sending.quiet.erase,
+        λ yes. record { busy = refl; polled = λ few. refl },
+        λ few. refl,
+      ),
       sending.read,
     ))
     (λ rests. (
-      (quiet_by refl refl refl refl refl refl sending.quiet.erase, λ yes. absurd (cc (sending.rests, yes)), refl),
+      (
+        quiet_by refl refl refl refl refl refl sending.quiet.erase,
+        λ yes. absurd (cc (sending.rests, yes)),
+        λ few. refl,
+      ),
       sending.read,
     )))
 
@@ -120,12 +123,17 @@ module _ (job : Job) (blocks : List Sector) (all : length blocks ≡ job.count) 
       fails job blocks (Other Stop) faults a b at work result err
       (λ exact same. cc (work.fine same (can_stop exact)))
 
+  -- no address is held
+  none_held : Exact job blocks (Other Stop) a.card → a.card.erase ≡ NoAddress
+  none_held exact =
+      either_way job.way (λ reads sending. sending.quiet.erase) (λ writes taking. taking.0.quiet.erase) exact
+
   -- a card that ended a transfer was selected, and after a write it held no error
-  is_there : IsMoving a.card → (at_end ≡ false → a.card.errors ≡ 0) → IsThere job.way a.card
-  is_there moving none =
-      each_way job.way (λ reads unit. moving_is_selected a.card moving)
+  is_there : is_selected a.card.state ≡ true → (at_end ≡ false → a.card.errors ≡ 0) → IsThere job.way a.card
+  is_there selected none =
+      each_way job.way (λ reads unit. selected)
       (λ writes unit. (
-        moving_is_selected a.card moving,
+        selected,
         none (ends ∙ ap (λ way. may_run_out way (job.start + job.count == room_of job.session)) writes),
       )) (for_both {X = Unit {0}} job.way tt)
 
@@ -133,6 +141,8 @@ module _ (job : Job) (blocks : List Sector) (all : length blocks ≡ job.count) 
   end_goes_on work =
       let own = work.own refl in
       goes_there job blocks (Other Stop) faults a b at work (Other (End (Wait 0))) (is_there own.0 own.2)
-      (λ exact. subst (Exact job blocks (Other (End (Wait 0)))) (sym own.1.1)
-      (each_way job.way (λ reads sending. stopped_reading job blocks own.1.0 a.card sending)
-      (λ writes taking. stopped_writing job blocks own.1.0 a.card all writes taking.0) exact)) tt
+      (λ exact.
+      let stop = own.1 (none_held exact) in
+      subst (Exact job blocks (Other (End (Wait 0)))) (sym stop.1)
+      (each_way job.way (λ reads sending. stopped_reading job blocks stop.0 a.card sending)
+      (λ writes taking. stopped_writing job blocks stop.0 a.card all writes taking.0) exact)) tt

@@ -1,11 +1,11 @@
 -- What ends a run: polls after what ended the transfer, and CMD13.
-use Rattle.std.proofs.Common.{◌+◌, ◌≡◌, List, [], arith, false, length, refl, subst, sym, ℕ}
+use Rattle.std.proofs.Common.{List, ℕ, ◌+◌, ◌<◌, ◌≡◌, [], arith, length, refl, subst, sym}
 use Rattle.std.specs.Prelude.{Err, IsErr, IsSomeAnd, MatchOption, None, Ok, Option, Result, Some, slice_index_or}
 use Rattle.mmc_frame.specs.declared.card_state.State.TheVariants.{Tran}
 use Rattle.mmc_card.proofs.SectorLemmas.{at_in, cond_in_old}
 use Rattle.mmc_card.specs.Blocks.{rested, waited}
 use Rattle.mmc_card.specs.BusView.{BusView}
-use Rattle.mmc_card.specs.Card.{Card, holds, known, stored, unfinished}
+use Rattle.mmc_card.specs.Card.{Card, holds, known, patience, stored, unfinished}
 use Rattle.mmc_card.specs.Sectors.{AreRead, Sector, touches, value_of}
 use Rattle.mmc_bus.specs.declared.cause.Cause.{Cause}
 use Rattle.mmc_switch.proofs.EndingLemmas.{CanEnd, EndingTurned, ProgramLaw, change_ends, ending_turned, for_any_cause}
@@ -29,10 +29,11 @@ quiet_waited : (card : Card) → IsQuiet Tran 0 card → IsQuiet Tran 0 (waited 
 quiet_waited card quiet =
     quiet_by quiet.state quiet.app quiet.command_errors quiet.errors quiet.switch_error quiet.count quiet.erase
 
-quiet_rested : (job : Job) (blocks : List Sector) (polls : ℕ) (card : Card) → IsQuiet Tran 0 card → card.lags ≡ false
+quiet_rested : (job : Job) (blocks : List Sector) (polls : ℕ) (card : Card) → IsQuiet Tran 0 card
+    → (card.polled < patience → card.polled ≡ polls)
     → AreStored job.count job blocks card
     → HasStopped (Confirm polls) (rested card) × AreStored job.count job blocks (rested card)
-quiet_rested job blocks polls card quiet up_to_date are =
+quiet_rested job blocks polls card quiet counts are =
     subst (λ next. HasStopped (Confirm polls) next × AreStored job.count job blocks next)
     (sym (rested_in Tran card quiet.state)) (
       (
@@ -40,7 +41,7 @@ quiet_rested job blocks polls card quiet up_to_date are =
           quiet = quiet_by quiet.state quiet.app quiet.command_errors quiet.errors quiet.switch_error quiet.count quiet.erase;
           rests = refl;
         },
-        λ lags few. cc (up_to_date, lags),
+        λ lags few. counts few,
       ),
       are,
     )
@@ -57,20 +58,24 @@ can_end job blocks =
       yes = λ polls card exact busy.
           each_way job.way
           (λ reads stopped. (
-            (quiet_waited card stopped.0.0, λ yes. busy_still polls card (stopped.0.1 busy), stopped.0.2),
+            (
+              quiet_waited card stopped.0.0,
+              λ yes. busy_still polls card (stopped.0.1 busy),
+              (busy_still polls card (stopped.0.1 busy)).polled,
+            ),
             stopped.1,
           ))
           (λ is ending. writes.yes polls card ending busy) exact;
       no = λ programs polls card exact fits part.
           each_way job.way (λ reads stopped. quiet_rested job blocks polls card stopped.0.0 stopped.0.2 stopped.1)
           (λ is ending. writes.no programs polls card ending fits part) exact;
-      works = λ waits card new exact shows counts.
+      works = λ waits card new exact shows none counts.
           each_way job.way
           (λ reads stopped. (
-            (idle_after card new shows stopped.0.0, lags_on waits card new stopped.0.1 counts),
+            (idle_after card new shows none stopped.0.0, lags_on waits card new stopped.0.1 counts),
             subst (AreStored job.count job blocks) (sym shows) stopped.1,
           ))
-          (λ is ending. writes.works waits card new ending shows counts) exact;
+          (λ is ending. writes.works waits card new ending shows none counts) exact;
       idle = λ waits card exact.
           either_way job.way (λ reads stopped. stopped.0.0) (λ is ending. writes.idle waits card ending) exact;
       lags = λ waits card exact.

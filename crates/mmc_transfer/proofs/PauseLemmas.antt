@@ -69,15 +69,17 @@ module _ (job : Job) (blocks : List Sector) (faults done polls : ℕ) (a b : Bus
   pub pauses_still : (more : ℕ) → more ≡ polls + 1 → Polls true a b
       → Turned job blocks faults a (Ok (Some (Other (Pause done more)))) b
   pauses_still more is work =
-      let yes = work.own.yes refl in
-      let comes : Exact job blocks (Other (Pause done polls)) a.card
+      let says : b.card.errors ≡ 0 → b.card ≡ waited a.card = λ none. work.own.shown (λ no. cc no) none in
+      let comes : b.card ≡ waited a.card → Exact job blocks (Other (Pause done polls)) a.card
       → Exact job blocks (Other (Pause done (polls + 1))) b.card =
-      λ exact. each_way job.way (λ reads none. none)
+      λ same exact. each_way job.way (λ reads none. none)
       (λ writes taking. subst (λ card. IsTaking done job blocks card × IsBusyAfter (polls + 1) card)
-      (sym yes.1) (taking_still done polls job blocks a.card taking)) exact in
+      (sym same) (taking_still done polls job blocks a.card taking)) exact in
       rw is (goes_on job blocks (Other (Pause done polls)) faults a b at work (Other (Pause done (polls + 1)))
-      (each_way job.way (λ reads unit. tt) (λ writes none. sym (ap (λ (c : Card). c.errors) yes.1) ∙ none))
-      (λ exact none. comes exact) (λ exact same. comes exact) (goes_on_there work.own))
+      (each_way job.way (λ reads unit. tt) (λ writes none. sym (ap (λ (c : Card). c.errors) (says none)) ∙ none))
+      (λ exact shown. comes (says (either_way job.way (λ reads none. absurd none)
+      (λ writes taking. of_write job.way (Unit {0}) (b.card.errors ≡ 0) writes shown) exact)) exact)
+      (λ exact same. comes (work.own.fine same) exact) (goes_on_there work.own))
 
   -- no
   accepts_by : b.card ≡ rested a.card → IsTaking done job blocks a.card
@@ -90,13 +92,13 @@ module _ (job : Job) (blocks : List Sector) (faults done polls : ℕ) (a b : Bus
   sound_before : PollFacts a false b → IsThere job.way b.card → by_way job.way (Unit {0}) (a.card.errors ≡ 0)
   sound_before facts there =
       each_way job.way (λ reads selected. tt)
-      (λ writes sound. none_before a.card b.card (facts.shown refl sound.0 sound.1) sound.1) there
+      (λ writes sound. none_before a.card b.card (facts.shown (λ no. sound.0) sound.1) sound.1) there
 
   still_accepts : PollFacts a false b → job.way ≡ Write → IsThere job.way b.card → IsTaking done job blocks a.card
       → IsTaking done job blocks b.card × (b.card.is_busy ≡ false)
   still_accepts facts writes there taking =
       let sound : IsSound b.card = of_write job.way (is_selected b.card.state ≡ true) (IsSound b.card) writes there in
-      accepts_by (facts.shown refl sound.0 sound.1) taking
+      accepts_by (facts.shown (λ no. sound.0) sound.1) taking
 
   pub pause_ends : Polls false a b → Turned job blocks faults a (Ok (Some (Block done))) b
   pause_ends work =
@@ -104,7 +106,7 @@ module _ (job : Job) (blocks : List Sector) (faults done polls : ℕ) (a b : Bus
       (λ exact there. each_way job.way (λ reads none. absurd none)
       (λ writes taking. still_accepts work.own writes there taking.0) exact)
       (λ exact same. each_way job.way (λ reads none. absurd none)
-      (λ writes taking. accepts_by (work.own.fine same refl) taking.0) exact)
+      (λ writes taking. accepts_by (work.own.fine same) taking.0) exact)
       (goes_on_there work.own)
 
   -- after the last block
@@ -119,4 +121,4 @@ module _ (job : Job) (blocks : List Sector) (faults done polls : ℕ) (a b : Bus
       (λ exact there. each_way job.way (λ reads none. absurd none)
       (λ writes taking. all_accepted last (still_accepts work.own writes there taking.0)) exact)
       (λ exact same. each_way job.way (λ reads none. absurd none)
-      (λ writes taking. all_accepted last (accepts_by (work.own.fine same refl) taking.0)) exact) tt
+      (λ writes taking. all_accepted last (accepts_by (work.own.fine same) taking.0)) exact) tt

@@ -4,7 +4,7 @@ use Rattle.std.specs.Prelude.{if◌then◌else◌, slice_index_or, take, true, �
 use Rattle.mmc_frame.specs.declared.card_state.State.TheVariants.{Data, Rcv, Tran}
 use Rattle.mmc_card.specs.BusView.{BusView}
 use Rattle.mmc_card.specs.Blocks.{next_written}
-use Rattle.mmc_card.specs.Card.{Card, FromSectors, holds, is_in, is_selected, stored}
+use Rattle.mmc_card.specs.Card.{Card, FromSectors, holds, is_in, is_selected, patience, stored}
 use Rattle.mmc_card.specs.ErrorBits.{out_of_range}
 use Rattle.mmc_card.specs.Sectors.{AreRead, Change, Sector}
 use Rattle.mmc_bus.specs.declared.cause.Cause.{Cause}
@@ -75,10 +75,10 @@ pub record IsTaking (done : ℕ) (job : Job) (blocks : List Sector) (card : Card
   pub values : card.values ≡ take done blocks
   pub left : card.left ≡ left_of job done
 
--- A card that ends a read: in tran it may be busy after CMD12, and then it rests.
+-- A card that ends a read: in tran it may be busy after CMD12, and then it rests. It has said so often that it is busy.
 abbrev pub HasStopped : Ending → Card → Type 0
 HasStopped (Wait polls) card =
-    IsQuiet Tran 0 card × (card.is_busy ≡ true → IsBusyAfter polls card) × (card.lags ≡ false)
+    IsQuiet Tran 0 card × (card.is_busy ≡ true → IsBusyAfter polls card) × (card.polled < patience → card.polled ≡ polls)
 HasStopped (Confirm waits) card = IsIdle 0 card × LagsAfter waits card
 
 -- Exactly here the card is in each phase, but for a fault that nobody has seen.

@@ -1,14 +1,14 @@
 // The commands of a run, each with its R1 judged (SD Physical Layer 6.00, section 4.3; JESD84-B51, section 6.6).
 ghost use Rattle.std.specs.Prelude.{◌*◌, ◌<◌, ◌^◌, ◌≡◌, ◌⊎◌, IfErr, IsOk, Ok, false, length, true, ℕ};
 ghost use Rattle.mmc_frame.specs.Status.{error_bits};
-ghost use Rattle.mmc_card.specs.Card.{NoAddress};
+ghost use Rattle.mmc_card.specs.Card.{NoAddress, is_selected};
 ghost use Rattle.mmc_card.specs.RowsTransfer.{preset_to};
 ghost use Rattle.mmc_bus.specs.CommandLaws.{IsStopped};
 ghost use Rattle.mmc_bus.specs.Heard.{cause_of_response, is_inquiry_index};
 ghost use Rattle.mmc_bus.specs.Lending.{IsRewritten};
 ghost use Rattle.mmc_bus.specs.Together.{MovesAtMost};
 ghost use Rattle.mmc_bus.specs.Work.{Ends, Narrows, Works};
-ghost use Rattle.mmc_transfer.specs.Commands.{Begins, CanPreset, CanStop, IsMoving, index_of};
+ghost use Rattle.mmc_transfer.specs.Commands.{Begins, CanPreset, CanStop, index_of};
 ghost use Rattle.mmc_transfer.specs.First.{StartedReading, StartedWriting};
 
 use crate::way::Way;
@@ -150,8 +150,8 @@ fn check_stop(kind: Kind, may_run_out: bool, heard: Result<u32, Unheard>) -> Res
 pub fn stop<B: Bus>(bus: &mut B, kind: Kind, may_run_out: bool) -> Result<(), Cause>
     ensures ends { Ends 1 (B.view bus.old) result (B.view bus.new) }
     ensures works { Works Narrows
-        (λ old new. IsOk result → IsMoving old.card × IsStopped old.card new.card
-        × (may_run_out ≡ false → old.card.errors ≡ 0))
+        (λ old new. IsOk result → (is_selected old.card.state ≡ true)
+        × (old.card.erase ≡ NoAddress → IsStopped old.card new.card) × (may_run_out ≡ false → old.card.errors ≡ 0))
         (λ old new. CanStop kind may_run_out old.card → IsOk result)
         (B.view bus.old) (B.view bus.new) }
 {

@@ -3,7 +3,7 @@ use Rattle.std.proofs.Common.{◌∙◌, ◌≡◌, ◌∷◌, Bool, List, None,
 use Rattle.mmc_bus.specs.Exchanges.{Kept}
 use Rattle.mmc_card.specs.BusView.{BusView}
 use Rattle.mmc_card.specs.Faults.{ReadStep, WriteStep}
-use Rattle.mmc_card.specs.Faults.WriteStep.{brownout, faithful, fall_short, lose_status, reject, turn_out}
+use Rattle.mmc_card.specs.Faults.WriteStep.{brownout, faithful, fall_short, lose_block, lose_status, reject, turn_out}
 use Rattle.mmc_card.specs.declared.exchange.DataIn.TheVariants as Came
 use Rattle.mmc_card.specs.declared.exchange.DataOut.{DataOut}
 use Rattle.mmc_card.specs.declared.exchange.DataOut.TheVariants as Went
@@ -94,9 +94,13 @@ loses_read story past after s s1 s2 size blocks block still is noted same change
 any_rejected : (old new : BusView) (block other : List ℕ) (got : DataOut) → got ≡ Went.Rejected → WriteStep old block got new
     → WriteStep old other Went.Nothing new
 any_rejected old new block other got is (faithful unharmed card told_so) = absurd (lost_by _ got is told_so)
-any_rejected old new block other got is (reject ignores can one card said) = lose_status false ignores can one card refl
-any_rejected old new block other got is (lose_status was ignores can one card said) = absurd (rejected_is_none (sym is ∙ said))
-any_rejected old new block other got is (fall_short lands bits are can one card said) = absurd (rejected_is (sym is ∙ said))
+any_rejected old new block other got is (lose_block can one card said) = absurd (rejected_is_none (sym is ∙ said))
+any_rejected old new block other got is (reject ignores is_busy can one card said) =
+    lose_status false ignores is_busy can one card refl
+any_rejected old new block other got is (lose_status was ignores is_busy can one card said) =
+    absurd (rejected_is_none (sym is ∙ said))
+any_rejected old new block other got is (fall_short lands bits ignores are can one card said) =
+    absurd (rejected_is (sym is ∙ said))
 any_rejected old new block other got is (turn_out lands several can one card said) = absurd (rejected_is_none (sym is ∙ said))
 any_rejected old new block other got is (brownout lands keeps late one card said) = absurd (rejected_is_none (sym is ∙ said))
 

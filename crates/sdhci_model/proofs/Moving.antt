@@ -7,7 +7,8 @@ use Rattle.mmc_bus.specs.Exchanges.{Kept}
 use Rattle.mmc_card.specs.BusView.{BusView}
 use Rattle.mmc_card.specs.Faults.{ReadStep, WriteStep}
 use Rattle.mmc_card.specs.Faults.ReadStep.{brownout as read_brownout, faithful as read_faithful, spoil}
-use Rattle.mmc_card.specs.Faults.WriteStep.{brownout as write_brownout, faithful as write_faithful, fall_short, lose_status, reject, turn_out}
+use Rattle.mmc_card.specs.Faults.WriteStep.{brownout as write_brownout, faithful as write_faithful, fall_short, lose_block}
+use Rattle.mmc_card.specs.Faults.WriteStep.{lose_status, reject, turn_out}
 use Rattle.mmc_card.specs.declared.exchange.DataIn.{DataIn}
 use Rattle.mmc_card.specs.declared.exchange.DataIn.TheVariants as Came
 use Rattle.mmc_card.specs.declared.exchange.DataOut.{DataOut}
@@ -248,9 +249,12 @@ lost_by false got is other = rejected_is_none (sym is ∙ other)
 unrejected : (old new : BusView) (block : List ℕ) (got : DataOut) → got ≡ Went.Rejected → WriteStep old block got new
     → WriteStep old block Went.Nothing new
 unrejected old new block got is (write_faithful unharmed card told_so) = absurd (lost_by _ got is told_so)
-unrejected old new block got is (reject ignores can one card said) = lose_status false ignores can one card refl
-unrejected old new block got is (lose_status was ignores can one card said) = lose_status was ignores can one card refl
-unrejected old new block got is (fall_short lands bits are can one card said) = absurd (rejected_is (sym is ∙ said))
+unrejected old new block got is (lose_block can one card said) = lose_block can one card refl
+unrejected old new block got is (reject ignores is_busy can one card said) = lose_status false ignores is_busy can one card refl
+unrejected old new block got is (lose_status was ignores is_busy can one card said) =
+    lose_status was ignores is_busy can one card refl
+unrejected old new block got is (fall_short lands bits ignores are can one card said) =
+    absurd (rejected_is (sym is ∙ said))
 unrejected old new block got is (turn_out lands several can one card said) = absurd (rejected_is_none (sym is ∙ said))
 unrejected old new block got is (write_brownout lands keeps late one card said) = write_brownout lands keeps late one card refl
 

@@ -7,5 +7,5 @@ returns c = λ old new argument heard facts same.
     let f = facts.fine same in (
       f.choice.lands,
       f.choice.keeps_length,
-      (f.obeys refl refl).0 ∙ reset_reached f.choice.lands f.choice.keeps_length old.card,
+      (f.obeys refl refl).0 ∙ reset_reached f.choice.lands f.choice.keeps_length f.choice.drops_quietly old.card,
     )

@@ -11,10 +11,10 @@ use Rattle.mmc_card.specs.Rows.{row}
 
 pub returns : goal.returns
 returns c = λ old new argument heard facts k.
-    does_in register_of Ready (λ card cid. cid ≡ card.made.cid) _ (λ card. R2 card.made.cid) AllSendCid old 2 argument heard new facts refl
+    does_in register_of Ready (λ card cid. cid ≡ card.made.cid) _ (λ choice card. R2 card.made.cid) AllSendCid old 2 argument heard new facts refl
     refl refl (λ errors choice there. ap (λ (c : Card). row choice AllSendCid c 2 argument)
-    (low_reached AllSendCid (with_errors errors old.card) Ready k.held there refl))
-    (λ errors said is. (
+    (low_reached choice AllSendCid (with_errors errors old.card) Ready k.held there refl))
+    (λ errors choice said is. (
       old.card.made.cid,
       ap register_of is ∙ ap or_unsound (c.register_comes_back.ensures old.card.made.cid k.registers.cid k.registers.cid_check
           k.registers.cid_end),

@@ -41,9 +41,9 @@ returns c = record {
   does = λ old new argument heard facts k kind.
       does_either {N = ℕ} (response_of 3) Ident Stby (λ choice. published choice old.card.made) (λ (card : Card). card.rca)
       (λ rca card told. field 31 16 told ≡ rca) (λ rca. record (shown old.card) { state = Stby; rca = rca })
-      (λ rca card. Checked 3 (r6_argument rca card)) SendRelativeAddr old 3 argument heard new facts (rw kind refl)
+      (λ choice card. Checked 3 (r6_argument (published choice old.card.made) card)) SendRelativeAddr old 3 argument heard new facts (rw kind refl)
       refl refl (λ errors choice there. ap (λ (c : Card). row choice SendRelativeAddr c 3 argument)
-      (low_either SendRelativeAddr (with_errors errors old.card) Ident Stby k.held there refl refl))
+      (low_either choice SendRelativeAddr (with_errors errors old.card) Ident Stby k.held there refl refl))
       (λ errors choice said is. publishes old.card.made.kind (published choice old.card.made) (with_errors errors old.card) said kind
       (published_below old.card.made.is_nameless choice.rca) is)
       (λ choice. refl);
@@ -53,7 +53,7 @@ returns c = record {
       (rw kind (either_in old.card.state Ident (is_in old.card.state Stby) (two_tests old.card.state Ident Stby there))) in
       let d = comes f.choice SendRelativeAddr old.card 3 argument _ (rw kind refl)
       (ap (λ (c : Card). row f.choice SendRelativeAddr c 3 argument)
-      (low_either SendRelativeAddr old.card Ident Stby k.held there refl refl)) in
+      (low_either f.choice SendRelativeAddr old.card Ident Stby k.held there refl refl)) in
       some_rca f.choice old.card.made named
       (sym (ap (λ (card : Card). card.rca) (obeys.0 ∙ ap (λ (x : Card × CardAnswer). x.0) d)) ∙ zero);
 }

@@ -13,10 +13,10 @@ use Rattle.mmc_card.specs.Judged.{Shows}
 
 pub returns : goal.returns
 returns c = λ old new argument heard facts k.
-    does (response_of 7) _ Shows _ (λ card. Checked 7 (status false card)) SelectCard old 7 argument heard
+    does (response_of 7) _ Shows _ (λ choice card. Checked 7 (status false card)) SelectCard old 7 argument heard
     new facts refl
     (λ own legal. (in_state old.card.state Stby legal, named argument old.card own))
     (λ there. (owns argument old.card there.1, in_is old.card.state Stby there.0))
     (λ errors choice there. ap (λ (c : Card). row choice SelectCard c 7 argument)
-    (low_reached SelectCard (with_errors errors old.card) Stby k.held there.0 refl))
-    (λ errors said is. r1_told old.card.made.kind 7 false (with_errors errors old.card) said refl is)
+    (low_reached choice SelectCard (with_errors errors old.card) Stby k.held there.0 refl))
+    (λ errors choice said is. r1_told old.card.made.kind 7 false (with_errors errors old.card) said refl is)

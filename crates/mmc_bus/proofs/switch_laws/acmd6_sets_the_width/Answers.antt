@@ -1,7 +1,7 @@
 use Rattle.std.proofs.Common.{ap, refl, true}
 use Rattle.mmc_frame.specs.declared.card_state.State.TheVariants.{Tran}
 use Rattle.mmc_bus.proofs.Readers.{with_errors}
-use Rattle.mmc_bus.proofs.CommandLemmas.{does_in, dropped, r1_told}
+use Rattle.mmc_bus.proofs.CommandLemmas.{does_in, dropped, shows_dropped}
 use Rattle.mmc_bus.proofs.switch_laws.acmd6_sets_the_width.Goals as goal
 use Rattle.mmc_card.specs.CardAnswer.{Checked, shown, status}
 use Rattle.mmc_card.specs.Card.{Card}
@@ -10,13 +10,13 @@ use Rattle.mmc_card.specs.RowsSwitch.{width_by}
 use Rattle.mmc_frame.specs.Field.{field}
 use Rattle.mmc_bus.specs.Heard.{response_of}
 use Rattle.mmc_card.specs.declared.command.Command.TheVariants.{SetBusWidth}
-use Rattle.mmc_card.specs.Judged.{Shows}
+use Rattle.mmc_bus.specs.CommandLaws.{ShowsDropped}
 
 pub returns : goal.returns
 returns c = λ old new argument heard facts kind app.
-    does_in (response_of 6) Tran (λ card. Shows (without_addresses card)) _
-    (λ card. Checked 6 (status true (without_addresses card))) SetBusWidth old 6 argument heard new facts
+    does_in (response_of 6) Tran ShowsDropped _
+    (λ choice card. Checked 6 (status true (without_addresses choice.drops_quietly card))) SetBusWidth old 6 argument heard new facts
     (rw (kind, app) refl)
-    refl refl (λ errors choice there. ap (λ (d : Card). (d, Checked 6 (status true (without_addresses (with_errors errors old.card)))))
-    (dropped (λ d. record (shown d) { width = width_by (field 1 0 argument) d.width }) (with_errors errors old.card) refl))
-    (λ errors said is. r1_told old.card.made.kind 6 true (without_addresses (with_errors errors old.card)) said refl is)
+    refl refl (λ errors choice there. ap (λ (d : Card). (d, Checked 6 (status true (without_addresses choice.drops_quietly (with_errors errors old.card)))))
+    (dropped (λ d. record (shown d) { width = width_by (field 1 0 argument) d.width }) choice.drops_quietly (with_errors errors old.card) refl))
+    (λ errors choice said is. shows_dropped old.card.made.kind 6 true choice (with_errors errors old.card) said refl is)

@@ -1,7 +1,7 @@
 use Rattle.std.proofs.Common.{ap, false, refl}
 use Rattle.mmc_frame.specs.declared.card_state.State.TheVariants.{Tran}
 use Rattle.mmc_bus.proofs.Readers.{with_errors}
-use Rattle.mmc_bus.proofs.CommandLemmas.{does_known, dropped, r1_told}
+use Rattle.mmc_bus.proofs.CommandLemmas.{does_known, dropped, shows_dropped}
 use Rattle.mmc_bus.proofs.transfer_laws.cmd23_presets_the_count.Goals as goal
 use Rattle.mmc_card.specs.CardAnswer.{Checked, status}
 use Rattle.mmc_bus.specs.Heard.{response_of}
@@ -10,12 +10,12 @@ use Rattle.mmc_card.specs.Card.{Card}
 use Rattle.mmc_card.specs.Rows.{without_addresses}
 use Rattle.mmc_card.specs.RowsTransfer.{preset_to}
 use Rattle.mmc_card.specs.declared.command.Command.TheVariants.{SetBlockCount}
-use Rattle.mmc_card.specs.Judged.{Shows}
+use Rattle.mmc_bus.specs.CommandLaws.{ShowsDropped}
 
 pub returns : goal.returns
 returns c = λ old new argument heard facts.
-    does_known (response_of 23) Tran (has_cmd23 old.card.made) (λ card. Shows (without_addresses card)) _
-    (λ card. Checked 23 (status false (without_addresses card))) SetBlockCount old 23 argument heard new facts refl
-    refl refl (λ errors choice there. ap (λ (d : Card). (d, Checked 23 (status false (without_addresses (with_errors errors old.card)))))
-    (dropped (λ d. preset_to d argument) (with_errors errors old.card) refl))
-    (λ errors said is. r1_told old.card.made.kind 23 false (without_addresses (with_errors errors old.card)) said refl is)
+    does_known (response_of 23) Tran (has_cmd23 old.card.made) ShowsDropped _
+    (λ choice card. Checked 23 (status false (without_addresses choice.drops_quietly card))) SetBlockCount old 23 argument heard new facts refl
+    refl refl (λ errors choice there. ap (λ (d : Card). (d, Checked 23 (status false (without_addresses choice.drops_quietly (with_errors errors old.card)))))
+    (dropped (λ d. preset_to d argument) choice.drops_quietly (with_errors errors old.card) refl))
+    (λ errors choice said is. shows_dropped old.card.made.kind 23 false choice (with_errors errors old.card) said refl is)

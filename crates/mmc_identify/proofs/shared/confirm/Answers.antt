@@ -1,27 +1,47 @@
-use Rattle.std.proofs.Common.{arith, subst, sym}
-use Rattle.std.specs.Prelude.{IsOk}
-use Rattle.mmc_bus.proofs.WorkLemmas.{moved_by}
-use Rattle.mmc_identify.proofs.SingleLemmas.{confirmed_fine, confirmed_own}
+use Rattle.std.proofs.Common.{◌∙◌, arith, refl}
+use Rattle.std.specs.Prelude.{Err}
+use Rattle.mmc_identify.proofs.JoinLemmas.{asked_in_vain, asked_too_often, found_clean, still_at_work}
 use Rattle.mmc_identify.proofs.shared.confirm.Goals as goal
-use Rattle.mmc_card.proofs.JudgedLemmas.{less}
+use Rattle.mmc_identify.specs.declared.fault.IdentFault.TheVariants.{NoAnswer}
+
+pub returns-in_err-ask_status-clause-moves : goal.returns-in_err-ask_status-clause-moves
+returns-in_err-ask_status-clause-moves g c kept =
+    let old = g.B.Bus.view c.args.bus.now in
+    let now = g.B.Bus.view c.loop-statuses.bus in
+    let new = g.B.Bus.view c.ask_status.new.bus in
+    let q = c.in_err-ask_status.ensures.moves kept in
+    asked_in_vain c.args.rca c.args.polls c.loop-statuses._statuses c.in_err-ask_status.field-0.0 c.from_residual.result old now new
+    c.from_residual.ensures.0 (c.loop-statuses.invariant.0 q.was_kept q.was_card) q
+
+pub returns-in-Clean-clause-moves : goal.returns-in-Clean-clause-moves
+returns-in-Clean-clause-moves g c kept =
+    let old = g.B.Bus.view c.args.bus.now in
+    let now = g.B.Bus.view c.loop-statuses.bus in
+    let new = g.B.Bus.view c.ask_status.new.bus in
+    let moves = rw c.in-Clean.is at c.in_ok-ask_status.ensures.moves in
+    let q = moves kept in
+    found_clean c.args.rca c.args.polls c.loop-statuses._statuses old now new
+    (c.loop-statuses.invariant.0 q.was_kept q.was_card) q
+
+pub loop-statuses-preserved : goal.loop-statuses-preserved
+loop-statuses-preserved g c =
+    let old = g.B.Bus.view c.args.bus.now in
+    let now = g.B.Bus.view c.loop-statuses.bus in
+    let new = g.B.Bus.view c.ask_status.new.bus in
+    let moves = rw c.in-AtWork.is at c.in_ok-ask_status.ensures.moves in (
+      λ kept card.
+          let q = moves kept in
+          still_at_work c.args.rca c.loop-statuses._statuses old now new
+          (c.loop-statuses.invariant.0 q.was_kept q.was_card) q,
+      λ some kept. (moves kept).is_card,
+      omega (arith, c.loop-statuses.invariant.2, c.in_ok-ask_status.ensures.bounded),
+      c.in_ok-ask_status.ensures.lines ∙ c.loop-statuses.invariant.3,
+    )
 
 pub returns-clause-moves : goal.returns-clause-moves
 returns-clause-moves g c kept =
     let old = g.B.Bus.view c.args.bus.now in
-    let new = g.B.Bus.view c.ask.new.bus in
-    let heard = c.ask.result in
-    let kind = c.args.kind in
-    let rca = c.args.rca in
-    let argument = c.rca_argument.result in
-    let k = c.ask.ensures.asked.exchanged.kept kept in
-    let law = c.cmd13_tells_the_status.ensures _ _ _ _ k.step in
-    let clean = c.a_status_tells_of_its_card.ensures.clean kind in
-    let locked = c.a_status_tells_of_its_card.ensures.locked in
-    let unclean = c.a_status_tells_of_its_card.ensures.lags_unclean kind in
-    let none = c.no_command_but_erase_widens.ensures old.card 13 argument (omega arith) (λ e. cc) in
-    let is_rca = c.rca_argument.ensures.names in
-    moved_by old 13 argument heard new none k
-    (λ looks ok. confirmed_own rca kind old heard new k.was_card clean unclean law looks (subst IsOk c.confirmed.ensures ok))
-    (λ same profile polled. subst IsOk (sym c.confirmed.ensures)
-    (confirmed_fine rca argument kind old heard new is_rca profile
-    (λ told. clean told old.card k.was_card) (λ told shows. locked told old.card (less told _ shows)) law same polled))
+    let now = g.B.Bus.view c.loop-statuses.bus in
+    let card = c.loop-statuses.invariant.1 (omega (arith, c.loop-statuses-test.false)) kept in
+    asked_too_often c.args.rca c.args.polls c.loop-statuses._statuses (Err NoAnswer) old now refl
+    (omega (arith, c.loop-statuses-test.false)) (c.loop-statuses.invariant.0 kept card)

@@ -1,9 +1,13 @@
-use Rattle.std.proofs.Common.{refl}
-use Rattle.mmc_card.proofs.CardAll.{card_left}
+use Rattle.std.proofs.Common.{◌∙◌, ap, refl}
+use Rattle.mmc_card.proofs.CardAll.{card_left, card_reached}
 use Rattle.mmc_card.specs.CardAnswer.{left_with}
 use Rattle.mmc_bus.proofs.WorkLemmas.{command_worked}
-use Rattle.mmc_transfer.proofs.CommandLemmas.{shows_it_stops, shows_nothing}
+use Rattle.mmc_transfer.proofs.CommandLemmas.{held_none, shows_it_stops, shows_nothing}
 use Rattle.mmc_transfer.proofs.commands.stop.Goals as goal
+use Rattle.mmc_card.specs.RowsTransfer.{stopped}
+use Rattle.mmc_switch.proofs.RestLemmas.{nothing_dropped}
+use Rattle.mmc_card.specs.Rows.{without_addresses}
+use Rattle.mmc_card.specs.declared.command.Command.TheVariants.{Unknown}
 
 pub returns-clause-works : goal.returns-clause-works
 returns-clause-works g c kept =
@@ -13,15 +17,18 @@ returns-clause-works g c kept =
     command_worked c.ask.ensures.asked refl refl kept
     (λ ok. let judged = c.check_stop.ensures.ok ok in
     let told = law.sound judged.0 judged.1 in
-    let left = told.1.0 in
-    let says = told.1.2 in (
+    let met = left_with told.1.0 card in
+    let says = told.1.2 in
+    let quietly = says.0.drops_quietly in (
       told.0,
-      says.1,
-      λ never. shows_nothing c.args.kind c.args.may_run_out (left_with left card) judged.0
-          c.a_status_tells_of_its_card.ensures.errors (card_left left card told.1.1 k.was_card) says.0 never judged.2,
+      λ none. (says.2.0, says.2.1 ∙ ap (stopped says.2.0) (nothing_dropped quietly met none)),
+      λ never. held_none quietly met
+          (shows_nothing c.args.kind c.args.may_run_out (without_addresses quietly met) judged.0
+          c.a_status_tells_of_its_card.ensures.errors
+          (card_reached says.0 Unknown met (card_left told.1.0 card told.1.1 k.was_card)) says.1 never judged.2),
     ))
     (λ same can.
     let told = law.fine same can.moving in
     c.check_stop.ensures.all told.0 told.1
     (shows_it_stops c.args.kind c.args.may_run_out card told.0 c.a_status_tells_of_its_card.ensures.errors
-    c.a_status_tells_of_its_card.ensures.at_end k.was_card told.2.0 can))
+    c.a_status_tells_of_its_card.ensures.at_end k.was_card told.2 can))

@@ -18,7 +18,7 @@ invariant_of-self c =
     (in_all _ c.fault-fault.result c.faulty_poll-yes.result.1 _ _ _ c.self.invariant c.fault-fault.ensures
     (λ none. c.faulty_poll-yes.ensures.fell_is ∙ ap (λ f. fits_poll f (card_of c.self.inside.chip)) none)
     c.counted-self-inside.ensures c.note.ensures) in
-    still_ok _ _ c.fault-fault.result c.faulty_poll-yes.result.1 _ c.self.invariant refl refl refl c.fault-fault.ensures
+    still_ok _ _ c.fault-fault.result c.faulty_poll-yes.result.1 _ c.self.invariant c.note_state.ensures.waits refl c.fault-fault.ensures
     (λ none. c.faulty_poll-yes.ensures.fell_is ∙ ap (λ f. fits_poll f (card_of c.self.inside.chip)) none)
     c.counted-self-inside.ensures c.note.ensures did.1
 

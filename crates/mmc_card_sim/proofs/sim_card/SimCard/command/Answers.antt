@@ -1,8 +1,7 @@
 use Rattle.std.proofs.Common.{◌∙◌, ap, refl}
 use Rattle.mmc_card_sim.specs.Chip.{card_of}
-use Rattle.mmc_card_sim.specs.declared.delays.Delays.{Delays}
 use Rattle.mmc_card_sim.specs.FaultyExchanges.{fits_command}
-use Rattle.mmc_card_sim.proofs.SimSteps.{commanded, in_all, room, still_ok}
+use Rattle.mmc_card_sim.proofs.SimSteps.{commanded, in_all, room, still_ok, waits_on}
 use Rattle.mmc_card_sim.proofs.sim_card.SimCard.command.Goals as goal
 
 pub counted-self-inside-requires : goal.counted-self-inside-requires
@@ -13,7 +12,8 @@ counted-self-inside-requires c =
 
 pub invariant_of-self : goal.invariant_of-self
 invariant_of-self c =
-    let did = commanded c.self.inside.plan _ _ _ c.self.invariant.soon_ready _ _ _ _ c.fault-fault.result c.args.frame
+    let did = commanded c.self.inside.plan _ _ _ c.self.invariant.soon_ready
+    c.self.invariant.unprotected _ _ _ _ c.fault-fault.result c.args.frame
     c.args.want c.faulty_command-reply.result.0
     c.faulty_command-reply.result.1 c.counted-self-inside.ensures c.faulty_command-reply.ensures
     c.self.invariant.is_card c.note.ensures
@@ -22,15 +22,15 @@ invariant_of-self c =
     ∙ ap (λ f. fits_command f c.self.inside.delays (card_of c.self.inside.chip) c.args.frame) none)
     c.counted-self-inside.ensures c.note.ensures) in
     still_ok _ _ c.fault-fault.result c.faulty_command-reply.result.1 _ c.self.invariant
-    (ap (λ (d : Delays). d.ready) c.note_rca.ensures) (ap (λ (d : Delays). d.busy) c.note_rca.ensures) refl
-    c.fault-fault.ensures
+    (waits_on _ _ _ c.note_command.ensures.waits c.note_state.ensures.waits) refl c.fault-fault.ensures
     (λ none. c.faulty_command-reply.ensures.fell_is
     ∙ ap (λ f. fits_command f c.self.inside.delays (card_of c.self.inside.chip) c.args.frame) none)
     c.counted-self-inside.ensures c.note.ensures did.1
 
 pub returns-clause-exchanged : goal.returns-clause-exchanged
 returns-clause-exchanged c =
-    let did = commanded c.self.inside.plan _ _ _ c.self.invariant.soon_ready _ _ _ _ c.fault-fault.result c.args.frame
+    let did = commanded c.self.inside.plan _ _ _ c.self.invariant.soon_ready
+    c.self.invariant.unprotected _ _ _ _ c.fault-fault.result c.args.frame
     c.args.want c.faulty_command-reply.result.0
     c.faulty_command-reply.result.1 c.counted-self-inside.ensures c.faulty_command-reply.ensures
     c.self.invariant.is_card c.note.ensures

@@ -9,6 +9,7 @@ invariant_of-self c =
       is_card = was.is_card;
       soon_ready = was.soon_ready;
       soon_rested = was.soon_rested;
+      unprotected = was.unprotected;
       few = was.few;
       bounded = was.bounded;
       never = never_planned _ _ c.args.exchange _ c.args.fault c.plan.result e.unchanged e.planned e.replaced was.never;

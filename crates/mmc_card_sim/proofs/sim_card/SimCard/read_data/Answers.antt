@@ -21,7 +21,7 @@ invariant_of-self c =
     (λ none. c.faulty_send-got.ensures.fell_is
     ∙ ap (λ f. fits_read f (card_of c.self.inside.chip) c.self.inside.wire.lines (length c.args.buffer.now)) none)
     c.counted-self-inside.ensures c.note.ensures) in
-    still_ok _ _ c.fault-fault.result c.faulty_send-got.result.1 _ c.self.invariant refl refl refl c.fault-fault.ensures
+    still_ok _ _ c.fault-fault.result c.faulty_send-got.result.1 _ c.self.invariant c.note_state.ensures.waits refl c.fault-fault.ensures
     (λ none. c.faulty_send-got.ensures.fell_is
     ∙ ap (λ f. fits_read f (card_of c.self.inside.chip) c.self.inside.wire.lines (length c.args.buffer.now)) none)
     c.counted-self-inside.ensures c.note.ensures did.1

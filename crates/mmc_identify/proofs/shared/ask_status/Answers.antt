@@ -1,0 +1,35 @@
+use Rattle.std.proofs.Common.{Ok, ℕ, ◌∙◌, ◌≡◌, ap, arith, sym}
+use Rattle.mmc_bus.proofs.ClosingLemmas.{told_closing, told_soon}
+use Rattle.mmc_bus.proofs.WorkLemmas.{moved_by}
+use Rattle.mmc_card.specs.Card.{is_identified}
+use Rattle.mmc_identify.proofs.SingleLemmas.{closing_fine, closing_own, resting_in_order, told_unlocked}
+use Rattle.mmc_identify.proofs.shared.ask_status.Goals as goal
+use Rattle.mmc_bus.proofs.CommandLemmas.{same_ok}
+use Rattle.mmc_frame.specs.Field.{field}
+
+pub returns-clause-moves : goal.returns-clause-moves
+returns-clause-moves g c kept =
+    let old = g.B.Bus.view c.args.bus.now in
+    let new = g.B.Bus.view c.ask.new.bus in
+    let kind = c.args.kind in
+    let rca = c.args.rca in
+    let argument = c.rca_argument.result in
+    let k = c.ask.ensures.asked.exchanged.kept kept in
+    let law = c.cmd13_tells_the_status.ensures _ _ _ _ k.step in
+    let tells = c.a_status_tells_of_its_card.ensures in
+    let judged = c.confirmed.ensures in
+    let none = c.no_command_but_erase_widens.ensures old.card 13 argument (omega arith) (λ e. cc) in
+    let closes = told_closing kind old.card new.card c.ask.result c.confirmed.result k.was_card tells.own tells.clean tells.lagging
+    tells.lags_unclean (λ told h. (law.sound told h).1) judged.clean judged.at_work in
+    moved_by old 13 argument c.ask.result new none k
+    (λ looks. closing_own rca kind old.card new.card c.confirmed.result closes looks)
+    (λ same profile waits resting.
+    let is = resting.selected in
+    let told = law.fine same (ap is_identified is.state, is.app, c.rca_argument.ensures.names ∙ sym is.is_rca) in
+    let unlocked = told_unlocked rca told.0 old.card new.card is profile tells.locked told.2 in
+    let only : (n : ℕ) → c.ask.result ≡ Ok n → n ≡ told.0 = λ n h. same_ok n told.0 (sym h ∙ told.1) in
+    let soon = told_soon kind old.card new.card c.ask.result c.confirmed.result k.was_card tells.clean tells.lagging
+    tells.lags_unclean told.0 told.1 told.2 (resting_in_order rca waits kind old.card resting)
+    (λ n h clean. judged.all_clean n h (ap (field 25 25) (only n h) ∙ unlocked) clean)
+    (λ n h unclean works. judged.all_at_work n h (ap (field 25 25) (only n h) ∙ unlocked) unclean works) in
+    closing_fine rca waits kind old.card new.card c.confirmed.result closes soon resting)
