@@ -10,7 +10,8 @@
 #include "trace.h"
 
 enum { CALLS = 10, LONGEST = 1030 };
-enum { IDLE_BITS = 0x47 }; /* 6 and 2 to 0 (SD Physical Layer 6.00, section 4.10.1) */
+/* 6 and 2 to 0, and of an SD card 7, where an eMMC device has SWITCH_ERROR (SD Physical Layer 6.00, section 4.10.1) */
+enum { IDLE_BITS = 0x47, IDLE_BITS_OF_SD = 0xc7 };
 enum way { BY_HOST, BY_TRANSFERS, BY_TRANSFERS_ALONE, BY_REGISTERS, BY_ONE_BLOCK, BY_PORT, BY_WORDS, BY_DMA, WAYS };
 
 static struct card card;
@@ -224,7 +225,7 @@ static void as_drawn(const struct kelifandro_command *command, uint32_t response
         break;
     }
     if (has_idle_bits && (command->response == KELIFANDRO_R1 || command->response == KELIFANDRO_R1B))
-        response[0] ^= any() & IDLE_BITS;
+        response[0] ^= any() & (card.is_emmc ? IDLE_BITS : IDLE_BITS_OF_SD);
 }
 
 /* A response with one wrong thing: a bit, an error in the status, or all of it. */

@@ -1,12 +1,12 @@
 -- What statuses in a row tell, while the card is at work and then not any more.
 use Rattle.std.proofs.lemmas.Bool.{ltb-true}
-use Rattle.std.proofs.Common.{◌+◌, ◌<◌, ◌-◌, ◌∙◌, ◌≡◌, ◌≤◌, ◌↔◌, Bool, ap, arith, cond, false, inl, inr, refl, subst, sym, true, ℕ}
+use Rattle.std.proofs.Common.{◌+◌, ◌<◌, ◌-◌, ◌∙◌, ◌≡◌, ◌≤◌, Bool, ap, arith, cond, false, inl, inr, refl, subst, sym, true, ℕ}
 use Rattle.std.specs.Prelude.{Err, IsErr, IsOk, Ok, Result, if◌then◌else◌}
 use Rattle.mmc_bus.proofs.PollLemmas.{Counts, polled_as}
 use Rattle.mmc_bus.proofs.WorkLemmas.{joined, narrows_then, quiet_parts, refuted, set_then, stays_same, stays_then, worked_as}
 use Rattle.mmc_bus.specs.CommandLaws.{LeftOver, TellsStatus}
 use Rattle.mmc_bus.specs.declared.host.Unheard.{Unheard}
-use Rattle.mmc_bus.specs.Closings.{Closes, ClosesSoon, HasLagged, HasShown, WasAtWork}
+use Rattle.mmc_bus.specs.Closings.{Closes, ClosesSoon, HasLagged, HasShown, WasAtWork, WillBeClean}
 use Rattle.mmc_bus.specs.Learned.{Stays}
 use Rattle.mmc_bus.specs.Work.{Narrows, StaysSet, Worked}
 use Rattle.mmc_bus.specs.declared.cause.Cause.{Cause}
@@ -19,7 +19,8 @@ use Rattle.mmc_card.specs.BusView.{BusView}
 use Rattle.mmc_card.specs.Card.{Card, IsCard, is_in, is_selected, patience}
 use Rattle.mmc_card.specs.CardAnswer.{Choice, counted, left_with, shown}
 use Rattle.mmc_card.specs.Judged.{ShowsItself}
-use Rattle.mmc_card.specs.CardLaws.{HasNoErrorOfItsOwn, IsInOrder}
+use Rattle.mmc_card.specs.Made.{Made}
+use Rattle.mmc_card.specs.CardLaws.{HasNoErrorOfItsOwn, IsInOrder, Tells}
 use Rattle.mmc_card.specs.Faults.{NoFault}
 use Rattle.mmc_card.specs.RowsIdentify.{at_work, lagging, may_lag}
 use Rattle.mmc_frame.specs.declared.card_state.State.TheVariants.{Prg, Tran}
@@ -47,18 +48,21 @@ comes_clean (Err cause) old new up soon = absurd soon
 abbrev pub Asks : Kind → ℕ → Result Closing Cause → BusView → BusView → Type 0
 Asks kind rca r =
     Worked Narrows (λ old new. Closes kind r old.card new.card)
-    (λ old new. IsInOrder kind old.card → old.card.app ≡ false → old.card.rca ≡ rca → ClosesSoon r old.card new.card)
+    (λ old new. WillBeClean kind old.card → old.card.app ≡ false → old.card.rca ≡ rca → ClosesSoon r old.card new.card)
 
 -- errors of its own are those of `errors` and SWITCH_ERROR; order hangs on them, the state, and whether it is busy
-none_like : (kind : Kind) (card other : Card) → other.errors ≡ card.errors → other.switch_error ≡ card.switch_error
-    → HasNoErrorOfItsOwn kind card → HasNoErrorOfItsOwn kind other
-none_like kind card other errors switch none =
-    record { errors = errors ∙ none.errors; switch_error = λ mmc. switch ∙ none.switch_error mmc }
+none_like : (kind : Kind) (card other : Card) → other.made ≡ card.made → other.errors ≡ card.errors
+    → other.switch_error ≡ card.switch_error → HasNoErrorOfItsOwn kind card → HasNoErrorOfItsOwn kind other
+none_like kind card other made errors switch none = record {
+  errors = errors ∙ none.errors;
+  switch_error = λ judged mmc. switch ∙ none.switch_error judged (sym (ap (λ (m : Made). m.kind) made) ∙ mmc);
+}
 
-order_like : (kind : Kind) (card other : Card) → other.errors ≡ card.errors → other.switch_error ≡ card.switch_error
-    → other.state ≡ card.state → other.is_busy ≡ card.is_busy → IsInOrder kind card → IsInOrder kind other
-order_like kind card other errors switch state busy order = record {
-  no_error = none_like kind card other errors switch order.no_error;
+order_like : (kind : Kind) (card other : Card) → other.made ≡ card.made → other.errors ≡ card.errors
+    → other.switch_error ≡ card.switch_error → other.state ≡ card.state → other.is_busy ≡ card.is_busy
+    → IsInOrder kind card → IsInOrder kind other
+order_like kind card other made errors switch state busy order = record {
+  no_error = none_like kind card other made errors switch order.no_error;
   tran = state ∙ order.tran;
   rests = busy ∙ order.rests;
 }
@@ -72,13 +76,16 @@ order_back kind old new none e order = record {
   rests = sym (ap (λ (c : Card). c.is_busy) e) ∙ order.rests;
 }
 
-order_on : (kind : Kind) (old new : Card) → HasShown old new → new.errors ≡ 0 → IsInOrder kind old → IsInOrder kind new
-order_on kind old new e none order =
-    subst (IsInOrder kind) (sym e) (record {
-      no_error = record { errors = none; switch_error = λ mmc. refl };
-      tran = order.tran;
-      rests = order.rests;
-    })
+clean_on : (kind : Kind) (old new : Card) → HasShown old new → new.errors ≡ 0 → WillBeClean kind old → WillBeClean kind new
+clean_on kind old new e none order =
+    subst (WillBeClean kind) (sym e) (
+      order.0,
+      record {
+        no_error = record { errors = none; switch_error = λ judged mmc. refl };
+        tran = order.1.tran;
+        rests = order.1.rests;
+      },
+    )
 
 -- So many statuses showed the card at work.
 pub record Asking (kind : Kind) (rca : ℕ) (old : BusView) (statuses : ℕ) (now : BusView) : Type 0 where
@@ -90,10 +97,10 @@ pub record Asking (kind : Kind) (rca : ℕ) (old : BusView) (statuses : ℕ) (no
   pub narrows : Narrows old now
   pub back : IsInOrder kind now.card → IsInOrder kind old.card
   pub card : shown now.card ≡ polled_as (shown old.card) now.card.polled
-  pub soon : NoFault old now → IsInOrder kind old.card → old.card.app ≡ false → old.card.rca ≡ rca
-      → IsInOrder kind now.card × (now.card.app ≡ false) × (now.card.rca ≡ rca)
+  pub soon : NoFault old now → WillBeClean kind old.card → old.card.app ≡ false → old.card.rca ≡ rca
+      → WillBeClean kind now.card × (now.card.app ≡ false) × (now.card.rca ≡ rca)
       × (now.card.polled ≡ old.card.polled + statuses)
-  pub few : NoFault old now → IsInOrder kind old.card → old.card.app ≡ false → old.card.rca ≡ rca → 0 < statuses
+  pub few : NoFault old now → WillBeClean kind old.card → old.card.app ≡ false → old.card.rca ≡ rca → 0 < statuses
       → now.card.polled ≤ patience
 
 pub asking_none : (kind : Kind) (rca : ℕ) (old : BusView) → old.is_kept ≡ true → Asking kind rca old 0 old
@@ -114,8 +121,8 @@ pub asking_on : (kind : Kind) (rca : ℕ) (old : BusView) (statuses : ℕ) (now 
     → Asking kind rca old statuses now → Asks kind rca (Ok AtWork) now new → Asking kind rca old (statuses + 1) new
 asking_on kind rca old statuses now new p q =
     let own = q.own in
-    let after : (same : NoFault old new) (order : IsInOrder kind old.card) (app : old.card.app ≡ false)
-    (is : old.card.rca ≡ rca) → IsInOrder kind now.card × (now.card.app ≡ false) × (now.card.rca ≡ rca)
+    let after : (same : NoFault old new) (order : WillBeClean kind old.card) (app : old.card.app ≡ false)
+    (is : old.card.rca ≡ rca) → WillBeClean kind now.card × (now.card.app ≡ false) × (now.card.rca ≡ rca)
     × (now.card.polled ≡ old.card.polled + statuses) × (now.card.polled < patience)
     × (new.card.polled ≡ now.card.polled + 1) × (new.card.errors ≡ 0) =
     λ same order app is.
@@ -136,7 +143,7 @@ asking_on kind rca old statuses now new p q =
           let all = after same order app is in
           let was = all.3 in
           let more = all.5 in (
-            order_on kind now.card new.card own.shown all.6 all.0,
+            clean_on kind now.card new.card own.shown all.6 all.0,
             ap (λ (c : Card). c.app) own.shown,
             ap (λ (c : Card). c.rca) own.shown ∙ all.2,
             omega (arith, was, more),
@@ -153,7 +160,7 @@ abbrev pub Confirms : Kind → ℕ → ℕ → Result Unit Cause → BusView →
 Confirms kind rca most r =
     Worked Narrows
     (λ old new. IsOk r → IsInOrder kind old.card × (new.card ≡ record (shown old.card) { polled = new.card.polled }))
-    (λ old new. IsInOrder kind old.card → old.card.app ≡ false → old.card.rca ≡ rca → patience < old.card.polled + most → IsOk r)
+    (λ old new. WillBeClean kind old.card → old.card.app ≡ false → old.card.rca ≡ rca → patience < old.card.polled + most → IsOk r)
 
 -- the next one is clean
 pub asked_clean : (kind : Kind) (rca most : ℕ) (old : BusView) (statuses : ℕ) (now new : BusView)
@@ -228,7 +235,7 @@ Ended kind rca r =
     Worked Narrows
     (λ old new. IsOk r → IsInOrder kind (rested old.card)
     × (new.card ≡ record (shown (rested old.card)) { polled = new.card.polled }))
-    (λ old new. old.card.polled ≡ 0 → IsInOrder kind (rested old.card) → (rested old.card).app ≡ false
+    (λ old new. old.card.polled ≡ 0 → WillBeClean kind (rested old.card) → (rested old.card).app ≡ false
     → (rested old.card).rca ≡ rca → IsOk r)
 
 -- the polls fail
@@ -246,7 +253,7 @@ ended kind rca polls most r a b c is_most p q =
     let told = q.own confirmed in
     let was = p.own refl (ap is_selected told.0.tran) told.0.no_error.errors in
     let e = was.1 ∙ rested_polled a.card was.0 in (
-      order_like kind _ (rested a.card) refl refl refl refl (subst (IsInOrder kind) e told.0),
+      order_like kind _ (rested a.card) refl refl refl refl refl (subst (IsInOrder kind) e told.0),
       told.1 ∙ ap (λ (card : Card). polled_as (shown card) c.card.polled) e,
     ))
     (λ same zero order app is.
@@ -255,7 +262,10 @@ ended kind rca polls most r a b c is_most p q =
     let e = was.1 ∙ rested_polled a.card polls in
     let few = was.0 in
     let count = ap (λ (card : Card). card.polled) e in
-    q.fine parts.1 (subst (IsInOrder kind) (sym e) (order_like kind (rested a.card) (polled_as (rested a.card) polls) refl refl refl refl order))
+    q.fine parts.1 (subst (WillBeClean kind) (sym e) (
+      order.0,
+      order_like kind (rested a.card) (polled_as (rested a.card) polls) refl refl refl refl refl order.1,
+    ))
     (ap (λ (x : Card). x.app) e ∙ app) (ap (λ (x : Card). x.rca) e ∙ is) (omega (arith, few, count, is_most)))
 
 -- What one status tells, from the laws of statuses.
@@ -263,17 +273,17 @@ ended kind rca polls most r a b c is_most p q =
 abbrev pub OwnLaw : Type 0
 OwnLaw =
     (kind : Kind) (told : ℕ) (card : Card) → IsCard card → ShowsItself card told
-    → ((error_bits kind (own_status told) ≡ 0) ↔ HasNoErrorOfItsOwn kind card)
+    → Tells kind card (error_bits kind (own_status told) ≡ 0) (HasNoErrorOfItsOwn kind card)
 
 abbrev pub CleanLaw : Type 0
 CleanLaw =
     (kind : Kind) (told : ℕ) (card : Card) → IsCard card → ShowsItself card told
-    → (IsClean kind (own_status told) ↔ IsInOrder kind card)
+    → Tells kind card (IsClean kind (own_status told)) (IsInOrder kind card)
 
 abbrev pub LagLaw : Type 0
 LagLaw =
     (kind : Kind) (choice : Choice) (told : ℕ) (card : Card) → IsCard card → ShowsItself (at_work choice card) told
-    → (IsAtWork kind (own_status told) ↔ HasNoErrorOfItsOwn kind (at_work choice card))
+    → Tells kind card (IsAtWork kind (own_status told)) (HasNoErrorOfItsOwn kind (at_work choice card))
 
 abbrev pub UncleanLaw : Type 0
 UncleanLaw =
@@ -351,12 +361,12 @@ told_closing kind old new heard r k own clean lag unclean tells is_clean is_work
     closes_by kind r old new
     (λ is. told_by old new heard k tells (IsClean kind) _ (is_clean is)
     (λ left told met shows says e.
-    (order_like kind (left_with left old) old refl refl refl refl ((clean kind told _ met shows).0 says), e))
+    (order_like kind (left_with left old) old refl refl refl refl refl ((clean kind told _ met shows).0 says), e))
     (λ left told choice met shows says may e. absurd (unclean kind choice told _ met shows says)))
     (λ is. told_by old new heard k tells (IsAtWork kind) _ (is_work is)
     (λ left told met shows says e. record {
       shown = as_shown old new e;
-      held_none = λ none. none_like kind (left_with left old) old refl refl ((own kind told _ met shows).0 says.no_error);
+      held_none = λ none. none_like kind (left_with left old) old refl refl refl ((own kind told _ met shows).0 says.no_error);
       gets_none = λ none. ap (λ (c : Card). c.errors) e;
       counts = λ still. cc (ap (λ (c : Card). c.lags) e, still);
     })
@@ -364,7 +374,7 @@ told_closing kind old new heard r k own clean lag unclean tells is_clean is_work
     lags_at_work kind choice left old new may e ((lag kind choice told _ met shows).0 says)))
 
 pub told_soon : {E : Type 0} (kind : Kind) (old new : Card) (heard : Result ℕ Unheard) (r : Result Closing E) → IsCard old
-    → CleanLaw → LagLaw → UncleanLaw → (told : ℕ) → heard ≡ Ok told → TellsStatus old told new → IsInOrder kind old
+    → CleanLaw → LagLaw → UncleanLaw → (told : ℕ) → heard ≡ Ok told → TellsStatus old told new → WillBeClean kind old
     → ((told : ℕ) → heard ≡ Ok told → IsClean kind (own_status told) → r ≡ Ok Clean)
     → ((told : ℕ) → heard ≡ Ok told → (IsClean kind (own_status told) → ⊥) → IsAtWork kind (own_status told)
     → r ≡ Ok AtWork)
@@ -372,13 +382,13 @@ pub told_soon : {E : Type 0} (kind : Kind) (old new : Card) (heard : Result ℕ 
 told_soon {E} kind old new heard r k clean lag unclean told is tells order all_clean all_work =
     elim tells [
       | inl itself ↦ subst (λ (r : Result Closing E). ClosesSoon r old new)
-          (sym (all_clean told is ((clean kind told old k itself.0).1 order))) tt
+          (sym (all_clean told is ((clean kind told old k itself.0).1 order.0 order.1))) tt
       | inr lags ↦
           subst (λ (r : Result Closing E). ClosesSoon r old new)
           (sym (all_work told is (unclean kind lags.choice told old k lags.told_is)
-          ((lag kind lags.choice told old k lags.told_is).1 (seen_in_order kind lags.choice old order.no_error)))) (
+          ((lag kind lags.choice told old k lags.told_is).1 order.0 (seen_in_order kind lags.choice old order.1.no_error)))) (
             lagged lags.choice old new lags.may lags.card,
-            ap (λ (c : Card). c.errors) lags.card ∙ late_gets lags.choice.tells_late old.errors order.no_error.errors,
+            ap (λ (c : Card). c.errors) lags.card ∙ late_gets lags.choice.tells_late old.errors order.1.no_error.errors,
           )
     ]
 
@@ -388,7 +398,7 @@ abbrev pub ConfirmsOnce : Kind → ℕ → Result Unit Cause → BusView → Bus
 ConfirmsOnce kind rca r =
     Worked Narrows
     (λ old new. IsOk r → IsInOrder kind old.card × (new.card ≡ shown old.card))
-    (λ old new. IsInOrder kind old.card → old.card.app ≡ false → old.card.rca ≡ rca → old.card.lags ≡ false → IsOk r)
+    (λ old new. WillBeClean kind old.card → old.card.app ≡ false → old.card.rca ≡ rca → old.card.lags ≡ false → IsOk r)
 
 pub asked_once : (kind : Kind) (rca : ℕ) (closing : Result Closing Cause) (r : Result Unit Cause) (a b : BusView)
     → (IsOk r → closing ≡ Ok Clean) → (closing ≡ Ok Clean → IsOk r) → Asks kind rca closing a b

@@ -7,6 +7,10 @@ use Rattle.mmc_card.specs.Card.{Card, patience}
 use Rattle.mmc_card.specs.CardAnswer.{shown}
 use Rattle.mmc_card.specs.CardLaws.{HasNoErrorOfItsOwn, IsInOrder}
 
+-- a card that is judged by its own kind, and is in order
+abbrev pub WillBeClean : Kind → Card → Type 0
+WillBeClean kind card = (card.made.kind ≡ kind) × IsInOrder kind card
+
 -- the card has shown its status, and only how its statuses lag behind may differ, and errors that are to show yet
 abbrev pub HasShown : Card → Card → Type 0
 HasShown old new = new ≡ record (shown old) { lags = new.lags; polled = new.polled; errors = new.errors }

@@ -5,7 +5,7 @@ ghost use Rattle.mmc_frame.specs.Status.{IsAtWork, IsClean, error_bits, own_stat
 ghost use Rattle.mmc_card.specs.Blocks.{rested};
 ghost use Rattle.mmc_card.specs.CardAnswer.{shown};
 ghost use Rattle.mmc_card.specs.CardLaws.{IsInOrder};
-ghost use Rattle.mmc_bus.specs.Closings.{Closes, ClosesSoon};
+ghost use Rattle.mmc_bus.specs.Closings.{Closes, ClosesSoon, WillBeClean};
 ghost use Rattle.mmc_bus.specs.Heard.{cause_of, cause_of_response};
 ghost use Rattle.mmc_bus.specs.Work.{Ends, Narrows, Works};
 ghost use Rattle.mmc_bus.specs.declared.cause.Cause.TheVariants.{Status};
@@ -95,7 +95,7 @@ pub fn ask_closing<B: Bus>(bus: &mut B, kind: Kind, rca: u16) -> Result<Closing,
     ensures at_work { result ≡ Ok AtWork → cause_of (B.view bus.new).last ≡ Some Status }
     ensures works { Works Narrows
         (λ old new. Closes kind result old.card new.card)
-        (λ old new. IsInOrder kind old.card → old.card.app ≡ false → old.card.rca ≡ rca
+        (λ old new. WillBeClean kind old.card → old.card.app ≡ false → old.card.rca ≡ rca
         → ClosesSoon result old.card new.card)
         (B.view bus.old) (B.view bus.new) }
 {
@@ -113,7 +113,7 @@ pub fn confirm<B: Bus>(bus: &mut B, kind: Kind, rca: u16) -> Result<(), Cause>
     ensures ends { Ends 1 (B.view bus.old) result (B.view bus.new) }
     ensures works { Works Narrows
         (λ old new. IsOk result → IsInOrder kind old.card × (new.card ≡ shown old.card))
-        (λ old new. IsInOrder kind old.card → old.card.app ≡ false → old.card.rca ≡ rca → old.card.lags ≡ false
+        (λ old new. WillBeClean kind old.card → old.card.app ≡ false → old.card.rca ≡ rca → old.card.lags ≡ false
         → IsOk result)
         (B.view bus.old) (B.view bus.new) }
 {
@@ -130,7 +130,7 @@ fn confirm_within<B: Bus>(bus: &mut B, kind: Kind, rca: u16, most: u64) -> Resul
     ensures works { Works Narrows
         (λ old new. IsOk result → IsInOrder kind old.card
         × (new.card ≡ record (shown old.card) { polled = new.card.polled }))
-        (λ old new. IsInOrder kind old.card → old.card.app ≡ false → old.card.rca ≡ rca → patience < old.card.polled + most
+        (λ old new. WillBeClean kind old.card → old.card.app ≡ false → old.card.rca ≡ rca → patience < old.card.polled + most
         → IsOk result)
         (B.view bus.old) (B.view bus.new) }
 {
@@ -154,7 +154,7 @@ pub fn wait_and_confirm<B: Bus>(bus: &mut B, kind: Kind, rca: u16) -> Result<(),
     ensures works { Works Narrows
         (λ old new. IsOk result → IsInOrder kind (rested old.card)
         × (new.card ≡ record (shown (rested old.card)) { polled = new.card.polled }))
-        (λ old new. old.card.polled ≡ 0 → IsInOrder kind (rested old.card) → (rested old.card).app ≡ false
+        (λ old new. old.card.polled ≡ 0 → WillBeClean kind (rested old.card) → (rested old.card).app ≡ false
         → (rested old.card).rca ≡ rca → IsOk result)
         (B.view bus.old) (B.view bus.new) }
 {

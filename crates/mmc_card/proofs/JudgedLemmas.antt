@@ -1,5 +1,5 @@
 -- What a response says of a card, by the bits that are judged.
-use Rattle.std.proofs.Common.{ℕ, ◌*◌, ◌+◌, ◌<◌, ◌^◌, ◌↔◌, ◌∙◌, ◌≡◌, ◌≤◌, ap, arith, false, inl, refl, subst, sym}
+use Rattle.std.proofs.Common.{ℕ, ◌*◌, ◌+◌, ◌<◌, ◌^◌, ◌∙◌, ◌≡◌, ◌≤◌, ap, arith, false, inl, refl, subst, sym}
 use Rattle.std.specs.Prelude.{◌%◌, ◌-◌, ◌/◌}
 use Rattle.std.specs.Int.{bit_at}
 use Rattle.std.specs.Int.RustNames.{bit_and}
@@ -16,7 +16,7 @@ use Rattle.mmc_card.specs.Card.{AreAmong, Card, IsCard}
 use Rattle.mmc_card.specs.CardAnswer.{CardAnswer, Checked, Choice, R2, R3, Silent, status}
 use Rattle.mmc_card.specs.Faults.{Replies, Spells}
 use Rattle.mmc_card.specs.declared.exchange.Reply.{Reply}
-use Rattle.mmc_card.specs.CardLaws.{HasNoError, HasNoErrorOfItsOwn, IsInOrder}
+use Rattle.mmc_card.specs.CardLaws.{HasNoError, HasNoErrorOfItsOwn, IsInOrder, Tells}
 use Rattle.mmc_card.specs.ErrorBits.{out_of_range}
 use Rattle.mmc_card.specs.Judged.{Agree, IsSaid, Shows, ShowsItself, errors_and_lock, whole_status}
 use Rattle.mmc_card.specs.RowsIdentify.{at_work}
@@ -70,17 +70,26 @@ same_field : (low count a b : ℕ) → Splits low a → Splits low b → Agree (
 same_field low count a b x y same = sym (field_masked low count a x) ∙ same ∙ field_masked low count b y
 
 -- CURRENT_STATE and READY_FOR_DATA
-pub same_work : (a b : ℕ) → Agree whole_status a b → (field 12 9 a ≡ field 12 9 b) × (field 8 8 a ≡ field 8 8 b)
-same_work a b same =
+work_among : (made : Kind) → AreAmong 0x1f00 (whole_status made)
+work_among Sd = refl
+work_among Mmc = refl
+
+pub same_work : (made : Kind) (a b : ℕ) → Agree (whole_status made) a b
+    → (field 12 9 a ≡ field 12 9 b) × (field 8 8 a ≡ field 8 8 b)
+same_work made a b same =
     let both = same_field 8 5 a b (omega arith, omega arith, omega arith) (omega arith, omega arith, omega arith)
-    (agree_in 0x1f00 whole_status a b refl same) in
+    (agree_in 0x1f00 (whole_status made) a b (work_among made) same) in
     (omega (arith, both), omega (arith, both))
 
 -- CARD_IS_LOCKED
-pub same_lock : (a b : ℕ) → Agree errors_and_lock a b → field 25 25 a ≡ field 25 25 b
-same_lock a b same =
+lock_among : (made : Kind) → AreAmong (2 ^ 25) (errors_and_lock made)
+lock_among Sd = refl
+lock_among Mmc = refl
+
+pub same_lock : (made : Kind) (a b : ℕ) → Agree (errors_and_lock made) a b → field 25 25 a ≡ field 25 25 b
+same_lock made a b same =
     let both = same_field 25 1 a b (omega arith, omega arith, omega arith) (omega arith, omega arith, omega arith)
-    (agree_in (2 ^ 25) errors_and_lock a b refl same) in
+    (agree_in (2 ^ 25) (errors_and_lock made) a b (lock_among made) same) in
     omega (arith, both)
 
 -- an RCA
@@ -97,12 +106,60 @@ same_pattern a b same =
 
 -- Errors.
 
-mask_among : (kind : Kind) → AreAmong (error_mask kind) errors_and_lock
-mask_among Sd = refl
-mask_among Mmc = refl
+-- the errors of this kind are judged in the status of a card that is made so
+abbrev Fits : Kind → Kind → Type 0
+Fits kind made = AreAmong (error_mask kind) (errors_and_lock made)
 
-pub same_errors : (kind : Kind) (a b : ℕ) → Agree errors_and_lock a b → error_bits kind a ≡ error_bits kind b
-same_errors kind a b same = agree_in (error_mask kind) errors_and_lock a b (mask_among kind) same
+sd_fits : (made : Kind) → Fits Sd made
+sd_fits Sd = refl
+sd_fits Mmc = refl
+
+own_fits : (made : Kind) → Fits made made
+own_fits Sd = refl
+own_fits Mmc = refl
+
+pub same_errors : (kind made : Kind) → Fits kind made → (a b : ℕ) → Agree (errors_and_lock made) a b
+    → error_bits kind a ≡ error_bits kind b
+same_errors kind made fits a b same = agree_in (error_mask kind) (errors_and_lock made) a b fits same
+
+-- the errors of an SD card are among those of eMMC
+fewer : (n : ℕ) → error_bits Mmc n ≡ 0 → error_bits Sd n ≡ 0
+fewer n none = agree_in (error_mask Sd) (error_mask Mmc) n 0 refl none
+
+clean_fewer : (n : ℕ) → IsClean Mmc n → IsClean Sd n
+clean_fewer n clean =
+    record { no_error = fewer n clean.no_error; in_tran = clean.in_tran; ready_for_data = clean.ready_for_data }
+
+at_work_fewer : (n : ℕ) → IsAtWork Mmc n → IsAtWork Sd n
+at_work_fewer n works =
+    record {
+      no_error = fewer n works.no_error;
+      from_stby = works.from_stby;
+      to_prg = works.to_prg;
+      unready = works.unready;
+    }
+
+-- What an SD card holds is none of the errors of eMMC, where it is none of its own.
+
+sd_none_of_its_own : (card : Card) → card.made.kind ≡ Sd → HasNoErrorOfItsOwn Sd card → HasNoErrorOfItsOwn Mmc card
+sd_none_of_its_own card is none = record { errors = none.errors; switch_error = λ judged made. cc (is, made) }
+
+sd_none : (card : Card) → card.made.kind ≡ Sd → HasNoError Sd card → HasNoError Mmc card
+sd_none card is none =
+    record { command_errors = none.command_errors; errors = none.errors; switch_error = λ judged made. cc (is, made) }
+
+sd_in_order : (card : Card) → card.made.kind ≡ Sd → IsInOrder Sd card → IsInOrder Mmc card
+sd_in_order card is order =
+    record { no_error = sd_none_of_its_own card is order.no_error; tran = order.tran; rests = order.rests }
+
+-- a law for each kind whose errors are judged of a card is one for both kinds
+tells_by : (kind made : Kind) (card : Card) → card.made.kind ≡ made → (Told Is : Kind → Type 0)
+    → ((by : Kind) → Fits by made → Tells by card (Told by) (Is by))
+    → (Told Mmc → Told Sd) → (card.made.kind ≡ Sd → Is Sd → Is Mmc) → Tells kind card (Told kind) (Is kind)
+tells_by Sd made card is Told Is law less more = law Sd (sd_fits made)
+tells_by Mmc Mmc card is Told Is law less more = law Mmc refl
+tells_by Mmc Sd card is Told Is law less more =
+    (λ told. more is ((law Sd refl).0 (less told)), λ same holds. cc (is, same))
 
 -- a number by its bits above 23, those two, and those below
 masked_around : (high two low m o : ℕ) → two < 4 → low < 2 ^ 22 → o < 2 ^ 22
@@ -115,59 +172,70 @@ masked_around high two low m o few small part =
     ∙ ap (λ x. x * 2 ^ 22 + bit_and low o) (two_bits ∙ ap (λ x. bit_and high m * 4 + x) kept)
 
 -- what is judged of a status of its own is what is judged of the status, on its own
-own_masked : (n : ℕ) → bit_and (own_status n) errors_and_lock ≡ own_status (bit_and n errors_and_lock)
-own_masked n =
+own_masked_by : (m o n : ℕ) → o < 2 ^ 22
+    → bit_and (own_status n) ((m * 4 + 3) * 2 ^ 22 + o) ≡ own_status (bit_and n ((m * 4 + 3) * 2 ^ 22 + o))
+own_masked_by m o n small =
     let high = n / 2 ^ 24 in
     let two = n / 2 ^ 22 % 4 in
     let low = n % 2 ^ 22 in
-    let m = errors_and_lock / 2 ^ 24 in
-    let o = errors_and_lock % 2 ^ 22 in
+    let mask = (m * 4 + 3) * 2 ^ 22 + o in
     let is : n ≡ (high * 4 + two) * 2 ^ 22 + low = omega arith in
     let own : own_status n ≡ (high * 4 + 0) * 2 ^ 22 + low = omega arith in
-    let whole = ap (λ x. bit_and x errors_and_lock) is
-    ∙ masked_around high two low m o (omega arith) (omega arith) (omega arith) in
-    let rest = ap (λ x. bit_and x errors_and_lock) own
-    ∙ masked_around high 0 low m o (omega arith) (omega arith) (omega arith) in
-    let part : bit_and low o < 2 ^ 22 = omega (arith, and_le_r low o) in
+    let whole = ap (λ x. bit_and x mask) is ∙ masked_around high two low m o (omega arith) (omega arith) small in
+    let rest = ap (λ x. bit_and x mask) own ∙ masked_around high 0 low m o (omega arith) (omega arith) small in
+    let part : bit_and low o < 2 ^ 22 = omega (arith, and_le_r low o, small) in
     let few : two < 4 = omega arith in
     rest ∙ omega (arith, part, few) ∙ ap own_status (sym whole)
 
-pub agree_own : (a b : ℕ) → Agree errors_and_lock a b → Agree errors_and_lock (own_status a) (own_status b)
-agree_own a b same = own_masked a ∙ ap own_status same ∙ sym (own_masked b)
+own_masked : (made : Kind) (n : ℕ)
+    → bit_and (own_status n) (errors_and_lock made) ≡ own_status (bit_and n (errors_and_lock made))
+own_masked Sd n = own_masked_by (errors_and_lock Sd / 2 ^ 24) (errors_and_lock Sd % 2 ^ 22) n (omega arith)
+own_masked Mmc n = own_masked_by (errors_and_lock Mmc / 2 ^ 24) (errors_and_lock Mmc % 2 ^ 22) n (omega arith)
 
-pub less : (a b : ℕ) → Agree whole_status a b → Agree errors_and_lock a b
-less a b same = agree_in errors_and_lock whole_status a b refl same
+pub agree_own : (made : Kind) (a b : ℕ) → Agree (errors_and_lock made) a b
+    → Agree (errors_and_lock made) (own_status a) (own_status b)
+agree_own made a b same = own_masked made a ∙ ap own_status same ∙ sym (own_masked made b)
 
-same_own : (kind : Kind) (a b : ℕ) → Agree whole_status a b
+less_among : (made : Kind) → AreAmong (errors_and_lock made) (whole_status made)
+less_among Sd = refl
+less_among Mmc = refl
+
+pub less : (made : Kind) (a b : ℕ) → Agree (whole_status made) a b → Agree (errors_and_lock made) a b
+less made a b same = agree_in (errors_and_lock made) (whole_status made) a b (less_among made) same
+
+same_own : (kind made : Kind) → Fits kind made → (a b : ℕ) → Agree (whole_status made) a b
     → error_bits kind (own_status a) ≡ error_bits kind (own_status b)
-same_own kind a b same = same_errors kind (own_status a) (own_status b) (agree_own a b (less a b same))
+same_own kind made fits a b same =
+    same_errors kind made fits (own_status a) (own_status b) (agree_own made a b (less made a b same))
 
 -- what two that agree say of errors and state is the same
 work_of_own : (n : ℕ) → (field 12 9 (own_status n) ≡ field 12 9 n) × (field 8 8 (own_status n) ≡ field 8 8 n)
 work_of_own n = (omega arith, omega arith)
 
-same_own_work : (a b : ℕ) → Agree whole_status a b
+same_own_work : (made : Kind) (a b : ℕ) → Agree (whole_status made) a b
     → (field 12 9 (own_status a) ≡ field 12 9 (own_status b)) × (field 8 8 (own_status a) ≡ field 8 8 (own_status b))
-same_own_work a b same =
-    let s = same_work a b same in
+same_own_work made a b same =
+    let s = same_work made a b same in
     let x = work_of_own a in
     let y = work_of_own b in
     (x.0 ∙ s.0 ∙ sym y.0, x.1 ∙ s.1 ∙ sym y.1)
 
-clean_as : (kind : Kind) (a b : ℕ) → Agree whole_status a b → IsClean kind (own_status a) → IsClean kind (own_status b)
-clean_as kind a b same clean =
-    let work = same_own_work a b same in
+clean_as : (kind made : Kind) → Fits kind made → (a b : ℕ) → Agree (whole_status made) a b
+    → IsClean kind (own_status a) → IsClean kind (own_status b)
+clean_as kind made fits a b same clean =
+    let work = same_own_work made a b same in
     record {
-      no_error = sym (same_own kind a b same) ∙ clean.no_error;
+      no_error = sym (same_own kind made fits a b same) ∙ clean.no_error;
       in_tran = sym work.0 ∙ clean.in_tran;
       ready_for_data = sym work.1 ∙ clean.ready_for_data;
     }
 
-at_work_as : (kind : Kind) (a b : ℕ) → Agree whole_status a b → IsAtWork kind (own_status a) → IsAtWork kind (own_status b)
-at_work_as kind a b same works =
-    let work = same_own_work a b same in
+at_work_as : (kind made : Kind) → Fits kind made → (a b : ℕ) → Agree (whole_status made) a b
+    → IsAtWork kind (own_status a) → IsAtWork kind (own_status b)
+at_work_as kind made fits a b same works =
+    let work = same_own_work made a b same in
     record {
-      no_error = sym (same_own kind a b same) ∙ works.no_error;
+      no_error = sym (same_own kind made fits a b same) ∙ works.no_error;
       from_stby = subst (λ n. state_number Stby ≤ n) work.0 works.from_stby;
       to_prg = subst (λ n. n ≤ state_number Prg) work.0 works.to_prg;
       unready = λ tran. sym work.1 ∙ works.unready (work.0 ∙ tran);
@@ -176,42 +244,67 @@ at_work_as kind a b same works =
 -- What is told of a card.
 
 pub told_state : (told : ℕ) (card : Card) → ShowsItself card told → field 12 9 told ≡ state_number card.state
-told_state told card shows = (same_work told _ shows).0 ∙ status_state false card
+told_state told card shows = (same_work card.made.kind told _ shows).0 ∙ status_state false card
 
 pub told_errors : (kind : Kind) (told : ℕ) (card : Card) → IsCard card → Shows card told
-    → ((error_bits kind told ≡ 0) ↔ HasNoError kind card)
+    → Tells kind card (error_bits kind told ≡ 0) (HasNoError kind card)
 told_errors kind told card k shows =
-    let same = same_errors kind told _ shows in
-    let law = status_errors kind false card k in
-    (λ none. law.0 (sym same ∙ none), λ none. same ∙ law.1 none)
+    tells_by kind card.made.kind card refl (λ by. error_bits by told ≡ 0) (λ by. HasNoError by card)
+    (λ by fits. (let same = same_errors by card.made.kind fits told _ shows in
+    let law = status_errors by false card k in
+    (λ none. law.0 (sym same ∙ none), λ of_kind none. same ∙ law.1 of_kind none)))
+    (fewer told) (sd_none card)
 
 pub told_own : (kind : Kind) (told : ℕ) (card : Card) → IsCard card → ShowsItself card told
-    → ((error_bits kind (own_status told) ≡ 0) ↔ HasNoErrorOfItsOwn kind card)
+    → Tells kind card (error_bits kind (own_status told) ≡ 0) (HasNoErrorOfItsOwn kind card)
 told_own kind told card k shows =
-    let same = same_own kind told _ shows in
-    let law = own_status_errors kind false card k in
-    (λ none. law.0 (sym same ∙ none), λ none. same ∙ law.1 none)
+    tells_by kind card.made.kind card refl (λ by. error_bits by (own_status told) ≡ 0) (λ by. HasNoErrorOfItsOwn by card)
+    (λ by fits. (let same = same_own by card.made.kind fits told _ shows in
+    let law = own_status_errors by false card k in
+    (λ none. law.0 (sym same ∙ none), λ of_kind none. same ∙ law.1 of_kind none)))
+    (fewer (own_status told)) (sd_none_of_its_own card)
 
 pub told_clean : (kind : Kind) (told : ℕ) (card : Card) → IsCard card → ShowsItself card told
-    → (IsClean kind (own_status told) ↔ IsInOrder kind card)
+    → Tells kind card (IsClean kind (own_status told)) (IsInOrder kind card)
 told_clean kind told card k shows =
-    let law = clean_status kind false card k in
-    (λ clean. law.0 (clean_as kind told _ shows clean), λ order. clean_as kind _ told (sym shows) (law.1 order))
+    let made = card.made.kind in
+    tells_by kind made card refl (λ by. IsClean by (own_status told)) (λ by. IsInOrder by card)
+    (λ by fits. (let law = clean_status by false card k in (
+      λ clean. law.0 (clean_as by made fits told _ shows clean),
+      λ of_kind order. clean_as by made fits _ told (sym shows) (law.1 of_kind order),
+    )))
+    (clean_fewer (own_status told)) (sd_in_order card)
 
-pub told_at_end : (kind : Kind) (told : ℕ) (card : Card) → IsCard card → Shows card told
+pub told_at_end : (kind : Kind) (told : ℕ) (card : Card) → IsCard card → card.made.kind ≡ kind → Shows card told
     → HasNoError kind (record card { errors = 0 }) → card.errors ≡ out_of_range → error_bits kind told ≡ 2 ^ 31
-told_at_end kind told card k shows none end = same_errors kind told _ shows ∙ status_at_end kind false card k none end
+told_at_end kind told card k of_kind shows none end =
+    subst (λ by. error_bits by told ≡ 2 ^ 31) of_kind
+    (same_errors card.made.kind card.made.kind (own_fits card.made.kind) told _ shows
+    ∙ status_at_end card.made.kind false card k refl (subst (λ by. HasNoError by (record card { errors = 0 })) (sym of_kind) none)
+    end)
 
 pub told_at_work : (kind : Kind) (choice : Choice) (told : ℕ) (card : Card) → IsCard card
-    → ShowsItself (at_work choice card) told → (IsAtWork kind (own_status told) ↔ HasNoErrorOfItsOwn kind (at_work choice card))
+    → ShowsItself (at_work choice card) told
+    → Tells kind card (IsAtWork kind (own_status told)) (HasNoErrorOfItsOwn kind (at_work choice card))
 told_at_work kind choice told card k shows =
-    let law = lagging_status kind choice card k in
-    (λ works. law.0 (at_work_as kind told _ shows works), λ none. at_work_as kind _ told (sym shows) (law.1 none))
+    let made = card.made.kind in
+    let seen = at_work choice card in
+    tells_by kind made card refl (λ by. IsAtWork by (own_status told)) (λ by. HasNoErrorOfItsOwn by seen)
+    (λ by fits. (let law = lagging_status by choice card k in (
+      λ works. law.0 (at_work_as by made fits told _ shows works),
+      λ of_kind none. at_work_as by made fits _ told (sym shows) (law.1 of_kind none),
+    )))
+    (at_work_fewer (own_status told)) (sd_none_of_its_own seen)
+
+sd_unclean : (choice : Choice) (told : ℕ) (card : Card) → IsCard card → ShowsItself (at_work choice card) told
+    → IsClean Sd (own_status told) → ⊥
+sd_unclean choice told card k shows clean =
+    lagging_is_not_clean Sd choice card k (clean_as Sd card.made.kind (sd_fits card.made.kind) told _ shows clean)
 
 pub told_unclean : (kind : Kind) (choice : Choice) (told : ℕ) (card : Card) → IsCard card
     → ShowsItself (at_work choice card) told → IsClean kind (own_status told) → ⊥
-told_unclean kind choice told card k shows clean =
-    lagging_is_not_clean kind choice card k (clean_as kind told _ shows clean)
+told_unclean Sd choice told card k shows clean = sd_unclean choice told card k shows clean
+told_unclean Mmc choice told card k shows clean = sd_unclean choice told card k shows (clean_fewer (own_status told) clean)
 
 pub told_lock : (told : ℕ) (card : Card) → Shows card told → field 25 25 told ≡ field 25 25 (status false card)
-told_lock told card shows = same_lock told _ shows
+told_lock told card shows = same_lock card.made.kind told _ shows

@@ -1,5 +1,5 @@
 -- What a status says of its card.
-use Rattle.std.proofs.Common.{◌*◌, ◌+◌, ◌<◌, ◌∙◌, ◌≡◌, ◌≤◌, ◌↔◌, ◌^◌, Bool, ap, arith, bit_or, false, refl, sym, true}
+use Rattle.std.proofs.Common.{◌*◌, ◌+◌, ◌<◌, ◌∙◌, ◌≡◌, ◌≤◌, ◌^◌, Bool, ap, arith, bit_or, false, refl, sym, true}
 use Rattle.std.proofs.Common.{ℕ}
 use Rattle.std.specs.Prelude.{◌%◌, ◌-◌, ◌&&◌, ◌/◌, ◌==◌, if◌then◌else◌, not}
 use Rattle.std.specs.Int.{bit_at}
@@ -19,7 +19,7 @@ use Rattle.mmc_card.specs.Card.{AreAmong, Card, IsCard}
 use Rattle.mmc_card.specs.ErrorBits.{card_is_locked, command_error_bits, error_bits as held_bits, out_of_range}
 use Rattle.mmc_card.specs.Judged.{whole_status}
 use Rattle.mmc_card.specs.RowsIdentify.{at_work, leads_to_tran}
-use Rattle.mmc_card.specs.CardLaws.{HasNoError, HasNoErrorOfItsOwn, IsInOrder}
+use Rattle.mmc_card.specs.CardLaws.{HasNoError, HasNoErrorOfItsOwn, IsInOrder, Tells}
 
 -- Bits.
 
@@ -154,38 +154,38 @@ one_bit true h = absurd (omega (arith, h))
 one_bit false h = refl
 
 errors_shown : (kind : Kind) (app : Bool) (card : Card) → HoldsErrors card
-    → ((error_bits kind (status app card) ≡ 0) ↔ HasNoError kind card)
+    → Tells kind card (error_bits kind (status app card) ≡ 0) (HasNoError kind card)
 errors_shown Sd app c k =
     let e = sd_errors app c k in (
-      λ h. record { command_errors = omega (arith, e, h); errors = omega (arith, e, h); switch_error = λ other. cc },
-      λ h. (let command_errors = h.command_errors in let errors = h.errors in omega (arith, e, command_errors, errors)),
+      λ h. record { command_errors = omega (arith, e, h); errors = omega (arith, e, h); switch_error = λ other made. cc },
+      λ same h. (let command_errors = h.command_errors in let errors = h.errors in omega (arith, e, command_errors, errors)),
     )
 errors_shown Mmc app c k =
     let e = mmc_errors app c k in (
       λ h. record {
         command_errors = omega (arith, e, h);
         errors = omega (arith, e, h);
-        switch_error = λ same. no_bit c.switch_error (omega (arith, e, h));
+        switch_error = λ judged made. no_bit c.switch_error (omega (arith, e, h));
       },
-      λ h.
+      λ same h.
           (let command_errors = h.command_errors in
           let errors = h.errors in
-          let none = ap bit (h.switch_error refl) in
+          let none = ap bit (h.switch_error refl same) in
           omega (arith, e, command_errors, errors, none)),
     )
 
 pub status_errors : (kind : Kind) (app : Bool) (card : Card) → IsCard card
-    → ((error_bits kind (status app card) ≡ 0) ↔ HasNoError kind card)
+    → Tells kind card (error_bits kind (status app card) ≡ 0) (HasNoError kind card)
 status_errors kind app c k = errors_shown kind app c (k.command_errors, k.errors)
 
 -- of a card that holds OUT_OF_RANGE and no other error
-pub status_at_end : (kind : Kind) (app : Bool) (card : Card) → IsCard card → HasNoError kind (record card { errors = 0 })
-    → card.errors ≡ out_of_range → error_bits kind (status app card) ≡ 2 ^ 31
-status_at_end Sd app c k none end =
+pub status_at_end : (kind : Kind) (app : Bool) (card : Card) → IsCard card → card.made.kind ≡ kind
+    → HasNoError kind (record card { errors = 0 }) → card.errors ≡ out_of_range → error_bits kind (status app card) ≡ 2 ^ 31
+status_at_end Sd app c k same none end =
     let command_errors = none.command_errors in omega (arith, sd_errors app c (k.command_errors, k.errors), command_errors, end)
-status_at_end Mmc app c k none end =
+status_at_end Mmc app c k same none end =
     let command_errors = none.command_errors in
-    omega (arith, mmc_errors app c (k.command_errors, k.errors), command_errors, end, ap bit (none.switch_error refl))
+    omega (arith, mmc_errors app c (k.command_errors, k.errors), command_errors, end, ap bit (none.switch_error refl same))
 
 -- The fields of a status.
 
@@ -198,20 +198,24 @@ status_ready app c =
     omega (arith, state_below c.state, bit_below (not c.is_busy), bit_below c.switch_error, bit_below app)
 
 -- APP_CMD isn't judged
-pub status_app : (app : Bool) (c : Card) → bit_and (status app c) whole_status ≡ bit_and (status false c) whole_status
-status_app app c =
+status_above : (w : ℕ) (app : Bool) (c : Card) → bit_and (status app c) (w * 2 ^ 7 + 0) ≡ bit_and (status false c) (w * 2 ^ 7 + 0)
+status_above w app c =
     let same : status app c
     ≡ (2 ^ 6 * high_status c + 4 * state_number c.state + 2 * bit (not c.is_busy) + bit c.switch_error) * 2 ^ 7
     + 2 ^ 5 * bit app = omega arith in
     let none : status false c
     ≡ (2 ^ 6 * high_status c + 4 * state_number c.state + 2 * bit (not c.is_busy) + bit c.switch_error) * 2 ^ 7
     + 0 = omega arith in
-    let w = whole_status / 2 ^ 7 in
     let q = 2 ^ 6 * high_status c + 4 * state_number c.state + 2 * bit (not c.is_busy) + bit c.switch_error in
-    let some = ap (λ n. bit_and n whole_status) same
+    let some = ap (λ n. bit_and n (w * 2 ^ 7 + 0)) same
     ∙ and_block 7 q w (2 ^ 5 * bit app) 0 (omega (arith, bit_below app)) (omega arith) in
-    let zero = ap (λ n. bit_and n whole_status) none ∙ and_block 7 q w 0 0 (omega arith) (omega arith) in
+    let zero = ap (λ n. bit_and n (w * 2 ^ 7 + 0)) none ∙ and_block 7 q w 0 0 (omega arith) (omega arith) in
     omega (arith, some, zero, and_le_r (2 ^ 5 * bit app) 0, and_le_r 0 0)
+
+pub status_app : (kind : Kind) (app : Bool) (c : Card)
+    → bit_and (status app c) (whole_status kind) ≡ bit_and (status false c) (whole_status kind)
+status_app Sd app c = status_above (whole_status Sd / 2 ^ 7) app c
+status_app Mmc app c = status_above (whole_status Mmc / 2 ^ 7) app c
 
 -- What a status says of its card alone.
 
@@ -240,22 +244,22 @@ own_parts app c k =
     omega (arith, held, earlier, low, bit_below c.made.is_locked)
 
 own_errors : (kind : Kind) (app : Bool) (c : Card) → HoldsErrors c
-    → ((error_bits kind (own_status (status app c)) ≡ 0) ↔ HasNoErrorOfItsOwn kind c)
+    → Tells kind c (error_bits kind (own_status (status app c)) ≡ 0) (HasNoErrorOfItsOwn kind c)
 own_errors kind app c k =
     let own = own_parts app c k in
     let errors = errors_shown kind app (without_errors c) (refl, k.1) in (
       λ h. (let none = errors.0 (ap (error_bits kind) (sym own) ∙ h) in
           record { errors = none.errors; switch_error = none.switch_error }),
-      λ h. ap (error_bits kind) own
-          ∙ errors.1 (record { command_errors = refl; errors = h.errors; switch_error = h.switch_error }),
+      λ same h. ap (error_bits kind) own
+          ∙ errors.1 same (record { command_errors = refl; errors = h.errors; switch_error = h.switch_error }),
     )
 
 pub own_status_errors : (kind : Kind) (app : Bool) (card : Card) → IsCard card
-    → ((error_bits kind (own_status (status app card)) ≡ 0) ↔ HasNoErrorOfItsOwn kind card)
+    → Tells kind card (error_bits kind (own_status (status app card)) ≡ 0) (HasNoErrorOfItsOwn kind card)
 own_status_errors kind app c k = own_errors kind app c (k.command_errors, k.errors)
 
 pub clean_status : (kind : Kind) (app : Bool) (card : Card) → IsCard card
-    → (IsClean kind (own_status (status app card)) ↔ IsInOrder kind card)
+    → Tells kind card (IsClean kind (own_status (status app card))) (IsInOrder kind card)
 clean_status kind app c k =
     let holds : HoldsErrors c = (k.command_errors, k.errors) in
     let own = own_parts app c holds in
@@ -267,8 +271,8 @@ clean_status kind app c k =
         tran = in_state c.state Tran (ap (λ n. n == 4) (sym state ∙ h.in_tran));
         rests = one_bit c.is_busy (sym ready ∙ h.ready_for_data);
       },
-      λ h. record {
-        no_error = errors.1 h.no_error;
+      λ same h. record {
+        no_error = errors.1 same h.no_error;
         in_tran = state ∙ ap state_number h.tran;
         ready_for_data = ready ∙ ap (λ b. bit (not b)) h.rests;
       },
@@ -294,7 +298,8 @@ seen_errors : (choice : Choice) (c : Card) → AreAmong c.errors held_bits → A
 seen_errors choice c among = by_cond (λ n. AreAmong n held_bits) choice.tells_late (λ _. refl) (λ _. among)
 
 pub lagging_status : (kind : Kind) (choice : Choice) (card : Card) → IsCard card
-    → (IsAtWork kind (own_status (status false (at_work choice card))) ↔ HasNoErrorOfItsOwn kind (at_work choice card))
+    → Tells kind card (IsAtWork kind (own_status (status false (at_work choice card))))
+    (HasNoErrorOfItsOwn kind (at_work choice card))
 lagging_status kind choice c k =
     let seen = at_work choice c in
     let holds : HoldsErrors seen = (k.command_errors, seen_errors choice c k.errors) in
@@ -304,8 +309,8 @@ lagging_status kind choice c k =
     let ready = ap (field 8 8) own ∙ status_ready false (without_errors seen) in
     let works = works_by choice.shows choice.shows_ready in (
       λ h. errors.0 h.no_error,
-      λ h. record {
-        no_error = errors.1 h;
+      λ same h. record {
+        no_error = errors.1 same h;
         from_stby = along (λ n. state_number Stby ≤ n) state works.0;
         to_prg = along (λ n. n ≤ state_number Prg) state works.1;
         unready = λ tran. ready ∙ works.2 (sym state ∙ tran);

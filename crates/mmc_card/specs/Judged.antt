@@ -7,21 +7,20 @@ use Rattle.std.specs.Int.RustNames.{bit_and}
 use Rattle.mmc_frame.specs.Field.{field}
 use Rattle.mmc_frame.specs.Status.{error_mask}
 use Rattle.mmc_frame.specs.declared.kind.Kind.{Kind}
-use Rattle.mmc_frame.specs.declared.kind.Kind.TheVariants.{Mmc}
 use Rattle.mmc_frame.specs.declared.commands.TheConstants as Index
 use Rattle.mmc_regs.specs.Ocr.{window_at_3_3_volts}
 use Rattle.mmc_card.specs.Card.{Card}
 use Rattle.mmc_card.specs.CardAnswer.{CardAnswer, Checked, R2, R3, Silent, status}
 use Rattle.mmc_card.specs.Made.{is_sd}
 
--- Of a status its errors and CARD_IS_LOCKED, bit 25. The mask is eMMC's for both kinds: bit 7, SWITCH_ERROR, is reserved in
--- the status of an SD card, which leaves it 0.
-abbrev pub errors_and_lock : ℕ
-errors_and_lock = error_mask Mmc + 2 ^ 25
+-- Of a status the errors of the card's kind and CARD_IS_LOCKED, bit 25. So bit 7, SWITCH_ERROR of eMMC, is open in the status
+-- of an SD card, where it is reserved.
+abbrev pub errors_and_lock : Kind → ℕ
+errors_and_lock kind = error_mask kind + 2 ^ 25
 
 -- of the status that CMD13 asks for CURRENT_STATE and READY_FOR_DATA too, bits 12 to 8
-abbrev pub whole_status : ℕ
-whole_status = errors_and_lock + 0x1f00
+abbrev pub whole_status : Kind → ℕ
+whole_status kind = errors_and_lock kind + 0x1f00
 
 -- By the command's index: of the response to SD's CMD3 the RCA, to its CMD8 voltage and pattern, and of all others a status
 -- (SD Physical Layer 6.00, sections 4.9.5 and 4.9.6).
@@ -29,8 +28,8 @@ abbrev pub judged : Kind → ℕ → ℕ
 judged kind index =
     if (index == Index.SEND_RELATIVE_ADDR) && is_sd kind then 0xffff0000
     else if (index == Index.SEND_IF_COND) && is_sd kind then 0xfff
-    else if index == Index.SEND_STATUS then whole_status
-    else errors_and_lock
+    else if index == Index.SEND_STATUS then whole_status kind
+    else errors_and_lock kind
 
 -- as far as these bits go the two are the same
 abbrev pub Agree : ℕ → ℕ → ℕ → Type 0
@@ -53,8 +52,8 @@ IsSaid kind (R2 bytes) said = said ≡ R2 bytes
 
 -- what an R1 says of its card
 abbrev pub Shows : Card → ℕ → Type 0
-Shows card told = Agree errors_and_lock told (status false card)
+Shows card told = Agree (errors_and_lock card.made.kind) told (status false card)
 
 -- and what the R1 of CMD13 says
 abbrev pub ShowsItself : Card → ℕ → Type 0
-ShowsItself card told = Agree whole_status told (status false card)
+ShowsItself card told = Agree (whole_status card.made.kind) told (status false card)

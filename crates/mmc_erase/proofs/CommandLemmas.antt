@@ -81,7 +81,7 @@ last_law sd mmc Mmc = mmc
 -- a card that can obey shows no error in its R1
 pub shows_no_error : (kind : Kind) (held : Held) (card : Card) → ErrorsLaw → IsCard card → CanHold kind held card
     → (told : ℕ) → Shows card told → error_bits kind told ≡ 0
-shows_no_error kind held card errors k can told shows = (errors kind told card k shows).1 can.no_error
+shows_no_error kind held card errors k can told shows = (errors kind told card k shows).1 can.is_kind can.no_error
 
 -- A command that was judged, from what it does.
 module _ (kind : Kind) (after : Card) (old : BusView) (heard : Result ℕ Unheard) (new : BusView)

@@ -55,7 +55,7 @@ can_hold job kind held card named is holding = record {
   no_error = record {
     command_errors = holding.idle.quiet.command_errors;
     errors = holding.idle.quiet.errors;
-    switch_error = λ mmc. holding.idle.quiet.switch_error;
+    switch_error = λ judged mmc. holding.idle.quiet.switch_error;
   };
 }
 

@@ -187,7 +187,7 @@ Came kind ocr registers r a b =
     (λ old new. InProfile old.card.made → IsOk r) a b
 
 came : (kind : Kind) (ocr : ℕ) (registers : Registers) (r : Result Unit IdentFault) (a b c d : BusView)
-    → Begins (Ok (kind, ocr)) a b → IsRegistered kind (Ok registers) b c → Takes registers.rca r c d
+    → Begins (Ok (kind, ocr)) a b → IsRegistered kind (Ok registers) b c → Takes kind registers.rca r c d
     → Came kind ocr registers r a d
 came kind ocr registers r a b c d p q s =
     let pair = both a b c p q in
@@ -199,11 +199,12 @@ came kind ocr registers r a b c d p q s =
     (λ same profile.
     let f = all.fine same in
     let named = f.0.1 (subst InProfile (sym made) profile) is (f.0.0 profile).1 in
-    f.1 (subst InProfile (sym pair.stays.carried.made) profile) named)
+    f.1 (subst InProfile (sym pair.stays.carried.made) profile)
+    (ap (λ (m : Made). m.kind) pair.stays.carried.made ∙ sym p.own.0) named)
 
 pub take_fails : (kind : Kind) (ocr : ℕ) (registers : Registers) (fault : IdentFault) (r : Result Found IdentFault)
     (a b c d : BusView) → IsErr r → Begins (Ok (kind, ocr)) a b → IsRegistered kind (Ok registers) b c
-    → Takes registers.rca (Err fault) c d → Identifies r a d
+    → Takes kind registers.rca (Err fault) c d → Identifies r a d
 take_fails kind ocr registers fault r a b c d err p q s =
     let all = came kind ocr registers (Err fault) a b c d p q s in
     moved_as a d all (IfOk-from_err r _ err) (λ same profile. cc (all.fine same profile))
@@ -215,7 +216,7 @@ found_and_left made (Err fault) rca d is left = tt
 
 pub identified : (kind : Kind) (ocr : ℕ) (registers : Registers) (r : Result Found IdentFault) (a b c d : BusView)
     → r ≡ judged.found kind ocr registers.rca registers.cid registers.csd → StandardTaken → HighTaken → MmcTaken
-    → Begins (Ok (kind, ocr)) a b → IsRegistered kind (Ok registers) b c → Takes registers.rca (Ok tt) c d
+    → Begins (Ok (kind, ocr)) a b → IsRegistered kind (Ok registers) b c → Takes kind registers.rca (Ok tt) c d
     → Identifies r a d
 identified kind ocr registers r a b c d e standard high mmc p q s =
     let all = came kind ocr registers (Ok tt) a b c d p q s in

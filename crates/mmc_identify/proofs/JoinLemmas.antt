@@ -13,7 +13,7 @@ use Rattle.mmc_card.specs.Card.{Card, IsCard, is_in, is_selected, patience}
 use Rattle.mmc_card.specs.Made.{Made, is_sd}
 use Rattle.mmc_card.specs.Profile.{InProfile}
 use Rattle.mmc_bus.specs.declared.cause.Cause.{Cause}
-use Rattle.mmc_bus.specs.Learned.{may_fail}
+use Rattle.mmc_bus.specs.Learned.{Stays, may_fail}
 use Rattle.mmc_bus.specs.Work.{Moved, Narrows, Worked}
 use Rattle.mmc_bus.proofs.WorkLemmas.{both, moved_as, moved_none, moved_on, moved_then, quiet_parts, refuted}
 use Rattle.mmc_identify.specs.Stages.{CanStart, HasTold, IsIdle, IsLeft, IsNamed, IsResting, IsSelected, IsTaken, Looks, echoes}
@@ -122,62 +122,67 @@ waited rca polls r a b cases same calm p =
 -- Statuses.
 
 -- One status.
-abbrev pub AsksStatus : ℕ → Result Closing IdentFault → BusView → BusView → Type 0
-AsksStatus rca r a b =
+abbrev pub AsksStatus : Kind → ℕ → Result Closing IdentFault → BusView → BusView → Type 0
+AsksStatus kind rca r a b =
     Moved (λ old new. Looks rca old.card → LooksAfter rca r new.card)
-    (λ old new. InProfile old.card.made → (waits : ℕ) → IsResting rca waits old.card → RestsAfter rca waits r new.card) a b
+    (λ old new. InProfile old.card.made → old.card.made.kind ≡ kind → (waits : ℕ) → IsResting rca waits old.card
+    → RestsAfter rca waits r new.card) a b
 
 -- So many showed the card at work.
-abbrev pub IsAtWorkStill : ℕ → ℕ → BusView → BusView → Type 0
-IsAtWorkStill rca statuses a b =
+abbrev pub IsAtWorkStill : Kind → ℕ → ℕ → BusView → BusView → Type 0
+IsAtWorkStill kind rca statuses a b =
     Moved (λ old new. Looks rca old.card → Looks rca new.card)
-    (λ old new. InProfile old.card.made → (waits : ℕ) → IsResting rca waits old.card
+    (λ old new. InProfile old.card.made → old.card.made.kind ≡ kind → (waits : ℕ) → IsResting rca waits old.card
     → IsResting rca (waits + statuses) new.card) a b
 
-abbrev pub Confirms : ℕ → ℕ → Result Unit IdentFault → BusView → BusView → Type 0
-Confirms rca polls r a b =
+abbrev pub Confirms : Kind → ℕ → ℕ → Result Unit IdentFault → BusView → BusView → Type 0
+Confirms kind rca polls r a b =
     Moved (λ old new. Looks rca old.card → IsOk r → IsLeft rca new.card)
-    (λ old new. InProfile old.card.made → IsResting rca polls old.card → IsOk r) a b
+    (λ old new. InProfile old.card.made → old.card.made.kind ≡ kind → IsResting rca polls old.card → IsOk r) a b
 
-pub no_status_yet : (rca : ℕ) (a : BusView) → a.is_kept ≡ true → IsCard a.card → IsAtWorkStill rca 0 a a
-no_status_yet rca a kept card =
+-- a card is of the kind that it was
+still_of : (kind : Kind) (a b : BusView) → Stays a b → a.card.made.kind ≡ kind → b.card.made.kind ≡ kind
+still_of kind a b stays is = ap (λ (m : Made). m.kind) stays.carried.made ∙ is
+
+pub no_status_yet : (kind : Kind) (rca : ℕ) (a : BusView) → a.is_kept ≡ true → IsCard a.card → IsAtWorkStill kind rca 0 a a
+no_status_yet kind rca a kept card =
     moved_none a kept card (λ looks. looks)
-    (λ profile waits resting. subst (λ n. IsResting rca n a.card) (omega arith) resting)
+    (λ profile of waits resting. subst (λ n. IsResting rca n a.card) (omega arith) resting)
 
 -- the next one too
-pub still_at_work : (rca statuses : ℕ) (a b c : BusView) → IsAtWorkStill rca statuses a b → AsksStatus rca (Ok AtWork) b c
-    → IsAtWorkStill rca (statuses + 1) a c
-still_at_work rca statuses a b c p q =
+pub still_at_work : (kind : Kind) (rca statuses : ℕ) (a b c : BusView) → IsAtWorkStill kind rca statuses a b → AsksStatus kind rca (Ok AtWork) b c
+    → IsAtWorkStill kind rca (statuses + 1) a c
+still_at_work kind rca statuses a b c p q =
     moved_then a b c p q (λ looks. q.own (p.own looks))
-    (λ same profile waits resting.
+    (λ same profile of waits resting.
     let parts = quiet_parts a b c p.stays q.stays same in
-    let was = p.fine parts.0 profile waits resting in
+    let was = p.fine parts.0 profile of waits resting in
     let sum : waits + statuses + 1 ≡ waits + (statuses + 1) = omega arith in
     subst (λ n. IsResting rca n c.card) sum
-    (q.fine parts.1 (subst InProfile (sym p.stays.carried.made) profile) (waits + statuses) was))
+    (q.fine parts.1 (subst InProfile (sym p.stays.carried.made) profile) (still_of kind a b p.stays of) (waits + statuses) was))
 
 -- it is clean
-pub found_clean : (rca polls statuses : ℕ) (a b c : BusView) → IsAtWorkStill rca statuses a b → AsksStatus rca (Ok Clean) b c
-    → Confirms rca polls (Ok tt) a c
-found_clean rca polls statuses a b c p q =
-    moved_then a b c p q (λ looks ok. q.own (p.own looks)) (λ same profile resting. refl)
+pub found_clean : (kind : Kind) (rca polls statuses : ℕ) (a b c : BusView) → IsAtWorkStill kind rca statuses a b → AsksStatus kind rca (Ok Clean) b c
+    → Confirms kind rca polls (Ok tt) a c
+found_clean kind rca polls statuses a b c p q =
+    moved_then a b c p q (λ looks ok. q.own (p.own looks)) (λ same profile of resting. refl)
 
 -- none comes, or one with an error
-pub asked_in_vain : (rca polls statuses : ℕ) (fault : IdentFault) (r : Result Unit IdentFault) (a b c : BusView) → IsErr r
-    → IsAtWorkStill rca statuses a b → AsksStatus rca (Err fault) b c → Confirms rca polls r a c
-asked_in_vain rca polls statuses fault r a b c err p q =
+pub asked_in_vain : (kind : Kind) (rca polls statuses : ℕ) (fault : IdentFault) (r : Result Unit IdentFault) (a b c : BusView) → IsErr r
+    → IsAtWorkStill kind rca statuses a b → AsksStatus kind rca (Err fault) b c → Confirms kind rca polls r a c
+asked_in_vain kind rca polls statuses fault r a b c err p q =
     moved_then a b c p q (λ looks ok. refuted r err ok)
-    (λ same profile resting.
+    (λ same profile of resting.
     let parts = quiet_parts a b c p.stays q.stays same in
-    let was = p.fine parts.0 profile polls resting in
-    absurd (q.fine parts.1 (subst InProfile (sym p.stays.carried.made) profile) (polls + statuses) was))
+    let was = p.fine parts.0 profile of polls resting in
+    absurd (q.fine parts.1 (subst InProfile (sym p.stays.carried.made) profile) (still_of kind a b p.stays of) (polls + statuses) was))
 
 -- so many times at work take a fault
-pub asked_too_often : (rca polls statuses : ℕ) (r : Result Unit IdentFault) (a b : BusView) → IsErr r
-    → patience < polls + statuses → IsAtWorkStill rca statuses a b → Confirms rca polls r a b
-asked_too_often rca polls statuses r a b err many p =
+pub asked_too_often : (kind : Kind) (rca polls statuses : ℕ) (r : Result Unit IdentFault) (a b : BusView) → IsErr r
+    → patience < polls + statuses → IsAtWorkStill kind rca statuses a b → Confirms kind rca polls r a b
+asked_too_often kind rca polls statuses r a b err many p =
     moved_as a b p (λ looks ok. refuted r err ok)
-    (λ same profile resting. let few = (p.fine same profile polls resting).few in absurd (omega (arith, few, many)))
+    (λ same profile of resting. let few = (p.fine same profile of polls resting).few in absurd (omega (arith, few, many)))
 
 -- From stby to tran.
 
@@ -186,26 +191,26 @@ Selects rca r a b =
     Moved (λ old new. IsOk r → Looks rca new.card)
     (λ old new. InProfile old.card.made → IsNamed rca old.card → IsOk r × IsTaken rca new.card) a b
 
-abbrev pub Takes : ℕ → Result Unit IdentFault → BusView → BusView → Type 0
-Takes rca r a b =
+abbrev pub Takes : Kind → ℕ → Result Unit IdentFault → BusView → BusView → Type 0
+Takes kind rca r a b =
     Moved (λ old new. IsOk r → IsLeft rca new.card)
-    (λ old new. InProfile old.card.made → IsNamed rca old.card → IsOk r) a b
+    (λ old new. InProfile old.card.made → old.card.made.kind ≡ kind → IsNamed rca old.card → IsOk r) a b
 
-pub taken : (rca polls : ℕ) (r : Result Unit IdentFault) (a b c d : BusView) → Selects rca (Ok tt) a b
-    → Waits rca (Ok polls) b c → Confirms rca polls r c d → Takes rca r a d
-taken rca polls r a b c d p q s =
+pub taken : (kind : Kind) (rca polls : ℕ) (r : Result Unit IdentFault) (a b c d : BusView) → Selects rca (Ok tt) a b
+    → Waits rca (Ok polls) b c → Confirms kind rca polls r c d → Takes kind rca r a d
+taken kind rca polls r a b c d p q s =
     let pair = both a b c p q in
     let all = both a c d pair s in
     moved_as a d all (λ ok. s.own (q.own refl (p.own refl)) ok)
-    (λ same profile at.
+    (λ same profile of at.
     let f = all.fine same in
-    f.1 (subst InProfile (sym pair.stays.carried.made) profile) (f.0.1 (f.0.0 profile at).1))
+    f.1 (subst InProfile (sym pair.stays.carried.made) profile) (still_of kind a c pair.stays of) (f.0.1 (f.0.0 profile at).1))
 
-pub take_fails : (rca : ℕ) (fault : IdentFault) (r : Result Unit IdentFault) (a b c : BusView) → IsErr r
-    → Selects rca (Ok tt) a b → Waits rca (Err fault) b c → Takes rca r a c
-take_fails rca fault r a b c err p q =
+pub take_fails : (kind : Kind) (rca : ℕ) (fault : IdentFault) (r : Result Unit IdentFault) (a b c : BusView) → IsErr r
+    → Selects rca (Ok tt) a b → Waits rca (Err fault) b c → Takes kind rca r a c
+take_fails kind rca fault r a b c err p q =
     let pair = both a b c p q in
-    moved_as a c pair (λ ok. refuted r err ok) (λ same profile at. let f = pair.fine same in absurd (f.1 (f.0 profile at).1))
+    moved_as a c pair (λ ok. refuted r err ok) (λ same profile of at. let f = pair.fine same in absurd (f.1 (f.0 profile at).1))
 
 -- From idle to ready.
 

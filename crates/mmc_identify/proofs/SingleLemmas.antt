@@ -247,9 +247,9 @@ lags_unlocked rca choice card is lock =
 pub told_unlocked : (rca told : ℕ) (old new : Card) → IsSelected rca old → InProfile old.made → LockLaw
     → TellsStatus old told new → field 25 25 told ≡ 0
 told_unlocked rca told old new is profile locked (inl itself) =
-    shows_unlocked rca told old is profile locked (less told _ itself.0)
+    shows_unlocked rca told old is profile locked (less old.made.kind told _ itself.0)
 told_unlocked rca told old new is profile locked (inr behind) =
-    locked told (at_work behind.choice old) (less told _ behind.told_is)
+    locked told (at_work behind.choice old) (less old.made.kind told _ behind.told_is)
     ∙ lags_unlocked rca behind.choice old is profile.unlocked
 
 -- what a clean status leaves
@@ -296,7 +296,7 @@ closing_fine rca waits kind old new (Err fault) closes soon resting = soon
 -- a card that rests is in order
 pub resting_in_order : (rca waits : ℕ) (kind : Kind) (card : Card) → IsResting rca waits card → IsInOrder kind card
 resting_in_order rca waits kind card resting = record {
-  no_error = record { errors = resting.selected.errors; switch_error = λ mmc. resting.selected.switch_error };
+  no_error = record { errors = resting.selected.errors; switch_error = λ judged mmc. resting.selected.switch_error };
   tran = resting.selected.state;
   rests = resting.rests;
 }

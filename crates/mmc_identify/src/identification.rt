@@ -122,7 +122,7 @@ fn take<B: Bus>(bus: &mut B, kind: Kind, rca: u16) -> Result<(), IdentFault>
     ensures bounded { (B.view bus.new).exchanges ≤ (B.view bus.old).exchanges + 18 }
     ensures lines { (B.view bus.new).lines ≡ (B.view bus.old).lines }
     ensures moves { Moves (λ old new. IsOk result → IsLeft rca new.card)
-        (λ old new. InProfile old.card.made → IsNamed rca old.card → IsOk result)
+        (λ old new. InProfile old.card.made → old.card.made.kind ≡ kind → IsNamed rca old.card → IsOk result)
         (B.view bus.old) (B.view bus.new) }
 {
     select(bus, rca)?;

@@ -69,7 +69,8 @@ pub fn ask_status<B: Bus>(bus: &mut B, kind: Kind, rca: u16) -> Result<Closing, 
     ensures bounded { (B.view bus.new).exchanges ≤ (B.view bus.old).exchanges + 1 }
     ensures lines { (B.view bus.new).lines ≡ (B.view bus.old).lines }
     ensures moves { Moves (λ old new. Looks rca old.card → LooksAfter rca result new.card)
-        (λ old new. InProfile old.card.made → (waits : ℕ) → IsResting rca waits old.card → RestsAfter rca waits result new.card)
+        (λ old new. InProfile old.card.made → old.card.made.kind ≡ kind → (waits : ℕ) → IsResting rca waits old.card
+        → RestsAfter rca waits result new.card)
         (B.view bus.old) (B.view bus.new) }
 {
     identify_laws::cmd13_tells_the_status();
@@ -85,7 +86,7 @@ pub fn confirm<B: Bus>(bus: &mut B, kind: Kind, rca: u16, polls: u64) -> Result<
     ensures bounded { (B.view bus.new).exchanges + polls ≤ (B.view bus.old).exchanges + MAX_POLLS }
     ensures lines { (B.view bus.new).lines ≡ (B.view bus.old).lines }
     ensures moves { Moves (λ old new. Looks rca old.card → IsOk result → IsLeft rca new.card)
-        (λ old new. InProfile old.card.made → IsResting rca polls old.card → IsOk result)
+        (λ old new. InProfile old.card.made → old.card.made.kind ≡ kind → IsResting rca polls old.card → IsOk result)
         (B.view bus.old) (B.view bus.new) }
 {
     for _statuses in 0..MAX_POLLS - polls {

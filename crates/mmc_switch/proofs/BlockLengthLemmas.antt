@@ -1,5 +1,5 @@
 -- Blocks of 512 bytes, by CMD16.
-use Rattle.std.proofs.Common.{◌∙◌, ◌≡◌, ◌↔◌, ap, false, refl, subst, sym, ℕ}
+use Rattle.std.proofs.Common.{◌∙◌, ◌≡◌, ap, false, refl, subst, sym, ℕ}
 use Rattle.std.specs.Prelude.{IsOk, None, Ok, Result, Some}
 use Rattle.mmc_frame.specs.Status.{error_bits, own_status}
 use Rattle.mmc_frame.specs.declared.card_state.State.TheVariants.{Tran}
@@ -7,7 +7,7 @@ use Rattle.mmc_frame.specs.declared.kind.Kind.{Kind}
 use Rattle.mmc_card.specs.BusView.{BusView}
 use Rattle.mmc_card.specs.Card.{Card, IsCard, is_writing}
 use Rattle.mmc_card.specs.CardAnswer.{shown}
-use Rattle.mmc_card.specs.CardLaws.{HasNoError}
+use Rattle.mmc_card.specs.CardLaws.{HasNoError, Tells}
 use Rattle.mmc_card.specs.Laws.{erased_by}
 use Rattle.mmc_card.specs.RowsErase.{forgotten}
 use Rattle.mmc_bus.proofs.WorkLemmas.{moved_by}
@@ -51,23 +51,23 @@ pub length_set : (kind : Kind) (heard : Result ℕ Unheard) (r : Result Unit Cau
     → Kept old (CommandFacts (response_of 16) old 16 512 heard new) new
     → Does (old.card.state ≡ Tran) ShowsDropped
     (record (shown (forgotten old.card)) { block_length = 512 }) old heard new
-    → ((told : ℕ) → Shows old.card told → ((error_bits kind told ≡ 0) ↔ HasNoError kind old.card))
+    → ((told : ℕ) → Shows old.card told → Tells kind old.card (error_bits kind told ≡ 0) (HasNoError kind old.card))
     → (IsOk r → (told : ℕ) × (heard ≡ Ok told) × (error_bits kind (own_status told) ≡ 0))
     → ((told : ℕ) → heard ≡ Ok told → error_bits kind told ≡ 0 → IsOk r)
     → Moved (λ old new. (rca : ℕ) → IsLeft rca old.card → old.lines ≡ first_lines → IsOk r
     → IsSet false (first_setting rca) new)
-    (λ old new. (rca : ℕ) → IsLeft rca old.card → IsOk r) old new
+    (λ old new. (rca : ℕ) → old.card.made.kind ≡ kind → IsLeft rca old.card → IsOk r) old new
 length_set kind heard r old new none lines k does clean ok all =
     moved_by old 16 512 heard new none k
     (λ rca left first good.
     let told = ok good in
     set_after rca old new k.was_card left first lines (does.sound told.0 told.1).2)
-    (λ same rca left.
+    (λ same rca of left.
     let is = left.selected in
     let told = (does.fine same is.state).0 in
     all told.0 told.1
-    ((clean told.0 (shows_itself old.card told.0 is.erase told.2)).1 (record {
+    ((clean told.0 (shows_itself old.card told.0 is.erase told.2)).1 of (record {
       command_errors = is.command_errors;
       errors = is.errors;
-      switch_error = λ mmc. is.switch_error;
+      switch_error = λ judged mmc. is.switch_error;
     })))

@@ -240,12 +240,12 @@ module _ (session : Session) (change : Change) (Exact : Ending → Card → Type
         let is_rca : a.card.rca ≡ session.info.rca =
         ap (λ (s : Setting). s.rca) (set_in session a some at.stands selected) in
         let order : IsInOrder session.info.kind a.card = record {
-          no_error = record { errors = idle.quiet.errors; switch_error = λ mmc. idle.quiet.switch_error };
+          no_error = record { errors = idle.quiet.errors; switch_error = λ judged mmc. idle.quiet.switch_error };
           tran = idle.quiet.state;
           rests = idle.rests;
         } in
         never_fails waits a.card b.card closing fails (ends.lags waits a.card rests)
-        (work.fine quiet order idle.quiet.app is_rca))
+        (work.fine quiet (sym at.knows.info.kind, order) idle.quiet.app is_rca))
 
     -- it shows the card at work
     works_on : Confirms session.info.kind session.info.rca (Ok AtWork) a b

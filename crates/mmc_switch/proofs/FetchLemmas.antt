@@ -43,12 +43,12 @@ Commands Asks IsThere bytes timing r a b =
 pub commanded : {Asks IsThere : Type 0} (kind : Kind) (bytes : List ℕ) (timing : Timing) (a : BusView)
     (index argument : ℕ) (heard : Result ℕ Unheard) (b : BusView) (r : Result Unit Cause)
     → Asked (response_heard index) (response_of index) a index argument heard b → b.is_kept ≡ true
-    → erased_by a.card (Some (index, argument)) ≡ None → ErrorsLaw
+    → erased_by a.card (Some (index, argument)) ≡ None → ErrorsLaw → (Asks → IsThere → a.card.made.kind ≡ kind)
     → (IsOk r → (told : ℕ) × (heard ≡ Ok told) × (error_bits kind (own_status told) ≡ 0))
     → ((told : ℕ) → heard ≡ Ok told → error_bits kind told ≡ 0 → IsOk r)
     → (Asks → Does IsThere ShowsDropped (sending bytes timing (forgotten a.card)) a heard b)
     → Commands Asks IsThere bytes timing r a b
-commanded kind bytes timing a index argument heard b r asked kept none errors judged judges law =
+commanded kind bytes timing a index argument heard b r asked kept none errors of judged judges law =
     let k = asked.exchanged.kept kept in
     let after = sending bytes timing (forgotten a.card) in
     moved_by a index argument heard b none k
@@ -57,7 +57,7 @@ commanded kind bytes timing a index argument heard b r asked kept none errors ju
       (carried_out kind ShowsDropped after a heard b r judged (law asks) ok).1,
     ))
     (λ same is_app asks there rest.
-    answers_well kind is_app after a heard b r errors k.was_card judges (law asks) same rest there)
+    answers_well kind is_app after a heard b r errors k.was_card (of asks there) judges (law asks) same rest there)
 
 -- The block.
 

@@ -11,7 +11,7 @@ use Rattle.mmc_card.specs.declared.exchange.Width.{Width}
 use Rattle.mmc_card.specs.BusView.{BusView}
 use Rattle.mmc_card.specs.Card.{Card, Held, IsCard, NoAddress, Source}
 use Rattle.mmc_card.specs.CardAnswer.{shown}
-use Rattle.mmc_card.specs.CardLaws.{HasNoError}
+use Rattle.mmc_card.specs.CardLaws.{HasNoError, Tells}
 use Rattle.mmc_card.specs.Faults.{NoFault}
 use Rattle.mmc_card.specs.Laws.{Setting, setting_of}
 use Rattle.mmc_card.specs.Rows.{without_addresses}
@@ -34,7 +34,7 @@ shows_itself card told none shows = subst (λ (c : Card). Shows c told) (nothing
 
 pub no_error : (kind : Kind) (is_app : Bool) (card : Card) → IsAtRest is_app card → HasNoError kind card
 no_error kind is_app card rest =
-    record { command_errors = rest.command_errors; errors = rest.errors; switch_error = λ mmc. rest.switch_error }
+    record { command_errors = rest.command_errors; errors = rest.errors; switch_error = λ judged mmc. rest.switch_error }
 
 -- an R1 without an error comes from where the command is carried out
 pub carried_out : {IsThere : Type 0} (kind : Kind) (Tells : Card → ℕ → Type 0) (after : Card) (old : BusView)
@@ -46,22 +46,22 @@ carried_out kind Tells after old heard new r judged does ok =
     let s = does.sound t.0 t.1 in
     (s.0, s.2)
 
--- the error bits of a status are 0 just where its card holds no error
+-- the error bits of a status tell whether its card holds an error
 abbrev pub ErrorsLaw : Type 0
 ErrorsLaw =
     (kind : Kind) (told : ℕ) (card : Card) → IsCard card → Shows card told
-    → ((error_bits kind told ≡ 0) ↔ HasNoError kind card)
+    → Tells kind card (error_bits kind told ≡ 0) (HasNoError kind card)
 
 -- without a fault a card at rest tells of no error
 pub answers_well : {IsThere : Type 0} (kind : Kind) (is_app : Bool) (after : Card) (old : BusView)
-    (heard : Result ℕ Unheard) (new : BusView) (r : Result Unit Cause) → ErrorsLaw → IsCard old.card
+    (heard : Result ℕ Unheard) (new : BusView) (r : Result Unit Cause) → ErrorsLaw → IsCard old.card → old.card.made.kind ≡ kind
     → ((status : ℕ) → heard ≡ Ok status → error_bits kind status ≡ 0 → IsOk r)
     → Does IsThere ShowsDropped after old heard new → NoFault old new
     → IsAtRest is_app old.card → IsThere → IsOk r
-answers_well kind is_app after old heard new r errors card judges does same rest there =
+answers_well kind is_app after old heard new r errors card of judges does same rest there =
     let told = (does.fine same there).0 in
     let shows = shows_itself old.card told.0 rest.erase told.2 in
-    judges told.0 told.1 ((errors kind told.0 old.card card shows).1 (no_error kind is_app old.card rest))
+    judges told.0 told.1 ((errors kind told.0 old.card card shows).1 of (no_error kind is_app old.card rest))
 
 -- A card that has shown its errors, in this state, with these lines, this timing and this block length.
 abbrev pub left_as : Bool → State → Source → Width → Timing → ℕ → Card → Card

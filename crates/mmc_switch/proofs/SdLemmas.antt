@@ -447,15 +447,17 @@ timing_fails rca switches scr width cause r a b err p =
 
 -- a card at rest is confirmed without a fault
 confirmed_fine : (rca : ℕ) (width : Width) (timing : Timing) (r : Result Unit Cause) (a b : BusView)
-    → ConfirmsOnce Sd rca r a b → NoFault a b → IsSet false (user_setting rca width timing 0) a → IsOk r
-confirmed_fine rca width timing r a b p same set =
+    → ConfirmsOnce Sd rca r a b → NoFault a b → a.card.made.kind ≡ Sd → IsSet false (user_setting rca width timing 0) a → IsOk r
+confirmed_fine rca width timing r a b p same sd set =
     let rest = set.rest in
-    p.fine same
-    (record {
-      no_error = record { errors = rest.errors; switch_error = λ mmc. rest.switch_error };
-      tran = rest.state;
-      rests = rest.rests;
-    }) rest.app
+    p.fine same (
+      sd,
+      record {
+        no_error = record { errors = rest.errors; switch_error = λ judged mmc. rest.switch_error };
+        tran = rest.state;
+        rests = rest.rests;
+      },
+    ) rest.app
     (ap (λ (s : Setting). s.rca) set.is_set) rest.up_to_date
 
 pub confirm_fails : (rca : ℕ) (switches : Bool) (scr : ℕ) (width : Width) (timing : Timing) (cause : Cause)
@@ -466,7 +468,7 @@ confirm_fails rca switches scr width timing cause r a b c err p q =
     (λ same sd class set.
     refuted {X = Unit {0}} (Err cause) refl
     (confirmed_fine rca width timing (Err cause) b c q (quiet_parts a b c p.stays q.stays same).1
-    (p.own sd class set).2.1))
+    (sd_then a b p.stays sd) (p.own sd class set).2.1))
 
 pub set_up : (rca : ℕ) (switches : Bool) (scr : ℕ) (width : Width) (timing : Timing) (a b c : BusView)
     → HasTiming rca switches scr width (Ok timing) a b → ConfirmsOnce Sd rca (Ok tt) b c

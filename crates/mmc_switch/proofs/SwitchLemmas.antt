@@ -17,7 +17,7 @@ use Rattle.mmc_card.specs.Blocks.{rested}
 use Rattle.mmc_card.specs.BusView.{BusView}
 use Rattle.mmc_card.specs.Card.{Card, NoAddress, is_in, stored}
 use Rattle.mmc_card.specs.CardAnswer.{shown}
-use Rattle.mmc_card.specs.CardLaws.{HasNoError, IsInOrder}
+use Rattle.mmc_card.specs.CardLaws.{HasNoError, IsInOrder, Tells}
 use Rattle.mmc_card.specs.Faults.{NoFault}
 use Rattle.mmc_card.specs.Laws.{Setting, StandsIn, StillStands, erased_by, setting_of}
 use Rattle.mmc_card.specs.Made.{Made}
@@ -25,6 +25,7 @@ use Rattle.mmc_card.specs.RowsSwitch.{access_switched, accessed, part_accessed, 
 use Rattle.mmc_card.specs.RowsSwitch.{write_byte}
 use Rattle.mmc_bus.specs.declared.cause.Cause.{Cause}
 use Rattle.mmc_bus.specs.declared.host.Unheard.{Unheard}
+use Rattle.mmc_bus.specs.Closings.{WillBeClean}
 use Rattle.mmc_bus.specs.CommandLaws.{Switches as Written}
 use Rattle.mmc_bus.specs.Exchanges.{Kept}
 use Rattle.mmc_bus.specs.Heard.{response_of}
@@ -53,7 +54,7 @@ pub requested : (argument : ℕ) (heard : Result ℕ Unheard) (r : Result Unit C
     → Kept old (CommandFacts (response_of 6) old 6 argument heard new) new
     → ((after : Card) → old.card.made.kind ≡ Mmc → old.card.erase ≡ NoAddress → switched old.card argument ≡ Some after
     → Written after old heard new)
-    → ((told : ℕ) → Shows old.card told → ((error_bits Mmc told ≡ 0) ↔ HasNoError Mmc old.card))
+    → ((told : ℕ) → Shows old.card told → Tells Mmc old.card (error_bits Mmc told ≡ 0) (HasNoError Mmc old.card))
     → (IsOk r → (told : ℕ) × (heard ≡ Ok told) × (error_bits Mmc (own_status told) ≡ 0))
     → ((told : ℕ) → heard ≡ Ok told → error_bits Mmc told ≡ 0 → IsOk r) → Requests argument r old new
 requested argument heard r old new none lines k law clean ok all =
@@ -64,7 +65,7 @@ requested argument heard r old new none lines k law clean ok all =
     (λ same after mmc rest to.
     let does = (law after mmc rest.erase to).fine same rest.state in
     let told = does.0 in (
-      all told.0 told.1 ((clean told.0 told.2).1 (no_error Mmc false old.card rest)),
+      all told.0 told.1 ((clean told.0 told.2).1 mmc (no_error Mmc false old.card rest)),
       does.1,
     ))
 
@@ -152,18 +153,21 @@ rest_again old after new rest erase e =
 
 ordered : (after : Card) → IsInOrder Mmc (rested (programs_switch after))
 ordered after = record {
-  no_error = record { errors = refl; switch_error = λ mmc. refl };
+  no_error = record { errors = refl; switch_error = λ judged mmc. refl };
   tran = refl;
   rests = refl;
 }
 
 -- a clean status behind the busy time rules SWITCH_ERROR out
-unfailed : (card : Card) (X : Type 0) → IsInOrder Mmc (rested card) → X ⊎ (card.switch_error ≡ true) → X
-unfailed card X order (inl is) = is
-unfailed card X order (inr error) =
+unfailed : (card : Card) (X : Type 0) → card.made.kind ≡ Mmc → IsInOrder Mmc (rested card)
+    → X ⊎ (card.switch_error ≡ true) → X
+unfailed card X mmc order (inl is) = is
+unfailed card X mmc order (inr error) =
+    let of : (rested card).made.kind ≡ card.made.kind =
+    by_cond (λ (d : Card). d.made.kind ≡ card.made.kind) (is_in card.state Prg) (λ _. refl) (λ _. refl) in
     let stays : (rested card).switch_error ≡ card.switch_error =
     by_cond (λ (d : Card). d.switch_error ≡ card.switch_error) (is_in card.state Prg) (λ _. refl) (λ _. refl) in
-    cc (order.no_error.switch_error refl, stays, error)
+    cc (order.no_error.switch_error refl (of ∙ mmc), stays, error)
 
 pub switches : (rca argument : ℕ) (request r : Result Unit Cause) (a b c : BusView) → IsOk request
     → Requests argument request a b → Ended Mmc rca r b c → Switches rca argument r a c
@@ -175,14 +179,17 @@ switches rca argument request r a b c good p q =
     })
     (narrows_then a b c p.sectors q.sectors)
     (λ after mmc rest to ok.
-    let is = unfailed b.card (b.card ≡ programs_switch after) (q.own ok).0 (p.own after mmc rest to good) in
+    let mmc_still = ap (λ (m : Made). m.kind) p.stays.carried.made ∙ mmc in
+    let is = unfailed b.card (b.card ≡ programs_switch after) mmc_still (q.own ok).0 (p.own after mmc rest to good) in
     rest_again a.card after c.card rest (keeps a.card after argument to).0
     ((q.own ok).1 ∙ ap (λ card. record (shown (rested card)) { polled = c.card.polled }) is))
     (λ same after mmc rest is_rca to.
     let parts = quiet_parts a b c p.stays q.stays same in
     let back = sym (p.fine parts.0 after mmc rest to).1 in
-    q.fine parts.1 (ap (λ (card : Card). card.polled) (sym back)) (subst (λ card. IsInOrder Mmc (rested card)) back
-    (ordered after)) (ap (λ card. (rested card).app) (sym back))
+    let of : after.made.kind ≡ Mmc =
+    ap (λ (card : Card). card.made.kind) back ∙ ap (λ (m : Made). m.kind) p.stays.carried.made ∙ mmc in
+    q.fine parts.1 (ap (λ (card : Card). card.polled) (sym back)) (subst (λ card. WillBeClean Mmc (rested card)) back
+    (of, ordered after)) (ap (λ card. (rested card).app) (sym back))
     (ap (λ card. (rested card).rca) (sym back) ∙ (keeps a.card after argument to).1 ∙ is_rca))
 
 -- Erase groups, width and speed.

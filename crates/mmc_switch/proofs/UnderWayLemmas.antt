@@ -184,7 +184,7 @@ module _ (session : Session) (view : BusView) (some : IsSome session.selected) (
 
 pub no_error : (kind : Kind) (count : ℕ) (card : Card) → IsQuiet Tran count card → HasNoError kind card
 no_error kind count card quiet =
-    record { command_errors = quiet.command_errors; errors = quiet.errors; switch_error = λ mmc. quiet.switch_error }
+    record { command_errors = quiet.command_errors; errors = quiet.errors; switch_error = λ judged mmc. quiet.switch_error }
 
 -- A card in tran with nothing to do is ready.
 pub ready_again : (session : Session) (view : BusView) → IsCard view.card → Knows session view

@@ -318,11 +318,11 @@ by_kind kind found r a b is p =
     moved_as a b p (λ own set. p.own (sym own.kind ∙ is) own set)
     (λ same profile own set. p.fine same (sym own.kind ∙ is) profile own set)
 
-abbrev pub SetsLength : Result Unit Cause → BusView → BusView → Type 0
-SetsLength r a b =
+abbrev pub SetsLength : Kind → Result Unit Cause → BusView → BusView → Type 0
+SetsLength kind r a b =
     Moved (λ old new. (rca : ℕ) → IsLeft rca old.card → old.lines ≡ first_lines → IsOk r
     → IsSet false (first_setting rca) new)
-    (λ old new. (rca : ℕ) → IsLeft rca old.card → IsOk r) a b
+    (λ old new. (rca : ℕ) → old.card.made.kind ≡ kind → IsLeft rca old.card → IsOk r) a b
 
 -- from tran as identification leaves it
 abbrev pub WidensLeft : Found → Result Session SwitchFault → BusView → BusView → Type 0
@@ -334,13 +334,13 @@ WidensLeft found r a b =
     → old.lines ≡ first_lines → IsOk r) a b
 
 pub length_fails : (found : Found) (length : Result Unit Cause) (r : Result Session SwitchFault) (a b : BusView)
-    → IsErr r → false ≡ is_ok length → SetsLength length a b → WidensLeft found r a b
+    → IsErr r → false ≡ is_ok length → SetsLength found.kind length a b → WidensLeft found r a b
 length_fails found length r a b err fails p =
     moved_as a b p (λ own left lines. IfOk-from_err r _ err)
-    (λ same profile own left lines. failed length fails (p.fine same found.rca left))
+    (λ same profile own left lines. failed length fails (p.fine same found.rca (sym own.kind) left))
 
 pub widened : (found : Found) (length : Result Unit Cause) (r : Result Session SwitchFault) (a b c : BusView)
-    → true ≡ is_ok length → SetsLength length a b → Widens found r b c → WidensLeft found r a c
+    → true ≡ is_ok length → SetsLength found.kind length a b → Widens found r b c → WidensLeft found r a c
 widened found length r a b c ok p q =
     let pair = both a b c p q in
     let back = sym p.stays.carried.made in

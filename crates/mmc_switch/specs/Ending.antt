@@ -4,9 +4,8 @@ use Rattle.std.specs.Prelude.{◌+◌, ◌-◌, ◌<◌, ◌≡◌, Bool, Err, N
 use Rattle.mmc_frame.specs.declared.kind.Kind.{Kind}
 use Rattle.mmc_card.specs.BusView.{BusView}
 use Rattle.mmc_card.specs.Card.{Card, is_selected, patience}
-use Rattle.mmc_card.specs.CardLaws.{IsInOrder}
 use Rattle.mmc_card.specs.Sectors.{Change}
-use Rattle.mmc_bus.specs.Closings.{Closes, ClosesSoon}
+use Rattle.mmc_bus.specs.Closings.{Closes, ClosesSoon, WillBeClean}
 use Rattle.mmc_bus.specs.Learned.{PollFacts}
 use Rattle.mmc_bus.specs.Work.{Anything, Narrows, Worked}
 use Rattle.mmc_bus.specs.declared.cause.Cause.{Cause}
@@ -37,7 +36,7 @@ Polls said = Worked Narrows (λ old new. PollFacts old said new) Anything
 abbrev pub Confirms : Kind → ℕ → Result Closing Cause → BusView → BusView → Type 0
 Confirms kind rca result =
     Worked Narrows (λ old new. Closes kind result old.card new.card)
-    (λ old new. IsInOrder kind old.card → old.card.app ≡ false → old.card.rca ≡ rca → ClosesSoon result old.card new.card)
+    (λ old new. WillBeClean kind old.card → old.card.app ≡ false → old.card.rca ≡ rca → ClosesSoon result old.card new.card)
 
 -- no clean status came, or one too many that shows the card at work
 abbrev pub FailsAt : ℕ → Result Closing Cause → Type 0

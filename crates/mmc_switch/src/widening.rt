@@ -33,7 +33,7 @@ fn set_block_length<B: Bus>(bus: &mut B, kind: Kind) -> Result<(), Cause>
     ensures moves { Moves
         (λ old new. (rca : ℕ) → IsLeft rca old.card → old.lines ≡ first_lines → IsOk result
         → IsSet false (first_setting rca) new)
-        (λ old new. (rca : ℕ) → IsLeft rca old.card → IsOk result)
+        (λ old new. (rca : ℕ) → old.card.made.kind ≡ kind → IsLeft rca old.card → IsOk result)
         (B.view bus.old) (B.view bus.new) }
 {
     transfer_laws::cmd16_sets_the_block_length();

@@ -64,7 +64,7 @@ left_by : (n : ℕ) (b : Bool) (now : ℕ) → 1 ≤ n → now ≡ (if n == 1 th
 left_by n b now some is = left_so (n == 1) b n now some (is_one n) is
 
 module _ (job : Job) (blocks : List Sector) (faults : ℕ) (kind : Kind) (address : ℕ) (a b : BusView)
-    (addressed : address ≡ address_of job.session.info.addressing job.start)
+    (of_kind : kind ≡ job.session.info.kind) (addressed : address ≡ address_of job.session.info.addressing job.start)
     (at : IsIn job blocks (Other Command) faults a) where
   sector_is : sector_at a.card.made address ≡ job.start
   sector_is = rw addressed (sector_named job.session a at.under_way.knows job.start)
@@ -91,6 +91,7 @@ module _ (job : Job) (blocks : List Sector) (faults : ℕ) (kind : Kind) (addres
       unprotected_by job.way (is_read_only a.card.made) (λ writes. sym at.under_way.knows.info.read_only ∙ job.writable writes) in
       record {
         obeys = record {
+          is_kind = sym at.under_way.knows.info.kind ∙ sym of_kind;
           tran = idle.quiet.state;
           erase = idle.quiet.erase;
           no_error = no_error kind (preset_of job) a.card idle.quiet;

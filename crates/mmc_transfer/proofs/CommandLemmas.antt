@@ -34,7 +34,7 @@ forgets_none card none = ap (λ (held : Held). record card { erase = held }) (sy
 pub shows_no_error : (kind : Kind) (card : Card) → ErrorsLaw → IsCard card → CanObey kind card
     → (told : ℕ) → ShowsDropped card told → error_bits kind told ≡ 0
 shows_no_error kind card errors k can told shows =
-    (errors kind told card k (shows_itself card told can.erase shows)).1 can.no_error
+    (errors kind told card k (shows_itself card told can.erase shows)).1 can.is_kind can.no_error
 
 -- Beginning a transfer, whichever way it goes, of one block or of several.
 
@@ -127,8 +127,8 @@ held_none quietly card =
 
 abbrev pub EndLaw : Type 0
 EndLaw =
-    (kind : Kind) (told : ℕ) (card : Card) → IsCard card → Shows card told → HasNoError kind (record card { errors = 0 })
-    → card.errors ≡ out_of_range → error_bits kind told ≡ 2 ^ 31
+    (kind : Kind) (told : ℕ) (card : Card) → IsCard card → card.made.kind ≡ kind → Shows card told
+    → HasNoError kind (record card { errors = 0 }) → card.errors ≡ out_of_range → error_bits kind told ≡ 2 ^ 31
 
 -- where OUT_OF_RANGE is an error too, no error is held after a status that is judged good
 pub shows_nothing : (kind : Kind) (at_end : Bool) (card : Card) (told : ℕ) → ErrorsLaw → IsCard card
@@ -147,7 +147,7 @@ pub shows_it_stops : (kind : Kind) (at_end : Bool) (card : Card) (told : ℕ) �
 shows_it_stops kind at_end card told errors ends k shows can =
     let none = can.no_error in
     elim can.errors [
-      | inl clear ↦ inl ((errors kind told card k shows).1
+      | inl clear ↦ inl ((errors kind told card k shows).1 can.is_kind
           (record { command_errors = none.command_errors; errors = clear; switch_error = none.switch_error }))
-      | inr last ↦ inr (last.0, ends kind told card k shows none last.1)
+      | inr last ↦ inr (last.0, ends kind told card k can.is_kind shows none last.1)
     ]

@@ -90,7 +90,7 @@ errors_by counted at_end errors room all end ends (inl none) = inl none
 errors_by counted at_end errors room all end ends (inr last) = inr (ends ∙ eq-eqb all room last.1, last.2)
 
 module _ (job : Job) (blocks : List Sector) (all : length blocks ≡ job.count) (faults : ℕ) (kind : Kind) (at_end : Bool)
-    (a b : BusView)
+    (a b : BusView) (of_kind : kind ≡ job.session.info.kind)
     (ends : at_end ≡ may_run_out job.way (job.start + job.count == room_of job.session))
     (at : IsIn job blocks (Other Stop) faults a) where
   -- the exact card can stop
@@ -98,21 +98,23 @@ module _ (job : Job) (blocks : List Sector) (all : length blocks ≡ job.count) 
   can_stop exact =
       either_way job.way
       (λ reads sending. record {
+        is_kind = sym at.under_way.knows.info.kind ∙ sym of_kind;
         moving = inl sending.quiet.state;
         no_error = record {
           command_errors = sending.quiet.command_errors;
           errors = refl;
-          switch_error = λ mmc. sending.quiet.switch_error;
+          switch_error = λ judged mmc. sending.quiet.switch_error;
         };
         errors = errors_by _ at_end a.card.errors (room_of job.session) (job.start + job.count) _
             (ends ∙ ap (λ way. may_run_out way (job.start + job.count == room_of job.session)) reads) sending.errors;
       })
       (λ writes taking. record {
+        is_kind = sym at.under_way.knows.info.kind ∙ sym of_kind;
         moving = inr taking.0.quiet.state;
         no_error = record {
           command_errors = taking.0.quiet.command_errors;
           errors = refl;
-          switch_error = λ mmc. taking.0.quiet.switch_error;
+          switch_error = λ judged mmc. taking.0.quiet.switch_error;
         };
         errors = inl taking.0.quiet.errors;
       }) exact

@@ -245,7 +245,8 @@ module _ {S : Type 0} (blocks : S → List (List ℕ)) (leave : S → ℕ → Li
   first_caused started moved new now (reads_none some view held last got left next all below long not read lent) ends cause is =
       ap cause_of read.last ∙ cc
 
-  module _ (kind : Kind) (address : ℕ) (a : BusView) (addressed : address ≡ address_of job.session.info.addressing job.start)
+  module _ (kind : Kind) (address : ℕ) (a : BusView) (of_kind : kind ≡ job.session.info.kind)
+      (addressed : address ≡ address_of job.session.info.addressing job.start)
       (faults : ℕ) (at : IsIn job (blocks was) (Other Command) faults a) where
     -- The command was answered well.
 
@@ -254,7 +255,7 @@ module _ {S : Type 0} (blocks : S → List (List ℕ)) (leave : S → ℕ → Li
     begun_with news work =
         subst (λ change. Turn change (λ n v. IsIn job (blocks was) (Block 0) n v) faults a between)
         (same_change job (blocks was) news way)
-        (begin_goes_on job (blocks was) faults kind address a between addressed at work)
+        (begin_goes_on job (blocks was) faults kind address a between of_kind addressed at work)
 
     pub all_came : (good : ℕ) (new : BusView) (now : S) → AreGood BlockReceived blocks leave between was good new now
         → new.is_kept ≡ true → Starts kind job.way (job.count == 1) address true a between
@@ -352,7 +353,7 @@ module _ {S : Type 0} (blocks : S → List (List ℕ)) (leave : S → ℕ → Li
           old_maybe (change_of job news) (holds a.card) part s value (work.sectors part s value h);
       left = goes_on job.session (Shown job.way (Other Command)) (Exact job (blocks was) (Other Command)) faults a between
           at.under_way work Never Never (λ s. absurd s) (λ exact s. s)
-          (λ exact same. cc (work.fine same (can_start job (blocks was) faults kind address a between addressed at exact)));
+          (λ exact same. cc (work.fine same (can_start job (blocks was) faults kind address a between of_kind addressed at exact)));
     }
 
     lost_failed : (news : List Sector) (cause : Cause) (new : BusView)

@@ -42,13 +42,14 @@ count_by false true n knows many few =
 count_by sd false n knows many few = cc
 
 module _ (job : Job) (blocks : List Sector) (faults : ℕ) (kind : Kind) (a b : BusView)
-    (fits : IsTrue (job.session.info.cmd23 && nat_lt 1 job.count)) (at : IsIn job blocks (Other Preset) faults a) where
+    (of_kind : kind ≡ job.session.info.kind) (fits : IsTrue (job.session.info.cmd23 && nat_lt 1 job.count)) (at : IsIn job blocks (Other Preset) faults a) where
   -- the exact card can preset it
   can_preset : Exact job blocks (Other Preset) a.card → CanPreset kind a.card
   can_preset exact =
       let idle : IsIdle 0 a.card = from_both job.way exact in
       record {
         obeys = record {
+          is_kind = sym at.under_way.knows.info.kind ∙ sym of_kind;
           tran = idle.quiet.state;
           erase = idle.quiet.erase;
           no_error = no_error kind 0 a.card idle.quiet;

@@ -262,7 +262,8 @@ module _ (job : Job) (blocks : List Sector) (way : job.way ≡ Write) (full : le
       }
 
   -- The command of the write.
-  module _ (kind : Kind) (address : ℕ) (a : BusView) (addressed : address ≡ address_of job.session.info.addressing job.start)
+  module _ (kind : Kind) (address : ℕ) (a : BusView) (of_kind : kind ≡ job.session.info.kind)
+      (addressed : address ≡ address_of job.session.info.addressing job.start)
       (faults : ℕ) (at : IsIn job blocks (Other Command) faults a) where
     abbrev pub OutcomeOf : Result ℕ Cause → Result (Option Phase) Cause
     OutcomeOf (Ok good) = Ok (Some (after_write_command job good))
@@ -279,7 +280,7 @@ module _ (job : Job) (blocks : List Sector) (way : job.way ≡ Write) (full : le
 
     begun_on : Starts kind job.way (job.count == 1) address true a between
         → Turn (change_of job blocks) (λ n v. IsIn job blocks (Block 0) n v) faults a between
-    begun_on work = begin_goes_on job blocks faults kind address a between addressed at work
+    begun_on work = begin_goes_on job blocks faults kind address a between of_kind addressed at work
 
     pub all_went : (good : ℕ) (new : BusView) → AreAccepted BlockOffered FoundAtRest blocks between good new
         → new.is_kept ≡ true → Starts kind job.way (job.count == 1) address true a between
@@ -299,7 +300,7 @@ module _ (job : Job) (blocks : List Sector) (way : job.way ≡ Write) (full : le
 
     failed_so : Starts kind job.way (job.count == 1) address false a between
         → Turned job blocks faults a (Err Why.Data) between
-    failed_so work = begin_fails job blocks faults kind address a between addressed at (Err Why.Data) refl work
+    failed_so work = begin_fails job blocks faults kind address a between of_kind addressed at (Err Why.Data) refl work
 
     -- where a fault has fallen, the work has failed wherever it is
     failed_from : (phase : Phase) (new : BusView) → Turn (change_of job blocks) (λ n v. IsIn job blocks phase n v) faults a new
@@ -361,7 +362,7 @@ module _ (job : Job) (blocks : List Sector) (way : job.way ≡ Write) (full : le
         → Starts kind job.way (job.count == 1) address false a between → Turned job blocks faults a (Err cause) new
     none_went cause new all work =
         subst (λ v. Turned job blocks faults a (Err cause) v) (sym (none_gone 0 new all refl))
-        (begin_fails job blocks faults kind address a between addressed at (Err cause) refl work)
+        (begin_fails job blocks faults kind address a between of_kind addressed at (Err cause) refl work)
 
     -- So the run goes on as its exchanges say.
     pub first_turned : (started : Result Unit Cause) (moved : Moved DataOut) (new : BusView)

@@ -34,8 +34,9 @@ abbrev pub starts : Way → Bool → Card → ℕ → Card
 starts way is_single card address =
     begun (state_of way) is_single (if is_single then Some 1 else preset card) card address
 
--- a card in tran that holds no erase address and shows no error in its R1
+-- a card of this kind in tran that holds no erase address and shows no error in its R1
 pub record CanObey (kind : Kind) (card : Card) : Type 0 where
+  pub is_kind : card.made.kind ≡ kind
   pub tran : card.state ≡ Tran
   pub erase : card.erase ≡ NoAddress
   pub no_error : HasNoError kind card
@@ -67,8 +68,9 @@ abbrev pub may_run_out : Way → Bool → Bool
 may_run_out Read at_end = at_end
 may_run_out Write at_end = false
 
--- it ends without an error, or at the end of a partition with OUT_OF_RANGE alone
+-- it is of this kind, and ends without an error, or at the end of a partition with OUT_OF_RANGE alone
 pub record CanStop (kind : Kind) (at_end : Bool) (card : Card) : Type 0 where
+  pub is_kind : card.made.kind ≡ kind
   pub moving : IsMoving card
   pub no_error : HasNoError kind (record card { errors = 0 })
   pub errors : (card.errors ≡ 0) ⊎ ((at_end ≡ true) × (card.errors ≡ out_of_range))

@@ -10,22 +10,21 @@ use Rattle.mmc_card.specs.Card.{Card, is_identified}
 use Rattle.mmc_card.specs.CardAnswer.{CardAnswer, Checked, shown, status}
 use Rattle.mmc_card.specs.RowsIdentify.{may_lag, send_status}
 use Rattle.mmc_card.specs.Judged.{Agree, IsSaid, whole_status}
-use Rattle.mmc_frame.specs.declared.kind.Kind.{Kind}
 use Rattle.mmc_card.specs.declared.command.Command.TheVariants.{SendStatus}
 
 -- by whether it lags behind
-tells_by : (kind : Kind) (b : Bool) (old x y : Card) (m n : ℕ) (said : CardAnswer)
-    → ((told : ℕ) → b ≡ true → Agree whole_status told m → LagsBehind old told x)
+tells_by : (b : Bool) (old x y : Card) (m n : ℕ) (said : CardAnswer)
+    → ((told : ℕ) → b ≡ true → Agree (whole_status old.made.kind) told m → LagsBehind old told x)
     → (n ≡ status false old) × (y ≡ shown old)
-    → IsSaid kind (cond {A = Card × CardAnswer} b (x, Checked 13 m) (y, Checked 13 n)).1 said
+    → IsSaid old.made.kind (cond {A = Card × CardAnswer} b (x, Checked 13 m) (y, Checked 13 n)).1 said
     → IsHeard (λ told. TellsStatus old told (cond {A = Card × CardAnswer} b (x, Checked 13 m) (y, Checked 13 n)).0)
     (response_of 13 said)
-tells_by kind true old x y m n said lags itself is =
-    let t = checked_told kind 13 m said is in
+tells_by true old x y m n said lags itself is =
+    let t = checked_told old.made.kind 13 m said is in
     (t.0, t.1, inr (lags t.0 refl t.2))
-tells_by kind false old x y m n said lags itself is =
-    let t = checked_told kind 13 n said is in
-    (t.0, t.1, inl (subst (Agree whole_status t.0) itself.0 t.2, itself.1))
+tells_by false old x y m n said lags itself is =
+    let t = checked_told old.made.kind 13 n said is in
+    (t.0, t.1, inl (subst (Agree (whole_status old.made.kind) t.0) itself.0 t.2, itself.1))
 
 pub returns : goal.returns
 returns c = λ old new argument heard facts.
@@ -37,7 +36,7 @@ returns c = λ old new argument heard facts.
     (h.0, not_true card.app h.1, named argument card own))
     (λ there. (owns argument card there.2, rw (there.0, there.1) refl))
     (λ errors choice there. refl)
-    (λ errors choice said is. tells_by card.made.kind (may_lag card && choice.is_behind) (with_errors errors card) _ _ _ _ said
+    (λ errors choice said is. tells_by (may_lag card && choice.is_behind) (with_errors errors card) _ _ _ _ said
     (λ told lags same. record {
       may = (both (may_lag card) choice.is_behind lags).0;
       choice = choice;

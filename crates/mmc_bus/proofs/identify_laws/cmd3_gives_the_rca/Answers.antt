@@ -16,4 +16,4 @@ returns c = λ old new argument heard facts k kind.
     (λ choice card. Checked 3 (status false card)) SetRelativeAddr old 3 argument heard new facts (rw kind refl)
     refl (rw kind refl) (λ errors choice there. ap (λ (c : Card). row choice SetRelativeAddr c 3 argument)
     (low_reached choice SetRelativeAddr (with_errors errors old.card) Ident k.held there refl))
-    (λ errors choice said is. r1_told old.card.made.kind 3 false (with_errors errors old.card) said (rw kind refl) is)
+    (λ errors choice said is. r1_told old.card.made.kind 3 false (with_errors errors old.card) said refl (rw kind refl) is)

@@ -19,4 +19,4 @@ returns c = λ old new argument heard facts k.
     (λ there. (owns argument old.card there.1, in_is old.card.state Stby there.0))
     (λ errors choice there. ap (λ (c : Card). row choice SelectCard c 7 argument)
     (low_reached choice SelectCard (with_errors errors old.card) Stby k.held there.0 refl))
-    (λ errors choice said is. r1_told old.card.made.kind 7 false (with_errors errors old.card) said refl is)
+    (λ errors choice said is. r1_told old.card.made.kind 7 false (with_errors errors old.card) said refl refl is)

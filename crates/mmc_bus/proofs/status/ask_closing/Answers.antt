@@ -16,7 +16,7 @@ returns-clause-works g c kept =
     tells.own tells.clean tells.lagging tells.lags_unclean (λ told h. (law.sound told h).1)
     c.check_closing.ensures.clean c.check_closing.ensures.at_work)
     (λ same order app rca.
-    let told = law.fine same (ap is_identified order.tran, app, names ∙ sym rca) in
+    let told = law.fine same (ap is_identified order.1.tran, app, names ∙ sym rca) in
     told_soon c.args.kind card (g.B.Bus.view c.ask.new.bus).card c.ask.result c.check_closing.result k.was_card
     tells.clean tells.lagging tells.lags_unclean told.0 told.1 told.2 order
     c.check_closing.ensures.all_clean c.check_closing.ensures.all_at_work)

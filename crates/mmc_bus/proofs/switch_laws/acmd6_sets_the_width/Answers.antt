@@ -19,4 +19,4 @@ returns c = λ old new argument heard facts kind app.
     (rw (kind, app) refl)
     refl refl (λ errors choice there. ap (λ (d : Card). (d, Checked 6 (status true (without_addresses choice.drops_quietly (with_errors errors old.card)))))
     (dropped (λ d. record (shown d) { width = width_by (field 1 0 argument) d.width }) choice.drops_quietly (with_errors errors old.card) refl))
-    (λ errors choice said is. shows_dropped old.card.made.kind 6 true choice (with_errors errors old.card) said refl is)
+    (λ errors choice said is. shows_dropped old.card.made.kind 6 true choice (with_errors errors old.card) said refl refl is)

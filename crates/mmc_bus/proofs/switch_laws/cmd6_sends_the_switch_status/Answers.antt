@@ -42,7 +42,7 @@ returns c = record {
       ))
       (sym (switch_bytes old.card.timing old.card argument _ (choice, refl))))
       (λ errors choice said is. shows_dropped old.card.made.kind 6 false choice
-      (with_errors errors old.card) said refl is) (λ choice. switch_bytes old.card.timing old.card argument _ (choice, refl));
+      (with_errors errors old.card) said refl refl is) (λ choice. switch_bytes old.card.timing old.card argument _ (choice, refl));
   sends = λ old new argument told heard facts kind app h.
       let o = facts.sound told h in
       let d = comes o.choice SwitchFunc (left_with o.left old.card) 6 argument _ (rw (kind, app) refl)

@@ -33,7 +33,7 @@ returns c = record {
       (λ bytes. sending bytes old.card.timing (forgotten old.card))
       (λ choice card. Checked 8 (status false (without_addresses choice.drops_quietly card))) SendExtCsd old 8 argument heard new facts (rw kind refl)
       refl refl (λ errors choice. sends choice (with_errors errors old.card) argument)
-      (λ errors choice said is. shows_dropped old.card.made.kind 8 false choice (with_errors errors old.card) said (rw kind refl) is)
+      (λ errors choice said is. shows_dropped old.card.made.kind 8 false choice (with_errors errors old.card) said refl (rw kind refl) is)
       (λ choice. refl);
   sends = λ old new argument told heard facts kind h.
       let o = facts.sound told h in

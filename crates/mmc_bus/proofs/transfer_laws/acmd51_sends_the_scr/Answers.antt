@@ -20,4 +20,4 @@ returns c = λ old new argument heard facts.
     (λ there. in_is old.card.state Tran there.2)
     (λ errors choice. ap (λ (d : Card). (d, Checked 51 (status true (without_addresses choice.drops_quietly (with_errors errors old.card)))))
     (dropped (λ d. sending d.made.scr d.timing d) choice.drops_quietly (with_errors errors old.card) refl))
-    (λ errors choice said is. shows_dropped old.card.made.kind 51 true choice (with_errors errors old.card) said refl is)
+    (λ errors choice said is. shows_dropped old.card.made.kind 51 true choice (with_errors errors old.card) said refl refl is)

@@ -17,4 +17,4 @@ returns c = λ old new heard facts.
     refl refl (λ errors choice there. ap (λ (d : Card).
     (record d { block_length = 512 }, Checked 16 (status false (without_addresses choice.drops_quietly (with_errors errors old.card)))))
     (dropped shown choice.drops_quietly (with_errors errors old.card) refl)) (λ errors choice said is. shows_dropped old.card.made.kind 16 false choice
-    (with_errors errors old.card) said refl is)
+    (with_errors errors old.card) said refl refl is)

@@ -8,7 +8,7 @@ abbrev pub invariant-loop-statuses : goal.invariant-loop-statuses
 invariant-loop-statuses g l =
     let old = g.B.Bus.view l.initial.bus in
     let now = g.B.Bus.view l.bus in
-    (now.is_kept ≡ true → IsCard now.card → IsAtWorkStill l.rca l._statuses old now)
+    (now.is_kept ≡ true → IsCard now.card → IsAtWorkStill l.kind l.rca l._statuses old now)
     × (0 < l._statuses → now.is_kept ≡ true → IsCard now.card)
     × (now.exchanges ≤ old.exchanges + l._statuses)
     × (now.lines ≡ old.lines)

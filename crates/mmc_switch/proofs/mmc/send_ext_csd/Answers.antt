@@ -20,7 +20,7 @@ returns-in_err-check_own-clause-moves g c kept =
     let k = asked.exchanged.kept kept in
     let none = c.no_command_but_erase_widens.ensures a.card 8 0 (omega arith) (λ e. absurd (omega (arith, e))) in
     let p = commanded {Asks = a.card.made.kind ≡ Mmc} Mmc bytes timing a 8 0 c.ask.result b (Err cause) asked
-    kept none c.a_status_tells_of_its_card.ensures.errors judged.ok judged.all
+    kept none c.a_status_tells_of_its_card.ensures.errors (λ mmc there. mmc) judged.ok judged.all
     (λ asks. c.cmd8_sends_the_ext_csd.ensures.does _ _ _ _ k.step asks) in
     ext_csd_sent bytes r a b (λ mmc ok. refuted r c.from_residual.ensures.0 ok)
     (command_fails false bytes timing (λ bytes. bytes) cause r a b
@@ -41,7 +41,7 @@ returns-in_err-receive-clause-moves g c kept =
     let k = asked.exchanged.kept q.was_kept in
     let none = c.no_command_but_erase_widens.ensures a.card 8 0 (omega arith) (λ e. absurd (omega (arith, e))) in
     let p = commanded {Asks = a.card.made.kind ≡ Mmc} Mmc bytes timing a 8 0 c.ask.result b (Ok tt) asked
-    q.was_kept none c.a_status_tells_of_its_card.ensures.errors judged.ok judged.all
+    q.was_kept none c.a_status_tells_of_its_card.ensures.errors (λ mmc there. mmc) judged.ok judged.all
     (λ asks. c.cmd8_sends_the_ext_csd.ensures.does _ _ _ _ k.step asks) in
     let sends : a.card.made.kind ≡ Mmc → IsExtCsdOf a.card bytes =
     λ mmc. c.cmd8_sends_the_ext_csd.ensures.sends _ _ _ _ _ k.step mmc (judged.ok refl).1 in
@@ -62,7 +62,7 @@ returns-clause-moves g c kept =
     let k = asked.exchanged.kept q.was_kept in
     let none = c.no_command_but_erase_widens.ensures a.card 8 0 (omega arith) (λ e. absurd (omega (arith, e))) in
     let p = commanded {Asks = a.card.made.kind ≡ Mmc} Mmc bytes timing a 8 0 c.ask.result b (Ok tt) asked
-    q.was_kept none c.a_status_tells_of_its_card.ensures.errors judged.ok judged.all
+    q.was_kept none c.a_status_tells_of_its_card.ensures.errors (λ mmc there. mmc) judged.ok judged.all
     (λ asks. c.cmd8_sends_the_ext_csd.ensures.does _ _ _ _ k.step asks) in
     let sends : a.card.made.kind ≡ Mmc → IsExtCsdOf a.card bytes =
     λ mmc. c.cmd8_sends_the_ext_csd.ensures.sends _ _ _ _ _ k.step mmc (judged.ok refl).1 in

@@ -24,7 +24,7 @@ returns-clause-moves g c kept =
     set_as true false card.state card.source card.width card.timing card.block_length (lines_of setting) setting setting
     old new set.rest.state e.lines (carried_out Sd _ _ old heard new r c.check_own.ensures.ok law ok).1 set.is_set set)
     (λ same setting is sd set.
-    answers_well Sd false _ old heard new r c.a_status_tells_of_its_card.ensures.errors k.was_card
+    answers_well Sd false _ old heard new r c.a_status_tells_of_its_card.ensures.errors k.was_card sd
     c.check_own.ensures.all law same set.rest (
       sd,
       inr (ap is_identified set.rest.state),

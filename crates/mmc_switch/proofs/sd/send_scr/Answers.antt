@@ -19,7 +19,7 @@ returns-in_err-check_own-clause-moves g c kept =
     let k = asked.exchanged.kept kept in
     let none = c.no_command_but_erase_widens.ensures a.card 51 0 (omega arith) (λ e. absurd (omega (arith, e))) in
     let p = commanded {Asks = Unit {0}} Sd bytes timing a 51 0 c.ask.result b (Err cause) asked
-    kept none c.a_status_tells_of_its_card.ensures.errors judged.ok judged.all
+    kept none c.a_status_tells_of_its_card.ensures.errors (λ asks there. there.0) judged.ok judged.all
     (λ asks. c.acmd51_sends_the_scr.ensures _ _ _ _ k.step) in
     scr_sent r a b
     (command_fails true bytes timing scr_number cause r a b
@@ -40,7 +40,7 @@ returns-in_err-receive-clause-moves g c kept =
     let k = asked.exchanged.kept q.was_kept in
     let none = c.no_command_but_erase_widens.ensures a.card 51 0 (omega arith) (λ e. absurd (omega (arith, e))) in
     let p = commanded {Asks = Unit {0}} Sd bytes timing a 51 0 c.ask.result b (Ok tt) asked
-    q.was_kept none c.a_status_tells_of_its_card.ensures.errors judged.ok judged.all
+    q.was_kept none c.a_status_tells_of_its_card.ensures.errors (λ asks there. there.0) judged.ok judged.all
     (λ asks. c.acmd51_sends_the_scr.ensures _ _ _ _ k.step) in
     scr_sent r a d
     (block_fails 8 true bytes c.receive.new.buffer timing scr_number cause r a b d
@@ -59,7 +59,7 @@ returns-clause-moves g c kept =
     let k = asked.exchanged.kept q.was_kept in
     let none = c.no_command_but_erase_widens.ensures a.card 51 0 (omega arith) (λ e. absurd (omega (arith, e))) in
     let p = commanded {Asks = Unit {0}} Sd bytes timing a 51 0 c.ask.result b (Ok tt) asked
-    q.was_kept none c.a_status_tells_of_its_card.ensures.errors judged.ok judged.all
+    q.was_kept none c.a_status_tells_of_its_card.ensures.errors (λ asks there. there.0) judged.ok judged.all
     (λ asks. c.acmd51_sends_the_scr.ensures _ _ _ _ k.step) in
     scr_sent (Ok c.new.result) a d
     (fetched 8 true bytes c.receive.new.buffer timing scr_number c.new.result a b d c.new.ensures p q)

@@ -24,6 +24,6 @@ returns-clause-moves g c kept =
     setting (four setting) old new set.rest.state e.lines
     (carried_out Sd _ _ old heard new r c.check_own.ensures.ok law ok).1 (ap four set.is_set) set)
     (λ same setting sd set.
-    answers_well Sd true _ old heard new r c.a_status_tells_of_its_card.ensures.errors k.was_card
+    answers_well Sd true _ old heard new r c.a_status_tells_of_its_card.ensures.errors k.was_card sd
     c.check_own.ensures.all (c.acmd6_sets_the_width.ensures _ _ _ _ k.step sd set.rest.app) same set.rest
     set.rest.state)

@@ -23,7 +23,7 @@ returns-in_err-check_own-clause-moves g c kept =
     let k = asked.exchanged.kept kept in
     let none = c.no_command_but_erase_widens.ensures a.card 6 argument (omega arith) (λ e. absurd (omega (arith, e))) in
     let p = commanded {Asks = (a.card.made.kind ≡ Sd) × (a.card.app ≡ false)} Sd bytes timing a 6 argument
-    c.ask.result b (Err cause) asked kept none c.a_status_tells_of_its_card.ensures.errors judged.ok judged.all
+    c.ask.result b (Err cause) asked kept none c.a_status_tells_of_its_card.ensures.errors (λ asks there. asks.0) judged.ok judged.all
     (λ asks. c.cmd6_sends_the_switch_status.ensures.does _ _ _ _ k.step asks.0 asks.1) in
     status_sent argument r a b b (λ sd app ok. refuted r c.from_residual.ensures.0 ok)
     (command_fails false bytes timing (λ bytes. bytes) cause r a b
@@ -45,7 +45,7 @@ returns-in_err-receive-clause-moves g c kept =
     let k = asked.exchanged.kept q.was_kept in
     let none = c.no_command_but_erase_widens.ensures a.card 6 argument (omega arith) (λ e. absurd (omega (arith, e))) in
     let p = commanded {Asks = (a.card.made.kind ≡ Sd) × (a.card.app ≡ false)} Sd bytes timing a 6 argument
-    c.ask.result b (Ok tt) asked q.was_kept none c.a_status_tells_of_its_card.ensures.errors judged.ok judged.all
+    c.ask.result b (Ok tt) asked q.was_kept none c.a_status_tells_of_its_card.ensures.errors (λ asks there. asks.0) judged.ok judged.all
     (λ asks. c.cmd6_sends_the_switch_status.ensures.does _ _ _ _ k.step asks.0 asks.1) in
     let sends : a.card.made.kind ≡ Sd → a.card.app ≡ false → IsSwitchSource a.card argument b.card.source =
     λ sd app. c.cmd6_sends_the_switch_status.ensures.sends _ _ _ _ _ k.step sd app (judged.ok refl).1 in
@@ -68,7 +68,7 @@ returns-clause-moves g c kept =
     let k = asked.exchanged.kept q.was_kept in
     let none = c.no_command_but_erase_widens.ensures a.card 6 argument (omega arith) (λ e. absurd (omega (arith, e))) in
     let p = commanded {Asks = (a.card.made.kind ≡ Sd) × (a.card.app ≡ false)} Sd bytes timing a 6 argument
-    c.ask.result b (Ok tt) asked q.was_kept none c.a_status_tells_of_its_card.ensures.errors judged.ok judged.all
+    c.ask.result b (Ok tt) asked q.was_kept none c.a_status_tells_of_its_card.ensures.errors (λ asks there. asks.0) judged.ok judged.all
     (λ asks. c.cmd6_sends_the_switch_status.ensures.does _ _ _ _ k.step asks.0 asks.1) in
     let sends : a.card.made.kind ≡ Sd → a.card.app ≡ false → IsSwitchSource a.card argument b.card.source =
     λ sd app. c.cmd6_sends_the_switch_status.ensures.sends _ _ _ _ _ k.step sd app (judged.ok refl).1 in

@@ -12,7 +12,7 @@ pub returns-in-Ok-clause-turned : goal.returns-in-Ok-clause-turned
 returns-in-Ok-clause-turned g c kept faults at =
     let s = c.start_writing-started.ensures.started in
     first_goes_on c.args.job.now (g.D.Blocks.blocks c.args.blocks.now) c.requires.way c.requires.count s.between
-    c.kind.result c.address.result (g.B.Bus.view c.args.bus.now) c.address.ensures faults at
+    c.kind.result c.address.result (g.B.Bus.view c.args.bus.now) c.kind.ensures c.address.ensures faults at
     c.start_writing-started.result.0 _ _ s.written kept (λ was. rw c.requires.way (s.works was))
     (rw c.requires.way s.answered) c.in-Ok.good
     (sym c.judge.ensures ∙ c.in-Ok.is) c.after_write_command.result c.after_write_command.ensures
@@ -21,7 +21,7 @@ pub returns-in-Err-clause-turned : goal.returns-in-Err-clause-turned
 returns-in-Err-clause-turned g c kept faults at =
     let s = c.start_writing-started.ensures.started in
     first_fails c.args.job.now (g.D.Blocks.blocks c.args.blocks.now) c.requires.way c.requires.count s.between
-    c.kind.result c.address.result (g.B.Bus.view c.args.bus.now) c.address.ensures faults at
+    c.kind.result c.address.result (g.B.Bus.view c.args.bus.now) c.kind.ensures c.address.ensures faults at
     c.start_writing-started.result.0 _ _ s.written kept (λ was. rw c.requires.way (s.works was))
     (rw c.requires.way s.answered) c.in-Err.cause
     (sym c.judge.ensures ∙ c.in-Err.is)

@@ -10,7 +10,7 @@ returns-in-Ok-clause-turned g c kept faults at =
     let s = c.start_reading-started.ensures.started in
     first_goes_on g.D.Blocks.blocks g.D.BlocksMut.with g.met.D.BlocksMut.writes_one c.args.job.now c.requires.way
     c.args.blocks.now c.requires.count s.between c.kind.result c.address.result (g.B.Bus.view c.args.bus.now)
-    c.address.ensures faults at c.start_reading-started.result.0 _ _ _ s.read kept
+    c.kind.ensures c.address.ensures faults at c.start_reading-started.result.0 _ _ _ s.read kept
     (λ was. rw c.requires.way (s.works was)) c.in-Ok.good
     (sym c.judge.ensures ∙ c.in-Ok.is) c.after_read.result c.after_read.ensures
 
@@ -19,7 +19,7 @@ returns-in-Err-clause-turned g c kept faults at =
     let s = c.start_reading-started.ensures.started in
     first_fails g.D.Blocks.blocks g.D.BlocksMut.with g.met.D.BlocksMut.writes_one c.args.job.now c.requires.way
     c.args.blocks.now c.requires.count s.between c.kind.result c.address.result (g.B.Bus.view c.args.bus.now)
-    c.address.ensures faults at c.start_reading-started.result.0 _ _ _ s.read kept
+    c.kind.ensures c.address.ensures faults at c.start_reading-started.result.0 _ _ _ s.read kept
     (λ was. rw c.requires.way (s.works was)) c.in-Err.cause
     (sym c.judge.ensures ∙ c.in-Err.is)
 

@@ -10,25 +10,25 @@ use Rattle.mmc_transfer.proofs.steps.step.Goals as goal
 pub returns-in_err-preset-in-Preset-clause-turned :
     goal.returns-in_err-preset-in-Preset-clause-turned
 returns-in_err-preset-in-Preset-clause-turned g c kept blocks faults all at =
-    preset_fails c.args.job.now blocks faults _ _ _ (fits_as c.args.job.now c.in-Preset.is c.requires.fits)
+    preset_fails c.args.job.now blocks faults _ _ _ c.kind-kind.ensures (fits_as c.args.job.now c.in-Preset.is c.requires.fits)
     (in_step c.args.job.now blocks faults _ c.in-Preset.is at) _ c.from_residual.ensures.0
     (c.in_err-preset-in-Preset.ensures.works kept)
 
 pub returns-in_ok-preset-in-Preset-clause-turned : goal.returns-in_ok-preset-in-Preset-clause-turned
 returns-in_ok-preset-in-Preset-clause-turned g c kept blocks faults all at =
-    preset_goes_on c.args.job.now blocks faults _ _ _ (fits_as c.args.job.now c.in-Preset.is c.requires.fits)
+    preset_goes_on c.args.job.now blocks faults _ _ _ c.kind-kind.ensures (fits_as c.args.job.now c.in-Preset.is c.requires.fits)
     (in_step c.args.job.now blocks faults _ c.in-Preset.is at) (c.in_ok-preset-in-Preset.ensures.works kept)
 
 pub returns-in_err-start-in-Command-clause-turned :
     goal.returns-in_err-start-in-Command-clause-turned
 returns-in_err-start-in-Command-clause-turned g c kept blocks faults all at =
-    begin_fails c.args.job.now blocks faults _ _ _ _ c.address.ensures
+    begin_fails c.args.job.now blocks faults _ _ _ _ c.kind-kind.ensures c.address.ensures
     (in_step c.args.job.now blocks faults _ c.in-Command.is at) _ c.from_residual-in_err-start-in-Command.ensures.0
     (c.in_err-start-in-Command.ensures.works kept)
 
 pub returns-in_ok-start-in-Command-clause-turned : goal.returns-in_ok-start-in-Command-clause-turned
 returns-in_ok-start-in-Command-clause-turned g c kept blocks faults all at =
-    begin_goes_on c.args.job.now blocks faults _ _ _ _ c.address.ensures
+    begin_goes_on c.args.job.now blocks faults _ _ _ _ c.kind-kind.ensures c.address.ensures
     (in_step c.args.job.now blocks faults _ c.in-Command.is at) (c.in_ok-start-in-Command.ensures.works kept)
 
 pub returns-in_err-polls-in-Pause-clause-turned : goal.returns-in_err-polls-in-Pause-clause-turned
@@ -54,13 +54,13 @@ returns-else-done-job-clause-turned g c kept blocks faults all at =
 
 pub returns-in_err-stop-in-Stop-clause-turned : goal.returns-in_err-stop-in-Stop-clause-turned
 returns-in_err-stop-in-Stop-clause-turned g c kept blocks faults all at =
-    end_fails c.args.job.now blocks all faults _ _ _ _ c.may_run_out.ensures
+    end_fails c.args.job.now blocks all faults _ _ _ _ c.kind-kind.ensures c.may_run_out.ensures
     (in_step c.args.job.now blocks faults _ c.in-Stop.is at) _ c.from_residual-in_err-stop-in-Stop.ensures.0
     (c.in_err-stop-in-Stop.ensures.works kept)
 
 pub returns-in_ok-stop-in-Stop-clause-turned : goal.returns-in_ok-stop-in-Stop-clause-turned
 returns-in_ok-stop-in-Stop-clause-turned g c kept blocks faults all at =
-    end_goes_on c.args.job.now blocks all faults _ _ _ _ c.may_run_out.ensures
+    end_goes_on c.args.job.now blocks all faults _ _ _ _ c.kind-kind.ensures c.may_run_out.ensures
     (in_step c.args.job.now blocks faults _ c.in-Stop.is at) (c.in_ok-stop-in-Stop.ensures.works kept)
 
 pub returns-in_err-next-in-End-clause-turned : goal.returns-in_err-next-in-End-clause-turned
