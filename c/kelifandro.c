@@ -18,6 +18,8 @@ HAS_PLACE(cid, 14);
 HAS_PLACE(csd, 30);
 HAS_PLACE(unused, 46);
 HAS_PLACE(user, 48);
+HAS_PLACE(boot, 56);
+HAS_PLACE(gp1, 64);
 HAS_PLACE(gp4, 88);
 HAS_PLACE(erase_unit, 96);
 IS_SO(card, sizeof(struct kelifandro_card) == 104);
@@ -56,6 +58,13 @@ enum {
 
 enum { BLOCK = 512 };
 
+/* A small library is built without what these name (c/build --without), here and in kelifandro_core.c: nothing may lead there. */
+#if defined KELIFANDRO_WITHOUT_WRITE && !defined KELIFANDRO_WITHOUT_ERASE
+#define KELIFANDRO_WITHOUT_ERASE
+#endif
+#if defined KELIFANDRO_WITHOUT_HOST && defined KELIFANDRO_WITHOUT_REGISTERS || defined KELIFANDRO_WITHOUT_SD && defined KELIFANDRO_WITHOUT_MMC
+#error "without both there is nothing left"
+#endif
 /* What is called seldom stands apart from what is called for each register and block: that saves few registers then. */
 #if defined __GNUC__
 #define APART __attribute__((__noinline__)) /* of which some systems have a macro without underscores */
@@ -63,26 +72,48 @@ enum { BLOCK = 512 };
 #define APART
 #endif
 
-/* The card of the call that is made, and what was asked last. */
-static const struct kelifandro *now;
-static uint8_t operation;
-static struct kelifandro_command command;
-static uint32_t look_time;
-static uint8_t register_offset, register_size;
-/* The memory of the request, how many of its blocks may be moved with the command, and how many the library still gets because they may
-   have been written to. */
-static void *memory;
-static uint16_t behind, came;
-/* How many blocks of it are lent for DMA, and whether they are written to; how many bytes their table has so far, and how many are
-   lent. */
-static uint16_t lent;
-static uint8_t is_room;
-static size_t table_length, table_lent;
-/* The block behind a command of a host that has transfer alone, and what read_block answers to it. */
-static uint8_t one_block[BLOCK];
-static int one_answer;
-/* What became of the block that was written last. */
-static int written;
+/* The card of the call that is made: all else that a call keeps is in struct kelifandro_call. */
+#ifndef KELIFANDRO_THREAD
+#define KELIFANDRO_THREAD
+#endif
+static KELIFANDRO_THREAD struct kelifandro *now;
+
+/* Whether the card is reached by a host; else by registers. */
+static int is_by_host(const struct kelifandro *kelifandro)
+{
+#if defined KELIFANDRO_WITHOUT_REGISTERS
+    return (void)kelifandro, 1;
+#elif defined KELIFANDRO_WITHOUT_HOST
+    return (void)kelifandro, 0;
+#else
+    return kelifandro->host != 0;
+#endif
+}
+
+/* A card of a kind that isn't served is never ready: the response to the command that asks whether it is, CMD1 or ACMD41, reads as 0 (SD
+   Physical Layer 6.00, section 4.2.3; JESD84-B51, section 6.4.2). */
+static int is_unserved_question(uint8_t index)
+{
+#if defined KELIFANDRO_WITHOUT_MMC
+    return index == 1;
+#elif defined KELIFANDRO_WITHOUT_SD
+    return index == 41;
+#else
+    return (void)index, 0;
+#endif
+}
+
+/* And what is kept of such a card is of no open one. */
+static int is_unserved(const struct kelifandro_card *card)
+{
+#if defined KELIFANDRO_WITHOUT_MMC
+    return card->kind == 1;
+#elif defined KELIFANDRO_WITHOUT_SD
+    return card->kind == 0;
+#else
+    return (void)card, 0;
+#endif
+}
 
 static uint16_t half_at(const uint8_t *bytes)
 {
@@ -106,12 +137,7 @@ static void answer_word(uint8_t *bytes, uint32_t word)
     answer_half(bytes + 2, word >> 16);
 }
 
-APART static void answer_long(uint8_t *bytes, uint64_t number)
-{
-    answer_word(bytes, (uint32_t)number);
-    answer_word(bytes + 4, (uint32_t)(number >> 32));
-}
-
+#ifndef KELIFANDRO_WITHOUT_HOST
 /* The highest byte first. */
 static void answer_highest_first(uint8_t *bytes, uint32_t word)
 {
@@ -124,23 +150,25 @@ static void answer_highest_first(uint8_t *bytes, uint32_t word)
 /* Sends a command, by transfer where there is nothing else: a register that comes as a block is kept until it is asked for. */
 static int send_alone(const struct kelifandro_host *host, uint32_t response[4])
 {
+    struct kelifandro_call *call = &now->call;
     struct kelifandro_moved moved = {0, 0};
     int fault;
     if (host->send)
-        return host->send(host->context, &command, response);
-    fault = host->transfer(host->context, &command, response, one_block, command.data == KELIFANDRO_READ, &moved);
-    one_answer = moved.failed ? moved.failed : moved.good ? 0 : 2;
+        return host->send(host->context, &call->command, response);
+    fault = host->transfer(host->context, &call->command, response, call->block, call->command.data == KELIFANDRO_READ, &moved);
+    call->answer = moved.failed ? moved.failed : moved.good ? 0 : 2;
     return fault;
 }
 
 static int read_alone(const struct kelifandro_host *host, uint8_t *bytes, size_t n)
 {
-    int answer = one_answer;
+    struct kelifandro_call *call = &now->call;
+    int answer = call->answer;
     if (host->read_block)
         return host->read_block(host->context, bytes, n);
-    for (size_t i = 0; i < n && i < sizeof one_block; i++)
-        bytes[i] = one_block[i];
-    one_answer = 2;
+    for (size_t i = 0; i < n && i < sizeof call->block; i++)
+        bytes[i] = call->block[i];
+    call->answer = 2;
     return answer;
 }
 
@@ -155,24 +183,29 @@ static uint8_t fault_number(int fault)
 /* The command of a record, and how many of the request's blocks may be moved with it. */
 static void take_command(const uint8_t *record)
 {
-    command.index = record[1];
-    command.response = record[2];
-    command.data = record[3];
-    command.argument = word_at(record + 4);
-    command.block_length = half_at(record + 8);
-    command.blocks = half_at(record + 10);
+    struct kelifandro_command *command = &now->call.command;
+    command->index = record[1];
+    command->response = record[2];
+    command->data = record[3];
+    command->argument = word_at(record + 4);
+    command->block_length = half_at(record + 8);
+    command->blocks = half_at(record + 10);
     if (record[0] != SEND)
-        behind = half_at(record + 12);
+        now->call.behind = half_at(record + 12);
 }
 
 /* Sends it. Its answer has 16 bytes, and three more where blocks may be moved with it. */
 static void answer_command(const struct kelifandro_host *host, int is_with, uint8_t *bytes)
 {
+    struct kelifandro_call *call = &now->call;
     struct kelifandro_moved moved = {0, 0};
     uint32_t response[4] = {0, 0, 0, 0};
-    int is_long = command.response == KELIFANDRO_R2;
-    int fault = is_with && host->transfer ? host->transfer(host->context, &command, response, memory, behind, &moved)
-                                          : send_alone(host, response);
+    int is_long = call->command.response == KELIFANDRO_R2;
+    int fault = is_with && host->transfer
+                    ? host->transfer(host->context, &call->command, response, call->memory, call->behind, &moved)
+                    : send_alone(host, response);
+    if (is_unserved_question(call->command.index))
+        response[0] = 0;
     if (is_long) {
         answer_highest_first(bytes, response[0]);
     } else {
@@ -185,13 +218,22 @@ static void answer_command(const struct kelifandro_host *host, int is_with, uint
     bytes[15] = fault_number(fault);
     if (!is_with)
         return;
-    if (command.data == KELIFANDRO_READ)
-        came = moved.failed || moved.good > behind ? behind : moved.good;
+    if (call->command.data == KELIFANDRO_READ)
+        call->came = moved.failed || moved.good > call->behind ? call->behind : moved.good;
     answer_half(bytes + 16, moved.good);
     bytes[18] = moved.failed;
 }
 
-enum { PRESENT_STATE = 0x24, CAPABILITIES = 0x40, THERE = 0x70000 };
+#endif
+
+#ifndef KELIFANDRO_WITHOUT_REGISTERS
+APART static void answer_long(uint8_t *bytes, uint64_t number)
+{
+    answer_word(bytes, (uint32_t)number);
+    answer_word(bytes + 4, (uint32_t)(number >> 32));
+}
+
+enum { COMMAND = 0x0c, RESPONSE = 0x10, PRESENT_STATE = 0x24, CAPABILITIES = 0x40, THERE = 0x70000 };
 
 /* A register as the board knows it: a byte may be had by its word alone, and a card that is always there is inserted, and that is
    stable. */
@@ -248,21 +290,23 @@ static void write_port(const struct kelifandro_registers *registers, const uint8
 
 static void take_back(const struct kelifandro_registers *registers)
 {
-    if (table_lent)
-        registers->take_back(registers->context, registers->table, table_lent, 0);
-    if (lent)
-        registers->take_back(registers->context, memory, (size_t)lent * BLOCK, is_room);
-    table_lent = lent = 0;
+    struct kelifandro_call *call = &now->call;
+    if (call->table_lent)
+        registers->take_back(registers->context, registers->table, call->table_lent, 0);
+    if (call->lent)
+        registers->take_back(registers->context, call->memory, (size_t)call->lent * BLOCK, call->is_room);
+    call->table_lent = call->lent = 0;
 }
 
 /* Lends the first blocks of the request's memory for DMA, if the port can. An address that is none for the library is given back: then
    the blocks go through the Buffer Data Port. */
 APART static uint64_t lend(const struct kelifandro_registers *registers)
 {
-    size_t n = (size_t)lent * BLOCK;
-    uint64_t address = registers->lend ? registers->lend(registers->context, memory, n, is_room) : 0;
+    struct kelifandro_call *call = &now->call;
+    size_t n = (size_t)call->lent * BLOCK;
+    uint64_t address = registers->lend ? registers->lend(registers->context, call->memory, n, call->is_room) : 0;
     if (!address)
-        lent = 0;
+        call->lent = 0;
     else if (address % 4 || n > UINT64_MAX - address)
         take_back(registers);
     return address;
@@ -271,55 +315,68 @@ APART static uint64_t lend(const struct kelifandro_registers *registers)
 /* The next line of the table, as far as there is room. */
 static void put_line(const struct kelifandro_registers *registers, const uint8_t *line, size_t n)
 {
+    size_t length = now->call.table_length;
     uint8_t *table = registers->table;
-    for (size_t i = 0; table_length + n <= registers->table_size && i < n; i++)
-        table[table_length + i] = line[i];
-    table_length += n;
+    for (size_t i = 0; length + n <= registers->table_size && i < n; i++)
+        table[length + i] = line[i];
+    now->call.table_length = length + n;
 }
 
 static uint64_t lend_table(const struct kelifandro_registers *registers)
 {
+    struct kelifandro_call *call = &now->call;
     uint64_t address = 0;
-    if (table_length <= registers->table_size)
-        address = registers->lend(registers->context, registers->table, table_length, 0);
-    table_lent = address ? table_length : 0;
+    if (call->table_length <= registers->table_size)
+        address = registers->lend(registers->context, registers->table, call->table_length, 0);
+    call->table_lent = address ? call->table_length : 0;
     return address;
 }
 
+#endif
+
 static void pause_for(uint32_t microseconds)
 {
-    if (now->host)
+    if (is_by_host(now))
         now->host->pause(now->host->context, microseconds);
     else
         now->registers->pause(now->registers->context, microseconds);
 }
 
 /* Does what a record says where nothing comes of it; else notes what is asked. */
-APART static void take_record(const uint8_t *record, size_t n)
+APART static int64_t take_record(const uint8_t *record, size_t n)
 {
-    switch (operation) {
-    case WRITE_REGISTER:
-        write_register(now->registers, record[2], record[1], word_at(record + 3));
+    struct kelifandro_call *call = &now->call;
+    (void)call;
+    switch (now->call.operation) {
+    case PAUSE:
+        pause_for(word_at(record + 1));
         break;
+#ifndef KELIFANDRO_WITHOUT_HOST
     case SEND:
     case READ_WITH:
     case WRITE_WITH:
         take_command(record);
         break;
     case LOOK:
-        look_time = word_at(record + 1);
+        call->look_time = word_at(record + 1);
         break;
     case SET_IOS:
         now->host->set_ios(now->host->context, record[1], record[2], word_at(record + 3));
         break;
-    case PAUSE:
-        pause_for(word_at(record + 1));
+#endif
+#ifndef KELIFANDRO_WITHOUT_REGISTERS
+    case WRITE_REGISTER:
+#if defined KELIFANDRO_WITHOUT_MMC || defined KELIFANDRO_WITHOUT_SD
+        if (record[2] == COMMAND)
+            call->command.index = record[6] & 0x3f;
+#endif
+        write_register(now->registers, record[2], record[1], word_at(record + 3));
         break;
     case LEND_ROOM:
     case LEND_BLOCKS:
-        lent = half_at(record + 1);
-        is_room = operation == LEND_ROOM;
-        table_length = 0;
+        call->lent = half_at(record + 1);
+        call->is_room = call->operation == LEND_ROOM;
+        call->table_length = 0;
         break;
     case LINE:
     case LAST_LINE:
@@ -327,80 +384,105 @@ APART static void take_record(const uint8_t *record, size_t n)
         break;
     case TAKE_PLACES:
         /* they have come to their places */
-        came = lent;
+        call->came = call->lent;
         take_back(now->registers);
         break;
     case TAKE_BACK:
         take_back(now->registers);
-        came = 0;
+        call->came = 0;
         break;
+#endif
     }
+    return (int64_t)n;
 }
 
 /* A block, to the card's host or through the Buffer Data Port. */
-APART static void take_block(const uint8_t *block)
+APART static int64_t take_block(const uint8_t *block)
 {
-    const struct kelifandro_host *host = now->host;
-    if (!host) {
+#ifndef KELIFANDRO_WITHOUT_REGISTERS
+    if (!is_by_host(now)) {
         write_port(now->registers, block, BLOCK);
-        return;
+        return BLOCK;
     }
-    written = host->write_block ? host->write_block(host->context, block) : 2;
-    operation = WROTE_BLOCK;
+#endif
+    now->call.answer = now->host->write_block ? now->host->write_block(now->host->context, block) : 2;
+    now->call.operation = WROTE_BLOCK;
+    return BLOCK;
 }
 
 /* A register is asked for most. */
 int64_t kelifandro_put(int32_t stream, const uint8_t *bytes, uint64_t n)
 {
+    struct kelifandro_call *call = &now->call;
     (void)stream;
-    came = 0;
-    if (n == BLOCK) {
-        take_block(bytes);
-        return BLOCK;
-    }
-    operation = bytes[0];
-    if (operation == READ_REGISTER) {
-        register_size = bytes[1];
-        register_offset = bytes[2];
-        return 3;
-    }
-    take_record(bytes, (size_t)n);
-    return (int64_t)n;
+    call->came = 0;
+    if (n == BLOCK)
+        return take_block(bytes);
+    call->operation = bytes[0];
+    if (call->operation != READ_REGISTER)
+        return take_record(bytes, (size_t)n);
+    call->size = bytes[1];
+    call->offset = bytes[2];
+    return 3;
+}
+
+/* Whoever wants to show them has the registers that come as blocks: the SCR, and the EXT_CSD, which is what has the length of a sector in
+   a call that reads none. */
+static void show(const uint8_t *bytes, size_t n)
+{
+    uint8_t *to = n == sizeof now->scr ? now->scr : n == BLOCK ? now->ext_csd : 0;
+    for (size_t i = 0; to && i < n; i++)
+        to[i] = bytes[i];
 }
 
 /* The next block: a good one comes whole, a bad one as one byte, or none. */
 static int64_t answer_block(uint8_t *bytes, size_t n)
 {
     int what = 0;
-    if (now->host)
+#ifndef KELIFANDRO_WITHOUT_HOST
+    if (is_by_host(now))
         what = read_alone(now->host, bytes, n);
-    else
+#endif
+#ifndef KELIFANDRO_WITHOUT_REGISTERS
+    if (!is_by_host(now))
         read_port(now->registers, bytes, n);
+#endif
     if (what == 1)
-        operation = GOT_BAD;
-    return what == 0 ? (int64_t)n : what == 1;
+        now->call.operation = GOT_BAD;
+    if (what != 0)
+        return what == 1;
+    if (now->call.memory == now->call.block)
+        show(bytes, n);
+    return (int64_t)n;
 }
 
 /* What comes of the last record or block, once. */
 APART static int64_t answer(uint8_t *bytes, size_t n)
 {
-    const struct kelifandro_host *host = now->host;
-    uint8_t asked = operation;
-    operation = NOTHING;
+    struct kelifandro_call *call = &now->call;
+    uint8_t asked = call->operation;
+    call->operation = NOTHING;
     switch (asked) {
     case NOTHING:
         return answer_block(bytes, n);
+#ifndef KELIFANDRO_WITHOUT_HOST
     case SEND:
     case READ_WITH:
     case WRITE_WITH:
-        answer_command(host, asked != SEND, bytes);
+        answer_command(now->host, asked != SEND, bytes);
         return (int64_t)n;
     case LOOK:
-        *bytes = host->is_busy(host->context, look_time) != 0;
+        *bytes = now->host->is_busy(now->host->context, call->look_time) != 0;
         return 1;
     case WROTE_BLOCK:
-        *bytes = written == 0 ? 1 : written == 1 ? 2 : 0;
+        *bytes = call->answer == 0 ? 1 : call->answer == 1 ? 2 : 0;
         return 1;
+    case LIMITS:
+        bytes[0] = now->host->lines;
+        bytes[1] = now->host->high_speed;
+        return 2;
+#endif
+#ifndef KELIFANDRO_WITHOUT_REGISTERS
     case LEND_ROOM:
     case LEND_BLOCKS:
         answer_long(bytes, lend(now->registers));
@@ -408,46 +490,51 @@ APART static int64_t answer(uint8_t *bytes, size_t n)
     case LEND_TABLE:
         answer_long(bytes, lend_table(now->registers));
         return 8;
-    case LIMITS:
-        bytes[0] = host->lines;
-        bytes[1] = host->high_speed;
-        return 2;
+#endif
     default:
         return 0;
     }
 }
 
+#ifndef KELIFANDRO_WITHOUT_REGISTERS
+/* The register that was asked for. */
+APART static int64_t answer_register(uint8_t *bytes)
+{
+    struct kelifandro_call *call = &now->call;
+    call->operation = NOTHING;
+    if (call->offset == RESPONSE && is_unserved_question(call->command.index))
+        answer_word(bytes, 0);
+    else
+        answer_word(bytes, read_register(now->registers, call->offset, call->size));
+    return 4;
+}
+#endif
+
 /* Blocks that have come with a command are in their places already. */
 int64_t kelifandro_get(int32_t stream, uint8_t *bytes, uint64_t n)
 {
+    struct kelifandro_call *call = &now->call;
     (void)stream;
-    if (came) {
-        came--;
+    if (call->came) {
+        call->came--;
         return BLOCK;
     }
-    if (operation == READ_REGISTER) {
-        operation = NOTHING;
-        answer_word(bytes, read_register(now->registers, register_offset, register_size));
-        return 4;
-    }
+#ifndef KELIFANDRO_WITHOUT_REGISTERS
+    if (call->operation == READ_REGISTER)
+        return answer_register(bytes);
+#endif
     return answer(bytes, (size_t)n);
 }
 
 static int has_way(const struct kelifandro *kelifandro)
 {
-    return kelifandro->host || kelifandro->registers;
+    return is_by_host(kelifandro) ? kelifandro->host != 0 : kelifandro->registers != 0;
 }
 
 /* A number beyond all partitions names none. */
 static uint8_t part_number(enum kelifandro_part part)
 {
     return (unsigned)part <= KELIFANDRO_GP4 ? (uint8_t)part : 255;
-}
-
-/* Where no sector is named the memory isn't looked at, and may be a null pointer; the library wants one that isn't. */
-static void *memory_of(const void *bytes, size_t count)
-{
-    return count ? (void *)bytes : one_block;
 }
 
 enum { MOST = 65535 };
@@ -464,55 +551,117 @@ enum { SOFTWARE_RESET = 0x2f, RESET_COMMAND_AND_DATA = 6 };
    reset, so that the next call finds it as the driver wants it (SD Host Controller 3.00, section 2.2.16). */
 static int32_t ended(const struct kelifandro *kelifandro, int32_t result)
 {
+#ifndef KELIFANDRO_WITHOUT_REGISTERS
     const struct kelifandro_registers *registers = kelifandro->registers;
-    if (kelifandro->host || result > KELIFANDRO_FAILED_ANSWER || result < KELIFANDRO_FAILED_RECOVERY)
+    if (is_by_host(kelifandro) || result > KELIFANDRO_FAILED_ANSWER || result < KELIFANDRO_FAILED_RECOVERY)
         return result;
     write_register(registers, SOFTWARE_RESET, 1, RESET_COMMAND_AND_DATA);
     for (int look = 0; look < 1000 && read_register(registers, SOFTWARE_RESET, 1) & RESET_COMMAND_AND_DATA; look++)
         registers->pause(registers->context, 100);
+#endif
+    (void)kelifandro;
     return result;
 }
 
-static uint8_t begin(const struct kelifandro *kelifandro)
+/* A call begins: it may come while another one is made, of another card. Answers the way's number. Where no sector is named the memory
+   isn't looked at, and may be a null pointer; the library wants one that isn't. */
+APART static uint8_t begin(struct kelifandro *kelifandro, const void *memory, size_t count)
 {
+    struct kelifandro_call *call = &kelifandro->call;
+    call->before = now;
+    call->memory = count ? (void *)memory : call->block;
+    call->resets = (uint32_t)kelifandro->healed.resets;
+    call->operation = NOTHING;
+    call->came = call->lent = 0;
+    call->table_lent = 0;
     now = kelifandro;
-    operation = NOTHING;
-    came = lent = 0;
-    table_lent = 0;
-    if (kelifandro->host)
-        return 0;
-    return 1;
+    return !is_by_host(kelifandro);
 }
 
-/* The two bytes that nothing is kept in: the library may leave any there. */
-static void clear(struct kelifandro_card *card)
+/* It ends. In two bytes of the card nothing is kept: the library may leave any there. */
+APART static int32_t end(struct kelifandro *kelifandro, int32_t result)
 {
-    card->unused[0] = card->unused[1] = 0;
+    now = kelifandro->call.before;
+    kelifandro->card.unused[0] = kelifandro->card.unused[1] = 0;
+    if ((uint32_t)kelifandro->healed.resets != kelifandro->call.resets)
+        kelifandro->was_reset = 1;
+    return ended(kelifandro, result);
+}
+
+APART static int32_t open_once(struct kelifandro *kelifandro)
+{
+    return end(kelifandro, kelifandro_open_by(begin(kelifandro, 0, 0), &kelifandro->card, &kelifandro->healed));
+}
+
+/* Where the card's power can be switched it is on, and a card that isn't found has been without it once. */
+static int32_t open_with_power(struct kelifandro *kelifandro, const struct kelifandro_host *host)
+{
+    int32_t result;
+    host->set_power(host->context, 1);
+    result = open_once(kelifandro);
+    if (result != KELIFANDRO_NO_CARD)
+        return result;
+    host->set_power(host->context, 0);
+    host->set_power(host->context, 1);
+    return open_once(kelifandro);
 }
 
 int32_t kelifandro_open(struct kelifandro *kelifandro)
 {
+    const struct kelifandro_host *host = is_by_host(kelifandro) ? kelifandro->host : 0;
     int32_t result;
     if (!has_way(kelifandro))
         return KELIFANDRO_NO_HOST;
-    result = kelifandro_open_by(begin(kelifandro), &kelifandro->card, &kelifandro->healed);
-    clear(&kelifandro->card);
+    kelifandro->card.state = 0;
+    if (host && host->is_inserted && !host->is_inserted(host->context))
+        return KELIFANDRO_NOT_INSERTED;
+    for (size_t i = 0; i < sizeof kelifandro->scr; i++)
+        kelifandro->scr[i] = 0;
+    result = host && host->set_power ? open_with_power(kelifandro, host) : open_once(kelifandro);
+    kelifandro->was_reset = 0;
     return result;
 }
 
-/* Reads into the memory, or writes what is there. */
-APART static int32_t move(struct kelifandro *kelifandro, enum kelifandro_part part, uint64_t start, size_t count, void *bytes, int is_write)
+enum { POWER_CONTROL = 0x29 };
+
+void kelifandro_close(struct kelifandro *kelifandro)
 {
-    int32_t result;
+    kelifandro->card.state = 0;
+    if (!has_way(kelifandro))
+        return;
+#ifndef KELIFANDRO_WITHOUT_REGISTERS
+    if (!is_by_host(kelifandro))
+        write_register(kelifandro->registers, POWER_CONTROL, 1, 0);
+#endif
+    if (is_by_host(kelifandro) && kelifandro->host->set_power)
+        kelifandro->host->set_power(kelifandro->host->context, 0);
+}
+
+/* What a request is answered before the proved library sees it; DONE where that judges it. */
+APART static int32_t refused(const struct kelifandro *kelifandro)
+{
     if (!has_way(kelifandro))
         return KELIFANDRO_NO_HOST;
-    memory = memory_of(bytes, count);
-    result = is_write ? kelifandro_write_by(begin(kelifandro), &kelifandro->card, &kelifandro->healed, part_number(part), start,
-                                            memory, at_most(count))
-                      : kelifandro_read_by(begin(kelifandro), &kelifandro->card, &kelifandro->healed, part_number(part), start,
-                                           memory, at_most(count));
-    clear(&kelifandro->card);
-    return ended(kelifandro, result);
+    return is_unserved(&kelifandro->card) ? KELIFANDRO_NOT_OPEN : KELIFANDRO_DONE;
+}
+
+/* Reads into the memory, or writes what is there. */
+APART static int32_t move(struct kelifandro *kelifandro, enum kelifandro_part part, uint64_t start, size_t count, const void *bytes,
+                          int is_write)
+{
+    uint8_t way, number = part_number(part);
+    void *memory;
+    int32_t result = refused(kelifandro);
+    if (result != KELIFANDRO_DONE)
+        return result;
+    way = begin(kelifandro, bytes, count);
+    memory = kelifandro->call.memory;
+#ifndef KELIFANDRO_WITHOUT_WRITE
+    if (is_write)
+        return end(kelifandro, kelifandro_write_by(way, &kelifandro->card, &kelifandro->healed, number, start, memory, at_most(count)));
+#endif
+    (void)is_write;
+    return end(kelifandro, kelifandro_read_by(way, &kelifandro->card, &kelifandro->healed, number, start, memory, at_most(count)));
 }
 
 int32_t kelifandro_read(struct kelifandro *kelifandro, enum kelifandro_part part, uint64_t start, size_t count, void *bytes)
@@ -520,22 +669,25 @@ int32_t kelifandro_read(struct kelifandro *kelifandro, enum kelifandro_part part
     return move(kelifandro, part, start, count, bytes, 0);
 }
 
+#ifndef KELIFANDRO_WITHOUT_WRITE
 int32_t kelifandro_write(struct kelifandro *kelifandro, enum kelifandro_part part, uint64_t start, size_t count,
                          const void *bytes)
 {
-    return move(kelifandro, part, start, count, (void *)bytes, 1);
+    return move(kelifandro, part, start, count, bytes, 1);
 }
+#endif
 
+#ifndef KELIFANDRO_WITHOUT_ERASE
 /* Erases the sectors, or trims them. */
-static int32_t give_up(struct kelifandro *kelifandro, enum kelifandro_part part, uint64_t start, uint64_t count, int is_trim)
+APART static int32_t give_up(struct kelifandro *kelifandro, enum kelifandro_part part, uint64_t start, uint64_t count, int is_trim)
 {
-    int32_t result;
-    if (!has_way(kelifandro))
-        return KELIFANDRO_NO_HOST;
-    result = is_trim ? kelifandro_trim_by(begin(kelifandro), &kelifandro->card, &kelifandro->healed, part_number(part), start, count)
-                     : kelifandro_erase_by(begin(kelifandro), &kelifandro->card, &kelifandro->healed, part_number(part), start, count);
-    clear(&kelifandro->card);
-    return ended(kelifandro, result);
+    uint8_t way, number = part_number(part);
+    int32_t result = refused(kelifandro);
+    if (result != KELIFANDRO_DONE)
+        return result;
+    way = begin(kelifandro, 0, 0);
+    return end(kelifandro, is_trim ? kelifandro_trim_by(way, &kelifandro->card, &kelifandro->healed, number, start, count)
+                                   : kelifandro_erase_by(way, &kelifandro->card, &kelifandro->healed, number, start, count));
 }
 
 int32_t kelifandro_erase(struct kelifandro *kelifandro, enum kelifandro_part part, uint64_t start, uint64_t count)
@@ -547,11 +699,12 @@ int32_t kelifandro_trim(struct kelifandro *kelifandro, enum kelifandro_part part
 {
     return give_up(kelifandro, part, start, count, 1);
 }
+#endif
 
 /* What a request may name of a longer one: where a table of memory names less, what it names by lines of 12 bytes. */
 static size_t longest(const struct kelifandro *kelifandro)
 {
-    const struct kelifandro_registers *registers = kelifandro->host ? 0 : kelifandro->registers;
+    const struct kelifandro_registers *registers = is_by_host(kelifandro) ? 0 : kelifandro->registers;
     size_t lines = registers && registers->lend ? registers->table_size / 12 : 0;
     return lines && lines < MOST / 64 ? 64 * lines : MOST;
 }
@@ -566,8 +719,7 @@ static int32_t in_parts(struct kelifandro *kelifandro, enum kelifandro_part part
     while (result == KELIFANDRO_DONE && (sectors < count || count == 0)) {
         size_t n = count - sectors < most ? count - sectors : most;
         uint8_t *at = count ? bytes + 512 * sectors : bytes;
-        result = is_write ? kelifandro_write(kelifandro, part, start + sectors, n, at)
-                          : kelifandro_read(kelifandro, part, start + sectors, n, at);
+        result = move(kelifandro, part, start + sectors, n, at, is_write);
         sectors += result == KELIFANDRO_DONE ? n : 0;
     }
     if (done)
@@ -581,54 +733,48 @@ int32_t kelifandro_read_long(struct kelifandro *kelifandro, enum kelifandro_part
     return in_parts(kelifandro, part, start, count, bytes, 0, done);
 }
 
+#ifndef KELIFANDRO_WITHOUT_WRITE
 int32_t kelifandro_write_long(struct kelifandro *kelifandro, enum kelifandro_part part, uint64_t start, size_t count,
                               const void *bytes, size_t *done)
 {
     return in_parts(kelifandro, part, start, count, (uint8_t *)bytes, 1, done);
 }
+#endif
 
-/* A bit of Present State. */
-APART static int32_t is_present(const struct kelifandro *kelifandro, int bit)
+/* What a function of the host says, where there is one; else a bit of Present State, turned or not. */
+APART static int32_t is_present(const struct kelifandro *kelifandro, int (*told)(void *context), int bit, int is_turned)
 {
-    const struct kelifandro_registers *registers = kelifandro->registers;
-    if (kelifandro->host || !registers)
+    if (!has_way(kelifandro))
         return KELIFANDRO_NO_HOST;
-    return read_register(registers, PRESENT_STATE, 4) >> bit & 1;
+    if (is_by_host(kelifandro))
+        return told ? told(kelifandro->host->context) != 0 : KELIFANDRO_NO_HOST;
+#ifndef KELIFANDRO_WITHOUT_REGISTERS
+    return (int32_t)(read_register(kelifandro->registers, PRESENT_STATE, 4) >> bit & 1) ^ is_turned;
+#else
+    return (void)bit, (void)is_turned, KELIFANDRO_NO_HOST;
+#endif
 }
 
 int32_t kelifandro_is_inserted(const struct kelifandro *kelifandro)
 {
-    return is_present(kelifandro, 16);
+    return is_present(kelifandro, kelifandro->host ? kelifandro->host->is_inserted : 0, 16, 0);
 }
 
+/* Bit 19 says that a card may be written to. */
 int32_t kelifandro_is_write_protected(const struct kelifandro *kelifandro)
 {
-    int32_t is_writable = is_present(kelifandro, 19);
-    return is_writable < 0 ? is_writable : !is_writable;
+    return is_present(kelifandro, kelifandro->host ? kelifandro->host->is_write_protected : 0, 19, 1);
 }
 
+/* The sizes follow each other, and both boot partitions have one. */
 uint64_t kelifandro_sectors(const struct kelifandro *kelifandro, enum kelifandro_part part)
 {
     const struct kelifandro_card *card = &kelifandro->card;
-    if (card->state < 1 || card->state > 3)
+    unsigned number = (unsigned)part;
+    if (card->state < 1 || card->state > 3 || number > KELIFANDRO_GP4 || is_unserved(card))
         return 0;
-    switch (part) {
-    case KELIFANDRO_USER:
-        return card->user;
-    case KELIFANDRO_BOOT1:
-    case KELIFANDRO_BOOT2:
-        return card->boot;
-    case KELIFANDRO_GP1:
-        return card->gp1;
-    case KELIFANDRO_GP2:
-        return card->gp2;
-    case KELIFANDRO_GP3:
-        return card->gp3;
-    case KELIFANDRO_GP4:
-        return card->gp4;
-    default:
-        return 0;
-    }
+    number -= number > KELIFANDRO_BOOT1;
+    return *(const uint64_t *)((const uint8_t *)card + offsetof(struct kelifandro_card, user) + 8 * number);
 }
 
 const char *kelifandro_text(int32_t result)

@@ -11,10 +11,16 @@
    or new and all others unchanged. What is trusted: kelifandro.c, your functions, that each of them returns, and that pointers lead to room
    which is there.
 
-   The library takes no memory but 600 bytes of its own, needs memcpy and memset, and of the compiler's own library its arithmetic (a division of 64 bits, on 32),
-   and less than 9 KiB of stack (README has it by processor). It keeps to general registers, but that of x86_64, which uses SSE4.2 and the
-   red zone below the stack pointer: an interrupt has to keep the former and run on another stack, or leave 128 bytes alone; x86_64-kernel
-   uses neither. Its calls must not overlap: not from two threads, and not from a function that it calls. */
+   The library needs memcpy and memset, of the compiler's own library its arithmetic (a division of 64 bits, on 32), and less than 9 KiB
+   of stack (README has it by processor). It keeps to general registers, but that of x86_64, which uses SSE4.2 and the red zone below the
+   stack pointer: an interrupt has to keep the former and run on another stack, or leave 128 bytes alone; x86_64-kernel uses neither.
+
+   A small library is made without a way to the card, a kind of card, or erasing and writing: c/build --without, docs/PORTING.md.
+
+   All that it keeps is in struct kelifandro, but for one pointer to the card of the call that is made. So a function that it calls, or
+   an interrupt, may call it for another card meanwhile, which then ends first. Calls of several threads may overlap, each for a card of
+   its own, where kelifandro.c is compiled with -DKELIFANDRO_THREAD=__thread (or _Thread_local): each thread has a pointer of its own
+   then. Two calls for one card must not overlap. */
 #ifndef KELIFANDRO_H
 #define KELIFANDRO_H
 #include <stddef.h>
@@ -54,7 +60,7 @@ enum kelifandro_result {
     /* The card says what no card that is served may say: a register, or how it is addressed. Of a card that works elsewhere look at the
        words of R2. */
     KELIFANDRO_UNSUPPORTED = -21,
-    /* The controller has no 3.3 V, or doesn't tell its base clock, or has no card in it. */
+    /* The controller has no 3.3 V, or doesn't tell its base clock; or no card is in the slot. */
     KELIFANDRO_NO_VOLTAGE = -22,
     KELIFANDRO_NO_BASE_CLOCK = -23,
     KELIFANDRO_NOT_INSERTED = -24,
@@ -131,6 +137,15 @@ struct kelifandro_host {
        it. Where it always moves all, `send`, `read_block` and `write_block` may be 0: a block that it leaves is one that didn't come. */
     int (*transfer)(void *context, const struct kelifandro_command *command, uint32_t response[4], void *memory, size_t blocks,
                     struct kelifandro_moved *moved);
+    /* May be 0, each. Switches the card's 3.3 V on (1) or off (0), and returns once that is done: on, when the card has had them and a
+       clock of at most 400 kHz for a millisecond and 74 clocks, on one data line; off, when it has had less than 0.5 V for a millisecond
+       (SD Physical Layer 6.00, sections 6.4.1 and 6.4.2). kelifandro_open switches on before the first command; where no card answers it
+       switches off and on again, and tries once more; kelifandro_close switches off. */
+    void (*set_power)(void *context, int is_on);
+    /* May be 0, each. What the switches of the slot say: 1 where a card is in it, otherwise 0, which kelifandro_open looks at; and 1 where
+       the card's slide stands at "lock". */
+    int (*is_inserted)(void *context);
+    int (*is_write_protected)(void *context);
 };
 
 /* Why `send` heard no response; any other number but 0 is as a timeout. Each is a response that was lost: who can't tell gives
@@ -221,17 +236,45 @@ struct kelifandro_healed {
     uint64_t resets;    /* how many of these settlings reset the card */
 };
 
-/* A card and the way to it: one of the two pointers is set. */
+/* What the library keeps of the call that is made. Nobody else reads or writes it, and between two calls it means nothing. */
+struct kelifandro_call {
+    struct kelifandro *before; /* the card of the call that this one was made in */
+    uint32_t resets;           /* that were counted before, the lower half */
+    /* The memory of the request, and how many bytes of a table for DMA have come and are lent. */
+    void *memory;
+    size_t table_length, table_lent;
+    struct kelifandro_command command;
+    uint32_t look_time;
+    /* How many blocks may be moved with the command, have come with it, and are lent for DMA. */
+    uint16_t behind, came, lent;
+    uint8_t is_room, operation, size, offset;
+    int answer;
+    uint8_t block[512];
+};
+
+/* A card and the way to it: one of the first two pointers is set, and all else is 0 before the card is opened first. */
 struct kelifandro {
     const struct kelifandro_host *host;
     const struct kelifandro_registers *registers;
     struct kelifandro_card card;
     struct kelifandro_healed healed;
+    /* The SCR of an SD card as it came, bits 63 to 56 first (SD Physical Layer 6.00, section 5.6); 0 of an eMMC device. */
+    uint8_t scr[8];
+    /* May be 0. 512 bytes for the EXT_CSD of an eMMC device, to which it is copied as it came (JESD84-B51, section 7.4). */
+    uint8_t *ext_csd;
+    /* 1 once the card was reset and identified anew within a call after opening: its registers said that it is the same card, and who
+       keeps blocks of it elsewhere and can't rely on that drops them, and writes 0 here. */
+    uint8_t was_reset;
+    struct kelifandro_call call;
 };
 
 /* Opens the card, whatever became of it before, in three rounds at most, and counts from zero. At most 294 exchanges: a command, a
-   block and a look at DAT0 are one each. */
+   block and a look at DAT0 are one each; twice as many where the card's power is switched off and on. */
 int32_t kelifandro_open(struct kelifandro *kelifandro);
+
+/* The card isn't open any more, and without power: by set_power, where it is given, or by the controller's Power Control (SD Host
+   Controller 3.00, section 2.2.11). */
+void kelifandro_close(struct kelifandro *kelifandro);
 
 /* The size of a partition in sectors of 512 bytes, 0 where there is no such one, or the card isn't open. */
 uint64_t kelifandro_sectors(const struct kelifandro *kelifandro, enum kelifandro_part part);
@@ -255,9 +298,9 @@ int32_t kelifandro_trim(struct kelifandro *kelifandro, enum kelifandro_part part
 
 /* Nothing has to be flushed: what a call says is done is on the card, whose cache stays off (JESD84-B51 6.6.31). */
 
-/* What the switches of a slot say, by Present State of a controller whose registers are given (SD Host Controller 3.00, 2.2.9): 1 or 0;
-   KELIFANDRO_NO_HOST where none are. The library refuses a write only where the card itself is protected: whoever wants the switch
-   to count asks here first. */
+/* What the switches of a slot say, by the functions of a host, or by Present State of a controller whose registers are given (SD Host
+   Controller 3.00, section 2.2.9): 1 or 0; KELIFANDRO_NO_HOST where there is neither. The library refuses a write only where the card
+   itself is protected: whoever wants the switch to count asks here first. */
 int32_t kelifandro_is_inserted(const struct kelifandro *kelifandro);
 int32_t kelifandro_is_write_protected(const struct kelifandro *kelifandro);
 

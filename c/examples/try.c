@@ -189,13 +189,113 @@ static void long_requests(enum way way)
     expect(card.answers == before, "nothing is sent", way);
 }
 
-/* What the switches of the slot say. */
+/* What the switches of the slot say, and the card's power. */
+static int is_there, is_locked, is_hanging;
+static char power_told[8];
+
+static int tell_inserted(void *context)
+{
+    (void)context;
+    return is_there;
+}
+
+static int tell_write_protected(void *context)
+{
+    (void)context;
+    return is_locked;
+}
+
+static void switch_power(void *context, int is_on)
+{
+    (void)context;
+    strncat(power_told, is_on ? "1" : "0", sizeof power_told - 1 - strlen(power_told));
+    is_hanging = is_hanging && is_on;
+}
+
+static int send_unless_it_hangs(void *context, const struct kelifandro_command *command, uint32_t response[4])
+{
+    return is_hanging ? KELIFANDRO_TIMEOUT : card_host.send(context, command, response);
+}
+
 static void switches(enum way way)
 {
     begin(0, way);
     int by_registers = sd.registers != 0;
     expect(kelifandro_is_inserted(&sd) == (by_registers ? 1 : KELIFANDRO_NO_HOST), "inserted", way);
     expect(kelifandro_is_write_protected(&sd) == (by_registers ? 0 : KELIFANDRO_NO_HOST), "write protected", way);
+    expect(kelifandro_open(&sd) == KELIFANDRO_DONE, "open", way);
+    kelifandro_close(&sd);
+    expect(kelifandro_sectors(&sd, KELIFANDRO_USER) == 0 && controller.power == 0, "closed", way);
+    expect(kelifandro_read(&sd, KELIFANDRO_USER, 0, 1, back) == KELIFANDRO_NOT_OPEN, "not open", way);
+}
+
+/* A host that has a slot's switches and the card's power: of no card nothing is asked, and one that hangs is without power once. */
+static void slot(void)
+{
+    begin(0, HOST);
+    host.set_power = switch_power;
+    host.is_inserted = tell_inserted;
+    host.is_write_protected = tell_write_protected;
+    host.send = send_unless_it_hangs;
+    unsigned long before = card.answers;
+    expect(kelifandro_open(&sd) == KELIFANDRO_NOT_INSERTED && card.answers == before && !power_told[0], "no card", 0);
+    expect(kelifandro_is_inserted(&sd) == 0 && kelifandro_is_write_protected(&sd) == 0, "its switches", 0);
+    is_there = is_locked = is_hanging = 1;
+    expect(kelifandro_open(&sd) == KELIFANDRO_DONE && strcmp(power_told, "101") == 0, "a card that hangs", 0);
+    expect(kelifandro_is_inserted(&sd) == 1 && kelifandro_is_write_protected(&sd) == 1, "its switches, turned", 0);
+    kelifandro_close(&sd);
+    expect(strcmp(power_told, "1010") == 0, "without power", 0);
+}
+
+/* Registers that come as blocks are shown as they came; a card that was reset within a call says so until somebody has seen it. */
+static void shown(enum way way)
+{
+    static const uint8_t scr[8] = {0x02, 0x05, 0x00, 0x02}, none[8];
+    static uint8_t ext_csd[512];
+    begin(0, way);
+    sd.ext_csd = ext_csd;
+    expect(kelifandro_open(&sd) == KELIFANDRO_DONE && memcmp(sd.scr, scr, 8) == 0, "the SCR", way);
+    expect(ext_csd[192] == 0, "no EXT_CSD", way);
+    card.state = 0;
+    expect(kelifandro_read(&sd, KELIFANDRO_USER, 0, 1, back) == KELIFANDRO_DONE && sd.was_reset == 1, "opened anew", way);
+    expect(kelifandro_read(&sd, KELIFANDRO_USER, 0, 1, back) == KELIFANDRO_DONE && sd.was_reset == 1, "and it says so still", way);
+    sd.was_reset = 0;
+    expect(kelifandro_read(&sd, KELIFANDRO_USER, 0, 1, back) == KELIFANDRO_DONE && sd.was_reset == 0, "until that is seen", way);
+    begin(1, way);
+    sd.ext_csd = ext_csd;
+    memset(sd.scr, 1, 8);
+    expect(kelifandro_open(&sd) == KELIFANDRO_DONE && memcmp(sd.scr, none, 8) == 0, "no SCR", way);
+    expect(ext_csd[192] == 6 && ext_csd[213] == USER_SECTORS >> 8 && ext_csd[511] == 0, "the EXT_CSD", way);
+    memset(ext_csd, 0, sizeof ext_csd);
+    expect(kelifandro_read(&sd, KELIFANDRO_USER, 7, 2, back) == KELIFANDRO_DONE && ext_csd[192] == 0, "no sector for it", way);
+}
+
+/* A host of which each command asks for a sector of another card first. */
+static struct card other;
+static struct kelifandro_host other_host;
+static struct kelifandro other_sd;
+
+static int send_after_another(void *context, const struct kelifandro_command *command, uint32_t response[4])
+{
+    uint8_t sector[512];
+    expect(kelifandro_read(&other_sd, KELIFANDRO_USER, 9, 1, sector) == KELIFANDRO_DONE && sector[0] == 99, "the other card", 0);
+    return card_host.send(context, command, response);
+}
+
+static void within_each_other(void)
+{
+    card_begin(&other, 1);
+    other.user[9][0] = 99;
+    other_host = card_host;
+    other_host.context = &other;
+    other_sd = (struct kelifandro){.host = &other_host};
+    expect(kelifandro_open(&other_sd) == KELIFANDRO_DONE, "open", 0);
+    begin(0, HOST);
+    host.send = send_after_another;
+    expect(kelifandro_open(&sd) == KELIFANDRO_DONE, "open, with another card within", 0);
+    expect(kelifandro_write(&sd, KELIFANDRO_USER, 7, RUN, data) == KELIFANDRO_DONE, "write, with another card within", 0);
+    expect(kelifandro_read(&sd, KELIFANDRO_USER, 7, RUN, back) == KELIFANDRO_DONE, "read, with another card within", 0);
+    expect(memcmp(back, data, RUN * 512) == 0, "what was read", 0);
 }
 
 /* A controller before 3.00 has six bits for its base clock: a faster one, told by the board, is refused before anything is sent. */
@@ -284,7 +384,9 @@ int main(int words, char **word)
         each_in_turn(is_emmc, HOST), each_in_turn(is_emmc, SEVERAL_BLOCKS);
     late = 0;
     for (int way = HOST; way <= DMA_BY_WIDE_TABLE; way++)
-        refusals(way), long_requests(way), switches(way);
+        refusals(way), long_requests(way), switches(way), shown(way);
+    slot();
+    within_each_other();
     lost_ways();
     clocks();
     beyond_reach();

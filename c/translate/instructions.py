@@ -8,7 +8,8 @@ PREDICATES = set('eq ne ult ule ugt uge slt sle sgt sge'.split())
 FLAGS = set('nuw nsw exact disjoint nneg samesign inbounds nusw'.split())
 PURE_CALLS = tuple('umin umax smin smax usub.sat uadd.sat bswap ctlz cttz ctpop fshl fshr abs'.split())
 # Calls that say something to the optimizer alone.
-SILENT_CALLS = ('llvm.assume', 'llvm.experimental.noalias.scope.decl')
+# A trap stands before an end that is unreachable, which is written as one.
+SILENT_CALLS = ('llvm.assume', 'llvm.experimental.noalias.scope.decl', 'llvm.trap')
 LIFETIMES = ('llvm.lifetime.start', 'llvm.lifetime.end')
 
 

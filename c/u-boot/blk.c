@@ -104,14 +104,15 @@ int kelifandro_blk_open(struct udevice *blk)
 }
 
 /* A card that was reset within a call may be another one, or have lost power: what U-Boot's cache holds of it is dropped. */
-static void look_at_card(struct udevice *blk, const u8 cid[16], u64 resets)
+static void look_at_card(struct udevice *blk, const u8 cid[16])
 {
     struct kelifandro_blk *own = dev_get_plat(blk);
     struct blk_desc *desc = dev_get_uclass_plat(blk);
     bool is_another = memcmp(cid, own->kelifandro.card.cid, 16);
 
-    if (!is_another && own->kelifandro.healed.resets == resets)
+    if (!is_another && !own->kelifandro.was_reset)
         return;
+    own->kelifandro.was_reset = 0;
     own->opened_anew++;
     blkcache_invalidate(desc->uclass_id, desc->devnum);
     if (!is_another)
@@ -150,7 +151,6 @@ static ulong move(struct udevice *blk, lbaint_t start, lbaint_t count, void *byt
     struct blk_desc *desc = dev_get_uclass_plat(blk);
     bool is_aligned = IS_ALIGNED((ulong)bytes, ARCH_DMA_MINALIGN);
     lbaint_t longest = is_aligned ? own->longest : min_t(lbaint_t, own->longest, BOUNCED), done = 0;
-    u64 resets = own->kelifandro.healed.resets;
     u8 cid[16];
 
     memcpy(cid, own->kelifandro.card.cid, 16);
@@ -163,7 +163,7 @@ static ulong move(struct udevice *blk, lbaint_t start, lbaint_t count, void *byt
     }
     if (own->last != KELIFANDRO_DONE)
         log_err("%s: %s at " LBAFU ": %s\n", blk->name, is_write ? "write" : "read", start + done, kelifandro_text(own->last));
-    look_at_card(blk, cid, resets);
+    look_at_card(blk, cid);
     return done;
 }
 
@@ -190,7 +190,6 @@ static ulong blk_erase_sectors(struct udevice *blk, lbaint_t start, lbaint_t cou
 {
     struct kelifandro_blk *own = dev_get_plat(blk);
     struct blk_desc *desc = dev_get_uclass_plat(blk);
-    u64 resets = own->kelifandro.healed.resets;
     u8 cid[16];
 
     if (!is_open(blk))
@@ -201,7 +200,7 @@ static ulong blk_erase_sectors(struct udevice *blk, lbaint_t start, lbaint_t cou
         own->last = kelifandro_trim(&own->kelifandro, part_of(desc->hwpart), start, count);
     if (own->last != KELIFANDRO_DONE)
         log_err("%s: erase at " LBAFU ": %s\n", blk->name, start, kelifandro_text(own->last));
-    look_at_card(blk, cid, resets);
+    look_at_card(blk, cid);
     return own->last == KELIFANDRO_DONE ? count : 0;
 }
 
