@@ -24,9 +24,17 @@ def definitions(crate, file):
 
 
 @cache
+def home(crate, file):
+    """The crate in which a file of specs/ stands, also where this crate hands it on."""
+    lib = TOP / "crates" / crate / "specs" / "Lib.antt"
+    handed = lib.exists() and re.search(rf"^pub use Rattle\.(\w+)\.specs\.{file}$", lib.read_text(), re.M)
+    return handed[1] if handed else crate
+
+
+@cache
 def imports(path):
     """Which file of specs/ each imported word is from."""
-    return {word.split(" as ")[-1].strip(): (crate, file, word.split(" as ")[0].strip())
+    return {word.split(" as ")[-1].strip(): (home(crate, file), file, word.split(" as ")[0].strip())
             for crate, file, words in IMPORT.findall(path.read_text()) for word in words.split(",")}
 
 

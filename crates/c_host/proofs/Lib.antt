@@ -1,4 +1,3 @@
 pub mod MovedLemmas
-pub mod Walks
 pub mod WritesLemmas
 pub mod WaysLemmas

@@ -1,18 +1,24 @@
 // What was put to C, and what came. It exists only in proofs: a diary has no bytes, and its functions do nothing at run time.
-ghost use Rattle.std.specs.Prelude.{◌≡◌, ◌∷◌, [], List};
 ghost use Rattle.std.specs.Borrow.{ftrue};
 ghost use Rattle.c_host.specs.Talk.{Talk};
 
+use ghost_diary::Noted;
 use std::marker::Model;
 
 /// What went to C and came from it so far. Only proofs read it.
+pub type Diary = ghost_diary::Diary<Entry>;
+
+/// One talk with C, as proofs see it. It has no bytes.
 #[derive(Drop)]
-pub struct Diary {
-    // the last one first
-    pub ghost past: { List Talk },
+pub struct Entry {
+    ghost talk: { Talk },
 }
 
-impl Model for Diary {
+impl Model for Entry {
+    ghost Value = { Talk };
+
+    ghost view = { λ entry. entry.talk };
+
     ghost also_owns = { λ _. ftrue };
 }
 
@@ -47,21 +53,8 @@ pub struct Note<'a> {
     pub call: Call<'a>,
 }
 
-impl Diary {
+impl Noted<Entry> for Note<'_> {
     ghost use Rattle.c_host.specs.Noted.{talk_of};
 
-    /// Nothing so far.
-    pub fn new() -> Diary
-        ensures { result.past ≡ [] }
-    {
-        Diary {}
-    }
-
-    /// One more.
-    #[inline(always)]
-    pub fn then(&self, _note: &Note<'_>) -> Diary
-        ensures { result.past ≡ talk_of _note.now ∷ self.now.past }
-    {
-        Diary {}
-    }
+    ghost says = { talk_of };
 }

@@ -18,9 +18,9 @@ use Rattle.mmc_card_sim.specs.CardSpec.{each_register_is_taken, has_access_mode,
 use Rattle.mmc_card_sim.specs.CardSpec.{has_no_ready_bit, has_ocr, has_short_waits, has_user_sectors, image_is_taken, kind_is_taken}
 use Rattle.mmc_card_sim.specs.CardSpec.{refusal_of, registers_are_taken, works_at_3_3_volts}
 use Rattle.mmc_card_sim.specs.Registers.{ext_csd_of, kind_of, made_of}
-use Rattle.mmc_card_sim.specs.declared.registers.KindRegisters.{KindRegisters}
-use Rattle.mmc_card_sim.specs.declared.registers.KindRegisters.TheVariants.{Mmc, Sd}
-use Rattle.mmc_card_sim.specs.declared.registers.Registers.{Registers}
+use Rattle.mmc_card_rows.specs.declared.registers.KindRegisters.{KindRegisters}
+use Rattle.mmc_card_rows.specs.declared.registers.KindRegisters.TheVariants.{Mmc, Sd}
+use Rattle.mmc_card_rows.specs.declared.registers.Registers.{Registers}
 use Rattle.mmc_card_sim.specs.declared.spec.BuildFault.TheVariants.{ImageSize, Register}
 use Rattle.mmc_card_sim.specs.declared.spec.CardSpec.{CardSpec}
 use Rattle.card_check.specs.Registers.{check_line, contradictions, csd_text, is_checked, kind_text}

@@ -1,7 +1,7 @@
 -- Whether an image fits.
 use Rattle.std.specs.Prelude.{ℕ, ◌*◌, ◌-◌, ◌/◌, ◌%◌, ◌==◌, ◌&&◌, ◌++◌, ◌^◌, Bool, List, [], codes, if◌then◌else◌, min, nat_lt}
 use Rattle.std.specs.Fmt.{decimal}
-use Rattle.mmc_card_sim.specs.declared.store.TheConstants.{MAX_SECTORS}
+use Rattle.mmc_card_sim.specs.declared.spec.TheConstants.{MAX_SECTORS}
 
 -- 512 bytes for each sector
 abbrev pub is_image : ℕ → ℕ → Bool

@@ -17,9 +17,9 @@ use Rattle.mmc_card_sim.specs.CardSpec.{refusal_of, works_at_3_3_volts}
 use Rattle.mmc_card_sim.specs.Registers.{ext_csd_of, kind_of, made_of}
 use Rattle.mmc_card_sim.specs.SimView.{first_parts}
 use Rattle.mmc_card_sim.specs.Store.{bytes_of}
-use Rattle.mmc_card_sim.specs.declared.registers.KindRegisters.{KindRegisters}
-use Rattle.mmc_card_sim.specs.declared.registers.KindRegisters.TheVariants.{Mmc, Sd}
-use Rattle.mmc_card_sim.specs.declared.registers.Registers.{Registers}
+use Rattle.mmc_card_rows.specs.declared.registers.KindRegisters.{KindRegisters}
+use Rattle.mmc_card_rows.specs.declared.registers.KindRegisters.TheVariants.{Mmc, Sd}
+use Rattle.mmc_card_rows.specs.declared.registers.Registers.{Registers}
 use Rattle.mmc_card_sim.specs.declared.spec.BuildFault.{BuildFault}
 use Rattle.mmc_card_sim.specs.declared.spec.BuildFault.TheVariants.{ImageSize}
 use Rattle.mmc_card_sim.specs.declared.spec.CardSpec.{CardSpec}

@@ -4,13 +4,12 @@ ghost use Rattle.card_commands.specs.Checked.{DescribesCard};
 
 use crate::fault::CommandFault;
 use card_check::{CheckFault, check_card, check_image, check_registers, check_script};
+use card_served::{ServeFault, image_front, named_file, opened, whole};
 use card_text::card_file::MAX_CARD_FILE;
-use card_text::input::{ReadFault, read_bounded, read_front};
 use card_text::script::MAX_SCRIPT;
 use clap::{Arg, Command};
 use mmc_card_sim::MAX_SECTORS;
 use std::alloc::Global;
-use std::fs::File;
 use std::io::{Read, Write};
 use std::rt::Files;
 use text_out::put::put;
@@ -50,23 +49,6 @@ fn of_check(fault: CheckFault) -> CommandFault {
     }
 }
 
-// The whole of an input, or its fault, `unread` where the reader failed.
-fn whole<R: Read>(
-    alloc: Global,
-    input: &mut R,
-    limit: usize,
-    unread: CommandFault,
-) -> Result<Vec<u8>, CommandFault>
-    ensures { IfOk result (λ bytes. IfSome (R.remaining input.old) (λ all. bytes.items ≡ all)) }
-{
-    match read_bounded(alloc, input, limit) {
-        Ok(bytes) => Ok(bytes),
-        Err(ReadFault::Reader) => Err(unread),
-        Err(ReadFault::TooLong) => Err(CommandFault::TooLong),
-        Err(ReadFault::NoMemory) => Err(CommandFault::NoMemory),
-    }
-}
-
 // Checks a card file and its registers. The answer is the number of its sectors where nothing is wrong.
 fn check_card_text<W: Write>(
     alloc: Global,
@@ -89,7 +71,7 @@ fn check_card_file<C: Read, W: Write>(
 ) -> Result<Option<usize>, CommandFault>
     ensures { IfOk result (λ checked. IsSome checked → IfSome (C.remaining card.old) DescribesCard) }
 {
-    let text = whole(alloc, card, MAX_CARD_FILE, CommandFault::ReadCard)?;
+    let text = whole(alloc, card, MAX_CARD_FILE, ServeFault::ReadCard)?;
     match check_card_text(alloc, text.as_slice(), out) {
         Ok(checked) => Ok(checked),
         Err(fault) => Err(of_check(fault)),
@@ -105,7 +87,7 @@ fn check_script_file<S: Read, W: Write>(
     let Some(script) = script else {
         return Ok(true);
     };
-    let text = whole(alloc, script, MAX_SCRIPT, CommandFault::ReadScript)?;
+    let text = whole(alloc, script, MAX_SCRIPT, ServeFault::ReadScript)?;
     check_script(alloc, text.as_slice(), out).map_err(of_check)
 }
 
@@ -119,18 +101,15 @@ fn check_image_file<I: Read, W: Write>(
     let (Some(image), Some(sectors)) = (image, sectors) else {
         return Ok(true);
     };
-    match read_front(alloc, image, 512 * MAX_SECTORS + 1) {
-        Ok(bytes) => check_image(sectors, bytes.len(), out).map_err(of_check),
-        Err(ReadFault::NoMemory) => Err(CommandFault::NoMemory),
-        Err(_) => Err(CommandFault::ReadImage),
-    }
+    let bytes = image_front(alloc, image, 512 * MAX_SECTORS + 1)?;
+    check_image(sectors, bytes.len(), out).map_err(of_check)
 }
 
 /// Writes a line for whatever is wrong with a card file, a script and an image, or that nothing is, which the answer says too.
 ///
 /// # Errors
-/// `ReadCard`, `ReadScript` and `ReadImage` of a reader that failed; `TooLong` of a card file above 65,536 bytes or a script above
-/// 1,048,576; `NoMemory`; `Write`, where a front of the lines went out.
+/// `Unread` of a reader that failed, of a card file above 65,536 bytes and of a script above 1,048,576; `NoMemory`; `Write`, where a
+/// front of the lines went out.
 pub fn check_inputs<C: Read, S: Read, I: Read, W: Write>(
     alloc: Global,
     card: &mut C,
@@ -150,21 +129,6 @@ pub fn check_inputs<C: Read, S: Read, I: Read, W: Write>(
     Ok(good)
 }
 
-// Opens a file, where one is named.
-fn opened<R: Files>(
-    rt: &R,
-    name: Option<&str>,
-    unread: CommandFault,
-) -> Result<Option<R::File>, CommandFault> {
-    match name {
-        None => Ok(None),
-        Some(name) => match File::open(rt, name) {
-            Ok(file) => Ok(Some(file)),
-            Err(_) => Err(unread),
-        },
-    }
-}
-
 /// Checks the files that the words name, of which `check` is the first.
 ///
 /// # Errors
@@ -175,10 +139,8 @@ pub fn check<W: Write>(
     out: &mut W,
 ) -> Result<bool, CommandFault> {
     let names = names_given(rt.alloc(), words)?;
-    let Ok(mut card) = File::open(rt, names.card) else {
-        return Err(CommandFault::ReadCard);
-    };
-    let mut script = opened(rt, names.script, CommandFault::ReadScript)?;
-    let mut image = opened(rt, names.image, CommandFault::ReadImage)?;
+    let mut card = opened(rt, names.card, ServeFault::ReadCard)?;
+    let mut script = named_file(rt, names.script, ServeFault::ReadScript)?;
+    let mut image = named_file(rt, names.image, ServeFault::ReadImage)?;
     check_inputs(rt.alloc(), &mut card, &mut script, &mut image, out)
 }

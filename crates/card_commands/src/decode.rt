@@ -4,7 +4,7 @@ ghost use Rattle.card_commands.specs.Printed.{PrintsDecoded};
 ghost use Rattle.card_commands.specs.declared.fault.CommandFault.TheVariants as Fault;
 
 use crate::fault::CommandFault;
-use card_text::input::{ReadFault, read_bounded};
+use card_served::{ServeFault, whole};
 use clap::{Arg, Command};
 use exchange_words::put_frame;
 use mmc_frame::Kind;
@@ -100,20 +100,16 @@ fn put_input<R: Read, W: Write>(
     ensures printed { IfOk result (λ _. PrintsDecoded (W.contents out.old) (W.contents out.new)) }
     ensures unprinted { IfErr result (λ fault. (fault ≡ Fault.Write → ⊥) → W.contents out.new ≡ W.contents out.old) }
 {
-    match read_bounded(alloc, input, MAX_DIGITS) {
-        Ok(digits) => put_subject(alloc, subject, kind, digits.as_slice(), out),
-        Err(ReadFault::Reader) => Err(CommandFault::ReadInput),
-        Err(ReadFault::TooLong) => Err(CommandFault::TooLong),
-        Err(ReadFault::NoMemory) => Err(CommandFault::NoMemory),
-    }
+    let digits = whole(alloc, input, MAX_DIGITS, ServeFault::ReadInput)?;
+    put_subject(alloc, subject, kind, digits.as_slice(), out)
 }
 
 /// Decodes as the words say, of which `decode` is the first: a register or a frame, field by field. Without digits among the words
 /// they are read from `input`.
 ///
 /// # Errors
-/// `Usage`, `Value` or `NoRegister` for other words; then `ReadInput` and `TooLong` of the input, `Hex` and `NoFrame` of the
-/// digits; `NoMemory`; `Write`, where a front of the lines went out.
+/// `Usage`, `Value` or `NoRegister` for other words; then `Unread` of the input, `Hex` and `NoFrame` of the digits; `NoMemory`;
+/// `Write`, where a front of the lines went out.
 pub fn decode<R: Read, W: Write>(
     alloc: Global,
     words: &[&str],

@@ -1,10 +1,11 @@
 // Why a command prints nothing.
 ghost use Rattle.std.specs.Prelude.{◌≡◌};
-ghost use Rattle.card_commands.specs.declared.fault.CommandFault.TheVariants.{NoMemory, Usage, Write};
+ghost use Rattle.card_commands.specs.declared.fault.CommandFault.TheVariants.{NoMemory, Unread, Write};
 
 use card_check::CheckFault;
 use card_maker::MakeFault;
 use card_nbd::NbdFault;
+use card_served::ServeFault;
 use register_words::HexFault;
 use std::alloc::{AllocError, AllocFailed};
 use std::io;
@@ -27,21 +28,9 @@ pub enum CommandFault {
     /// There is no such register.
     #[error("the registers are ocr, cid, csd, scr, ext_csd, status, switch and frame")]
     NoRegister,
-    /// The card file couldn't be read.
-    #[error("read card")]
-    ReadCard,
-    /// The script couldn't be read.
-    #[error("read script")]
-    ReadScript,
-    /// The image couldn't be read.
-    #[error("read image")]
-    ReadImage,
-    /// Standard input couldn't be read.
-    #[error("read input")]
-    ReadInput,
-    /// A file is longer than it may be.
-    #[error("too long")]
-    TooLong,
+    /// A file or standard input wasn't read.
+    #[error("{0}")]
+    Unread(ServeFault),
     /// The digits aren't those of the register.
     #[error("{0}")]
     Hex(HexFault),
@@ -75,6 +64,14 @@ impl<T: Drop> From<AllocFailed<T>> for CommandFault {
 
     fn from(_error: AllocFailed<T>) -> CommandFault {
         CommandFault::NoMemory
+    }
+}
+
+impl From<ServeFault> for CommandFault {
+    ghost from_gives = { λ fault e. e ≡ Unread fault };
+
+    fn from(fault: ServeFault) -> CommandFault {
+        CommandFault::Unread(fault)
     }
 }
 

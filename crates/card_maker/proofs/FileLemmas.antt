@@ -13,11 +13,11 @@ use Rattle.mmc_frame.specs.declared.kind.Kind.{Kind as CardKind}
 use Rattle.mmc_frame.specs.declared.kind.Kind.TheVariants as Is
 use Rattle.mmc_card_sim.specs.CardSpec.{HasOwnWidths, HasWidths}
 use Rattle.mmc_card_sim.specs.Registers.{kind_of as kind_by}
-use Rattle.mmc_card_sim.specs.declared.registers.KindRegisters.{KindRegisters}
-use Rattle.mmc_card_sim.specs.declared.registers.KindRegisters.TheVariants as Has
-use Rattle.mmc_card_sim.specs.declared.registers.SdRegisters.{SdRegisters}
+use Rattle.mmc_card_rows.specs.declared.registers.KindRegisters.{KindRegisters}
+use Rattle.mmc_card_rows.specs.declared.registers.KindRegisters.TheVariants as Has
+use Rattle.mmc_card_rows.specs.declared.registers.SdRegisters.{SdRegisters}
 use Rattle.mmc_card_sim.specs.declared.spec.CardSpec.{CardSpec}
-use Rattle.mmc_card_sim.specs.declared.spec.Refusal.{Refusal}
+use Rattle.mmc_card_rows.specs.declared.delays.Refusal.{Refusal}
 use Rattle.text_out.specs.Hex.{hex_text}
 use Rattle.card_text.specs.declared.card_line.CardLine.{CardLine}
 use Rattle.card_text.specs.declared.card_line.CardLine.TheVariants.{Cid, Cmd8, Csd, Ext, HighSpeed, Kind, Ocr, Scr, Sectors}

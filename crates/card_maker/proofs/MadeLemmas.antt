@@ -10,7 +10,7 @@ use Rattle.mmc_card_sim.specs.CardSpec.{has_early_bits, has_user_sectors, image_
 use Rattle.mmc_card_sim.specs.CardSpec.{sizes_of, takes_image}
 use Rattle.mmc_card_sim.specs.Registers.{made_of}
 use Rattle.mmc_card_sim.specs.Sizes.{total}
-use Rattle.mmc_card_sim.specs.declared.registers.Registers.{Registers}
+use Rattle.mmc_card_rows.specs.declared.registers.Registers.{Registers}
 use Rattle.mmc_card_sim.specs.declared.spec.CardSpec.{CardSpec}
 use Rattle.card_maker.specs.NewExtCsd.{new_ext_csd}
 use Rattle.card_maker.specs.NewRegisters.{checked_register, csd_by_blocks, csd_v2, mmc_registers, new_scr, sd_classes, sd_registers}

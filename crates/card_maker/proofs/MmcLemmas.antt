@@ -1,14 +1,17 @@
 -- The registers of a new eMMC device.
 use Rattle.std.proofs.Common.{◌≡◌, ℕ, ◌*◌, ◌^◌, ◌<◌, ◌≤◌, List, Bool, true, cond, inl, inr}
 use Rattle.std.proofs.Common.{sym, refl, ap, ◌∙◌, arith}
-use Rattle.std.specs.Prelude.{◌==◌, is_ok, nat_le, not}
+use Rattle.std.specs.Prelude.{◌==◌, ◌⊎◌, is_ok, nat_le, nat_lt, not}
 use Rattle.std.proofs.lemmas.Bool.{and_from, le-leb, le-ltb, lt-ltb}
 use Rattle.mmc_frame.specs.declared.kind.Kind.TheVariants as Is
 use Rattle.mmc_regs.specs.Csd.{csd_from, has_block_length}
 use Rattle.mmc_regs.specs.CsdFields.{read_bl_len}
 use Rattle.mmc_regs.specs.Register.{register_number}
 use Rattle.mmc_ext_csd.specs.ExtCsd.{hc_erase_grp_size, sec_count}
-use Rattle.mmc_card.specs.Made.{is_read_only}
+use Rattle.mmc_regs.specs.Ocr.{window_at_3_3_volts}
+use Rattle.mmc_card.specs.Made.{has_sector_addresses, is_read_only, user_sectors}
+use Rattle.mmc_card.specs.Profile.{IsByteAddressed, IsSectorAddressed}
+use Rattle.mmc_card_sim.specs.CardSpec.{has_access_mode, has_ocr}
 use Rattle.mmc_card_sim.specs.Registers.{made_of}
 use Rattle.card_maker.specs.NewExtCsd.{new_ext_csd}
 use Rattle.card_maker.specs.NewRegisters.{checked_register, csd_by_blocks, mmc_registers}
@@ -28,22 +31,19 @@ erases unit one = rw one refl
 some_unit : (unit : ℕ) → unit ≡ 1 → unit ≡ 0 → ⊥
 some_unit unit one none = absurd (omega (arith, one, none))
 
--- at most 2 GiB
-pub bytes_card : (sectors read size mult cid number boot gp count : ℕ) (speed protect : Bool) → SaysCount read size mult sectors
-    → sectors ≤ 4194304 → boot < 256 → number ≡ csd_by_blocks MMC_FIXED 0x0f5 read size mult protect
-    → IsCardOf Is.Mmc sectors (mmc_registers 0x00ff8080 (checked_register cid) (checked_register number)
-    (new_ext_csd count boot gp speed))
-bytes_card sectors read size mult cid number boot gp count speed protect says_size small few is =
-    let n = register_number (checked_register number) in
-    let block = new_ext_csd count boot gp speed in
-    let says = mmc_csd_says 0x0f5 read size mult protect (omega arith) (omega (arith, says_size.most_block)) says_size.fits
-    says_size.mult_fits number is in
-    let length : has_block_length (read_bl_len n) ≡ true =
-    ap has_block_length says.read ∙ block_length_taken read says_size.least_block says_size.most_block in
+-- a device of either size, whose OCR, addresses and size go together
+device : (ocr sectors count cid number boot gp : ℕ) (speed : Bool) → boot < 256 → ocr < 2 ^ 32
+    → has_ocr ocr ≡ true → has_access_mode ocr ≡ true → window_at_3_3_volts ocr ≡ 3
+    → (let registers = mmc_registers ocr (checked_register cid) (checked_register number) (new_ext_csd count boot gp speed) in
+    let made = made_of registers in
+    IsByteAddressed made ⊎ IsSectorAddressed made → has_sector_addresses made ≡ nat_lt 4194304 sectors
+    → user_sectors made ≡ sectors → IsCardOf Is.Mmc sectors registers)
+device ocr sectors count cid number boot gp speed few width has_one mode window addressed addresses size =
+    let unit = hc_erase_grp_size (new_ext_csd count boot gp speed) in
     record {
       kind_is = refl;
       widths = record {
-        ocr = omega arith;
+        ocr = width;
         cid = checked_length cid;
         csd = checked_length number;
         cid_bytes = checked_bytes cid;
@@ -52,58 +52,46 @@ bytes_card sectors read size mult cid number boot gp count speed protect says_si
       };
       taken = and_from _ _ (ap is_ok (checked_taken cid))
           (and_from _ _ (ap (λ r. is_ok (csd_from Is.Mmc r)) (checked_taken number))
-          (erases (hc_erase_grp_size block) (ext_unit count boot gp speed)));
+          (and_from _ _ has_one (and_from _ _ mode (erases unit (ext_unit count boot gp speed)))));
       in_profile = record {
-        window = refl;
+        window = window;
         unlocked = refl;
         sd = λ e. cc;
         mmc = λ _. record {
           revision = omega (arith, ext_rev count boot gp speed);
           sector_size = ext_sector_size count boot gp speed;
           unprotected = ext_unprotected count boot gp speed;
-          erase_group = some_unit (hc_erase_grp_size block) (ext_unit count boot gp speed);
-          addresses = inl (record { mode = refl; read_length = length });
+          erase_group = some_unit unit (ext_unit count boot gp speed);
+          addresses = addressed;
         };
       };
-      addresses = sym (le-ltb 4194304 sectors small);
-      size = blocks_say n 0x0f5 read size mult sectors protect says says_size;
+      addresses = addresses;
+      size = size;
     }
+
+-- at most 2 GiB
+pub bytes_card : (sectors read size mult cid number boot gp count : ℕ) (speed protect : Bool) → SaysCount read size mult sectors
+    → sectors ≤ 4194304 → boot < 256 → number ≡ csd_by_blocks MMC_FIXED 0x0f5 read size mult protect
+    → IsCardOf Is.Mmc sectors (mmc_registers 0x00ff8080 (checked_register cid) (checked_register number)
+    (new_ext_csd count boot gp speed))
+bytes_card sectors read size mult cid number boot gp count speed protect says_size small few is =
+    let n = register_number (checked_register number) in
+    let says = mmc_csd_says 0x0f5 read size mult protect (omega arith) (omega (arith, says_size.most_block)) says_size.fits
+    says_size.mult_fits number is in
+    let length : has_block_length (read_bl_len n) ≡ true =
+    ap has_block_length says.read ∙ block_length_taken read says_size.least_block says_size.most_block in
+    device 0x00ff8080 sectors count cid number boot gp speed few (omega arith) refl refl refl
+    (inl (record { mode = refl; read_length = length })) (sym (le-ltb 4194304 sectors small))
+    (blocks_say n 0x0f5 read size mult sectors protect says says_size)
 
 -- above 2 GiB
 pub sectors_card : (sectors cid number boot gp : ℕ) (speed : Bool) → 4194304 < sectors → sectors < 2 ^ 32 → boot < 256
     → IsCardOf Is.Mmc sectors (mmc_registers 0x40ff8080 (checked_register cid) (checked_register number)
     (new_ext_csd sectors boot gp speed))
 sectors_card sectors cid number boot gp speed large fits few =
-    let block = new_ext_csd sectors boot gp speed in
-    let count : sec_count block ≡ sectors = ext_sectors sectors boot gp speed fits in
-    record {
-      kind_is = refl;
-      widths = record {
-        ocr = omega arith;
-        cid = checked_length cid;
-        csd = checked_length number;
-        cid_bytes = checked_bytes cid;
-        csd_bytes = checked_bytes number;
-        own = (ext_length sectors boot gp speed, ext_bytes sectors boot gp speed few);
-      };
-      taken = and_from _ _ (ap is_ok (checked_taken cid))
-          (and_from _ _ (ap (λ r. is_ok (csd_from Is.Mmc r)) (checked_taken number))
-          (erases (hc_erase_grp_size block) (ext_unit sectors boot gp speed)));
-      in_profile = record {
-        window = refl;
-        unlocked = refl;
-        sd = λ e. cc;
-        mmc = λ _. record {
-          revision = omega (arith, ext_rev sectors boot gp speed);
-          sector_size = ext_sector_size sectors boot gp speed;
-          unprotected = ext_unprotected sectors boot gp speed;
-          erase_group = some_unit (hc_erase_grp_size block) (ext_unit sectors boot gp speed);
-          addresses = inr (record { mode = refl; counted = λ none. absurd (omega (arith, count, none)) });
-        };
-      };
-      addresses = sym (lt-ltb 4194304 sectors large);
-      size = count;
-    }
+    let count : sec_count (new_ext_csd sectors boot gp speed) ≡ sectors = ext_sectors sectors boot gp speed fits in
+    device 0x40ff8080 sectors sectors cid number boot gp speed few (omega arith) refl refl refl
+    (inr (record { mode = refl; counted = λ none. absurd (omega (arith, count, none)) })) (sym (lt-ltb 4194304 sectors large)) count
 
 -- ---- what else is wanted
 

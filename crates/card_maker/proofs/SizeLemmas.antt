@@ -16,8 +16,8 @@ use Rattle.mmc_card.specs.Made.{Made, csd_number_of, has_sector_addresses, is_mm
 use Rattle.mmc_card.specs.Profile.{IsByteAddressed, IsHighCapacity, IsSectorAddressed, IsStandardCapacity}
 use Rattle.mmc_card_sim.specs.CardSpec.{HasOwnWidths}
 use Rattle.mmc_card_sim.specs.Registers.{ext_csd_of, made_of}
-use Rattle.mmc_card_sim.specs.declared.registers.KindRegisters.{KindRegisters}
-use Rattle.mmc_card_sim.specs.declared.registers.KindRegisters.TheVariants as Has
+use Rattle.mmc_card_rows.specs.declared.registers.KindRegisters.{KindRegisters}
+use Rattle.mmc_card_rows.specs.declared.registers.KindRegisters.TheVariants as Has
 use Rattle.card_maker.specs.NewRegisters.{csd_by_blocks, csd_v2, sd_classes}
 use Rattle.card_maker.specs.Sizes.{HasSize, IsByteCount, IsCount, IsSizeFault, SaysCount}
 use Rattle.card_maker.specs.declared.csd.TheConstants.{MMC_FIXED, V1_FIXED, V2_FIXED}

@@ -5,9 +5,9 @@ use Rattle.std.specs.Fmt.{decimal}
 use Rattle.text_out.specs.Hex.{hex_text}
 use Rattle.mmc_frame.specs.declared.kind.Kind.{Kind}
 use Rattle.mmc_frame.specs.declared.kind.Kind.TheVariants as Is
-use Rattle.mmc_card_sim.specs.declared.registers.KindRegisters.{KindRegisters}
-use Rattle.mmc_card_sim.specs.declared.registers.KindRegisters.TheVariants.{Mmc, Sd}
-use Rattle.mmc_card_sim.specs.declared.registers.SdRegisters.{SdRegisters}
+use Rattle.mmc_card_rows.specs.declared.registers.KindRegisters.{KindRegisters}
+use Rattle.mmc_card_rows.specs.declared.registers.KindRegisters.TheVariants.{Mmc, Sd}
+use Rattle.mmc_card_rows.specs.declared.registers.SdRegisters.{SdRegisters}
 use Rattle.mmc_card_sim.specs.declared.spec.CardSpec.{CardSpec}
 use Rattle.mmc_card_sim.specs.Registers.{kind_of}
 use Rattle.card_maker.specs.FileLines.{choice_word, ended_lines, number_line, register_line, word_line}

@@ -2,8 +2,8 @@
 use Rattle.std.specs.Prelude.{ℕ, ◌+◌, ◌*◌, ◌/◌, ◌^◌, List, [], ◌∷◌, Bool, false, true, if◌then◌else◌}
 use Rattle.byteorder.specs.Endian.{big_bytes}
 use Rattle.mmc_frame.specs.RegisterFrame.{with_check}
-use Rattle.mmc_card_sim.specs.declared.registers.KindRegisters.TheVariants.{Mmc, Sd}
-use Rattle.mmc_card_sim.specs.declared.registers.Registers.{Registers}
+use Rattle.mmc_card_rows.specs.declared.registers.KindRegisters.TheVariants.{Mmc, Sd}
+use Rattle.mmc_card_rows.specs.declared.registers.Registers.{Registers}
 
 -- the register with bits 127 to 8 of this number, and its check
 unfoldable pub checked_register : ℕ → List ℕ

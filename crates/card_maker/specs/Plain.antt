@@ -1,7 +1,7 @@
 -- Cards that do nothing but what the registers say.
 use Rattle.std.specs.Prelude.{◌≡◌, false, true, None}
-use Rattle.mmc_card_sim.specs.declared.registers.KindRegisters.{KindRegisters}
-use Rattle.mmc_card_sim.specs.declared.registers.KindRegisters.TheVariants.{Mmc, Sd}
+use Rattle.mmc_card_rows.specs.declared.registers.KindRegisters.{KindRegisters}
+use Rattle.mmc_card_rows.specs.declared.registers.KindRegisters.TheVariants.{Mmc, Sd}
 use Rattle.mmc_card_sim.specs.declared.spec.CardSpec.{CardSpec}
 
 -- an SD card publishes RCA 1, always

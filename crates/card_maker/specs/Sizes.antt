@@ -6,7 +6,7 @@ use Rattle.mmc_card.specs.Made.{has_sector_addresses, user_sectors}
 use Rattle.mmc_card.specs.Profile.{InProfile}
 use Rattle.mmc_card_sim.specs.CardSpec.{HasWidths, each_register_is_taken}
 use Rattle.mmc_card_sim.specs.Registers.{kind_of, made_of}
-use Rattle.mmc_card_sim.specs.declared.registers.Registers.{Registers}
+use Rattle.mmc_card_rows.specs.declared.registers.Registers.{Registers}
 use Rattle.card_maker.specs.declared.fault.MakeFault.{MakeFault}
 use Rattle.card_maker.specs.declared.fault.MakeFault.TheVariants.{NotASize, TooLarge, TooSmall}
 

@@ -10,7 +10,7 @@ use Rattle.mmc_ext_csd.specs.Partition.{addressable_sectors}
 use Rattle.mmc_card.specs.Made.{Made, has_cmd23, has_high_speed, has_switch_function, is_read_only, sectors_in}
 use Rattle.mmc_card.specs.declared.part.Part.TheVariants.{Boot1, Boot2, Gp1, Gp2, Gp3, Gp4}
 use Rattle.mmc_card_sim.specs.Registers.{made_of}
-use Rattle.mmc_card_sim.specs.declared.registers.Registers.{Registers}
+use Rattle.mmc_card_rows.specs.declared.registers.Registers.{Registers}
 use Rattle.mmc_card_sim.specs.declared.spec.CardSpec.{CardSpec}
 use Rattle.card_maker.specs.Plain.{IsPlain}
 use Rattle.card_maker.specs.Sizes.{HasSize, IsCardOf, IsSizeFault}

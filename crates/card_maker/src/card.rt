@@ -2,7 +2,7 @@
 ghost use Rattle.std.specs.Prelude.{◌≡◌, ◌≤◌, false, IfErr, IfOk, OnOk, None};
 ghost use Rattle.mmc_card_sim.specs.CardSpec.{refusal_of, sizes_of};
 ghost use Rattle.mmc_card_sim.specs.Sizes.{total};
-ghost use Rattle.mmc_card_sim.specs.declared.store.TheConstants.{MAX_SECTORS};
+ghost use Rattle.mmc_card_sim.specs.declared.spec.TheConstants.{MAX_SECTORS};
 ghost use Rattle.card_maker.specs.NewRegisters.{checked_register, mmc_registers, new_scr, sd_classes, sd_registers};
 ghost use Rattle.card_maker.specs.Plain.{HasFirstRca, IsPlain};
 ghost use Rattle.card_maker.specs.Sizes.{IsByteCount, IsCount, IsSectorCount};

@@ -1,7 +1,6 @@
 //! A card in memory, with the faults that a card file plans, as a network block device on standard input and output.
 #![tactic(auto)]
 
-mod card;
 mod fault;
 mod files;
 mod options;

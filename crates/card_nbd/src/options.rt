@@ -41,11 +41,9 @@ fn part_given(matches: &ArgMatches<'_>) -> Result<Option<Part>, NbdFault> {
 /// The values of the words, of which `nbd` is the first.
 ///
 /// # Errors
-/// `Usage` for other words, `NoPart`, `NoMemory`.
+/// `Usage` for other words, `NoPart`; `Unserved(NoMemory)`.
 pub fn options_given<'a>(alloc: Global, words: &'a [&'a str]) -> Result<Options<'a>, NbdFault> {
-    let Ok(command) = command(alloc) else {
-        return Err(NbdFault::NoMemory);
-    };
+    let command = command(alloc)?;
     let Ok(matches) = command.try_get_matches_from(words) else {
         return Err(NbdFault::Usage);
     };

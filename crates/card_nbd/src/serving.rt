@@ -1,9 +1,8 @@
 // The command: a card of a card file is served, and saved.
-use crate::card::built;
-use crate::fault::{NbdFault, of_opening};
-use crate::files::{new_file, read_files};
+use crate::fault::NbdFault;
+use crate::files::read_files;
 use crate::options::{Options, options_given};
-use card_served::save;
+use card_served::{ServeFault, built_large, named_new_file, save};
 use card_text::card_file::CardFile;
 use mmc_block::BlockDev;
 use mmc_bus::Part;
@@ -24,7 +23,7 @@ fn opened(
 ) -> Result<(Desk<SimCard>, Part), NbdFault> {
     let device = match BlockDev::open(alloc, card) {
         Ok(device) => device,
-        Err((_, fault)) => return Err(of_opening(fault)),
+        Err((_, fault)) => return Err(NbdFault::Unserved(ServeFault::from(fault))),
     };
     let default = part.unwrap_or(Part::User);
     if device.info().sectors(default).is_none() {
@@ -42,14 +41,14 @@ fn serve_streams<R: Read + Drop, W: Write + Drop>(
     out: W,
 ) -> Result<(), NbdFault> {
     let Ok(mut input) = BufReader::with_capacity(alloc, AT_ONCE, input) else {
-        return Err(NbdFault::NoMemory);
+        return Err(NbdFault::Unserved(ServeFault::NoMemory));
     };
     let Ok(mut out) = BufWriter::with_capacity(alloc, AT_ONCE, out) else {
-        return Err(NbdFault::NoMemory);
+        return Err(NbdFault::Unserved(ServeFault::NoMemory));
     };
     match serve(alloc, desk, default, &mut input, &mut out) {
         Ok(()) => Ok(()),
-        Err(SessionFault::NoMemory) => Err(NbdFault::NoMemory),
+        Err(SessionFault::NoMemory) => Err(NbdFault::Unserved(ServeFault::NoMemory)),
         Err(fault) => Err(NbdFault::Session(fault)),
     }
 }
@@ -61,14 +60,14 @@ fn serve_card<R: Files + Input + Print + AllocGlobal>(
 ) -> Result<(), NbdFault> {
     let alloc = rt.alloc();
     let CardFile { spec, plan } = read_files(rt, options.card, options.image)?;
-    let card = built(alloc, spec, plan.as_slice())?;
+    let card = built_large(alloc, spec, plan.as_slice())?;
     let (mut desk, default) = opened(alloc, card, options.part)?;
-    let file = new_file(rt, options.save)?;
+    let file = named_new_file(rt, options.save, ServeFault::Save)?;
     let served = serve_streams(alloc, &mut desk, default, rt.reader(), io::writer(rt));
     let card = desk.close();
     if let Some(mut file) = file {
         if save(&card, options.part, &mut file).is_err() {
-            return Err(NbdFault::Save);
+            return Err(NbdFault::Unserved(ServeFault::Save));
         }
     }
     served
@@ -78,8 +77,8 @@ fn serve_card<R: Files + Input + Print + AllocGlobal>(
 /// session or the input ends; then saves what it holds, however the session ended.
 ///
 /// # Errors
-/// `Usage`, `NoPart`; those of the files, in the order card file, image, card, save; `Save` at the end; `Session`. With any of
-/// the last two the card was served.
+/// `Usage`, `NoPart`; `Unserved` with those of the files, in the order card file, image, card, save, or with `Save` at the end;
+/// `Session`. With any of the last two the card was served.
 pub fn nbd<R: Files + Input + Print + AllocGlobal>(rt: &R, words: &[&str]) -> Result<(), NbdFault> {
     let options = options_given(rt.alloc(), words)?;
     serve_card(rt, &options)

@@ -1,2 +1,4 @@
+pub mod BuildingLemmas
+pub mod InputLemmas
 pub mod PlanningLemmas
 pub mod SavedLemmas

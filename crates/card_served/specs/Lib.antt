@@ -1,2 +1,4 @@
+pub mod Faults
+pub mod Inputs
 pub mod New
 pub mod Saved

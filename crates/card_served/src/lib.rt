@@ -1,8 +1,16 @@
-//! The card in memory that a command serves: a new one, with the faults that are planned for it, and what is saved of it.
+//! The card in memory that a command serves: the files that say what it is, the new card with the faults that are planned for it,
+//! what is saved of it, and why it isn't served.
 #![tactic(auto)]
 
+mod building;
+mod fault;
+mod files;
+mod inputs;
 mod planning;
 mod saving;
 
-pub use planning::plan_all;
+pub use building::{built, built_large};
+pub use fault::ServeFault;
+pub use files::{named_file, named_new_file, opened};
+pub use inputs::{card_in, image_front, whole};
 pub use saving::save;

@@ -12,7 +12,7 @@ use Rattle.card_text.specs.declared.card_line.CardLine.TheVariants.{Early, Keeps
 use Rattle.card_text.specs.declared.card_line.CardLine.TheVariants.{ExtChanges, LateStatus, R6App, Sectors, SlowStatus, StaysBusy}
 use Rattle.card_text.specs.declared.card_line.HighSpeedChoice.{HighSpeedChoice}
 use Rattle.card_text.specs.declared.card_line.HighSpeedChoice.TheVariants.{Refused, Taken}
-use Rattle.mmc_card_sim.specs.declared.spec.Refusal.TheVariants.{SelectsDefault, SelectsNone}
+use Rattle.mmc_card_rows.specs.declared.delays.Refusal.TheVariants.{SelectsDefault, SelectsNone}
 use Rattle.card_text.specs.declared.card_line.PublishedRca.{PublishedRca}
 use Rattle.card_text.specs.declared.card_line.PublishedRca.TheVariants.{Changes, Fixed}
 use Rattle.card_text.specs.declared.text_line.Line.{Line}

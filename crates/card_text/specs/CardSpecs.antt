@@ -2,8 +2,8 @@
 use Rattle.std.specs.Prelude.{Bool, List, None, Option, Some, [], false, fold, replicate, slice_set, true, unwrap_or}
 use Rattle.std.specs.Prelude.{◌∷◌, ℕ}
 use Rattle.std.specs.Option.{option_or}
-use Rattle.mmc_card_sim.specs.declared.registers.KindRegisters.{KindRegisters}
-use Rattle.mmc_card_sim.specs.declared.registers.KindRegisters.TheVariants as Has
+use Rattle.mmc_card_rows.specs.declared.registers.KindRegisters.{KindRegisters}
+use Rattle.mmc_card_rows.specs.declared.registers.KindRegisters.TheVariants as Has
 use Rattle.mmc_card_sim.specs.declared.spec.CardSpec.{CardSpec}
 use Rattle.mmc_frame.specs.declared.kind.Kind.{Kind as CardKind}
 use Rattle.mmc_frame.specs.declared.kind.Kind.TheVariants.{Mmc, Sd}
@@ -12,7 +12,7 @@ use Rattle.card_text.specs.declared.card_line.CardLine.TheVariants.{Busy, Cid, C
 use Rattle.card_text.specs.declared.card_line.CardLine.TheVariants.{Early, KeepsLength, Ocr, Rca, Ready, Scr, Sectors}
 use Rattle.card_text.specs.declared.card_line.HighSpeedChoice.{HighSpeedChoice}
 use Rattle.card_text.specs.declared.card_line.HighSpeedChoice.TheVariants.{Refused, Taken}
-use Rattle.mmc_card_sim.specs.declared.spec.Refusal.{Refusal}
+use Rattle.mmc_card_rows.specs.declared.delays.Refusal.{Refusal}
 use Rattle.card_text.specs.declared.card_line.CardLine.TheVariants.{ExtChanges, LateStatus, R6App, SlowStatus, StaysBusy}
 use Rattle.card_text.specs.declared.card_line.PublishedRca.{PublishedRca}
 use Rattle.card_text.specs.declared.card_line.PublishedRca.TheVariants.{Changes, Fixed}

@@ -2,8 +2,8 @@
 use Rattle.std.specs.Prelude.{ℕ, List, [], ◌∷◌, Option, None, Some, codes, if◌then◌else◌, min, option_and_then, option_map}
 use Rattle.std.specs.Int.{from_be_bytes, w32}
 use Rattle.std.specs.Str.{bytes_eq}
-use Rattle.mmc_card_sim.specs.declared.fault.CommandError.{CommandError}
-use Rattle.mmc_card_sim.specs.declared.fault.CommandError.TheVariants.{ComCrc, Illegal}
+use Rattle.mmc_card_rows.specs.declared.fault.CommandError.{CommandError}
+use Rattle.mmc_card_rows.specs.declared.fault.CommandError.TheVariants.{ComCrc, Illegal}
 use Rattle.mmc_card_sim.specs.declared.fault.Fault.{Fault}
 use Rattle.mmc_card_sim.specs.declared.fault.Fault.TheVariants.{BadBlock, Brownout, Busy, Fail, FailWith, FlipCommand}
 use Rattle.mmc_card_sim.specs.declared.fault.Fault.TheVariants.{FailSwitch, FailSwitchLate, FlipReply, LeaveOver}
@@ -11,8 +11,8 @@ use Rattle.mmc_card_sim.specs.declared.fault.Fault.TheVariants.{LoseCommand, Los
 use Rattle.mmc_card_sim.specs.declared.fault.Fault.TheVariants.{FailEarly, FindProtection, LoseBlock, LoseFailedSwitch}
 use Rattle.mmc_card_sim.specs.declared.fault.Fault.TheVariants.{Reject, RejectAll, RejectBusy}
 use Rattle.mmc_card_sim.specs.declared.fault.Flips.{Flips}
-use Rattle.mmc_card_sim.specs.declared.fault.Outcome.{Outcome}
-use Rattle.mmc_card_sim.specs.declared.fault.Outcome.TheVariants.{New, Old}
+use Rattle.mmc_card_rows.specs.declared.fault.Outcome.{Outcome}
+use Rattle.mmc_card_rows.specs.declared.fault.Outcome.TheVariants.{New, Old}
 use Rattle.card_text.specs.Hexadecimal.{bytes_of}
 use Rattle.card_text.specs.Numbers.{number_of}
 

@@ -9,8 +9,8 @@ use Rattle.mmc_card_sim.specs.declared.spec.CardSpec.{CardSpec}
 use Rattle.card_text.specs.Planning.{PlannedFault}
 use Rattle.cardtool.specs.Whole.{IsServedOnNewCard, IsServedOnSpec, is_unopened}
 use Rattle.card_text.specs.declared.event.ScriptEvent.{ScriptEvent}
-use Rattle.cardtool.specs.declared.fault.ServeFault.{ServeFault}
-use Rattle.cardtool.specs.declared.fault.ServeFault.TheVariants.{Locked, NoCard, Unsupported, Voltage}
+use Rattle.card_served.specs.declared.fault.ServeFault.{ServeFault}
+use Rattle.card_served.specs.declared.fault.ServeFault.TheVariants.{Locked, NoCard, Unsupported, Voltage}
 use Rattle.std.specs.Prelude.{Result}
 
 module _ (spec : CardSpec) (plan : List PlannedFault) (script : List ScriptEvent) (trace : Option ℕ)

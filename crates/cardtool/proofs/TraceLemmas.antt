@@ -13,8 +13,8 @@ use Rattle.mmc_card.specs.declared.exchange.Lines.{Lines}
 use Rattle.mmc_card.specs.Sectors.{Sets}
 use Rattle.mmc_bus.specs.Trace.{HasItsFrame, last_of}
 use Rattle.card_text.specs.declared.event.ScriptEvent.{ScriptEvent}
-use Rattle.cardtool.specs.declared.fault.ServeFault.{ServeFault}
-use Rattle.cardtool.specs.declared.fault.ServeFault.TheVariants.{Locked, NoCard, NoMemory, Unsupported, Voltage, Write}
+use Rattle.card_served.specs.declared.fault.ServeFault.{ServeFault}
+use Rattle.card_served.specs.declared.fault.ServeFault.TheVariants.{Locked, NoCard, NoMemory, Unsupported, Voltage, Write}
 use Rattle.cardtool.specs.Serving.{texts}
 use Rattle.cardtool.specs.Whole.{IsServed, IsTraceBehind, ended_by, trace_text}
 

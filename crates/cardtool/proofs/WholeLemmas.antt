@@ -32,17 +32,18 @@ use Rattle.mmc_block.specs.Service.{in_service_of}
 use Rattle.mmc_block.specs.declared.open_fault.OpenFault.{OpenFault}
 use Rattle.mmc_block.specs.declared.open_fault.OpenFault.TheVariants as Unopened
 use Rattle.card_text.specs.declared.event.ScriptEvent.{ScriptEvent}
-use Rattle.cardtool.specs.declared.fault.ServeFault.{ServeFault}
-use Rattle.cardtool.specs.declared.fault.ServeFault.TheVariants.{Locked, NoCard, NoMemory}
-use Rattle.cardtool.specs.declared.fault.ServeFault.TheVariants.{Unsupported, Voltage, Write}
+use Rattle.card_served.specs.declared.fault.ServeFault.{ServeFault}
+use Rattle.card_served.specs.declared.fault.ServeFault.TheVariants.{Locked, NoCard, NoMemory}
+use Rattle.card_served.specs.declared.fault.ServeFault.TheVariants.{Unsupported, Voltage, Write}
 use Rattle.card_text.specs.declared.event.ScriptEvent.TheVariants.{Run}
 use Rattle.cardtool.specs.Serving.{IsLaterDevice, IsNext, ServesEvents, ServesScript, Standing, due_events}
 use Rattle.cardtool.specs.Serving.{standing_of, texts}
 use Rattle.card_text.specs.Planning.{PlannedFault}
 use Rattle.card_served.specs.New.{IsNew}
-use Rattle.cardtool.specs.Whole.{IsServed, IsServedOnNewCard, IsServedOnSpec, IsUnopened, IsUnwritten, IsWhyUnbuilt}
-use Rattle.cardtool.specs.Whole.{ExecutedInAnyProfile, building_fault, opened_after}
-use Rattle.cardtool.specs.Whole.{opening_fault, outcome_of, status_of}
+use Rattle.cardtool.specs.Whole.{IsServed, IsServedOnNewCard, IsServedOnSpec, IsUnopened, IsUnwritten}
+use Rattle.cardtool.specs.Whole.{ExecutedInAnyProfile, opened_after}
+use Rattle.cardtool.specs.Whole.{outcome_of, status_of}
+use Rattle.card_served.specs.Faults.{opening_fault}
 use Rattle.cardtool.proofs.EndLemmas.{ends_answered}
 
 -- What the laws of the sector machine say of every execution.
@@ -283,12 +284,6 @@ unopened view first last script old Unopened.NoCard never within three = left_al
 unopened view first last script old Unopened.Voltage never within three = left_alone view first last old within three
 unopened view first last script old Unopened.Unsupported never within three = left_alone view first last old within three
 unopened view first last script old Unopened.Locked never within three = left_alone view first last old within three
-
--- a card that wasn't built
-pub why_unbuilt : (spec : CardSpec) (why : BuildFault) → IsRefusal spec why → IsWhyUnbuilt spec (building_fault why)
-why_unbuilt spec Refused.Register refused = refused
-why_unbuilt spec Refused.ImageSize refused = refused
-why_unbuilt spec Refused.NoMemory refused = refused
 
 -- A script that was served on the card of a spec.
 

@@ -1,17 +1,16 @@
 -- The files: why they weren't read, or what they say.
 use Rattle.std.specs.Prelude.{◌≡◌, ◌⊎◌, ◌*◌, ◌+◌, ◌<◌, ℕ, IfSome, IsSome, List, Option, None, Some, Result, Ok, Err, take, length, ⊤}
 use Rattle.mmc_card_sim.specs.declared.spec.CardSpec.{CardSpec}
-use Rattle.mmc_card_sim.specs.declared.store.TheConstants.{MAX_SECTORS}
+use Rattle.mmc_card_sim.specs.declared.spec.TheConstants.{MAX_SECTORS}
 use Rattle.card_text.specs.declared.event.ScriptEvent.{ScriptEvent}
-use Rattle.card_text.specs.declared.fault.CardFault.TheVariants as OfCard
-use Rattle.cardtool.specs.declared.fault.ServeFault.{ServeFault}
-use Rattle.cardtool.specs.declared.fault.ServeFault.TheVariants.{CardIncomplete, CardLine, NoMemory, ReadCard}
-use Rattle.cardtool.specs.declared.fault.ServeFault.TheVariants.{ReadImage, ReadScript, ScriptLine, TooLong}
-use Rattle.card_text.specs.declared.card_file.TheConstants.{MAX_CARD_FILE}
+use Rattle.card_served.specs.declared.fault.ServeFault.{ServeFault}
+use Rattle.card_served.specs.declared.fault.ServeFault.TheVariants.{CardIncomplete, CardLine, NoMemory, ReadCard}
+use Rattle.card_served.specs.declared.fault.ServeFault.TheVariants.{ReadImage, ReadScript, ScriptLine, TooLong}
 use Rattle.card_text.specs.declared.script.TheConstants.{MAX_SCRIPT}
-use Rattle.card_text.specs.CardFile.{IsBadCard, IsCardFile}
+use Rattle.card_text.specs.CardFile.{IsCardFile}
 use Rattle.card_text.specs.Planning.{PlannedFault}
 use Rattle.card_text.specs.Script.{IsFirstBadLine, events_in, lines}
+use Rattle.card_served.specs.Inputs.{IsCardRead, IsCardRefused, IsLonger}
 use Rattle.cardtool.specs.Whole.{IsServedOnSpec}
 
 -- the texts of the files, as far as their readers tell; the image may be left out
@@ -19,14 +18,6 @@ pub record Files : Type 0 where
   pub card : Option (List ℕ)
   pub script : Option (List ℕ)
   pub image : Option (Option (List ℕ))
-
--- a file that is longer than it may be
-abbrev pub IsLonger : Option (List ℕ) → ℕ → Type 0
-IsLonger file limit = IfSome file (λ all. limit < length all)
-
--- a file wasn't read: its reader failed, which this fault says, or it is too long, or memory was refused
-abbrev pub IsUnread : Option (List ℕ) → ℕ → ServeFault → ServeFault → Type 0
-IsUnread file limit unread fault = (fault ≡ unread) ⊎ ((fault ≡ NoMemory) ⊎ ((fault ≡ TooLong) × IsLonger file limit))
 
 -- the card file describes a card
 abbrev pub HasCard : Files → Type 0
@@ -39,10 +30,10 @@ HasEvents files = IfSome files.script (λ all. (events : List ScriptEvent) × (e
 -- What a fault says of files that were refused. They come in order: a fault of the script comes only where the card file
 -- was taken, and one of the image only where the script was taken too.
 abbrev pub AreRefused : Files → ServeFault → Type 0
-AreRefused files ReadCard = ⊤
-AreRefused files (CardLine n) = IfSome files.card (λ all. IsBadCard (lines all) (OfCard.BadLine n))
-AreRefused files CardIncomplete = IfSome files.card (λ all. IsBadCard (lines all) OfCard.Incomplete)
-AreRefused files TooLong = IsLonger files.card MAX_CARD_FILE ⊎ (HasCard files × IsLonger files.script MAX_SCRIPT)
+AreRefused files ReadCard = IsCardRefused files.card ReadCard
+AreRefused files (CardLine n) = IsCardRefused files.card (CardLine n)
+AreRefused files CardIncomplete = IsCardRefused files.card CardIncomplete
+AreRefused files TooLong = IsCardRefused files.card TooLong ⊎ (HasCard files × IsLonger files.script MAX_SCRIPT)
 AreRefused files ReadScript = HasCard files
 AreRefused files (ScriptLine n) = HasCard files × IfSome files.script (λ all. IsFirstBadLine (lines all) n)
 AreRefused files ReadImage = HasCard files × HasEvents files × IsSome files.image
@@ -58,14 +49,12 @@ IsImage (Some file) (Some bytes) = IfSome file (λ all. bytes ≡ take (512 * MA
 -- the card file, with the image, gives this spec and plans these faults, and the script gives these events
 pub record AreRead (files : Files) (spec : CardSpec) (plan : List PlannedFault) (events : List ScriptEvent)
     : Type 0 where
-  pub card_text : List ℕ
   pub script_text : List ℕ
   -- the card without its image
   pub bare : CardSpec
-  pub card_file : IfSome files.card (λ all. card_text ≡ all)
+  pub card_is : IsCardRead files.card bare plan
   pub script_file : IfSome files.script (λ all. script_text ≡ all)
   pub image_file : IsImage files.image spec.image
-  pub card_is : IsCardFile (lines card_text) bare plan
   pub spec_is : spec ≡ record bare { image = spec.image }
   pub events_are : events_in (lines script_text) ≡ Some events
 

@@ -19,24 +19,21 @@ use Rattle.mmc_card.specs.declared.part.Part.{Part}
 use Rattle.mmc_card.specs.Sectors.{Sector, Sets, Within}
 use Rattle.mmc_card_sim.specs.CardSpec.{refusal_of}
 use Rattle.mmc_card_sim.specs.SimView.{SimView}
-use Rattle.mmc_card_sim.specs.declared.spec.BuildFault.{BuildFault}
-use Rattle.mmc_card_sim.specs.declared.spec.BuildFault.TheVariants as Refused
 use Rattle.mmc_card_sim.specs.declared.spec.CardSpec.{CardSpec}
+use Rattle.mmc_card_sim.specs.declared.spec.TheConstants.{MAX_SECTORS}
 use Rattle.mmc_switch.specs.Info.{IsInfo}
 use Rattle.mmc_switch.specs.declared.info.Info.{Info}
 use Rattle.mmc_block.specs.Answers.{failures}
 use Rattle.mmc_block.specs.Device.{opened}
 use Rattle.mmc_block.specs.InOrder.{AreDecided, EndsInOrder, IsInOrder, MayHold, answers, history}
 use Rattle.mmc_block.specs.Machine.{all_failed}
-use Rattle.mmc_block.specs.declared.open_fault.OpenFault.{OpenFault}
-use Rattle.mmc_block.specs.declared.open_fault.OpenFault.TheVariants as Unopened
 use Rattle.mmc_block.specs.Execution.{Counted, IsCountedExecution, Event as MachineEvent, Reply, unanswered}
 use Rattle.card_text.specs.declared.event.ScriptEvent.{ScriptEvent}
 use Rattle.card_text.specs.declared.event.ScriptEvent.TheVariants.{Run}
-use Rattle.cardtool.specs.declared.fault.ServeFault.{ServeFault}
-use Rattle.cardtool.specs.declared.fault.ServeFault.TheVariants.{ImageSize, Locked, NoCard, NoMemory, Register}
-use Rattle.cardtool.specs.declared.fault.ServeFault.TheVariants.{Unsupported, Voltage, Write}
-use Rattle.card_served.specs.New.{IsNew}
+use Rattle.card_served.specs.declared.fault.ServeFault.{ServeFault}
+use Rattle.card_served.specs.declared.fault.ServeFault.TheVariants.{ImageSize, Locked, NoCard, NoMemory, Register}
+use Rattle.card_served.specs.declared.fault.ServeFault.TheVariants.{Unsupported, Voltage, Write}
+use Rattle.card_served.specs.New.{IsNew, IsWhyUnbuilt}
 use Rattle.card_text.specs.Planning.{PlannedFault}
 use Rattle.cardtool.specs.Serving.{FollowScript, any_bad, texts}
 
@@ -48,20 +45,6 @@ status_of bad = if bad then 1 else 0
 abbrev pub outcome_of : {E : Type 0} → Result Bool E → Result ℕ ServeFault
 outcome_of (Ok bad) = Ok (status_of bad)
 outcome_of (Err e) = Err Write
-
--- what is printed of a card that wasn't built
-abbrev pub building_fault : BuildFault → ServeFault
-building_fault Refused.Register = Register
-building_fault Refused.ImageSize = ImageSize
-building_fault Refused.NoMemory = NoMemory
-
--- what is printed of a card that wasn't opened
-abbrev pub opening_fault : OpenFault → ServeFault
-opening_fault Unopened.NoMemory = NoMemory
-opening_fault Unopened.NoCard = NoCard
-opening_fault Unopened.Voltage = Voltage
-opening_fault Unopened.Unsupported = Unsupported
-opening_fault Unopened.Locked = Locked
 
 -- a card wasn't opened
 abbrev pub is_unopened : ServeFault → Bool
@@ -214,19 +197,12 @@ pub record IsServedOnNewCard (spec : CardSpec) (plan : List PlannedFault) (scrip
   pub few : fell ≤ length plan
   pub served : IsServed all_lines sim.card.made (holds sim.card) later fell (script ++ Run ∷ []) trace old new result
 
--- why a card isn't built: what its spec is refused for, or want of memory where it isn't refused
-abbrev pub IsWhyUnbuilt : CardSpec → ServeFault → Type 0
-IsWhyUnbuilt spec Register = refusal_of spec ≡ Some Refused.Register
-IsWhyUnbuilt spec ImageSize = refusal_of spec ≡ Some Refused.ImageSize
-IsWhyUnbuilt spec NoMemory = refusal_of spec ≡ None
-IsWhyUnbuilt spec fault = ⊥
-
 -- What became of a script on the card of a spec, with these faults planned: the spec is refused, or memory was, and
 -- nothing was served or printed; or the script was served.
 abbrev pub IsServedOnSpec : CardSpec → List PlannedFault → List ScriptEvent → Option ℕ → Option (List ℕ)
     → Option (List ℕ) → Result ℕ ServeFault → Type 0
-IsServedOnSpec spec plan script trace old new (Err Register) = IsWhyUnbuilt spec Register × (new ≡ old)
-IsServedOnSpec spec plan script trace old new (Err ImageSize) = IsWhyUnbuilt spec ImageSize × (new ≡ old)
-IsServedOnSpec spec plan script trace old new (Err NoMemory) = IsWhyUnbuilt spec NoMemory × (new ≡ old)
+IsServedOnSpec spec plan script trace old new (Err Register) = IsWhyUnbuilt MAX_SECTORS spec Register × (new ≡ old)
+IsServedOnSpec spec plan script trace old new (Err ImageSize) = IsWhyUnbuilt MAX_SECTORS spec ImageSize × (new ≡ old)
+IsServedOnSpec spec plan script trace old new (Err NoMemory) = IsWhyUnbuilt MAX_SECTORS spec NoMemory × (new ≡ old)
 IsServedOnSpec spec plan script trace old new result =
     (refusal_of spec ≡ None) × IsServedOnNewCard spec plan script trace old new result

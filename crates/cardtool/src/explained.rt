@@ -1,6 +1,6 @@
 // The trace with words behind each of its lines, and what was met and healed.
-use crate::fault::ServeFault;
 use crate::watched::WatchedCard;
+use card_served::ServeFault;
 use exchange_words::{KnownCard, Note, put_lines};
 use mmc_block::Healed;
 use mmc_bus::{Bus, Exchange, TraceBus};

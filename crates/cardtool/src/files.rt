@@ -1,35 +1,16 @@
 // Reads the files: the card file, then the script, then the image.
-ghost use Rattle.std.specs.Prelude.{◌≡◌, ◌⊎◌, IfErr, IfOk, IfSome, IsSome, option_map};
-ghost use Rattle.cardtool.specs.declared.fault.ServeFault.TheVariants.{NoMemory, ReadImage};
-ghost use Rattle.cardtool.specs.Files.{AreRead, AreRefused, IsImage, IsUnread};
+ghost use Rattle.std.specs.Prelude.{◌≡◌, ◌⊎◌, IfErr, IfOk, IsSome, option_map};
+ghost use Rattle.card_served.specs.declared.fault.ServeFault.TheVariants.{NoMemory, ReadImage};
+ghost use Rattle.cardtool.specs.Files.{AreRead, AreRefused, IsImage};
 ghost use Rattle.card_text.specs.Planning.{CanBePlanned};
 
-use crate::fault::ServeFault;
-use card_text::card_file::{CardFile, MAX_CARD_FILE, read_card};
-use card_text::input::{ReadFault, read_bounded, read_front};
+use card_served::{ServeFault, card_in, image_front, whole};
+use card_text::card_file::CardFile;
 use card_text::script::{MAX_SCRIPT, Script, read_script};
 use mmc_bus::Bytes;
 use mmc_card_sim::{CardSpec, Fault, MAX_SECTORS};
 use std::alloc::Global;
 use std::io::Read;
-
-// The whole of an input, or its fault, `unread` where the reader failed.
-fn whole<R: Read>(
-    alloc: Global,
-    reader: &mut R,
-    limit: usize,
-    unread: ServeFault,
-) -> Result<Vec<u8>, ServeFault>
-    ensures ok { IfOk result (λ bytes. IfSome (R.remaining reader.old) (λ all. bytes.items ≡ all)) }
-    ensures err { IfErr result (λ fault. IsUnread (R.remaining reader.old) limit unread fault) }
-{
-    match read_bounded(alloc, reader, limit) {
-        Ok(bytes) => Ok(bytes),
-        Err(ReadFault::Reader) => Err(unread),
-        Err(ReadFault::TooLong) => Err(ServeFault::TooLong),
-        Err(ReadFault::NoMemory) => Err(ServeFault::NoMemory),
-    }
-}
 
 // The bytes of an image, where there is one, to one byte past the most sectors.
 fn image_of<I: Read>(alloc: Global, image: &mut Option<I>) -> Result<Option<Bytes>, ServeFault>
@@ -40,11 +21,8 @@ fn image_of<I: Read>(alloc: Global, image: &mut Option<I>) -> Result<Option<Byte
     let Some(image) = image else {
         return Ok(None);
     };
-    match read_front(alloc, image, 512 * MAX_SECTORS + 1) {
-        Ok(bytes) => Ok(Some(Bytes::new(bytes))),
-        Err(ReadFault::NoMemory) => Err(ServeFault::NoMemory),
-        Err(_) => Err(ServeFault::ReadImage),
-    }
+    let bytes = image_front(alloc, image, 512 * MAX_SECTORS + 1)?;
+    Ok(Some(Bytes::new(bytes)))
 }
 
 /// What the files say.
@@ -73,8 +51,7 @@ pub fn read_files<C: Read, S: Read, I: Read>(
     ensures ok { IfOk result (λ read. AreRead (record { card = C.remaining card.old; script = S.remaining script.old; image = option_map (λ i. I.remaining i) image.old }) read.spec read.plan.items read.script) }
     ensures err { IfErr result (λ fault. AreRefused (record { card = C.remaining card.old; script = S.remaining script.old; image = option_map (λ i. I.remaining i) image.old }) fault) }
 {
-    let text = whole(alloc, card, MAX_CARD_FILE, ServeFault::ReadCard)?;
-    let CardFile { spec, plan } = read_card(alloc, text.as_slice())?;
+    let CardFile { spec, plan } = card_in(alloc, card)?;
     let text = whole(alloc, script, MAX_SCRIPT, ServeFault::ReadScript)?;
     let script = read_script(alloc, text.as_slice())?;
     let image = image_of(alloc, image)?;

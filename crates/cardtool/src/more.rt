@@ -6,10 +6,10 @@ ghost use Rattle.cardtool.specs.More.{IsShown, trace_of};
 ghost use Rattle.cardtool.specs.Whole.{IsServedOver};
 
 use crate::explained::{Kept, kept_exchanges};
-use crate::fault::ServeFault;
 use crate::serve::{serve_counting, serve_traced, serve_untraced};
 use crate::trace::traced;
 use crate::watched::WatchedCard;
+use card_served::ServeFault;
 use card_text::script::Script;
 use card_wave::WaveBus;
 use mmc_bus::Bus;

@@ -4,19 +4,18 @@ ghost use Rattle.std.specs.Option.{ForSome};
 ghost use Rattle.mmc_bus.specs.declared.trace.TheConstants.{MAX_KEPT};
 ghost use Rattle.cardtool.specs.Files.{IsOutcomeOfFiles};
 ghost use Rattle.card_text.specs.Planning.{CanBePlanned};
-ghost use Rattle.cardtool.specs.Whole.{IsServedOnSpec, IsServedOver, IsUnwritten, opening_fault, outcome_of};
+ghost use Rattle.cardtool.specs.Whole.{IsServedOnSpec, IsServedOver, IsUnwritten, outcome_of};
 
-use crate::fault::ServeFault;
 use crate::files::{FilesRead, read_files};
-use crate::new_card::built;
 use crate::play::play;
 use crate::trace::{end_with_trace, traced};
+use card_served::{ServeFault, built};
 use card_text::script::Script;
 use mmc_block::laws::{
     a_card_at_rest_is_decided, a_counted_execution_is_an_execution, a_failure_takes_four_faults,
     answers_are_in_order, contents_are_in_order,
 };
-use mmc_block::{BlockDev, Healed, OpenFault};
+use mmc_block::{BlockDev, Healed};
 use mmc_bus::Bus;
 use mmc_card_sim::{CardSpec, Fault};
 use std::alloc::Global;
@@ -38,19 +37,6 @@ fn outcome(served: io::Result<bool>) -> Result<u8, ServeFault>
     }
 }
 
-// What is printed of a card that isn't opened.
-fn of_opening(fault: OpenFault) -> ServeFault
-    ensures { result ≡ opening_fault fault }
-{
-    match fault {
-        OpenFault::NoMemory => ServeFault::NoMemory,
-        OpenFault::NoCard => ServeFault::NoCard,
-        OpenFault::Voltage => ServeFault::Voltage,
-        OpenFault::Unsupported => ServeFault::Unsupported,
-        OpenFault::Locked => ServeFault::Locked,
-    }
-}
-
 /// Serves a script on the card of a bus, without a trace, and gives what the device met and healed meanwhile.
 pub fn serve_counting<B: Bus + Drop, W: Write>(
     alloc: Global,
@@ -67,7 +53,7 @@ pub fn serve_counting<B: Bus + Drop, W: Write>(
     contents_are_in_order();
     let mut device = match BlockDev::open(alloc, bus) {
         Ok(device) => device,
-        Err((bus, fault)) => return (bus, Healed::new(), Err(of_opening(fault))),
+        Err((bus, fault)) => return (bus, Healed::new(), Err(ServeFault::from(fault))),
     };
     let served = play(alloc, &mut device, script, out);
     let healed = device.healed();

@@ -5,17 +5,14 @@ ghost use Rattle.mmc_bus.specs.declared.trace.TheConstants.{MAX_KEPT};
 ghost use Rattle.cardtool.specs.More.{IsShown};
 
 use crate::explained::{known_card, put_explained};
-use crate::fault::ServeFault;
 use crate::files::{FilesRead, read_files};
 use crate::more::{Drawn, Served, Shown, serve_drawn};
-use crate::new_card::built;
 use crate::options_given::Options;
 use crate::serve::serve;
 use crate::watched::WatchedCard;
-use card_served::save;
+use card_served::{ServeFault, built, named_file, named_new_file, opened, save};
 use mmc_bus::MAX_KEPT;
 use std::alloc::Global;
-use std::fs::{File, OpenOptions};
 use std::io::{self, BufWriter, Read, Write};
 use std::rt::Files;
 
@@ -36,37 +33,6 @@ pub fn serve_buffered<R: Print + AllocGlobal, C: Read, S: Read, I: Read>(
     match out.flush() {
         Ok(()) => Ok(status),
         Err(_) => Err(ServeFault::Write),
-    }
-}
-
-// A file that wasn't there before, so that nothing that was there is lost.
-fn new_file<R: Files + AllocGlobal>(
-    rt: &R,
-    name: &str,
-    unmade: ServeFault,
-) -> Result<BufWriter<R::File>, ServeFault> {
-    let Ok(file) = OpenOptions::new()
-        .write(true)
-        .create_new(true)
-        .open(rt, name)
-    else {
-        return Err(unmade);
-    };
-    match BufWriter::new(rt.alloc(), file) {
-        Ok(file) => Ok(file),
-        Err(_) => Err(ServeFault::NoMemory),
-    }
-}
-
-// The same, where one is named.
-fn named_file<R: Files + AllocGlobal>(
-    rt: &R,
-    name: Option<&str>,
-    unmade: ServeFault,
-) -> Result<Option<BufWriter<R::File>>, ServeFault> {
-    match name {
-        None => Ok(None),
-        Some(name) => Ok(Some(new_file(rt, name, unmade)?)),
     }
 }
 
@@ -116,8 +82,8 @@ fn serve_more<R: Files + Print + AllocGlobal, C: Read, S: Read, I: Read>(
     let FilesRead { spec, plan, script } = read_files(alloc, card, script, image)?;
     let known = known_card(&spec);
     let card = built(alloc, spec, plan.as_slice())?;
-    let wave = named_file(rt, options.vcd, ServeFault::Vcd)?;
-    let image = named_file(rt, options.save, ServeFault::Save)?;
+    let wave = named_new_file(rt, options.vcd, ServeFault::Vcd)?;
+    let image = named_new_file(rt, options.save, ServeFault::Save)?;
     let Ok(mut out) = BufWriter::new(alloc, io::writer(rt)) else {
         return Err(ServeFault::NoMemory);
     };
@@ -149,19 +115,9 @@ pub fn serve_files(
     rt: &(impl Files + Print + AllocGlobal),
     options: &Options<'_>,
 ) -> Result<u8, ServeFault> {
-    let Ok(mut card) = File::open(rt, options.card) else {
-        return Err(ServeFault::ReadCard);
-    };
-    let Ok(mut script) = File::open(rt, options.script) else {
-        return Err(ServeFault::ReadScript);
-    };
-    let mut image = match options.image {
-        None => None,
-        Some(name) => match File::open(rt, name) {
-            Ok(image) => Some(image),
-            Err(_) => return Err(ServeFault::ReadImage),
-        },
-    };
+    let mut card = opened(rt, options.card, ServeFault::ReadCard)?;
+    let mut script = opened(rt, options.script, ServeFault::ReadScript)?;
+    let mut image = named_file(rt, options.image, ServeFault::ReadImage)?;
     if options.explains || options.vcd.is_some() || options.save.is_some() {
         serve_more(rt, &mut card, &mut script, &mut image, options)
     } else {

@@ -10,7 +10,7 @@ ghost use Rattle.mmc_bus.specs.declared.trace.TheConstants.{MAX_KEPT};
 ghost use Rattle.card_text.specs.declared.event.ScriptEvent.{ScriptEvent};
 ghost use Rattle.cardtool.specs.Whole.{IsServed, IsUnwritten, ended_by, trace_text};
 
-use crate::fault::ServeFault;
+use card_served::ServeFault;
 use mmc_bus::{Bus, TraceBus};
 use std::alloc::Global;
 use std::io::{self, Write};

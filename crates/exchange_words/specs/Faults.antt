@@ -3,8 +3,8 @@ use Rattle.std.specs.Prelude.{ℕ, List, [], ◌++◌, codes, Option, None, Some
 use Rattle.std.specs.Fmt.{decimal}
 use Rattle.std.specs.Int.{to_be_bytes, w32}
 use Rattle.text_out.specs.Hex.{hex_text}
-use Rattle.mmc_card_sim.specs.declared.fault.CommandError.{CommandError}
-use Rattle.mmc_card_sim.specs.declared.fault.CommandError.TheVariants.{ComCrc, Illegal}
+use Rattle.mmc_card_rows.specs.declared.fault.CommandError.{CommandError}
+use Rattle.mmc_card_rows.specs.declared.fault.CommandError.TheVariants.{ComCrc, Illegal}
 use Rattle.mmc_card_sim.specs.declared.fault.Fault.{Fault}
 use Rattle.mmc_card_sim.specs.declared.fault.Fault.TheVariants.{BadBlock, Brownout, Busy, Fail, FailWith, FlipCommand}
 use Rattle.mmc_card_sim.specs.declared.fault.Fault.TheVariants.{FailSwitch, FailSwitchLate, FlipReply, LeaveOver}
@@ -12,8 +12,8 @@ use Rattle.mmc_card_sim.specs.declared.fault.Fault.TheVariants.{LoseCommand, Los
 use Rattle.mmc_card_sim.specs.declared.fault.Fault.TheVariants.{FailEarly, FindProtection, LoseBlock, LoseFailedSwitch}
 use Rattle.mmc_card_sim.specs.declared.fault.Fault.TheVariants.{Reject, RejectAll, RejectBusy}
 use Rattle.mmc_card_sim.specs.declared.fault.Flips.{Flips}
-use Rattle.mmc_card_sim.specs.declared.fault.Outcome.{Outcome}
-use Rattle.mmc_card_sim.specs.declared.fault.Outcome.TheVariants.{New, Old}
+use Rattle.mmc_card_rows.specs.declared.fault.Outcome.{Outcome}
+use Rattle.mmc_card_rows.specs.declared.fault.Outcome.TheVariants.{New, Old}
 
 -- the first word
 abbrev pub name_of : Fault → List ℕ

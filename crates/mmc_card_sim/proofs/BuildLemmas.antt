@@ -7,11 +7,11 @@ use Rattle.mmc_card.specs.Made.{Made, sectors_in}
 use Rattle.mmc_card.specs.Sectors.{part_number}
 use Rattle.mmc_card.specs.declared.part.Part.{Part}
 use Rattle.mmc_card.proofs.Conditions.{along}
-use Rattle.mmc_card_sim.specs.SectorLists.{first_sectors}
-use Rattle.mmc_card_sim.specs.Sizes.{total}
-use Rattle.mmc_card_sim.specs.Store.{split}
-use Rattle.mmc_card_sim.proofs.StoreLemmas.{first_blocks, first_length, number_below, split_blocks}
-use Rattle.mmc_card_sim.proofs.StoreLemmas.{split_part_length}
+use Rattle.mmc_card_rows.specs.SectorLists.{first_sectors}
+use Rattle.mmc_card_rows.specs.Sizes.{total}
+use Rattle.mmc_card_rows.specs.Store.{split}
+use Rattle.mmc_card_rows.proofs.StoreLemmas.{first_blocks, first_length, number_below, split_blocks}
+use Rattle.mmc_card_rows.proofs.StoreLemmas.{split_part_length}
 
 module _ (sizes : List ℕ) (image : Option (List ℕ)) (erased : ℕ) where
   abbrev pub parts : List (List (List ℕ))

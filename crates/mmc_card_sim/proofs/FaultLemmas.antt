@@ -8,9 +8,9 @@ use Rattle.mmc_card.specs.declared.exchange.DataIn.TheVariants.{Good, Nothing}
 use Rattle.mmc_card.specs.declared.exchange.DataOut.{DataOut}
 use Rattle.mmc_card.specs.declared.exchange.DataOut.TheVariants as Sent
 use Rattle.mmc_card.specs.declared.exchange.Lines.{Lines}
-use Rattle.mmc_card_sim.specs.Chip.{Sends, choice_of}
+use Rattle.mmc_card_rows.specs.Chip.{Sends, choice_of}
 use Rattle.mmc_card_sim.specs.FaultyExchanges.{Spoils, Writes, fits_write}
-use Rattle.mmc_card_sim.specs.declared.delays.Delays.{Delays}
+use Rattle.mmc_card_rows.specs.declared.delays.Delays.{Delays}
 use Rattle.mmc_card_sim.specs.declared.fault.Fault.{Fault}
 
 sends_good : (can : Bool) → Good ≡ (if can then Good else Nothing) → can ≡ true

@@ -17,8 +17,8 @@ use Rattle.mmc_card.specs.CardAnswer.{CardAnswer, Checked, R2, R3, Silent}
 use Rattle.mmc_card.specs.Faults.{AreFlipped, IsFlipped}
 use Rattle.mmc_card.specs.declared.exchange.Reply.{Reply}
 use Rattle.mmc_card.specs.declared.exchange.Reply.TheVariants as Came
-use Rattle.mmc_card_sim.specs.Answer.{AreFlippedIn, HasBytes, IsHeardFlipped, are_beside_ocr, can_flip, flip_both}
-use Rattle.mmc_card_sim.specs.Answer.{flip_second, is_beside_ocr, is_flip, is_flip_of}
+use Rattle.mmc_card_sim.specs.FlippedReplies.{AreFlippedIn, HasBytes, IsHeardFlipped, are_beside_ocr, can_flip, flip_both}
+use Rattle.mmc_card_sim.specs.FlippedReplies.{flip_second, is_beside_ocr, is_flip, is_flip_of}
 use Rattle.mmc_card_sim.specs.declared.fault.Flips as Positions
 
 -- a bit, flipped where the mask's is set

@@ -1,9 +1,6 @@
 pub mod BuildLemmas
-pub mod ChipLemmas
 pub mod FaultLemmas
 pub mod FlipLemmas
-pub mod PieceLemmas
 pub mod PlanLemmas
 pub mod SimSteps
 pub mod SpecLemmas
-pub mod StoreLemmas

@@ -33,22 +33,23 @@ use Rattle.mmc_card.proofs.CardAll.{command_leaves_card, poll_leaves_card, read_
 use Rattle.mmc_bus.specs.declared.wire.Wire.{Wire}
 use Rattle.mmc_bus.specs.Exchanges.{Commanded, DataRead, DataWritten, Exchanged, Polled}
 use Rattle.mmc_bus.specs.Wires.{Notes, bus_view_with}
-use Rattle.mmc_card_sim.specs.Chip.{KeepsWaits, choice_of, command_choice, finding_protection}
+use Rattle.mmc_card_rows.specs.Chip.{KeepsWaits, choice_of, command_choice, finding_protection}
 use Rattle.mmc_card.proofs.Cards.{in_state}
-use Rattle.mmc_card_sim.proofs.ChipLemmas.{execution_held}
-use Rattle.mmc_card_sim.specs.FaultyExchanges.{are_of_execution, failed, may_fail, may_fall_short}
+use Rattle.mmc_card_rows.proofs.ChipLemmas.{execution_held}
+use Rattle.mmc_card_rows.specs.FaultErrors.{are_of_execution}
+use Rattle.mmc_card_sim.specs.FaultyExchanges.{failed, may_fail, may_fall_short}
 use Rattle.mmc_card_sim.specs.FaultyExchanges.{Commands, IsHeard, Polls, Reads, Writes, after_command, after_poll}
 use Rattle.mmc_card_sim.specs.FaultyExchanges.{after_read, after_write, fits_command, fits_poll, fits_read, fits_write}
 use Rattle.mmc_card_sim.specs.FaultyExchanges.{done_in, failing, heeded, is_answer, is_busy_fault, poll_choice, read_in, says_yes, written_out}
 use Rattle.mmc_card_sim.specs.Plan.{fault_at, to_come}
 use Rattle.mmc_card_sim.specs.SimView.{SimOk, SimView}
 use Rattle.mmc_card_sim.proofs.PlanLemmas.{spent}
-use Rattle.mmc_card_sim.specs.Store.{lands_by}
-use Rattle.mmc_card_sim.specs.declared.delays.Delays.{Delays}
-use Rattle.mmc_card_sim.specs.declared.fault.CommandError.TheVariants.{ComCrc, Illegal}
+use Rattle.mmc_card_rows.specs.Store.{lands_by}
+use Rattle.mmc_card_rows.specs.declared.delays.Delays.{Delays}
+use Rattle.mmc_card_rows.specs.declared.fault.CommandError.TheVariants.{ComCrc, Illegal}
 use Rattle.mmc_card_sim.specs.declared.fault.Fault.{Fault}
 use Rattle.mmc_card_sim.specs.declared.fault.Fault.TheVariants as Is
-use Rattle.mmc_card_sim.specs.declared.fault.Outcome.TheVariants.{New, Old}
+use Rattle.mmc_card_rows.specs.declared.fault.Outcome.TheVariants.{New, Old}
 use Rattle.mmc_card_sim.specs.declared.plan.Planned.{Planned}
 use Rattle.mmc_card_sim.proofs.FlipLemmas.{is_flipped}
 use Rattle.std.specs.Int.Bits.{or_zero_r}
@@ -59,7 +60,7 @@ use Rattle.std.proofs.lemmas.Bool.{eqb-true, ltb-true}
 use Rattle.mmc_card.specs.Judged.{Agree, IsEarlyOcr, IsSaid, judged}
 use Rattle.mmc_frame.specs.declared.kind.Kind.{Kind}
 use Rattle.mmc_frame.specs.declared.kind.Kind.TheVariants.{Mmc, Sd}
-use Rattle.mmc_card_sim.specs.Answer.{early_ocr, said_as}
+use Rattle.mmc_card_rows.specs.Answer.{early_ocr, said_as}
 
 -- a bus with this card and this plan, that is kept
 abbrev pub kept_with : List Planned → Card → ℕ → Wire → BusView

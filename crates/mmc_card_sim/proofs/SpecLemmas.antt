@@ -33,13 +33,13 @@ use Rattle.mmc_card.specs.declared.part.Part.TheVariants.{Boot1, Boot2, Gp1, Gp2
 use Rattle.mmc_card_sim.specs.CardSpec.{HasOwnWidths, HasWidths, each_register_is_taken, has_cid, has_csd}
 use Rattle.mmc_card_sim.specs.CardSpec.{has_no_ready_bit, has_ocr, image_fits, kind_is_taken, mmc_sizes}
 use Rattle.mmc_card_sim.specs.CardSpec.{sd_sizes, sizes_of, takes_image_within, works_at_3_3_volts}
-use Rattle.mmc_card_sim.specs.Registers.{ext_csd_of, kind_of, made_of, scr_of, switch_status_by}
-use Rattle.mmc_card_sim.specs.Registers.{switch_status_of}
-use Rattle.mmc_card_sim.specs.Sizes.{total}
-use Rattle.mmc_card_sim.specs.declared.registers.KindRegisters.{KindRegisters}
-use Rattle.mmc_card_sim.specs.declared.registers.KindRegisters.TheVariants.{Mmc, Sd}
-use Rattle.mmc_card_sim.specs.declared.registers.Registers.{Registers}
-use Rattle.mmc_card_sim.specs.declared.store.TheConstants.{MAX_LARGE}
+use Rattle.mmc_card_rows.specs.Registers.{ext_csd_of, kind_of, made_of, scr_of, switch_status_by}
+use Rattle.mmc_card_rows.specs.Registers.{switch_status_of}
+use Rattle.mmc_card_rows.specs.Sizes.{total}
+use Rattle.mmc_card_rows.specs.declared.registers.KindRegisters.{KindRegisters}
+use Rattle.mmc_card_rows.specs.declared.registers.KindRegisters.TheVariants.{Mmc, Sd}
+use Rattle.mmc_card_rows.specs.declared.registers.Registers.{Registers}
+use Rattle.mmc_card_rows.specs.declared.store.TheConstants.{MAX_LARGE}
 
 -- Registers that are taken.
 

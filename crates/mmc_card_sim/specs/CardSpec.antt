@@ -9,15 +9,15 @@ use Rattle.mmc_regs.specs.declared.csd.Csd.{Csd}
 use Rattle.mmc_ext_csd.specs.ExtCsd.{boot_sectors, gp_sectors, hc_erase_grp_size}
 use Rattle.mmc_card.specs.Card.{patience}
 use Rattle.mmc_card.specs.Made.{Made, csd_number_of, is_sd, user_sectors}
-use Rattle.mmc_card_sim.specs.Registers.{kind_of, made_of}
-use Rattle.mmc_card_sim.specs.Sizes.{total}
-use Rattle.mmc_card_sim.specs.declared.registers.KindRegisters.{KindRegisters}
-use Rattle.mmc_card_sim.specs.declared.registers.KindRegisters.TheVariants.{Mmc, Sd}
-use Rattle.mmc_card_sim.specs.declared.registers.Registers.{Registers}
+use Rattle.mmc_card_rows.specs.Registers.{kind_of, made_of}
+use Rattle.mmc_card_rows.specs.Sizes.{total}
+use Rattle.mmc_card_rows.specs.declared.registers.KindRegisters.{KindRegisters}
+use Rattle.mmc_card_rows.specs.declared.registers.KindRegisters.TheVariants.{Mmc, Sd}
+use Rattle.mmc_card_rows.specs.declared.registers.Registers.{Registers}
 use Rattle.mmc_card_sim.specs.declared.spec.BuildFault.{BuildFault}
 use Rattle.mmc_card_sim.specs.declared.spec.BuildFault.TheVariants.{ImageSize, NoMemory, Register}
 use Rattle.mmc_card_sim.specs.declared.spec.CardSpec.{CardSpec}
-use Rattle.mmc_card_sim.specs.declared.store.TheConstants.{MAX_SECTORS}
+use Rattle.mmc_card_sim.specs.declared.spec.TheConstants.{MAX_SECTORS}
 
 -- an SD card has the user partition alone
 abbrev pub sd_sizes : ℕ → List ℕ

@@ -1,8 +1,8 @@
 -- What the cards of `examples/` are built by: the registers of their card files, no waits and no image.
 use Rattle.std.specs.Prelude.{Bool, List, None, false, replicate, slice_set, true, ℕ}
 use Rattle.std.specs.Int.{to_be_bytes, w128, w64}
-use Rattle.mmc_card_sim.specs.declared.registers.KindRegisters.{KindRegisters}
-use Rattle.mmc_card_sim.specs.declared.registers.KindRegisters.TheVariants.{Sd}
+use Rattle.mmc_card_rows.specs.declared.registers.KindRegisters.{KindRegisters}
+use Rattle.mmc_card_rows.specs.declared.registers.KindRegisters.TheVariants.{Sd}
 use Rattle.mmc_card_sim.specs.declared.spec.CardSpec.{CardSpec}
 
 -- the registers of an SD card that publishes RCA 1: it knows CMD8 and names high speed, or neither

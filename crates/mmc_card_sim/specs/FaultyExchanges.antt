@@ -1,6 +1,6 @@
 -- What the card in memory does in an exchange for which a fault may be planned: the fault falls where it fits, and
 -- otherwise the exchange is a faithful step.
-use Rattle.std.specs.Prelude.{◌&&◌, ◌*◌, ◌/◌, ◌==◌, ◌^◌, ◌||◌, ◌≡◌, Bool, List, Option, Some, bit_or, false}
+use Rattle.std.specs.Prelude.{◌&&◌, ◌/◌, ◌^◌, ◌||◌, ◌≡◌, Bool, List, Option, Some, false}
 use Rattle.std.specs.Prelude.{None, if◌then◌else◌, length, nat_le, nat_lt, not, true, ℕ}
 use Rattle.mmc_frame.specs.Frame.{command_in}
 use Rattle.mmc_frame.specs.declared.card_state.State.TheVariants.{Prg, Rcv, Tran}
@@ -15,25 +15,25 @@ use Rattle.mmc_card.specs.Blocks.{accepted, can_accept, can_send, offered, polle
 use Rattle.mmc_card.specs.Blocks.{fallen_early, fallen_short, next_written, waited}
 use Rattle.mmc_card.specs.Card.{Card, is_in, patience, stored}
 use Rattle.mmc_card.specs.CardAnswer.{CardAnswer, Choice, Silent, garbled, left_with, raised, reset}
-use Rattle.mmc_card.specs.ErrorBits.{card_ecc_failed, com_crc_error, execution_error_bits, general_error}
-use Rattle.mmc_card.specs.ErrorBits.{illegal_command}
+use Rattle.mmc_card.specs.ErrorBits.{card_ecc_failed, general_error}
 use Rattle.mmc_card.specs.Faults.{Spells, is_switch_frame, is_write_frame}
 use Rattle.mmc_card.specs.Rows.{answered, reached}
 use Rattle.mmc_card.specs.RowsSwitch.{switch_row}
 use Rattle.mmc_card.specs.declared.command.Command.TheVariants.{Switch}
-use Rattle.mmc_card_sim.specs.Answer.{IsHeardFlipped, can_flip, is_flip, said_as}
-use Rattle.mmc_card_sim.specs.Chip.{Sends, choice_of, command_choice, finding_protection}
-use Rattle.mmc_card_sim.specs.Store.{lands_by}
-use Rattle.mmc_card_sim.specs.declared.delays.Delays.{Delays}
-use Rattle.mmc_card_sim.specs.declared.fault.CommandError.{CommandError}
-use Rattle.mmc_card_sim.specs.declared.fault.CommandError.TheVariants.{ComCrc, Illegal}
+use Rattle.mmc_card_rows.specs.Answer.{said_as}
+use Rattle.mmc_card_sim.specs.FlippedReplies.{IsHeardFlipped, can_flip, is_flip}
+use Rattle.mmc_card_rows.specs.FaultErrors.{are_of_execution, error_bit}
+use Rattle.mmc_card_rows.specs.Chip.{Sends, choice_of, command_choice, finding_protection}
+use Rattle.mmc_card_rows.specs.Store.{lands_by}
+use Rattle.mmc_card_rows.specs.declared.delays.Delays.{Delays}
+use Rattle.mmc_card_rows.specs.declared.fault.CommandError.{CommandError}
 use Rattle.mmc_card_sim.specs.declared.fault.Fault.{Fault}
 use Rattle.mmc_card_sim.specs.declared.fault.Fault.TheVariants.{BadBlock, Brownout, Busy, Fail, FailWith, FlipCommand}
 use Rattle.mmc_card_sim.specs.declared.fault.Fault.TheVariants.{FailSwitch, FailSwitchLate, FlipReply, LeaveOver}
 use Rattle.mmc_card_sim.specs.declared.fault.Fault.TheVariants.{LoseCommand, LoseReply, LoseStatus, NoBlock, ReadError}
 use Rattle.mmc_card_sim.specs.declared.fault.Fault.TheVariants.{FailEarly, FindProtection, LoseBlock, LoseFailedSwitch}
 use Rattle.mmc_card_sim.specs.declared.fault.Fault.TheVariants.{Reject, RejectAll, RejectBusy}
-use Rattle.mmc_card_sim.specs.declared.fault.Outcome.TheVariants.{New}
+use Rattle.mmc_card_rows.specs.declared.fault.Outcome.TheVariants.{New}
 
 -- Commands.
 
@@ -45,11 +45,6 @@ heeded delays card frame =
 -- a switch that fails, which is said late or at once
 abbrev pub failing : Bool → Card → Card × CardAnswer
 failing says_late card = switch_row says_late (reached (choice_of false) Switch card) None
-
--- the error bit of a command, in units of bit 13
-abbrev pub error_bit : CommandError → ℕ
-error_bit ComCrc = com_crc_error
-error_bit Illegal = illegal_command
 
 -- the faithful step of the card that has this error left over
 abbrev pub heeded_with : CommandError → Delays → Card → List ℕ → Card × CardAnswer
@@ -179,11 +174,6 @@ pub record Writes (fault : Option Fault) (delays : Delays) (old : Card) (lines :
   pub got_is : fell ≡ false → got ≡ (if can_accept lines old then Sent.Accepted else Sent.Nothing)
 
 -- Polls.
-
--- some error bits of execution, one at least, as a status has them
-abbrev pub are_of_execution : ℕ → Bool
-are_of_execution bits =
-    (bit_or bits (2 ^ 13 * execution_error_bits) == 2 ^ 13 * execution_error_bits) && nat_le (2 ^ 13) bits
 
 -- the programming of a write, erase or trim may fail, or in rcv that of an earlier block, at the poll that ends its busy time
 abbrev pub may_fail : Card → Bool

@@ -9,11 +9,11 @@ use Rattle.mmc_card.specs.Card.{Card, IsCard, patience}
 use Rattle.mmc_card.specs.Made.{erased_byte_of_card}
 use Rattle.mmc_card_sim.specs.CardSpec.{sizes_of}
 use Rattle.mmc_card_sim.specs.Plan.{fault_at, to_come}
-use Rattle.mmc_card_sim.specs.Registers.{first_life_time, last_rca_by, made_of, rca_changes_by}
-use Rattle.mmc_card_sim.specs.SectorLists.{first_sectors}
-use Rattle.mmc_card_sim.specs.Sizes.{total}
-use Rattle.mmc_card_sim.specs.Store.{split}
-use Rattle.mmc_card_sim.specs.declared.delays.Delays.{Delays}
+use Rattle.mmc_card_rows.specs.Registers.{first_life_time, last_rca_by, made_of, rca_changes_by}
+use Rattle.mmc_card_rows.specs.SectorLists.{first_sectors}
+use Rattle.mmc_card_rows.specs.Sizes.{total}
+use Rattle.mmc_card_rows.specs.Store.{split}
+use Rattle.mmc_card_rows.specs.declared.delays.Delays.{Delays}
 use Rattle.mmc_card_sim.specs.declared.fault.Fault.{Fault}
 use Rattle.mmc_card_sim.specs.declared.plan.Planned.{Planned}
 use Rattle.mmc_card_sim.specs.declared.spec.CardSpec.{CardSpec}

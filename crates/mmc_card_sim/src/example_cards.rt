@@ -3,8 +3,8 @@
 ghost use Rattle.std.specs.Prelude.{◌≡◌, false, true};
 ghost use Rattle.mmc_card_sim.specs.ExampleCards.{card_with, emmc_ext_csd, sd_registers};
 
-use crate::registers::{KindRegisters, MmcRegisters, Registers, SdRegisters};
 use crate::spec::CardSpec;
+use mmc_card_rows::{KindRegisters, MmcRegisters, Registers, SdRegisters};
 
 // The CID of each card. As a CSD it says nothing, as `emmc` has it.
 const CID: u128 = 0x0000_0000_0000_0000_0000_0000_0000_0001;

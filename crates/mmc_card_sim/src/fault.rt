@@ -1,20 +1,5 @@
-/// How an unfinished write, erase or trim turns out where a fault leaves it open.
-#[derive(Clone, Copy, Debug, PartialEq, Eq)]
-pub enum Outcome {
-    /// Each block or sector of it has its old value.
-    Old,
-    /// Each has its new value.
-    New,
-}
-
-/// An error bit of a command that isn't carried out (SD Physical Layer 6.00, section 4.10.1).
-#[derive(Clone, Copy, Debug, PartialEq, Eq)]
-pub enum CommandError {
-    /// COM_CRC_ERROR: its check was bad.
-    ComCrc,
-    /// ILLEGAL_COMMAND: it wasn't legal in the card's state.
-    Illegal,
-}
+// The faults that a card in memory can be told to have.
+use mmc_card_rows::{CommandError, Outcome};
 
 /// Which bits of a frame are flipped, by their positions in order of sending: 0 to 47 in a frame of six bytes, 0 to 135
 /// in one of seventeen. Two equal positions, or one past the frame, fit no exchange.

@@ -2,12 +2,13 @@
 ghost use Rattle.std.specs.Prelude.{◌*◌, ◌<◌, ◌≡◌, length, true};
 ghost use Rattle.mmc_frame.specs.Check.{bits_of};
 ghost use Rattle.mmc_frame.specs.Flips.{AreBytes, flip_at};
-ghost use Rattle.mmc_card_sim.specs.Answer.{HasIndex, IsHeardFlipped, answer_of, are_beside_ocr, can_flip, flip_both};
-ghost use Rattle.mmc_card_sim.specs.Answer.{is_flip};
+ghost use Rattle.mmc_card_rows.specs.Answer.{HasIndex, answer_of};
+ghost use Rattle.mmc_card_sim.specs.FlippedReplies.{IsHeardFlipped, are_beside_ocr, can_flip, flip_both};
+ghost use Rattle.mmc_card_sim.specs.FlippedReplies.{is_flip};
 
-use crate::answer::Answer;
 use crate::fault::Flips;
 use mmc_card::Reply;
+use mmc_card_rows::Answer;
 
 /// Whether these are one or two positions in a frame of so many bits.
 pub fn is_flip(flips: Flips, bits: u8) -> bool

@@ -12,15 +12,14 @@ ghost use Rattle.mmc_card.specs.declared.part.Part.{Part};
 ghost use Rattle.mmc_card_sim.specs.CardSpec.{HasWidths, IsCsdOf, IsRefusalWithin, each_register_is_taken, has_ocr};
 ghost use Rattle.mmc_card_sim.specs.CardSpec.{has_early_bits, has_short_waits, has_user_sectors, kind_is_taken};
 ghost use Rattle.mmc_card_sim.specs.CardSpec.{refusal_within, sizes_of, takes_image_within};
-ghost use Rattle.mmc_card_sim.specs.Registers.{made_of};
-ghost use Rattle.mmc_card_sim.specs.Sizes.{total};
-ghost use Rattle.mmc_card_sim.specs.declared.store.TheConstants.{MAX_LARGE};
+ghost use Rattle.mmc_card_rows.specs.Registers.{made_of};
+ghost use Rattle.mmc_card_rows.specs.Sizes.{total};
+ghost use Rattle.mmc_card_rows.specs.declared.store.TheConstants.{MAX_LARGE};
 
-use crate::chip::PATIENCE;
-use crate::registers::{KindRegisters, Registers};
 use crate::spec::{BuildFault, CardSpec};
 use byteorder::{BigEndian, ByteOrder};
 use mmc_bus::Bytes;
+use mmc_card_rows::{KindRegisters, PATIENCE, Registers};
 use mmc_ext_csd::ExtCsd;
 use mmc_regs::{Csd, Ocr, read_cid, read_csd};
 

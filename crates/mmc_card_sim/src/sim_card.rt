@@ -5,17 +5,16 @@ ghost use Rattle.mmc_card_sim.specs.Plan.{fault_at, refusal_of};
 ghost use Rattle.mmc_card_sim.specs.FaultyExchanges.{Commands, Polls, Reads, Writes, fits_command, fits_poll};
 ghost use Rattle.mmc_card_sim.specs.FaultyExchanges.{fits_read, fits_write};
 ghost use Rattle.mmc_card_sim.specs.SimView.{first_delays, planned_fault, sim_bus_view};
-ghost use Rattle.mmc_card_sim.specs.declared.store.TheConstants.{MAX_LARGE};
+ghost use Rattle.mmc_card_rows.specs.declared.store.TheConstants.{MAX_LARGE};
 
-use crate::chip::Chip;
-use crate::delays::Delays;
 use crate::fault::Fault;
+use crate::faulty_exchanges::{faulty_accept, faulty_command, faulty_poll, faulty_send};
 use crate::judging::judge;
 use crate::plan::{Plan, PlanFault};
-use crate::spec::{BuildFault, CardSpec};
-use crate::store::{MAX_LARGE, MAX_SECTORS, Store};
+use crate::spec::{BuildFault, CardSpec, MAX_SECTORS};
 use mmc_bus::{Bus, Wire};
 use mmc_card::{DataIn, DataOut, Exchange, Lines, Part, Reply, Timing, Want, Width, laws};
+use mmc_card_rows::{Chip, Delays, MAX_LARGE, Store};
 use mmc_frame::State;
 use std::alloc::Global;
 use std::marker::Model;
@@ -63,7 +62,7 @@ pub struct SimCard {
 }
 
 impl Model for SimCard {
-    ghost use Rattle.mmc_card_sim.specs.Chip.{card_of};
+    ghost use Rattle.mmc_card_rows.specs.Chip.{card_of};
     ghost use Rattle.mmc_card_sim.specs.SimView.{SimOk, SimView};
 
     ghost Value = { SimView };
@@ -90,12 +89,12 @@ impl SimCard {
     ghost use Rattle.mmc_bus.specs.Wires.{IsUnused};
     ghost use Rattle.mmc_frame.specs.Frame.{command_in};
     ghost use Rattle.mmc_card.specs.Card.{HasItsSizes, IsCard, patience, powered_on, stored};
-    ghost use Rattle.mmc_card_sim.specs.Chip.{card_of, delays_after, moved_on};
+    ghost use Rattle.mmc_card_rows.specs.Chip.{card_of, delays_after, moved_on};
     ghost use Rattle.mmc_card_sim.specs.CardSpec.{IsRefusal, IsRefusalWithin, refusal_of as spec_refusal};
     ghost use Rattle.mmc_card_sim.specs.CardSpec.{refusal_within};
-    ghost use Rattle.mmc_card_sim.specs.Registers.{made_of};
+    ghost use Rattle.mmc_card_rows.specs.Registers.{made_of};
     ghost use Rattle.mmc_card_sim.specs.SimView.{first_parts};
-    ghost use Rattle.mmc_card_sim.specs.Store.{bytes_of};
+    ghost use Rattle.mmc_card_rows.specs.Store.{bytes_of};
 
     /// This card, before any exchange and without a planned fault.
     pub(crate) fn unused(chip: Chip, delays: Delays) -> SimCard
@@ -236,7 +235,7 @@ impl SimCard {
     {
         let fault = self.plan.fault(self.wire.exchanges);
         let state = self.chip.state;
-        let (reply, fell) = self.chip.faulty_command(fault, self.delays, &frame);
+        let (reply, fell) = faulty_command(&mut self.chip, fault, self.delays, &frame);
         self.delays.note_command(&frame, self.chip.rca);
         self.delays.note_state(state, self.chip.state);
         self.faults = counted(self.faults, fell);
@@ -260,9 +259,7 @@ impl SimCard {
         let fault = self.plan.fault(self.wire.exchanges);
         let len = buffer.len();
         let state = self.chip.state;
-        let (got, fell) = self
-            .chip
-            .faulty_send(fault, self.delays, self.wire.lines, buffer);
+        let (got, fell) = faulty_send(&mut self.chip, fault, self.delays, self.wire.lines, buffer);
         self.delays.note_state(state, self.chip.state);
         self.faults = counted(self.faults, fell);
         self.wire.note(Exchange::In { len, got });
@@ -282,9 +279,7 @@ impl SimCard {
     {
         let fault = self.plan.fault(self.wire.exchanges);
         let state = self.chip.state;
-        let (got, fell) = self
-            .chip
-            .faulty_accept(fault, self.delays, self.wire.lines, block);
+        let (got, fell) = faulty_accept(&mut self.chip, fault, self.delays, self.wire.lines, block);
         self.delays.note_state(state, self.chip.state);
         self.faults = counted(self.faults, fell);
         self.wire.note(Exchange::Out { got });
@@ -303,7 +298,7 @@ impl SimCard {
     {
         let fault = self.plan.fault(self.wire.exchanges);
         let state = self.chip.state;
-        let (yes, fell) = self.chip.faulty_poll(fault, self.delays);
+        let (yes, fell) = faulty_poll(&mut self.chip, fault, self.delays);
         self.delays.note_state(state, self.chip.state);
         self.faults = counted(self.faults, fell);
         self.wire.note(Exchange::Busy { yes });

@@ -1,16 +1,10 @@
 // What a card in memory is built by, and what is refused.
-use crate::registers::Registers;
 use mmc_bus::Bytes;
+use mmc_card_rows::{Refusal, Registers};
 use thiserror::Error;
 
-/// How an SD card refuses to switch to high speed: the function that its switch status selects then.
-#[derive(Clone, Copy, Debug, PartialEq, Eq)]
-pub enum Refusal {
-    /// 15, which is none.
-    SelectsNone,
-    /// 0, which is default speed.
-    SelectsDefault,
-}
+/// The most sectors of a card that `SimCard::build` makes, in all its partitions together.
+pub const MAX_SECTORS: usize = 65_536;
 
 /// What a card in memory is built by: what a card file says but its faults, and an image.
 #[derive(Debug, Drop)]

@@ -14,9 +14,9 @@ use Rattle.mmc_card.specs.declared.exchange.DataIn.TheVariants.{Good}
 use Rattle.mmc_card.specs.declared.exchange.DataIn.TheVariants as Received
 use Rattle.mmc_card.specs.declared.exchange.Exchange.{Exchange}
 use Rattle.mmc_card.specs.declared.exchange.Exchange.TheVariants.{Busy, Command, In, Out}
-use Rattle.mmc_card.specs.declared.exchange.Lines.{Lines}
 use Rattle.mmc_card.specs.declared.exchange.Reply.{Reply}
 use Rattle.mmc_card.specs.declared.exchange.Want.{Want}
+use Rattle.mmc_bus.specs.Exchanges.{Commanded}
 use Rattle.mmc_bus.specs.Heard.{or_unsound, response_heard}
 use Rattle.mmc_bus.specs.Together.{AreAccepted, AreGood, BlockRead, BlockWritten, NotBusy, OneOf, ReadOn, ReadWith, RestsBehind, WrittenOn, WrittenWith}
 use Rattle.mmc_bus.specs.Together.{accepted_one, good_one, none_accepted, none_good, reads, reads_none, reads_nothing, writes, writes_none}
@@ -25,30 +25,16 @@ use Rattle.mmc_bus.specs.declared.moved.Moved.{Moved}
 use Rattle.mmc_bus.specs.declared.moved.Moved.TheVariants as Move
 use Rattle.mmc_bus.specs.declared.wire.Wire.{Wire}
 use Rattle.mmc_host.proofs.BusLemmas.{does_command, does_poll, does_read, does_write, exchanged, replied}
-use Rattle.mmc_host.specs.HostStates.{IsCounted, IsFree, block_passed, blocks_in, is_accepted, is_good, lines_of, sent}
+use Rattle.mmc_host.specs.HostStates.{IsCounted, block_passed, blocks_in, is_accepted, is_good, lines_of, sent}
 use Rattle.mmc_card.specs.BusView.{BusView}
-use Rattle.mmc_host.specs.Hosts.{Does, HostView, OnlySets, Rests, Where, WritesBlock, answer_heard, bus_over}
-use Rattle.mmc_host.specs.Together.{AreAhead, AreBehind, CanRead, CanWrite, HostRead, IsBegun, IsUnderWay, HostRested, ReadsWith, WritesWith, all_noted, all_writes_noted}
+use Rattle.mmc_host.specs.Hosts.{Does, HostView, OnlySets, Rests, Sends, Where, WritesBlock, answer_heard, bus_over}
+use Rattle.mmc_host.specs.Together.{CanRead, CanWrite, HostRead, IsBegun, IsUnderWay, HostRested, ReadsWith, WritesWith, all_noted, all_writes_noted}
 use Rattle.mmc_host.specs.Together.{blocks_noted, noted, passed, passed_on, poll_noted, writes_noted}
-use Rattle.mmc_host.specs.Misuse.{can_send}
-use Rattle.mmc_host.specs.Pace.{IsClocked, IsTimed}
-use Rattle.mmc_host.specs.declared.told.Ios.{Ios}
-use Rattle.mmc_host.specs.declared.data.Data.{Data}
-use Rattle.mmc_host.specs.declared.data.Data.TheVariants as Behind
 use Rattle.mmc_host.specs.declared.response.Response.TheVariants as To
 use Rattle.mmc_host.specs.declared.told.Heard.{Heard}
 use Rattle.mmc_host.specs.declared.told.HostCommand.{HostCommand}
 use Rattle.mmc_host.specs.declared.told.HostState.{HostState}
 use Rattle.mmc_host.specs.declared.told.ResponseFault.{ResponseFault}
-
-pub noted_is : (old : Wire) (exchange : Exchange) (new : Wire) → Notes old exchange new → new ≡ noted exchange old
-noted_is old exchange new n =
-    let lines : Lines → Wire = λ l. record { lines = l; limits = new.limits; last = new.last; exchanges = new.exchanges } in
-    let limits : Lines → Wire = λ l. record { lines = old.lines; limits = l; last = new.last; exchanges = new.exchanges } in
-    let last : Option Exchange → Wire =
-    λ e. record { lines = old.lines; limits = old.limits; last = e; exchanges = new.exchanges } in
-    let count : ℕ → Wire = λ k. record { lines = old.lines; limits = old.limits; last = Some exchange; exchanges = k } in
-    ap lines n.lines ∙ ap limits n.limits ∙ ap last n.last ∙ ap count n.exchanges
 
 pub notes : (exchange : Exchange) (wire : Wire) → Notes wire exchange (noted exchange wire)
 notes exchange wire = record { lines = refl; limits = refl; last = refl; exchanges = refl }
@@ -92,59 +78,21 @@ so_lines : (exchange : Exchange) (k : ℕ) (wire : Wire) → (told_so exchange k
 so_lines exchange zero wire = refl
 so_lines exchange (suc k) wire = refl
 
+-- what a call leaves of a host by the blocks that it moved
+abbrev HasMoved : {T : Type 0} → HostView → Moved T → HostView → Type 0
+HasMoved behind moved new =
+    Where new ((behind.is_kept ≡ true) × (new.state ≡ passed_on moved behind.state) × (new.limits ≡ behind.limits))
+
 pub sets_none : (view : HostView) → OnlySets view view
 sets_none view kept = (kept, refl)
 
 pub rests : (view : HostView) → Rests view view
 rests view kept = (kept, refl)
 
--- where no data is under way each command can be sent
-idle_sends : (state : HostState) (frame : List ℕ) (index argument : ℕ) → command_in frame ≡ Some (index, argument)
-    → state.transfer ≡ Behind.Nothing → can_send state frame ≡ true
-idle_sends state frame index argument holds idle = rw (holds, idle) refl
-
-with_blocks : (Blocks : Data → Type 0) → (Blocks Behind.Nothing → ⊥) → (under_way : Data) (command : HostCommand)
-    → Blocks command.transfer → IsFree under_way command → under_way ≡ Behind.Nothing
-with_blocks Blocks none under_way command are (inl nothing) = absurd (none (subst Blocks nothing are))
-with_blocks Blocks none under_way command are (inr idle) = idle
-
--- a command with blocks is sent only where no data is under way
-pub reading_sends : (old new : HostState) (frame : List ℕ) (command : HostCommand) (count : ℕ) (lines : Lines)
-    → new ≡ record old { ios = new.ios } → CanRead new frame command count lines → can_send old frame ≡ true
-reading_sends old new frame command count lines same can =
-    idle_sends old frame command.index command.argument can.holds
-    (sym (ap (λ (s : HostState). s.transfer) same)
-    ∙ with_blocks (λ d. AreBehind d count) (λ no. no) new.transfer command can.behind can.free)
-
-pub writing_sends : (old new : HostState) (frame : List ℕ) (command : HostCommand) (count : ℕ) (lines : Lines)
-    → new ≡ record old { ios = new.ios } → CanWrite new frame command count lines → can_send old frame ≡ true
-writing_sends old new frame command count lines same can =
-    idle_sends old frame command.index command.argument can.holds
-    (sym (ap (λ (s : HostState). s.transfer) same)
-    ∙ with_blocks (λ d. AreAhead d count) (λ no. no) new.transfer command can.ahead can.free)
-
-moved_ios : {T : Type 0} (moved : Moved T) (state : HostState) → (passed_on moved state).ios ≡ state.ios
+-- lines and clock stay as the command had them, whatever its blocks did
+pub moved_ios : {T : Type 0} (moved : Moved T) (state : HostState) → (passed_on moved state).ios ≡ state.ios
 moved_ios (Move.Good good) state = refl
 moved_ios (Move.Failed got) state = refl
-
--- the clock stays as the command wanted it, whatever its blocks did
-pub clocked_then : {T : Type 0} (old mid new : HostState) (frame : List ℕ) (command : HostCommand) (is_answered : Bool)
-    (moved : Moved T) → command_in frame ≡ Some (command.index, command.argument) → IsClocked old command.index mid
-    → new ≡ passed_on moved (sent mid command is_answered) → IfSome (command_in frame) (λ c. IsClocked old c.0 new)
-clocked_then old mid new frame command is_answered moved holds clocked same =
-    rw (holds) (ap (λ (ios : Ios). ios.is_identifying)
-    (ap (λ (s : HostState). s.ios) same ∙ moved_ios moved (sent mid command is_answered)) ∙ clocked)
-
--- and its lines stay those that it went out on
-pub lined_then : {T : Type 0} (mid new : HostState) (command : HostCommand) (is_answered : Bool) (moved : Moved T) (lines : Lines)
-    → lines_of mid.ios ≡ lines → new ≡ passed_on moved (sent mid command is_answered) → lines_of new.ios ≡ lines
-lined_then mid new command is_answered moved lines set same =
-    ap (λ (ios : Ios). lines_of ios)
-    (ap (λ (s : HostState). s.ios) same ∙ moved_ios moved (sent mid command is_answered)) ∙ set
-
-pub timed_clock : (old new : HostState) (frame : List ℕ) (reply : Reply) → IsTimed old frame reply new
-    → IfSome (command_in frame) (λ c. IsClocked old c.0 new)
-timed_clock old new frame reply timed = rw (timed.holds) timed.clock
 
 lines_of_blocks : (k : ℕ) (wire : Wire) → (blocks_noted k wire).lines ≡ wire.lines
 lines_of_blocks zero wire = refl
@@ -230,8 +178,7 @@ module _ {S : Type 0} (blocks : S → List (List ℕ)) (leave : S → ℕ → Li
       read (so_noted (In 512 Good) (In 512 got) some wire)) lent
 
   pub state_on : (moved : Moved DataIn) (new : HostView) (now : S)
-      → ReadOn HostRead blocks leave behind was moved new now
-      → Where new ((behind.is_kept ≡ true) × (new.state ≡ passed_on moved behind.state) × (new.limits ≡ behind.limits))
+      → ReadOn HostRead blocks leave behind was moved new now → HasMoved behind moved new
   state_on moved new now (reads good next held all) kept =
       (kept_in good next held all kept, state_in good next held all kept, limits_in good next held all kept)
   state_on moved new now (reads_nothing held lent) kept = (kept, refl, refl)
@@ -248,49 +195,72 @@ limits_of : (good : ℕ) (wire : Wire) → (blocks_noted good wire).limits ≡ w
 limits_of zero wire = refl
 limits_of (suc good) wire = limits_of good wire
 
--- The whole call.
+limits_noted : (moved : Moved DataIn) (wire : Wire) → (all_noted moved wire).limits ≡ wire.limits
+limits_noted (Move.Good good) wire = limits_of good wire
+limits_noted (Move.Failed got) wire = refl
+
+-- A command with the blocks after it, whichever way they go.
+module _ (v0 v1 behind : HostView) (w0 w1 : Wire) (state : HostState) (frame : List ℕ) (want : Want)
+    (command : HostCommand) (heard : Result Heard ResponseFault) (reply : Reply) (told : Where v1 (v1.state ≡ state))
+    (sends : Sends v1 command heard behind) (notes_it : Notes w0 (Command frame want reply) w1) where
+  lines_behind : lines_of state.ios ≡ w0.lines → Where behind (lines_of behind.state.ios ≡ w1.lines)
+  lines_behind set kept =
+      let s = sends kept in
+      ap (λ (x : HostState). lines_of x.ios) s.state
+      ∙ ap (λ (x : HostState). lines_of x.ios) (told s.step.was_kept) ∙ set ∙ sym notes_it.lines
+
+  commanded_by : (misused : Bool) → OnlySets v0 v1 → command_in frame ≡ Some (command.index, command.argument)
+      → Spells (answer_heard command.response command.index heard) reply
+      → Commanded (bus_over v0 w0 misused) frame want reply (bus_over behind w1 misused)
+  commanded_by misused only holds spells =
+      exchanged v0 behind w0 w0 w1 misused misused (Command frame want reply) (λ old next. CommandStep old frame reply next)
+      (does_command v0 behind w0 misused command.index command.argument frame reply holds
+      (replied v0 v1 behind behind command heard reply only sends (rests behind) spells)) refl notes_it
+
+  -- a bus that keeps all of it has told its host the same, within the same limits
+  kept_by : {T : Type 0} (moved : Moved T) (new : HostView) (after : HostState) (wire : Wire) → HasMoved behind moved new
+      → after ≡ passed_on moved (sent state command (is_ok heard)) → wire.limits ≡ w1.limits
+      → Where v1 (v1.limits ≡ w0.limits) → Where new (new.state ≡ after) × Where new (new.limits ≡ wire.limits)
+  kept_by moved new after wire has same limits within = (
+    λ kept.
+        let all = has kept in
+        let s = sends all.0 in
+        all.1
+        ∙ ap (passed_on moved)
+        (s.state ∙ ap (λ (x : HostState). sent x command (is_ok heard)) (told s.step.was_kept)) ∙ sym same,
+    λ kept.
+        let all = has kept in
+        let s = sends all.0 in
+        all.2 ∙ s.limits ∙ within s.step.was_kept ∙ sym notes_it.limits ∙ sym limits,
+  )
+
+-- Blocks that come behind it.
 module _ {S : Type 0} {blocks : S → List (List ℕ)} {leave : S → ℕ → List ℕ → S} (was : S) (v0 v1 : HostView)
     (w0 w1 : Wire) (misused : Bool) (state : HostState) (frame : List ℕ) (want : Want) (command : HostCommand)
     (count : ℕ) (heard : Result Heard ResponseFault) (reply : Reply) (moved : Moved DataIn) (now : S) (new : HostView)
-    (only : OnlySets v0 v1) (told : Where v1 (v1.state ≡ state)) (can : CanRead state frame command count w0.lines)
+    (told : Where v1 (v1.state ≡ state)) (can : CanRead state frame command count w0.lines)
     (read : ReadsWith blocks leave v1 command was heard moved now new)
-    (spells : Spells (answer_heard command.response command.index heard) reply)
     (notes_it : Notes w0 (Command frame want reply) w1) where
-  lines_behind : Where read.behind (lines_of read.behind.state.ios ≡ w1.lines)
-  lines_behind kept =
-      let s = read.sent kept in
-      ap (λ (x : HostState). lines_of x.ios) s.state
-      ∙ ap (λ (x : HostState). lines_of x.ios) (told s.step.was_kept) ∙ can.set ∙ sym notes_it.lines
+  lines_read : Where read.behind (lines_of read.behind.state.ios ≡ w1.lines)
+  lines_read = lines_behind v0 v1 read.behind w0 w1 state frame want command heard reply told read.sent notes_it can.set
 
-  pub over : ReadWith blocks leave (bus_over v0 w0 misused) frame want was reply moved now
+  pub over : OnlySets v0 v1 → Spells (answer_heard command.response command.index heard) reply
+      → ReadWith blocks leave (bus_over v0 w0 misused) frame want was reply moved now
       (bus_over new (all_noted moved w1) misused)
-  over = record {
+  over only spells = record {
     behind = bus_over read.behind w1 misused;
-    commanded = exchanged v0 read.behind w0 w0 w1 misused misused (Command frame want reply)
-        (λ old next. CommandStep old frame reply next)
-        (does_command v0 read.behind w0 misused command.index command.argument frame reply can.holds
-        (replied v0 v1 read.behind read.behind command heard reply only read.sent (rests read.behind) spells))
-        refl notes_it;
-    read = read_over blocks leave was read.behind w1 misused lines_behind moved new now read.read;
+    commanded = commanded_by v0 v1 read.behind w0 w1 state frame want command heard reply told read.sent notes_it misused
+        only can.holds spells;
+    read = read_over blocks leave was read.behind w1 misused lines_read moved new now read.read;
   }
 
-  pub told_then : Where new (new.state ≡ passed_on moved (sent state command (is_ok heard)))
-  told_then kept =
-      let all = state_on blocks leave was read.behind w1 misused lines_behind moved new now read.read kept in
-      let s = read.sent all.0 in
-      all.1
-      ∙ ap (passed_on moved)
-      (s.state ∙ ap (λ (x : HostState). sent x command (is_ok heard)) (told s.step.was_kept))
-
-  pub within_then : Where v1 (v1.limits ≡ w0.limits) → Where new (new.limits ≡ w0.limits)
-  within_then within kept =
-      let all = state_on blocks leave was read.behind w1 misused lines_behind moved new now read.read kept in
-      let s = read.sent all.0 in
-      all.2 ∙ s.limits ∙ within s.step.was_kept
-
-pub limits_noted : (moved : Moved DataIn) (wire : Wire) → (all_noted moved wire).limits ≡ wire.limits
-limits_noted (Move.Good good) wire = limits_of good wire
-limits_noted (Move.Failed got) wire = refl
+  pub read_kept : (after : HostState) (wire : Wire) → after ≡ passed_on moved (sent state command (is_ok heard))
+      → wire ≡ all_noted moved w1 → Where v1 (v1.limits ≡ w0.limits)
+      → Where new (new.state ≡ after) × Where new (new.limits ≡ wire.limits)
+  read_kept after wire same noted =
+      kept_by v0 v1 read.behind w0 w1 state frame want command heard reply told read.sent notes_it moved new after wire
+      (state_on blocks leave was read.behind w1 misused lines_read moved new now read.read) same
+      (ap (λ (w : Wire). w.limits) noted ∙ limits_noted moved w1)
 
 -- Writes.
 
@@ -313,7 +283,7 @@ limits_written : (k : ℕ) (wire : Wire) → (writes_noted k wire).limits ≡ wi
 limits_written zero wire = refl
 limits_written (suc k) wire = limits_polled k (writes_noted k wire) ∙ limits_written k wire
 
-pub limits_all_written : (moved : Moved DataOut) (wire : Wire)
+limits_all_written : (moved : Moved DataOut) (wire : Wire)
     → (all_writes_noted moved wire).limits ≡ wire.limits
 limits_all_written (Move.Good good) wire = limits_written good wire
 limits_all_written (Move.Failed got) wire = refl
@@ -431,8 +401,7 @@ module _ (blocks : List (List ℕ)) (behind : HostView) (wire : Wire) (misused :
       (lines_so_out some view ready all rests) written (so_noted (Busy false) (Out got) some wire))
 
   pub state_on_out : (moved : Moved DataOut) (new : HostView)
-      → WrittenOn WritesBlock HostRested blocks behind moved new
-      → Where new ((behind.is_kept ≡ true) × (new.state ≡ passed_on moved behind.state) × (new.limits ≡ behind.limits))
+      → WrittenOn WritesBlock HostRested blocks behind moved new → HasMoved behind moved new
   state_on_out moved new (writes good next all) kept = state_out good next all kept
   state_on_out moved new (writes_none some view ready got next all rests below not written) kept =
       let s = written kept in
@@ -454,55 +423,44 @@ heard_none index (Ok Heard.Nothing) reply spells err = refl
 heard_none index (Ok (Heard.Register bytes)) reply spells err = refl
 heard_none index (Err fault) reply spells err = refl
 
--- The whole call.
+-- Blocks that go behind it.
 module _ (blocks : List (List ℕ)) (v0 v1 : HostView)
     (w0 w1 : Wire) (misused : Bool) (state : HostState) (frame : List ℕ) (want : Want) (command : HostCommand)
     (count : ℕ) (heard : Result Heard ResponseFault) (reply : Reply) (moved : Moved DataOut) (new : HostView)
-    (only : OnlySets v0 v1) (told : Where v1 (v1.state ≡ state)) (can : CanWrite state frame command count w0.lines)
+    (told : Where v1 (v1.state ≡ state)) (can : CanWrite state frame command count w0.lines)
     (write : WritesWith v1 command blocks heard moved new)
-    (spells : Spells (answer_heard command.response command.index heard) reply)
     (notes_it : Notes w0 (Command frame want reply) w1) where
-  write_lines : Where write.behind (lines_of write.behind.state.ios ≡ w1.lines)
-  write_lines kept =
-      let s = write.sent kept in
-      ap (λ (x : HostState). lines_of x.ios) s.state
-      ∙ ap (λ (x : HostState). lines_of x.ios) (told s.step.was_kept) ∙ can.set ∙ sym notes_it.lines
+  lines_written_on : Where write.behind (lines_of write.behind.state.ios ≡ w1.lines)
+  lines_written_on =
+      lines_behind v0 v1 write.behind w0 w1 state frame want command heard reply told write.sent notes_it can.set
 
-  none_unheard : (c : ℕ × ℕ) → command_in frame ≡ Some c → IsErr (response_heard c.0 reply)
-      → moved ≡ Move.Good 0
-  none_unheard c is err =
+  none_unheard : Spells (answer_heard command.response command.index heard) reply → (c : ℕ × ℕ)
+      → command_in frame ≡ Some c → IsErr (response_heard c.0 reply) → moved ≡ Move.Good 0
+  none_unheard spells c is err =
       let same : Some (command.index, command.argument) ≡ Some c = sym can.holds ∙ is in
       let index : command.index ≡ c.0 = grind (arith, same) in
       write.unheard
       (rw can.response (heard_none command.index heard reply (rw can.response at spells)
       (subst (λ n. IsErr (response_heard n reply)) (sym index) err)))
 
-  pub writes_over : WrittenWith (bus_over v0 w0 misused) frame want blocks reply moved
+  pub writes_over : OnlySets v0 v1 → Spells (answer_heard command.response command.index heard) reply
+      → WrittenWith (bus_over v0 w0 misused) frame want blocks reply moved
       (bus_over new (all_writes_noted moved w1) misused)
-  writes_over = record {
+  writes_over only spells = record {
     behind = bus_over write.behind w1 misused;
-    commanded = exchanged v0 write.behind w0 w0 w1 misused misused (Command frame want reply)
-        (λ old next. CommandStep old frame reply next)
-        (does_command v0 write.behind w0 misused command.index command.argument frame reply can.holds
-        (replied v0 v1 write.behind write.behind command heard reply only write.sent (rests write.behind) spells))
-        refl notes_it;
-    unheard = none_unheard;
-    written = written_over blocks write.behind w1 misused write_lines moved new write.written;
+    commanded = commanded_by v0 v1 write.behind w0 w1 state frame want command heard reply told write.sent notes_it misused
+        only can.holds spells;
+    unheard = none_unheard spells;
+    written = written_over blocks write.behind w1 misused lines_written_on moved new write.written;
   }
 
-  pub told_write : Where new (new.state ≡ passed_on moved (sent state command (is_ok heard)))
-  told_write kept =
-      let all = state_on_out blocks write.behind w1 misused write_lines moved new write.written kept in
-      let s = write.sent all.0 in
-      all.1
-      ∙ ap (λ (x : HostState). passed_on moved x)
-      (s.state ∙ ap (λ (x : HostState). sent x command (is_ok heard)) (told s.step.was_kept))
-
-  pub within_write : Where v1 (v1.limits ≡ w0.limits) → Where new (new.limits ≡ w0.limits)
-  within_write within kept =
-      let all = state_on_out blocks write.behind w1 misused write_lines moved new write.written kept in
-      let s = write.sent all.0 in
-      all.2 ∙ s.limits ∙ within s.step.was_kept
+  pub write_kept : (after : HostState) (wire : Wire) → after ≡ passed_on moved (sent state command (is_ok heard))
+      → wire ≡ all_writes_noted moved w1 → Where v1 (v1.limits ≡ w0.limits)
+      → Where new (new.state ≡ after) × Where new (new.limits ≡ wire.limits)
+  write_kept after wire same noted =
+      kept_by v0 v1 write.behind w0 w1 state frame want command heard reply told write.sent notes_it moved new after wire
+      (state_on_out blocks write.behind w1 misused lines_written_on moved new write.written) same
+      (ap (λ (w : Wire). w.limits) noted ∙ limits_all_written moved w1)
 
 -- what a command that is under way was told is how it has begun
 pub begun_as : (frame : List ℕ) (old : HostState) (moved : ℕ) (command : HostCommand) (new : HostState)

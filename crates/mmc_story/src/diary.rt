@@ -1,22 +1,28 @@
 // What a host did. It exists only in proofs: a diary has no bytes, and its functions do nothing at run time.
-ghost use Rattle.std.specs.Prelude.{◌≡◌, ◌∷◌, [], List, ℕ};
+ghost use Rattle.std.specs.Prelude.{◌≡◌, List, ℕ};
 ghost use Rattle.std.specs.Borrow.{ftrue};
-ghost use Rattle.mmc_story.specs.Entry.{Entry};
-ghost use Rattle.mmc_host.specs.declared.told.HostState.{HostState};
+ghost use Rattle.mmc_story.specs.Entry as Did;
 
+use ghost_diary::Noted;
 use mmc_bus::{Blocks, Moved};
 use mmc_card::{DataIn, DataOut, Lines};
 use mmc_host::{Heard, HostCommand, HostState, Ios, ResponseFault};
 use std::marker::Model;
 
 /// What a host did so far. Only proofs read it.
+pub type Diary = ghost_diary::Diary<Entry>;
+
+/// One call of a host, as proofs see it. It has no bytes.
 #[derive(Drop)]
-pub struct Diary {
-    // the entries, the last one first
-    pub ghost past: { List Entry },
+pub struct Entry {
+    ghost did: { Did.Entry },
 }
 
-impl Model for Diary {
+impl Model for Entry {
+    ghost Value = { Did.Entry };
+
+    ghost view = { λ entry. entry.did };
+
     ghost also_owns = { λ _. ftrue };
 }
 
@@ -24,20 +30,42 @@ impl Model for Diary {
 #[derive(Drop)]
 pub struct Seen {
     // their bytes
-    pub ghost blocks: { List (List ℕ) },
+    pub blocks: ghost_diary::Seen<Bytes>,
 }
 
-impl Model for Seen {
+/// The bytes of blocks, as proofs see them. It has none itself.
+#[derive(Drop)]
+pub struct Bytes {
+    ghost blocks: { List (List ℕ) },
+}
+
+impl Model for Bytes {
+    ghost Value = { List (List ℕ) };
+
+    ghost view = { λ bytes. bytes.blocks };
+
     ghost also_owns = { λ _. ftrue };
+}
+
+// Blocks that are shown.
+#[derive(Drop)]
+struct Shown<'a, D> {
+    blocks: &'a D,
+}
+
+impl<D: Blocks> Noted<Bytes> for Shown<'_, D> {
+    ghost says = { λ shown. D.blocks shown.blocks.now };
 }
 
 impl Seen {
     /// These blocks.
     #[inline(always)]
-    pub fn of<D: Blocks>(_blocks: &D) -> Seen
-        ensures { result.blocks ≡ D.blocks _blocks.now }
+    pub fn of<D: Blocks>(blocks: &D) -> Seen
+        ensures { result.blocks ≡ D.blocks blocks.now }
     {
-        Seen {}
+        Seen {
+            blocks: ghost_diary::Seen::of(&Shown { blocks }),
+        }
     }
 }
 
@@ -45,11 +73,7 @@ impl Seen {
 #[derive(Drop)]
 pub struct SeenState {
     // what it comes to
-    pub ghost state: { HostState },
-}
-
-impl Model for SeenState {
-    ghost also_owns = { λ _. ftrue };
+    pub state: ghost_diary::Seen<HostState>,
 }
 
 /// What a host is told, or what it says, as far as it bears on what it can be told next.
@@ -77,23 +101,40 @@ pub enum HostStep {
     Paused(u32),
 }
 
+// A step from a state.
+#[derive(Drop)]
+struct Stepped<'a> {
+    state: &'a SeenState,
+    step: &'a HostStep,
+}
+
+impl Noted<HostState> for Stepped<'_> {
+    ghost use Rattle.mmc_story.specs.Steps.{after};
+
+    ghost says = { λ stepped. after stepped.step.now stepped.state.now.state };
+}
+
 impl SeenState {
     ghost use Rattle.mmc_story.specs.Steps.{after};
 
     /// What this state says.
     #[inline(always)]
-    pub fn of(_state: &HostState) -> SeenState
-        ensures { result.state ≡ _state.now }
+    pub fn of(state: &HostState) -> SeenState
+        ensures { result.state ≡ state.now }
     {
-        SeenState {}
+        SeenState {
+            state: ghost_diary::Seen::of(state),
+        }
     }
 
     /// What it comes to after a step.
     #[inline(always)]
-    pub fn after(&self, _step: &HostStep) -> SeenState
-        ensures { result.state ≡ after _step.now self.now.state }
+    pub fn after(&self, step: &HostStep) -> SeenState
+        ensures { result.state ≡ after step.now self.now.state }
     {
-        SeenState {}
+        SeenState {
+            state: ghost_diary::Seen::of(&Stepped { state: self, step }),
+        }
     }
 }
 
@@ -163,21 +204,8 @@ pub struct Note<'a> {
     pub call: Call<'a>,
 }
 
-impl Diary {
+impl Noted<Entry> for Note<'_> {
     ghost use Rattle.mmc_story.specs.Noted.{entry_of};
 
-    /// Nothing so far.
-    pub fn new() -> Diary
-        ensures { result.past ≡ [] }
-    {
-        Diary {}
-    }
-
-    /// One entry more.
-    #[inline(always)]
-    pub fn then(&self, _note: &Note<'_>) -> Diary
-        ensures { result.past ≡ entry_of _note.now ∷ self.now.past }
-    {
-        Diary {}
-    }
+    ghost says = { entry_of };
 }

@@ -11,7 +11,11 @@ use Rattle.register_words.specs.declared.field.Meaning.TheVariants.{Number}
 use Rattle.register_words.specs.Registers.{register_len}
 use Rattle.register_words.specs.Fields.{can_say, fits, high_bit, is_reserved, low_bit, all_fit, is_hexadecimal, spans}
 use Rattle.register_words.specs.Words.{digits_text, ending_text, field_text, fields_text, label_text, value_text}
-use Rattle.std.proofs.Common.{[], ◌∷◌, ◌++◌, length, drop, get_or, drop-cons, add-one, append_assoc, subst}
+use Rattle.std.specs.declared.io.Error.{Error}
+use Rattle.text_out.specs.Writing.{Writes}
+use Rattle.register_words.specs.Registers.{number_of}
+use Rattle.register_words.specs.Summaries.{PutsFields}
+use Rattle.std.proofs.Common.{Option, Result, [], ◌∷◌, ◌++◌, length, drop, get_or, drop-cons, add-one, append_assoc, subst}
 
 pub and_true : (a b : Bool) → (a && b) ≡ true → (a ≡ true) × (b ≡ true)
 and_true true b h = (refl, h)
@@ -132,3 +136,22 @@ pub five_fit : (a b c d e : List Field) → all_fit ExtCsd a ≡ true → all_fi
     → all_fit ExtCsd d ≡ true → all_fit ExtCsd e ≡ true → all_fit ExtCsd (a ++ (b ++ (c ++ (d ++ e)))) ≡ true
 five_fit a b c d e ha hb hc hd he =
     fits_more ExtCsd a _ ha (fits_more ExtCsd b _ hb (fits_more ExtCsd c _ hc (fits_more ExtCsd d e hd he)))
+
+-- what is written of the five parts of an EXT_CSD's table is written of the whole
+pub puts_parts : (bytes : List ℕ) (a b c d e : List Field)
+    → spans 512 254 a ≡ true → spans 254 216 b ≡ true → spans 216 181 c ≡ true → spans 181 134 d ≡ true → spans 134 0 e ≡ true
+    → all_fit ExtCsd a ≡ true → all_fit ExtCsd b ≡ true → all_fit ExtCsd c ≡ true → all_fit ExtCsd d ≡ true
+    → all_fit ExtCsd e ≡ true → (old new : Option (List ℕ)) (r : Result Unit Error)
+    → (let n = number_of ExtCsd bytes in
+    Writes old new r (fields_text ExtCsd n a ++ (fields_text ExtCsd n b ++ (fields_text ExtCsd n c
+    ++ (fields_text ExtCsd n d ++ fields_text ExtCsd n e)))))
+    → PutsFields ExtCsd bytes old new r
+puts_parts bytes a b c d e sa sb sc sd se fa fb fc fd fe old new r written = record {
+  fields = a ++ (b ++ (c ++ (d ++ e)));
+  table = record {
+    whole = spans_more a _ 512 254 0 sa (spans_more b _ 254 216 0 sb (spans_more c _ 216 181 0 sc (spans_more d _ 181 134 0 sd se)));
+    fitting = five_fit a b c d e fa fb fc fd fe;
+    same = tt;
+  };
+  written = subst (Writes old new r) (sym (five_texts ExtCsd (number_of ExtCsd bytes) a b c d e)) written;
+}

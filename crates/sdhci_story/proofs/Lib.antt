@@ -1,3 +1,2 @@
 pub mod ConformingLemmas
 pub mod Telling
-pub mod Walks

@@ -1,18 +1,24 @@
 // What was read and written. It exists only in proofs: a diary has no bytes, and its functions do nothing at run time.
-ghost use Rattle.std.specs.Prelude.{◌≡◌, ◌∷◌, [], List};
 ghost use Rattle.std.specs.Borrow.{ftrue};
 ghost use Rattle.sdhci_story.specs.Access.{Access};
 
+use ghost_diary::Noted;
 use std::marker::Model;
 
 /// The accesses so far. Only proofs read it.
+pub type Diary = ghost_diary::Diary<Entry>;
+
+/// One access, as proofs see it. It has no bytes.
 #[derive(Drop)]
-pub struct Diary {
-    // the last one first
-    pub ghost past: { List Access },
+pub struct Entry {
+    ghost access: { Access },
 }
 
-impl Model for Diary {
+impl Model for Entry {
+    ghost Value = { Access };
+
+    ghost view = { λ entry. entry.access };
+
     ghost also_owns = { λ _. ftrue };
 }
 
@@ -56,21 +62,8 @@ pub enum Note {
     Dma,
 }
 
-impl Diary {
+impl Noted<Entry> for Note {
     ghost use Rattle.sdhci_story.specs.Noted.{access_of};
 
-    /// Nothing so far.
-    pub fn new() -> Diary
-        ensures { result.past ≡ [] }
-    {
-        Diary {}
-    }
-
-    /// One access more.
-    #[inline(always)]
-    pub fn then(&self, _note: &Note) -> Diary
-        ensures { result.past ≡ access_of _note.now ∷ self.now.past }
-    {
-        Diary {}
-    }
+    ghost says = { access_of };
 }

@@ -8,280 +8,70 @@ ghost use Rattle.register_words.specs.declared.register.Register.TheVariants.{Cs
 
 use crate::field::{Field, Meaning, Name, Scale};
 use crate::tables::csd_common::{
-    ALWAYS_ONE, CLASSES, FILE_FORMATS, LEAST_CURRENTS, MOST_CURRENTS, RATE_UNITS, TIME_UNITS,
-    TIME_VALUES,
+    C_SIZE, C_SIZE_MULT, CCC, COPY, CRC, DSR_IMP, FILE_FORMAT, FILE_FORMAT_GRP, NOT_USED, NSAC,
+    PERM_WRITE_PROTECT, R2W_FACTOR, RATE_UNITS, READ_BL_LEN, READ_BL_PARTIAL, READ_BLK_MISALIGN,
+    TAAC, TIME_VALUES, TMP_WRITE_PROTECT, VDD_R_CURR_MAX, VDD_R_CURR_MIN, VDD_W_CURR_MAX,
+    VDD_W_CURR_MIN, WP_GRP_ENABLE, WRITE_BL_LEN, WRITE_BL_PARTIAL, WRITE_BLK_MISALIGN,
 };
 
 const STRUCTURES: &[Name] = names![0 => b"version 1.0", 1 => b"version 2.0", 2 => b"version 3.0"];
 
-static CSD_V1: [Field; 35] = [
-    field!(b"CSD_STRUCTURE", 127, 126, Meaning::Named(STRUCTURES)),
-    reserved!(125, 120),
-    field!(b"TAAC", 119, 112, Meaning::Product(TIME_VALUES, TIME_UNITS)),
-    field!(b"NSAC", 111, 104, scaled!(0, 100, b"clock cycles")),
-    field!(
-        b"TRAN_SPEED",
-        103,
-        96,
-        Meaning::Product(TIME_VALUES, RATE_UNITS)
-    ),
-    field!(b"CCC", 95, 84, Meaning::Bits(CLASSES)),
-    field!(b"READ_BL_LEN", 83, 80, Meaning::Power(b"bytes")),
-    field!(
-        b"READ_BL_PARTIAL",
-        79,
-        79,
-        Meaning::Flag(b"parts of a block can be read")
-    ),
-    field!(
-        b"WRITE_BLK_MISALIGN",
-        78,
-        78,
-        Meaning::Flag(b"a write may cross a block's end")
-    ),
-    field!(
-        b"READ_BLK_MISALIGN",
-        77,
-        77,
-        Meaning::Flag(b"a read may cross a block's end")
-    ),
-    field!(
-        b"DSR_IMP",
-        76,
-        76,
-        Meaning::Flag(b"the card has a driver stage register")
-    ),
+// The fields of a version, highest first, with those of its size among them.
+macro_rules! csd_fields {
+    ($($size:expr),* $(,)?) => {
+        [
+            field!(b"CSD_STRUCTURE", 127, 126, Meaning::Named(STRUCTURES)),
+            reserved!(125, 120),
+            TAAC,
+            NSAC,
+            field!(b"TRAN_SPEED", 103, 96, Meaning::Product(TIME_VALUES, RATE_UNITS)),
+            CCC,
+            READ_BL_LEN,
+            READ_BL_PARTIAL,
+            WRITE_BLK_MISALIGN,
+            READ_BLK_MISALIGN,
+            DSR_IMP,
+            $($size,)*
+            field!(b"ERASE_BLK_EN", 46, 46, Meaning::Flag(b"single blocks can be erased")),
+            field!(b"SECTOR_SIZE", 45, 39, scaled!(1, 1, b"write blocks")),
+            field!(b"WP_GRP_SIZE", 38, 32, scaled!(1, 1, b"erase sectors")),
+            WP_GRP_ENABLE,
+            reserved!(30, 29),
+            R2W_FACTOR,
+            WRITE_BL_LEN,
+            WRITE_BL_PARTIAL,
+            reserved!(20, 16),
+            FILE_FORMAT_GRP,
+            COPY,
+            PERM_WRITE_PROTECT,
+            TMP_WRITE_PROTECT,
+            FILE_FORMAT,
+            reserved!(9, 8),
+            CRC,
+            NOT_USED,
+        ]
+    };
+}
+
+static CSD_V1: [Field; 35] = csd_fields![
     reserved!(75, 74),
-    field!(b"C_SIZE", 73, 62, Meaning::Number),
-    field!(b"VDD_R_CURR_MIN", 61, 59, Meaning::Named(LEAST_CURRENTS)),
-    field!(b"VDD_R_CURR_MAX", 58, 56, Meaning::Named(MOST_CURRENTS)),
-    field!(b"VDD_W_CURR_MIN", 55, 53, Meaning::Named(LEAST_CURRENTS)),
-    field!(b"VDD_W_CURR_MAX", 52, 50, Meaning::Named(MOST_CURRENTS)),
-    field!(b"C_SIZE_MULT", 49, 47, Meaning::Number),
-    field!(
-        b"ERASE_BLK_EN",
-        46,
-        46,
-        Meaning::Flag(b"single blocks can be erased")
-    ),
-    field!(b"SECTOR_SIZE", 45, 39, scaled!(1, 1, b"write blocks")),
-    field!(b"WP_GRP_SIZE", 38, 32, scaled!(1, 1, b"erase sectors")),
-    field!(
-        b"WP_GRP_ENABLE",
-        31,
-        31,
-        Meaning::Flag(b"groups can be write protected")
-    ),
-    reserved!(30, 29),
-    field!(
-        b"R2W_FACTOR",
-        28,
-        26,
-        Meaning::Power(b"times the access time of a read")
-    ),
-    field!(b"WRITE_BL_LEN", 25, 22, Meaning::Power(b"bytes")),
-    field!(
-        b"WRITE_BL_PARTIAL",
-        21,
-        21,
-        Meaning::Flag(b"parts of a block can be written")
-    ),
-    reserved!(20, 16),
-    field!(b"FILE_FORMAT_GRP", 15, 15, Meaning::Number),
-    field!(b"COPY", 14, 14, Meaning::Flag(b"a copy")),
-    field!(
-        b"PERM_WRITE_PROTECT",
-        13,
-        13,
-        Meaning::Flag(b"write protected for good")
-    ),
-    field!(
-        b"TMP_WRITE_PROTECT",
-        12,
-        12,
-        Meaning::Flag(b"write protected for now")
-    ),
-    field!(b"FILE_FORMAT", 11, 10, Meaning::Named(FILE_FORMATS)),
-    reserved!(9, 8),
-    field!(b"CRC", 7, 1, Meaning::Hexadecimal),
-    field!(b"not used", 0, 0, Meaning::Named(ALWAYS_ONE)),
+    C_SIZE,
+    VDD_R_CURR_MIN,
+    VDD_R_CURR_MAX,
+    VDD_W_CURR_MIN,
+    VDD_W_CURR_MAX,
+    C_SIZE_MULT,
 ];
 
-static CSD_V2: [Field; 31] = [
-    field!(b"CSD_STRUCTURE", 127, 126, Meaning::Named(STRUCTURES)),
-    reserved!(125, 120),
-    field!(b"TAAC", 119, 112, Meaning::Product(TIME_VALUES, TIME_UNITS)),
-    field!(b"NSAC", 111, 104, scaled!(0, 100, b"clock cycles")),
-    field!(
-        b"TRAN_SPEED",
-        103,
-        96,
-        Meaning::Product(TIME_VALUES, RATE_UNITS)
-    ),
-    field!(b"CCC", 95, 84, Meaning::Bits(CLASSES)),
-    field!(b"READ_BL_LEN", 83, 80, Meaning::Power(b"bytes")),
-    field!(
-        b"READ_BL_PARTIAL",
-        79,
-        79,
-        Meaning::Flag(b"parts of a block can be read")
-    ),
-    field!(
-        b"WRITE_BLK_MISALIGN",
-        78,
-        78,
-        Meaning::Flag(b"a write may cross a block's end")
-    ),
-    field!(
-        b"READ_BLK_MISALIGN",
-        77,
-        77,
-        Meaning::Flag(b"a read may cross a block's end")
-    ),
-    field!(
-        b"DSR_IMP",
-        76,
-        76,
-        Meaning::Flag(b"the card has a driver stage register")
-    ),
+static CSD_V2: [Field; 31] = csd_fields![
     reserved!(75, 70),
     field!(b"C_SIZE", 69, 48, scaled!(1, 512, b"KiB")),
     reserved!(47, 47),
-    field!(
-        b"ERASE_BLK_EN",
-        46,
-        46,
-        Meaning::Flag(b"single blocks can be erased")
-    ),
-    field!(b"SECTOR_SIZE", 45, 39, scaled!(1, 1, b"write blocks")),
-    field!(b"WP_GRP_SIZE", 38, 32, scaled!(1, 1, b"erase sectors")),
-    field!(
-        b"WP_GRP_ENABLE",
-        31,
-        31,
-        Meaning::Flag(b"groups can be write protected")
-    ),
-    reserved!(30, 29),
-    field!(
-        b"R2W_FACTOR",
-        28,
-        26,
-        Meaning::Power(b"times the access time of a read")
-    ),
-    field!(b"WRITE_BL_LEN", 25, 22, Meaning::Power(b"bytes")),
-    field!(
-        b"WRITE_BL_PARTIAL",
-        21,
-        21,
-        Meaning::Flag(b"parts of a block can be written")
-    ),
-    reserved!(20, 16),
-    field!(b"FILE_FORMAT_GRP", 15, 15, Meaning::Number),
-    field!(b"COPY", 14, 14, Meaning::Flag(b"a copy")),
-    field!(
-        b"PERM_WRITE_PROTECT",
-        13,
-        13,
-        Meaning::Flag(b"write protected for good")
-    ),
-    field!(
-        b"TMP_WRITE_PROTECT",
-        12,
-        12,
-        Meaning::Flag(b"write protected for now")
-    ),
-    field!(b"FILE_FORMAT", 11, 10, Meaning::Named(FILE_FORMATS)),
-    reserved!(9, 8),
-    field!(b"CRC", 7, 1, Meaning::Hexadecimal),
-    field!(b"not used", 0, 0, Meaning::Named(ALWAYS_ONE)),
 ];
 
-static CSD_V3: [Field; 30] = [
-    field!(b"CSD_STRUCTURE", 127, 126, Meaning::Named(STRUCTURES)),
-    reserved!(125, 120),
-    field!(b"TAAC", 119, 112, Meaning::Product(TIME_VALUES, TIME_UNITS)),
-    field!(b"NSAC", 111, 104, scaled!(0, 100, b"clock cycles")),
-    field!(
-        b"TRAN_SPEED",
-        103,
-        96,
-        Meaning::Product(TIME_VALUES, RATE_UNITS)
-    ),
-    field!(b"CCC", 95, 84, Meaning::Bits(CLASSES)),
-    field!(b"READ_BL_LEN", 83, 80, Meaning::Power(b"bytes")),
-    field!(
-        b"READ_BL_PARTIAL",
-        79,
-        79,
-        Meaning::Flag(b"parts of a block can be read")
-    ),
-    field!(
-        b"WRITE_BLK_MISALIGN",
-        78,
-        78,
-        Meaning::Flag(b"a write may cross a block's end")
-    ),
-    field!(
-        b"READ_BLK_MISALIGN",
-        77,
-        77,
-        Meaning::Flag(b"a read may cross a block's end")
-    ),
-    field!(
-        b"DSR_IMP",
-        76,
-        76,
-        Meaning::Flag(b"the card has a driver stage register")
-    ),
+static CSD_V3: [Field; 30] = csd_fields![
     field!(b"C_SIZE", 75, 48, scaled!(1, 512, b"KiB")),
     reserved!(47, 47),
-    field!(
-        b"ERASE_BLK_EN",
-        46,
-        46,
-        Meaning::Flag(b"single blocks can be erased")
-    ),
-    field!(b"SECTOR_SIZE", 45, 39, scaled!(1, 1, b"write blocks")),
-    field!(b"WP_GRP_SIZE", 38, 32, scaled!(1, 1, b"erase sectors")),
-    field!(
-        b"WP_GRP_ENABLE",
-        31,
-        31,
-        Meaning::Flag(b"groups can be write protected")
-    ),
-    reserved!(30, 29),
-    field!(
-        b"R2W_FACTOR",
-        28,
-        26,
-        Meaning::Power(b"times the access time of a read")
-    ),
-    field!(b"WRITE_BL_LEN", 25, 22, Meaning::Power(b"bytes")),
-    field!(
-        b"WRITE_BL_PARTIAL",
-        21,
-        21,
-        Meaning::Flag(b"parts of a block can be written")
-    ),
-    reserved!(20, 16),
-    field!(b"FILE_FORMAT_GRP", 15, 15, Meaning::Number),
-    field!(b"COPY", 14, 14, Meaning::Flag(b"a copy")),
-    field!(
-        b"PERM_WRITE_PROTECT",
-        13,
-        13,
-        Meaning::Flag(b"write protected for good")
-    ),
-    field!(
-        b"TMP_WRITE_PROTECT",
-        12,
-        12,
-        Meaning::Flag(b"write protected for now")
-    ),
-    field!(b"FILE_FORMAT", 11, 10, Meaning::Named(FILE_FORMATS)),
-    reserved!(9, 8),
-    field!(b"CRC", 7, 1, Meaning::Hexadecimal),
-    field!(b"not used", 0, 0, Meaning::Named(ALWAYS_ONE)),
 ];
 
 /// The fields of a CSD version 1.0.

@@ -1,11 +1,11 @@
-// What the fields of a CSD stand for, in all its versions.
-use crate::field::{Name, Scale};
+// The fields that several versions of a CSD share, and what they stand for.
+use crate::field::{Field, Meaning, Name, Scale};
 
 /// The bit that is always sent last.
 pub(crate) const ALWAYS_ONE: &[Name] = names![0 => b"should be 1", 1 => b"always 1"];
 
-/// The current at the minimum supply.
-pub(crate) const LEAST_CURRENTS: &[Name] = names![
+// The current at the minimum supply.
+const LEAST_CURRENTS: &[Name] = names![
     0 => b"0.5 mA",
     1 => b"1 mA",
     2 => b"5 mA",
@@ -16,8 +16,8 @@ pub(crate) const LEAST_CURRENTS: &[Name] = names![
     7 => b"100 mA",
 ];
 
-/// The current at the maximum supply.
-pub(crate) const MOST_CURRENTS: &[Name] = names![
+// The current at the maximum supply.
+const MOST_CURRENTS: &[Name] = names![
     0 => b"1 mA",
     1 => b"5 mA",
     2 => b"10 mA",
@@ -28,8 +28,8 @@ pub(crate) const MOST_CURRENTS: &[Name] = names![
     7 => b"200 mA",
 ];
 
-/// The classes of commands.
-pub(crate) const CLASSES: &[Name] = names![
+// The classes of commands.
+const CLASSES: &[Name] = names![
     0 => b"class 0",
     1 => b"class 1",
     2 => b"class 2",
@@ -44,8 +44,8 @@ pub(crate) const CLASSES: &[Name] = names![
     11 => b"class 11",
 ];
 
-/// What the card is laid out as, where FILE_FORMAT_GRP is 0.
-pub(crate) const FILE_FORMATS: &[Name] = names![
+// What the card is laid out as, where FILE_FORMAT_GRP is 0.
+const FILE_FORMATS: &[Name] = names![
     0 => b"hard disk with a partition table",
     1 => b"DOS FAT with a boot sector",
     2 => b"universal file format",
@@ -57,8 +57,8 @@ pub(crate) const TIME_VALUES: &[u64] = &[
     0, 10, 12, 13, 15, 20, 25, 30, 35, 40, 45, 50, 55, 60, 70, 80,
 ];
 
-/// The units of TAAC, with a tenth taken out.
-pub(crate) const TIME_UNITS: &[Scale] = &[
+// The units of TAAC, with a tenth taken out.
+const TIME_UNITS: &[Scale] = &[
     Scale {
         offset: 0,
         factor: 100,
@@ -124,3 +124,120 @@ pub(crate) const RATE_UNITS: &[Scale] = &[
         unit: b"Mbit/s",
     },
 ];
+
+// The rows of these fields. `C_SIZE` and the currents are those of version 1.0 and of an eMMC device.
+
+pub(crate) const TAAC: Field = field!(b"TAAC", 119, 112, Meaning::Product(TIME_VALUES, TIME_UNITS));
+
+pub(crate) const NSAC: Field = field!(b"NSAC", 111, 104, scaled!(0, 100, b"clock cycles"));
+
+pub(crate) const CCC: Field = field!(b"CCC", 95, 84, Meaning::Bits(CLASSES));
+
+pub(crate) const READ_BL_LEN: Field = field!(b"READ_BL_LEN", 83, 80, Meaning::Power(b"bytes"));
+
+pub(crate) const READ_BL_PARTIAL: Field = field!(
+    b"READ_BL_PARTIAL",
+    79,
+    79,
+    Meaning::Flag(b"parts of a block can be read")
+);
+
+pub(crate) const WRITE_BLK_MISALIGN: Field = field!(
+    b"WRITE_BLK_MISALIGN",
+    78,
+    78,
+    Meaning::Flag(b"a write may cross a block's end")
+);
+
+pub(crate) const READ_BLK_MISALIGN: Field = field!(
+    b"READ_BLK_MISALIGN",
+    77,
+    77,
+    Meaning::Flag(b"a read may cross a block's end")
+);
+
+pub(crate) const DSR_IMP: Field = field!(
+    b"DSR_IMP",
+    76,
+    76,
+    Meaning::Flag(b"the card has a driver stage register")
+);
+
+pub(crate) const C_SIZE: Field = field!(b"C_SIZE", 73, 62, Meaning::Number);
+
+pub(crate) const VDD_R_CURR_MIN: Field = field!(
+    b"VDD_R_CURR_MIN",
+    61,
+    59,
+    Meaning::Named(LEAST_CURRENTS)
+);
+
+pub(crate) const VDD_R_CURR_MAX: Field = field!(
+    b"VDD_R_CURR_MAX",
+    58,
+    56,
+    Meaning::Named(MOST_CURRENTS)
+);
+
+pub(crate) const VDD_W_CURR_MIN: Field = field!(
+    b"VDD_W_CURR_MIN",
+    55,
+    53,
+    Meaning::Named(LEAST_CURRENTS)
+);
+
+pub(crate) const VDD_W_CURR_MAX: Field = field!(
+    b"VDD_W_CURR_MAX",
+    52,
+    50,
+    Meaning::Named(MOST_CURRENTS)
+);
+
+pub(crate) const C_SIZE_MULT: Field = field!(b"C_SIZE_MULT", 49, 47, Meaning::Number);
+
+pub(crate) const WP_GRP_ENABLE: Field = field!(
+    b"WP_GRP_ENABLE",
+    31,
+    31,
+    Meaning::Flag(b"groups can be write protected")
+);
+
+pub(crate) const R2W_FACTOR: Field = field!(
+    b"R2W_FACTOR",
+    28,
+    26,
+    Meaning::Power(b"times the access time of a read")
+);
+
+pub(crate) const WRITE_BL_LEN: Field = field!(b"WRITE_BL_LEN", 25, 22, Meaning::Power(b"bytes"));
+
+pub(crate) const WRITE_BL_PARTIAL: Field = field!(
+    b"WRITE_BL_PARTIAL",
+    21,
+    21,
+    Meaning::Flag(b"parts of a block can be written")
+);
+
+pub(crate) const FILE_FORMAT_GRP: Field = field!(b"FILE_FORMAT_GRP", 15, 15, Meaning::Number);
+
+pub(crate) const COPY: Field = field!(b"COPY", 14, 14, Meaning::Flag(b"a copy"));
+
+pub(crate) const PERM_WRITE_PROTECT: Field = field!(
+    b"PERM_WRITE_PROTECT",
+    13,
+    13,
+    Meaning::Flag(b"write protected for good")
+);
+
+pub(crate) const TMP_WRITE_PROTECT: Field = field!(
+    b"TMP_WRITE_PROTECT",
+    12,
+    12,
+    Meaning::Flag(b"write protected for now")
+);
+
+pub(crate) const FILE_FORMAT: Field = field!(b"FILE_FORMAT", 11, 10, Meaning::Named(FILE_FORMATS));
+
+pub(crate) const CRC: Field = field!(b"CRC", 7, 1, Meaning::Hexadecimal);
+
+pub(crate) const NOT_USED: Field = field!(b"not used", 0, 0, Meaning::Named(ALWAYS_ONE));

@@ -30,7 +30,7 @@ returns-clause-served g c = λ kept decided.
 pub returns-in-Err-clause-served : goal.returns-in-Err-clause-served
 returns-in-Err-clause-served g c = λ kept decided.
     let e = c.in-Err.ensures in
-    rw c.of_opening.ensures (
+    rw c.from.ensures (
       (e.stays kept).0.bounded,
       unopened g.B.Bus.view c.args.bus c.in-Err.bus _ (g.W.Write.contents c.args.out.now) c.in-Err.fault e.no_memory
           (e.stays kept).1 (e.refused kept),

@@ -2,9 +2,9 @@ use Rattle.std.proofs.Common.{ap, arith, sym, ◌∙◌, ◌≤◌}
 use Rattle.mmc_regs.specs.Csd.{is_protected}
 use Rattle.mmc_card.specs.Made.{csd_number_of}
 use Rattle.mmc_card_sim.proofs.SpecLemmas.{few_sectors, image_length, number_of_csd, sizes_exist}
-use Rattle.mmc_card_sim.specs.Registers.{made_of}
-use Rattle.mmc_card_sim.specs.Sizes.{total}
-use Rattle.mmc_card_sim.specs.declared.store.TheConstants.{MAX_LARGE}
+use Rattle.mmc_card_rows.specs.Registers.{made_of}
+use Rattle.mmc_card_rows.specs.Sizes.{total}
+use Rattle.mmc_card_rows.specs.declared.store.TheConstants.{MAX_LARGE}
 use Rattle.mmc_card_sim.proofs.judging.judge.Goals as goal
 
 pub returns-clause-protected : goal.returns-clause-protected

@@ -1,5 +1,5 @@
 use Rattle.std.proofs.Common.{◌≡◌, ◌≤◌, ◌+◌, drop}
-use Rattle.mmc_card_sim.specs.Sizes.{total}
+use Rattle.mmc_card_rows.specs.Sizes.{total}
 use Rattle.mmc_card_sim.proofs.judging.total.Given as goal
 
 -- the sizes so far and those to come are all sizes

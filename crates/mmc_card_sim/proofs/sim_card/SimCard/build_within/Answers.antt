@@ -4,7 +4,7 @@ use Rattle.mmc_card.specs.Sectors.{part_number}
 use Rattle.mmc_card.proofs.Conditions.{along}
 use Rattle.mmc_card_sim.proofs.BuildLemmas.{has_its_sizes, new_blocks}
 use Rattle.mmc_card_sim.proofs.SpecLemmas.{length_sizes}
-use Rattle.mmc_card_sim.specs.Registers.{made_of}
+use Rattle.mmc_card_rows.specs.Registers.{made_of}
 use Rattle.mmc_card_sim.proofs.sim_card.SimCard.build_within.Goals as goal
 
 pub unused-requires-clause-card : goal.unused-requires-clause-card

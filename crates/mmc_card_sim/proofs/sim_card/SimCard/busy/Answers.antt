@@ -1,5 +1,5 @@
 use Rattle.std.proofs.Common.{◌∙◌, ap, refl}
-use Rattle.mmc_card_sim.specs.Chip.{card_of}
+use Rattle.mmc_card_rows.specs.Chip.{card_of}
 use Rattle.mmc_card_sim.specs.FaultyExchanges.{fits_poll}
 use Rattle.mmc_card_sim.proofs.SimSteps.{in_all, polled, room, still_ok}
 use Rattle.mmc_card_sim.proofs.sim_card.SimCard.busy.Goals as goal

@@ -1,5 +1,5 @@
 use Rattle.std.proofs.Common.{◌∙◌, ap, refl}
-use Rattle.mmc_card_sim.specs.Chip.{card_of}
+use Rattle.mmc_card_rows.specs.Chip.{card_of}
 use Rattle.mmc_card_sim.specs.FaultyExchanges.{fits_command}
 use Rattle.mmc_card_sim.proofs.SimSteps.{commanded, in_all, room, still_ok, waits_on}
 use Rattle.mmc_card_sim.proofs.sim_card.SimCard.command.Goals as goal

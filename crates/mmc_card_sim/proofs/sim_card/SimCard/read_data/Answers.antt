@@ -1,6 +1,6 @@
 use Rattle.std.proofs.Common.{◌∙◌, ap, refl}
 use Rattle.std.specs.Prelude.{length}
-use Rattle.mmc_card_sim.specs.Chip.{card_of}
+use Rattle.mmc_card_rows.specs.Chip.{card_of}
 use Rattle.mmc_card_sim.specs.FaultyExchanges.{fits_read}
 use Rattle.mmc_card_sim.proofs.SimSteps.{data_read, in_all, room, still_ok}
 use Rattle.mmc_card_sim.proofs.sim_card.SimCard.read_data.Goals as goal

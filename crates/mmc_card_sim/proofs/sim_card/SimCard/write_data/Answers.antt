@@ -1,6 +1,6 @@
 use Rattle.std.proofs.Common.{◌∙◌, ap, refl}
 use Rattle.mmc_card.proofs.ByteLemmas.{block_at}
-use Rattle.mmc_card_sim.specs.Chip.{card_of}
+use Rattle.mmc_card_rows.specs.Chip.{card_of}
 use Rattle.mmc_card_sim.specs.FaultyExchanges.{fits_write}
 use Rattle.mmc_card_sim.proofs.SimSteps.{data_written, in_all, room, still_ok}
 use Rattle.mmc_card_sim.proofs.sim_card.SimCard.write_data.Goals as goal

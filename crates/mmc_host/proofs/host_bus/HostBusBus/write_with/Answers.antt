@@ -1,13 +1,14 @@
-use Rattle.std.proofs.Common.{◌∙◌, Bool, ap, refl, subst, sym}
+use Rattle.std.proofs.Common.{◌∙◌, ap, refl, subst, sym}
 use Rattle.mmc_card.specs.declared.exchange.Exchange.TheVariants.{Command}
-use Rattle.mmc_bus.specs.Together.{WrittenWith, none_accepted, writes}
+use Rattle.mmc_bus.specs.Together.{none_accepted, writes}
 use Rattle.mmc_bus.specs.Wires.{Notes}
 use Rattle.mmc_bus.specs.declared.wire.Wire.{Wire}
-use Rattle.mmc_host.proofs.TogetherLemmas.{clocked_then, lined_then, limits_all_written, timed_clock, told_write, within_write, writes_over, writing_sends}
-use Rattle.mmc_host.specs.HostStates.{sent}
+use Rattle.mmc_host.proofs.TogetherLemmas.{moved_ios, write_kept, writes_over}
+use Rattle.mmc_host.specs.HostStates.{lines_of, sent}
 use Rattle.mmc_host.specs.Hosts.{bus_over}
+use Rattle.mmc_host.specs.declared.told.HostState.{HostState}
+use Rattle.mmc_host.specs.declared.told.Ios.{Ios}
 use Rattle.mmc_host.specs.Together.{CanWrite, passed_on}
-use Rattle.std.specs.Prelude.{is_ok}
 use Rattle.mmc_host.proofs.host_bus.HostBusBus.write_with.Goals as goal
 
 pub returns-in-Some-clause-written : goal.returns-in-Some-clause-written
@@ -16,23 +17,13 @@ returns-in-Some-clause-written g c =
     let v1 = g.H.Host.view c.writing.new.self.host in
     let new = g.H.Host.view c.write_with-heard.new.self in
     let w0 = c.args.self.now.wire in
-    let moved = c.write_with-heard.result.1 in
-    let wire = c.writing.ensures.wire in
-    let misused = c.writing.ensures.misused in
     let noted : Notes w0 (Command c.args.frame c.args.want c.spelled-reply.result) c.note.new.self =
-    subst (λ (w : Wire). Notes w (Command c.args.frame c.args.want c.spelled-reply.result) c.note.new.self) wire
-    c.note.ensures in
-    let can : CanWrite c.writing.new.self.state c.args.frame c.in-Some.command c.len.result w0.lines = c.in-Some.ensures.can in
-    subst (λ (m : Bool). WrittenWith (bus_over v0 w0 c.args.self.now.is_misused) c.args.frame
-    c.args.want (g.D.Blocks.blocks c.args.blocks.now) c.spelled-reply.result moved
-    (bus_over new c.note_written.new.wire m)) (sym misused)
-    (subst (λ (w : Wire). WrittenWith (bus_over v0 w0 c.args.self.now.is_misused)
-    c.args.frame c.args.want (g.D.Blocks.blocks c.args.blocks.now) c.spelled-reply.result moved
-    (bus_over new w c.args.self.now.is_misused)) (sym c.note_written.ensures)
-    (writes_over (g.D.Blocks.blocks c.args.blocks.now) v0 v1 w0 c.note.new.self c.args.self.now.is_misused c.writing.new.self.state c.args.frame
-    c.args.want c.in-Some.command c.len.result c.write_with-heard.result.0 c.spelled-reply.result moved
-    new c.writing.ensures.only c.writing.new.self.told can c.write_with-heard.ensures
-    c.spelled-reply.ensures noted))
+    rw c.writing.ensures.wire at c.note.ensures in
+    rw (c.writing.ensures.misused, c.note_written.ensures)
+    (writes_over (g.D.Blocks.blocks c.args.blocks.now) v0 v1 w0 c.note.new.self c.args.self.now.is_misused c.writing.new.self.state
+    c.args.frame c.args.want c.in-Some.command c.len.result c.write_with-heard.result.0 c.spelled-reply.result
+    c.write_with-heard.result.1 new c.writing.new.self.told c.in-Some.ensures.can c.write_with-heard.ensures
+    noted c.writing.ensures.only c.spelled-reply.ensures)
 
 pub returns-in-None-clause-written : goal.returns-in-None-clause-written
 returns-in-None-clause-written g c =
@@ -43,37 +34,17 @@ returns-in-None-clause-written g c =
       written = writes 0 _ none_accepted;
     })
 
-pub returns-in-Some-clause-misused : goal.returns-in-Some-clause-misused
-returns-in-Some-clause-misused g c =
-    rw (
-      c.writing.ensures.misused,
-      writing_sends c.args.self.now.state c.writing.new.self.state c.args.frame c.in-Some.command c.len.result c.args.self.now.wire.lines
-          c.writing.ensures.state c.in-Some.ensures.can,
-    ) refl
-
 pub returns-in-Some-clause-clock : goal.returns-in-Some-clause-clock
-returns-in-Some-clause-clock g c =
-    λ can. clocked_then c.args.self.now.state c.writing.new.self.state c.blocks_passed-self.result c.args.frame c.in-Some.command
-    (is_ok c.write_with-heard.result.0) c.write_with-heard.result.1 c.in-Some.ensures.can.holds c.in-Some.ensures.clock
-    (c.blocks_passed-self.ensures
-    ∙ ap (passed_on c.write_with-heard.result.1)
-    (c.sent.ensures ∙ ap (sent c.writing.new.self.state c.in-Some.command) c.is_ok.ensures.value))
-
-pub returns-in-None-clause-clock : goal.returns-in-None-clause-clock
-returns-in-None-clause-clock g c =
-    rw (sym (c.in-None.ensures.cannot refl)) (λ can. timed_clock c.writing.new.self.state c.begin.new.self.state c.args.frame
-    c.begin.result (c.begin.ensures.timed can))
+returns-in-Some-clause-clock g c = λ can.
+    rw (c.in-Some.ensures.can.holds) (ap (λ (ios : Ios). ios.is_identifying)
+    (ap (λ (s : HostState). s.ios) c.blocks_passed-self.ensures ∙ moved_ios c.write_with-heard.result.1 c.sent.result
+    ∙ ap (λ (s : HostState). s.ios) c.sent.ensures) ∙ c.in-Some.ensures.clock)
 
 pub returns-in-Some-clause-lines : goal.returns-in-Some-clause-lines
 returns-in-Some-clause-lines g c = λ can idle within.
-    lined_then c.writing.new.self.state c.blocks_passed-self.result c.in-Some.command (is_ok c.write_with-heard.result.0)
-    c.write_with-heard.result.1 c.args.self.now.wire.lines c.in-Some.ensures.can.set
-    (c.blocks_passed-self.ensures
-    ∙ ap (passed_on c.write_with-heard.result.1)
-    (c.sent.ensures ∙ ap (sent c.writing.new.self.state c.in-Some.command) c.is_ok.ensures.value))
-
-pub returns-in-None-clause-lines : goal.returns-in-None-clause-lines
-returns-in-None-clause-lines g c = rw (sym (c.in-None.ensures.cannot refl)) (λ can. c.begin.ensures.lines can)
+    ap lines_of (ap (λ (s : HostState). s.ios) c.blocks_passed-self.ensures ∙ moved_ios c.write_with-heard.result.1 c.sent.result
+    ∙ ap (λ (s : HostState). s.ios) c.sent.ensures)
+    ∙ c.in-Some.ensures.can.set
 
 pub invariant_of-self : goal.invariant_of-self
 invariant_of-self g c =
@@ -81,24 +52,14 @@ invariant_of-self g c =
     let v1 = g.H.Host.view c.writing.new.self.host in
     let new = g.H.Host.view c.write_with-heard.new.self in
     let w = c.writing.new.self.wire in
-    let moved = c.write_with-heard.result.1 in
     let can : CanWrite c.writing.new.self.state c.args.frame c.in-Some.command c.len.result w.lines =
     subst (λ (v : Wire). CanWrite c.writing.new.self.state c.args.frame c.in-Some.command c.len.result v.lines)
     (sym c.writing.ensures.wire) c.in-Some.ensures.can in
-    record {
-      told = λ kept.
-          told_write (g.D.Blocks.blocks c.args.blocks.now) v0 v1 w c.note.new.self c.args.self.now.is_misused c.writing.new.self.state c.args.frame
-          c.args.want c.in-Some.command c.len.result c.write_with-heard.result.0 c.spelled-reply.result moved
-          new c.writing.ensures.only c.writing.new.self.told can c.write_with-heard.ensures
-          c.spelled-reply.ensures c.note.ensures kept
-          ∙ sym (c.blocks_passed-self.ensures
-          ∙ ap (passed_on moved)
-          (c.sent.ensures ∙ ap (sent c.writing.new.self.state c.in-Some.command) c.is_ok.ensures.value));
-      within = λ kept.
-          within_write (g.D.Blocks.blocks c.args.blocks.now) v0 v1 w c.note.new.self c.args.self.now.is_misused c.writing.new.self.state c.args.frame
-          c.args.want c.in-Some.command c.len.result c.write_with-heard.result.0 c.spelled-reply.result moved
-          new c.writing.ensures.only c.writing.new.self.told can c.write_with-heard.ensures
-          c.spelled-reply.ensures c.note.ensures c.writing.new.self.within kept
-          ∙ sym c.note.ensures.limits ∙ sym (limits_all_written moved c.note.new.self)
-          ∙ ap (λ (v : Wire). v.limits) (sym c.note_written.ensures);
-    }
+    let kept = write_kept (g.D.Blocks.blocks c.args.blocks.now) v0 v1 w c.note.new.self c.args.self.now.is_misused c.writing.new.self.state
+    c.args.frame c.args.want c.in-Some.command c.len.result c.write_with-heard.result.0 c.spelled-reply.result
+    c.write_with-heard.result.1 new c.writing.new.self.told can c.write_with-heard.ensures
+    c.note.ensures c.blocks_passed-self.result c.note_written.new.wire (c.blocks_passed-self.ensures
+    ∙ ap (passed_on c.write_with-heard.result.1)
+    (c.sent.ensures ∙ ap (sent c.writing.new.self.state c.in-Some.command) c.is_ok.ensures.value)) c.note_written.ensures
+    c.writing.new.self.within in
+    record { told = kept.0; within = kept.1 }

@@ -1,0 +1,3 @@
+pub mod ChipLemmas
+pub mod PieceLemmas
+pub mod StoreLemmas

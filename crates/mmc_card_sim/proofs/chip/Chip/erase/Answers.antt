@@ -1,4 +1,0 @@
-use Rattle.mmc_card_sim.proofs.chip.Chip.erase.Goals as goal
-
-pub returns : goal.returns
-returns c = rw c.in-Both.is c.erase_between.ensures
