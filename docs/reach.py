@@ -7,8 +7,9 @@ from tree import TOP
 START = re.compile(r"^(?:(?:abbrev|unfoldable|record|data|pub) )+([A-Za-z_][\w-]*)\b", re.M)
 IMPORT = re.compile(r"^ *(?:ghost )?use Rattle\.(\w+)\.specs\.(\w+)\.\{([^}]*)\}", re.M)
 WORD = re.compile(r"[A-Za-z_][\w-]*")
-# The device's calls, and the trait of its bus, which says when one is kept: the headline stands on them.
-HEADLINE = [*(("mmc_block", name) for name in ("open", "submit", "cancel", "turn", "close")), ("mmc_bus", "Bus")]
+# The calls of a device with its history, whose clause is the headline; and the trait of its bus, which says when one is kept.
+HEADLINE = [("mmc_history", name) for name in ("submit", "cancel", "turn", "close")]
+RELATION = [("mmc_bus", "Bus")]
 
 
 @cache
@@ -60,7 +61,7 @@ def named(text, own, given):
             yield *own, word
 
 
-def reached(calls=tuple(HEADLINE)):
+def reached(calls):
     """All definitions below these calls, as crate, file and name."""
     work, found = [], set()
     for crate, function in calls:

@@ -2,6 +2,7 @@
 import re
 
 from documents import TOP, files, source
+from reach import HEADLINE, RELATION, reached
 
 
 def section(text, title):
@@ -19,14 +20,15 @@ def code_that_differs(documents):
 
 
 def definitions_that_differ(documents):
-    """The definitions that an auditor reads first, "What to read", are those whose first line says "Headline", and no others."""
-    listed = set()
-    for row in re.findall(r"^\| (`mmc_.*?) \|", section(documents.texts["docs/AUDIT.md"], "What to read"), re.M):
-        crate, *names = re.findall(r"`(\w+)`", row)
-        listed |= {f"crates/{crate}/specs/{name}.antt" for name in names}
-    marked = {name for name in files() if "/specs/" in name and source(name).startswith("-- Headline ")}
-    yield from (f"docs/AUDIT.md doesn't list {name}, which is marked" for name in sorted(marked - listed))
-    yield from (f"docs/AUDIT.md lists {name}, which isn't marked" for name in sorted(listed - marked))
+    """The first line of a file of definitions says "Headline" exactly if the headline's clause rests on it, and "Relation" exactly if not
+    that does, but what a bus promises; docs/AUDIT.md has them by docs/write."""
+    headline = {one[:2] for one in reached(tuple(HEADLINE))}
+    wanted = {"Headline": headline, "Relation": {one[:2] for one in reached(tuple(RELATION))} - headline}
+    for mark, reaches in wanted.items():
+        due = {f"crates/{crate}/specs/{file}.antt" for crate, file in reaches}
+        marked = {name for name in files() if "/specs/" in name and source(name).startswith(f"-- {mark} ")}
+        yield from (f"{name} has to be marked {mark}" for name in sorted(due - marked))
+        yield from (f"{name} is marked {mark}, and isn't reached" for name in sorted(marked - due))
 
 
 def commands_that_are_not(documents):

@@ -69,7 +69,10 @@ static void wait_for(void *context, uint32_t microseconds)
 void power_begin(struct powered *powered, int is_emmc)
 {
     card_begin(&powered->card, is_emmc);
-    powered->host = (struct kelifandro_host){powered, 4, 1, send, read_block, write_block, is_busy, set_ios, wait_for, 0};
+    powered->host = (struct kelifandro_host){
+        .context = powered, .lines = 4, .high_speed = 1, .send = send, .read_block = read_block, .write_block = write_block,
+        .is_busy = is_busy, .set_ios = set_ios, .pause = wait_for,
+    };
     powered->left = WITHOUT_END;
 }
 

@@ -108,8 +108,8 @@ fn check_image_file<I: Read, W: Write>(
 /// Writes a line for whatever is wrong with a card file, a script and an image, or that nothing is, which the answer says too.
 ///
 /// # Errors
-/// `Unread` of a reader that failed, of a card file above 65,536 bytes and of a script above 1,048,576; `NoMemory`; `Write`, where a
-/// front of the lines went out.
+/// `Unread` of a reader that failed, of a card file above 65,536 bytes, of a script above 1,048,576, and where there was no memory
+/// for them; `NoMemory` while the lines are judged; `Write`, where a front of the lines went out.
 pub fn check_inputs<C: Read, S: Read, I: Read, W: Write>(
     alloc: Global,
     card: &mut C,

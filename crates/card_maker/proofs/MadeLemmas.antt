@@ -15,7 +15,7 @@ use Rattle.mmc_card_sim.specs.declared.spec.CardSpec.{CardSpec}
 use Rattle.card_maker.specs.NewExtCsd.{new_ext_csd}
 use Rattle.card_maker.specs.NewRegisters.{checked_register, csd_by_blocks, csd_v2, mmc_registers, new_scr, sd_classes, sd_registers}
 use Rattle.card_maker.specs.Sizes.{IsByteCount, IsCardOf, IsCount, IsSectorCount, IsSizeFault, SaysCount}
-use Rattle.card_maker.specs.Wanted.{HasFeatures, HasWanted, IsAsWanted, IsMakeFault, IsMmcBeside, IsSdBeside}
+use Rattle.card_maker.specs.Wanted.{HasFeatures, HasPartitions, HasWanted, IsAsWanted, IsMakeFault, IsMmcBeside, IsSdBeside}
 use Rattle.card_maker.specs.declared.csd.TheConstants.{MMC_FIXED, V1_FIXED, V2_FIXED}
 use Rattle.card_maker.specs.declared.fault.MakeFault.{MakeFault}
 use Rattle.card_maker.specs.declared.fault.MakeFault.TheVariants.{NotASize, TooLarge, TooSmall}
@@ -86,6 +86,34 @@ sd_sectors_wanted wanted registers classes size cid csd beside count class_is si
       protection = others.1;
     })
 
+-- of an eMMC device, whichever way its sectors are counted
+mmc_wanted : (wanted : Wanted) (registers : Registers) (ocr cid number sectors boot gp most : ℕ) (csd block : List ℕ)
+    → IsMmcBeside most wanted → boot ≡ wanted.boot / 256 → gp ≡ wanted.gp / 1024
+    → csd ≡ checked_register number → block ≡ new_ext_csd sectors boot gp wanted.high_speed
+    → registers ≡ mmc_registers ocr (checked_register cid) csd block
+    → (let made = mmc_registers ocr (checked_register cid) (checked_register number)
+      (new_ext_csd sectors boot gp wanted.high_speed) in
+      (boot < 256 → IsCardOf Is.Mmc wanted.sectors made)
+      → (wanted.boot ≡ boot * 256 → wanted.gp ≡ gp * 1024 → wanted.gp ≤ most → HasPartitions wanted (made_of made))
+      → is_read_only (made_of made) ≡ wanted.read_only → HasWanted wanted registers)
+mmc_wanted wanted registers ocr cid number sectors boot gp most csd block beside boot_is gp_is csd_is block_is is card partitions
+    protection =
+    let ext = new_ext_csd sectors boot gp wanted.high_speed in
+    let made = mmc_registers ocr (checked_register cid) (checked_register number) ext in
+    let same : registers ≡ made =
+    is ∙ ap (λ bytes. mmc_registers ocr (checked_register cid) bytes block) csd_is
+    ∙ ap (λ bytes. mmc_registers ocr (checked_register cid) (checked_register number) bytes) block_is in
+    let boot_unit = beside.boot.0 in
+    let boot_most = beside.boot.1 in
+    let gp_unit = beside.gp.0 in
+    subst (HasWanted wanted) (sym same) (record {
+      card = subst (λ k. IsCardOf k wanted.sectors made) (sym beside.kind) (card (omega (arith, boot_is)));
+      features = subst (λ k. HasFeatures k wanted (made_of made)) (sym beside.kind)
+          (mmc_features wanted ocr sectors boot gp (checked_register cid) (checked_register number));
+      partitions = partitions (omega (arith, boot_is)) (omega (arith, gp_is)) beside.gp.1;
+      protection = protection;
+    })
+
 pub mmc_bytes_wanted : (wanted : Wanted) (registers : Registers) (read size mult cid boot gp : ℕ) (csd block : List ℕ)
     → IsMmcBeside 8388608 wanted → SaysCount read size mult wanted.sectors → wanted.sectors ≤ 4194304
     → boot ≡ wanted.boot / 256 → gp ≡ wanted.gp / 1024
@@ -95,26 +123,11 @@ pub mmc_bytes_wanted : (wanted : Wanted) (registers : Registers) (read size mult
 mmc_bytes_wanted wanted registers read size mult cid boot gp csd block beside says small boot_is gp_is csd_is block_is is =
     let number = csd_by_blocks MMC_FIXED 0x0f5 read size mult wanted.read_only in
     let ext = new_ext_csd 0 boot gp wanted.high_speed in
-    let made = mmc_registers 0x00ff8080 (checked_register cid) (checked_register number) ext in
-    let same : registers ≡ made =
-    is ∙ ap (λ bytes. mmc_registers 0x00ff8080 (checked_register cid) bytes block) csd_is
-    ∙ ap (λ bytes. mmc_registers 0x00ff8080 (checked_register cid) (checked_register number) bytes) block_is in
-    let boot_unit = beside.boot.0 in
-    let boot_most = beside.boot.1 in
-    let gp_unit = beside.gp.0 in
-    let gp_most = beside.gp.1 in
-    let few : boot < 256 = omega (arith, boot_is) in
-    let boots : wanted.boot ≡ boot * 256 = omega (arith, boot_is) in
-    let gps : wanted.gp ≡ gp * 1024 = omega (arith, gp_is) in
-    subst (HasWanted wanted) (sym same) (record {
-      card = subst (λ k. IsCardOf k wanted.sectors made) (sym beside.kind)
-          (bytes_card wanted.sectors read size mult cid number boot gp 0 wanted.high_speed wanted.read_only says small few refl);
-      features = subst (λ k. HasFeatures k wanted (made_of made)) (sym beside.kind)
-          (mmc_features wanted 0x00ff8080 0 boot gp (checked_register cid) (checked_register number));
-      partitions = bytes_partitions wanted 0 boot gp (checked_register cid) (checked_register number) boots gps gp_most;
-      protection = mmc_protection read size mult 0x00ff8080 cid number ext wanted.read_only (omega (arith, says.most_block))
-          says.fits says.mult_fits refl;
-    })
+    mmc_wanted wanted registers 0x00ff8080 cid number 0 boot gp 8388608 csd block beside boot_is gp_is csd_is block_is is
+    (λ few. bytes_card wanted.sectors read size mult cid number boot gp 0 wanted.high_speed wanted.read_only says small few refl)
+    (bytes_partitions wanted 0 boot gp (checked_register cid) (checked_register number))
+    (mmc_protection read size mult 0x00ff8080 cid number ext wanted.read_only (omega (arith, says.most_block)) says.fits
+    says.mult_fits refl)
 
 pub mmc_sectors_wanted : (wanted : Wanted) (registers : Registers) (cid boot gp : ℕ) (csd block : List ℕ)
     → IsMmcBeside 4294967296 wanted → IsSectorCount Is.Mmc wanted.sectors
@@ -125,25 +138,10 @@ pub mmc_sectors_wanted : (wanted : Wanted) (registers : Registers) (cid boot gp 
 mmc_sectors_wanted wanted registers cid boot gp csd block beside count boot_is gp_is csd_is block_is is =
     let number = csd_by_blocks MMC_FIXED 0x0f5 9 4095 7 wanted.read_only in
     let ext = new_ext_csd wanted.sectors boot gp wanted.high_speed in
-    let made = mmc_registers 0x40ff8080 (checked_register cid) (checked_register number) ext in
-    let same : registers ≡ made =
-    is ∙ ap (λ bytes. mmc_registers 0x40ff8080 (checked_register cid) bytes block) csd_is
-    ∙ ap (λ bytes. mmc_registers 0x40ff8080 (checked_register cid) (checked_register number) bytes) block_is in
-    let boot_unit = beside.boot.0 in
-    let boot_most = beside.boot.1 in
-    let gp_unit = beside.gp.0 in
-    let gp_most = beside.gp.1 in
-    let few : boot < 256 = omega (arith, boot_is) in
-    let boots : wanted.boot ≡ boot * 256 = omega (arith, boot_is) in
-    let gps : wanted.gp ≡ gp * 1024 = omega (arith, gp_is) in
-    subst (HasWanted wanted) (sym same) (record {
-      card = subst (λ k. IsCardOf k wanted.sectors made) (sym beside.kind)
-          (sectors_card wanted.sectors cid number boot gp wanted.high_speed count.0 count.1 few);
-      features = subst (λ k. HasFeatures k wanted (made_of made)) (sym beside.kind)
-          (mmc_features wanted 0x40ff8080 wanted.sectors boot gp (checked_register cid) (checked_register number));
-      partitions = sectors_partitions wanted wanted.sectors boot gp (checked_register cid) (checked_register number) boots gps gp_most;
-      protection = mmc_protection 9 4095 7 0x40ff8080 cid number ext wanted.read_only (omega arith) (omega arith) (omega arith) refl;
-    })
+    mmc_wanted wanted registers 0x40ff8080 cid number wanted.sectors boot gp 4294967296 csd block beside boot_is gp_is csd_is
+    block_is is (λ few. sectors_card wanted.sectors cid number boot gp wanted.high_speed count.0 count.1 few)
+    (sectors_partitions wanted wanted.sectors boot gp (checked_register cid) (checked_register number))
+    (mmc_protection 9 4095 7 0x40ff8080 cid number ext wanted.read_only (omega arith) (omega arith) (omega arith) refl)
 
 -- ---- a number is counted in bytes up to 2 GiB, and in sectors above
 

@@ -24,9 +24,9 @@ use Rattle.mmc_card_sim.specs.declared.spec.CardSpec.{CardSpec}
 use Rattle.mmc_switch.specs.Info.{IsInfo}
 use Rattle.mmc_switch.specs.declared.info.Info.{Info}
 use Rattle.mmc_block.specs.Answers.{failures}
-use Rattle.mmc_block.specs.Device.{Agrees, AgreesCounted, DeviceView, IsOpened, opened, unanswered_of}
+use Rattle.mmc_block.specs.Device.{Agrees, AgreesCounted, DeviceView, IsOpened, unanswered_of}
 use Rattle.mmc_block.specs.InOrder.{AreDecided, EndsInOrder, IsInOrder, MayHold, answers, history}
-use Rattle.mmc_block.specs.Machine.{Machine, Waiting, all_failed}
+use Rattle.mmc_block.specs.Machine.{Machine, Waiting, all_failed, opened}
 use Rattle.mmc_block.specs.Execution.{Counted, IsCountedExecution, Event as MachineEvent, Follow, Reply, IsExecution, unanswered}
 use Rattle.mmc_block.specs.Service.{in_service_of}
 use Rattle.mmc_block.specs.declared.open_fault.OpenFault.{OpenFault}

@@ -24,9 +24,8 @@ use Rattle.mmc_card_sim.specs.declared.spec.TheConstants.{MAX_SECTORS}
 use Rattle.mmc_switch.specs.Info.{IsInfo}
 use Rattle.mmc_switch.specs.declared.info.Info.{Info}
 use Rattle.mmc_block.specs.Answers.{failures}
-use Rattle.mmc_block.specs.Device.{opened}
 use Rattle.mmc_block.specs.InOrder.{AreDecided, EndsInOrder, IsInOrder, MayHold, answers, history}
-use Rattle.mmc_block.specs.Machine.{all_failed}
+use Rattle.mmc_block.specs.Machine.{all_failed, opened}
 use Rattle.mmc_block.specs.Execution.{Counted, IsCountedExecution, Event as MachineEvent, Reply, unanswered}
 use Rattle.card_text.specs.declared.event.ScriptEvent.{ScriptEvent}
 use Rattle.card_text.specs.declared.event.ScriptEvent.TheVariants.{Run}

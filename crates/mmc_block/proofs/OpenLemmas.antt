@@ -18,8 +18,8 @@ use Rattle.mmc_switch.specs.declared.session.Session.{Session}
 use Rattle.mmc_switch.specs.declared.info.Info.{Info}
 use Rattle.mmc_card.specs.Card.{holds}
 use Rattle.mmc_recovery.specs.declared.healed.Healed.{Healed}
-use Rattle.mmc_block.specs.Device.{AgreesCounted, IsOpened, opened}
-use Rattle.mmc_block.specs.Machine.{Machine}
+use Rattle.mmc_block.specs.Device.{AgreesCounted, IsOpened}
+use Rattle.mmc_block.specs.Machine.{Machine, opened}
 use Rattle.mmc_block.specs.Execution.{Counted}
 use Rattle.mmc_block.specs.declared.service.Link.TheVariants.{Up}
 use Rattle.mmc_block.specs.Service.Service.{Idle}

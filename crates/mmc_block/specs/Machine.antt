@@ -27,6 +27,10 @@ pub record Machine : Type 0 where
   pub in_service : List Waiting
   pub next : ℕ
 
+-- The machine of a card that was just opened: its sectors may hold this, and nothing waits.
+abbrev pub opened : Sets → Machine
+opened sets = record { sets = sets; waits = []; in_service = []; next = 0 }
+
 -- Effects.
 
 -- a request that is carried out changes its sectors
