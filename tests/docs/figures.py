@@ -1,5 +1,6 @@
 """Figures and counts: each is that of the tree, or stands after a mark that says which command made it."""
 import re
+from fractions import Fraction
 
 from documents import TOP, source
 
@@ -27,7 +28,8 @@ FACTS = [
     (r"(?:writes of|or writes) 1 to ([\d,]+) sectors", "crates/mmc_transfer/src/job.rt", r"MAX_BLOCKS: u32 = ([\d_]+)", 1),
     (r"up to (\w+) requests and", "crates/mmc_queue/src/extent.rt", r"MAX_GROUP: usize = (\d+)", 1),
     (r"waits in the queue, (\w+)", "crates/mmc_queue/src/queue.rt", r"MAX_WAITING: usize = (\d+)", 1),
-    (r"makes at most (\d+) exchanges\b(?=[^.]*\n?[^.]*OpenFault|, a `turn`)", "crates/mmc_calls/src/opening.rt", r"exchanges \+ (\d+)", 1),
+    (r"makes at most (\d+) exchanges\b(?=[^.]*\n?[^.]*OpenFault|, a `turn`)", "crates/mmc_switch/src/initialization.rt",
+     r"EXCHANGES_OF_AN_INITIALIZATION: u64 = (\d+)", Fraction(1, 3)),
     (r"no time: (\w+) inquiries", "crates/mmc_identify/src/sd.rt", r"MAX_INQUIRIES: u8 = (\d+)", 1),
 ]
 

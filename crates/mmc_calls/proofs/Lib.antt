@@ -1,2 +1,1 @@
 pub mod NotedLemmas
-pub mod OpenLemmas

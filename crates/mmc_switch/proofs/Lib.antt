@@ -5,6 +5,7 @@ pub mod EndingLemmas
 pub mod FetchLemmas
 pub mod InfoLemmas
 pub mod InitializeLemmas
+pub mod OpeningLemmas
 pub mod RestLemmas
 pub mod SameLemmas
 pub mod SdLemmas

@@ -5,9 +5,9 @@ use Rattle.mmc_calls.proofs.opening.open.Goals as goal
 
 pub returns-in-Ok-clause-opened : goal.returns-in-Ok-clause-opened
 returns-in-Ok-clause-opened g c kept =
-    let view = g.B.Bus.view c.opened.new.bus in
+    let view = g.B.Bus.view c.open_card.new.bus in
     let ready : IsReady c.in-Ok.session view =
-    subst (λ r. IfOk r (λ session. IsReady session view)) c.in-Ok.is (c.opened.ensures.moves kept).own in
+    subst (λ r. IfOk r (λ session. IsReady session view)) c.in-Ok.is (c.open_card.ensures.moves kept).own in
     record {
       session = c.in-Ok.session;
       says = c.note.ensures.of_a_card view.limits view.card.made ready.is_card.registers ready.knows.info;

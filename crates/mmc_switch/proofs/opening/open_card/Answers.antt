@@ -1,6 +1,6 @@
 use Rattle.std.proofs.Common.{Err, Ok, refl}
-use Rattle.mmc_calls.proofs.OpenLemmas.{again, fell_in_three}
-use Rattle.mmc_calls.proofs.opening.opened.Goals as goal
+use Rattle.mmc_switch.proofs.OpeningLemmas.{again, fell_in_three}
+use Rattle.mmc_switch.proofs.opening.open_card.Goals as goal
 
 pub returns-in-Ok-initialize-clause-moves : goal.returns-in-Ok-initialize-clause-moves
 returns-in-Ok-initialize-clause-moves g c kept =
