@@ -8,7 +8,7 @@ use Rattle.mmc_card.specs.declared.exchange.Lines.{Lines}
 use Rattle.mmc_card.specs.declared.part.Part.{Part}
 use Rattle.mmc_direct.specs.Stands.{stands_of}
 use Rattle.mmc_direct.specs.declared.refused.NotDone.{NotDone}
-use Rattle.mmc_direct.specs.declared.refused.Refused.{Refused}
+use Rattle.mmc_requests.specs.declared.refused.Refused.{Refused}
 use Rattle.mmc_direct.specs.declared.stands.Stands.{Stands}
 use Rattle.mmc_host.specs.HostStates.{resting}
 use Rattle.mmc_host.specs.Hosts.{HostView}

@@ -2,11 +2,12 @@
 // story that is true of the diary. What is left of the host is handed out, since by it the contract says what became of the card.
 ghost use Rattle.std.specs.Prelude.{◌≡◌, Err, IfErr, IfOk, IsOk, IsSome, None, [], false, is_err, is_some, length, pos};
 ghost use Rattle.mmc_calls.specs.Noted.{IsCounted, IsServed, Notes};
-ghost use Rattle.mmc_direct.specs.Changes.{erased_at, written_at};
-ghost use Rattle.mmc_direct.specs.Refusal.{action_of, refusal};
+ghost use Rattle.mmc_requests.specs.Changes.{erased_at, written_at};
+ghost use Rattle.mmc_requests.specs.Kinds.{kind_of_how};
+ghost use Rattle.mmc_direct.specs.Refusal.{refusal};
 ghost use Rattle.mmc_direct.specs.Requests.{HasChanged, HasRead};
 ghost use Rattle.mmc_direct.specs.Stands.{IfRefused, IfServed, info_of, refusal_in};
-ghost use Rattle.mmc_direct.specs.declared.action.Action.TheVariants.{Read, Write};
+ghost use Rattle.mmc_requests.specs.declared.kind.Kind.TheVariants.{Read, Write};
 ghost use Rattle.mmc_record.specs.Note.{is_note};
 ghost use Rattle.mmc_record.specs.Numbers.{part_of};
 ghost use Rattle.mmc_story.specs.Story.{IsTrueOf};
@@ -155,7 +156,7 @@ pub fn erase_by<S: HasStory>(
     ensures unmade { IfErr result (λ number. is_attempted number ≡ false) }
     ensures no_host { IfErr result (λ number. card.new ≡ card.old) }
     ensures judged { IfNoted card.old part (λ stands part. IfOk result (λ did.
-        refusal_in did.answer ≡ refusal (action_of how) (info_of stands) part start count)) }
+        refusal_in did.answer ≡ refusal (kind_of_how how) (info_of stands) part start count)) }
     ensures left { IfOk result (λ did. is_err did.left ≡ is_some (refusal_in did.answer)) }
     ensures untouched { IfNoted card.old part (λ stands part. IfOk result (λ did. IfRefused did.answer (Notes stands card.new))) }
     ensures uncounted { IfErr result (λ number. healed.new ≡ healed.old) }

@@ -5,10 +5,11 @@ use Rattle.mmc_erase.specs.Job.{suits}
 use Rattle.mmc_erase.specs.declared.how.How.{How}
 use Rattle.mmc_erase.specs.declared.how.How.TheVariants as how
 use Rattle.mmc_queue.specs.Group.{FormExtent, IsFair, IsOneOf}
+use Rattle.mmc_requests.specs.Kinds.{kind_of_how}
 use Rattle.mmc_queue.specs.Requests.{count_of, is_read, kind_of, part_of, start_of}
 use Rattle.mmc_queue.specs.declared.entry.Entry.{Entry}
 use Rattle.mmc_queue.specs.declared.group.Group.{Group}
-use Rattle.mmc_queue.specs.declared.kind.Kind.TheVariants as kind
+use Rattle.mmc_requests.specs.declared.kind.Kind.TheVariants as kind
 use Rattle.mmc_queue.specs.declared.request.Request.{Request}
 use Rattle.mmc_queue.specs.declared.request.Request.TheVariants.{Erase, Read, Trim, Write}
 use Rattle.std.specs.Prelude.{IsSome}
@@ -18,7 +19,7 @@ use Rattle.mmc_switch.specs.UnderWay.{known_part, part_of as selected_part, room
 use Rattle.mmc_switch.specs.declared.info.Info.{Info}
 use Rattle.mmc_switch.specs.declared.session.Session.{Session}
 use Rattle.mmc_block.specs.Entries.{AreServable, IsErasable, IsServable}
-use Rattle.mmc_block.specs.Service.{EmptyIfIdle, HasStarted, IfIdle, info_of, kind_of_how, service_of}
+use Rattle.mmc_block.specs.Service.{EmptyIfIdle, HasStarted, IfIdle, info_of, service_of}
 use Rattle.mmc_block.specs.Service.Service.{Serving}
 use Rattle.mmc_block.specs.declared.service.Attempt.{Attempt}
 use Rattle.mmc_block.specs.declared.service.Link.{Link}

@@ -12,12 +12,13 @@ use Rattle.mmc_queue.specs.Lent.{write_blocks_of}
 use Rattle.mmc_queue.specs.Requests.{Names, bytes_of, count_of, is_read, kind_of, part_of, start_of}
 use Rattle.mmc_queue.specs.declared.entry.Entry.{Entry}
 use Rattle.mmc_queue.specs.declared.group.Group.{Group}
-use Rattle.mmc_queue.specs.declared.kind.Kind.{Kind}
-use Rattle.mmc_queue.specs.declared.kind.Kind.TheVariants as kind
+use Rattle.mmc_requests.specs.declared.kind.Kind.{Kind}
+use Rattle.mmc_requests.specs.declared.kind.Kind.TheVariants as kind
 use Rattle.mmc_queue.specs.declared.request.Request.{Request}
 use Rattle.mmc_queue.specs.declared.request.Request.TheVariants.{Erase, Read, Trim, Write}
 use Rattle.mmc_switch.specs.declared.info.Info.{Info}
-use Rattle.mmc_block.specs.Changes.{change_of, erased_at}
+use Rattle.mmc_requests.specs.Changes.{erased_at}
+use Rattle.mmc_block.specs.Changes.{change_of}
 use Rattle.mmc_block.specs.Entries.{waits_of}
 use Rattle.mmc_block.specs.Groups.{AllGive, IsChangeOf, any_touches}
 use Rattle.mmc_block.specs.Service.{change_by, change_of_group}

@@ -14,7 +14,8 @@ use Rattle.mmc_queue.specs.declared.request.Request.TheVariants.{Erase, Read, Tr
 use Rattle.mmc_block.specs.InOrder.{below, effect_at, in_turn, settled}
 use Rattle.mmc_block.specs.Machine.{IsMerged, Waiting}
 use Rattle.mmc_block.specs.MachineLaws.{IsAmong}
-use Rattle.mmc_block.specs.Changes.{change_of, erased_at}
+use Rattle.mmc_requests.specs.Changes.{erased_at}
+use Rattle.mmc_block.specs.Changes.{change_of}
 use Rattle.mmc_queue.specs.Requests.{Names, is_read}
 use Rattle.mmc_block.proofs.TicketLemmas.{count, one, one_same}
 

@@ -5,7 +5,7 @@ use Rattle.mmc_card.specs.declared.part.Part.{Part}
 use Rattle.mmc_queue.specs.declared.entry.Entry.{Entry}
 use Rattle.mmc_queue.specs.declared.extent.Extent.{Extent}
 use Rattle.mmc_queue.specs.declared.group.Group.{Group}
-use Rattle.mmc_queue.specs.declared.request.TheConstants.{MAX_COUNT}
+use Rattle.mmc_requests.specs.declared.limits.TheConstants.{MAX_COUNT}
 use Rattle.mmc_queue.specs.Group.{IsFair, IsMerged}
 use Rattle.mmc_queue.specs.Lent.{AreLent}
 use Rattle.mmc_queue.specs.Requests.{can_merge}

@@ -8,7 +8,7 @@ use Rattle.mmc_queue.specs.Requests.{can_merge, count_of, has_its_bytes, is_read
 use Rattle.mmc_queue.specs.declared.entry.Entry.{Entry}
 use Rattle.mmc_queue.specs.declared.request.Request.{Request}
 use Rattle.mmc_queue.specs.declared.request.Request.TheVariants.{Erase, Read, Trim, Write}
-use Rattle.mmc_queue.specs.declared.request.TheConstants.{MAX_COUNT}
+use Rattle.mmc_requests.specs.declared.limits.TheConstants.{MAX_COUNT}
 use Rattle.mmc_switch.specs.Info.{sectors_of}
 use Rattle.mmc_switch.specs.Sizes.{size_of}
 use Rattle.mmc_switch.specs.declared.info.Info.{Info}

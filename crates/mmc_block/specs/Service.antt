@@ -6,16 +6,14 @@ use Rattle.mmc_card.specs.Profile.{InProfile}
 use Rattle.mmc_card.specs.Sectors.{Change, Sector, Within, changed, maybe_changed}
 use Rattle.mmc_bus.specs.Learned.{Stays}
 use Rattle.mmc_erase.specs.Run.{IsRunning as IsErasing}
-use Rattle.mmc_erase.specs.declared.how.How.{How}
-use Rattle.mmc_erase.specs.declared.how.How.TheVariants as how
 use Rattle.mmc_queue.specs.Group.{IsFair, IsJoined}
 use Rattle.mmc_queue.specs.Lent.{blocks_of, write_blocks_of}
 use Rattle.mmc_queue.specs.Waiting.{AreSound}
 use Rattle.mmc_queue.specs.declared.entry.Entry.{Entry}
 use Rattle.mmc_queue.specs.declared.extent.TheConstants.{MAX_GROUP}
 use Rattle.mmc_queue.specs.declared.group.Group.{Group}
-use Rattle.mmc_queue.specs.declared.kind.Kind.{Kind}
-use Rattle.mmc_queue.specs.declared.kind.Kind.TheVariants as kind
+use Rattle.mmc_requests.specs.declared.kind.Kind.{Kind}
+use Rattle.mmc_requests.specs.declared.kind.Kind.TheVariants as kind
 use Rattle.mmc_switch.specs.Info.{lasting}
 use Rattle.mmc_switch.specs.Place.{IsLoose, IsReady}
 use Rattle.mmc_switch.specs.Turns.{progress_of}
@@ -26,7 +24,9 @@ use Rattle.mmc_switch.specs.declared.session.Session.{Session}
 use Rattle.mmc_transfer.specs.Run.{IsRunning as IsMoving}
 use Rattle.mmc_transfer.specs.declared.way.Way.{Way}
 use Rattle.mmc_transfer.specs.declared.way.Way.TheVariants as way
-use Rattle.mmc_block.specs.Changes.{erased_at}
+use Rattle.mmc_requests.specs.Changes.{erased_at}
+use Rattle.mmc_requests.specs.Kinds.{kind_of_how}
+use Rattle.mmc_requests.specs.declared.limits.TheConstants.{ATTEMPTS, ATTEMPTS_OF_A_GROUP}
 use Rattle.mmc_block.specs.Entries.{AreServable, HoldWhatTheyRead, completion_of, waits_of}
 use Rattle.mmc_block.specs.Groups.{AreInOrder, AreOneKind, PassNone}
 use Rattle.mmc_block.specs.Machine.{Waiting}
@@ -160,10 +160,6 @@ abbrev pub kind_of_way : Way → Kind
 kind_of_way way.Read = kind.Read
 kind_of_way way.Write = kind.Write
 
-abbrev pub kind_of_how : How → Kind
-kind_of_how how.Erase = kind.Erase
-kind_of_how how.Trim = kind.Trim
-
 -- the session's partition and these sectors are those of the group
 pub record IsFor (group : Group) (session : Session) (start count : ℕ) : Type 0 where
   pub part : part_of session ≡ group.extent.part
@@ -259,8 +255,8 @@ in_service_of Taken = []
 -- how many attempts these have
 abbrev pub tries : {A : Type 0} → List A → ℕ
 tries [] = 0
-tries (w ∷ []) = 4
-tries (w ∷ v ∷ ws) = 2
+tries (w ∷ []) = ATTEMPTS
+tries (w ∷ v ∷ ws) = ATTEMPTS_OF_A_GROUP
 
 -- several are served together only where they are all
 abbrev pub AreAll : List Entry → List Entry → Type 0

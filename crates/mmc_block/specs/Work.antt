@@ -11,7 +11,7 @@ use Rattle.mmc_erase.specs.Run.{exchanges_left as erases_left}
 use Rattle.mmc_transfer.specs.Run.{exchanges_left as moves_left}
 use Rattle.mmc_queue.specs.declared.entry.Entry.{Entry}
 use Rattle.mmc_queue.specs.declared.extent.TheConstants.{MAX_GROUP}
-use Rattle.mmc_queue.specs.declared.request.TheConstants.{MAX_COUNT}
+use Rattle.mmc_requests.specs.declared.limits.TheConstants.{ATTEMPTS, MAX_COUNT}
 use Rattle.mmc_recovery.specs.declared.settling.TheConstants.{EXCHANGES_OF_A_SETTLE}
 use Rattle.mmc_switch.specs.declared.mmc.TheConstants.{EXCHANGES_OF_A_SWITCH}
 use Rattle.mmc_transfer.specs.declared.pace.Pace.{Pace}
@@ -66,12 +66,12 @@ Lowers left part outcome = left_behind part outcome < left
 abbrev pub split : List Entry → ℕ
 split [] = 0
 split (e ∷ []) = 0
-split (e ∷ f ∷ es) = 4 * length (e ∷ f ∷ es)
+split (e ∷ f ∷ es) = ATTEMPTS * length (e ∷ f ∷ es)
 
 abbrev pub attempts_left : Attempt → ℕ
 attempts_left attempt =
     (tries attempt.group.members.items - (attempt.failed + 1)) + split attempt.group.members.items
-    + 4 * length attempt.others.items
+    + ATTEMPTS * length attempt.others.items
 
 -- a run that moves blocks has no more of them than a request may have
 abbrev pub IsShort : Work → Type 0

@@ -12,6 +12,7 @@ use crate::service::{Attempt, Link, Phase, Stage};
 use arrayvec::ArrayVec;
 use mmc_bus::Bytes;
 use mmc_queue::{Entry, MAX_GROUP, Members, Request};
+use mmc_requests::{ATTEMPTS, ATTEMPTS_OF_A_GROUP};
 use mmc_switch::Broken;
 use std::mem;
 
@@ -23,7 +24,12 @@ pub fn tries(members: &Members) -> u8
     requires { 0 < length members.now.items }
     ensures { result ≡ tries members.now.items }
 {
-    if members.len() == 1 { 4 } else { 2 }
+    let tries = if members.len() == 1 {
+        ATTEMPTS
+    } else {
+        ATTEMPTS_OF_A_GROUP
+    };
+    tries as u8
 }
 
 // The answer to a request that was carried out.

@@ -3,7 +3,7 @@ ghost use Rattle.std.specs.Prelude.{◌≡◌, ◌+◌, ◌≤◌, Some, false, 
 ghost use Rattle.mmc_queue.specs.Group.{IsJoined};
 ghost use Rattle.mmc_queue.specs.Lent.{AreLent};
 ghost use Rattle.mmc_queue.specs.declared.group.Group.{Group};
-ghost use Rattle.mmc_queue.specs.declared.kind.Kind.TheVariants as kind;
+ghost use Rattle.mmc_requests.specs.declared.kind.Kind.TheVariants as kind;
 ghost use Rattle.mmc_recovery.specs.declared.settling.TheConstants.{EXCHANGES_OF_A_SETTLE};
 ghost use Rattle.mmc_switch.specs.Place.{IsLoose, IsReady};
 ghost use Rattle.mmc_switch.specs.UnderWay.{FailsBy, faults_then};

@@ -15,6 +15,7 @@ use crate::device::BlockDev;
 use crate::service::{Attempt, Link, Phase, Stage, Work};
 use mmc_bus::{Bus, Part};
 use mmc_queue::{MAX_COUNT, Members};
+use mmc_requests::ATTEMPTS;
 use mmc_transfer::{EXCHANGES_BESIDE_BLOCKS, EXCHANGES_OF_A_BLOCK};
 
 /// The most turns of a run for a group.
@@ -66,7 +67,7 @@ fn split(members: &Members) -> u64
     ensures { result ≡ split members.now.items }
 {
     if members.len() > 1 {
-        4 * members.len() as u64
+        ATTEMPTS * members.len() as u64
     } else {
         0
     }
@@ -82,7 +83,7 @@ fn attempts_left(attempt: &Attempt) -> u64
     ensures bounded { result + 1 ≤ 6 * (length attempt.now.group.members.items + length attempt.now.others.items) }
 {
     let again = (tries(&attempt.group.members) - (attempt.failed + 1)) as u64;
-    again + split(&attempt.group.members) + 4 * attempt.others.len() as u64
+    again + split(&attempt.group.members) + ATTEMPTS * attempt.others.len() as u64
 }
 
 // The turns for those in service.

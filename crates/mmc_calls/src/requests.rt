@@ -2,12 +2,13 @@
 ghost use Rattle.std.specs.Prelude.{◌≡◌, ◌*◌, ◌+◌, ◌≤◌, length, true};
 ghost use Rattle.mmc_bus.specs.Lending.{IsRewritten};
 ghost use Rattle.mmc_direct.specs.Attempts.{erasing, moving};
-ghost use Rattle.mmc_direct.specs.Changes.{erased_at, written_at};
-ghost use Rattle.mmc_direct.specs.Refusal.{action_of, refusal};
+ghost use Rattle.mmc_requests.specs.Changes.{erased_at, written_at};
+ghost use Rattle.mmc_requests.specs.Kinds.{kind_of_how};
+ghost use Rattle.mmc_direct.specs.Refusal.{refusal};
 ghost use Rattle.mmc_direct.specs.Requests.{HasChanged, HasRead};
 ghost use Rattle.mmc_direct.specs.Stands.{IfRefused, IfServed, StandsIn, info_of, refusal_in};
-ghost use Rattle.mmc_direct.specs.declared.action.Action.TheVariants.{Read, Write};
-ghost use Rattle.mmc_direct.specs.declared.attempts.TheConstants.{ATTEMPTS};
+ghost use Rattle.mmc_requests.specs.declared.kind.Kind.TheVariants.{Read, Write};
+ghost use Rattle.mmc_requests.specs.declared.limits.TheConstants.{ATTEMPTS};
 ghost use Rattle.mmc_calls.specs.Noted.{HasServed, IsCounted, Notes};
 
 use crate::noting::noted;
@@ -88,7 +89,7 @@ pub fn erase<B: Bus>(
     count: u64,
     how: How,
 ) -> Result<(), NotDone>
-    ensures refused { refusal_in result ≡ refusal (action_of how) (info_of stands) part start count }
+    ensures refused { refusal_in result ≡ refusal (kind_of_how how) (info_of stands) part start count }
     ensures untouched { IfRefused result ((bus.new ≡ bus.old) × Notes stands card.new) }
     ensures uncounted { IfRefused result (healed.new ≡ healed.old) }
     ensures healed { IfServed result (IsCounted stands healed.old result card.new healed.new) }

@@ -2,11 +2,12 @@
 // noted. The bus is handed out, since by it the contract says what became of the card.
 ghost use Rattle.std.specs.Prelude.{◌≡◌, Err, IfOk, is_err, is_some, length, true};
 ghost use Rattle.mmc_bus.specs.Lending.{IsRewritten};
-ghost use Rattle.mmc_direct.specs.Changes.{erased_at, written_at};
-ghost use Rattle.mmc_direct.specs.Refusal.{action_of, refusal};
+ghost use Rattle.mmc_requests.specs.Changes.{erased_at, written_at};
+ghost use Rattle.mmc_requests.specs.Kinds.{kind_of_how};
+ghost use Rattle.mmc_direct.specs.Refusal.{refusal};
 ghost use Rattle.mmc_direct.specs.Requests.{HasChanged, HasRead};
 ghost use Rattle.mmc_direct.specs.Stands.{IfRefused, IfServed, info_of, refusal_in};
-ghost use Rattle.mmc_direct.specs.declared.action.Action.TheVariants.{Read, Write};
+ghost use Rattle.mmc_requests.specs.declared.kind.Kind.TheVariants.{Read, Write};
 ghost use Rattle.mmc_host.specs.HostStates.{IsBetween};
 ghost use Rattle.mmc_host.specs.Hosts.{Where};
 ghost use Rattle.mmc_calls.specs.Noted.{IsCounted, IsNotedOf, IsServed, Notes, WhereStood};
@@ -15,7 +16,7 @@ use crate::going_on::go_on;
 use crate::noting::noted;
 use crate::requests::{erase, read, write};
 use mmc_bus::{Blocks, BlocksMut, Bus, Part};
-use mmc_direct::{Action, How, NotDone, Stands, action_of, refusal};
+use mmc_direct::{How, Kind, NotDone, Stands, action_of, refusal};
 use mmc_host::{Host, HostBus};
 use mmc_record::CardRecord;
 use mmc_recovery::Healed;
@@ -50,13 +51,7 @@ pub fn read_over<H: Host, D: BlocksMut>(
     ensures noted { IfOk result.1 (λ bus. WhereStood stands (H.view host) (⟦<HostBus<H> as Bus>⟧.view bus)
         (IsNotedOf card.new (H.view bus.host))) }
 {
-    if let Some(why) = refusal(
-        stands.info(),
-        Action::Read,
-        part,
-        start,
-        blocks.len() as u64,
-    ) {
+    if let Some(why) = refusal(stands.info(), Kind::Read, part, start, blocks.len() as u64) {
         *card = noted(&stands);
         return (Err(NotDone::Refused(why)), Err(host));
     }
@@ -89,13 +84,7 @@ pub fn write_over<H: Host, D: Blocks>(
     ensures noted { IfOk result.1 (λ bus. WhereStood stands (H.view host) (⟦<HostBus<H> as Bus>⟧.view bus)
         (IsNotedOf card.new (H.view bus.host))) }
 {
-    if let Some(why) = refusal(
-        stands.info(),
-        Action::Write,
-        part,
-        start,
-        blocks.len() as u64,
-    ) {
+    if let Some(why) = refusal(stands.info(), Kind::Write, part, start, blocks.len() as u64) {
         *card = noted(&stands);
         return (Err(NotDone::Refused(why)), Err(host));
     }
@@ -119,7 +108,7 @@ pub fn erase_over<H: Host>(
     how: How,
 ) -> (Result<(), NotDone>, Left<H>)
     requires { Where (H.view host) (IsBetween (H.view host).state) }
-    ensures refused { refusal_in result.0 ≡ refusal (action_of how) (info_of stands) part start count }
+    ensures refused { refusal_in result.0 ≡ refusal (kind_of_how how) (info_of stands) part start count }
     ensures left { is_err result.1 ≡ is_some (refusal_in result.0) }
     ensures untouched { IfRefused result.0 ((result.1 ≡ Err host) × Notes stands card.new) }
     ensures uncounted { IfRefused result.0 (healed.new ≡ healed.old) }

@@ -25,7 +25,7 @@ use Rattle.mmc_transfer.specs.Whole.{HasRun}
 use Rattle.mmc_transfer.specs.declared.way.Way.{Way}
 use Rattle.mmc_transfer.specs.declared.way.Way.TheVariants.{Read, Write}
 use Rattle.mmc_direct.specs.Attempts.{HasPrepared, HasTried}
-use Rattle.mmc_direct.specs.Changes.{TakesEffect, erased_at, written_at}
+use Rattle.mmc_requests.specs.Changes.{TakesEffect, erased_at, written_at}
 use Rattle.mmc_direct.specs.Stands.{StandsIn, stands_of}
 
 -- Settling and selecting.

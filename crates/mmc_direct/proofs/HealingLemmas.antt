@@ -9,7 +9,7 @@ use Rattle.mmc_switch.specs.declared.session.Session.{Session}
 use Rattle.mmc_direct.specs.Healing.{HasHealed, HasSettled, Heals, after_attempt}
 use Rattle.mmc_direct.specs.Healing.Heals.{again, first}
 use Rattle.mmc_direct.specs.Stands.{IfServed, answer_of, stands_of}
-use Rattle.mmc_direct.specs.declared.attempts.TheConstants.{ATTEMPTS}
+use Rattle.mmc_requests.specs.declared.limits.TheConstants.{ATTEMPTS}
 use Rattle.mmc_direct.specs.declared.stands.Served.{Served}
 use Rattle.mmc_direct.specs.declared.stands.Stands.{Stands}
 use Rattle.mmc_direct.specs.declared.stands.Stands.TheVariants.{Loose, Ready}

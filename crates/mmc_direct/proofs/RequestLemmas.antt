@@ -9,7 +9,7 @@ use Rattle.mmc_card.specs.declared.part.Part.{Part}
 use Rattle.mmc_switch.specs.declared.broken.Broken.{Broken}
 use Rattle.mmc_switch.specs.declared.session.Session.{Session}
 use Rattle.mmc_direct.specs.Attempts.{HasTried}
-use Rattle.mmc_direct.specs.Changes.{written_at}
+use Rattle.mmc_requests.specs.Changes.{written_at}
 use Rattle.mmc_direct.specs.Requests.{HasChanged, HasRead}
 use Rattle.mmc_direct.specs.Stands.{answer_of, stands_of}
 use Rattle.mmc_direct.specs.declared.stands.Served.{Served}

@@ -10,7 +10,7 @@ use Rattle.mmc_switch.specs.declared.info.Info.{Info}
 use Rattle.mmc_switch.specs.declared.broken.Broken.{Broken}
 use Rattle.mmc_switch.specs.declared.session.Session.{Session}
 use Rattle.mmc_direct.specs.Attempts.{HasTried, Tries, erasing, moving}
-use Rattle.mmc_direct.specs.Changes.{erased_at, written_at}
+use Rattle.mmc_requests.specs.Changes.{erased_at, written_at}
 use Rattle.mmc_direct.specs.Stands.{IsCausedIn, StandsIn, info_of, stands_of}
 use Rattle.mmc_direct.specs.declared.stands.Stands.{Stands}
 use Rattle.mmc_direct.specs.declared.stands.Stands.TheVariants.{Loose}

@@ -11,7 +11,7 @@ use Rattle.mmc_switch.specs.declared.broken.Broken.{Broken}
 use Rattle.mmc_switch.specs.declared.session.Session.{Session}
 use Rattle.mmc_transfer.specs.declared.turns.TheConstants.{EXCHANGES_BESIDE_BLOCKS, EXCHANGES_OF_A_BLOCK}
 use Rattle.mmc_erase.specs.declared.turns.TheConstants.{EXCHANGES_OF_AN_ERASE}
-use Rattle.mmc_direct.specs.Changes.{TakesEffect}
+use Rattle.mmc_requests.specs.Changes.{TakesEffect}
 use Rattle.mmc_direct.specs.Stands.{IsCausedIn, StandsIn, info_of, stands_of}
 use Rattle.mmc_direct.specs.declared.attempts.TheConstants.{EXCHANGES_BESIDE_A_RUN}
 use Rattle.mmc_direct.specs.declared.stands.Stands.{Stands}

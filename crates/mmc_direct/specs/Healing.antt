@@ -3,7 +3,7 @@ use Rattle.std.specs.Prelude.{◌+◌, ◌≡◌, ◌≤◌, Bool, false, true, 
 use Rattle.mmc_recovery.specs.Healed.{with_attempt, with_failure, with_settling}
 use Rattle.mmc_recovery.specs.declared.healed.Healed.{Healed}
 use Rattle.mmc_switch.specs.declared.broken.Broken.{Broken}
-use Rattle.mmc_direct.specs.declared.attempts.TheConstants.{ATTEMPTS}
+use Rattle.mmc_requests.specs.declared.limits.TheConstants.{ATTEMPTS}
 use Rattle.mmc_direct.specs.declared.stands.Stands.{Stands}
 use Rattle.mmc_direct.specs.declared.stands.Stands.TheVariants.{Loose, Ready}
 

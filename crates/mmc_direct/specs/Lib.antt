@@ -1,5 +1,4 @@
 pub mod Attempts
-pub mod Changes
 pub mod Healing
 pub mod Refusal
 pub mod Requests

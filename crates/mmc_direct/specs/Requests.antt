@@ -7,7 +7,7 @@ use Rattle.mmc_card.specs.Card.{holds}
 use Rattle.mmc_card.specs.Profile.{InProfile}
 use Rattle.mmc_card.specs.Sectors.{AreRead, Change, Sector, Within, maybe_changed}
 use Rattle.mmc_card.specs.declared.part.Part.{Part}
-use Rattle.mmc_direct.specs.Changes.{TakesEffect}
+use Rattle.mmc_requests.specs.Changes.{TakesEffect}
 use Rattle.mmc_direct.specs.Stands.{IfFailed, StandsIn}
 use Rattle.mmc_direct.specs.declared.stands.Served.{Served}
 

@@ -11,7 +11,7 @@ use Rattle.mmc_switch.specs.declared.info.Info.{Info}
 use Rattle.mmc_switch.specs.declared.session.Session.{Session}
 use Rattle.mmc_direct.specs.declared.refused.NotDone.{NotDone}
 use Rattle.mmc_direct.specs.declared.refused.NotDone.TheVariants.{Failed, Refused as RefusedFor}
-use Rattle.mmc_direct.specs.declared.refused.Refused.{Refused}
+use Rattle.mmc_requests.specs.declared.refused.Refused.{Refused}
 use Rattle.mmc_direct.specs.declared.stands.Stands.{Stands}
 use Rattle.mmc_direct.specs.declared.stands.Stands.TheVariants.{Loose, Ready}
 

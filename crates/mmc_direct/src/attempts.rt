@@ -9,11 +9,12 @@ ghost use Rattle.mmc_switch.specs.Info.{lasting, sectors_of};
 ghost use Rattle.mmc_recovery.specs.Healed.{with_settling};
 ghost use Rattle.mmc_recovery.specs.Settled.{TellsReset, session_of};
 ghost use Rattle.mmc_direct.specs.Attempts.{HasPrepared, HasTried, erasing, moving};
-ghost use Rattle.mmc_direct.specs.Changes.{erased_at, written_at};
+ghost use Rattle.mmc_requests.specs.Changes.{erased_at, written_at};
 ghost use Rattle.mmc_direct.specs.Healing.{HasSettled};
-ghost use Rattle.mmc_direct.specs.Refusal.{action_of, refusal};
+ghost use Rattle.mmc_requests.specs.Kinds.{kind_of_how};
+ghost use Rattle.mmc_direct.specs.Refusal.{refusal};
 ghost use Rattle.mmc_direct.specs.Stands.{IfLoose, IsCausedIn, StandsIn, info_of, stands_of};
-ghost use Rattle.mmc_direct.specs.declared.action.Action.TheVariants.{Read, Write};
+ghost use Rattle.mmc_requests.specs.declared.kind.Kind.TheVariants.{Read, Write};
 ghost use Rattle.mmc_direct.specs.declared.attempts.TheConstants.{EXCHANGES_BESIDE_A_RUN};
 
 use crate::stands::Stands;
@@ -22,9 +23,6 @@ use mmc_erase::{How, erase_run};
 use mmc_recovery::{EXCHANGES_OF_A_SETTLE, Healed, settle_telling};
 use mmc_switch::{Broken, EXCHANGES_OF_A_SWITCH, Session, select};
 use mmc_transfer::{read_run, write_run};
-
-/// How many attempts a request has.
-pub const ATTEMPTS: u64 = 4;
 
 /// The most exchanges of an attempt beside those of its run: a settle and a select.
 pub const EXCHANGES_BESIDE_A_RUN: u64 = EXCHANGES_OF_A_SETTLE + EXCHANGES_OF_A_SWITCH;
@@ -140,7 +138,7 @@ pub fn try_erase<B: Bus>(
     count: u64,
     how: How,
 ) -> Result<Session, Broken>
-    requires served { refusal (action_of how) (info_of stands) part start count ≡ None }
+    requires served { refusal (kind_of_how how) (info_of stands) part start count ≡ None }
     ensures info { lasting (info_of (stands_of result)) ≡ lasting (info_of stands) }
     ensures bounded { (B.view bus.new).exchanges ≤ (B.view bus.old).exchanges + erasing }
     ensures kept { (B.view bus.new).is_kept ≡ true → (B.view bus.old).is_kept ≡ true }

@@ -1,7 +1,6 @@
 //! Requests of one client, one at a time, without a queue and without a heap.
 #![tactic(auto)]
 
-mod action;
 mod attempts;
 mod counting;
 mod refused;
@@ -10,11 +9,11 @@ mod retries;
 mod rules;
 mod stands;
 
-pub use action::Action;
-pub use attempts::{ATTEMPTS, EXCHANGES_BESIDE_A_RUN};
+pub use attempts::EXCHANGES_BESIDE_A_RUN;
 pub use mmc_erase::How;
 pub use mmc_recovery::Healed;
-pub use refused::{NotDone, Refused};
+pub use mmc_requests::{ATTEMPTS, Kind, Kind as Action, Refused};
+pub use refused::NotDone;
 pub use requests::{action_of, erase, read, write};
 pub use rules::refusal;
 pub use stands::{Served, Stands};

@@ -4,21 +4,22 @@ ghost use Rattle.mmc_bus.specs.Lending.{IsRewritten};
 ghost use Rattle.mmc_erase.specs.declared.how.How.{How};
 ghost use Rattle.mmc_switch.specs.Info.{lasting};
 ghost use Rattle.mmc_direct.specs.Attempts.{erasing, moving};
-ghost use Rattle.mmc_direct.specs.Changes.{erased_at, written_at};
+ghost use Rattle.mmc_requests.specs.Changes.{erased_at, written_at};
 ghost use Rattle.mmc_direct.specs.Healing.{HasHealed};
-ghost use Rattle.mmc_direct.specs.Refusal.{action_of, refusal};
+ghost use Rattle.mmc_requests.specs.Kinds.{kind_of_how};
+ghost use Rattle.mmc_direct.specs.Refusal.{refusal};
 ghost use Rattle.mmc_direct.specs.Requests.{HasChanged, HasRead};
 ghost use Rattle.mmc_direct.specs.Stands.{AnswersBy, IfLeft, IfRefused, IfServed, IsCausedIn, StandsIn, info_of, refusal_in};
-ghost use Rattle.mmc_direct.specs.declared.action.Action.TheVariants.{Read, Write};
-ghost use Rattle.mmc_direct.specs.declared.attempts.TheConstants.{ATTEMPTS};
+ghost use Rattle.mmc_requests.specs.declared.kind.Kind.TheVariants.{Read, Write};
+ghost use Rattle.mmc_requests.specs.declared.limits.TheConstants.{ATTEMPTS};
 
-use crate::action::Action;
 use crate::retries::{keep_erasing, keep_reading, keep_writing};
 use crate::rules::refusal;
 use crate::stands::{Served, Stands};
 use mmc_bus::{Blocks, BlocksMut, Bus, Part};
 use mmc_erase::How;
 use mmc_recovery::Healed;
+use mmc_requests::Kind;
 
 /// Reads these blocks, 1 to 65,535, from this sector of a partition on, in at most four attempts: each settles the card where
 /// something has failed, selects the partition where another one is selected, and makes the run. What the blocks hold is open
@@ -47,13 +48,7 @@ pub fn read<B: Bus, D: BlocksMut>(
     ensures served { (B.view bus.new).is_kept ≡ true → StandsIn stands (B.view bus.old)
         → HasRead part start (D.blocks blocks.new) (B.view bus.old) result (B.view bus.new) }
 {
-    match refusal(
-        stands.info(),
-        Action::Read,
-        part,
-        start,
-        blocks.len() as u64,
-    ) {
+    match refusal(stands.info(), Kind::Read, part, start, blocks.len() as u64) {
         Some(refused) => Served::refused(stands, refused),
         None => Served::of(keep_reading(bus, healed, stands, part, start, blocks)),
     }
@@ -83,25 +78,19 @@ pub fn write<B: Bus, D: Blocks>(
     ensures served { (B.view bus.new).is_kept ≡ true → StandsIn stands (B.view bus.old)
         → HasChanged (written_at part start (D.blocks blocks.now)) (B.view bus.old) result (B.view bus.new) }
 {
-    match refusal(
-        stands.info(),
-        Action::Write,
-        part,
-        start,
-        blocks.len() as u64,
-    ) {
+    match refusal(stands.info(), Kind::Write, part, start, blocks.len() as u64) {
         Some(refused) => Served::refused(stands, refused),
         None => Served::of(keep_writing(bus, healed, stands, part, start, blocks)),
     }
 }
 
 /// What a request does that erases or trims.
-pub fn action_of(how: How) -> Action
-    ensures { result ≡ action_of how }
+pub fn action_of(how: How) -> Kind
+    ensures { result ≡ kind_of_how how }
 {
     match how {
-        How::Erase => Action::Erase,
-        How::Trim => Action::Trim,
+        How::Erase => Kind::Erase,
+        How::Trim => Kind::Trim,
     }
 }
 
@@ -117,7 +106,7 @@ pub fn erase<B: Bus>(
     count: u64,
     how: How,
 ) -> Served
-    ensures refused { refusal_in result.answer ≡ refusal (action_of how) (info_of stands) part start count }
+    ensures refused { refusal_in result.answer ≡ refusal (kind_of_how how) (info_of stands) part start count }
     ensures untouched { IfRefused result.answer ((bus.new ≡ bus.old) × (result.stands ≡ stands)) }
     ensures answer { AnswersBy result.answer result.stands }
     ensures uncounted { IfRefused result.answer (healed.new ≡ healed.old) }

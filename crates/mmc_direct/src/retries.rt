@@ -4,19 +4,21 @@ ghost use Rattle.mmc_card.specs.Card.{holds};
 ghost use Rattle.mmc_card.specs.Sectors.{AreRead};
 ghost use Rattle.mmc_bus.specs.Lending.{IsRewritten};
 ghost use Rattle.mmc_direct.specs.Attempts.{Tries, erasing, moving};
-ghost use Rattle.mmc_direct.specs.Changes.{erased_at, written_at};
+ghost use Rattle.mmc_requests.specs.Changes.{erased_at, written_at};
 ghost use Rattle.mmc_direct.specs.Healing.{HasHealed};
-ghost use Rattle.mmc_direct.specs.Refusal.{action_of, refusal};
+ghost use Rattle.mmc_requests.specs.Kinds.{kind_of_how};
+ghost use Rattle.mmc_direct.specs.Refusal.{refusal};
 ghost use Rattle.mmc_direct.specs.Stands.{StandsIn, info_of, stands_of};
-ghost use Rattle.mmc_direct.specs.declared.action.Action.TheVariants.{Read, Write};
-ghost use Rattle.mmc_direct.specs.declared.attempts.TheConstants.{ATTEMPTS};
+ghost use Rattle.mmc_requests.specs.declared.kind.Kind.TheVariants.{Read, Write};
+ghost use Rattle.mmc_requests.specs.declared.limits.TheConstants.{ATTEMPTS};
 
-use crate::attempts::{ATTEMPTS, try_erase, try_read, try_write};
+use crate::attempts::{try_erase, try_read, try_write};
 use crate::counting::{count_done, count_failed};
 use crate::stands::Stands;
 use mmc_bus::{Blocks, BlocksMut, Bus, Part};
 use mmc_erase::How;
 use mmc_recovery::Healed;
+use mmc_requests::ATTEMPTS;
 use mmc_switch::{Broken, Session};
 
 /// Reads these blocks.
@@ -111,7 +113,7 @@ pub fn keep_erasing<B: Bus>(
     count: u64,
     how: How,
 ) -> Result<Session, Broken>
-    requires served { refusal (action_of how) (info_of stands) part start count ≡ None }
+    requires served { refusal (kind_of_how how) (info_of stands) part start count ≡ None }
     ensures healed { HasHealed stands healed.old (stands_of result) healed.new }
     ensures tries { Tries ATTEMPTS erasing (erased_at (info_of stands) part start count) stands
         (B.view bus.old) result (B.view bus.new) }

@@ -3,7 +3,8 @@ ghost use Rattle.std.specs.Prelude.{◌≡◌, Err};
 ghost use Rattle.mmc_direct.specs.Stands.{answer_of, info_of, stands_of};
 ghost use Rattle.mmc_direct.specs.declared.refused.NotDone.TheVariants as NotDone;
 
-use crate::refused::{NotDone, Refused};
+use crate::refused::NotDone;
+use mmc_requests::Refused;
 use mmc_switch::{Broken, Info, Session};
 
 /// How a card stands between two requests, as far as the host knows.

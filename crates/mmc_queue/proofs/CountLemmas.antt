@@ -15,7 +15,7 @@ use Rattle.mmc_queue.specs.declared.entry.Entry.{Entry}
 use Rattle.mmc_queue.specs.declared.group.Group.{Group}
 use Rattle.mmc_queue.specs.declared.held.Held.{Held}
 use Rattle.mmc_queue.specs.declared.held.Held.TheVariants.{Bytes, Room}
-use Rattle.mmc_queue.specs.declared.kind.Kind.TheVariants as kind
+use Rattle.mmc_requests.specs.declared.kind.Kind.TheVariants as kind
 use Rattle.mmc_queue.specs.declared.request.Request.{Request}
 use Rattle.mmc_queue.specs.declared.request.Request.TheVariants.{Erase, Read, Trim, Write}
 use Rattle.mmc_queue.specs.declared.extent.Extent.{Extent}

@@ -12,7 +12,7 @@ use Rattle.mmc_queue.specs.Rule.{NoneLower, NoneMay, fits, has_room, is_alike, i
 use Rattle.mmc_queue.specs.Search.{BestMay, IsLowest, NotAbove, StandsAlike, may_join_at, may_join_if}
 use Rattle.mmc_queue.specs.Waiting.{Ascend, at_ticket}
 use Rattle.mmc_queue.specs.declared.entry.Entry.{Entry}
-use Rattle.mmc_queue.specs.declared.kind.Kind.{Kind}
+use Rattle.mmc_requests.specs.declared.kind.Kind.{Kind}
 use Rattle.mmc_queue.specs.declared.place.Edge.TheVariants.{End, Start}
 use Rattle.mmc_queue.specs.declared.request.Request.{Request}
 use Rattle.mmc_queue.specs.declared.extent.Extent.{Extent}

@@ -12,7 +12,7 @@ use Rattle.mmc_queue.specs.declared.entry.Entry.{Entry}
 use Rattle.mmc_queue.specs.declared.group.Group.{Group}
 use Rattle.mmc_queue.specs.declared.held.Held.{Held}
 use Rattle.mmc_queue.specs.declared.held.Held.TheVariants.{Bytes, Room}
-use Rattle.mmc_queue.specs.declared.kind.Kind.TheVariants as kind
+use Rattle.mmc_requests.specs.declared.kind.Kind.TheVariants as kind
 use Rattle.mmc_queue.proofs.CountLemmas.{IsFilled, all_lent, length_of_write, room_of_read, same_sectors, whole}
 use Rattle.mmc_queue.proofs.FairLemmas.{not_both}
 use Rattle.mmc_queue.proofs.JoinedLemmas.{has_any, lies_in, member_alike, member_sound, member_within}

@@ -11,10 +11,10 @@ use Rattle.std.proofs.lemmas.Bool.Decides.{nat_tests}
 use Rattle.std.proofs.lemmas.Map.Lookups.{CmpEqualImpliesEq, exact_unsigned}
 use Rattle.mmc_card.specs.declared.part.Part.{Part}
 use Rattle.mmc_card.specs.contracts.part.PartOrd.TheImpl.{cmp-value as part_order}
-use Rattle.mmc_queue.specs.contracts.kind.KindOrd.TheImpl.{cmp-value as kind_order}
+use Rattle.mmc_requests.specs.contracts.kind.KindOrd.TheImpl.{cmp-value as kind_order}
 use Rattle.mmc_queue.specs.contracts.place.EdgeOrd.TheImpl.{cmp-value as edge_order}
 use Rattle.mmc_queue.specs.declared.entry.Entry.{Entry}
-use Rattle.mmc_queue.specs.declared.kind.Kind.{Kind}
+use Rattle.mmc_requests.specs.declared.kind.Kind.{Kind}
 use Rattle.mmc_queue.specs.declared.place.Edge.{Edge}
 use Rattle.mmc_queue.specs.declared.place.Edge.TheVariants.{End, Start}
 use Rattle.mmc_queue.specs.declared.place.Place.{Place}

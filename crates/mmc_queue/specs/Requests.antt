@@ -1,9 +1,10 @@
 -- What a request names, and when two requests conflict. The rules are the project's own.
-use Rattle.std.specs.Prelude.{◌&&◌, ◌*◌, ◌+◌, ◌<◌, ◌==◌, ◌≡◌, ◌≤◌, Bool, List, [], false, length, nat_lt, not, true, ℕ}
+use Rattle.std.specs.Prelude.{◌&&◌, ◌*◌, ◌+◌, ◌<◌, ◌==◌, ◌≡◌, ◌≤◌, Bool, List, [], length, nat_lt, not, true, ℕ}
 use Rattle.mmc_card.specs.declared.part.Part.{Part}
 use Rattle.mmc_card.specs.Sectors.{part_number}
-use Rattle.mmc_queue.specs.declared.kind.Kind.{Kind}
-use Rattle.mmc_queue.specs.declared.kind.Kind.TheVariants as kind
+use Rattle.mmc_requests.specs.Kinds.{is_read as reads, moves_blocks}
+use Rattle.mmc_requests.specs.declared.kind.Kind.{Kind}
+use Rattle.mmc_requests.specs.declared.kind.Kind.TheVariants as kind
 use Rattle.mmc_queue.specs.declared.request.Request.{Request}
 use Rattle.mmc_queue.specs.declared.request.Request.TheVariants.{Erase, Read, Trim, Write}
 
@@ -49,19 +50,13 @@ bytes_of (Write part start count bytes) = bytes
 bytes_of (Erase part start count) = []
 bytes_of (Trim part start count) = []
 
--- neighbours of these kinds may be served together
+-- neighbours of these kinds may be served together: those that move blocks
 abbrev pub can_merge : Kind → Bool
-can_merge kind.Read = true
-can_merge kind.Write = true
-can_merge kind.Erase = false
-can_merge kind.Trim = false
+can_merge its_kind = moves_blocks its_kind
 
 -- it changes nothing
 abbrev pub is_read : Request → Bool
-is_read (Read part start count) = true
-is_read (Write part start count bytes) = false
-is_read (Erase part start count) = false
-is_read (Trim part start count) = false
+is_read request = reads (kind_of request)
 
 -- a write has 512 bytes for each sector
 abbrev pub has_its_bytes : Request → Bool

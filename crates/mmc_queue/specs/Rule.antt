@@ -6,7 +6,7 @@ use Rattle.mmc_queue.specs.Requests.{can_merge, conflicts, count_of, end_of, kin
 use Rattle.mmc_queue.specs.Waiting.{Takes}
 use Rattle.mmc_queue.specs.declared.entry.Entry.{Entry}
 use Rattle.mmc_queue.specs.declared.request.Request.{Request}
-use Rattle.mmc_queue.specs.declared.request.TheConstants.{MAX_COUNT}
+use Rattle.mmc_requests.specs.declared.limits.TheConstants.{MAX_COUNT}
 use Rattle.mmc_queue.specs.declared.extent.Extent.{Extent}
 use Rattle.mmc_queue.specs.declared.extent.TheConstants.{MAX_GROUP}
 

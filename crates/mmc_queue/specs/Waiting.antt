@@ -6,7 +6,7 @@ use Rattle.mmc_queue.specs.declared.entry.Entry.{Entry}
 use Rattle.mmc_queue.specs.declared.push_fault.PushFault.{PushFault}
 use Rattle.mmc_queue.specs.declared.push_fault.PushFault.TheVariants.{Full, NoMemory}
 use Rattle.mmc_queue.specs.declared.queue.TheConstants.{MAX_WAITING}
-use Rattle.mmc_queue.specs.declared.request.TheConstants.{MAX_COUNT}
+use Rattle.mmc_requests.specs.declared.limits.TheConstants.{MAX_COUNT}
 
 -- An entry that may wait: its ticket is a number of 64 bits; it names some sectors, as many as a request of its kind may,
 -- none past 2^32; and it has the bytes and the room that go with them.

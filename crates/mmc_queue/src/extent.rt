@@ -2,9 +2,9 @@ ghost use Rattle.std.specs.Prelude.{◌≡◌, ◌+◌, ◌<◌, ◌≤◌, ◌^
 ghost use Rattle.mmc_queue.specs.Requests.{end_of};
 ghost use Rattle.mmc_queue.specs.Rule.{fits, is_beside, extent_of, widened};
 
-use crate::kind::Kind;
-use crate::request::{MAX_COUNT, Request};
+use crate::request::Request;
 use mmc_bus::Part;
+use mmc_requests::{Kind, MAX_COUNT};
 
 /// The most requests of a group.
 pub const MAX_GROUP: usize = 16;

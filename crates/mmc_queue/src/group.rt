@@ -9,10 +9,10 @@ ghost use Rattle.mmc_queue.specs.declared.extent.TheConstants.{MAX_GROUP};
 
 use crate::entry::Entry;
 use crate::extent::{Extent, MAX_GROUP};
-use crate::kind::Kind;
 use crate::queue::Queue;
 use arrayvec::ArrayVec;
 use mmc_bus::Part;
+use mmc_requests::Kind;
 use std::alloc::Global;
 
 /// Entries that are served together, by ticket.

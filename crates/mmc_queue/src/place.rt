@@ -1,5 +1,5 @@
-use crate::kind::Kind;
 use mmc_bus::Part;
+use mmc_requests::Kind;
 
 /// An end of a request's sectors, at which an extent may be joined to them.
 #[derive(Clone, Copy, Debug, PartialEq, Eq, PartialOrd, Ord)]

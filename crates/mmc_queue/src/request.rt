@@ -1,11 +1,8 @@
 ghost use Rattle.std.specs.Prelude.{◌≡◌, ◌*◌, ◌+◌, length};
 ghost use Rattle.mmc_queue.specs.Requests.{bytes_of, count_of, end_of, has_its_bytes, is_read, kind_of, part_of, start_of};
 
-use crate::kind::Kind;
 use mmc_bus::{Bytes, Part};
-
-/// The most sectors that one read or write may name.
-pub const MAX_COUNT: u64 = 1024;
+use mmc_requests::Kind;
 
 /// What a client asks of the device. Starts and counts are sectors of 512 bytes.
 #[derive(Debug, Drop)]

@@ -3,7 +3,7 @@ use crate::cards::*;
 use crate::transfer::{filled, is_all};
 use mmc_bus::{Bytes, Part};
 use mmc_card_sim::{Fault, SimCard};
-use mmc_direct::{Action, Healed, How, NotDone, Refused, Stands, erase, read, refusal, write};
+use mmc_direct::{Healed, How, Kind, NotDone, Refused, Stands, erase, read, refusal, write};
 use mmc_switch::{Cause, Session};
 use std::alloc::Global;
 use std::test::Fail;
@@ -63,7 +63,7 @@ fn refuses_more_sectors_than_a_run_has(rt: HostRuntime) -> Result<(), Fail> {
     let mut card = built(rt.alloc(), spec_of(Which::Emmc))?;
     let session = opened(&mut card).ok_or("not opened")?;
     for (count, refused) in [(65_535, Refused::OutOfRange), (65_536, Refused::TooLong)] {
-        let why = refusal(session.info(), Action::Read, Part::User, 0, count);
+        let why = refusal(session.info(), Kind::Read, Part::User, 0, count);
         assert_eq!(rt; why, Some(refused));
     }
     Ok(())

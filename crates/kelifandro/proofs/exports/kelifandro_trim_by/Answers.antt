@@ -2,7 +2,7 @@ use Rattle.std.proofs.Common.{◌≡◌, false, rules, subst, sym, w32}
 use Rattle.std.proofs.lemmas.Int.{to_z-of_z}
 use Rattle.mmc_direct.specs.Refusal.{refusal}
 use Rattle.mmc_direct.specs.Stands.{info_of, stands_of}
-use Rattle.mmc_direct.specs.declared.action.Action.TheVariants.{Trim}
+use Rattle.mmc_requests.specs.declared.kind.Kind.TheVariants.{Trim}
 use Rattle.kelifandro.specs.Calls.{TellsCounts, TellsWhy, is_attempted}
 use Rattle.kelifandro.proofs.CallLemmas.{tells_counts, tells_none, tells_why}
 use Rattle.kelifandro.proofs.exports.kelifandro_trim_by.Goals as goal

@@ -1,7 +1,7 @@
 use Rattle.std.proofs.lemmas.Bool.{false≢true}
 use Rattle.std.specs.Prelude.{IfOk}
 use Rattle.mmc_calls.specs.Noted.{IsServed}
-use Rattle.mmc_direct.specs.Changes.{erased_at}
+use Rattle.mmc_requests.specs.Changes.{erased_at}
 use Rattle.mmc_direct.specs.Requests.{HasChanged}
 use Rattle.mmc_direct.specs.Stands.{info_of}
 use Rattle.mmc_host.specs.Hosts.{bus_over}

@@ -1,4 +1,4 @@
-use Rattle.mmc_direct.specs.Changes.{erased_at}
+use Rattle.mmc_requests.specs.Changes.{erased_at}
 use Rattle.mmc_direct.specs.Stands.{info_of}
 use Rattle.mmc_direct.specs.Requests.{HasChanged}
 use Rattle.mmc_host.specs.Hosts.{bus_over}

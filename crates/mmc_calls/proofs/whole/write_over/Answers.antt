@@ -1,4 +1,4 @@
-use Rattle.mmc_direct.specs.Changes.{written_at}
+use Rattle.mmc_requests.specs.Changes.{written_at}
 use Rattle.mmc_direct.specs.Requests.{HasChanged}
 use Rattle.mmc_host.specs.Hosts.{bus_over}
 use Rattle.mmc_calls.specs.Noted.{bus_going_on, lines_in}

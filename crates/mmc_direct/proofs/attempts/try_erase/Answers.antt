@@ -1,8 +1,8 @@
 use Rattle.mmc_direct.proofs.AttemptLemmas.{made_erase, tried, tried_in_vain}
 use Rattle.mmc_direct.proofs.CauseLemmas.{caused_by_exchange}
 use Rattle.mmc_direct.proofs.ServeLemmas.{can_erase, can_write, erases_nothing_else, room_holds}
-use Rattle.mmc_direct.specs.Changes.{erased_at}
-use Rattle.mmc_direct.specs.Refusal.{action_of}
+use Rattle.mmc_requests.specs.Changes.{erased_at}
+use Rattle.mmc_requests.specs.Kinds.{kind_of_how}
 use Rattle.mmc_direct.specs.Stands.{info_of}
 use Rattle.mmc_direct.proofs.attempts.try_erase.Goals as goal
 
@@ -14,7 +14,7 @@ returns-in_err-session-clause-tried g c kept at =
 
 pub erase_run-requires-clause-inside : goal.erase_run-requires-clause-inside
 erase_run-requires-clause-inside g c =
-    room_holds (action_of c.args.how) (info_of c.args.stands) c.in_ok-session.session c.args.part c.args.start
+    room_holds (kind_of_how c.args.how) (info_of c.args.stands) c.in_ok-session.session c.args.part c.args.start
     c.args.count c.in_ok-session.ensures.info c.in_ok-session.ensures.selected c.requires.served
 
 pub erase_run-requires-clause-erasable : goal.erase_run-requires-clause-erasable
@@ -29,7 +29,7 @@ erase_run-requires-clause-suits g c =
 
 pub erase_run-requires-clause-writable : goal.erase_run-requires-clause-writable
 erase_run-requires-clause-writable g c =
-    can_write (action_of c.args.how) (info_of c.args.stands) c.in_ok-session.session c.args.part c.args.start
+    can_write (kind_of_how c.args.how) (info_of c.args.stands) c.in_ok-session.session c.args.part c.args.start
     c.args.count c.in_ok-session.ensures.info c.in_ok-session.ensures.selected c.requires.served
     (erases_nothing_else c.args.how)
 

@@ -5,7 +5,7 @@ use Rattle.mmc_direct.proofs.HealingLemmas.{healed_by}
 use Rattle.mmc_direct.proofs.RequestLemmas.{has_read}
 use Rattle.mmc_direct.specs.Attempts.{moving}
 use Rattle.mmc_direct.specs.Stands.{IsCausedIn}
-use Rattle.mmc_direct.specs.declared.attempts.TheConstants.{ATTEMPTS}
+use Rattle.mmc_requests.specs.declared.limits.TheConstants.{ATTEMPTS}
 use Rattle.mmc_direct.proofs.requests.read.Goals as goal
 
 pub returns-in-Some-clause-lent : goal.returns-in-Some-clause-lent

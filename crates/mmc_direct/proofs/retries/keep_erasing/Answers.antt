@@ -1,11 +1,11 @@
 use Rattle.std.proofs.Common.{◌+◌, arith}
 use Rattle.std.specs.Prelude.{Err, Ok}
 use Rattle.mmc_direct.specs.Attempts.{erasing}
-use Rattle.mmc_direct.specs.Changes.{erased_at}
-use Rattle.mmc_direct.specs.Refusal.{action_of}
+use Rattle.mmc_requests.specs.Changes.{erased_at}
+use Rattle.mmc_requests.specs.Kinds.{kind_of_how}
 use Rattle.mmc_direct.specs.Stands.{info_of}
 use Rattle.mmc_direct.specs.declared.stands.Stands.TheVariants.{Loose, Ready}
-use Rattle.mmc_direct.specs.declared.attempts.TheConstants.{ATTEMPTS}
+use Rattle.mmc_requests.specs.declared.limits.TheConstants.{ATTEMPTS}
 use Rattle.mmc_direct.proofs.HealingLemmas.{failed_so, healed_done, healed_in_vain, heals_again, heals_first}
 use Rattle.mmc_direct.proofs.ServeLemmas.{still_served}
 use Rattle.mmc_direct.proofs.TriesLemmas.{one_erase, one_try, tries_again, tries_all, tries_enough}
@@ -33,7 +33,7 @@ loop-failed-init g c =
 pub try_erase-requires-in-loop-failed : goal.try_erase-requires-in-loop-failed
 try_erase-requires-in-loop-failed g c =
     record {
-      served = still_served (action_of c.args.how) c.loop-failed.broken.session.info (info_of c.args.stands) c.args.part
+      served = still_served (kind_of_how c.args.how) c.loop-failed.broken.session.info (info_of c.args.stands) c.args.part
           c.args.start c.args.count c.loop-failed.invariant.0.info c.requires.served;
     }
 

@@ -1,6 +1,6 @@
 use Rattle.std.specs.Prelude.{Err}
 use Rattle.mmc_direct.specs.Attempts.{Tries, erasing}
-use Rattle.mmc_direct.specs.Changes.{erased_at}
+use Rattle.mmc_requests.specs.Changes.{erased_at}
 use Rattle.mmc_direct.specs.Stands.{info_of}
 use Rattle.mmc_direct.specs.Healing.{Heals}
 use Rattle.mmc_direct.specs.declared.stands.Stands.TheVariants.{Loose}

@@ -1,12 +1,12 @@
 use Rattle.std.proofs.Common.{◌+◌, ◌∙◌, ◌≡◌, [], arith, length, subst, sym}
 use Rattle.std.specs.Prelude.{Err, None, Ok}
 use Rattle.mmc_direct.specs.Attempts.{moving}
-use Rattle.mmc_direct.specs.Changes.{written_at}
+use Rattle.mmc_requests.specs.Changes.{written_at}
 use Rattle.mmc_direct.specs.Refusal.{refusal}
 use Rattle.mmc_direct.specs.Stands.{info_of}
-use Rattle.mmc_direct.specs.declared.action.Action.TheVariants.{Read}
+use Rattle.mmc_requests.specs.declared.kind.Kind.TheVariants.{Read}
 use Rattle.mmc_direct.specs.declared.stands.Stands.TheVariants.{Loose, Ready}
-use Rattle.mmc_direct.specs.declared.attempts.TheConstants.{ATTEMPTS}
+use Rattle.mmc_requests.specs.declared.limits.TheConstants.{ATTEMPTS}
 use Rattle.mmc_direct.proofs.LentLemmas.{lent_then}
 use Rattle.mmc_direct.proofs.HealingLemmas.{failed_so, healed_done, healed_in_vain, heals_again, heals_first}
 use Rattle.mmc_direct.proofs.ServeLemmas.{still_served}

@@ -2,7 +2,7 @@ use Rattle.std.proofs.Common.{◌≡◌, [], length}
 use Rattle.mmc_bus.specs.Lending.{IsRewritten}
 use Rattle.std.specs.Prelude.{Err}
 use Rattle.mmc_direct.specs.Attempts.{Tries, moving}
-use Rattle.mmc_direct.specs.Changes.{written_at}
+use Rattle.mmc_requests.specs.Changes.{written_at}
 use Rattle.mmc_direct.specs.Healing.{Heals}
 use Rattle.mmc_direct.specs.declared.stands.Stands.TheVariants.{Loose}
 use Rattle.mmc_direct.proofs.retries.keep_reading.Given as goal

@@ -1,4 +1,4 @@
--- What a request changes.
+-- What a request changes. The rules are the project's own.
 use Rattle.std.specs.Prelude.{◌∷◌, ◌≡◌, List, [], replicate, true, ℕ}
 use Rattle.mmc_card.specs.Sectors.{Change, Sector, Sets, Within, changed, touches, value_of}
 use Rattle.mmc_card.specs.declared.part.Part.{Part}
@@ -8,7 +8,7 @@ use Rattle.mmc_switch.specs.declared.info.Info.{Info}
 abbrev pub written_at : Part → ℕ → List Sector → Change
 written_at part start values = record { part = part; start = start; values = values }
 
--- so many sectors, from this one on, get the erased byte
+-- so many sectors, from this one on, get the byte that a card of which this is known has in an erased one
 abbrev pub erased_at : Info → Part → ℕ → ℕ → Change
 erased_at info part start count = written_at part start (replicate count (replicate 512 info.erased_byte))
 

@@ -1,0 +1,4 @@
+pub mod Changes
+pub mod Kinds
+pub mod Refusal
+pub mod RefusalLaws

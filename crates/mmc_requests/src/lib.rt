@@ -1,0 +1,12 @@
+//! The rules of requests: what they do with their sectors, which are refused, what they change, and their limits.
+#![tactic(auto)]
+
+mod kind;
+mod limits;
+mod refused;
+mod rules;
+
+pub use kind::Kind;
+pub use limits::{ATTEMPTS, ATTEMPTS_OF_A_GROUP, MAX_COUNT};
+pub use refused::Refused;
+pub use rules::{change_refusal, sectors_refusal};
