@@ -6,7 +6,7 @@ pub data Talk : Type 0 where
   Told : List ℕ → Talk
   -- this record was put, and these bytes came for it: as many as were asked for, and zeros where C gave none
   Asked : List ℕ → List ℕ → Talk
-  -- so many bytes of a block came, and behind that its room held these
+  -- so many bytes of a block came, and after that its room held these
   Came : ℕ → List ℕ → Talk
 
 -- the bytes that came last

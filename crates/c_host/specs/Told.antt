@@ -1,4 +1,4 @@
--- What C is told by each call, and how its answer is read: the talk behind a call, by the talk before it.
+-- What C is told by each call, and how its answer is read: the talk after a call, by the talk before it.
 use Rattle.std.specs.Int.{from_le_bytes, to_le_bytes, w64}
 use Rattle.std.specs.Prelude.{[], ◌%◌, ◌*◌, ◌+◌, ◌==◌, ◌^◌, ◌||◌, ◌∷◌, ◌≡◌, Bool, List, None, Option, Result, Some, if◌then◌else◌, length, nat_le, not}
 use Rattle.std.specs.Prelude.{◌&&◌}

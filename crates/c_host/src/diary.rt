@@ -34,7 +34,7 @@ pub enum Call<'a> {
     Ask {
         /// The record.
         put: &'a [u8],
-        /// The bytes that came, zeros behind them.
+        /// The bytes that came, zeros after them.
         answer: &'a [u8],
     },
     /// Bytes of a block were taken.

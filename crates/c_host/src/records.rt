@@ -71,7 +71,7 @@ fn response_number(response: Response) -> u8
     }
 }
 
-// The data behind a command: 0 none, 1 it is read, 2 it is written; the length of a block, and how many.
+// The data after a command: 0 none, 1 it is read, 2 it is written; the length of a block, and how many.
 fn data_numbers(transfer: Data) -> (u8, u16, u16)
     ensures direction { result.0 ≡ data_number transfer }
     ensures length { result.1 ≡ length_number transfer }

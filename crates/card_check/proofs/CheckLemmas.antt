@@ -13,7 +13,7 @@ module _ (all : List (List ℕ)) (old mid new : Option (List ℕ)) where
   pub broken_findings : AppendsFront old new (findings_text all) → AppendsFront old new (all_findings all)
   broken_findings p = front_before old new (findings_text all) (missing_texts (is_sd (kind_in all)) all) p
 
-  -- a fault behind them
+  -- a fault after them
   pub broken_behind : Appends old new (findings_text all) → AppendsFront old new (all_findings all)
   broken_behind p = (findings_text all, missing_texts (is_sd (kind_in all)) all, refl, p)
 

@@ -149,7 +149,7 @@ reviewed_few all left others line most number front j first =
     let size : length left ≡ suc (length others) = ap length first in
     omega (arith, few, size)
 
--- what is written of the next line, and behind it
+-- what is written of the next line, and after it
 pub reviewed_next : (all left others : List (List ℕ)) (line : List ℕ) (most number : ℕ) (front : List ℕ)
     → Reviewed all left most number front → left ≡ line ∷ others
     → bad_texts 1 all ≡ front ++ (bad_text (number + 1) line (line_of line) ++ bad_texts (number + 1 + 1) others)

@@ -12,7 +12,7 @@ use Rattle.card_check.specs.declared.cause.Cause.{Cause}
 use Rattle.card_check.specs.declared.cause.Cause.TheVariants.{CarriageReturn, OtherKind, Repeated, TooManyFaults, UnknownKey, Value}
 use Rattle.card_check.specs.declared.key.Key.{Key}
 
--- what stands behind a key isn't what has to, or there is no such key
+-- what stands after a key isn't what has to, or there is no such key
 abbrev pub cause_by : Option Key → Cause
 cause_by (Some key) = Value key
 cause_by None = UnknownKey

@@ -11,7 +11,7 @@ use Rattle.card_check.specs.WrongLines.{findings_text}
 abbrev pub IsNoCardFile : List (List ℕ) → Type 0
 IsNoCardFile all = (fault : CardFault) × (fault ≡ NoMemory → ⊥) × IsBadCard all fault
 
--- a line for each wrong line of these, and behind them one for each key that is missing
+-- a line for each wrong line of these, and after them one for each key that is missing
 abbrev pub all_findings : List (List ℕ) → List ℕ
 all_findings all = findings_text all ++ missing_texts (is_sd (kind_in all)) all
 

@@ -17,7 +17,7 @@ abbrev pub quoted_text : List ℕ → List ℕ
 quoted_text [] = []
 quoted_text (byte ∷ bytes) = byte_text byte ++ quoted_text bytes
 
--- what stands behind the front of a line
+-- what stands after the front of a line
 abbrev pub end_words : List ℕ → List ℕ
 end_words [] = codes "\""
 end_words (byte ∷ bytes) = codes "\".."

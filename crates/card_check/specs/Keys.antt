@@ -1,4 +1,4 @@
--- The keys of card files, and what stands behind each.
+-- The keys of card files, and what stands after each.
 use Rattle.std.specs.Prelude.{ℕ, List, Option, None, Some, codes, if◌then◌else◌}
 use Rattle.std.specs.Str.{bytes_eq}
 use Rattle.card_check.specs.declared.key.Key.{Key}
@@ -40,7 +40,7 @@ key_of name =
     else if bytes_eq name (codes "ext") then Some Ext
     else further_key_of name
 
--- what stands behind a key
+-- what stands after a key
 abbrev pub expected_words : Key → List ℕ
 expected_words Kind = codes "kind is sd or mmc"
 expected_words Ocr = codes "ocr is 8 hexadecimal digits"

@@ -16,7 +16,7 @@ pub enum Cause {
     CarriageReturn,
     /// It begins with no key.
     UnknownKey,
-    /// What stands behind the key isn't what has to.
+    /// What stands after the key isn't what has to.
     Value(Key),
     /// No card of this kind has it.
     OtherKind(Kind),

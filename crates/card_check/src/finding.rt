@@ -50,7 +50,7 @@ fn say_quoted(line: &mut Vec<u8>, bytes: &[u8]) -> Result<(), AllocError>
     Ok(())
 }
 
-// What stands behind the front of a line.
+// What stands after the front of a line.
 fn end_words(behind: &[u8]) -> &'static [u8]
     ensures { result.now ≡ end_words behind.now }
 {

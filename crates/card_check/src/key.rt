@@ -1,4 +1,4 @@
-// The keys of card files, with what stands behind each.
+// The keys of card files, with what stands after each.
 ghost use Rattle.std.specs.Prelude.{◌≡◌, option_map};
 ghost use Rattle.card_check.specs.Keys.{expected_words, further_key_of, key_of};
 
@@ -100,7 +100,7 @@ impl Key {
         }
     }
 
-    /// What stands behind it in a line.
+    /// What stands after it in a line.
     pub fn expected(self) -> &'static [u8]
         ensures { result.now ≡ expected_words self }
     {

@@ -18,7 +18,7 @@ fn help_text(words: &[&str]) -> Option<&'static str> {
     }
 }
 
-/// Prints what the program does, or with the name of a command behind `help` what that does.
+/// Prints what the program does, or with the name of a command after `help` what that does.
 ///
 /// # Errors
 /// `Usage` where there is no such command; `Write`, where a front of the text went out.

@@ -47,7 +47,7 @@ lines_append : (ls others : List (List ℕ)) → AreLines ls → AreLines others
 lines_append [] others h k = k
 lines_append (l ∷ ls) others h k = (h.0, lines_append ls others h.1 k)
 
--- behind the last line feed stands an empty line
+-- after the last line feed stands an empty line
 lines_ended : (ls : List (List ℕ)) → AreLines ls → lines (ended_lines ls) ≡ ls ++ [] ∷ []
 lines_ended [] h = parts_none 10 [] refl
 lines_ended (l ∷ ls) h =

@@ -6,7 +6,7 @@ use Rattle.mmc_card.specs.declared.part.Part.{Part}
 use Rattle.mmc_card.specs.declared.part.Part.TheVariants.{Boot1, Boot2, Gp1, Gp2, Gp3, Gp4, User}
 use Rattle.mmc_card_sim.specs.Store.{bytes_of}
 
--- the bytes of these partitions, one behind the other
+-- the bytes of these partitions, one after the other
 abbrev pub bytes_in : Card → List Part → List ℕ
 bytes_in card parts = flat_map (λ part. bytes_of (stored card part)) parts
 

@@ -39,7 +39,7 @@ fn save_all<W: Write>(card: &SimCard, out: &mut W) -> io::Result<()>
     Ok(())
 }
 
-/// Writes the bytes of this partition, or without one those of all, one behind the other in the order user, boot1, boot2, gp1 to
+/// Writes the bytes of this partition, or without one those of all, one after the other in the order user, boot1, boot2, gp1 to
 /// gp4, as an image has them. Of a write, erase or trim that is unfinished these are the old ones.
 ///
 /// # Errors

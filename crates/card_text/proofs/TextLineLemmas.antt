@@ -7,7 +7,7 @@ use Rattle.card_text.specs.declared.text_line.Line.{Line}
 use Rattle.card_text.specs.declared.text_line.Line.TheVariants.{Bad, Says, Skipped}
 use Rattle.card_text.specs.TextLines.{said_in}
 
--- one list behind the other, where there are both
+-- one list after the other, where there are both
 abbrev pub joined : {A : Type 0} → Option (List A) → Option (List A) → Option (List A)
 joined None others = None
 joined (Some first) others = option_map (λ rest. first ++ rest) others

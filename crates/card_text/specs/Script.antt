@@ -13,7 +13,7 @@ use Rattle.card_text.specs.TextLines.{is_skipped, line_by, said_in}
 unfoldable pub line_of : List ℕ → Line ScriptEvent
 line_of line = if is_skipped line then Skipped else line_by (event_of (parts 32 line))
 
--- the lines between the line feeds; behind a last line feed stands an empty line, which is skipped
+-- the lines between the line feeds; after a last line feed stands an empty line, which is skipped
 abbrev pub lines : List ℕ → List (List ℕ)
 lines text = parts 10 text
 

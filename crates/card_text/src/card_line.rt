@@ -54,9 +54,9 @@ pub enum CardLine {
     KeepsLength(bool),
     /// Whether CMD12 that ends a read leaves the card busy.
     StaysBusy(bool),
-    /// How many statuses behind the end of a programming still show prg, 0 to 15.
+    /// How many statuses after the end of a programming still show prg, 0 to 15.
     SlowStatus(u8),
-    /// How many statuses behind CMD7 still show stby, and behind CMD12 that ends a read data, 0 to 8.
+    /// How many statuses after CMD7 still show stby, and after CMD12 that ends a read data, 0 to 8.
     LateStatus(u8),
     /// Whether the card is locked.
     Locked(bool),

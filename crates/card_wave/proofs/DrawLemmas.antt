@@ -15,7 +15,7 @@ use Rattle.card_wave.specs.declared.wave_writer.WaveEnd.{WaveEnd}
 use Rattle.card_wave.specs.declared.wave_writer.WaveWriter.{WaveWriter}
 use Rattle.card_wave.specs.WaveText.{sample_text, next_end, end_after, wave_text, Drawn, Draws}
 
--- a text with nothing behind it
+-- a text with nothing after it
 pub writes_whole : {E : Type 0} (a b : Option (List ℕ)) (r : Result Unit E) (text : List ℕ) → Writes a b r text
     → Writes a b r (text ++ [])
 writes_whole a b r text h = subst (Writes a b r) (sym (append-nil text)) h
@@ -90,7 +90,7 @@ pieces_taken f xs i d lt =
     ∙ flat_map-append f (take i xs) (get_or xs i d ∷ [])
     ∙ ap (λ l. flat_map f (take i xs) ++ l) (append-nil (f (get_or xs i d)))
 
--- the same and those of the items behind it
+-- the same and those of the items after it
 pub pieces_at : {X A : Type 0} (f : X → List A) (xs : List X) (i : ℕ) (d : X) → i < length xs → flat_map f xs
     ≡ flat_map f (take i xs) ++ (f (get_or xs i d) ++ flat_map f (drop (suc i) xs))
 pieces_at f xs i d lt =

@@ -99,7 +99,7 @@ remainder-lt [] = omega arith
 remainder-lt (true ∷ bs) = xor_lt 16 _ _ (power-lt (length bs)) (remainder-lt bs)
 remainder-lt (false ∷ bs) = remainder-lt bs
 
--- one more bit behind
+-- one more bit after
 abbrev pub pushed : ℕ → Bool → ℕ
 pushed p b = bit_xor (times_x p) (cond b 1 0)
 
@@ -140,7 +140,7 @@ unfolding shift
 shift_within zero p = refl
 shift_within (suc k) p = ap times_x (shift_within k p)
 
--- zeros behind a string
+-- zeros after a string
 zeros_behind : (k : ℕ) (bs : List Bool) → remainder (bs ++ replicate k false) ≡ shift k (remainder bs)
 unfolding shift
 zeros_behind zero bs = ap remainder (append-nil bs)

@@ -1,4 +1,4 @@
--- A line with its check behind it has no remainder.
+-- A line with its check after it has no remainder.
 use Rattle.std.proofs.Common.{◌≡◌, ℕ, ◌+◌, ◌*◌, ◌/◌, ◌%◌, ◌^◌, ◌<◌, inl, inr, List, [], ◌∷◌, ◌++◌, length}
 use Rattle.std.proofs.Common.{Bool, true, false, cond, refl, sym, ◌∙◌, ap, arith, bit_xor, append_assoc, append-nil}
 use Rattle.std.specs.Prelude.{◌==◌}
@@ -8,7 +8,7 @@ use Rattle.std.proofs.lemmas.Bool.{cases_eq, eq-eqb, ne_eqb}
 use Rattle.card_wave.specs.LineCheck.{times_x, remainder, line_check, check_bits}
 use Rattle.card_wave.proofs.Linear.{pushed, remainder-lt, remainder-push, line_check-lt, line_check_is, shift, shift_within, times_x_linear, times_x_low, times_x-lt}
 
--- bits behind a remainder, one after another
+-- bits after a remainder, one after another
 abbrev pushed_all : ℕ → List Bool → ℕ
 pushed_all p [] = p
 pushed_all p (b ∷ bs) = pushed_all (pushed p b) bs
@@ -35,7 +35,7 @@ pushed_sum p q (b ∷ bs) h k =
     ∙ pushed_sum (times_x p) (pushed q b) bs (times_x-lt p h) (pushed-lt q b k)
     ∙ ap (λ x. bit_xor x (pushed_all (pushed q b) bs)) (shift_within (length bs) p)
 
--- behind a string, bits of their own
+-- after a string, bits of their own
 remainder_behind : (xs ys : List Bool) → remainder (xs ++ ys) ≡ bit_xor (shift (length ys) (remainder xs))
     (remainder ys)
 unfolding remainder

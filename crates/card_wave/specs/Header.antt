@@ -20,6 +20,6 @@ header_text =
     ∷ codes "#0" ∷ codes "$dumpvars" ∷ codes "0!" ∷ codes "1C" ∷ codes "1a" ∷ codes "1b" ∷ codes "1c" ∷ codes "1d"
     ∷ codes "1e" ∷ codes "1f" ∷ codes "1g" ∷ codes "1h" ∷ codes "$end" ∷ [])
 
--- behind the header: the lines are idle, and the first clock begins at 40 ns
+-- after the header: the lines are idle, and the first clock begins at 40 ns
 abbrev pub beginning : WaveEnd
 beginning = record { clock = 1; lines = idle }

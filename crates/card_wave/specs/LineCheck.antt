@@ -17,7 +17,7 @@ unfoldable pub remainder : List Bool → ℕ
 remainder [] = 0
 remainder (bit ∷ bits) = if bit then bit_xor (power (length bits)) (remainder bits) else remainder bits
 
--- the CRC16 of the bits of a line, in the order of sending: their remainder with sixteen zeros behind them
+-- the CRC16 of the bits of a line, in the order of sending: their remainder with sixteen zeros after them
 unfoldable pub line_check : List Bool → ℕ
 line_check bits = remainder (bits ++ replicate 16 false)
 

@@ -1,4 +1,4 @@
--- Calls of a device, one behind the other, and what a loop of them keeps.
+-- Calls of a device, one after the other, and what a loop of them keeps.
 use Rattle.std.proofs.Common.{◌<◌, ◌≡◌, ◌∙◌, ℕ, zero, suc, List, ◌++◌, true, refl, ap, subst, arith}
 use Rattle.std.specs.Prelude.{◌||◌, ◌↔◌, Bool, IsErr, Option, Result, false}
 use Rattle.mmc_card.specs.BusView.{BusView}

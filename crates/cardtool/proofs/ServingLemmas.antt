@@ -1,4 +1,4 @@
--- A script that is served, one call of the device behind the other.
+-- A script that is served, one call of the device after the other.
 use Rattle.std.proofs.Common.{◌≡◌, ◌<◌, ◌+◌, ◌∙◌, ℕ, List, [], ◌∷◌, ◌++◌, Option, Result, Ok, Err, Bool, true, false, cond}
 use Rattle.std.proofs.Common.{sym, refl, ap, subst, append_assoc, append-nil, arith, length, length-append}
 use Rattle.std.specs.Prelude.{◌||◌, ◌-◌, ◌==◌, IfOk, IsErr}
@@ -14,8 +14,7 @@ use Rattle.mmc_block.specs.declared.refused.Refused.{Refused}
 use Rattle.mmc_queue.specs.declared.request.Request.{Request}
 use Rattle.mmc_block.specs.Device.{Comes, DeviceView, Queues, Withdraws, unanswered_of}
 use Rattle.mmc_block.specs.Machine.{Waiting}
-use Rattle.mmc_block.specs.Execution.{Counted, IsCountedExecution, CountedSteps, Event as MachineEvent, Follow, Reply}
-use Rattle.mmc_block.specs.Any.{cancelled_reply}
+use Rattle.mmc_block.specs.Execution.{Counted, CountedSteps, Event as MachineEvent, Follow, IsCountedExecution, Reply, cancelled_reply}
 use Rattle.mmc_block.specs.Execution.Event.{Cancel as MachineCancel, Submit as MachineSubmit, Turn as MachineTurn}
 use Rattle.mmc_block.specs.Execution.Reply.{Accepted, Answers, GivenBack, InService, RefusedFor, Unknown}
 use Rattle.mmc_block.specs.declared.cancel.CancelFault.{CancelFault}
@@ -78,7 +77,7 @@ behind_more (Cancel t) later more = refl
 behind_more Turn later more = refl
 behind_more Run later more = refl
 
--- with more to come behind it
+-- with more to come after it
 abbrev with_more : List ScriptEvent → Standing → Standing
 with_more more s = standing_of s.pending (s.left ++ more)
 

@@ -1,4 +1,4 @@
--- The trace behind a script that was served.
+-- The trace after a script that was served.
 use Rattle.std.proofs.Common.{◌≡◌, ◌≤◌, ◌-◌, ℕ, length, length-drop, List, [], ◌∷◌, ◌++◌, Option, None, Some}
 use Rattle.std.proofs.Common.{Result, Ok, Err, sym, refl, subst, arith, append-nil}
 use Rattle.std.specs.Prelude.{IsErrAnd, min}
@@ -18,13 +18,13 @@ use Rattle.card_served.specs.declared.fault.ServeFault.TheVariants.{Locked, NoCa
 use Rattle.cardtool.specs.Serving.{texts}
 use Rattle.cardtool.specs.Whole.{IsServed, IsTraceBehind, ended_by, trace_text}
 
--- nothing stood behind the text
+-- nothing stood after the text
 bare : (old new : Option (List ℕ)) (text behind : List ℕ) → behind ≡ [] → Appends old new (text ++ behind)
     → Appends old new text
 bare old new text behind none wrote =
     subst (Appends old new) (append-nil text) (subst (λ t. Appends old new (text ++ t)) none wrote)
 
--- the trace went out behind the answers, or the writer failed within it
+-- the trace went out after the answers, or the writer failed within it
 pub with_trace : {E : Type 0} (limits : Lines) (made : Made) (before later : Sets) (fell : ℕ) (script : List ScriptEvent) (n : ℕ)
     (exchanges : List Exchange) (start old new : Option (List ℕ)) (status : ℕ) (r : Result Unit E)
     → length exchanges ≤ n → All HasItsFrame exchanges
@@ -66,7 +66,7 @@ kept_few n exchanges = let left = length-drop (length exchanges - n) exchanges i
 pub kept_count : (n : ℕ) (exchanges : List Exchange) → min (length exchanges) n ≡ length (last_of n exchanges)
 kept_count n exchanges = let left = length-drop (length exchanges - n) exchanges in omega (arith, left)
 
--- a prefix of the text of answers and what stands behind them where a trace was asked for
+-- a prefix of the text of answers and what stands after them where a trace was asked for
 record FrontWithTrace (n : ℕ) (left : List ScriptEvent) (old new : Option (List ℕ)) (text : List ℕ) : Type 0 where
   text_behind : List ℕ
   traced : IsTraceBehind (Some n) left text_behind

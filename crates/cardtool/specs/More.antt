@@ -1,4 +1,4 @@
--- What is shown of the exchanges behind the answers.
+-- What is shown of the exchanges after the answers.
 use Rattle.std.specs.Prelude.{◌≤◌, ℕ, Option, None, Some}
 use Rattle.mmc_bus.specs.declared.trace.TheConstants.{MAX_KEPT}
 use Rattle.cardtool.specs.declared.more.Shown.{Shown}
@@ -10,7 +10,7 @@ IsShown Nothing = Unit {0}
 IsShown (Trace n) = (1 ≤ n) × (n ≤ MAX_KEPT)
 IsShown (Explained n) = (1 ≤ n) × (n ≤ MAX_KEPT)
 
--- the trace behind the answers: exchanges that are explained are none
+-- the trace after the answers: exchanges that are explained are none
 abbrev pub trace_of : Shown → Option ℕ
 trace_of Nothing = None
 trace_of (Trace n) = Some n

@@ -1,4 +1,4 @@
--- A script that is served on a device: the events of the machine behind it, what they print, and how requests fared.
+-- A script that is served on a device: the events of the machine after it, what they print, and how requests fared.
 use Rattle.std.specs.Prelude.{◌≡◌, ℕ, ◌+◌, ◌-◌, ◌==◌, if◌then◌else◌, length, List, [], ◌∷◌, ◌++◌, Bool, true}
 use Rattle.std.specs.Prelude.{false, ◌||◌, Option, Result, Ok, Err, IfOk}
 use Rattle.std.specs.Io.KnownBytes.{Appends}
@@ -31,7 +31,7 @@ due_events pending [] = []
 due_events pending (Run ∷ script) = if pending == 0 then due_events pending script else Run ∷ script
 due_events pending (event ∷ script) = event ∷ script
 
--- what is left behind an event: a `run` goes on
+-- what is left after an event: a `run` goes on
 abbrev pub events_behind : ScriptEvent → List ScriptEvent → List ScriptEvent
 events_behind Run script = Run ∷ script
 events_behind event script = script
@@ -76,7 +76,7 @@ text_of (MachineCancel ticket) InService = uncancelled_text ticket fault.InServi
 text_of (MachineCancel ticket) Unknown = uncancelled_text ticket fault.Unknown
 text_of event reply = []
 
--- the lines of all events, one behind the other
+-- the lines of all events, one after the other
 unfoldable pub texts : List MachineEvent → List Reply → List ℕ
 texts (e ∷ es) (r ∷ rs) = text_of e r ++ texts es rs
 texts _ _ = []

@@ -1,4 +1,4 @@
--- The whole: a script that is served, the text of its answers, the trace behind it, and the status.
+-- The whole: a script that is served, the text of its answers, the trace after it, and the status.
 use Rattle.std.specs.Prelude.{◌≡◌, ◌+◌, ◌-◌, ◌*◌, ◌≤◌, ℕ, List, [], ◌∷◌, ◌++◌, codes, length, Bool, false, true, Option}
 use Rattle.std.specs.Prelude.{None, Some, Result, Ok, Err, if◌then◌else◌}
 use Rattle.std.specs.Fmt.{decimal}
@@ -53,7 +53,7 @@ is_unopened Unsupported = true
 is_unopened Locked = true
 is_unopened _ = false
 
--- the exit status, or the fault of a write behind it
+-- the exit status, or the fault of a write after it
 abbrev pub ended_by : {E : Type 0} → ℕ → Result Unit E → Result ℕ ServeFault
 ended_by status (Ok x) = Ok status
 ended_by status (Err e) = Err Write
@@ -73,7 +73,7 @@ pub record IsTrace (most : ℕ) (text : List ℕ) : Type 0 where
   pub framed : All HasItsFrame exchanges
   pub text_is : text ≡ trace_text exchanges
 
--- What stands behind the answers: with a trace its text, but nothing while events are left.
+-- What stands after the answers: with a trace its text, but nothing while events are left.
 abbrev pub IsTraceBehind : Option ℕ → List ScriptEvent → List ℕ → Type 0
 IsTraceBehind None left text = text ≡ []
 IsTraceBehind (Some n) (event ∷ left) text = text ≡ []
@@ -118,7 +118,7 @@ ExecutedInAnyProfile made info before later fell script left events replies =
     (in_profile : Bool) → (in_profile ≡ true → InProfile made)
     → ExecutionOverSectors info in_profile before later fell script left events replies
 
--- The script was served and its text went out, with the trace behind it, and the status tells how its requests fared.
+-- The script was served and its text went out, with the trace after it, and the status tells how its requests fared.
 pub record IsServedToItsEnd (limits : Lines) (made : Made) (before later : Sets) (fell : ℕ) (script : List ScriptEvent)
     (trace : Option ℕ)
     (old new : Option (List ℕ)) (status : ℕ) : Type 0 where
@@ -127,7 +127,7 @@ pub record IsServedToItsEnd (limits : Lines) (made : Made) (before later : Sets)
   pub events : List MachineEvent
   pub replies : List Reply
   pub execution : ExecutedInAnyProfile made info before later fell script [] events replies
-  -- what was printed behind the answers
+  -- what was printed after the answers
   pub text_behind : List ℕ
   pub traced : IsTraceBehind trace [] text_behind
   pub printed : Appends old new (texts events replies ++ text_behind)
@@ -143,7 +143,7 @@ pub record IsServedInPart (limits : Lines) (made : Made) (before later : Sets) (
   -- what of the script wasn't served
   pub left : List ScriptEvent
   pub execution : ExecutedInAnyProfile made info before later fell script left events replies
-  -- what is printed behind the answers
+  -- what is printed after the answers
   pub text_behind : List ℕ
   pub traced : IsTraceBehind trace left text_behind
   pub printed : AppendsFront old new (texts events replies ++ text_behind)

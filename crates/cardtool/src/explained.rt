@@ -1,4 +1,4 @@
-// The trace with words behind each of its lines, and what was met and healed.
+// The trace with words after each of its lines, and what was met and healed.
 use crate::watched::WatchedCard;
 use card_served::ServeFault;
 use exchange_words::{KnownCard, Note, put_lines};
@@ -24,7 +24,7 @@ pub fn known_card(spec: &CardSpec) -> KnownCard {
     }
 }
 
-/// What is explained behind the answers.
+/// What is explained after the answers.
 #[derive(Drop)]
 pub struct Kept {
     /// The exchanges, the oldest first.
@@ -112,7 +112,7 @@ fn put_healed<W: Write>(out: &mut W, healed: &Healed) -> io::Result<()> {
     )
 }
 
-/// Writes `trace K` and a line for each of the exchanges that were kept, with words behind it and the fault that was planned for it;
+/// Writes `trace K` and a line for each of the exchanges that were kept, with words after it and the fault that was planned for it;
 /// then what was met and healed.
 ///
 /// # Errors

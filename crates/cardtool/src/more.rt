@@ -16,14 +16,14 @@ use mmc_bus::Bus;
 use std::alloc::Global;
 use std::io::{self, Write};
 
-/// What is shown of the exchanges behind the answers.
+/// What is shown of the exchanges after the answers.
 #[derive(Clone, Copy, Debug, PartialEq, Eq)]
 pub enum Shown {
     /// Nothing.
     Nothing,
     /// The last so many, a line each.
     Trace(u32),
-    /// The same, with words behind each line.
+    /// The same, with words after each line.
     Explained(u32),
 }
 

@@ -36,7 +36,7 @@ pub fn serve_buffered<R: Print + AllocGlobal, C: Read, S: Read, I: Read>(
     }
 }
 
-// What is shown behind the answers: without a number the most that a trace keeps, where it is to be explained.
+// What is shown after the answers: without a number the most that a trace keeps, where it is to be explained.
 fn shown(options: &Options<'_>) -> Shown
     ensures { IsShown result }
 {

@@ -1,4 +1,4 @@
-// The trace behind the answers: the last exchanges that a bus has kept.
+// The trace after the answers: the last exchanges that a bus has kept.
 ghost use Rattle.std.specs.Prelude.{◌≡◌, ◌≤◌, IfErr, IfOk, List, None, Option, Some, [], length, ℕ};
 ghost use Rattle.std.specs.List.{All};
 ghost use Rattle.text_out.specs.Writing.{Writes};
@@ -65,7 +65,7 @@ fn ended(status: u8, printed: io::Result<()>) -> Result<u8, ServeFault>
     }
 }
 
-/// Writes the trace behind what was served without it.
+/// Writes the trace after what was served without it.
 pub fn end_with_trace<B: Bus, W: Write>(
     bus: &TraceBus<B>,
     n: u32,

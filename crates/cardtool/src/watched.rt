@@ -27,7 +27,7 @@ impl WatchedCard {
         }
     }
 
-    // Notes an exchange, where more faults have fallen behind it.
+    // Notes an exchange, where more faults have fallen after it.
     fn note(&mut self, exchange: u64, faults: u64)
         ensures card { self.new.card ≡ self.old.card }
         ensures noted { Notes exchange faults self.old self.new }

@@ -6,9 +6,8 @@
 
 ghost use Rattle.std.specs.Prelude.{◌+◌, ◌≡◌, ◌≤◌, [], IfErr, IfOk, OnErr, false, ℕ};
 ghost use Rattle.mmc_card.specs.Profile.{InProfile};
-ghost use Rattle.mmc_block.specs.Any.{submitted_reply};
 ghost use Rattle.mmc_block.specs.Device.{AgreesCounted, Comes, IsOpened};
-ghost use Rattle.mmc_block.specs.Execution.{Counted, CountedSteps};
+ghost use Rattle.mmc_block.specs.Execution.{Counted, CountedSteps, submitted_reply};
 ghost use Rattle.mmc_block.specs.Execution.Event.{Submit, Turn};
 ghost use Rattle.mmc_block.specs.Execution.Reply.{Answers as Gives};
 ghost use Rattle.mmc_story.specs.Story.{IsTrueOf};

@@ -23,7 +23,7 @@ unfolding right_check
 check_behind_zeros frame register is =
     ap (λ r. slice_index r 15 / 2) is ∙ halved _ ∙ behind_zeros _ _ _ _ _
 
--- the fields, and behind them whether the check fits
+-- the fields, and after them whether the check fits
 pub check_behind : {E : Type 0} (r : Result Unit E) (old mid new fields : List ℕ) (check right fits : ℕ) → right ≡ fits
     → mid ≡ old ++ fields → OnOk r (new ≡ mid ++ check_text check right)
     → OnOk r (new ≡ old ++ (fields ++ check_text check fits))

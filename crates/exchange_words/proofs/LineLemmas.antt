@@ -21,7 +21,7 @@ lines_at card is_app xs i none lt =
     ∙ ap (λ n. explained card is_app (get_or xs i none).0 (get_or xs i none).1
     ++ lines_from card (announces (get_or xs i none).0) (drop n xs)) (sym (add-one i))
 
--- one line more, behind what was written so far
+-- one line more, after what was written so far
 pub lines_step : (card : KnownCard) (is_app : Bool) (xs : List (Exchange × Option Note)) (i : ℕ)
     (none : Exchange × Option Note) (all out new : List ℕ) → i < length xs
     → all ≡ out ++ lines_from card is_app (drop i xs)

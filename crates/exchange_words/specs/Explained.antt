@@ -1,4 +1,4 @@
--- A line of a trace with words behind it.
+-- A line of a trace with words after it.
 use Rattle.std.specs.Prelude.{ℕ, ◌-◌, Bool, List, [], ◌∷◌, ◌++◌, codes, if◌then◌else◌, length, replicate, take, Option, None, Some}
 use Rattle.mmc_bus.specs.ExchangeText.{exchange_text}
 use Rattle.mmc_card.specs.declared.exchange.Exchange.{Exchange}
@@ -12,7 +12,7 @@ use Rattle.exchange_words.specs.declared.line.TheConstants.{COLUMN}
 abbrev pub front_of : List ℕ → List ℕ
 front_of line = take (length line - 1) line
 
--- a text with spaces behind it, up to this column
+-- a text with spaces after it, up to this column
 abbrev pub padded : ℕ → List ℕ → List ℕ
 padded column text = text ++ replicate (column - length text) 32
 
@@ -27,7 +27,7 @@ explained card is_app exchange note =
     padded COLUMN (front_of (exchange_text exchange))
     ++ (codes " " ++ (exchange_words card is_app exchange ++ (note_words note ++ (10 ∷ []))))
 
--- Each exchange behind the one before it, which may announce an application command.
+-- Each exchange after the one before it, which may announce an application command.
 unfoldable pub lines_from : KnownCard → Bool → List (Exchange × Option Note) → List ℕ
 lines_from card is_app [] = []
 lines_from card is_app ((exchange, note) ∷ others) =

@@ -48,7 +48,7 @@ abbrev pub error_name : CommandError → List ℕ
 error_name ComCrc = codes " crc"
 error_name Illegal = codes " illegal"
 
--- a position behind a space, where there is one
+-- a position after a space, where there is one
 abbrev pub position_text : Option ℕ → List ℕ
 position_text None = []
 position_text (Some position) = codes " " ++ decimal position
@@ -57,7 +57,7 @@ position_text (Some position) = codes " " ++ decimal position
 abbrev pub flips_text : Flips → List ℕ
 flips_text flips = codes " " ++ (decimal flips.first ++ position_text flips.second)
 
--- what stands behind the first word
+-- what stands after the first word
 abbrev pub details_text : Fault → List ℕ
 details_text (FlipCommand flips) = flips_text flips
 details_text (FlipReply flips) = flips_text flips

@@ -43,7 +43,7 @@ back_text last =
 unfoldable pub head_text : ℕ → List ℕ
 head_text first = start_text first ++ (transmission_text first ++ index_text first)
 
--- those behind it: the argument's bytes, the argument, and the last byte
+-- those after it: the argument's bytes, the argument, and the last byte
 unfoldable pub tail_text : Kind → ℕ → List ℕ → ℕ → ℕ → List ℕ
 tail_text kind first bytes argument last = argument_text bytes ++ (meaning_words kind first argument ++ back_text last)
 
@@ -59,7 +59,7 @@ abbrev pub covered : List ℕ → List ℕ
 covered frame =
     (slice_index frame 0 % 128) ∷ slice_index frame 1 ∷ slice_index frame 2 ∷ slice_index frame 3 ∷ slice_index frame 4 ∷ []
 
--- the check that fits them: the remainder of their bits with seven zeros behind them
+-- the check that fits them: the remainder of their bits with seven zeros after them
 unfoldable pub right_check : List ℕ → ℕ
 right_check frame = remainder (bits_of (covered frame) ++ replicate 7 false)
 

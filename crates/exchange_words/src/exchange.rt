@@ -24,7 +24,7 @@ pub struct KnownCard {
     pub addressing: Addressing,
 }
 
-/// Whether the command behind this exchange is an application command: CMD55 was answered by an R1 that has bit 5, APP_CMD
+/// Whether the command after this exchange is an application command: CMD55 was answered by an R1 that has bit 5, APP_CMD
 /// (SD Physical Layer 6.00, section 4.3.9).
 pub fn announces_application_command(exchange: &Exchange) -> bool
     ensures { result ≡ announces exchange.now }

@@ -73,7 +73,7 @@ fn put_flips(out: &mut Vec<u8>, flips: Flips) -> Result<(), AllocError>
     }
 }
 
-/// Writes a fault as a card file has it behind the number of its exchange, as `lose-status old`.
+/// Writes a fault as a card file has it after the number of its exchange, as `lose-status old`.
 ///
 /// # Errors
 /// `AllocError` where memory is refused.

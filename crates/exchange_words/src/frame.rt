@@ -121,7 +121,7 @@ fn put_head(out: &mut Vec<u8>, first: u8) -> Result<(), AllocError>
     put_index(out, first)
 }
 
-// Those behind it.
+// Those after it.
 #[tactic(auto, unfolding(crate::specs::Frames::tail_text))]
 fn put_tail(
     out: &mut Vec<u8>,
@@ -177,7 +177,7 @@ fn put_check(out: &mut Vec<u8>, check: u8, right: u8) -> Result<(), AllocError>
     )
 }
 
-/// Writes the fields of a frame of 48 bits, a line each, with its command, or with the card status that it has as an R1; and behind
+/// Writes the fields of a frame of 48 bits, a line each, with its command, or with the card status that it has as an R1; and after
 /// them whether its check fits (SD Physical Layer 6.00, sections 4.7.2 and 4.9; JESD84-B51, sections 6.10.1 and 6.12).
 ///
 /// # Errors

@@ -1,4 +1,4 @@
-// A line of a trace with words behind it.
+// A line of a trace with words after it.
 ghost use Rattle.std.specs.Prelude.{IfOk, OnOk, Some, ◌++◌, ◌≡◌};
 ghost use Rattle.mmc_bus.specs.ExchangeText.{exchange_text};
 ghost use Rattle.exchange_words.specs.Explained.{explained, front_of, note_words, padded};
@@ -54,7 +54,7 @@ fn put_note(out: &mut Vec<u8>, note: Option<Note>) -> Result<(), AllocError>
     put_fault(out, note.fault)
 }
 
-/// Writes the line of an exchange as a trace has it, with the exchange in words behind it, and the fault that was planned for it.
+/// Writes the line of an exchange as a trace has it, with the exchange in words after it, and the fault that was planned for it.
 ///
 /// # Errors
 /// `AllocError` where memory is refused.

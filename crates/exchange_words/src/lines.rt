@@ -1,4 +1,4 @@
-// The lines of a trace with words behind them.
+// The lines of a trace with words after them.
 ghost use Rattle.std.specs.Prelude.{OnOk, false, ◌++◌, ◌≡◌};
 ghost use Rattle.exchange_words.specs.Explained.{lines_from};
 

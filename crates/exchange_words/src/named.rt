@@ -6,7 +6,7 @@ use mmc_card::Command;
 use mmc_frame::Kind;
 use mmc_frame::commands::*;
 
-/// The command that this index (0 to 63) names to a card of this kind, behind CMD55 or not.
+/// The command that this index (0 to 63) names to a card of this kind, after CMD55 or not.
 pub(crate) fn named(kind: Kind, is_app: bool, index: u8) -> Command
     ensures { result ≡ command_of kind is_app index }
 {

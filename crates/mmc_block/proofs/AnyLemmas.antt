@@ -121,7 +121,7 @@ start_of_waits old left (Idle link) new (inr s) =
 start_of_waits old left (Serving stage attempt) new s = inl (rw (s.0, s.1) (refl, refl))
 start_of_waits old left Taken new s = absurd s
 
--- of requests by ticket none passes one behind it
+-- of requests by ticket none passes one after it
 passes_behind : (w : Waiting) (low : ℕ) (ws : List Waiting) (next : ℕ) → w.ticket < low → AreInOrder low ws next
     → PassesNone w ws
 passes_behind w low [] next above order = tt

@@ -1,6 +1,6 @@
 -- A run may begin for a group whose requests may be served.
 use Rattle.std.proofs.Common.{◌+◌, ◌-◌, ◌∙◌, ◌∷◌, ◌≡◌, ◌≤◌, List, Some, [], ap, arith, false, inl, inr, length, refl, subst, sym, true}
-use Rattle.mmc_card.specs.RowsErase.{is_boot}
+use Rattle.mmc_card.specs.Sectors.{is_boot}
 use Rattle.mmc_erase.specs.Job.{suits}
 use Rattle.mmc_erase.specs.declared.how.How.{How}
 use Rattle.mmc_erase.specs.declared.how.How.TheVariants as how

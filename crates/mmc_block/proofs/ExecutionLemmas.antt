@@ -7,7 +7,7 @@ use Rattle.mmc_block.specs.Execution.{Counted, IsCountedExecution, CountedSteps,
 use Rattle.mmc_block.specs.Execution.Event.{Cancel, Submit, Turn}
 use Rattle.mmc_block.specs.Execution.Reply.{Accepted, Answers, GivenBack, InService, RefusedFor, Unknown}
 
--- steps behind others
+-- steps after others
 pub follow_then : {S : Type 0} (Does : S → Event → Reply → S → Type 0) (old : S) (es : List Event) (rs : List Reply)
     (mid : S) (fs : List Event) (ss : List Reply) (new : S)
     → Follow Does old es rs mid → Follow Does mid fs ss new → Follow Does old (es ++ fs) (rs ++ ss) new

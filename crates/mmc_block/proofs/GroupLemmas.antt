@@ -28,7 +28,7 @@ only_one x v (inr n) = absurd n
 pub one_decided : (x : Sector) → IsDecided (x ∷ [])
 one_decided x v w p q = only_one x v p ∙ sym (only_one x w q)
 
--- all values that a sector may hold keep their place behind these
+-- all values that a sector may hold keep their place after these
 abbrev pub KeepsIn : (List Sector → List Sector) → Type 0
 KeepsIn W = (xs : List Sector) (v : Sector) → IsIn xs v → IsIn (W xs) v
 
@@ -36,7 +36,7 @@ one_more : (b : Bool) (x : Sector) → KeepsIn (λ xs. cond b (x ∷ xs) xs)
 one_more true x xs v h = inr h
 one_more false x xs v h = h
 
--- Effects, one behind the other.
+-- Effects, one after the other.
 
 -- with the new value of each of these that changes the sector
 abbrev pub with_new : Info → List Waiting → Part → ℕ → List Sector → List Sector

@@ -63,7 +63,7 @@ failed_at broken [] others service cs after = absurd after
 failed_at broken (e ∷ []) others service cs after = next_at (Down broken) others service after.0
 failed_at broken (e ∷ f ∷ es) others service cs after = next_at (Down broken) (e ∷ f ∷ es) service after.0
 
--- The outcome of a step is what the device shows behind it.
+-- The outcome of a step is what the device shows after it.
 record Shows (o : Progress Stage) (service : Service) (cs : List Completion) (healed : Healed) : Type 0 where
   pub counted : after_outcome o healed ≡ after_attempt (broken_in service) cs healed
   pub ready : ready_then o ≡ ready_in service

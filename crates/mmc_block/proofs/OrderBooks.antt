@@ -6,8 +6,7 @@ use Rattle.mmc_block.specs.declared.completion.Answer.{Answer}
 use Rattle.mmc_block.specs.declared.completion.Completion.{Completion}
 use Rattle.mmc_switch.specs.declared.info.Info.{Info}
 use Rattle.mmc_queue.specs.declared.request.Request.{Request}
-use Rattle.mmc_block.specs.Machine.{Completes, GivesBack, Machine, PassesNone, Starts, StartsIfIdle, Waiting}
-use Rattle.mmc_block.specs.MachineLaws.{IsAmong}
+use Rattle.mmc_block.specs.Machine.{Completes, GivesBack, IsAmong, Machine, PassesNone, Starts, StartsIfIdle, Waiting}
 use Rattle.mmc_queue.specs.Requests.{conflicts}
 use Rattle.mmc_block.proofs.OrderLemmas.{Ascending, among_back, among_counts, among_front, among_last, among_merged}
 use Rattle.mmc_block.proofs.OrderLemmas.{among_within, ascending_append}

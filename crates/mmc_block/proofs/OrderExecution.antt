@@ -14,9 +14,8 @@ use Rattle.mmc_queue.specs.declared.request.Request.{Request}
 use Rattle.mmc_block.specs.InOrder.{AreDecided, AreOrdered, Choices, EndsInOrder, IsInOrder, MayHold, answer_to}
 use Rattle.mmc_block.specs.InOrder.{answers, answers_in, below, effect_at, first_value, history, in_turn, submitted}
 use Rattle.mmc_block.specs.InOrder.{submitted_by}
-use Rattle.mmc_block.specs.Machine.{Accepts, Completes, CompletesAll, GivesBack, IsAnswered, Machine, StartsIfIdle}
+use Rattle.mmc_block.specs.Machine.{Accepts, Completes, CompletesAll, GivesBack, IsAmong, IsAnswered, Machine, StartsIfIdle}
 use Rattle.mmc_block.specs.Machine.{Turns, Waiting}
-use Rattle.mmc_block.specs.MachineLaws.{IsAmong}
 use Rattle.mmc_queue.specs.Requests.{count_of, part_of, start_of}
 use Rattle.mmc_block.specs.Execution.{Event, Reply, IsExecution, Steps}
 use Rattle.mmc_block.specs.Execution.Event.{Cancel, Submit, Turn}

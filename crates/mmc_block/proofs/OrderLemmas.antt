@@ -12,8 +12,7 @@ use Rattle.mmc_switch.specs.declared.info.Info.{Info}
 use Rattle.mmc_queue.specs.declared.request.Request.{Request}
 use Rattle.mmc_queue.specs.declared.request.Request.TheVariants.{Erase, Read, Trim, Write}
 use Rattle.mmc_block.specs.InOrder.{below, effect_at, in_turn, settled}
-use Rattle.mmc_block.specs.Machine.{IsMerged, Waiting}
-use Rattle.mmc_block.specs.MachineLaws.{IsAmong}
+use Rattle.mmc_block.specs.Machine.{IsAmong, IsMerged, Waiting}
 use Rattle.mmc_requests.specs.Changes.{erased_at}
 use Rattle.mmc_block.specs.Changes.{change_of}
 use Rattle.mmc_queue.specs.Requests.{Names, is_read}
@@ -88,7 +87,7 @@ one_ticket (x ∷ xs) v w a (inr h) (inl k) e = let l = a.0 v h in let i = ap (�
     absurd (omega (arith, l, i, e))
 one_ticket (x ∷ xs) v w a (inr h) (inr k) e = one_ticket xs v w a.1 h k e
 
--- Requests one behind the other.
+-- Requests one after the other.
 
 pub turn_append : (f : Waiting → Sector → Sector) (xs ys : List Waiting) (v : Sector) → in_turn f (xs ++ ys) v
     ≡ in_turn f ys (in_turn f xs v)
@@ -108,7 +107,7 @@ pub turn_idle : (f : Waiting → Sector → Sector) (ws : List Waiting)
 turn_idle f [] idle v = refl
 turn_idle f (w ∷ ws) idle v = turn_idle f ws (λ x h. idle x (inr h)) (f w v) ∙ idle w (inl refl) v
 
--- One request gets an effect, where none behind it has one: it comes last.
+-- One request gets an effect, where none after it has one: it comes last.
 pub turn_last : (f g : Waiting → Sector → Sector) (at : Waiting) (ws : List Waiting) → Ascending ws → IsAmong ws at
     → ((w : Waiting) → IsAmong ws w → w.ticket < at.ticket → (v : Sector) → g w v ≡ f w v)
     → ((w : Waiting) → IsAmong ws w → at.ticket ≤ w.ticket → (v : Sector) → f w v ≡ v)

@@ -11,8 +11,7 @@ use Rattle.mmc_block.specs.declared.completion.Answer.TheVariants.{Data, Done, F
 use Rattle.mmc_block.specs.declared.completion.Completion.{Completion}
 use Rattle.mmc_switch.specs.declared.info.Info.{Info}
 use Rattle.mmc_block.specs.InOrder.{below, effect_at, in_turn, settled}
-use Rattle.mmc_block.specs.Machine.{Completes, HasDecided, IsAnswered, Machine, Waiting}
-use Rattle.mmc_block.specs.MachineLaws.{IsAmong}
+use Rattle.mmc_block.specs.Machine.{Completes, HasDecided, IsAmong, IsAnswered, Machine, Waiting}
 use Rattle.mmc_block.specs.Changes.{change_of}
 use Rattle.mmc_queue.specs.Requests.{Names, conflicts, count_of, is_read, part_of, start_of}
 use Rattle.mmc_queue.proofs.ConflictLemmas.{conflict_at}

@@ -1,4 +1,4 @@
--- A request that is accepted: it waits behind all others.
+-- A request that is accepted: it waits after all others.
 use Rattle.std.proofs.Common.{◌++◌, ◌+◌, ◌<◌, ◌==◌, ◌∙◌, ◌∷◌, ◌≡◌, ◌≤◌, List, [], ap, arith, false, length}
 use Rattle.std.proofs.Common.{if◌then◌else◌, length-append, refl, sym, ℕ}
 use Rattle.std.proofs.lemmas.Bool.Decides.{nat_tests}

@@ -6,9 +6,9 @@ use Rattle.std.proofs.lemmas.Bool.Decides.{nat_tests}
 use Rattle.mmc_block.specs.declared.completion.Completion.{Completion}
 use Rattle.mmc_switch.specs.declared.info.Info.{Info}
 use Rattle.mmc_queue.specs.declared.request.Request.{Request}
-use Rattle.mmc_block.specs.Machine.{Accepts, Completes, CompletesAll, GivesBack, IsMerged, Machine, Starts}
+use Rattle.mmc_block.specs.Machine.{Accepts, Completes, CompletesAll, GivesBack, IsAmong, IsMerged, Machine, Starts}
 use Rattle.mmc_block.specs.Machine.{StartsIfIdle, Turns, Waiting}
-use Rattle.mmc_block.specs.MachineLaws.{AreNew, AreOpen, EachOnce, IsAmong, accepted_by, answered_by, ended_by, noted}
+use Rattle.mmc_block.specs.MachineLaws.{AreNew, AreOpen, EachOnce, accepted_by, answered_by, ended_by, noted}
 use Rattle.mmc_block.specs.Execution.{Event, Reply, IsExecution, Steps}
 use Rattle.mmc_block.specs.Execution.Event.{Cancel, Submit, Turn}
 use Rattle.mmc_block.specs.Execution.Reply.{Accepted, Answers, GivenBack, InService, RefusedFor, Unknown}

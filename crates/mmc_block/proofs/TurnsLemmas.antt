@@ -1,4 +1,4 @@
--- Turns one behind the other.
+-- Turns one after the other.
 use Rattle.std.proofs.Common.{◌*◌, ◌+◌, ◌++◌, ◌∙◌, ◌∷◌, ◌≡◌, ◌≤◌, List, [], ap, arith, append_assoc, append-nil, cond, length, length-append}
 use Rattle.std.proofs.Common.{inl, inr, refl, suc, subst, sym, true, zero, zero-add, ℕ}
 use Rattle.std.proofs.lemmas.List.{replicate-append-replicate}

@@ -1,3 +1,4 @@
+-- Headline (docs/AUDIT.md, "What to read").
 -- Which answers are failures.
 use Rattle.std.specs.Prelude.{◌+◌, ◌∷◌, Bool, List, [], false, if◌then◌else◌, true, ℕ}
 use Rattle.std.specs.List.{list_any}

@@ -1,19 +1,14 @@
--- What a turn does over any bus, and what a machine calls the answers of calls.
-use Rattle.std.specs.Prelude.{◌++◌, ◌*◌, ◌∷◌, ◌≡◌, ◌⊎◌, Bool, Err, List, Ok, Result, [], false, length, ℕ}
+-- What a turn does over any bus.
+use Rattle.std.specs.Prelude.{◌++◌, ◌*◌, ◌∷◌, ◌≡◌, ◌⊎◌, Bool, List, [], false, length, ℕ}
 use Rattle.mmc_bus.specs.declared.cause.Cause.{Cause}
 use Rattle.mmc_queue.specs.declared.request.Request.{Request}
 use Rattle.mmc_queue.specs.declared.request.Request.TheVariants.{Read}
 use Rattle.mmc_block.specs.Groups.{PassNone}
 use Rattle.mmc_block.specs.Machine.{IsMerged, Waiting}
-use Rattle.mmc_block.specs.Execution.{Reply}
-use Rattle.mmc_block.specs.Execution.Reply.{Accepted, GivenBack, InService, RefusedFor, Unknown}
 use Rattle.mmc_block.specs.Work.{is_down}
-use Rattle.mmc_block.specs.declared.cancel.CancelFault.{CancelFault}
-use Rattle.mmc_block.specs.declared.cancel.CancelFault.TheVariants as fault
 use Rattle.mmc_block.specs.declared.completion.Answer.{Answer}
 use Rattle.mmc_block.specs.declared.completion.Answer.TheVariants.{Data, Done, Failed}
 use Rattle.mmc_block.specs.declared.completion.Completion.{Completion}
-use Rattle.mmc_block.specs.declared.refused.Refused.{Refused}
 use Rattle.mmc_block.specs.Service.{Service}
 use Rattle.mmc_block.specs.Service.Service.{Idle, Serving, Taken}
 use Rattle.mmc_block.specs.declared.service.Stage.TheVariants.{At}
@@ -66,16 +61,3 @@ abbrev pub holds_broken : Service → Bool
 holds_broken (Idle link) = is_down (At link)
 holds_broken (Serving stage attempt) = is_down stage
 holds_broken Taken = false
-
--- Replies.
-
--- what the machine's events call the answer to a submission
-abbrev pub submitted_reply : Result ℕ (Request × Refused) → Reply
-submitted_reply (Ok ticket) = Accepted ticket
-submitted_reply (Err e) = RefusedFor e.1
-
--- and to a cancellation
-abbrev pub cancelled_reply : Result Request CancelFault → Reply
-cancelled_reply (Ok request) = GivenBack request
-cancelled_reply (Err fault.InService) = InService
-cancelled_reply (Err fault.Unknown) = Unknown

@@ -1,7 +1,6 @@
 -- Requests that wait or are in service, with the room for what they read.
 use Rattle.std.specs.Prelude.{◌≡◌, ◌+◌, ◌≤◌, IsSome, List, [], ◌∷◌, false, length, map, true, ℕ}
-use Rattle.mmc_card.specs.RowsErase.{is_boot}
-use Rattle.mmc_card.specs.Sectors.{AreRead, Sets, pieces}
+use Rattle.mmc_card.specs.Sectors.{AreRead, Sets, is_boot, pieces}
 use Rattle.mmc_erase.specs.Job.{suits}
 use Rattle.mmc_erase.specs.declared.how.How.TheVariants as How
 use Rattle.mmc_queue.specs.Requests.{can_merge, count_of, has_its_bytes, is_read, kind_of, part_of, room_of, start_of}

@@ -1,10 +1,12 @@
 -- Headline (docs/AUDIT.md, "What to read").
--- An execution of the sector machine: events with their replies, one behind the other.
-use Rattle.std.specs.Prelude.{◌+◌, ◌==◌, ◌∷◌, ◌≡◌, ◌≤◌, Bool, List, None, Option, Some, [], if◌then◌else◌, length, true, ℕ}
+-- An execution of the sector machine: events with their replies, one after the other.
+use Rattle.std.specs.Prelude.{◌+◌, ◌==◌, ◌∷◌, ◌≡◌, ◌≤◌, Bool, Err, List, None, Ok, Option, Result, Some, [], if◌then◌else◌, length, true, ℕ}
 use Rattle.mmc_block.specs.declared.completion.Answer.{Answer}
 use Rattle.mmc_block.specs.declared.completion.Answer.TheVariants.{Data, Done, Failed}
 use Rattle.mmc_block.specs.declared.completion.Completion.{Completion}
 use Rattle.mmc_switch.specs.declared.info.Info.{Info}
+use Rattle.mmc_block.specs.declared.cancel.CancelFault.{CancelFault}
+use Rattle.mmc_block.specs.declared.cancel.CancelFault.TheVariants as fault
 use Rattle.mmc_block.specs.declared.refused.Refused.{Refused}
 use Rattle.mmc_queue.specs.declared.request.Request.{Request}
 use Rattle.mmc_block.specs.Machine.{Accepts, GivesBack, IsTicketOf, Machine, AnswersAll, StartsIfIdle, Turns, Waiting}
@@ -24,6 +26,17 @@ pub data Reply : Type 0 where
   GivenBack : Request → Reply
   InService : Reply
   Unknown : Reply
+
+-- what this calls the answer to a submission
+abbrev pub submitted_reply : Result ℕ (Request × Refused) → Reply
+submitted_reply (Ok ticket) = Accepted ticket
+submitted_reply (Err e) = RefusedFor e.1
+
+-- and to a cancellation
+abbrev pub cancelled_reply : Result Request CancelFault → Reply
+cancelled_reply (Ok request) = GivenBack request
+cancelled_reply (Err fault.InService) = InService
+cancelled_reply (Err fault.Unknown) = Unknown
 
 -- Steps that follow each other.
 

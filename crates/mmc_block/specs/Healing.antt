@@ -82,7 +82,7 @@ with_all (noted ∷ others) healed = with_all others (with_noted noted healed)
 abbrev pub OnlyAdds : Healed → Healed → Type 0
 OnlyAdds old new = (noted : List Noted) × (new ≡ with_all noted old)
 
--- Within a turn: a step that has left this outcome, and what is decided behind it.
+-- Within a turn: a step that has left this outcome, and what is decided after it.
 
 abbrev pub ready_then : Progress Stage → Option Session
 ready_then (More stage) = ready_at stage

@@ -8,8 +8,7 @@ use Rattle.mmc_block.specs.declared.completion.Answer.{Answer}
 use Rattle.mmc_block.specs.declared.completion.Answer.TheVariants.{Data, Done, Failed}
 use Rattle.mmc_block.specs.declared.completion.Completion.{Completion}
 use Rattle.mmc_switch.specs.declared.info.Info.{Info}
-use Rattle.mmc_block.specs.Machine.{Waiting}
-use Rattle.mmc_block.specs.MachineLaws.{IsAmong}
+use Rattle.mmc_block.specs.Machine.{IsAmong, Waiting}
 use Rattle.mmc_block.specs.Changes.{change_of}
 use Rattle.mmc_queue.specs.Requests.{count_of, part_of, start_of}
 use Rattle.mmc_block.specs.Execution.{Event, Reply}
@@ -83,7 +82,7 @@ effect_at info part sector answer is_new w old =
 abbrev pub below : ℕ → (Waiting → Sector → Sector) → Waiting → Sector → Sector
 below ticket effect w old = if nat_lt w.ticket ticket then effect w old else old
 
--- one request behind the other
+-- one request after the other
 abbrev pub in_turn : (Waiting → Sector → Sector) → List Waiting → Sector → Sector
 in_turn effect [] value = value
 in_turn effect (w ∷ ws) value = in_turn effect ws (effect w value)

@@ -31,6 +31,11 @@ pub record Machine : Type 0 where
 abbrev pub opened : Sets → Machine
 opened sets = record { sets = sets; waits = []; in_service = []; next = 0 }
 
+-- it is one of these
+abbrev pub IsAmong : {A : Type 0} → List A → A → Type 0
+IsAmong [] x = ⊥
+IsAmong (y ∷ ys) x = (x ≡ y) ⊎ IsAmong ys x
+
 -- Effects.
 
 -- a request that is carried out changes its sectors

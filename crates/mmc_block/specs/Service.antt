@@ -105,7 +105,7 @@ IsInfoNow Taken info = Unit {0}
 abbrev pub work_then : Work → Standing → Progress Stage
 work_then work standing = progress_of (session_of work) (Running work) standing
 
--- The phase before a step and behind it.
+-- The phase before a step and after it.
 
 -- it is not in the hands of a call
 abbrev pub IsHere : Phase → Type 0

@@ -45,10 +45,9 @@ fn is_in_service(phase: &Phase, attempt: &Attempt, ticket: u64) -> bool
 }
 
 impl<B: Bus> BlockDev<B> {
-    ghost use Rattle.mmc_block.specs.Any.{cancelled_reply};
     ghost use Rattle.mmc_block.specs.declared.cancel.CancelFault.TheVariants.{InService, Unknown};
     ghost use Rattle.mmc_block.specs.Device.{Comes, Withdraws};
-    ghost use Rattle.mmc_block.specs.Execution.{Counted, CountedSteps};
+    ghost use Rattle.mmc_block.specs.Execution.{Counted, CountedSteps, cancelled_reply};
     ghost use Rattle.mmc_block.specs.Execution.Event.{Cancel};
 
     /// Gives back a request that waits. Nothing is sent, and it takes no memory.

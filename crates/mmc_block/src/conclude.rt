@@ -157,7 +157,7 @@ fn over(phase: &mut Phase, attempt: &mut Attempt, answers: &mut Completions)
 }
 
 /// What follows a step, which is the phase then, and the answers. Where the attempt goes on, or is done and nobody is to be served
-/// alone behind it, the phase isn't moved. It takes no memory.
+/// alone after it, the phase isn't moved. It takes no memory.
 pub fn conclude(phase: &mut Phase, attempt: &mut Attempt, answers: &mut Completions)
     requires here { IsHere phase.old }
     requires tried { IsTried attempt.old answers.old.items }

@@ -11,7 +11,7 @@ use mmc_bus::Bus;
 use mmc_transfer::Pace;
 use std::alloc::{AllocError, Global};
 
-// Moves answers behind others, for which there is room.
+// Moves answers after others, for which there is room.
 fn append(all: &mut Vec<Completion>, answers: &mut Completions)
     requires room { vec_len all.old + length answers.old.items ≤ vec_capacity all.old }
     ensures items { all.new.items ≡ all.old.items ++ answers.old.items }

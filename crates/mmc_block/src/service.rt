@@ -110,7 +110,7 @@ impl Attempt {
 /// What the device is at.
 #[derive(Debug, Drop)]
 pub enum Phase {
-    /// Nothing is in service, and the attempt has no requests; behind a step, whose attempt is over, those that it was made for.
+    /// Nothing is in service, and the attempt has no requests; after a step, whose attempt is over, those that it was made for.
     Idle(Link),
     /// The attempt is in service.
     Serving(Stage),

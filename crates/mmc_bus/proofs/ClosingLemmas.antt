@@ -218,7 +218,7 @@ asked_out kind rca most r old now err some p =
           absurd (omega (arith, few, all, enough));
     }
 
--- Polls, and statuses behind them.
+-- Polls, and statuses after them.
 
 rested_by : (b : Bool) (x y : Card) (polls : ℕ)
     → cond b (polled_as x polls) (polled_as y polls) ≡ polled_as (cond b x y) polls

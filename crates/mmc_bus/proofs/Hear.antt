@@ -419,7 +419,7 @@ record WriteWays (old : BusView) (block : Sector) (got : DataOut) (new : BusView
       → (got ≡ Sent.Accepted) × (new.card ≡ accepted block old.card)
   refuses : NoFault old new → can_accept old.lines old.card ≡ false → (got ≡ Sent.Nothing) × (new.card ≡ old.card)
 
--- the block behind an accepted one is for the next sector
+-- the block after an accepted one is for the next sector
 one_further : (card : Card) (block : Sector) → next_written (accepted block card) ≡ next_written card + 1
 one_further card block = let long = snoc_length card.values block in omega (arith, long)
 

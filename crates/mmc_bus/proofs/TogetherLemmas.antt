@@ -73,7 +73,7 @@ module _ {V : Type 0} {Writes Offers : V → List ℕ → DataOut → V → Type
       writes_none some view ready got next (accepted_as some view before) (rests_as finds some view ready rests) below not
       (each ready next got _ written)
 
--- What was lent: blocks were left in it one behind the other, and no more than there are.
+-- What was lent: blocks were left in it one after the other, and no more than there are.
 
 abbrev pub WritesOne : {S : Type 0} → (S → List (List ℕ)) → (S → ℕ → List ℕ → S) → Type 0
 WritesOne {S} blocks leave =

@@ -1,4 +1,4 @@
--- Parts of a host's work, and two of them one behind the other.
+-- Parts of a host's work, and two of them one after the other.
 use Rattle.std.proofs.Common.{◌<◌, ◌∙◌, ◌≡◌, arith, inl, inr, refl, subst, true, ℕ}
 use Rattle.std.proofs.lemmas.Bool.{cases_lt}
 use Rattle.std.specs.Prelude.{Err, IsErr, IsOk, None, Ok, Result, Some}
@@ -108,7 +108,7 @@ command_worked {old} {new} asked none of_run kept own fine =
     done_by old new k k.step.stays (record { lines = e.lines; stands = k.step.stands of_run })
     (rw none at k.step.narrows) own fine
 
--- one part behind the other
+-- one part after the other
 pub joined : {Holds Own Fine More Gained Easy All Whole Calm : BusView → BusView → Type 0} (a b c : BusView)
     → Worked Holds Own Fine a b
     → Worked More Gained Easy b c → All a c → Whole a c → (NoFault a c → Calm a c) → Worked All Whole Calm a c
@@ -136,7 +136,7 @@ moved_by old index argument heard new none k own fine =
     done_by old new k k.step.stays tt
     (subst (λ e. Within (holds new.card) (maybe_erased e (holds old.card))) none k.step.narrows) own fine
 
--- one part behind the other
+-- one part after the other
 pub moved_then : {Stands Own Fine Set More Easy All Calm : BusView → BusView → Type 0} (a b c : BusView)
     → Done Stands Narrows Own Fine a b → Done Set Narrows More Easy b c → All a c → (NoFault a c → Calm a c)
     → Moved All Calm a c

@@ -1,3 +1,4 @@
+-- Relation (docs/AUDIT.md, "What to read").
 -- What one call does with a command and the blocks after it: the same exchanges, one after the other.
 use Rattle.std.specs.Prelude.{◌+◌, ◌<◌, ◌≡◌, ◌≤◌, IsErr, List, Result, Some, [], false, length, slice_index_or, suc, true, zero, ℕ}
 use Rattle.mmc_frame.specs.Frame.{command_in}

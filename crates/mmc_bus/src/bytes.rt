@@ -103,7 +103,7 @@ impl Blocks for Bytes {
 
     ghost blocks = { blocks_in };
 
-    /// Whole blocks: bytes behind the last one aren't lent.
+    /// Whole blocks: bytes after the last one aren't lent.
     fn len(&self) -> usize {
         self.as_slice().len() / 512
     }

@@ -110,7 +110,7 @@ pub fn cmd9_tells_the_csd()
     laws::register_comes_back();
 }
 
-/// CMD13, SEND_STATUS: an identified card tells its status, and holds no error after it. Behind CMD7, CMD12 and its programming
+/// CMD13, SEND_STATUS: an identified card tells its status, and holds no error after it. After CMD7, CMD12 and its programming
 /// the status may lag, and errors may show later still.
 pub fn cmd13_tells_the_status()
     ensures { (old new : BusView) (argument : ℕ) (heard : Result ℕ Unheard)
@@ -120,7 +120,7 @@ pub fn cmd13_tells_the_status()
 {}
 
 /// ACMD41, SD_SEND_OP_COND: a card in idle tells its OCR, and says to a host that serves it at most fifteen times that it
-/// isn't ready, when its window may be empty. Only an SD card answers, and only behind CMD55.
+/// isn't ready, when its window may be empty. Only an SD card answers, and only after CMD55.
 pub fn acmd41_asks_an_sd_card_whether_it_is_ready()
     ensures { (old new : BusView) (argument : ℕ) (heard : Result ℕ Unheard)
         → CommandFacts ocr_of old Index.SD_SEND_OP_COND argument heard new → IsCard old.card

@@ -144,7 +144,7 @@ fn confirm_within<B: Bus>(bus: &mut B, kind: Kind, rca: u16, most: u64) -> Resul
 }
 
 /// Waits until the card with this RCA isn't busy, and asks for its status, which has to be clean: that alone tells that
-/// what made it busy has ended well. Behind the last poll a status may still show the card at work; it is asked again, so
+/// what made it busy has ended well. After the last poll a status may still show the card at work; it is asked again, so
 /// that polls and statuses together say at most `MAX_POLLS` times that it is.
 ///
 /// # Errors

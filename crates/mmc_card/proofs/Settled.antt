@@ -29,7 +29,8 @@ use Rattle.mmc_card.specs.declared.command.Command.TheVariants.{StopTransmission
 use Rattle.mmc_card.specs.declared.command.Command.TheVariants.{WriteBlock, WriteMultipleBlock}
 use Rattle.mmc_card.specs.Rows.{answered, is_legal, leaves_erase, reached, responded, row}
 use Rattle.mmc_card.specs.RowsErase.{erase_held, erased_from, erased_to, forgotten, hold_first, hold_last}
-use Rattle.mmc_card.specs.RowsErase.{holds_address, is_boot, is_no_range, is_trim}
+use Rattle.mmc_card.specs.RowsErase.{holds_address, is_no_range, is_trim}
+use Rattle.mmc_card.specs.Sectors.{is_boot}
 use Rattle.mmc_card.specs.RowsIdentify.{inquired, is_served, may_lag}
 use Rattle.mmc_card.specs.RowsSwitch.{switch_row, switched}
 use Rattle.mmc_card.specs.RowsTransfer.{begun, preset, transfer_errors, transferred, write_errors}
@@ -326,7 +327,7 @@ room lines c h =
     below_of (next_written c) (length (stored c c.part))
     (both (awaits c.left) _ (both (lines_fit lines c) _ (both (not c.is_busy) _ (both (is_in c.state Rcv) _ h).1).1).1).1
 
--- behind blocks that turned out not to be programmed the card accepts what it would have accepted
+-- after blocks that turned out not to be programmed the card accepts what it would have accepted
 pub accepts_still : (lands : ℕ → Bool) (lines : Lines) (c : Card) → can_accept lines c ≡ true
     → can_accept lines (fallen_short lands c) ≡ true
 accepts_still lands lines c h =

@@ -1,4 +1,4 @@
--- Headline (docs/AUDIT.md, "What to read").
+-- Relation (docs/AUDIT.md, "What to read").
 -- Polls, and blocks that are read and written (SD Physical Layer 6.00, sections 4.3.3 and 4.3.4; JESD84-B51, sections
 -- 6.6.7 and 6.6.8). What makes a card busy, and for how long, is the project's own.
 use Rattle.std.specs.Prelude.{◌&&◌, ◌++◌, ◌+◌, ◌-◌, ◌==◌, ◌∷◌, ◌≡◌, Bool, List, None, Option, Some, [], false, if◌then◌else◌}
@@ -49,7 +49,7 @@ one_less None = None
 
 -- Writing.
 
--- More blocks are to come: no count is reached, and the card ignores none behind a rejected one.
+-- More blocks are to come: no count is reached, and the card ignores none after a rejected one.
 abbrev pub awaits : Option ℕ → Bool
 awaits (Some left) = nat_lt 0 left
 awaits None = true
@@ -91,7 +91,7 @@ rejected ignores is_busy card =
     if ignores then ignoring true card else if card.is_single then over is_busy card else card
 
 -- An earlier block of the write turns out not to be programmed, once the card isn't busy any more: of what has come so far
--- these values have landed, and the transfer goes on behind it (SD Physical Layer 6.00, section 4.3.4).
+-- these values have landed, and the transfer goes on after it (SD Physical Layer 6.00, section 4.3.4).
 abbrev pub fallen_short : (ℕ → Bool) → Card → Card
 fallen_short lands card =
     record card { is_busy = false; polled = 0; sectors = landed lands card; start = next_written card; values = [] }
@@ -129,7 +129,7 @@ can_send lines size card = is_in card.state Data && (lines_fit lines card && is_
 abbrev pub will_send : Choice → Lines → ℕ → Card → Bool
 will_send choice lines size card = not (choice.is_slow && card.is_busy) && can_send lines size card
 
--- behind the last sector of an uncounted read OUT_OF_RANGE may be set
+-- after the last sector of an uncounted read OUT_OF_RANGE may be set
 abbrev pub is_none : Option ℕ → Bool
 is_none None = true
 is_none (Some left) = false

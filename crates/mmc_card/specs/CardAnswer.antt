@@ -1,4 +1,4 @@
--- Headline (docs/AUDIT.md, "What to read").
+-- Relation (docs/AUDIT.md, "What to read").
 -- What a card shows of itself in a response, and what it does with the error bits that it has shown.
 -- When error bits are raised, shown and cleared is the project's own choice, made here once.
 use Rattle.std.specs.Prelude.{◌%◌, ◌*◌, ◌+◌, ◌-◌, ◌^◌, Bool, List, bit_or, false, if◌then◌else◌, min, not, true, ℕ}
@@ -21,9 +21,9 @@ pub data CardAnswer : Type 0 where
 pub record Choice : Type 0 where
   -- not ready yet, or busy still
   pub is_slow : Bool
-  -- which values of an unfinished transfer have landed, each by how many stand behind it
+  -- which values of an unfinished transfer have landed, each by how many stand after it
   pub lands : ℕ → Bool
-  -- OUT_OF_RANGE behind the last sector of a partition
+  -- OUT_OF_RANGE after the last sector of a partition
   pub says_end : Bool
   -- the preset count outlives a command with a bad check
   pub keeps_count : Bool
@@ -34,7 +34,7 @@ pub record Choice : Type 0 where
   -- an SD card leaves high speed unselected when it is to switch to it, and its status names function 15 then, none, or 0
   pub refuses_speed : Bool
   pub selects_none : Bool
-  -- a switch of an eMMC device fails; where none is carried out, the status behind it alone says so
+  -- a switch of an eMMC device fails; where none is carried out, the status after it alone says so
   pub fails_switch : Bool
   pub says_late : Bool
   -- a write finds its sectors protected

@@ -1,4 +1,4 @@
--- Headline (docs/AUDIT.md, "What to read").
+-- Relation (docs/AUDIT.md, "What to read").
 -- The error bits of the card status, in units of bit 13
 -- (SD Physical Layer 6.00, section 4.10.1; JESD84-B51, section 6.13). SWITCH_ERROR is bit 7, and stands alone.
 use Rattle.std.specs.Prelude.{◌+◌, ◌-◌, ◌^◌, ℕ}
@@ -57,7 +57,7 @@ erase_reset = 2 ^ (13 - 13)
 abbrev pub command_error_bits : ℕ
 command_error_bits = com_crc_error + illegal_command
 
--- those that carrying a command out may raise, behind its response (SD Physical Layer 6.00, section 4.10.1, type X), but for
+-- those that carrying a command out may raise, after its response (SD Physical Layer 6.00, section 4.10.1, type X), but for
 -- LOCK_UNLOCK_FAILED, which is no result of a write or an erase
 abbrev pub execution_error_bits : ℕ
 execution_error_bits =

@@ -1,4 +1,4 @@
--- Headline (docs/AUDIT.md, "What to read").
+-- Relation (docs/AUDIT.md, "What to read").
 -- The steps of a kept bus: each exchange is a faithful step, or one fault, which adds one to the count of faults. What
 -- may go wrong, and what a card does then, is the project's own.
 use Rattle.std.specs.Prelude.{◌&&◌, ◌+◌, ◌<◌, ◌≡◌, ◌≤◌, Bool, IsSomeAnd, List, None, Ok, Option, Some, false}
@@ -144,7 +144,7 @@ pub data CommandStep (old : BusView) (frame : List ℕ) (reply : Reply) (new : B
       → new.card ≡ (answered choice old.card (command_in frame)).0
       → Replies old.card (answered choice old.card (command_in frame)).1 reply
       → CommandStep old frame reply new
-  -- a switch fails: no byte changes, which SWITCH_ERROR says, in the response or in the first status behind it
+  -- a switch fails: no byte changes, which SWITCH_ERROR says, in the response or in the first status after it
   fail_switch : (choice : Choice) → choice.fails_switch ≡ true → is_switch_frame old.card (command_in frame) ≡ true
       → OneFault old new → new.card ≡ (answered choice old.card (command_in frame)).0
       → Replies old.card (answered choice old.card (command_in frame)).1 reply
@@ -213,7 +213,7 @@ pub data WriteStep (old : BusView) (block : List ℕ) (got : DataOut) (new : Bus
   -- the card doesn't see it
   lose_block : can_accept old.lines old.card ≡ true → OneFault old new → new.card ≡ old.card → got ≡ Sent.Nothing
       → WriteStep old block got new
-  -- the card rejects it, and may ignore all that come behind it
+  -- the card rejects it, and may ignore all that come after it
   reject : (ignores is_busy : Bool) → can_accept old.lines old.card ≡ true → OneFault old new
       → new.card ≡ rejected ignores is_busy old.card → got ≡ Sent.Rejected
       → WriteStep old block got new

@@ -1,4 +1,4 @@
--- Headline (docs/AUDIT.md, "What to read").
+-- Relation (docs/AUDIT.md, "What to read").
 -- What of a response is judged. Its other bits are open: a card sends them as it likes, and no host and no contract reads
 -- them. Cards in the field differ in them: APP_CMD in an R6, EXCEPTION_EVENT, reserved bits, and CURRENT_STATE and
 -- READY_FOR_DATA in the R1 of any command but CMD13.

@@ -1,4 +1,4 @@
--- Headline (docs/AUDIT.md, "What to read").
+-- Relation (docs/AUDIT.md, "What to read").
 -- What a faithful card does with a command. Which states carry out a command is the project's own choice, made here
 -- once after the standard's tables (SD Physical Layer 6.00, table 4-35; JESD84-B51, table 60).
 use Rattle.std.specs.Prelude.{◌&&◌, ◌==◌, ◌||◌, Bool, None, Option, Some, false, if◌then◌else◌, not, true, ℕ}
@@ -30,7 +30,7 @@ abbrev pub by_kind : Kind → Command → Command → Command
 by_kind Sd sd mmc = sd
 by_kind Mmc sd mmc = mmc
 
--- what an index means to a card of this kind, behind CMD55 or not; one with no application command is ordinary there
+-- what an index means to a card of this kind, after CMD55 or not; one with no application command is ordinary there
 abbrev pub command_of : Kind → Bool → ℕ → Command
 command_of kind app index =
     if index == Index.GO_IDLE_STATE then GoIdleState

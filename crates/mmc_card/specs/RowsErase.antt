@@ -1,17 +1,15 @@
--- Headline (docs/AUDIT.md, "What to read").
+-- Relation (docs/AUDIT.md, "What to read").
 -- Erase and trim (SD Physical Layer 6.00, section 4.3.5; JESD84-B51, sections 6.6.9 and 6.6.10). Each row is what a
 -- card does with a command in tran, and its answer.
 use Rattle.std.specs.Prelude.{◌&&◌, ◌*◌, ◌+◌, ◌-◌, ◌/◌, ◌==◌, ◌||◌, Bool, false, if◌then◌else◌, length, min, nat_le}
 use Rattle.std.specs.Prelude.{nat_lt, replicate, true, ℕ}
 use Rattle.mmc_frame.specs.declared.card_state.State.TheVariants.{Prg}
 use Rattle.mmc_frame.specs.declared.commands.TheConstants as Index
-use Rattle.mmc_card.specs.declared.part.Part.{Part}
-use Rattle.mmc_card.specs.declared.part.Part.TheVariants.{Boot1, Boot2}
 use Rattle.mmc_card.specs.CardAnswer.{CardAnswer, Checked, busied, raised, shown, status}
 use Rattle.mmc_card.specs.ErrorBits.{erase_param, erase_seq_error}
 use Rattle.mmc_card.specs.Card.{Both, Card, First, Held, NoAddress, stored}
 use Rattle.mmc_card.specs.Made.{Made, erase_unit_of_card, erased_sector, is_mmc, sector_at}
-use Rattle.mmc_card.specs.Sectors.{Change}
+use Rattle.mmc_card.specs.Sectors.{Change, is_boot}
 
 abbrev pub holds_address : Held → Bool
 holds_address NoAddress = false
@@ -60,12 +58,6 @@ erasing card trims first last =
           - erased_from card.made trims (sector_at card.made first))
           (erased_sector card.made);
     }
-
--- the boot partitions aren't erased (the project's own)
-abbrev pub is_boot : Part → Bool
-is_boot Boot1 = true
-is_boot Boot2 = true
-is_boot _ = false
 
 -- An address beyond the end, or the last below the first: ERASE_PARAM, and the card stays in tran (the project's own).
 abbrev pub is_no_range : Card → ℕ → ℕ → Bool

@@ -1,4 +1,4 @@
--- Headline (docs/AUDIT.md, "What to read").
+-- Relation (docs/AUDIT.md, "What to read").
 -- Identification and status (SD Physical Layer 6.00, sections 4.2 and 4.3; JESD84-B51, sections 6.4 and 6.6.1).
 -- Each row is what a card does with a command in a state where it is legal, and its answer.
 use Rattle.std.specs.Prelude.{◌&&◌, ◌+◌, ◌==◌, ◌^◌, ◌||◌, Bool, false, if◌then◌else◌, nat_lt, not, true, ℕ}
@@ -74,7 +74,7 @@ send_if_cond card argument = (
 abbrev pub send_csd : Card → Card × CardAnswer
 send_csd card = (done card, R2 card.made.csd)
 
--- Behind CMD7, CMD12 and its programming a card's status may still show it on its way to tran. Together with the polls of its
+-- After CMD7, CMD12 and its programming a card's status may still show it on its way to tran. Together with the polls of its
 -- busy time that were answered yes that is so at most `patience` times (the project's own).
 abbrev pub may_lag : Card → Bool
 may_lag card = is_in card.state Tran && (card.lags && nat_lt card.polled patience)

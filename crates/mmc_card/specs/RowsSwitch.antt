@@ -1,4 +1,4 @@
--- Headline (docs/AUDIT.md, "What to read").
+-- Relation (docs/AUDIT.md, "What to read").
 -- Width, speed and partition (SD Physical Layer 6.00, sections 4.3.10 and 4.7.4; JESD84-B51, sections 6.6.1 and 7.4).
 -- Each row is what a card does with a command in tran, and its answer.
 use Rattle.std.specs.Prelude.{◌%◌, ◌&&◌, ◌*◌, ◌+◌, ◌==◌, ◌^◌, ◌||◌, ◌∷◌, ◌≡◌, Bool, List, None, Option, Some, [], false}
@@ -148,7 +148,7 @@ switched card argument =
     else access_switched card argument
 
 -- CMD6 of eMMC, SWITCH: programming in any case, and SWITCH_ERROR where no byte changed, in the response or, said late,
--- in the first status behind it (JESD84-B51, section 6.6.1)
+-- in the first status after it (JESD84-B51, section 6.6.1)
 abbrev pub programs_switch : Card → Card
 programs_switch card = record (busied (shown card)) { state = Prg; is_switching = true; values = [] }
 

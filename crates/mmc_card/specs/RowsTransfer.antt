@@ -1,4 +1,4 @@
--- Headline (docs/AUDIT.md, "What to read").
+-- Relation (docs/AUDIT.md, "What to read").
 -- Transfers of blocks (SD Physical Layer 6.00, sections 4.3.3 and 4.3.4; JESD84-B51, sections 6.6.6 to 6.6.8), and the
 -- registers that an SD card sends as blocks. Each row is what a card does with a command in a state where it is legal,
 -- and its answer.

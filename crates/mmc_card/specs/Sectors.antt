@@ -1,7 +1,7 @@
 -- Headline (docs/AUDIT.md, "What to read").
 -- Sectors, the values that each may hold, and changes of them. The words are the project's own.
-use Rattle.std.specs.Prelude.{◌&&◌, ◌+◌, ◌-◌, ◌<◌, ◌==◌, ◌∷◌, ◌≡◌, ◌⊎◌, Bool, List, [], drop, if◌then◌else◌, length}
-use Rattle.std.specs.Prelude.{nat_le, nat_lt, slice_index_or, suc, take, zero, ℕ}
+use Rattle.std.specs.Prelude.{◌&&◌, ◌+◌, ◌-◌, ◌<◌, ◌==◌, ◌∷◌, ◌≡◌, ◌⊎◌, Bool, List, [], drop, false}
+use Rattle.std.specs.Prelude.{if◌then◌else◌, length, nat_le, nat_lt, slice_index_or, suc, take, true, zero, ℕ}
 use Rattle.mmc_card.specs.declared.part.Part.{Part}
 use Rattle.mmc_card.specs.declared.part.Part.TheVariants.{Boot1, Boot2, Gp1, Gp2, Gp3, Gp4, User}
 
@@ -23,6 +23,12 @@ part_number Gp2 = 4
 part_number Gp3 = 5
 part_number Gp4 = 6
 
+-- a boot partition, which isn't erased (the project's own)
+abbrev pub is_boot : Part → Bool
+is_boot Boot1 = true
+is_boot Boot2 = true
+is_boot _ = false
+
 -- it is one of these values
 abbrev pub IsIn : List Sector → Sector → Type 0
 IsIn [] value = ⊥
@@ -41,7 +47,7 @@ Within new old =
 abbrev pub Same : Sets → Sets → Type 0
 Same new old = (part : Part) (sector : ℕ) → new part sector ≡ old part sector
 
--- these sectors of a partition, one behind the other, get these values
+-- these sectors of a partition, one after the other, get these values
 pub record Change : Type 0 where
   pub part : Part
   pub start : ℕ

@@ -7,7 +7,7 @@ use crate::exchange::Want;
 use mmc_frame::commands::{ALL_SEND_CID, GO_IDLE_STATE, SEND_CSD};
 
 /// The commands of the card relation, by the standards' names (SD Physical Layer 6.00, section 4.7.4; JESD84-B51,
-/// section 6.10.4). `SdSendOpCond`, `SetBusWidth` and `SendScr` are application commands: the host sends each behind
+/// section 6.10.4). `SdSendOpCond`, `SetBusWidth` and `SendScr` are application commands: the host sends each after
 /// CMD55.
 #[derive(Clone, Copy, Debug, PartialEq, Eq)]
 pub enum Command {
@@ -15,7 +15,7 @@ pub enum Command {
     GoIdleState,
     /// CMD1 of eMMC.
     SendOpCond,
-    /// ACMD41 of SD: CMD41 behind CMD55.
+    /// ACMD41 of SD: CMD41 after CMD55.
     SdSendOpCond,
     /// CMD2.
     AllSendCid,
@@ -55,11 +55,11 @@ pub enum Command {
     Erase,
     /// CMD6 of eMMC.
     Switch,
-    /// CMD6 of SD, not behind CMD55.
+    /// CMD6 of SD, not after CMD55.
     SwitchFunc,
-    /// ACMD6 of SD: CMD6 behind CMD55.
+    /// ACMD6 of SD: CMD6 after CMD55.
     SetBusWidth,
-    /// ACMD51 of SD: CMD51 behind CMD55.
+    /// ACMD51 of SD: CMD51 after CMD55.
     SendScr,
     /// CMD55 of SD: the next command is an application command.
     AppCmd,

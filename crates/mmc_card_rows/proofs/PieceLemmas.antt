@@ -99,7 +99,7 @@ pieces_replicate (suc count) byte =
     ∙ piece_first count (replicate 512 byte) (replicate (512 * count) byte) (length-replicate 512 byte)
     ∙ ap (λ xs. replicate 512 byte ∷ xs) (pieces_replicate count byte)
 
--- the bytes of blocks, one behind the other, as sectors
+-- the bytes of blocks, one after the other, as sectors
 pub pieces_flat : (blocks : List Sector) → ((i : ℕ) → i < length blocks → length (slice_index_or blocks i []) ≡ 512)
     → pieces (length blocks) (flat_map (λ x. x) blocks) ≡ blocks
 pieces_flat [] long = refl

@@ -1,4 +1,4 @@
--- Partitions that stand one behind the other, and blocks that land in one of them.
+-- Partitions that stand one after the other, and blocks that land in one of them.
 use Rattle.std.proofs.Common.{◌*◌, ◌+◌, ◌++◌, ◌-◌, ◌<◌, ◌∙◌, ◌∷◌, ◌≡◌, ◌≤◌, List, [], ap, arith, drop, false, length}
 use Rattle.std.proofs.Common.{ap₂, append_assoc, min, refl, rules, suc, sym, take, true, zero, ℕ}
 use Rattle.std.proofs.Math.Seq.{drop-append-add, take-length}
@@ -210,7 +210,7 @@ split_land sizes xs vs p start count s k at h all room hs hk e =
     ∙ ap (slice_set (split sizes xs) p)
     (sym (landed_put start (take count vs) part s k hs landing ∙ ap (put_mid s k part) (take-take k count vs fewer)))
 
--- the first values of an erase and of the blocks behind it
+-- the first values of an erase and of the blocks after it
 take_values : (n k e j : ℕ) (v : Sector) (blocks : List Sector) → e ≡ min n k → j ≡ k - e
     → take k (replicate n v ++ blocks) ≡ replicate e v ++ take j blocks
 take_values zero k e j v blocks he hj =
@@ -225,7 +225,7 @@ take_values (suc n) (suc k) e j v blocks he hj =
     let one : e ≡ suc (min n k) = omega (arith, he) in
     rw one (ap (λ xs. v ∷ xs) (take_values n k (min n k) j v blocks refl (omega (arith, hj, one))))
 
--- values behind others are one change
+-- values after others are one change
 with_two : (xs ys zs : List Sector) (at e : ℕ) → length ys ≡ e → at + e + length zs ≤ length xs
     → with_values (with_values xs at ys) (at + e) zs ≡ with_values xs at (ys ++ zs)
 with_two xs ys zs at e len within =
@@ -247,7 +247,7 @@ with_is_put : (at k : ℕ) (xs ys : List Sector) → length ys ≡ k → with_va
 with_is_put at k xs ys len =
     ap (λ zs. take at xs ++ (ys ++ zs)) (ap (λ n. drop (at + n) xs) len ∙ sym (drop-drop k at xs))
 
--- an erase and the blocks behind it land in a partition
+-- an erase and the blocks after it land in a partition
 pub split_values : (sizes : List ℕ) (xs blocks : List Sector) (v : Sector) (n p start s k e at : ℕ) → p < length sizes
     → total sizes ≡ length xs → s ≡ min start (length (slice_index_or (split sizes xs) p []))
     → k ≡ min (length (replicate n v ++ blocks)) (length (slice_index_or (split sizes xs) p []) - s)

@@ -74,7 +74,7 @@ card_of chip =
       is_switching = chip.is_switching;
     }
 
--- All that is unfinished lands at CMD0, OUT_OF_RANGE is set behind the last sector, and a command with a bad check
+-- All that is unfinished lands at CMD0, OUT_OF_RANGE is set after the last sector, and a command with a bad check
 -- drops the preset count. At a command the card may choose otherwise where CMD0, CMD3, CMD6, CMD8, CMD12, CMD13 and an
 -- inquiry leave it free.
 abbrev pub choice_of : Bool → Choice
@@ -147,7 +147,7 @@ abbrev pub aged : Option ℕ → Option ℕ
 aged (Some life_time) = Some ((life_time + 1) % 256)
 aged None = None
 
--- What the card chooses behind a command, by the RCA that it goes by then: where the RCA changes, the next one follows it. One
+-- What the card chooses after a command, by the RCA that it goes by then: where the RCA changes, the next one follows it. One
 -- that ages does so at CMD0.
 abbrev pub delays_after : Delays → Option (ℕ × ℕ) → ℕ → Delays
 delays_after delays command rca =
@@ -160,7 +160,7 @@ delays_after delays command rca =
 abbrev pub finding_protection : Delays → Delays
 finding_protection delays = record delays { finds_protection = true }
 
--- What it chooses behind any exchange, by the states before it and behind it: what a status shows that lags behind tran.
+-- What it chooses after any exchange, by the states before it and after it: what a status shows that lags behind tran.
 abbrev pub moved_on : Delays → State → State → Delays
 moved_on delays old new =
     record delays { before = if is_in new Tran && not (is_in old Tran) then old else delays.before }

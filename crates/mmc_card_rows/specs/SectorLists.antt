@@ -1,4 +1,4 @@
--- Sectors one behind the other: those of a new card, and new values among them.
+-- Sectors one after the other: those of a new card, and new values among them.
 use Rattle.std.specs.Prelude.{◌+◌, ◌++◌, List, None, Option, Some, drop, length, replicate, take, ℕ}
 use Rattle.mmc_card.specs.Sectors.{Sector, pieces}
 

@@ -14,7 +14,7 @@ use Rattle.mmc_card_rows.specs.declared.store.Store.{Store}
 abbrev pub blank : Sector
 blank = replicate 512 0
 
--- these sectors as partitions of these sizes, one behind the other
+-- these sectors as partitions of these sizes, one after the other
 abbrev pub split : List ℕ → List Sector → List (List Sector)
 split [] sectors = []
 split (n ∷ sizes) sectors = take n sectors ∷ split sizes (drop n sectors)
@@ -25,7 +25,7 @@ parts_of store = split store.sizes (blocks_in store.bytes.items)
 abbrev pub part_of : Store → Part → List Sector
 part_of store part = slice_index_or (parts_of store) (part_number part) []
 
--- the bytes of these sectors, one behind the other
+-- the bytes of these sectors, one after the other
 abbrev pub bytes_of : List Sector → List ℕ
 bytes_of sectors = flat_map (λ (sector : Sector). sector) sectors
 

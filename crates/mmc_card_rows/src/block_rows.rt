@@ -67,7 +67,7 @@ impl Chip {
         DataIn::Good
     }
 
-    // Behind the last sector of the partition an uncounted read shows OUT_OF_RANGE.
+    // After the last sector of the partition an uncounted read shows OUT_OF_RANGE.
     fn end_errors(&self) -> Status
         requires { self.now.next < length (stored (card_of self.now) self.now.part) }
         ensures errors { bits_in result ≡ 2 ^ 13 * end_errors true (card_of self.now) }

@@ -6,7 +6,7 @@ use mmc_card::Command;
 use mmc_frame::Kind::{self, Mmc, Sd};
 use mmc_frame::commands;
 
-/// The command that this index (0 to 63) names to a card of this kind: to an SD card behind CMD55 an application
+/// The command that this index (0 to 63) names to a card of this kind: to an SD card after CMD55 an application
 /// command, where there is one.
 pub fn command_of(kind: Kind, is_app: bool, index: u8) -> Command
     ensures { result ≡ command_of kind is_app index }

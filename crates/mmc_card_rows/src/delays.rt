@@ -23,7 +23,7 @@ pub struct Delays {
     pub ready: u8,
     /// How many of the first polls of a busy time are answered yes, 0 to 15.
     pub busy: u8,
-    /// Of an SD card: behind which RCA the one comes that it publishes next, the first one behind the last.
+    /// Of an SD card: after which RCA the one comes that it publishes next, the first one after the last.
     pub last_rca: u16,
     /// Whether it publishes another one at each CMD3.
     pub rca_changes: bool,
@@ -38,14 +38,14 @@ pub struct Delays {
     /// How many statuses lag behind each programming, 0 to 15: they and the polls that were answered yes are as many as this and
     /// `busy` say, 15 at most.
     pub lagging: u8,
-    /// So many lag behind CMD7 and behind CMD12 that ends a read, 0 to 8.
+    /// So many lag behind CMD7 and after CMD12 that ends a read, 0 to 8.
     pub late: u8,
     /// The state that the card was in before tran, which a status shows that lags.
     pub before: State,
     /// Whether each response to CMD3 shows APP_CMD, bit 5 of the status.
     pub shows_app_cmd: bool,
     /// What an eMMC device that ages says of its life time, DEVICE_LIFE_TIME_EST_TYP_A, byte 268 of its EXT_CSD: at each CMD0 one
-    /// more, and 0 behind 255. Otherwise it is what the EXT_CSD is made with.
+    /// more, and 0 after 255. Otherwise it is what the EXT_CSD is made with.
     pub life_time: Option<u8>,
     /// Whether a write finds its sectors protected, as in a fault alone.
     pub finds_protection: bool,
@@ -81,7 +81,7 @@ impl Delays {
         1 + self.last_rca % 0xffff
     }
 
-    /// Notes a command, and the RCA that the card goes by behind it.
+    /// Notes a command, and the RCA that the card goes by after it.
     pub fn note_command(&mut self, frame: &[u8; 6], rca: u16)
         ensures noted { self.new ≡ delays_after self.old (command_in frame.now) rca }
         ensures waits { KeepsWaits self.old self.new }

@@ -105,7 +105,7 @@ impl Chip {
         self.raise_bits(bits);
     }
 
-    /// Programming of an earlier block fails, with these error bits, and the write goes on behind what has come so far.
+    /// Programming of an earlier block fails, with these error bits, and the write goes on after what has come so far.
     #[tactic(auto, using(crate::proofs::ChipLemmas::execution_is_error))]
     pub fn fall_short(&mut self, outcome: Outcome, bits: u32)
         requires bits { are_of_execution bits ≡ true }

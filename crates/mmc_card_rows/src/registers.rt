@@ -16,7 +16,7 @@ pub struct SdRegisters {
     pub scr: [u8; 8],
     /// The RCA that the card publishes, or the first one.
     pub rca: u16,
-    /// Whether it publishes the next one at each CMD3, and 1 behind FFFFh.
+    /// Whether it publishes the next one at each CMD3, and 1 after FFFFh.
     pub rca_changes: bool,
     /// Whether it knows CMD8.
     pub answers_cmd8: bool,

@@ -19,11 +19,11 @@ pub const MAX_LARGE: usize = 4_194_304;
 /// The sectors of a card, as they were before the write or erase that is unfinished, and its new values so far.
 #[derive(Debug, Drop)]
 pub struct Store {
-    // The bytes of the partitions one behind the other, in the order of `Part`, and how many sectors each has.
+    // The bytes of the partitions one after the other, in the order of `Part`, and how many sectors each has.
     bytes: Vec<u8>,
     sizes: [usize; 7],
     // The first sector of what is unfinished, counted in its partition, and its new values: so many sectors that an
-    // erase makes all one byte, which are kept as their number, and behind them the blocks of a write. The room for
+    // erase makes all one byte, which are kept as their number, and after them the blocks of a write. The room for
     // blocks is taken at once, so that no block is refused, and is touched only as they come.
     start: usize,
     erased_count: usize,
@@ -255,7 +255,7 @@ impl Store {
         self.start <= size && self.count() <= size - self.start
     }
 
-    /// What has come so far of a write to this partition has landed or nothing, and the write goes on behind it.
+    /// What has come so far of a write to this partition has landed or nothing, and the write goes on after it.
     #[tactic(auto, unfolding(crate::specs::Store::parts_of, crate::specs::Store::values_of))]
     pub fn settle_so_far(&mut self, part: Part, outcome: Outcome)
         requires { self.old.start + length (values_of self.old) ≤ length (part_of self.old part) }

@@ -86,7 +86,7 @@ fn put(block: &mut ArrayVec<u8, 512>, place: usize, byte: u8)
     }
 }
 
-// A byte of a block, and 0 behind its end.
+// A byte of a block, and 0 after its end.
 fn byte_at(block: &ArrayVec<u8, 512>, place: usize) -> u8
     ensures { result ≡ slice_index block.now.items place }
 {
@@ -305,7 +305,7 @@ impl Chip {
         self.is_switching = true;
     }
 
-    /// A switch that fails: no byte changes, and SWITCH_ERROR shows in the response or, said late, behind it.
+    /// A switch that fails: no byte changes, and SWITCH_ERROR shows in the response or, said late, after it.
     pub fn leave_byte(&mut self, says_late: bool) -> Answer
         ensures { Answers (switch_row says_late (card_of self.old) None) self.new result }
     {

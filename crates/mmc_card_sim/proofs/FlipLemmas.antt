@@ -116,7 +116,7 @@ same_before (suc n) p [] h = refl
 same_before (suc n) zero (bit ∷ bits) h = absurd (omega arith)
 same_before (suc n) (suc p) (bit ∷ bits) h = ap (λ rest. bit ∷ rest) (same_before n p bits (omega arith))
 
--- a flipped bit beside the n bits behind the first m leaves those
+-- a flipped bit beside the n bits after the first m leaves those
 same_between : (m n p : ℕ) (bits : List Bool) → (p < m) ⊎ (m + n ≤ p)
     → take n (drop m (flip_at p bits)) ≡ take n (drop m bits)
 same_between m n p [] h = refl
@@ -141,7 +141,7 @@ both_same first (Some second) bits h =
     let parts = and_parts (is_beside_ocr first) (is_beside_ocr second) h in
     ocr_same second (flip_at first bits) parts.1 ∙ ocr_same first bits parts.0
 
--- the number n, with these bits behind its own
+-- the number n, with these bits after its own
 abbrev pub number_after : ℕ → List Bool → ℕ
 number_after n [] = n
 number_after n (bit ∷ bits) = number_after (2 * n + (if bit then 1 else 0)) bits

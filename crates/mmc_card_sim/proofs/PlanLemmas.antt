@@ -12,7 +12,7 @@ use Rattle.mmc_card_sim.specs.Plan.{fault_at, is_full, refusal_of, to_come}
 use Rattle.mmc_card_sim.specs.declared.plan.PlanFault.{PlanFault}
 use Rattle.mmc_card_sim.specs.declared.plan.PlanFault.TheVariants.{InThePast, PlanFull}
 
--- where nothing is planned for an exchange at the front or behind it
+-- where nothing is planned for an exchange at the front or after it
 not_here : (b : Bool) (f : Fault) (rest : Option Fault) → cond b (Some f) rest ≡ None → (b ≡ false) × (rest ≡ None)
 not_here true f rest h = absurd cc
 not_here false f rest h = (refl, h)

@@ -25,7 +25,7 @@ pub enum Fault {
     FlipReply(Flips),
     /// A switch of an eMMC device fails, and its response says so.
     FailSwitch,
-    /// So it does, and the first status behind its busy time says so.
+    /// So it does, and the first status after its busy time says so.
     FailSwitchLate,
     /// So it does, and its response, which says so, doesn't come.
     LoseFailedSwitch,

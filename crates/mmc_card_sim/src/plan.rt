@@ -104,7 +104,7 @@ impl Plan {
         }
     }
 
-    // Puts a fault in the place of the one for this exchange, or behind all others.
+    // Puts a fault in the place of the one for this exchange, or after all others.
     fn put(&mut self, exchange: u64, fault: Fault)
         requires { is_full self.old (fault_at self.old exchange) ≡ false }
         ensures planned { (e : ℕ) → fault_at self.new e ≡ (if exchange == e then Some fault else fault_at self.old e) }

@@ -29,15 +29,15 @@ pub struct CardSpec {
     /// How many statuses lag behind each programming and still show prg: they and the polls that were answered yes are as many
     /// as this and the delay of busy say, 15 at most.
     pub lagging: u8,
-    /// How many statuses lag behind CMD7, and behind CMD12 that ends a read, and still show stby or data, counted in the same way.
+    /// How many statuses lag behind CMD7, and after CMD12 that ends a read, and still show stby or data, counted in the same way.
     pub late: u8,
     /// Whether an SD card shows APP_CMD, bit 5 of the status, in each response to CMD3, as most do in their R6: ACMD41 is answered
     /// by an R3, which has no status (SD Physical Layer 6.00, sections 4.9.5 and 4.10.1).
     pub shows_app_cmd: bool,
     /// Whether an eMMC device ages: at each CMD0 it says one more of its life time, in DEVICE_LIFE_TIME_EST_TYP_A, byte 268 of its
-    /// EXT_CSD, which nobody reads, and 0 behind 255 (JESD84-B51, section 7.4).
+    /// EXT_CSD, which nobody reads, and 0 after 255 (JESD84-B51, section 7.4).
     pub ages: bool,
-    /// The bytes of all sectors, 512 each, a partition behind the other in the order of `Part`; the card keeps its
+    /// The bytes of all sectors, 512 each, a partition after the other in the order of `Part`; the card keeps its
     /// sectors in them. Without an image all bytes are the erased byte.
     pub image: Option<Bytes>,
 }

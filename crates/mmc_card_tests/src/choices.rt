@@ -84,7 +84,7 @@ fn names_its_block_length_after_cmd0(rt: HostRuntime) -> Result<(), Fail> {
     Ok(())
 }
 
-// Behind CMD7 and behind CMD12 that ends a read statuses may show what the card was in before tran. They and the polls that were
+// After CMD7 and after CMD12 that ends a read statuses may show what the card was in before tran. They and the polls that were
 // answered yes are as many as both delays say.
 #[test]
 fn shows_late_where_it_is(rt: HostRuntime) -> Result<(), Fail> {

@@ -85,7 +85,7 @@ fn expect_switch(rt: &impl Abort, card: &mut SimCard, argument: u32, status: u32
     expect_status(rt, card, 0x900);
 }
 
-// Seven partitions, whose sectors stand in the image one behind the other. An access to one without sectors is an error
+// Seven partitions, whose sectors stand in the image one after the other. An access to one without sectors is an error
 // of the switch.
 #[test]
 fn has_seven_partitions(rt: HostRuntime) -> Result<(), Fail> {

@@ -51,7 +51,7 @@ fn offers_a_rejected_block_again(rt: HostRuntime) -> Result<(), Fail> {
     Ok(())
 }
 
-// Or all that are offered behind it are ignored, until CMD12.
+// Or all that are offered after it are ignored, until CMD12.
 #[test]
 fn ignores_blocks_behind_a_rejected_one(rt: HostRuntime) -> Result<(), Fail> {
     let mut card = faulty(rt.alloc(), 1, Fault::RejectAll)?;
@@ -152,7 +152,7 @@ fn finds_sectors_protected(rt: HostRuntime) -> Result<(), Fail> {
     Ok(())
 }
 
-// A switch may fail while its response is lost: nothing behind it says so.
+// A switch may fail while its response is lost: nothing after it says so.
 #[test]
 fn loses_what_a_failed_switch_says(rt: HostRuntime) -> Result<(), Fail> {
     let mut card = selected_mmc(rt.alloc(), emmc())?;

@@ -45,7 +45,7 @@ fn shows_what_is_switched(rt: HostRuntime) -> Result<(), Fail> {
     Ok(())
 }
 
-// A device that ages says one more of its life time at each CMD0, and 0 behind 255.
+// A device that ages says one more of its life time at each CMD0, and 0 after 255.
 #[test]
 fn ages(rt: HostRuntime) -> Result<(), Fail> {
     let mut made = ext_csd_of_emmc();

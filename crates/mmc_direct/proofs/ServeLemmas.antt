@@ -1,7 +1,7 @@
 -- What a request that isn't refused may count on.
 use Rattle.std.proofs.Common.{◌+◌, ◌≡◌, ◌≤◌, false, refl, subst, sym, true, ℕ}
 use Rattle.std.specs.Prelude.{None, Some}
-use Rattle.mmc_card.specs.RowsErase.{is_boot}
+use Rattle.mmc_card.specs.Sectors.{is_boot}
 use Rattle.mmc_card.specs.declared.part.Part.{Part}
 use Rattle.mmc_erase.specs.Job.{suits}
 use Rattle.mmc_erase.specs.declared.how.How.{How}

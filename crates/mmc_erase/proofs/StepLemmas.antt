@@ -9,8 +9,8 @@ use Rattle.mmc_card.specs.CardAnswer.{shown}
 use Rattle.mmc_card.specs.Faults.{NoFault}
 use Rattle.mmc_card.specs.Laws.{erased_by, erased_by_held, maybe_erased}
 use Rattle.mmc_card.specs.Made.{sector_at}
-use Rattle.mmc_card.specs.RowsErase.{erases, erasing, is_boot, is_no_range, is_trim}
-use Rattle.mmc_card.specs.Sectors.{Within, maybe_changed}
+use Rattle.mmc_card.specs.RowsErase.{erases, erasing, is_no_range, is_trim}
+use Rattle.mmc_card.specs.Sectors.{Within, is_boot, maybe_changed}
 use Rattle.mmc_bus.specs.Work.{Narrows, Worked}
 use Rattle.mmc_bus.specs.declared.cause.Cause.{Cause}
 use Rattle.mmc_switch.proofs.AddressLemmas.{sector_named}

@@ -1,3 +1,4 @@
+-- Headline (docs/AUDIT.md, "What to read").
 -- What a run is for.
 use Rattle.std.specs.Prelude.{◌%◌, ◌&&◌, ◌+◌, ◌==◌, ◌||◌, Bool, replicate, ℕ}
 use Rattle.mmc_card.specs.Sectors.{Change}

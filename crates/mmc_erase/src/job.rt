@@ -1,6 +1,6 @@
 // What a run is for.
 ghost use Rattle.std.specs.Prelude.{◌≡◌, ◌+◌, ◌-◌, ◌≤◌, IsSome, false, true};
-ghost use Rattle.mmc_card.specs.RowsErase.{is_boot};
+ghost use Rattle.mmc_card.specs.Sectors.{is_boot};
 ghost use Rattle.mmc_switch.specs.Address.{address_of};
 ghost use Rattle.mmc_switch.specs.UnderWay.{part_of, room_of};
 ghost use Rattle.mmc_erase.specs.Job.{suits};

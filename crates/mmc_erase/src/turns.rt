@@ -1,7 +1,7 @@
 // Runs a turn at a time: each turn is one exchange.
 ghost use Rattle.std.specs.Prelude.{◌≡◌, ◌+◌, ◌<◌, ◌≤◌, IfOk, IfSome, IsSome, IsTrue, false, true, ℕ};
 ghost use Rattle.mmc_card.specs.BusView.{BusView};
-ghost use Rattle.mmc_card.specs.RowsErase.{is_boot};
+ghost use Rattle.mmc_card.specs.Sectors.{is_boot};
 ghost use Rattle.mmc_switch.specs.Place.{IsReady};
 ghost use Rattle.mmc_switch.specs.UnderWay.{FailsBy, part_of, room_of};
 ghost use Rattle.mmc_erase.specs.Fits.{phase_fits, phase_left};

@@ -1,6 +1,6 @@
 // Whole runs, as loops over their turns.
 ghost use Rattle.std.specs.Prelude.{◌≡◌, ◌+◌, ◌≤◌, IfErr, IsSome, Some, false, true};
-ghost use Rattle.mmc_card.specs.RowsErase.{is_boot};
+ghost use Rattle.mmc_card.specs.Sectors.{is_boot};
 ghost use Rattle.mmc_bus.specs.Heard.{cause_of};
 ghost use Rattle.mmc_switch.specs.Place.{IsReady};
 ghost use Rattle.mmc_switch.specs.UnderWay.{IsSameSession, part_of, room_of};

@@ -1,3 +1,4 @@
+-- Headline (docs/AUDIT.md, "What to read").
 -- The EXT_CSD of an eMMC device, 512 bytes (JESD84-B51, section 7.4). A field of several bytes has its lowest byte
 -- first.
 use Rattle.std.specs.Prelude.{ℕ, ◌+◌, ◌-◌, ◌*◌, ◌==◌, ◌||◌, nat_lt, Bool, List, if◌then◌else◌, slice_index, Result, Ok}

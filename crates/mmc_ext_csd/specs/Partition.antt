@@ -1,3 +1,4 @@
+-- Relation (docs/AUDIT.md, "What to read").
 -- Which partitions exist. A command carries a sector's address in 32 bits (JESD84-B51, section 6.10.1), so a partition
 -- whose last address doesn't fit them can't be reached as a whole. It counts as not existing; this rule is the stack's
 -- own. Of the cards that the stack serves only a general purpose partition can be so large.

@@ -42,7 +42,7 @@ pub byte_remainder : (n : ℕ) → n < 256 → remainder (byte_bits n) ≡ eight
 unfolding remainder power times_x
 byte_remainder = same_from_test 256 _ _ refl
 
--- k more bits behind, one after another
+-- k more bits after, one after another
 abbrev pub pushed_all : ℕ → List Bool → ℕ
 pushed_all p [] = p
 pushed_all p (b ∷ bs) = pushed_all (pushed p b) bs
@@ -69,7 +69,7 @@ unfolding shift
 shift-lt zero p h = h
 shift-lt (suc k) p h = shift-lt k (times_x p) (times_x-lt p h)
 
--- behind a string, bits of their own
+-- after a string, bits of their own
 pub remainder_behind : (xs ys : List Bool) → remainder (xs ++ ys) ≡ bit_xor (shift (length ys) (remainder xs))
     (remainder ys)
 unfolding remainder
@@ -114,7 +114,7 @@ pub length-bits_of : (xs : List ℕ) → length (bits_of xs) ≡ 8 * length xs
 length-bits_of [] = refl
 length-bits_of (x ∷ xs) = let h = length-bits_of xs in omega (arith, h)
 
--- the seven bits of a check, behind the covered bits
+-- the seven bits of a check, after the covered bits
 abbrev pub seven : ℕ → List Bool
 seven n = (n / 128 % 2 == 1) ∷ (n / 64 % 2 == 1) ∷ (n / 32 % 2 == 1) ∷ (n / 16 % 2 == 1) ∷ (n / 8 % 2 == 1) ∷ (n / 4 %
     2 == 1) ∷ (n / 2 % 2 == 1) ∷ []

@@ -22,7 +22,7 @@ length-flip_at p [] = refl
 length-flip_at zero (b ∷ bs) = refl
 length-flip_at (suc p) (b ∷ bs) = ap suc (length-flip_at p bs)
 
--- a flipped bit adds its power, where k bits stand behind it
+-- a flipped bit adds its power, where k bits stand after it
 flip_adds : (p k : ℕ) (bs : List Bool) → length bs ≡ p + suc k → remainder (flip_at p bs)
     ≡ bit_xor (power k) (remainder bs)
 unfolding remainder
@@ -92,7 +92,7 @@ drop_flip (suc m) p (b ∷ bs) =
     let e : suc m + p ≡ suc (m + p) = omega arith in
     ap (λ i. drop (suc m) (flip_at i (b ∷ bs))) e ∙ drop_flip m p bs
 
--- the k bits behind the first m
+-- the k bits after the first m
 abbrev pub covered : ℕ → ℕ → List Bool → List Bool
 covered m k bs = take k (drop m bs)
 

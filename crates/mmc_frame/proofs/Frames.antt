@@ -49,7 +49,7 @@ pub register_test : (r : List ℕ) → length r ≡ 16 → slice_index r 15 < 25
 unfolding is_sound_register
 register_test r size fits = sound_test 15 r size fits
 
--- bytes with their check behind them are sound
+-- bytes with their check after them are sound
 with_check_sound : (n : ℕ) (xs : List ℕ) (check : ℕ) → length xs ≡ n → check < 128
     → check ≡ remainder (bits_of xs ++ zeros)
     → (remainder (take (8 * n + 7) (bits_of (xs ++ (check * 2 + 1) ∷ []))) == 0) ≡ true
@@ -67,7 +67,7 @@ pub made_sound : (a b c d e check : ℕ) → check < 128 → check ≡ remainder
 unfolding is_sound
 made_sound a b c d e check small is = with_check_sound 5 (a ∷ b ∷ c ∷ d ∷ e ∷ []) check refl small is
 
--- a register with its check behind it is sound
+-- a register with its check after it is sound
 pub register_with_check : (bytes : List ℕ) (check : ℕ) → length bytes ≡ 15 → check < 128
     → check ≡ remainder (bits_of bytes ++ zeros) → is_sound_register (bytes ++ (check * 2 + 1) ∷ []) ≡ true
 unfolding is_sound_register

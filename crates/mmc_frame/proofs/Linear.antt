@@ -91,7 +91,7 @@ remainder-lt [] = omega arith
 remainder-lt (true ∷ bs) = xor_lt 7 _ _ (power-lt (length bs)) (remainder-lt bs)
 remainder-lt (false ∷ bs) = remainder-lt bs
 
--- one more bit behind
+-- one more bit after
 abbrev pub pushed : ℕ → Bool → ℕ
 pushed p b = bit_xor (times_x p) (cond b 1 0)
 

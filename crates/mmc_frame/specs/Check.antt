@@ -1,3 +1,4 @@
+-- Relation (docs/AUDIT.md, "What to read").
 -- CRC7 (SD Physical Layer 6.00, section 4.5; JESD84-B51, section 8.2): strings of bits as polynomials over {0, 1},
 -- modulo x^7 + x^3 + 1. A number below 128 stands for a remainder: its bit i for x^i.
 use Rattle.std.specs.Prelude.{ℕ, zero, suc, ◌*◌, ◌/◌, ◌%◌, ◌==◌, List, [], ◌∷◌, ◌++◌, length, Bool, if◌then◌else◌}

@@ -1,3 +1,4 @@
+-- Headline (docs/AUDIT.md, "What to read").
 -- Fields of frames and registers, which are whole numbers.
 use Rattle.std.specs.Prelude.{ℕ, ◌+◌, ◌-◌, ◌/◌, ◌%◌, ◌^◌}
 

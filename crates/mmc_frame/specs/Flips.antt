@@ -1,3 +1,4 @@
+-- Relation (docs/AUDIT.md, "What to read").
 -- Frames in which one bit or two changed on the way.
 use Rattle.std.specs.Prelude.{◌≡◌, ℕ, zero, suc, ◌<◌, List, [], ◌∷◌, length, Bool, true, false, not, is_ok, is_some}
 use Rattle.mmc_frame.specs.Check.{bits_of}

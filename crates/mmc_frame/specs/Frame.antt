@@ -1,3 +1,4 @@
+-- Relation (docs/AUDIT.md, "What to read").
 -- Frames of 48 bits (SD Physical Layer 6.00, sections 4.7.2 and 4.9; JESD84-B51, sections 6.10.1 and 6.12).
 -- A frame is six bytes, and as a number its bit 47 is sent first.
 use Rattle.std.specs.Prelude.{ℕ, ◌+◌, ◌*◌, ◌^◌, ◌==◌, ◌&&◌, List, take, Bool, if◌then◌else◌, slice_index, Option, Some}
@@ -12,7 +13,7 @@ number frame =
     slice_index frame 0 * 2 ^ 40 + slice_index frame 1 * 2 ^ 32 + slice_index frame 2 * 2 ^ 24
     + slice_index frame 3 * 2 ^ 16 + slice_index frame 4 * 2 ^ 8 + slice_index frame 5
 
--- the 40 covered bits and the check behind them have the remainder 0
+-- the 40 covered bits and the check after them have the remainder 0
 unfoldable pub is_sound : List ℕ → Bool
 is_sound frame = remainder (take 47 (bits_of frame)) == 0
 

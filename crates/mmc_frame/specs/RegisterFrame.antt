@@ -1,3 +1,4 @@
+-- Relation (docs/AUDIT.md, "What to read").
 -- The two responses without an index: R2, the 136 bits that carry a CID or a CSD, and R3, the 48 bits that carry the
 -- OCR (SD Physical Layer 6.00, sections 4.9.3 and 4.9.4; JESD84-B51, section 6.12). A register is its sixteen bytes.
 use Rattle.std.specs.Prelude.{ℕ, ◌≡◌, ◌*◌, ◌+◌, ◌/◌, ◌%◌, ◌^◌, ◌==◌, ◌&&◌, List, [], ◌∷◌, ◌++◌, length, replicate, take, Bool, false, true}
@@ -16,11 +17,11 @@ is_sound_register register = remainder (take 127 (bits_of register)) == 0
 abbrev pub has_end_bit : List ℕ → Bool
 has_end_bit register = slice_index register 15 % 2 == 1
 
--- a register's bits 127 to 8, and behind them its check and the end bit
+-- a register's bits 127 to 8, and after them its check and the end bit
 abbrev pub with_check : List ℕ → List ℕ
 with_check bytes = bytes ++ (2 * remainder (bits_of bytes ++ replicate 7 false) + 1) ∷ []
 
--- the register in an R2: the sixteen bytes behind 00111111, of which the last ends with a 1, otherwise the first fault
+-- the register in an R2: the sixteen bytes after 00111111, of which the last ends with a 1, otherwise the first fault
 abbrev pub register_in : List ℕ → Result (List ℕ) FrameFault
 register_in frame =
     if (slice_index frame 0 == 0x3f) && (slice_index frame 16 % 2 == 1)

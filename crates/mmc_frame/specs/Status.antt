@@ -1,3 +1,4 @@
+-- Relation (docs/AUDIT.md, "What to read").
 -- The card status, a number of 32 bits (SD Physical Layer 6.00, section 4.10.1; JESD84-B51, section 6.13).
 use Rattle.std.specs.Prelude.{◌*◌, ◌-◌, ◌^◌, ◌≡◌, ◌≤◌, ℕ}
 use Rattle.std.specs.Int.RustNames.{bit_and}

@@ -26,7 +26,7 @@ fn with_byte(check: u8, byte: u8) -> u8
     SHIFTED[((check * 2) ^ byte) as usize]
 }
 
-/// The CRC7 of these bytes: the remainder of their bits with seven zeros behind them.
+/// The CRC7 of these bytes: the remainder of their bits with seven zeros after them.
 pub fn check_of(bytes: &[u8]) -> u8
     ensures value { result ≡ remainder (bits_of bytes.now ++ replicate 7 false) }
     ensures small { result < 128 }

@@ -20,7 +20,7 @@ pub fn check_fits(register: &[u8; 16]) -> bool
     check_of(&register[..15]) == register[15] / 2
 }
 
-/// The CID or CSD with these bits 127 to 8, the highest byte first: its check and the end bit stand behind them.
+/// The CID or CSD with these bits 127 to 8, the highest byte first: its check and the end bit stand after them.
 pub fn with_check(bytes: &[u8; 15]) -> [u8; 16]
     ensures value { result ≡ with_check bytes.now }
     ensures sound { is_sound_register result ≡ true }
@@ -31,7 +31,7 @@ pub fn with_check(bytes: &[u8; 15]) -> [u8; 16]
     register
 }
 
-// The sixteen bytes behind the first.
+// The sixteen bytes after the first.
 fn behind_first(frame: &[u8; 17]) -> [u8; 16]
     ensures { result ≡ slice_range frame.now 1 17 }
 {

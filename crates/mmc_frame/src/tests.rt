@@ -42,7 +42,7 @@ fn flipped<const N: usize>(mut frame: [u8; N], position: usize) -> [u8; N]
     frame
 }
 
-// One R1 that is sound: each of its bits that is flipped, and behind it each second one.
+// One R1 that is sound: each of its bits that is flipped, and after it each second one.
 fn refuses_response_pairs(rt: &impl Abort, frame: [u8; 6], first: usize)
     requires { first < 48 }
 {

@@ -1,6 +1,6 @@
 // What proofs note of a call. Nothing here has bytes, or does anything at run time.
 ghost use Rattle.std.specs.Borrow.{ftrue};
-ghost use Rattle.mmc_block.specs.Any.{cancelled_reply, submitted_reply};
+ghost use Rattle.mmc_block.specs.Execution.{cancelled_reply, submitted_reply};
 ghost use Rattle.mmc_block.specs.Execution.Event.{Cancel, Submit, Turn};
 ghost use Rattle.mmc_block.specs.Execution.Reply.{Answers};
 ghost use Rattle.mmc_card.specs.BusView.{BusView};

@@ -50,7 +50,7 @@ impl<B: Bus> Device<B> {
     ghost use Rattle.mmc_card.specs.Profile.{InProfile};
     ghost use Rattle.mmc_card.specs.Sectors.{Within};
     ghost use Rattle.mmc_switch.specs.Info.{IsInfo};
-    ghost use Rattle.mmc_block.specs.Any.{cancelled_reply, submitted_reply};
+    ghost use Rattle.mmc_block.specs.Execution.{cancelled_reply, submitted_reply};
     ghost use Rattle.mmc_block.specs.Execution.Event.{Cancel, Submit, Turn};
     ghost use Rattle.mmc_block.specs.Execution.Reply.{Answers};
     ghost use Rattle.mmc_history.specs.History.{Continues, HasServed};

@@ -234,7 +234,7 @@ module _ (v0 v1 behind : HostView) (w0 w1 : Wire) (state : HostState) (frame : L
         all.2 ∙ s.limits ∙ within s.step.was_kept ∙ sym notes_it.limits ∙ sym limits,
   )
 
--- Blocks that come behind it.
+-- Blocks that come after it.
 module _ {S : Type 0} {blocks : S → List (List ℕ)} {leave : S → ℕ → List ℕ → S} (was : S) (v0 v1 : HostView)
     (w0 w1 : Wire) (misused : Bool) (state : HostState) (frame : List ℕ) (want : Want) (command : HostCommand)
     (count : ℕ) (heard : Result Heard ResponseFault) (reply : Reply) (moved : Moved DataIn) (now : S) (new : HostView)
@@ -423,7 +423,7 @@ heard_none index (Ok Heard.Nothing) reply spells err = refl
 heard_none index (Ok (Heard.Register bytes)) reply spells err = refl
 heard_none index (Err fault) reply spells err = refl
 
--- Blocks that go behind it.
+-- Blocks that go after it.
 module _ (blocks : List (List ℕ)) (v0 v1 : HostView)
     (w0 w1 : Wire) (misused : Bool) (state : HostState) (frame : List ℕ) (want : Want) (command : HostCommand)
     (count : ℕ) (heard : Result Heard ResponseFault) (reply : Reply) (moved : Moved DataOut) (new : HostView)

@@ -19,7 +19,7 @@ IsAnswered To.R6 index (Checked other argument) = other ≡ index
 IsAnswered To.R7 index (Checked other argument) = other ≡ index
 IsAnswered response index answer = ⊥
 
--- a card that is busy was so before, but behind an R1b
+-- a card that is busy was so before, but after an R1b
 abbrev pub IsBusyBehind : Response → Card → Card → Type 0
 IsBusyBehind response old new = new.is_busy ≡ true → (old.is_busy ≡ true) ⊎ (response ≡ To.R1b)
 
@@ -33,7 +33,7 @@ abbrev pub AreSent : ℕ → ℕ → Source → Option ℕ → Type 0
 AreSent size blocks FromSectors left = (size ≡ 512) × AreToCome blocks left
 AreSent size blocks (FromBytes bytes timing) left = (length bytes ≡ size) × (blocks ≡ 1)
 
--- The data behind the command: a card begins to send just these blocks, or to accept just these.
+-- The data after the command: a card begins to send just these blocks, or to accept just these.
 abbrev pub Begins : Data → Card → Type 0
 Begins Behind.Nothing card = ⊥
 Begins (Behind.Read size blocks) card = (is_in card.state In.Data ≡ true) × AreSent size blocks card.source card.left

@@ -91,7 +91,7 @@ micros_of Write = 32000
 micros_of Switch = 160000
 micros_of (Erase span) = min 900000000 (10000000 + 16000 * (span + 1))
 
--- behind a command: identification begins with CMD0, and ends when CMD7 is answered
+-- after a command: identification begins with CMD0, and ends when CMD7 is answered
 abbrev pub sent : HostState → HostCommand → Bool → HostState
 sent state command is_answered =
     record {
@@ -131,7 +131,7 @@ AreMovable Data.Nothing = Unit {0}
 AreMovable (Data.Read size blocks) = AreWords size × ((1 ≤ blocks) × (blocks < 0x10000))
 AreMovable (Data.Write blocks) = (1 ≤ blocks) × (blocks < 0x10000)
 
--- behind a block; one that failed ends the data
+-- after a block; one that failed ends the data
 abbrev pub block_passed : HostState → Bool → HostState
 block_passed state is_good = record state { transfer = if is_good then less_one state.transfer else Data.Nothing }
 

@@ -98,7 +98,7 @@ Answers old index argument answer new =
     (frame : List ℕ) (reply : Reply) → command_in frame ≡ Some (index, argument) → Spells answer reply
     → CommandStep old frame reply new
 
--- One step of the card, behind which the host is in this state.
+-- One step of the card, after which the host is in this state.
 pub record Steps (old : HostView) (told : HostState) (Step : Type 0) (new : HostView) : Type 0 where
   pub state : new.state ≡ told
   pub limits : new.limits ≡ old.limits

@@ -68,7 +68,7 @@ IsBegun old frame moved new =
     (new.transfer ≡ Behind.Nothing)
     ⊎ IfSome (command_in frame) (λ command. IsCounted old.count moved command.0 new.transfer)
 
--- the command of a frame can be sent, and so many blocks come behind it on these lines
+-- the command of a frame can be sent, and so many blocks come after it on these lines
 pub record CanRead (state : HostState) (frame : List ℕ) (command : HostCommand) (count : ℕ) (lines : Lines) : Type 0 where
   pub index : command.index < 64
   pub holds : command_in frame ≡ Some (command.index, command.argument)
@@ -79,7 +79,7 @@ pub record CanRead (state : HostState) (frame : List ℕ) (command : HostCommand
   pub behind : AreBehind command.transfer count
   pub set : lines_of state.ios ≡ lines
 
--- and so many go behind it
+-- and so many go after it
 pub record CanWrite (state : HostState) (frame : List ℕ) (command : HostCommand) (count : ℕ) (lines : Lines) : Type 0 where
   pub index : command.index < 64
   pub holds : command_in frame ≡ Some (command.index, command.argument)

@@ -1,4 +1,4 @@
-// The data behind commands.
+// The data after commands.
 ghost use Rattle.std.specs.Prelude.{◌≡◌, ◌↔◌, IsTrue};
 ghost use Rattle.mmc_host.specs.Together.{AreAhead, AreBehind};
 ghost use Rattle.mmc_host.specs.HostStates.{less_by, less_one};
@@ -6,7 +6,7 @@ ghost use Rattle.mmc_host.specs.Table.{blocks_of, data_of};
 
 use mmc_card::Command;
 
-/// The data behind a command, over the data lines.
+/// The data after a command, over the data lines.
 #[derive(Clone, Copy, Debug, PartialEq, Eq)]
 pub enum Data {
     /// None.
@@ -46,7 +46,7 @@ impl Data {
         }
     }
 
-    /// What is left of it behind one block.
+    /// What is left of it after one block.
     pub fn less_one(self) -> Data
         ensures { result ≡ less_one self }
     {
@@ -92,7 +92,7 @@ fn blocks_of(count: u16, moved: u16) -> u16
     }
 }
 
-/// The data behind each command, with the count that CMD23 has preset for it, 0 where none is, and how many blocks will be moved
+/// The data after each command, with the count that CMD23 has preset for it, 0 where none is, and how many blocks will be moved
 /// where the card isn't told (SD Physical Layer 6.00, sections 4.3.3, 4.3.4, 4.3.10 and 4.7.4; JESD84-B51, sections 6.6.7, 6.6.8
 /// and 6.10.4).
 pub fn data_of(command: Command, count: u16, moved: u16) -> Data

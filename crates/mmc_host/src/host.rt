@@ -39,7 +39,7 @@ pub trait Host {
         ensures sets { SetsIos (view self.old) ios (view self.new) }
         ensures told { has_told self.new ios };
 
-    /// Sends a command and waits for its response, for 64 clocks at least. Where data is behind it, blocks of that length will
+    /// Sends a command and waits for its response, for 64 clocks at least. Where data is after it, blocks of that length will
     /// be asked for or offered, or the next command ends them. It doesn't wait until the card is no longer busy.
     fn send(&mut self, command: HostCommand) -> Result<Heard, ResponseFault>
         requires index { command.index < 64 }
@@ -93,13 +93,13 @@ pub trait Host {
         (self.send(command), Moved::Good(0))
     }
 
-    /// Reads the next block of the data behind the last command. It waits for 100 ms at least before it answers `Nothing`. A block
+    /// Reads the next block of the data after the last command. It waits for 100 ms at least before it answers `Nothing`. A block
     /// that isn't good ends the data.
     fn read_block(&mut self, block: &mut [u8]) -> DataIn
         requires { Where (view self.old) (IsToCome (view self.old).state (length block.old)) }
         ensures { ReadsBlock (view self.old) (length block.old) result block.new (view self.new) };
 
-    /// Writes the next block of the data behind the last command, once the card takes one. A block that isn't accepted ends
+    /// Writes the next block of the data after the last command, once the card takes one. A block that isn't accepted ends
     /// the data.
     fn write_block(&mut self, block: &[u8; 512]) -> DataOut
         requires { Where (view self.old) (IsToGo (view self.old).state) }

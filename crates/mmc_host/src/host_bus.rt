@@ -96,7 +96,7 @@ impl<H: Host> HostBus<H> {
     }
 
     /// Whether something was asked of the bus that no controller can do: to send a frame that is no command, or to move a block
-    /// that isn't behind the last command, or on other lines than that command was sent on.
+    /// that isn't after the last command, or on other lines than that command was sent on.
     pub fn is_misused(&self) -> bool
         ensures { result ≡ self.now.is_misused }
     {

@@ -10,8 +10,8 @@ ghost use Rattle.mmc_host.specs.Fits.{HasDataBehind, IsAnswered, IsBusyBehind};
 ghost use Rattle.mmc_host.specs.Table.{data_of, response_of, want_of};
 ghost use Rattle.mmc_host.specs.WireLaws.{FaithfulIsHeard, UnsoundIsLost};
 
-/// Whatever a card does with a command, by its kind, its state and behind CMD55 or not: its answer is the response of the
-/// table to this index, or none, and as long as a host wants; it is busy only where it was, or behind an R1b; and where it begins to send or to accept
+/// Whatever a card does with a command, by its kind, its state and after CMD55 or not: its answer is the response of the
+/// table to this index, or none, and as long as a host wants; it is busy only where it was, or after an R1b; and where it begins to send or to accept
 /// blocks, they are the data of the table, by the count that it holds preset, and where it holds none by any number.
 pub fn a_card_does_as_the_table_says()
     ensures answer { (choice : Choice) (card : Card) (index argument : ℕ) → index < 64

@@ -1,6 +1,6 @@
-//! What a host controller is told of a command: its response, and the data behind it.
+//! What a host controller is told of a command: its response, and the data after it.
 //!
-//! A controller wants a command decoded, with the kind of its response, and direction, length and number of the blocks behind
+//! A controller wants a command decoded, with the kind of its response, and direction, length and number of the blocks after
 //! it. All of that follows from the frame, from CMD55 before it, and from the count that CMD23 has preset.
 #![tactic(auto)]
 

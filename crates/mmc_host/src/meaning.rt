@@ -10,7 +10,7 @@ ghost use Rattle.mmc_host.specs.Table.{blocks_of, data_of, moves_several};
 use mmc_card::Command;
 use mmc_frame::commands::*;
 
-/// The command that an index means with this argument, behind CMD55 or not, whichever kind the card is. Where both kinds have one
+/// The command that an index means with this argument, after CMD55 or not, whichever kind the card is. Where both kinds have one
 /// with this index the argument tells them apart: CMD3 and CMD8 by whether it is 0, and CMD6 by bits 25 and 24, which are an
 /// access mode of eMMC and reserved on SD (SD Physical Layer 6.00, sections 4.3.10 and 4.7.4; JESD84-B51, sections 6.6.1 and
 /// 6.10.4).

@@ -11,7 +11,7 @@ pub enum Response {
     Nothing,
     /// R1: 48 bits with the card status, its check and the command's index.
     R1,
-    /// R1b: an R1, behind which the card may be busy.
+    /// R1b: an R1, after which the card may be busy.
     R1b,
     /// R2: 136 bits with the CID or the CSD, which carries its own check.
     R2,

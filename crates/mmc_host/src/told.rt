@@ -25,9 +25,9 @@ pub struct HostCommand {
     pub index: u8,
     /// The argument.
     pub argument: u32,
-    /// The response to it: its length, which checks there are, and whether the card may be busy behind it.
+    /// The response to it: its length, which checks there are, and whether the card may be busy after it.
     pub response: Response,
-    /// The data behind it.
+    /// The data after it.
     pub transfer: Data,
 }
 
@@ -116,7 +116,7 @@ pub struct HostState {
     pub is_app: bool,
     /// The count that CMD23 preset just now, 0 where none is.
     pub count: u16,
-    /// The data that is still to come behind the last command.
+    /// The data that is still to come after the last command.
     pub transfer: Data,
     /// What the card was set to last that makes it busy.
     pub work: Work,
@@ -220,7 +220,7 @@ impl HostState {
         }
     }
 
-    /// Behind a command that was answered as it was wanted, or not.
+    /// After a command that was answered as it was wanted, or not.
     pub fn sent(self, command: HostCommand, is_answered: bool) -> HostState
         ensures { result ≡ sent self command is_answered }
     {
@@ -268,7 +268,7 @@ impl HostState {
         matches!(self.transfer, Data::Write { .. })
     }
 
-    /// Behind a block, a good one or one that failed, which ends the data.
+    /// After a block, a good one or one that failed, which ends the data.
     pub fn block_passed(self, is_good: bool) -> HostState
         ensures { result ≡ block_passed self is_good }
     {

@@ -26,7 +26,7 @@ TellsOcr kind result old new = (ocr : ℕ) → result ≡ Ok (Some ocr) → IsRe
 abbrev pub GivesOcr : Kind → Result ℕ IdentFault → BusView → BusView → Type 0
 GivesOcr kind result old new = IfOk result (λ ocr. IsReadyOcr kind ocr old.card.made)
 
--- One inquiry of a card of this kind, behind CMD55 or not.
+-- One inquiry of a card of this kind, after CMD55 or not.
 abbrev pub Asks : Bool → Kind → Bool → Result (Option ℕ) IdentFault → BusView → BusView → Type 0
 Asks app kind hcs result old new =
     Moved (TellsOcr kind result)
@@ -47,7 +47,7 @@ Starts app kind hcs first result old new =
     (λ old new. InProfile old.card.made → CanStart old.card.made hcs → old.card.made.kind ≡ kind
     → IsIdle hcs app first old.card → (result ≡ Ok (ready_ocr old.card.made)) × (new.card.state ≡ Ready)) old new
 
--- what an inquiry leaves that has no fault, behind others
+-- what an inquiry leaves that has no fault, after others
 next_inquired : (app : Bool) (kind : Kind) (hcs : Bool) (times : ℕ) (result : Result (Option ℕ) IdentFault)
     (a b c : BusView) → Stays a b → Asks app kind hcs result b c → NoFault b c → InProfile a.card.made
     → CanStart a.card.made hcs → a.card.made.kind ≡ kind → IsIdle hcs app times b.card

@@ -58,7 +58,7 @@ pub fn announce<B: Bus>(bus: &mut B) -> Result<bool, IdentFault>
     answered(ask(bus, APP_CMD, 0))
 }
 
-// ACMD41, behind CMD55.
+// ACMD41, after CMD55.
 fn inquire<B: Bus>(bus: &mut B, hcs: bool) -> Result<Option<u32>, IdentFault>
     ensures bounded { (B.view bus.new).exchanges ≤ (B.view bus.old).exchanges + 1 }
     ensures lines { (B.view bus.new).lines ≡ (B.view bus.old).lines }
@@ -89,7 +89,7 @@ fn inquire_again<B: Bus>(bus: &mut B, hcs: bool) -> Result<Option<u32>, IdentFau
     inquire(bus, hcs)
 }
 
-// The inquiries behind the first one.
+// The inquiries after the first one.
 fn inquire_on<B: Bus>(bus: &mut B, hcs: bool) -> Result<u32, IdentFault>
     ensures bounded { (B.view bus.new).exchanges ≤ (B.view bus.old).exchanges + 30 }
     ensures lines { (B.view bus.new).lines ≡ (B.view bus.old).lines }

@@ -49,7 +49,7 @@ AreApart (e ∷ es) = ((sector : ℕ) → has_sector e.request sector ≡ true �
 abbrev pub AreOneExtent : Extent → List Entry → Type 0
 AreOneExtent extent es = (sector : ℕ) → any_has es sector ≡ (nat_le extent.start sector && nat_lt sector extent.end)
 
--- none of these came behind one of those that it conflicts with
+-- none of these came after one of those that it conflicts with
 abbrev pub PassNone : List Entry → List Entry → Type 0
 PassNone [] left = Unit {0}
 PassNone (e ∷ es) left = (passes_none e left ≡ true) × PassNone es left

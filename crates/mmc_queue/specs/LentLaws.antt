@@ -183,7 +183,7 @@ nth_by held es s (Some b) rest zero is below more =
 nth_by held es s (Some b) rest (suc i) is below more =
     let sum : s + suc i ≡ suc s + i = omega arith in ap (block_at (held_by held) es) sum ∙ more i (omega (arith, below))
 
--- block i is that of the sector i behind the first
+-- block i is that of the sector i after the first
 pub nth_block : (held : Held) (es : List Entry) (s n i : ℕ) → i < length (blocks_from (held_by held) es s n)
     → block_at (held_by held) es (s + i) ≡ Some (slice_index_or (blocks_from (held_by held) es s n) i [])
 nth_block held es s zero i below = absurd (omega (arith, below))

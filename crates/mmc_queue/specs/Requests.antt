@@ -1,3 +1,4 @@
+-- Headline (docs/AUDIT.md, "What to read").
 -- What a request names, and when two requests conflict. The rules are the project's own.
 use Rattle.std.specs.Prelude.{◌&&◌, ◌*◌, ◌+◌, ◌<◌, ◌==◌, ◌≡◌, ◌≤◌, Bool, List, [], length, nat_lt, not, true, ℕ}
 use Rattle.mmc_card.specs.declared.part.Part.{Part}
@@ -26,7 +27,7 @@ count_of (Write part start count bytes) = count
 count_of (Erase part start count) = count
 count_of (Trim part start count) = count
 
--- the sector behind its last one
+-- the sector after its last one
 abbrev pub end_of : Request → ℕ
 end_of request = start_of request + count_of request
 

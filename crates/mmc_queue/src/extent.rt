@@ -9,7 +9,7 @@ use mmc_requests::{Kind, MAX_COUNT};
 /// The most requests of a group.
 pub const MAX_GROUP: usize = 16;
 
-/// The sectors that the requests of a group are together: one behind the other, without a gap.
+/// The sectors that the requests of a group are together: one after the other, without a gap.
 #[derive(Clone, Copy, Debug)]
 pub struct Extent {
     /// Their partition.
@@ -18,7 +18,7 @@ pub struct Extent {
     pub kind: Kind,
     /// The first sector.
     pub start: u64,
-    /// The sector behind the last one.
+    /// The sector after the last one.
     pub end: u64,
     /// How many requests they are of.
     pub members: usize,
@@ -72,7 +72,7 @@ impl Extent {
         }
     }
 
-    // The sector that stands so many behind the first.
+    // The sector that stands so many after the first.
     pub(crate) fn sector(self, i: usize) -> u64
         requires { self.start + i < self.end }
         ensures { result ≡ self.start + i }

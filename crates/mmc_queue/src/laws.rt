@@ -38,7 +38,7 @@ pub fn a_group_lends_each_sector_of_its_extent()
         → length (write_blocks_of group) ≡ group.extent.end - group.extent.start }
 {}
 
-/// The block that is lent for a sector of a member's is that member's own: for the sector that stands `i` behind its
+/// The block that is lent for a sector of a member's is that member's own: for the sector that stands `i` after its
 /// first, block `i` of its buffer, or of the bytes that it writes.
 pub fn a_group_lends_the_blocks_of_its_members()
     ensures reads { (group : Group) (e : Entry) (i : ℕ)

@@ -6,7 +6,7 @@ use mmc_requests::Kind;
 pub enum Edge {
     /// Its first sector.
     Start,
-    /// The sector behind its last one.
+    /// The sector after its last one.
     End,
 }
 

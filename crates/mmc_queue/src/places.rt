@@ -30,7 +30,7 @@ impl Place {
     }
 }
 
-/// The places of requests that wait: each has two, by its first sector and by the one behind its last.
+/// The places of requests that wait: each has two, by its first sector and by the one after its last.
 #[derive(Drop)]
 pub struct Places {
     pub(crate) items: BTreeSet<Place>,

@@ -57,7 +57,7 @@ impl Queue {
         self.by_ticket.len()
     }
 
-    /// Lets an entry wait, behind all others, or hands it back. All memory that its waiting takes is taken here.
+    /// Lets an entry wait, after all others, or hands it back. All memory that its waiting takes is taken here.
     ///
     /// # Errors
     /// The first refusal that holds in the order of `PushFault`, with the entry; the queue is as before then.

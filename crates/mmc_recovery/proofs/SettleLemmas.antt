@@ -19,7 +19,7 @@ pub resets_stays : (broken : Broken) (r : Result Session Broken) (a b : BusView)
     → Stays a b × Narrows a b
 resets_stays broken r a b p = (p.stays, p.sectors)
 
--- A reset behind anything else.
+-- A reset after anything else.
 pub resets_then : {Own Fine : BusView → BusView → Type 0} (broken : Broken) (r : Result Session Broken)
     (a b c : BusView) → Moved Own Fine a b → Resets broken r b c → Resets broken r a c
 resets_then broken r a b c p q =

@@ -1,3 +1,4 @@
+-- Headline (docs/AUDIT.md, "What to read").
 -- The CSD of an SD card or an eMMC device, and what it says of the card (SD Physical Layer 6.00, sections 5.3.2 and
 -- 5.3.3; JESD84-B51, section 7.3).
 use Rattle.std.specs.Prelude.{ℕ, ◌+◌, ◌-◌, ◌*◌, ◌/◌, ◌^◌, ◌==◌, ◌&&◌, ◌||◌, nat_le, Bool, List, if◌then◌else◌, Result}

@@ -1,3 +1,4 @@
+-- Headline (docs/AUDIT.md, "What to read").
 -- The fields of the CSD, a register of 128 bits, by their bits: version 1.0 of SD cards (SD Physical Layer 6.00,
 -- section 5.3.2) and, down to TMP_WRITE_PROTECT, the CSD of eMMC devices too (JESD84-B51, section 7.3).
 use Rattle.std.specs.Prelude.{ℕ}

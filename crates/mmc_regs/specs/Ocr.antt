@@ -1,3 +1,4 @@
+-- Headline (docs/AUDIT.md, "What to read").
 -- The OCR, a register of 32 bits (SD Physical Layer 6.00, section 5.1; JESD84-B51, section 7.1).
 use Rattle.std.specs.Prelude.{ℕ}
 use Rattle.mmc_frame.specs.Field.{field}

@@ -1,3 +1,4 @@
+-- Headline (docs/AUDIT.md, "What to read").
 -- CID and CSD are registers of 128 bits with a check (SD Physical Layer 6.00, sections 4.5, 5.2 and 5.3; JESD84-B51,
 -- sections 7.2 and 7.3).
 use Rattle.std.specs.Prelude.{ℕ, ◌&&◌, List, if◌then◌else◌, Result, Ok, Err}

@@ -1,3 +1,4 @@
+-- Relation (docs/AUDIT.md, "What to read").
 -- The SCR of an SD card, a register of 64 bits (SD Physical Layer 6.00, section 5.6).
 use Rattle.std.specs.Prelude.{ℕ, ◌==◌, List, if◌then◌else◌}
 use Rattle.byteorder.specs.Endian.{big_number}

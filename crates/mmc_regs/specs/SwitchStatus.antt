@@ -1,3 +1,4 @@
+-- Relation (docs/AUDIT.md, "What to read").
 -- The switch status that an SD card sends after CMD6, 64 bytes of which bits 511 to 504 are the first
 -- (SD Physical Layer 6.00, section 4.3.10.4). Function 1 of group 1, the access mode, is high speed.
 use Rattle.std.specs.Prelude.{ℕ, List, slice_index}

@@ -1,3 +1,4 @@
+-- Headline (docs/AUDIT.md, "What to read").
 -- What a request changes. The rules are the project's own.
 use Rattle.std.specs.Prelude.{◌∷◌, ◌≡◌, List, [], replicate, true, ℕ}
 use Rattle.mmc_card.specs.Sectors.{Change, Sector, Sets, Within, changed, touches, value_of}

@@ -1,3 +1,4 @@
+-- Headline (docs/AUDIT.md, "What to read").
 -- What requests do with their sectors.
 use Rattle.std.specs.Prelude.{Bool, false, true}
 use Rattle.mmc_erase.specs.declared.how.How.{How}

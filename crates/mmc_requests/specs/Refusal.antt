@@ -1,6 +1,7 @@
+-- Headline (docs/AUDIT.md, "What to read").
 -- When a request is refused, by what is known of the card. The rules are the project's own.
 use Rattle.std.specs.Prelude.{◌&&◌, ◌+◌, ◌==◌, Bool, None, Option, Some, if◌then◌else◌, nat_lt, not, ℕ}
-use Rattle.mmc_card.specs.RowsErase.{is_boot}
+use Rattle.mmc_card.specs.Sectors.{is_boot}
 use Rattle.mmc_card.specs.declared.part.Part.{Part}
 use Rattle.mmc_erase.specs.Job.{suits}
 use Rattle.mmc_erase.specs.declared.how.How.TheVariants as how

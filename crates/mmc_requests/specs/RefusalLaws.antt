@@ -2,7 +2,7 @@
 use Rattle.std.specs.Prelude.{◌&&◌, ◌+◌, ◌==◌, ◌≡◌, ◌≤◌, Bool, IsSome, None, Option, Some, false, nat_lt, not, true, ℕ}
 use Rattle.std.proofs.Common.{arith, cond, refl, subst}
 use Rattle.std.proofs.lemmas.Bool.Decides.{nat_tests}
-use Rattle.mmc_card.specs.RowsErase.{is_boot}
+use Rattle.mmc_card.specs.Sectors.{is_boot}
 use Rattle.mmc_card.specs.declared.part.Part.{Part}
 use Rattle.mmc_erase.specs.Job.{suits}
 use Rattle.mmc_erase.specs.declared.how.How.{How}

@@ -53,7 +53,7 @@ still_there v0 v1 v2 state limits lent start lends prepares kept =
     let l = lends p.0 in
     (l.0, ap (λ (v : ControllerView). host_over v state limits) p.1.same ∙ ap (λ (v : ControllerView). host_over v state limits) l.1)
 
--- nothing happens to the host behind a command
+-- nothing happens to the host after a command
 pub sends_then : (h0 h1 h2 : HostView) (command : HostCommand) (heard : Result Heard ResponseFault) → Sends h0 command heard h1
     → StaysHost h1 h2 → Sends h0 command heard h2
 sends_then h0 h1 h2 command heard sends stays kept =
@@ -62,7 +62,7 @@ sends_then h0 h1 h2 command heard sends stays kept =
     subst (λ (h : HostView). HostSteps h0 (sent h0.state command (is_ok heard))
     (Answers (bus_of h0) command.index command.argument (answer_heard command.response command.index heard) (bus_of h)) h) (sym e.1) s
 
--- What is so behind a command whose blocks the controller moves.
+-- What is so after a command whose blocks the controller moves.
 module _ (v0 v1 v2 : ControllerView) (lent : Lent) (start : ℕ) (state : HostState) (limits : Lines) (command : HostCommand)
     (heard : Result Heard ResponseFault) (count : ℕ) (moved : Moved DataIn)
     (lines : WhereKept v0 (lines_in v0.settings.control ≡ lines_of state.ios))

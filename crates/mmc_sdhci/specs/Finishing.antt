@@ -84,7 +84,7 @@ ended state = record state { transfer = Data.Nothing }
 abbrev pub IsLentFor : ControllerView → Data → Type 0
 IsLentFor view transfer = view.is_kept ≡ true → is_lent_for view.dma.lent transfer ≡ true
 
--- What became of the data behind a command: all blocks were moved, or one failed; none, where the command wasn't heard.
+-- What became of the data after a command: all blocks were moved, or one failed; none, where the command wasn't heard.
 abbrev pub MovesBehind : ControllerView → Result Heard ResponseFault → ℕ → Moved DataIn → ControllerView → Type 0
 MovesBehind old (Err fault) count moved new = (moved ≡ Move.Good 0) × (new ≡ old)
 MovesBehind old (Ok heard) count (Move.Good done) new = (done ≡ count) × Finishes old None new

@@ -86,7 +86,7 @@ module _ (change : Change) (a b : Card) (rest_a : Same (holds a) (known a)) (res
   pub exactly : Same (holds b) (changed change (holds a))
   exactly part s = by part s _ refl
 
--- Turns one behind the other.
+-- Turns one after the other.
 
 pub within_twice : (change : Change) (a b c : Sets) → Within b (maybe_changed change a) → Within c (maybe_changed change b)
     → Within c (maybe_changed change a)

@@ -1,5 +1,5 @@
 -- What ends a write, an erase or a trim: polls until the card isn't busy, and then a clean status. Where the card is exactly,
--- after so many polls and behind the last one, is the work's own.
+-- after so many polls and after the last one, is the work's own.
 use Rattle.std.proofs.Common.{◌+◌, ◌<◌, ◌∙◌, ◌∷◌, ◌≡◌, Bool, List, [], ap, arith, cond, false, refl, subst, sym, true, ℕ}
 use Rattle.std.specs.Prelude.{Err, IsSome, None, Ok, Option, Result, Some, if◌then◌else◌, min}
 use Rattle.mmc_frame.specs.declared.card_state.State.{State}

@@ -1,4 +1,4 @@
--- A command that makes the card send bytes, and the block behind it.
+-- A command that makes the card send bytes, and the block after it.
 use Rattle.std.proofs.Common.{◌∙◌, ◌≡◌, Bool, List, ap, false, length, refl, subst, sym, true, ℕ}
 use Rattle.std.proofs.lemmas.Bool.{eq-eqb}
 use Rattle.std.proofs.lemmas.List.{length-set}

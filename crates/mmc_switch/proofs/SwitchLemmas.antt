@@ -1,4 +1,4 @@
--- A switch of an eMMC device: CMD6 and the status behind it; and the switches of widening, one behind the other.
+-- A switch of an eMMC device: CMD6 and the status after it; and the switches of widening, one after the other.
 use Rattle.std.proofs.Common.{◌∙◌, ◌≡◌, ◌⊎◌, ◌↔◌, Bool, ap, false, inl, inr, refl, subst, sym, true, ℕ}
 use Rattle.std.specs.Prelude.{◌&&◌, ◌*◌, ◌+◌, ◌==◌, Err, IfSome, IsErr, IsOk, None, Ok, Option, Result, Some}
 use Rattle.std.specs.Prelude.{if◌then◌else◌, length}
@@ -69,13 +69,13 @@ requested argument heard r old new none lines k law clean ok all =
       does.1,
     ))
 
--- The status behind it.
+-- The status after it.
 
 -- a switch leaves the RCA, and no address is held that wasn't before
 abbrev pub Keeps : Card → Card → Type 0
 Keeps card after = (after.erase ≡ card.erase) × (after.rca ≡ card.rca)
 
--- the outcome of tests, one behind the other
+-- the outcome of tests, one after the other
 one_of : (card x : Card) (first : Bool) (rest : Option Card) → Keeps card x → IfSome rest (Keeps card)
     → IfSome (if first then Some x else rest) (Keeps card)
 one_of card x true rest p other = p
@@ -158,7 +158,7 @@ ordered after = record {
   rests = refl;
 }
 
--- a clean status behind the busy time rules SWITCH_ERROR out
+-- a clean status after the busy time rules SWITCH_ERROR out
 unfailed : (card : Card) (X : Type 0) → card.made.kind ≡ Mmc → IsInOrder Mmc (rested card)
     → X ⊎ (card.switch_error ≡ true) → X
 unfailed card X mmc order (inl is) = is
@@ -323,7 +323,7 @@ pub groups_fail : (rca : ℕ) (lines : Lines) (fault : Cause) (r : Result Unit C
 groups_fail rca lines fault r a b err p =
     moved_as a b p (λ mmc may at ok. refuted r err ok) (λ same mmc may at. cc (p.fine same mmc at))
 
--- two switches, one behind the other
+-- two switches, one after the other
 sets_then : (was is more : Setting) (r : Result Unit Cause) (a b c : BusView) → Sets was is (Ok tt) a b
     → Sets is more r b c → Sets was more r a c
 sets_then was is more r a b c p q =

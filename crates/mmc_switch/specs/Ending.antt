@@ -44,7 +44,7 @@ FailsAt waits (Ok Clean) = ⊥
 FailsAt waits (Ok AtWork) = waits + 1 ≡ MAX_POLLS
 FailsAt waits (Err cause) = Unit {0}
 
--- What its exchange did, by what comes behind it.
+-- What its exchange did, by what comes after it.
 abbrev pub EndingDid : Session → Ending → BusView → Result (Option Ending) Cause → BusView → Type 0
 EndingDid session (Wait polls) old (Ok (Some (Wait more))) new = (more ≡ polls + 1) × Polls true old new
 EndingDid session (Wait polls) old (Ok (Some (Confirm waits))) new = (waits ≡ polls) × Polls false old new

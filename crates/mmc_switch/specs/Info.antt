@@ -1,3 +1,4 @@
+-- Headline (docs/AUDIT.md, "What to read").
 -- What a host knows of a card, and what the card's registers say of it; of width and timing, what card and host can together.
 use Rattle.std.specs.Prelude.{◌&&◌, ◌==◌, ◌≡◌, ◌⊎◌, Bool, Ok, Option, false, if◌then◌else◌, ℕ}
 use Rattle.mmc_frame.specs.declared.kind.Kind.{Kind}

@@ -1,3 +1,4 @@
+-- Headline (docs/AUDIT.md, "What to read").
 -- The sizes of a card's partitions.
 use Rattle.std.specs.Prelude.{◌==◌, List, None, Option, Some, if◌then◌else◌, ℕ}
 use Rattle.mmc_frame.specs.declared.addressing.Addressing.{Addressing}

@@ -11,7 +11,7 @@ use Rattle.mmc_switch.specs.declared.progress.Standing.{Standing}
 use Rattle.mmc_switch.specs.declared.progress.Standing.TheVariants as standing
 use Rattle.mmc_switch.specs.declared.session.Session.{Session}
 
--- what an exchange makes of work for this session: it goes on in the phase behind it, or it is done, or it has failed
+-- what an exchange makes of work for this session: it goes on in the phase after it, or it is done, or it has failed
 abbrev pub Makes : {P R : Type 0} → Session → (P → R → Type 0) → Result (Option P) Cause → Progress R → Type 0
 Makes session IsNext (Ok (Some phase)) (More run) = IsNext phase run
 Makes session IsNext (Ok None) (Done same) = same ≡ session
@@ -30,7 +30,7 @@ progress_of session run standing.GoesOn = More run
 progress_of session run standing.Done = Done session
 progress_of session run (standing.Failed cause) = Failed (broken_off session cause)
 
--- the exchanges that are left behind one; once the work is over there is no phase
+-- the exchanges that are left after one; once the work is over there is no phase
 abbrev pub left_after : {P : Type 0} → (P → ℕ) → Option P → ℕ
 left_after left (Some phase) = left phase
 left_after left None = 0
@@ -40,7 +40,7 @@ abbrev pub LowersBy : {R : Type 0} → (R → ℕ) → R → Progress R → Type
 LowersBy left run (More next) = left next < left run
 LowersBy left run _ = 0 < left run
 
--- What a turn leaves, by the phase behind it: the card is where that phase says, or it is ready and the work done, or the
+-- What a turn leaves, by the phase after it: the card is where that phase says, or it is ready and the work done, or the
 -- work has failed.
 abbrev pub LeftIn : {P : Type 0} → Session → (P → ℕ → BusView → Type 0) → (Card → Type 0) → Result (Option P) Cause → ℕ
     → BusView → Type 0

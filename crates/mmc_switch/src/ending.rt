@@ -54,7 +54,7 @@ impl Ending {
         }
     }
 
-    /// Its exchange, and what comes behind it, or `None` where the card is ready.
+    /// Its exchange, and what comes after it, or `None` where the card is ready.
     ///
     /// # Errors
     /// The cause of the exchange: `Busy` of a poll, and of CMD13 `Answer` or `Status`, also where it showed the card at work

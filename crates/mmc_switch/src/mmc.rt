@@ -78,7 +78,7 @@ fn judge(block: &[u8; 512], addressing: Addressing) -> Result<ExtCsd, SwitchFaul
     }
 }
 
-// CMD6, whose response has to show no error: the device programs the byte, or SWITCH_ERROR is to be shown behind that.
+// CMD6, whose response has to show no error: the device programs the byte, or SWITCH_ERROR is to be shown after that.
 fn request<B: Bus>(bus: &mut B, argument: u32) -> Result<(), Cause>
     ensures ends { Ends 1 (B.view bus.old) result (B.view bus.new) }
     ensures done { (B.view bus.new).is_kept ≡ true → Done (MayStandIn argument) Narrows

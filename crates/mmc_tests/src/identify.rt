@@ -26,7 +26,7 @@ fn replying(alloc: Global, replies: &[Reply]) -> Result<ScriptedBus, Fail> {
     Ok(ScriptedBus::new(answers))
 }
 
-// Which refusal is named: nothing answers; another pattern than that of CMD8; and RCA 0, to CMD3 behind CMD0, CMD8, CMD55,
+// Which refusal is named: nothing answers; another pattern than that of CMD8; and RCA 0, to CMD3 after CMD0, CMD8, CMD55,
 // ACMD41 and CMD2.
 #[test]
 fn names_what_is_wrong(rt: HostRuntime) -> Result<(), Fail> {

@@ -7,13 +7,13 @@ use byteorder::{BigEndian, ByteOrder};
 const FIRST_MAGIC: u64 = 0x4e42_444d_4147_4943;
 // `IHAVEOPT`.
 pub(crate) const OPTION_MAGIC: u64 = 0x4948_4156_454f_5054;
-// Fixed newstyle, and no zeroes behind the answer to `ExportName`.
+// Fixed newstyle, and no zeroes after the answer to `ExportName`.
 const SERVER_FLAGS: u16 = 3;
 
-/// What a client says of itself behind the greeting.
+/// What a client says of itself after the greeting.
 #[derive(Clone, Copy, Debug, PartialEq, Eq)]
 pub struct ClientFlags {
-    /// It wants no zeroes behind the answer to `ExportName`.
+    /// It wants no zeroes after the answer to `ExportName`.
     pub no_zeroes: bool,
 }
 

@@ -35,7 +35,7 @@ impl OptionKind {
     }
 }
 
-/// The header of an option. Its data stand behind it.
+/// The header of an option. Its data stand after it.
 #[derive(Clone, Copy, Debug, PartialEq, Eq)]
 pub struct OptionHeader {
     /// Its number, which its replies repeat.

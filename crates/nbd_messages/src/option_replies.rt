@@ -40,7 +40,7 @@ impl OptionReply {
     }
 }
 
-/// A reply to the option with this number, with so many bytes of data behind it.
+/// A reply to the option with this number, with so many bytes of data after it.
 pub fn option_reply(option: u32, reply: OptionReply, length: u32) -> [u8; 20]
     ensures { result ≡ option_reply_header option reply length }
 {

@@ -17,7 +17,7 @@ fn number_of(error: Option<ReplyError>) -> u32
     }
 }
 
-/// A simple reply under this cookie. The data of a read without an error stand behind it.
+/// A simple reply under this cookie. The data of a read without an error stand after it.
 pub fn simple_reply(error: Option<ReplyError>, cookie: u64) -> [u8; 16]
     ensures { result ≡ reply_header error cookie }
 {

@@ -7,7 +7,7 @@ use byteorder::{BigEndian, ByteOrder};
 // The first four bytes of a request.
 const REQUEST_MAGIC: u32 = 0x2560_9513;
 
-/// The header of a request. The data of a write stand behind it.
+/// The header of a request. The data of a write stand after it.
 #[derive(Clone, Copy, Debug, PartialEq, Eq)]
 pub struct RequestHeader {
     /// Flags of the command.

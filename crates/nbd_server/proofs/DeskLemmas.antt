@@ -1,4 +1,4 @@
--- Acts at a desk, one behind the other.
+-- Acts at a desk, one after the other.
 use Rattle.std.proofs.Common.{[], inl, inr, ap, append-nil, append_assoc, arith, length, length-append, refl, subst, sym, ◌+◌, ◌++◌, ◌∙◌, ◌∷◌, ◌≡◌, ◌⊎◌}
 use Rattle.std.proofs.Common.{Err, List, None, Ok, Option, Result, Some, true, ℕ}
 use Rattle.std.proofs.lemmas.List.{get_or_push}

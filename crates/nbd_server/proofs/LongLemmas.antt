@@ -52,7 +52,7 @@ none_more view a b c each n acts r P h of_parts leads none failed = (
   if_no_ok r (P (h.acts ++ acts)) failed,
 )
 
--- an error behind these acts, and why
+-- an error after these acts, and why
 pub parts_failed : {B X : Type 0} (view : B → BusView) (a b c : DeskView B) (xs ys : List Act) (r : Result X ReplyError)
     (e : ReplyError) (P : List Act → X → Type 0) → IsErr r → IsErrAnd r (λ d. d ≡ e) → AreOfParts xs → AreOfParts ys
     → Leads view a xs b → Leads view b ys c → (e ≡ Failed → HasFailedPart (xs ++ ys))

@@ -41,7 +41,7 @@ slice_stays a d xs ys le =
     ap (take a) (drop-append-le d xs ys (omega (arith, le)))
     ∙ take-append-le a (drop d xs) ys (omega (arith, le, length-drop d xs))
 
--- what is put behind is found there
+-- what is put after is found there
 pub slice_behind : (a d : ℕ) (xs ys : List ℕ) → length xs ≡ d → length ys ≡ a → take a (drop d (xs ++ ys)) ≡ ys
 slice_behind a d xs ys at long =
     ap (take a) (ap (λ k. drop k (xs ++ ys)) (sym at) ∙ drop-append_seam xs ys) ∙ take_all a ys (omega (arith, long))
@@ -85,7 +85,7 @@ joined given count parts k bytes piece all lt long one before now =
           (long ∙ begins_there count parts k all lt) one)),
     ))
 
--- Acts one behind the other.
+-- Acts one after the other.
 
 pub accepted_then : (xs ys : List Act) → accepted (xs ++ ys) ≡ accepted xs ++ accepted ys
 unfolding accepted
@@ -239,7 +239,7 @@ window_failed each parts xs ys all n none asked (nothing, kept) less lacks =
       lacks = rw (gathered_behind xs ys none) (lacks_moved (IsWanted (each n)) (gathered ys) all n kept lacks);
     }
 
--- behind others
+-- after others
 pub failed_later : (xs ys : List Act) → HasFailedPart ys → HasFailedPart (xs ++ ys)
 failed_later xs ys h = record {
   before = xs ++ h.before;

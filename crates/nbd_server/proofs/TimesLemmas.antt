@@ -45,7 +45,7 @@ load_answered cookies x [] given none = rw none refl
 load_answered cookies x (w ∷ ws) given (answer, rest, is, fits, more) =
     let h = load_answered cookies x ws rest more in rw is (omega (arith, h))
 
--- another cookie behind them changes nothing
+-- another cookie after them changes nothing
 pub load_more : (cookies : List ℕ) (cookie x : ℕ) (ws : List Waiting) → AreNumbered cookies ws
     → load (cookies ++ cookie ∷ []) x ws ≡ load cookies x ws
 unfolding times

@@ -55,14 +55,14 @@ AreTurns acts = All IsOfTurns acts
 abbrev pub cookie_under : List ℕ → ℕ → ℕ
 cookie_under cookies client = get_or cookies client 0
 
--- the cookies by number, behind an act: who is accepted is the next, with 0 for a part, to which nothing is replied
+-- the cookies by number, after an act: who is accepted is the next, with 0 for a part, to which nothing is replied
 abbrev pub cookies_behind : List ℕ → Act → List ℕ
 cookies_behind cookies (Asks cookie request (Accepted ticket)) = cookies ++ cookie ∷ []
 cookies_behind cookies (AsksPart request (Accepted ticket)) = cookies ++ 0 ∷ []
 cookies_behind cookies Clears = []
 cookies_behind cookies act = cookies
 
--- and behind all of these
+-- and after all of these
 unfoldable pub cookies_after : List ℕ → List Act → List ℕ
 cookies_after cookies [] = cookies
 cookies_after cookies (act ∷ acts) = cookies_after (cookies_behind cookies act) acts

@@ -1,4 +1,4 @@
--- What a client sends behind the negotiation: one request after the other (NBD, "Request message").
+-- What a client sends after the negotiation: one request after the other (NBD, "Request message").
 use Rattle.std.specs.Prelude.{IfSome, List, None, Option, Some, ◌+◌, ◌++◌, ◌≡◌, ◌≤◌, length, take, ℕ}
 use Rattle.std.specs.Io.Buffered.{reader_remaining}
 use Rattle.std.specs.Io.KnownBytes.{Consumes}
@@ -16,7 +16,7 @@ Reads remaining old new bytes = Consumes (reader_remaining remaining old) (reade
 abbrev pub IsJunk : Option (List ℕ) → Option (List ℕ) → Type 0
 IsJunk old new = (head : List ℕ) × (length head ≡ 28) × (request_in head ≡ None) × Consumes old new head
 
--- how many bytes of data stand behind the header of such a command
+-- how many bytes of data stand after the header of such a command
 abbrev pub data_length : Option Command → ℕ → ℕ
 data_length (Some Write) count = count
 data_length command count = 0

@@ -107,7 +107,7 @@ pub record HasFailedPart (acts : List Act) : Type 0 where
   pub asked : get_or (accepted window) number request ≡ request
   pub lacks : Lacks (IsWanted request) (gathered window) number
 
--- Windows of a long request, which are served one behind the other.
+-- Windows of a long request, which are served one after the other.
 pub record Window : Type 0 where
   pub count : ℕ
   pub acts : List Act

@@ -15,7 +15,7 @@ use Rattle.nbd_server.specs.declared.plan.Plan.{Plan}
 use Rattle.nbd_server.specs.declared.plan.Plan.TheVariants.{Answer, Ask, Flush, ReadLong, WriteLong}
 use Rattle.nbd_server.specs.declared.span.Span.{Span}
 
--- a long request has an error behind some of its parts, which is a failure only where one of them failed
+-- a long request has an error after some of its parts, which is a failure only where one of them failed
 abbrev pub HasFailed : ℕ → List Act → Type 0
 HasFailed cookie acts =
     (parts : List Act) × (error : ReplyError) × AreOfParts parts × (acts ≡ parts ++ Says cookie (Some error) ∷ [])
@@ -48,7 +48,7 @@ IsDoneAs part cookie (ReadLong span) acts = HasFailed cookie acts ⊎ IsGiven pa
 IsDoneAs part cookie (WriteLong span bytes) acts = HasFailed cookie acts ⊎ IsKept part span bytes.items cookie acts
 IsDoneAs part cookie Flush acts = acts ≡ Says cookie None ∷ []
 
--- behind turns
+-- after turns
 abbrev pub IsServedAs : Part → ℕ → Plan → List Act → Type 0
 IsServedAs part cookie plan acts =
     (turns own : List Act) × AreTurns turns × (acts ≡ turns ++ own) × IsDoneAs part cookie plan own

@@ -34,7 +34,7 @@ IsEnd left last =
     ((last ≡ []) × IsAtEnd left)
     ⊎ ((header : RequestHeader) × (behind : List ℕ) × (header.command ≡ Some Disconnect) × IsRequest header behind last)
 
--- These requests were next in the input, and this is left behind them: each was served, in their order, and nothing else was done.
+-- These requests were next in the input, and this is left after them: each was served, in their order, and nothing else was done.
 pub record AreTakenUp (export : Export) (old left : Option (List ℕ)) (acts : List Act) (served : List Served) : Type 0 where
   pub read : Consumes old left (flat_map (λ (s : Served). s.bytes) served)
   pub each : All (IsServed export) served

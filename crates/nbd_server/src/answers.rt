@@ -82,7 +82,7 @@ pub fn are_done(given: &[Completion], parts: u32) -> bool
     true
 }
 
-/// Puts the bytes that so many parts were answered with, of a read of so many sectors, one behind the other, behind others.
+/// Puts the bytes that so many parts were answered with, of a read of so many sectors, one after the other, after others.
 ///
 /// # Errors
 /// `Failed` where one of them wasn't answered with the bytes of its sectors, `NoMemory`.

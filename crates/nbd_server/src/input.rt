@@ -109,7 +109,7 @@ fn next_request<R: Read>(input: &mut BufReader<R>) -> Result<Option<RequestHeade
     }
 }
 
-// The data behind a header, which are those of a write. Where they are too many or memory is refused they are read and forgotten.
+// The data after a header, which are those of a write. Where they are too many or memory is refused they are read and forgotten.
 fn data_of<R: Read>(
     alloc: Global,
     input: &mut BufReader<R>,

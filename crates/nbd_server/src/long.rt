@@ -77,7 +77,7 @@ fn ask_writes<B: Bus>(
     Ok(parts)
 }
 
-// Reads sectors in parts that are submitted together, and puts their bytes behind others.
+// Reads sectors in parts that are submitted together, and puts their bytes after others.
 fn read_window<B: Bus>(
     alloc: Global,
     desk: &mut Desk<B>,

@@ -21,7 +21,7 @@ use nbd_messages::{
 use std::alloc::Global;
 use std::io::{BufReader, Read, Write};
 
-// Where the negotiation stands behind an option.
+// Where the negotiation stands after an option.
 #[derive(Clone, Copy, Debug, PartialEq, Eq)]
 enum Standing {
     // Another option may follow.

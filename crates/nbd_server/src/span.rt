@@ -1,7 +1,7 @@
-// Sectors one behind the other.
+// Sectors one after the other.
 ghost use Rattle.std.specs.Prelude.{◌+◌, ◌-◌, ◌<◌, ◌^◌, ◌≡◌, ◌≤◌, min};
 
-/// Sectors of an export, one behind the other.
+/// Sectors of an export, one after the other.
 #[derive(Clone, Copy, Debug, PartialEq, Eq)]
 pub struct Span {
     /// The first.
@@ -12,7 +12,7 @@ pub struct Span {
 }
 
 impl Span {
-    /// The sectors behind the first `done`, at most so many.
+    /// The sectors after the first `done`, at most so many.
     pub fn behind(self, done: u64, most: u64) -> Span
         requires { done < self.count }
         ensures start { result.start ≡ self.start + done }

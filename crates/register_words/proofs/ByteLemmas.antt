@@ -104,7 +104,7 @@ bit_of_byte n place =
     low_part (m % 256) m 8 1 (place % 8) inside (mod-mod-pow m 0 8)
     ∙ ap (λ x. x % 2) (shr-shr n (8 * (place / 8)) (place % 8) ∙ ap (λ w. n / 2 ^ w) whole)
 
--- one bit more behind those that are read
+-- one bit more after those that are read
 pub bits_step : (n high count : ℕ) → count ≤ high
     → (n / 2 ^ (high + 1 - count) % 2 ^ count) * 2 + n / 2 ^ (high - count) % 2
     ≡ n / 2 ^ (high - count) % 2 ^ (count + 1)

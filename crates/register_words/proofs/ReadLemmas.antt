@@ -110,7 +110,7 @@ not_fifteen ExtCsd h = omega arith
 not_fifteen (CardStatus kind) h = omega arith
 not_fifteen SwitchStatus h = omega arith
 
--- with a check behind fifteen bytes there are as many as the register has
+-- with a check after fifteen bytes there are as many as the register has
 pub sized : (register : Register) (digits bytes : List ℕ) → may_have register (count_by is_hex_digit digits) ≡ true
     → decode_of (filter is_hex_digit digits) ≡ Ok bytes
     → (length bytes ≡ 15 → register_len register ≡ 16) × ((length bytes ≡ 15 → ⊥) → length bytes ≡ register_len register)

@@ -21,11 +21,11 @@ is_stray byte = not (is_white byte) && not (is_hex_digit byte)
 abbrev pub has_prefix : List ℕ → Bool
 has_prefix text = (slice_index text 0 == 48) && ((slice_index text 1 == 120) || (slice_index text 1 == 88))
 
--- what stands behind a leading `0x`
+-- what stands after a leading `0x`
 abbrev pub without_prefix : List ℕ → List ℕ
 without_prefix text = if has_prefix text then drop 2 text else text
 
--- the place in a text of a place behind its prefix
+-- the place in a text of a place after its prefix
 abbrev pub place_in : List ℕ → ℕ → ℕ
 place_in text place = length text - length (without_prefix text) + place
 

@@ -105,7 +105,7 @@ pub record PutsFields (register : Register) (bytes : List ℕ) (old new : Option
   pub table : IsTable register (number_of register bytes) fields
   pub written : Writes old new result (fields_text register (number_of register bytes) fields)
 
--- the same, with what follows from the register behind them
+-- the same, with what follows from the register after them
 pub record PutsRegister (register : Register) (bytes : List ℕ) (old new : Option (List ℕ)) (result : Result Unit Error) : Type 0 where
   pub fields : List Field
   pub table : IsTable register (number_of register bytes) fields

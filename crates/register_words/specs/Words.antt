@@ -40,7 +40,7 @@ name_in (name ∷ names) value = if name.value == value then name.text.now else 
 abbrev pub has_bit : ℕ → ℕ → Bool
 has_bit place value = value / 2 ^ place % 2 == 1
 
--- the names of the bits that are set, each behind a separator, of which the first is given
+-- the names of the bits that are set, each after a separator, of which the first is given
 unfoldable pub set_text : List ℕ → List Name → ℕ → List ℕ
 set_text separator [] value = codes "\n"
 set_text separator (name ∷ names) value =
@@ -108,7 +108,7 @@ ending_text Reserved value = codes ": not zero\n"
 abbrev pub width_of : Register → Field → ℕ
 width_of register f = high_bit register f + 1 - low_bit register f
 
--- `NAME [HIGH:LOW] VALUE` with the meaning behind it, and nothing for reserved bits that are 0
+-- `NAME [HIGH:LOW] VALUE` with the meaning after it, and nothing for reserved bits that are 0
 unfoldable pub field_text : Register → ℕ → Field → List ℕ
 field_text register number f =
     if is_reserved f.meaning && (value_of register number f == 0) then []

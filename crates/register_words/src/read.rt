@@ -31,7 +31,7 @@ fn is_stray(byte: u8) -> bool
     !is_white(byte) && !is_digit(byte)
 }
 
-// What stands behind a leading `0x`.
+// What stands after a leading `0x`.
 fn without_prefix(text: &[u8]) -> &[u8]
     ensures { result.now ≡ without_prefix text.now }
 {
@@ -91,7 +91,7 @@ fn decode(alloc: Global, register: Register, text: &[u8]) -> Result<Vec<u8>, Hex
 }
 
 /// The bytes of a register, which hexadecimal digits of either case write, with an optional `0x` in front and white
-/// space anywhere behind it: spaces, tabs, line feeds and carriage returns. A CID or CSD may come without its last byte,
+/// space anywhere after it: spaces, tabs, line feeds and carriage returns. A CID or CSD may come without its last byte,
 /// the check, as some show it; that byte is 0 then.
 ///
 /// # Errors

@@ -4,7 +4,7 @@ use std::marker::Brand;
 
 /// What is assumed of a controller and its card: a story of accesses. Only proofs read it.
 pub trait HasRegisterStory {
-    // What the controller was behind each access.
+    // What the controller was after each access.
     ghost story: { RegisterStory };
 }
 

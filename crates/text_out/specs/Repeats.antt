@@ -39,7 +39,7 @@ NeighboursDiffer [] = Unit {0}
 NeighboursDiffer (r ∷ []) = Unit {0}
 NeighboursDiffer (r ∷ q ∷ rs) = (r.0 ≡ q.0 → ⊥) × NeighboursDiffer (q ∷ rs)
 
--- the first repeat went out, and `rest` is behind it
+-- the first repeat went out, and `rest` is after it
 abbrev pub PutsFirst : Option (List ℕ) → Option (List ℕ) → List ℕ → List ℕ → Type 0
 PutsFirst old new bytes rest = (length rest < length bytes) × (front : List ℕ)
     × (repeats_text bytes ≡ front ++ repeats_text rest) × Appends old new front

@@ -53,7 +53,7 @@ fn put_repeat<W: Write>(out: &mut W, byte: u8, count: u64) -> io::Result<()>
     put_number(out, count)
 }
 
-// Writes the first repeat, with a comma where others follow, and gives the bytes behind it.
+// Writes the first repeat, with a comma where others follow, and gives the bytes after it.
 fn put_first<'a, W: Write>(out: &mut W, bytes: &'a [u8]) -> io::Result<&'a [u8]>
     requires { 0 < length bytes.now }
     ensures ok { IfOk result (λ rest. PutsFirst (W.contents out.old) (W.contents out.new) bytes.now rest.now) }

@@ -1,4 +1,4 @@
-use Rattle.mmc_block.specs.Any.{cancelled_reply}
+use Rattle.mmc_block.specs.Execution.{cancelled_reply}
 use Rattle.mmc_block.specs.Execution.Event.{Cancel}
 use Rattle.mmc_history.proofs.ServingLemmas.{continues, goes_on, kept_by, same_withdrawn}
 use Rattle.mmc_history.proofs.device.Device.cancel.Goals as goal

@@ -1,4 +1,4 @@
-use Rattle.mmc_block.specs.Any.{submitted_reply}
+use Rattle.mmc_block.specs.Execution.{submitted_reply}
 use Rattle.mmc_block.specs.Execution.Event.{Submit}
 use Rattle.mmc_history.proofs.ServingLemmas.{continues, goes_on, kept_by, same_queued}
 use Rattle.mmc_history.proofs.device.Device.submit.Goals as goal
