@@ -1,43 +1,16 @@
 // The card status in words.
-ghost use Rattle.std.specs.Prelude.{OnOk, ◌++◌, ◌<◌, ◌≡◌};
+ghost use Rattle.std.specs.Prelude.{OnOk, ◌++◌, ◌<◌, ◌≡◌, map};
 ghost use Rattle.std.specs.List.{All};
-ghost use Rattle.exchange_words.specs.Statuses.{bit_words, error_name, errors_words, is_set, locked_words, ready_words, state_name, status_words};
+ghost use Rattle.mmc_frame.specs.StatusBits.{named};
+ghost use Rattle.exchange_words.specs.Statuses.{bit_words, errors_words, is_set, locked_words, ready_words, state_name};
+ghost use Rattle.exchange_words.specs.Statuses.{status_words};
 
 use crate::words::say;
 use bitflags::Flags;
+use mmc_frame::status_bits::{StatusBit, status_bits};
 use mmc_frame::{Kind, errors};
 use std::alloc::AllocError;
 use text_out::Piece;
-
-/// The bits of a card status that report an error, of either kind of card.
-pub(crate) const ERROR_BITS: [u8; 16] = [
-    31, 30, 29, 28, 27, 26, 24, 23, 22, 21, 20, 19, 16, 15, 13, 7,
-];
-
-// The name of an error bit.
-fn error_name(bit: u8) -> &'static [u8]
-    ensures { result.now ≡ error_name bit }
-{
-    match bit {
-        31 => b"OUT_OF_RANGE",
-        30 => b"ADDRESS_ERROR",
-        29 => b"BLOCK_LEN_ERROR",
-        28 => b"ERASE_SEQ_ERROR",
-        27 => b"ERASE_PARAM",
-        26 => b"WP_VIOLATION",
-        24 => b"LOCK_UNLOCK_FAILED",
-        23 => b"COM_CRC_ERROR",
-        22 => b"ILLEGAL_COMMAND",
-        21 => b"CARD_ECC_FAILED",
-        20 => b"CC_ERROR",
-        19 => b"ERROR",
-        16 => b"CSD_OVERWRITE",
-        15 => b"WP_ERASE_SKIP",
-        13 => b"ERASE_RESET",
-        7 => b"SWITCH_ERROR",
-        _ => b"",
-    }
-}
 
 // Whether a bit of a number is 1.
 fn is_set(number: u32, bit: u8) -> bool
@@ -47,26 +20,25 @@ fn is_set(number: u32, bit: u8) -> bool
     (number >> bit) % 2 == 1
 }
 
-// An error bit with a comma before it, where it is set.
-fn put_bit(out: &mut Vec<u8>, errors: u32, bit: u8) -> Result<(), AllocError>
-    requires { bit < 32 }
-    ensures { OnOk result (out.new.items ≡ out.old.items ++ bit_words errors bit) }
+// A bit with a comma before it, where it is set.
+fn put_bit(out: &mut Vec<u8>, errors: u32, bit: &StatusBit) -> Result<(), AllocError>
+    requires { bit.now.place < 32 }
+    ensures { OnOk result (out.new.items ≡ out.old.items ++ bit_words errors (named bit.now)) }
 {
-    if is_set(errors, bit) {
-        let name = error_name(bit);
-        say(out, &[Piece::Text(b", "), Piece::Text(name)])
+    if is_set(errors, bit.place) {
+        say(out, &[Piece::Text(b", "), Piece::Text(bit.name)])
     } else {
         Ok(())
     }
 }
 
 // Those of these bits that are set.
-fn put_bits(out: &mut Vec<u8>, errors: u32, bits: &[u8]) -> Result<(), AllocError>
-    requires { All (λ bit. bit < 32) bits.now }
-    ensures { OnOk result (out.new.items ≡ out.old.items ++ errors_words errors bits.now) }
+fn put_bits(out: &mut Vec<u8>, errors: u32, bits: &[StatusBit]) -> Result<(), AllocError>
+    requires { All (λ bit. bit.place < 32) bits.now }
+    ensures { OnOk result (out.new.items ≡ out.old.items ++ errors_words errors (map named bits.now)) }
 {
     for bit in bits {
-        put_bit(out, errors, *bit)?;
+        put_bit(out, errors, bit)?;
     }
     Ok(())
 }
@@ -131,6 +103,6 @@ pub fn put_status(out: &mut Vec<u8>, kind: Kind, status: u32) -> Result<(), Allo
     if errors == 0 {
         say(out, &[Piece::Text(b", no error")])
     } else {
-        put_bits(out, errors, &ERROR_BITS)
+        put_bits(out, errors, status_bits())
     }
 }

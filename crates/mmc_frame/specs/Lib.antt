@@ -5,3 +5,4 @@ pub mod Frame
 pub mod RegisterFrame
 pub mod ResponseFields
 pub mod Status
+pub mod StatusBits

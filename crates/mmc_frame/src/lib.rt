@@ -16,6 +16,7 @@ pub mod laws;
 mod register_response;
 mod response;
 mod status;
+pub mod status_bits;
 
 pub use addressing::Addressing;
 pub use card_state::State;

@@ -1,4 +1,5 @@
-// The bits of a card status (SD Physical Layer 6.00, section 4.10.1; JESD84-B51, section 6.13).
+// The fields of a card status, whose named bits have their rows in `mmc_frame` (SD Physical Layer 6.00, section 4.10.1;
+// JESD84-B51, section 6.13).
 ghost use Rattle.std.specs.Prelude.{◌≡◌, true};
 ghost use Rattle.mmc_frame.specs.declared.kind.Kind.TheVariants.{Mmc, Sd};
 ghost use Rattle.register_words.specs.Fields.{all_fit};
@@ -6,6 +7,23 @@ ghost use Rattle.register_words.specs.Tables.{covers_all};
 ghost use Rattle.register_words.specs.declared.register.Register.TheVariants.{CardStatus};
 
 use crate::field::{Field, Meaning, Name};
+use mmc_frame::status_bit;
+
+// A bit by its name in SD's standard.
+macro_rules! sd_bit {
+    ($place:literal, $name:literal, $mmc_name:literal, $standard:ident, $meaning:literal, $is_error:literal,
+        $clearing:ident) => {
+        field!($name, $place, $place, Meaning::Flag($meaning))
+    };
+}
+
+// A bit by its name in eMMC's standard.
+macro_rules! mmc_bit {
+    ($place:literal, $name:literal, $mmc_name:literal, $standard:ident, $meaning:literal, $is_error:literal,
+        $clearing:ident) => {
+        field!($mmc_name, $place, $place, Meaning::Flag($meaning))
+    };
+}
 
 const STATES_SD: &[Name] = names![
     0 => b"idle",
@@ -34,93 +52,58 @@ const STATES_MMC: &[Name] = names![
 ];
 
 static STATUS_SD: [Field; 26] = [
-    field!(b"OUT_OF_RANGE", 31, 31, Meaning::Flag(b"error")),
-    field!(b"ADDRESS_ERROR", 30, 30, Meaning::Flag(b"error")),
-    field!(b"BLOCK_LEN_ERROR", 29, 29, Meaning::Flag(b"error")),
-    field!(b"ERASE_SEQ_ERROR", 28, 28, Meaning::Flag(b"error")),
-    field!(b"ERASE_PARAM", 27, 27, Meaning::Flag(b"error")),
-    field!(b"WP_VIOLATION", 26, 26, Meaning::Flag(b"error")),
-    field!(b"CARD_IS_LOCKED", 25, 25, Meaning::Flag(b"locked")),
-    field!(b"LOCK_UNLOCK_FAILED", 24, 24, Meaning::Flag(b"error")),
-    field!(b"COM_CRC_ERROR", 23, 23, Meaning::Flag(b"error")),
-    field!(b"ILLEGAL_COMMAND", 22, 22, Meaning::Flag(b"error")),
-    field!(b"CARD_ECC_FAILED", 21, 21, Meaning::Flag(b"error")),
-    field!(b"CC_ERROR", 20, 20, Meaning::Flag(b"error")),
-    field!(b"ERROR", 19, 19, Meaning::Flag(b"error")),
+    status_bit!(OUT_OF_RANGE, sd_bit),
+    status_bit!(ADDRESS_ERROR, sd_bit),
+    status_bit!(BLOCK_LEN_ERROR, sd_bit),
+    status_bit!(ERASE_SEQ_ERROR, sd_bit),
+    status_bit!(ERASE_PARAM, sd_bit),
+    status_bit!(WP_VIOLATION, sd_bit),
+    status_bit!(CARD_IS_LOCKED, sd_bit),
+    status_bit!(LOCK_UNLOCK_FAILED, sd_bit),
+    status_bit!(COM_CRC_ERROR, sd_bit),
+    status_bit!(ILLEGAL_COMMAND, sd_bit),
+    status_bit!(CARD_ECC_FAILED, sd_bit),
+    status_bit!(CC_ERROR, sd_bit),
+    status_bit!(ERROR, sd_bit),
     reserved!(18, 17),
-    field!(b"CSD_OVERWRITE", 16, 16, Meaning::Flag(b"error")),
-    field!(b"WP_ERASE_SKIP", 15, 15, Meaning::Flag(b"error")),
-    field!(
-        b"CARD_ECC_DISABLED",
-        14,
-        14,
-        Meaning::Flag(b"without the internal ECC")
-    ),
-    field!(
-        b"ERASE_RESET",
-        13,
-        13,
-        Meaning::Flag(b"an erase sequence was cleared")
-    ),
+    status_bit!(CSD_OVERWRITE, sd_bit),
+    status_bit!(WP_ERASE_SKIP, sd_bit),
+    status_bit!(CARD_ECC_DISABLED, sd_bit),
+    status_bit!(ERASE_RESET, sd_bit),
     field!(b"CURRENT_STATE", 12, 9, Meaning::Named(STATES_SD)),
-    field!(b"READY_FOR_DATA", 8, 8, Meaning::Flag(b"ready")),
+    status_bit!(READY_FOR_DATA, sd_bit),
     reserved!(7, 7),
-    field!(
-        b"FX_EVENT",
-        6,
-        6,
-        Meaning::Flag(b"an extension function has an event")
-    ),
-    field!(
-        b"APP_CMD",
-        5,
-        5,
-        Meaning::Flag(b"an application command is expected")
-    ),
+    status_bit!(FX_EVENT, sd_bit),
+    status_bit!(APP_CMD, sd_bit),
     reserved!(4, 4),
-    field!(b"AKE_SEQ_ERROR", 3, 3, Meaning::Flag(b"error")),
+    status_bit!(AKE_SEQ_ERROR, sd_bit),
     reserved!(2, 0),
 ];
 
 static STATUS_MMC: [Field; 26] = [
-    field!(b"ADDRESS_OUT_OF_RANGE", 31, 31, Meaning::Flag(b"error")),
-    field!(b"ADDRESS_MISALIGN", 30, 30, Meaning::Flag(b"error")),
-    field!(b"BLOCK_LEN_ERROR", 29, 29, Meaning::Flag(b"error")),
-    field!(b"ERASE_SEQ_ERROR", 28, 28, Meaning::Flag(b"error")),
-    field!(b"ERASE_PARAM", 27, 27, Meaning::Flag(b"error")),
-    field!(b"WP_VIOLATION", 26, 26, Meaning::Flag(b"error")),
-    field!(b"DEVICE_IS_LOCKED", 25, 25, Meaning::Flag(b"locked")),
-    field!(b"LOCK_UNLOCK_FAILED", 24, 24, Meaning::Flag(b"error")),
-    field!(b"COM_CRC_ERROR", 23, 23, Meaning::Flag(b"error")),
-    field!(b"ILLEGAL_COMMAND", 22, 22, Meaning::Flag(b"error")),
-    field!(b"DEVICE_ECC_FAILED", 21, 21, Meaning::Flag(b"error")),
-    field!(b"CC_ERROR", 20, 20, Meaning::Flag(b"error")),
-    field!(b"ERROR", 19, 19, Meaning::Flag(b"error")),
+    status_bit!(OUT_OF_RANGE, mmc_bit),
+    status_bit!(ADDRESS_ERROR, mmc_bit),
+    status_bit!(BLOCK_LEN_ERROR, mmc_bit),
+    status_bit!(ERASE_SEQ_ERROR, mmc_bit),
+    status_bit!(ERASE_PARAM, mmc_bit),
+    status_bit!(WP_VIOLATION, mmc_bit),
+    status_bit!(CARD_IS_LOCKED, mmc_bit),
+    status_bit!(LOCK_UNLOCK_FAILED, mmc_bit),
+    status_bit!(COM_CRC_ERROR, mmc_bit),
+    status_bit!(ILLEGAL_COMMAND, mmc_bit),
+    status_bit!(CARD_ECC_FAILED, mmc_bit),
+    status_bit!(CC_ERROR, mmc_bit),
+    status_bit!(ERROR, mmc_bit),
     field!(b"obsolete", 18, 17, Meaning::Number),
-    field!(b"CID/CSD_OVERWRITE", 16, 16, Meaning::Flag(b"error")),
-    field!(b"WP_ERASE_SKIP", 15, 15, Meaning::Flag(b"error")),
+    status_bit!(CSD_OVERWRITE, mmc_bit),
+    status_bit!(WP_ERASE_SKIP, mmc_bit),
     reserved!(14, 14),
-    field!(
-        b"ERASE_RESET",
-        13,
-        13,
-        Meaning::Flag(b"an erase sequence was cleared")
-    ),
+    status_bit!(ERASE_RESET, mmc_bit),
     field!(b"CURRENT_STATE", 12, 9, Meaning::Named(STATES_MMC)),
-    field!(b"READY_FOR_DATA", 8, 8, Meaning::Flag(b"ready")),
-    field!(b"SWITCH_ERROR", 7, 7, Meaning::Flag(b"error")),
-    field!(
-        b"EXCEPTION_EVENT",
-        6,
-        6,
-        Meaning::Flag(b"an event in EXCEPTION_EVENTS_STATUS")
-    ),
-    field!(
-        b"APP_CMD",
-        5,
-        5,
-        Meaning::Flag(b"an application command is expected")
-    ),
+    status_bit!(READY_FOR_DATA, mmc_bit),
+    status_bit!(SWITCH_ERROR, mmc_bit),
+    status_bit!(EXCEPTION_EVENT, mmc_bit),
+    status_bit!(APP_CMD, mmc_bit),
     reserved!(4, 4),
     field!(b"application", 3, 2, Meaning::Number),
     field!(b"manufacturer", 1, 0, Meaning::Number),
