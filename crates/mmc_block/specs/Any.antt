@@ -7,7 +7,7 @@ use Rattle.mmc_block.specs.Groups.{PassNone}
 use Rattle.mmc_block.specs.Machine.{IsMerged, Waiting}
 use Rattle.mmc_block.specs.Execution.{Reply}
 use Rattle.mmc_block.specs.Execution.Reply.{Accepted, GivenBack, InService, RefusedFor, Unknown}
-use Rattle.mmc_block.specs.Work.{is_down}
+use Rattle.mmc_block.specs.Work.{is_broken}
 use Rattle.mmc_block.specs.declared.cancel.CancelFault.{CancelFault}
 use Rattle.mmc_block.specs.declared.cancel.CancelFault.TheVariants as fault
 use Rattle.mmc_block.specs.declared.completion.Answer.{Answer}
@@ -61,10 +61,10 @@ abbrev pub IfEachFailed : List Completion → (Cause → Type 0) → Type 0
 IfEachFailed [] P = Unit {0}
 IfEachFailed (c ∷ cs) P = IfFailed c.answer P × IfEachFailed cs P
 
--- something had failed, and the card is to be settled before anything else
+-- the card is broken, and is settled before anything else
 abbrev pub holds_broken : Service → Bool
-holds_broken (Idle link) = is_down (At link)
-holds_broken (Serving stage attempt) = is_down stage
+holds_broken (Idle stands) = is_broken (At stands)
+holds_broken (Serving stage attempt) = is_broken stage
 holds_broken Taken = false
 
 -- Replies.

@@ -3,4 +3,4 @@ pub mod Changes
 pub mod Healing
 pub mod Refusal
 pub mod Requests
-pub mod Stands
+pub mod Served

@@ -8,17 +8,19 @@ ghost use Rattle.mmc_direct.specs.Changes.{erased_at, written_at};
 ghost use Rattle.mmc_direct.specs.Healing.{HasHealed};
 ghost use Rattle.mmc_direct.specs.Refusal.{action_of, refusal};
 ghost use Rattle.mmc_direct.specs.Requests.{HasChanged, HasRead};
-ghost use Rattle.mmc_direct.specs.Stands.{AnswersBy, IfLeft, IfRefused, IfServed, IsCausedIn, StandsIn, info_of, refusal_in};
+ghost use Rattle.mmc_direct.specs.Served.{AnswersBy, IfLeft, IfRefused, IfServed, IsCausedIn, refusal_in};
+ghost use Rattle.mmc_switch.specs.Stands.{StandsIn, info_of};
 ghost use Rattle.mmc_direct.specs.declared.action.Action.TheVariants.{Read, Write};
 ghost use Rattle.mmc_direct.specs.declared.attempts.TheConstants.{ATTEMPTS};
 
 use crate::action::Action;
 use crate::retries::{keep_erasing, keep_reading, keep_writing};
 use crate::rules::refusal;
-use crate::stands::{Served, Stands};
+use crate::served::Served;
 use mmc_bus::{Blocks, BlocksMut, Bus, Part};
 use mmc_erase::How;
 use mmc_recovery::Healed;
+use mmc_switch::Stands;
 
 /// Reads these blocks, 1 to 65,535, from this sector of a partition on, in at most four attempts: each settles the card where
 /// something has failed, selects the partition where another one is selected, and makes the run. What the blocks hold is open

@@ -7,17 +7,16 @@ ghost use Rattle.mmc_direct.specs.Attempts.{Tries, erasing, moving};
 ghost use Rattle.mmc_direct.specs.Changes.{erased_at, written_at};
 ghost use Rattle.mmc_direct.specs.Healing.{HasHealed};
 ghost use Rattle.mmc_direct.specs.Refusal.{action_of, refusal};
-ghost use Rattle.mmc_direct.specs.Stands.{StandsIn, info_of, stands_of};
+ghost use Rattle.mmc_switch.specs.Stands.{StandsIn, info_of, stands_of};
 ghost use Rattle.mmc_direct.specs.declared.action.Action.TheVariants.{Read, Write};
 ghost use Rattle.mmc_direct.specs.declared.attempts.TheConstants.{ATTEMPTS};
 
 use crate::attempts::{ATTEMPTS, try_erase, try_read, try_write};
 use crate::counting::{count_done, count_failed};
-use crate::stands::Stands;
 use mmc_bus::{Blocks, BlocksMut, Bus, Part};
 use mmc_erase::How;
 use mmc_recovery::Healed;
-use mmc_switch::{Broken, Session};
+use mmc_switch::{Broken, Session, Stands};
 
 /// Reads these blocks.
 pub fn keep_reading<B: Bus, D: BlocksMut>(
@@ -48,7 +47,7 @@ pub fn keep_reading<B: Bus, D: BlocksMut>(
         }
     };
     for _failed in 1..ATTEMPTS {
-        match try_read(bus, healed, Stands::Loose(broken), part, start, blocks) {
+        match try_read(bus, healed, Stands::Broken(broken), part, start, blocks) {
             Ok(session) => {
                 count_done(healed);
                 return Ok(session);
@@ -87,7 +86,7 @@ pub fn keep_writing<B: Bus, D: Blocks>(
         }
     };
     for _failed in 1..ATTEMPTS {
-        match try_write(bus, healed, Stands::Loose(broken), part, start, blocks) {
+        match try_write(bus, healed, Stands::Broken(broken), part, start, blocks) {
             Ok(session) => {
                 count_done(healed);
                 return Ok(session);
@@ -127,7 +126,7 @@ pub fn keep_erasing<B: Bus>(
         }
     };
     for _failed in 1..ATTEMPTS {
-        match try_erase(bus, healed, Stands::Loose(broken), part, start, count, how) {
+        match try_erase(bus, healed, Stands::Broken(broken), part, start, count, how) {
             Ok(session) => {
                 count_done(healed);
                 return Ok(session);

@@ -3,7 +3,7 @@ use Rattle.mmc_direct.proofs.AttemptLemmas.{made_write, tried, tried_in_vain}
 use Rattle.mmc_direct.proofs.CauseLemmas.{caused_by_exchange}
 use Rattle.mmc_direct.proofs.ServeLemmas.{can_write, room_holds}
 use Rattle.mmc_direct.specs.Changes.{written_at}
-use Rattle.mmc_direct.specs.Stands.{info_of}
+use Rattle.mmc_switch.specs.Stands.{info_of}
 use Rattle.mmc_direct.specs.declared.action.Action.TheVariants.{Write}
 use Rattle.mmc_direct.proofs.attempts.try_write.Goals as goal
 

@@ -4,7 +4,7 @@ use Rattle.mmc_direct.proofs.CauseLemmas.{left_by}
 use Rattle.mmc_direct.proofs.HealingLemmas.{healed_by}
 use Rattle.mmc_direct.proofs.RequestLemmas.{has_changed}
 use Rattle.mmc_direct.specs.Attempts.{moving}
-use Rattle.mmc_direct.specs.Stands.{IsCausedIn}
+use Rattle.mmc_direct.specs.Served.{IsCausedIn}
 use Rattle.mmc_direct.specs.declared.attempts.TheConstants.{ATTEMPTS}
 use Rattle.mmc_direct.proofs.requests.write.Goals as goal
 
