@@ -9,13 +9,12 @@ use Rattle.mmc_bus.specs.Lending.{IsRewritten, block, nothing}
 use Rattle.mmc_calls.specs.Noted.{IsCounted, Notes, lines_in}
 use Rattle.mmc_card.specs.declared.exchange.Lines.{Lines}
 use Rattle.mmc_card.specs.declared.part.Part.{Part}
-use Rattle.mmc_direct.specs.Stands.{IfRefused, IfServed, refusal_in}
+use Rattle.mmc_direct.specs.Served.{IfRefused, IfServed, refusal_in}
 use Rattle.mmc_direct.specs.declared.refused.NotDone.{NotDone}
 use Rattle.mmc_direct.specs.declared.refused.NotDone.TheVariants.{Failed, Refused as RefusedFor}
 use Rattle.mmc_requests.specs.declared.refused.Refused.{Refused}
-use Rattle.mmc_requests.specs.declared.refused.Refused.TheVariants.{Empty, NoSuchPartition, NoTrim, NotInPartition}
-use Rattle.mmc_requests.specs.declared.refused.Refused.TheVariants.{OutOfRange, ReadOnly, TooLong, Unaligned}
-use Rattle.mmc_direct.specs.declared.stands.Stands.{Stands}
+use Rattle.mmc_requests.specs.declared.refused.Refused.TheVariants.{Empty, NoSuchPartition, NoTrim, NotInPartition, OutOfRange, ReadOnly, TooLong, Unaligned}
+use Rattle.mmc_switch.specs.declared.stands.Stands.{Stands}
 use Rattle.mmc_host.specs.HostStates.{resting}
 use Rattle.mmc_host.specs.Hosts.{HostView}
 use Rattle.mmc_host.specs.declared.told.HostState.{HostState}

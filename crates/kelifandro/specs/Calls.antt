@@ -6,10 +6,9 @@ use Rattle.c_host.specs.declared.way.Given.TheVariants.{Host, Registers}
 use Rattle.mmc_calls.specs.Noted.{IsCounted, lines_in}
 use Rattle.mmc_card.specs.declared.exchange.Lines.{Lines}
 use Rattle.mmc_card.specs.declared.part.Part.{Part}
-use Rattle.mmc_direct.specs.Stands.{stands_of}
 use Rattle.mmc_direct.specs.declared.refused.NotDone.{NotDone}
 use Rattle.mmc_requests.specs.declared.refused.Refused.{Refused}
-use Rattle.mmc_direct.specs.declared.stands.Stands.{Stands}
+use Rattle.mmc_switch.specs.declared.stands.Stands.{Stands}
 use Rattle.mmc_host.specs.HostStates.{resting}
 use Rattle.mmc_host.specs.Hosts.{HostView}
 use Rattle.mmc_record.specs.Note.{IsNoteOf}
@@ -17,13 +16,11 @@ use Rattle.mmc_record.specs.Numbers.{part_of}
 use Rattle.mmc_record.specs.declared.record.CardRecord.{CardRecord}
 use Rattle.mmc_recovery.specs.declared.healed.Healed.{Healed}
 use Rattle.mmc_story.specs.Story.{Story, host_with}
-use Rattle.mmc_switch.specs.declared.broken.Broken.{Broken}
-use Rattle.mmc_switch.specs.declared.session.Session.{Session}
 use Rattle.kelifandro.specs.Answers.{answer_number, refused_number}
 
 -- the card stands as was noted
 abbrev pub IsAsNoted : Stands → CardRecord → Type 0
-IsAsNoted stands note = (how : Result Session Broken) → IsNoteOf how note → stands ≡ stands_of how
+IsAsNoted stands note = (noted : Stands) → IsNoteOf noted note → stands ≡ noted
 
 -- 0 is a host, anything else registers; C was told nothing over it yet
 abbrev pub IsGiven : ℕ → Given CRegisters → Type 0
@@ -33,7 +30,7 @@ IsGiven way (Registers registers) = (way ≡ 0 → ⊥) × (registers.stream.dia
 -- where a card is noted, and there is a partition of this number, this holds of how it stands and of the partition
 abbrev pub IfNoted : CardRecord → ℕ → (Stands → Part → Type 0) → Type 0
 IfNoted note number Holds =
-    (how : Result Session Broken) (part : Part) → IsNoteOf how note → part_of number ≡ Some part → Holds (stands_of how) part
+    (stands : Stands) (part : Part) → IsNoteOf stands note → part_of number ≡ Some part → Holds stands part
 
 -- the host that a call goes on with: the card of the story, between two commands, on the lines that are noted
 abbrev pub host_of : Story → Stands → Lines → HostView

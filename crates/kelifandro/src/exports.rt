@@ -3,8 +3,8 @@
 // again.
 ghost use Rattle.std.specs.Prelude.{◌≡◌, IsSome, None, false, length, pos};
 ghost use Rattle.mmc_direct.specs.Refusal.{refusal};
-ghost use Rattle.mmc_direct.specs.Stands.{info_of};
 ghost use Rattle.mmc_requests.specs.declared.kind.Kind.TheVariants.{Erase, Read, Trim, Write};
+ghost use Rattle.mmc_switch.specs.Stands.{info_of};
 ghost use Rattle.mmc_recovery.specs.Healed.{none_met};
 ghost use Rattle.mmc_record.specs.Note.{is_note};
 ghost use Rattle.mmc_record.specs.Numbers.{part_of};

@@ -17,16 +17,15 @@ use Rattle.mmc_block.specs.Machine.{IsMerged, PassesNone, Waiting}
 use Rattle.mmc_block.specs.Service.{AfterFailure, AreAll, AttemptOk, Concludes, HasStarted, IsNext}
 use Rattle.mmc_block.specs.Service.{in_service_of}
 use Rattle.mmc_block.specs.declared.service.Stage.TheVariants as at
-use Rattle.mmc_block.specs.declared.service.Link.TheVariants as link
 use Rattle.mmc_recovery.specs.declared.settling.TheConstants.{EXCHANGES_OF_A_SETTLE}
 use Rattle.mmc_transfer.specs.declared.pace.Pace.{Pace}
 use Rattle.mmc_transfer.specs.declared.pace.Pace.TheVariants.{Exchange}
-use Rattle.mmc_block.specs.Work.{IsCauseAfter, IsCausedBy, is_down, most_at, most_exchanges, service_left}
+use Rattle.mmc_block.specs.Work.{IsCauseAfter, IsCausedBy, is_broken, most_at, most_exchanges, service_left}
 use Rattle.mmc_block.specs.declared.completion.Answer.TheVariants.{Failed as FailedFor}
 use Rattle.mmc_block.specs.declared.completion.Completion.{Completion}
 use Rattle.mmc_block.specs.declared.service.Attempt.{Attempt}
-use Rattle.mmc_block.specs.declared.service.Link.{Link}
-use Rattle.mmc_block.specs.declared.service.Link.TheVariants.{Down, Up}
+use Rattle.mmc_switch.specs.declared.stands.Stands.{Stands}
+use Rattle.mmc_switch.specs.declared.stands.Stands.TheVariants as Stands
 use Rattle.mmc_switch.specs.declared.progress.Progress.{Progress}
 use Rattle.mmc_switch.specs.declared.progress.Progress.TheVariants.{Done, Failed, More}
 use Rattle.mmc_block.specs.Service.{Service}
@@ -63,10 +62,10 @@ pub record Leaves (in_service : List Waiting) (cs : List Completion) (left : Lis
   pub named : AreFor answered cs
   pub passes_none : PassNone answered waits
 
-pub next_serves : (link : Link) (es : List Entry) (service : Service) → IsNext link es service
+pub next_serves : (stands : Stands) (es : List Entry) (service : Service) → IsNext stands es service
     → in_service_of service ≡ waits_of es
-next_serves link [] service n = rw n refl
-next_serves link (e ∷ es) service n = rw n.1 (first_serves n.0 (e ∷ []) es n.2)
+next_serves stands [] service n = rw n refl
+next_serves stands (e ∷ es) service n = rw n.1 (first_serves n.0 (e ∷ []) es n.2)
 
 fails_leaves : (broken : Broken) (members others : List Entry) (service : Service) (cs : List Completion)
     (waits : List Waiting) → AreAll members others → PassNone (waits_of members ++ waits_of others) waits
@@ -74,14 +73,14 @@ fails_leaves : (broken : Broken) (members others : List Entry) (service : Servic
     → Leaves (waits_of members ++ waits_of others) cs (in_service_of service) waits
 fails_leaves broken [] others service cs waits all pass a = absurd a
 fails_leaves broken (e ∷ []) others service cs waits all pass a =
-    rw (next_serves (Down broken) others service a.0, a.1) (record {
+    rw (next_serves (Stands.Broken broken) others service a.0, a.1) (record {
       answered = waiting_of e ∷ [];
       served = refl;
       named = (FailedFor broken.cause, [], refl, failure_fits e.request broken.cause, refl);
       passes_none = (pass.0, tt);
     })
 fails_leaves broken (e ∷ f ∷ es) others service cs waits all pass a =
-    rw (next_serves (Down broken) (e ∷ f ∷ es) service a.0, a.1)
+    rw (next_serves (Stands.Broken broken) (e ∷ f ∷ es) service a.0, a.1)
     (record { answered = []; served = all_served e f es others all; named = refl; passes_none = tt })
 
 pub concluded_leaves : (info : Info) (o : Progress Stage) (attempt : Attempt) (service : Service) (cs : List Completion)
@@ -94,7 +93,7 @@ concluded_leaves info (More stage) attempt service cs waits ok pass c =
 concluded_leaves info (Done session) attempt service cs waits ok pass c =
     let ms = attempt.group.members.items in
     let os = attempt.others.items in
-    rw (next_serves (Up session) os service c.0, c.1) (record {
+    rw (next_serves (Stands.Ready session) os service c.0, c.1) (record {
       answered = waits_of ms;
       served = refl;
       named = are_for info ms (servable_parts info ms os ok.servable).0;
@@ -109,8 +108,8 @@ concluded_leaves info (Failed broken) attempt service cs waits ok pass (inr c) =
 start_of_waits : (old left : List Entry) (service new : Service) → HasStarted old service left new
     → ((in_service_of new ≡ in_service_of service) × (waits_of left ≡ waits_of old))
     ⊎ ((in_service_of service ≡ []) × IsMerged (waits_of old) (in_service_of new) (waits_of left))
-start_of_waits old left (Idle link) new (inl s) = inl (rw (s.0, s.1, s.2) (refl, refl))
-start_of_waits old left (Idle link) new (inr s) =
+start_of_waits old left (Idle stands) new (inl s) = inl (rw (s.0, s.1, s.2) (refl, refl))
+start_of_waits old left (Idle stands) new (inr s) =
     let attempt : Attempt = s.0 in
     let members : List Entry = attempt.group.members.items in
     let fair : IsFair old members attempt.group.extent left = s.3 in
@@ -154,11 +153,11 @@ answers_of old left service started new cs next s l order = record {
       (subst (λ ws. AreInOrder 0 ws next) l.served order);
 }
 
-pub answers_none : (old left : List Entry) (service : Service) (link : Link) (cs : List Completion)
-    → HasStarted old service left (Idle link) → cs ≡ []
+pub answers_none : (old left : List Entry) (service : Service) (stands : Stands) (cs : List Completion)
+    → HasStarted old service left (Idle stands) → cs ≡ []
     → Answers (waits_of old) (in_service_of service) cs (waits_of left) []
-answers_none old left service link cs s e =
-    answers_of old left service (Idle link) (Idle link) cs 0 s
+answers_none old left service stands cs s e =
+    answers_of old left service (Idle stands) (Idle stands) cs 0 s
     (record { answered = []; served = refl; named = e; passes_none = tt }) (omega arith)
 
 length_for : (ws : List Waiting) (cs : List Completion) → AreFor ws cs → length cs ≡ length ws
@@ -200,8 +199,8 @@ counted_answers waits in_service cs waits' in_service' a =
 pub none_waits : (old left : List Entry) (service : Service) (stage : Stage) (attempt : Attempt)
     → HasStarted old service left (Serving stage attempt) → 0 < length attempt.group.members.items
     → length (waits_of old) + length (in_service_of service) ≡ 0 → ⊥
-none_waits old left (Idle link) stage attempt (inl s) some none = let e = s.2 in cc
-none_waits old left (Idle link) stage attempt (inr s) some none =
+none_waits old left (Idle stands) stage attempt (inl s) some none = let e = s.2 in cc
+none_waits old left (Idle stands) stage attempt (inr s) some none =
     let fair : IsFair old s.0.group.members.items s.0.group.extent left = s.3 in
     let n : length (waits_of old) ≡ length (waits_of (fair.oldest ∷ fair.later)) =
     ap (λ (es : List Entry). length (waits_of es)) fair.waits_are in
@@ -217,13 +216,13 @@ none_waits old left (Serving st attempt') stage attempt s some none =
 none_waits old left Taken stage attempt s some none = absurd s
 
 -- Where nothing is in service after a start, no work was left, and none is.
-pub no_work : (old left : List Entry) (service : Service) (link : Link) → HasStarted old service left (Idle link)
+pub no_work : (old left : List Entry) (service : Service) (stands : Stands) → HasStarted old service left (Idle stands)
     → (TURNS_OF_A_REQUEST * length (waits_of old) + service_left service ≡ 0)
-    × (TURNS_OF_A_REQUEST * length (waits_of left) + service_left (Idle link) ≡ 0)
-no_work old left (Idle last) link (inl s) = (rw s.0 (omega arith), rw s.1 (omega arith))
-no_work old left (Idle last) link (inr s) = let e = s.1 in cc
-no_work old left (Serving st attempt') link s = let e = s.0 in cc
-no_work old left Taken link s = absurd s
+    × (TURNS_OF_A_REQUEST * length (waits_of left) + service_left (Idle stands) ≡ 0)
+no_work old left (Idle last) stands (inl s) = (rw s.0 (omega arith), rw s.1 (omega arith))
+no_work old left (Idle last) stands (inr s) = let e = s.1 in cc
+no_work old left (Serving st attempt') stands s = let e = s.0 in cc
+no_work old left Taken stands s = absurd s
 
 -- Causes.
 
@@ -243,21 +242,21 @@ fails_cause broken [] others service cs P a p = absurd a
 fails_cause broken (e ∷ []) others service cs P a p = rw a.1 (p, tt)
 fails_cause broken (e ∷ f ∷ es) others service cs P a p = rw a.1 tt
 
-concluded_cause : (down : Bool) (o : Progress Stage) (attempt : Attempt) (service : Service) (cs : List Completion)
-    (view : BusView) → Concludes o attempt service cs → IsCausedBy down o view
-    → IfEachFailed cs (λ (cause : Cause). IsCauseAfter down cause view)
-concluded_cause down (More stage) attempt service cs view c p = rw c.1 tt
-concluded_cause down (Done session) attempt service cs view c p =
-    rw c.1 (answers_fail_not attempt.group.members.items (λ (cause : Cause). IsCauseAfter down cause view))
-concluded_cause down (Failed broken) attempt service cs view (inl c) p = rw c.2 tt
-concluded_cause down (Failed broken) attempt service cs view (inr c) p =
+concluded_cause : (was_broken : Bool) (o : Progress Stage) (attempt : Attempt) (service : Service) (cs : List Completion)
+    (view : BusView) → Concludes o attempt service cs → IsCausedBy was_broken o view
+    → IfEachFailed cs (λ (cause : Cause). IsCauseAfter was_broken cause view)
+concluded_cause was_broken (More stage) attempt service cs view c p = rw c.1 tt
+concluded_cause was_broken (Done session) attempt service cs view c p =
+    rw c.1 (answers_fail_not attempt.group.members.items (λ (cause : Cause). IsCauseAfter was_broken cause view))
+concluded_cause was_broken (Failed broken) attempt service cs view (inl c) p = rw c.2 tt
+concluded_cause was_broken (Failed broken) attempt service cs view (inr c) p =
     fails_cause broken attempt.group.members.items attempt.others.items service cs
-    (λ (cause : Cause). IsCauseAfter down cause view) c.1 p
+    (λ (cause : Cause). IsCauseAfter was_broken cause view) c.1 p
 
 started_broken : (old left : List Entry) (service : Service) (stage : Stage) (attempt : Attempt)
-    → HasStarted old service left (Serving stage attempt) → is_down stage ≡ holds_broken service
-started_broken old left (Idle link) stage attempt (inl s) = let e = s.2 in cc
-started_broken old left (Idle link) stage attempt (inr s) = let e = s.1 in ap holds_broken e
+    → HasStarted old service left (Serving stage attempt) → is_broken stage ≡ holds_broken service
+started_broken old left (Idle stands) stage attempt (inl s) = let e = s.2 in cc
+started_broken old left (Idle stands) stage attempt (inr s) = let e = s.1 in ap holds_broken e
 started_broken old left (Serving st attempt') stage attempt s = ap holds_broken s.0
 started_broken old left Taken stage attempt s = absurd s
 
@@ -265,26 +264,26 @@ started_broken old left Taken stage attempt s = absurd s
 
 pub started_most : (pace : Pace) (old left : List Entry) (service : Service) (stage : Stage) (attempt : Attempt)
     → HasStarted old service left (Serving stage attempt) → most_at pace stage ≡ most_exchanges pace service
-started_most pace old left (Idle link) stage attempt (inl s) = let e = s.2 in cc
-started_most pace old left (Idle link) stage attempt (inr s) = let e = s.1 in ap (most_exchanges pace) e
+started_most pace old left (Idle stands) stage attempt (inl s) = let e = s.2 in cc
+started_most pace old left (Idle stands) stage attempt (inr s) = let e = s.1 in ap (most_exchanges pace) e
 started_most pace old left (Serving st attempt') stage attempt s = ap (most_exchanges pace) s.0
 started_most pace old left Taken stage attempt s = absurd s
 
 -- one exchange, a select or a settle
 few_at : (stage : Stage) → most_at Exchange stage ≤ EXCHANGES_OF_A_SETTLE
-few_at (at.At (link.Down broken)) = omega arith
-few_at (at.At (link.Up session)) = omega arith
+few_at (at.At (Stands.Broken broken)) = omega arith
+few_at (at.At (Stands.Ready session)) = omega arith
 few_at (at.Running run) = omega arith
 
 pub few_exchanges : (service : Service) → most_exchanges Exchange service ≤ EXCHANGES_OF_A_SETTLE
-few_exchanges (Idle up) = few_at (at.At up)
+few_exchanges (Idle stands) = few_at (at.At stands)
 few_exchanges (Serving stage attempt) = few_at stage
 few_exchanges Taken = omega arith
 
 pub cause_served : (old left : List Entry) (service new : Service) (stage : Stage) (attempt after : Attempt)
     (o : Progress Stage) (cs : List Completion) (view : BusView) → HasStarted old service left (Serving stage attempt)
-    → Concludes o after new cs → IsCausedBy (is_down stage) o view
+    → Concludes o after new cs → IsCausedBy (is_broken stage) o view
     → IfEachFailed cs (λ (cause : Cause). IsCauseAfter (holds_broken service) cause view)
 cause_served old left service new stage attempt after o cs view s c p =
     subst (λ b. IfEachFailed cs (λ (cause : Cause). IsCauseAfter b cause view))
-    (started_broken old left service stage attempt s) (concluded_cause (is_down stage) o after new cs view c p)
+    (started_broken old left service stage attempt s) (concluded_cause (is_broken stage) o after new cs view c p)

@@ -19,10 +19,10 @@ use Rattle.mmc_switch.specs.UnderWay.{known_part, part_of as selected_part, room
 use Rattle.mmc_switch.specs.declared.info.Info.{Info}
 use Rattle.mmc_switch.specs.declared.session.Session.{Session}
 use Rattle.mmc_block.specs.Entries.{AreServable, IsErasable, IsServable}
-use Rattle.mmc_block.specs.Service.{EmptyIfIdle, HasStarted, IfIdle, info_of, service_of}
+use Rattle.mmc_block.specs.Service.{EmptyIfIdle, HasStarted, IfIdle, service_of, lasting_of}
 use Rattle.mmc_block.specs.Service.Service.{Serving}
 use Rattle.mmc_block.specs.declared.service.Attempt.{Attempt}
-use Rattle.mmc_block.specs.declared.service.Link.{Link}
+use Rattle.mmc_switch.specs.declared.stands.Stands.{Stands}
 use Rattle.mmc_block.specs.declared.service.Stage.TheVariants.{At}
 use Rattle.mmc_block.specs.declared.service.Phase.{Phase}
 use Rattle.mmc_block.specs.declared.service.Phase.TheVariants as phase
@@ -71,7 +71,7 @@ run_exists info g servable run =
 
 -- The session, whose partition is that of the group.
 module _ (session : Session) (g : Group) (selected : session.selected ≡ Some g.extent.part)
-    (servable : AreServable (info_of session) g.members.items) (run : FormExtent g.members.items g.extent) where
+    (servable : AreServable (lasting_of session) g.members.items) (run : FormExtent g.members.items g.extent) where
   abbrev last : Entry
   last = run.last.0
 
@@ -84,8 +84,8 @@ module _ (session : Session) (g : Group) (selected : session.selected ≡ Some g
   its_room : room_of session ≡ size_of session.info.sizes (part_of last.request)
   its_room = ap (size_of session.info.sizes) its_part
 
-  may : IsServable (info_of session) last.request last.buffer
-  may = is_servable (info_of session) g.members.items last run.last.1 servable
+  may : IsServable (lasting_of session) last.request last.buffer
+  may = is_servable (lasting_of session) g.members.items last run.last.1 servable
 
   pub run_inside : g.extent.start + (g.extent.end - g.extent.start) ≤ room_of session
   run_inside =
@@ -100,8 +100,8 @@ module _ (session : Session) (g : Group) (selected : session.selected ≡ Some g
 
   -- one that is alone
   module _ (how : How) (is : g.extent.kind ≡ kind_of_how how) (one : length g.members.items ≡ 1) where
-    suits_alone : IsSuited how (info_of session) last.request
-    suits_alone = suited how (info_of session) last.request (alike.1 ∙ is) may.erasable
+    suits_alone : IsSuited how (lasting_of session) last.request
+    suits_alone = suited how (lasting_of session) last.request (alike.1 ∙ is) may.erasable
 
     starts_there : start_of last.request ≡ g.extent.start
     starts_there =
@@ -118,30 +118,30 @@ module _ (session : Session) (g : Group) (selected : session.selected ≡ Some g
     pub run_erasable : is_boot (selected_part session) ≡ false
     run_erasable = ap is_boot its_part ∙ suits_alone.0
 
-    pub run_suits : suits how (info_of session) (room_of session) g.extent.start (g.extent.end - g.extent.start) ≡ true
+    pub run_suits : suits how (lasting_of session) (room_of session) g.extent.start (g.extent.end - g.extent.start) ≡ true
     run_suits =
-        ap (λ n. suits how (info_of session) n g.extent.start (g.extent.end - g.extent.start)) its_room
-        ∙ ap (λ n. suits how (info_of session) (size_of session.info.sizes (part_of last.request)) n (g.extent.end - g.extent.start))
+        ap (λ n. suits how (lasting_of session) n g.extent.start (g.extent.end - g.extent.start)) its_room
+        ∙ ap (λ n. suits how (lasting_of session) (size_of session.info.sizes (part_of last.request)) n (g.extent.end - g.extent.start))
         (sym starts_there)
-        ∙ ap (λ n. suits how (info_of session) (size_of session.info.sizes (part_of last.request)) (start_of last.request) n)
+        ∙ ap (λ n. suits how (lasting_of session) (size_of session.info.sizes (part_of last.request)) (start_of last.request) n)
         (sym counts_all)
         ∙ suits_alone.1
 
 -- Where nothing is in service.
 
-pub nobody_served : (was : Phase) (attempt : Attempt) → IfIdle was (λ link. Unit {0}) → EmptyIfIdle was attempt
+pub nobody_served : (was : Phase) (attempt : Attempt) → IfIdle was (λ stands. Unit {0}) → EmptyIfIdle was attempt
     → attempt.group.members.items ≡ []
-nobody_served (phase.Idle link) attempt idle empty = empty.0
+nobody_served (phase.Idle stands) attempt idle empty = empty.0
 nobody_served (phase.Serving stage) attempt idle empty = absurd idle
 nobody_served phase.Taken attempt idle empty = absurd idle
 
 -- and the next group goes into service
-pub group_started : (was : Phase) (link : Link) (old left : List Entry) (attempt : Attempt) (group : Group) → was ≡ phase.Idle link
+pub group_started : (was : Phase) (stands : Stands) (old left : List Entry) (attempt : Attempt) (group : Group) → was ≡ phase.Idle stands
     → EmptyIfIdle was attempt → IsFair old group.members.items group.extent left
-    → HasStarted old (service_of was attempt) left (Serving (At link) (record attempt { group = group; failed = 0 }))
-group_started was link old left attempt group is empty fair =
+    → HasStarted old (service_of was attempt) left (Serving (At stands) (record attempt { group = group; failed = 0 }))
+group_started was stands old left attempt group is empty fair =
     let none = subst (λ (p : Phase). EmptyIfIdle p attempt) is empty in
-    subst (λ (p : Phase). HasStarted old (service_of p attempt) left (Serving (At link) (record attempt { group = group; failed = 0 })))
+    subst (λ (p : Phase). HasStarted old (service_of p attempt) left (Serving (At stands) (record attempt { group = group; failed = 0 })))
     (sym is) (inr (
       record attempt { group = group; failed = 0 },
       refl,

@@ -95,7 +95,7 @@ servable-without info (b ∷ bs) zs e h = (h.0, servable-without info bs zs e h.
 
 service-without : (info : Info) (service : Service) (bs zs : List Waiting) (w : Waiting) (next : ℕ)
     → ServiceOk info service (bs ++ w ∷ zs) next → ServiceOk info service (bs ++ zs) next
-service-without info (Idle link) bs zs w next h = h
+service-without info (Idle stands) bs zs w next h = h
 service-without info (Serving stage attempt) bs zs w next h =
     let served : AreServed (in_service_of (Serving stage attempt)) (bs ++ w ∷ zs) next = h.3 in (
       h.0,

@@ -30,11 +30,12 @@ use Rattle.mmc_block.specs.Execution.Event.{Turn}
 use Rattle.mmc_block.specs.Execution.Reply.{Answers as Gives}
 use Rattle.mmc_block.specs.Service.{AfterFailure, AreAll, AreServed, AttemptOk, Concludes, Did, HasLeft, HasStarted}
 use Rattle.mmc_block.specs.Service.{IsAt}
-use Rattle.mmc_block.specs.Service.{IsLinked, IsNext, in_service_of, tries}
+use Rattle.mmc_block.specs.Service.{IsNext, in_service_of, tries}
+use Rattle.mmc_switch.specs.Stands.{StandsIn}
 use Rattle.mmc_block.specs.declared.completion.Completion.{Completion}
 use Rattle.mmc_block.specs.declared.service.Attempt.{Attempt}
-use Rattle.mmc_block.specs.declared.service.Link.{Link}
-use Rattle.mmc_block.specs.declared.service.Link.TheVariants.{Down, Up}
+use Rattle.mmc_switch.specs.declared.stands.Stands.{Stands}
+use Rattle.mmc_switch.specs.declared.stands.Stands.TheVariants as Stands
 use Rattle.mmc_switch.specs.declared.progress.Progress.{Progress}
 use Rattle.mmc_switch.specs.declared.progress.Progress.TheVariants.{Done, Failed, More}
 use Rattle.mmc_block.specs.Service.{Service}
@@ -83,10 +84,10 @@ pub record GoesOn (own : ℕ → ℕ) (service : Service) (left : List Waiting) 
   pub counted : IsCountedIn service 0 own
 
 -- the first of those that are to be served alone
-goes_next : (own : ℕ → ℕ) (link : Link) (es : List Entry) (service : Service) (view : BusView) → IsLinked link view
-    → IsNext link es service → GoesOn own service (waits_of es) view
-goes_next own link [] service view l n = rw n (record { in_service = refl; placed = l; counted = tt })
-goes_next own link (e ∷ es) service view l n =
+goes_next : (own : ℕ → ℕ) (stands : Stands) (es : List Entry) (service : Service) (view : BusView) → StandsIn stands view
+    → IsNext stands es service → GoesOn own service (waits_of es) view
+goes_next own stands [] service view l n = rw n (record { in_service = refl; placed = l; counted = tt })
+goes_next own stands (e ∷ es) service view l n =
     rw n.1 (record {
       in_service = rw (n.2.members_are, n.2.others_are) refl;
       placed = l;
@@ -112,7 +113,7 @@ fails_comes : (info : Info) (fell k next failed : ℕ) (m : Machine) (in_profile
     → m.in_service ≡ waits_of members ++ waits_of others
     → AreAll members others → AreServed (waits_of members ++ waits_of others) m.waits next
     → Within (holds new.card) (all_failed info (waits_of members ++ waits_of others) m.sets)
-    → (in_profile ≡ true → IsCounted (waits_of members) failed k own) → IsLinked (Down broken) new
+    → (in_profile ≡ true → IsCounted (waits_of members) failed k own) → StandsIn (Stands.Broken broken) new
     → (in_profile ≡ true → 0 < k + fell) → failed + 1 ≡ tries members
     → AfterFailure broken members others service cs
     → ComesTo info fell m in_profile own cs service new
@@ -126,12 +127,12 @@ fails_comes info fell k next failed m in_profile own broken (e ∷ []) others se
     let t = refuses info fell next m in_profile own w (waits_of others) broken.cause (holds new.card) is ok.in_order
     ok.passes_none.0 (λ p. counted_four w k fell own (some p) (c3 p)) within in
     rw after.1 (with_goes info fell (Some w.ticket) m in_profile own _ service new (waits_of others) t
-    (goes_next (own_after fell (Some w.ticket) own) (Down broken) others service new lo after.0))
+    (goes_next (own_after fell (Some w.ticket) own) (Stands.Broken broken) others service new lo after.0))
 fails_comes info fell k next failed m in_profile own broken (e ∷ f ∷ es) others service cs new is all ok within counted
     lo some last after =
     let ms = waits_of (e ∷ f ∷ es) in
     let t = goes_on info fell m in_profile own ms (waits_of others) (holds new.card) is within in
-    let goes = goes_next own (Down broken) (e ∷ f ∷ es) service new lo after.0 in
+    let goes = goes_next own (Stands.Broken broken) (e ∷ f ∷ es) service new lo after.0 in
     rw after.1 (with_goes info fell None m in_profile own [] service new (ms ++ waits_of others) t
     (subst (λ ws. GoesOn own service ws new) (sym (all_served e f es others all)) goes))
 
@@ -171,7 +172,7 @@ serve_comes info fell k next m in_profile own c (Done session) attempt service c
     (all_answers info (holds new.card) members able did.2) change within did.1
     (decides new.card ready.set.rest.finished) in
     rw concludes.1 (with_goes info fell (alone ms) m in_profile own _ service new os t
-    (goes_next (own_after fell (alone ms) own) (Up session) attempt.others.items service new ready concludes.0))
+    (goes_next (own_after fell (alone ms) own) (Stands.Ready session) attempt.others.items service new ready concludes.0))
 serve_comes info fell k next m in_profile own c (Failed broken) attempt service cs old new is ok served within change
     counted profile decides did (inl again) =
     let ms = waits_of attempt.group.members.items in
@@ -216,7 +217,7 @@ pub begins : {B : Type 0} (view : B → BusView) (bus : B) (info : Info) (servic
     (next : ℕ) (healed : Healed) (c : Counted) → DeviceOk info old service next → HasStarted old service left new
     → AgreesCounted view (view_of bus info service old next healed) c
     → Began view c (view_of bus info new left next healed)
-begins view bus info (Idle link) new old left next healed c ok (inl s) a =
+begins view bus info (Idle stands) new old left next healed c ok (inl s) a =
     rw (s.1, s.2) (record {
       started = c.machine;
       start = inr (refl, λ idle. a.agrees.waits ∙ ap waits_of s.0);
@@ -234,7 +235,7 @@ begins view bus info (Idle link) new old left next healed c ok (inl s) a =
         own = λ p. tt;
       };
     })
-begins view bus info (Idle link) new old left next healed c ok (inr s) a =
+begins view bus info (Idle stands) new old left next healed c ok (inr s) a =
     let attempt : Attempt = s.0 in
     let members : List Entry = attempt.group.members.items in
     let fair : IsFair old members attempt.group.extent left = s.3 in
@@ -297,12 +298,12 @@ abbrev pub TurnComes : {B : Type 0} → (B → BusView) → DeviceView B → Lis
 TurnComes view old cs new = Comes view old (λ (c n : Counted). CountedSteps old.info c Turn (Gives cs) n) new
 
 -- nothing is in service and nothing waits
-pub turn_idle : {B : Type 0} (view : B → BusView) (bus : B) (info : Info) (service : Service) (link : Link)
+pub turn_idle : {B : Type 0} (view : B → BusView) (bus : B) (info : Info) (service : Service) (stands : Stands)
     (old left : List Entry) (next : ℕ) (healed : Healed) (cs : List Completion)
-    → DeviceOk info old service next → HasStarted old service left (Idle link) → cs ≡ []
-    → TurnComes view (view_of bus info service old next healed) cs (view_of bus info (Idle link) left next healed)
-turn_idle view bus info service link old left next healed cs ok s none c a =
-    let b = begins view bus info service (Idle link) old left next healed c ok s a in
+    → DeviceOk info old service next → HasStarted old service left (Idle stands) → cs ≡ []
+    → TurnComes view (view_of bus info service old next healed) cs (view_of bus info (Idle stands) left next healed)
+turn_idle view bus info service stands old left next healed cs ok s none c a =
+    let b = begins view bus info service (Idle stands) old left next healed c ok s a in
     rw none (
       stays_same (view bus) (view bus).lines,
       (

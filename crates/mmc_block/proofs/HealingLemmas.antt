@@ -15,36 +15,36 @@ use Rattle.mmc_block.specs.Healing.{StepHeals, TurnHeals, after_attempt, after_o
 use Rattle.mmc_block.specs.Healing.Noted.{Attempted, Met, Settled}
 use Rattle.mmc_block.specs.Healing.{Noted, OnlyAdds, ready_at, ready_in, ready_then, with_all, with_noted}
 use Rattle.mmc_block.specs.Machine.{Waiting}
-use Rattle.mmc_block.specs.Service.{AfterFailure, Concludes, GoesOnUp, HasStarted, IsNext, Service, in_service_of}
+use Rattle.mmc_block.specs.Service.{AfterFailure, Concludes, GoesOnReady, HasStarted, IsNext, Service, in_service_of}
 use Rattle.mmc_block.specs.Service.Service.{Idle, Serving, Taken}
 use Rattle.mmc_block.specs.declared.completion.Completion.{Completion}
 use Rattle.mmc_block.specs.declared.service.Attempt.{Attempt}
-use Rattle.mmc_block.specs.declared.service.Link.{Link}
-use Rattle.mmc_block.specs.declared.service.Link.TheVariants.{Down, Up}
+use Rattle.mmc_switch.specs.declared.stands.Stands.{Stands}
+use Rattle.mmc_switch.specs.declared.stands.Stands.TheVariants as Stands
 use Rattle.mmc_block.specs.declared.service.Stage.{Stage}
 use Rattle.mmc_block.specs.declared.service.Stage.TheVariants.{At, Running}
 
 -- Where nothing is in service after a start, nothing was without an answer.
-none_unanswered : (old left : List Entry) (service : Service) (link : Link) → HasStarted old service left (Idle link)
+none_unanswered : (old left : List Entry) (service : Service) (stands : Stands) → HasStarted old service left (Idle stands)
     → length (waits_of old) + length (in_service_of service) ≡ 0
-none_unanswered old left (Idle last) link (inl s) = rw s.0 refl
-none_unanswered old left (Idle last) link (inr s) = let e = s.1 in cc
-none_unanswered old left (Serving st attempt) link s = let e = s.0 in cc
-none_unanswered old left Taken link s = absurd s
+none_unanswered old left (Idle last) stands (inl s) = rw s.0 refl
+none_unanswered old left (Idle last) stands (inr s) = let e = s.1 in cc
+none_unanswered old left (Serving st attempt) stands s = let e = s.0 in cc
+none_unanswered old left Taken stands s = absurd s
 
-pub idle_heals : {B : Type 0} (view : B → BusView) (old new : DeviceView B) (entries left : List Entry) (link : Link)
-    (cs : List Completion) → HasStarted entries old.service left (Idle link) → old.waits ≡ waits_of entries
+pub idle_heals : {B : Type 0} (view : B → BusView) (old new : DeviceView B) (entries left : List Entry) (stands : Stands)
+    (cs : List Completion) → HasStarted entries old.service left (Idle stands) → old.waits ≡ waits_of entries
     → 0 < unanswered_of old → TurnHeals view old cs new
-idle_heals view old new entries left link cs s waits some =
-    let none = none_unanswered entries left old.service link s in
+idle_heals view old new entries left stands cs s waits some =
+    let none = none_unanswered entries left old.service stands s in
     let n = ap (λ (ws : List Waiting). length ws) waits in
     absurd (omega (arith, none, n, some))
 
 -- What goes into service is at the card of the device.
 started_at : (old left : List Entry) (service : Service) (stage : Stage) (attempt : Attempt)
     → HasStarted old service left (Serving stage attempt) → broken_at stage ≡ broken_in service
-started_at old left (Idle link) stage attempt (inl s) = let e = s.2 in cc
-started_at old left (Idle link) stage attempt (inr s) = let e = s.1 in ap broken_in e
+started_at old left (Idle stands) stage attempt (inl s) = let e = s.2 in cc
+started_at old left (Idle stands) stage attempt (inr s) = let e = s.1 in ap broken_in e
 started_at old left (Serving st attempt') stage attempt s = ap broken_in s.0
 started_at old left Taken stage attempt s = absurd s
 
@@ -53,15 +53,15 @@ record StandsAt (stage : Stage) (service : Service) : Type 0 where
   pub broken : broken_in service ≡ broken_at stage
   pub ready : ready_in service ≡ ready_at stage
 
-next_at : (link : Link) (es : List Entry) (service : Service) → IsNext link es service → StandsAt (At link) service
-next_at link [] service next = rw next (record { broken = refl; ready = refl })
-next_at link (e ∷ es) service next = rw next.1 (record { broken = refl; ready = refl })
+next_at : (stands : Stands) (es : List Entry) (service : Service) → IsNext stands es service → StandsAt (At stands) service
+next_at stands [] service next = rw next (record { broken = refl; ready = refl })
+next_at stands (e ∷ es) service next = rw next.1 (record { broken = refl; ready = refl })
 
 failed_at : (broken : Broken) (members others : List Entry) (service : Service) (cs : List Completion)
-    → AfterFailure broken members others service cs → StandsAt (At (Down broken)) service
+    → AfterFailure broken members others service cs → StandsAt (At (Stands.Broken broken)) service
 failed_at broken [] others service cs after = absurd after
-failed_at broken (e ∷ []) others service cs after = next_at (Down broken) others service after.0
-failed_at broken (e ∷ f ∷ es) others service cs after = next_at (Down broken) (e ∷ f ∷ es) service after.0
+failed_at broken (e ∷ []) others service cs after = next_at (Stands.Broken broken) others service after.0
+failed_at broken (e ∷ f ∷ es) others service cs after = next_at (Stands.Broken broken) (e ∷ f ∷ es) service after.0
 
 -- The outcome of a step is what the device shows after it.
 record Shows (o : Progress Stage) (service : Service) (cs : List Completion) (healed : Healed) : Type 0 where
@@ -69,26 +69,26 @@ record Shows (o : Progress Stage) (service : Service) (cs : List Completion) (he
   pub ready : ready_then o ≡ ready_in service
 
 shows_done : (session : Session) (members : List Entry) (service : Service) (cs : List Completion) (healed : Healed)
-    → 0 < length members → cs ≡ map completion_of members → StandsAt (At (Up session)) service
+    → 0 < length members → cs ≡ map completion_of members → StandsAt (At (Stands.Ready session)) service
     → Shows (Done session) service cs healed
 shows_done session [] service cs healed some is at = absurd (omega (arith, some))
 shows_done session (m ∷ ms) service cs healed some is at =
     record { counted = rw (is, at.broken) refl; ready = sym at.ready }
 
 shows_failed : (broken : Broken) (service : Service) (cs : List Completion) (healed : Healed)
-    → StandsAt (At (Down broken)) service → Shows (Failed broken) service cs healed
+    → StandsAt (At (Stands.Broken broken)) service → Shows (Failed broken) service cs healed
 shows_failed broken service cs healed at = record { counted = rw at.broken refl; ready = sym at.ready }
 
 concluded_shows : (o : Progress Stage) (attempt : Attempt) (service : Service) (cs : List Completion) (healed : Healed)
-    → Concludes o attempt service cs → GoesOnUp o → 0 < length attempt.group.members.items → Shows o service cs healed
-concluded_shows (More (At (Up session))) attempt service cs healed c on some =
+    → Concludes o attempt service cs → GoesOnReady o → 0 < length attempt.group.members.items → Shows o service cs healed
+concluded_shows (More (At (Stands.Ready session))) attempt service cs healed c on some =
     rw (c.0, c.1) (record { counted = refl; ready = refl })
-concluded_shows (More (At (Down broken))) attempt service cs healed c on some = absurd on
+concluded_shows (More (At (Stands.Broken broken))) attempt service cs healed c on some = absurd on
 concluded_shows (More (Running work)) attempt service cs healed c on some =
     rw (c.0, c.1) (record { counted = refl; ready = refl })
 concluded_shows (Done session) attempt service cs healed c on some =
     shows_done session attempt.group.members.items service cs healed some c.1
-    (next_at (Up session) attempt.others.items service c.0)
+    (next_at (Stands.Ready session) attempt.others.items service c.0)
 concluded_shows (Failed broken) attempt service cs healed (inl c) on some =
     shows_failed broken service cs healed (rw c.1 (record { broken = refl; ready = refl }))
 concluded_shows (Failed broken) attempt service cs healed (inr c) on some =
@@ -99,7 +99,7 @@ Tells settled was session was_reset now = IfSome settled (λ broken. TellsReset 
 
 pub turn_heals : {B : Type 0} (view : B → BusView) (old new : DeviceView B) (entries left : List Entry) (stage : Stage)
     (attempt after : Attempt) (o : Progress Stage) (cs : List Completion) (mid : Healed)
-    → HasStarted entries old.service left (Serving stage attempt) → 0 < length after.group.members.items → GoesOnUp o
+    → HasStarted entries old.service left (Serving stage attempt) → 0 < length after.group.members.items → GoesOnReady o
     → Concludes o after new.service cs → StepHeals stage (view old.bus) old.healed o (view new.bus) mid
     → new.healed ≡ after_outcome o mid → TurnHeals view old cs new
 turn_heals view old new entries left stage attempt after o cs mid begun some on concludes step noted =

@@ -22,7 +22,7 @@ use Rattle.mmc_recovery.specs.declared.healed.Healed.{Healed}
 use Rattle.mmc_block.specs.Device.{AgreesCounted, IsOpened}
 use Rattle.mmc_block.specs.Machine.{Machine, opened}
 use Rattle.mmc_block.specs.Execution.{Counted}
-use Rattle.mmc_block.specs.declared.service.Link.TheVariants.{Up}
+use Rattle.mmc_switch.specs.declared.stands.Stands.TheVariants as Stands
 use Rattle.mmc_block.specs.Service.Service.{Idle}
 
 -- What is known for good is what the registers say and the host can.
@@ -73,7 +73,7 @@ pub opens_agreed : {B : Type 0} (view : B → BusView) (bus : B) (info : Info) (
     → AgreesCounted view (record {
       bus = bus;
       info = info;
-      service = Idle (Up session);
+      service = Idle (Stands.Ready session);
       waits = [];
       next = 0;
       healed = healed;

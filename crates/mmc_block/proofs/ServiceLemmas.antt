@@ -15,12 +15,12 @@ use Rattle.mmc_block.specs.Groups.{AreInOrder, AreOneKind, PassNone}
 use Rattle.mmc_block.specs.Machine.{IsMerged, Waiting}
 use Rattle.mmc_block.specs.Service.{AfterFailure, AreAll, AreServed, AttemptOk, Concludes, HasStarted, IsFirstTry}
 use Rattle.mmc_block.specs.Service.{IsNext}
-use Rattle.mmc_block.specs.Service.{IsOutcomeOf, ServiceOk, info_of, info_of_link, info_of_outcome}
+use Rattle.mmc_block.specs.Service.{IsOutcomeOf, ServiceOk, lasting_of, lasting_by, info_of_outcome}
 use Rattle.mmc_block.specs.Service.{tries}
 use Rattle.mmc_block.specs.declared.completion.Completion.{Completion}
 use Rattle.mmc_block.specs.declared.service.Attempt.{Attempt}
-use Rattle.mmc_block.specs.declared.service.Link.{Link}
-use Rattle.mmc_block.specs.declared.service.Link.TheVariants.{Down, Up}
+use Rattle.mmc_switch.specs.declared.stands.Stands.{Stands}
+use Rattle.mmc_switch.specs.declared.stands.Stands.TheVariants as Stands
 use Rattle.mmc_switch.specs.declared.progress.Progress.{Progress}
 use Rattle.mmc_block.specs.declared.service.Stage.{Stage}
 use Rattle.mmc_switch.specs.declared.progress.Progress.TheVariants.{Done, Failed, More}
@@ -145,11 +145,11 @@ lent_served attempt group waits next lent ok =
 
 -- Services.
 
-pub next_ok : (info : Info) (link : Link) (es : List Entry) (service : Service) (waits : List Waiting) (next : ℕ)
-    → info_of_link link ≡ info → AreServable info es → AreSound es → AreServed (waits_of es) waits next
-    → length es ≤ 16 → IsNext link es service → ServiceOk info service waits next
-next_ok info link [] service waits next is servable sound served few n = rw n is
-next_ok info link (e ∷ es) service waits next is servable sound served few n =
+pub next_ok : (info : Info) (stands : Stands) (es : List Entry) (service : Service) (waits : List Waiting) (next : ℕ)
+    → lasting_by stands ≡ info → AreServable info es → AreSound es → AreServed (waits_of es) waits next
+    → length es ≤ 16 → IsNext stands es service → ServiceOk info service waits next
+next_ok info stands [] service waits next is servable sound served few n = rw n is
+next_ok info stands (e ∷ es) service waits next is servable sound served few n =
     rw n.1 (
       is,
       tt,
@@ -159,16 +159,16 @@ next_ok info link (e ∷ es) service waits next is servable sound served few n =
 
 split_ok : (info : Info) (broken : Broken) (members others : List Entry) (service : Service) (cs : List Completion)
     (waits : List Waiting) (next : ℕ)
-    → info_of broken.session ≡ info → AreServable info (members ++ others) → AreSound members → AreSound others
+    → lasting_of broken.session ≡ info → AreServable info (members ++ others) → AreSound members → AreSound others
     → AreAll members others → length members + length others ≤ 16
     → AreServed (waits_of members ++ waits_of others) waits next
     → AfterFailure broken members others service cs → ServiceOk info service waits next
 split_ok info broken [] others service cs waits next is servable sound sound_others all few served a = absurd a
 split_ok info broken (e ∷ []) others service cs waits next is servable sound sound_others all few served a =
-    next_ok info (Down broken) others service waits next is servable.1 sound_others
+    next_ok info (Stands.Broken broken) others service waits next is servable.1 sound_others
     (served_rest (waiting_of e ∷ []) (waits_of others) waits next served) (omega (arith, few)) a.0
 split_ok info broken (e ∷ f ∷ es) others service cs waits next is servable sound sound_others all few served a =
-    next_ok info (Down broken) (e ∷ f ∷ es) service waits next is
+    next_ok info (Stands.Broken broken) (e ∷ f ∷ es) service waits next is
     (servable_parts info (e ∷ f ∷ es) others servable).0 sound
     (subst (λ ws. AreServed ws waits next) (all_served e f es others all) served) (omega (arith, few)) a.0
 
@@ -183,7 +183,7 @@ concluded_ok info (Done session) attempt service cs waits next is of ok served c
     let ms = attempt.group.members.items in
     let os = attempt.others.items in
     let few = ok.few in
-    next_ok info (Up session) os service waits next is (servable_parts info ms os ok.servable).1 ok.sound
+    next_ok info (Stands.Ready session) os service waits next is (servable_parts info ms os ok.servable).1 ok.sound
     (served_rest (waits_of ms) (waits_of os) waits next served) (omega (arith, few)) c.0
 concluded_ok info (Failed broken) attempt service cs waits next is of ok served (inl c) =
     rw c.1 (
@@ -206,13 +206,13 @@ concluded_ok info (Failed broken) attempt service cs waits next is of ok served 
 -- after a start
 pub started_ok : (info : Info) (old left : List Entry) (service new : Service) (next : ℕ)
     → DeviceOk info old service next → HasStarted old service left new → DeviceOk info left new next
-started_ok info old left (Idle link) new next ok (inl s) = rw (s.1, s.2) (record {
+started_ok info old left (Idle stands) new next ok (inl s) = rw (s.1, s.2) (record {
   servable = tt;
   in_order = low_next 0 (waits_of old) next ok.in_order;
   few = omega arith;
   serves = ok.serves;
 })
-started_ok info old left (Idle link) new next ok (inr s) =
+started_ok info old left (Idle stands) new next ok (inr s) =
     let attempt : Attempt = s.0 in
     let members : List Entry = attempt.group.members.items in
     let fair : IsFair old members attempt.group.extent left = s.3 in

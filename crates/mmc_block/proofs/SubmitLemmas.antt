@@ -93,7 +93,7 @@ pass-push low (v ∷ vs) ws w o h =
 
 service-push : (info : Info) (service : Service) (ws : List Waiting) (w : Waiting) → ServiceOk info service ws w.ticket
     → ServiceOk info service (ws ++ w ∷ []) (w.ticket + 1)
-service-push info (Idle link) ws w h = h
+service-push info (Idle stands) ws w h = h
 service-push info (Serving stage attempt) ws w h =
     let served : AreServed (in_service_of (Serving stage attempt)) ws w.ticket = h.3 in (
       h.0,
@@ -139,7 +139,7 @@ in_order-first low (m ∷ ms) os next h = (h.0, in_order-first (m.ticket + 1) ms
 service_counted-new : (info : Info) (service : Service) (ws : List Waiting) (fell next : ℕ) (own : ℕ → ℕ)
     → ServiceOk info service ws next → IsCountedIn service fell own
     → IsCountedIn service fell (λ t. if t == next then 0 else own t)
-service_counted-new info (Idle link) ws fell next own ok h = tt
+service_counted-new info (Idle stands) ws fell next own ok h = tt
 service_counted-new info (Serving stage attempt) ws fell next own ok h =
     let served : AreServed (in_service_of (Serving stage attempt)) ws next = ok.3 in
     counted-new (waits_of attempt.group.members.items) attempt.failed fell next own 0

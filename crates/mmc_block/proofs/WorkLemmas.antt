@@ -13,8 +13,8 @@ use Rattle.mmc_switch.specs.declared.info.Info.{Info}
 use Rattle.mmc_switch.specs.declared.broken.Broken.{Broken}
 use Rattle.mmc_block.specs.declared.completion.Completion.{Completion}
 use Rattle.mmc_block.specs.declared.service.Attempt.{Attempt}
-use Rattle.mmc_block.specs.declared.service.Link.{Link}
-use Rattle.mmc_block.specs.declared.service.Link.TheVariants.{Down, Up}
+use Rattle.mmc_switch.specs.declared.stands.Stands.{Stands}
+use Rattle.mmc_switch.specs.declared.stands.Stands.TheVariants as Stands
 use Rattle.mmc_switch.specs.declared.progress.Progress.{Progress}
 use Rattle.mmc_switch.specs.declared.progress.Progress.TheVariants.{Done, Failed, More}
 use Rattle.mmc_block.specs.Service.{Service}
@@ -50,13 +50,13 @@ module _ (g : Group) (short : can_merge g.extent.kind ≡ true → g.extent.end 
   run_short (Erase run) of = tt
 
   stage_short : (stage : Stage) → IsStageOf g stage → IsShortAt stage
-  stage_short (At link) of = tt
+  stage_short (At stands) of = tt
   stage_short (Running work) of = run_short work of
 
 -- what a device has in service is bounded
 pub countable : (info : Info) (service : Service) (waits : List Waiting) (next : ℕ) → ServiceOk info service waits next
     → IsCountable service
-countable info (Idle link) waits next ok = tt
+countable info (Idle stands) waits next ok = tt
 countable info (Serving stage attempt) waits next ok =
     let attempted = ok.2 in (
       attempted.joined.some,
@@ -85,18 +85,18 @@ one_of true = omega arith
 one_of false = omega arith
 
 -- a new attempt takes no more turns than that, whatever its partition
-stage_most : (link : Link) (part : Part) → stage_left (At link) part ≤ TURNS_OF_AN_ATTEMPT
-stage_most (Up session) part = one_of (is_on session.selected part)
-stage_most (Down broken) part = omega arith
+stage_most : (stands : Stands) (part : Part) → stage_left (At stands) part ≤ TURNS_OF_AN_ATTEMPT
+stage_most (Stands.Ready session) part = one_of (is_on session.selected part)
+stage_most (Stands.Broken broken) part = omega arith
 
 -- What is decided.
 
-next_left : (link : Link) (es : List Entry) (service : Service) → IsNext link es service
+next_left : (stands : Stands) (es : List Entry) (service : Service) → IsNext stands es service
     → service_left service ≤ TURNS_OF_AN_ATTEMPT * (4 * length es)
-next_left link [] service next = rw next (omega arith)
-next_left link (e ∷ es) service next =
+next_left stands [] service next = rw next (omega arith)
+next_left stands (e ∷ es) service next =
     let a : Attempt = next.0 in
-    let most = stage_most link a.group.extent.part in
+    let most = stage_most stands a.group.extent.part in
     rw (next.1, next.2.members_are, next.2.others_are, next.2.failed) (omega (arith, most))
 
 -- what is left, where so much is in this attempt
@@ -108,10 +108,10 @@ failed_left : (broken : Broken) (members : List Entry) (again : ℕ) (others : L
     → service_left service ≤ TURNS_OF_AN_ATTEMPT * (again + split members + 4 * length others)
 failed_left broken [] again others service completions after = absurd after
 failed_left broken (e ∷ []) again others service completions after =
-    let next = next_left (Down broken) others service after.0 in
+    let next = next_left (Stands.Broken broken) others service after.0 in
     omega (arith, next)
 failed_left broken (e ∷ f ∷ es) again others service completions after =
-    let next = next_left (Down broken) (e ∷ f ∷ es) service after.0 in
+    let next = next_left (Stands.Broken broken) (e ∷ f ∷ es) service after.0 in
     omega (arith, next)
 
 concluded_left : (outcome : Progress Stage) (attempt : Attempt) (service : Service) (completions : List Completion)
@@ -119,7 +119,7 @@ concluded_left : (outcome : Progress Stage) (attempt : Attempt) (service : Servi
     → service_left service ≤ left_with (left_behind attempt.group.extent.part outcome) attempt
 concluded_left (More stage) attempt service completions after = rw after.0 (omega arith)
 concluded_left (Done session) attempt service completions after =
-    let next = next_left (Up session) attempt.others.items service after.0 in
+    let next = next_left (Stands.Ready session) attempt.others.items service after.0 in
     omega (arith, next)
 concluded_left (Failed broken) attempt service completions (inl again) =
     let less = one_less (tries attempt.group.members.items) attempt.failed again.0 in
@@ -150,11 +150,11 @@ some_tries (e ∷ []) some = omega arith
 some_tries (e ∷ f ∷ es) some = omega arith
 
 -- a group that goes into service takes no more turns than its members did while they waited
-first_left : (link : Link) (attempt : Attempt) → IsFirstTry attempt attempt.group.members.items []
-    → service_left (Serving (At link) attempt) ≤ TURNS_OF_A_REQUEST * length attempt.group.members.items
-first_left link attempt first =
+first_left : (stands : Stands) (attempt : Attempt) → IsFirstTry attempt attempt.group.members.items []
+    → service_left (Serving (At stands) attempt) ≤ TURNS_OF_A_REQUEST * length attempt.group.members.items
+first_left stands attempt first =
     let members : List Entry = attempt.group.members.items in
-    let most = stage_most link attempt.group.extent.part in
+    let most = stage_most stands attempt.group.extent.part in
     let tried = some_tries members first.joined.some in
     let none = first.failed in
     let fits : attempt.failed < tries members = omega (arith, tried, none) in
@@ -179,11 +179,11 @@ work_with waits service = TURNS_OF_A_REQUEST * length (waits_of waits) + service
 started_left : (old later : List Entry) (service : Service) (stage : Stage) (attempt : Attempt)
     → HasStarted old service later (Serving stage attempt)
     → work_with later (Serving stage attempt) ≤ work_with old service
-started_left old later (Idle link) stage attempt (inl none) = let e = none.2 in cc
-started_left old later (Idle link) stage attempt (inr new) =
+started_left old later (Idle stands) stage attempt (inl none) = let e = none.2 in cc
+started_left old later (Idle stands) stage attempt (inr new) =
     let taken : Attempt = new.0 in
-    let same : service_left (Serving stage attempt) ≡ service_left (Serving (At link) taken) = ap service_left new.1 in
-    let most = first_left link taken new.2 in
+    let same : service_left (Serving stage attempt) ≡ service_left (Serving (At stands) taken) = ap service_left new.1 in
+    let most = first_left stands taken new.2 in
     let parts = fair_length old taken.group.members.items later taken.group.extent new.3 in
     omega (arith, same, most, parts)
 started_left old later (Serving before tried) stage attempt same =

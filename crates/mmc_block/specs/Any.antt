@@ -5,7 +5,7 @@ use Rattle.mmc_queue.specs.declared.request.Request.{Request}
 use Rattle.mmc_queue.specs.declared.request.Request.TheVariants.{Read}
 use Rattle.mmc_block.specs.Groups.{PassNone}
 use Rattle.mmc_block.specs.Machine.{IsMerged, Waiting}
-use Rattle.mmc_block.specs.Work.{is_down}
+use Rattle.mmc_block.specs.Work.{is_broken}
 use Rattle.mmc_block.specs.declared.completion.Answer.{Answer}
 use Rattle.mmc_block.specs.declared.completion.Answer.TheVariants.{Data, Done, Failed}
 use Rattle.mmc_block.specs.declared.completion.Completion.{Completion}
@@ -56,8 +56,8 @@ abbrev pub IfEachFailed : List Completion → (Cause → Type 0) → Type 0
 IfEachFailed [] P = Unit {0}
 IfEachFailed (c ∷ cs) P = IfFailed c.answer P × IfEachFailed cs P
 
--- something had failed, and the card is to be settled before anything else
+-- the card is broken, and is settled before anything else
 abbrev pub holds_broken : Service → Bool
-holds_broken (Idle link) = is_down (At link)
-holds_broken (Serving stage attempt) = is_down stage
+holds_broken (Idle stands) = is_broken (At stands)
+holds_broken (Serving stage attempt) = is_broken stage
 holds_broken Taken = false

@@ -13,44 +13,44 @@ use Rattle.mmc_block.specs.Device.{DeviceView}
 use Rattle.mmc_block.specs.Service.{Service}
 use Rattle.mmc_block.specs.Service.Service.{Idle, Serving, Taken}
 use Rattle.mmc_block.specs.declared.completion.Completion.{Completion}
-use Rattle.mmc_block.specs.declared.service.Link.TheVariants.{Down, Up}
+use Rattle.mmc_switch.specs.declared.stands.Stands.TheVariants as Stands
 use Rattle.mmc_block.specs.declared.service.Stage.{Stage}
 use Rattle.mmc_block.specs.declared.service.Stage.TheVariants.{At, Running}
 
--- the card that something failed with, and that is to be settled
+-- the card, where it is broken
 abbrev pub broken_at : Stage → Option Broken
-broken_at (At (Down broken)) = Some broken
-broken_at (At (Up session)) = None
+broken_at (At (Stands.Broken broken)) = Some broken
+broken_at (At (Stands.Ready session)) = None
 broken_at (Running work) = None
 
 abbrev pub broken_in : Service → Option Broken
-broken_in (Idle link) = broken_at (At link)
+broken_in (Idle stands) = broken_at (At stands)
 broken_in (Serving stage attempt) = broken_at stage
 broken_in Taken = None
 
 -- the card that is ready, where no run is under way
 abbrev pub ready_at : Stage → Option Session
-ready_at (At (Up session)) = Some session
-ready_at (At (Down broken)) = None
+ready_at (At (Stands.Ready session)) = Some session
+ready_at (At (Stands.Broken broken)) = None
 ready_at (Running work) = None
 
 abbrev pub ready_in : Service → Option Session
-ready_in (Idle link) = ready_at (At link)
+ready_in (Idle stands) = ready_at (At stands)
 ready_in (Serving stage attempt) = ready_at stage
 ready_in Taken = None
 
--- A turn that finds a card which is to be settled settles it.
+-- A turn that finds a broken card settles it.
 abbrev pub after_settling : Option Broken → Bool → Healed → Healed
 after_settling None was_reset healed = healed
 after_settling (Some broken) was_reset healed = with_settling was_reset healed
 
--- An attempt is over where it leaves a card that is to be settled, and has failed then; and where it gives answers.
+-- An attempt is over where it leaves a broken card, and has failed then; and where it gives answers.
 abbrev pub after_attempt : Option Broken → List Completion → Healed → Healed
 after_attempt (Some broken) completions healed = with_failure broken.cause (with_attempt healed)
 after_attempt None (c ∷ cs) healed = with_attempt healed
 after_attempt None [] healed = healed
 
--- What a turn adds for which something was without an answer: a settling where the card was to be settled, and a reset where that
+-- What a turn adds for which something was without an answer: a settling where the card was broken, and a reset where that
 -- was one; an attempt that is over, and its failure.
 pub record TurnHeals {B : Type 0} (view : B → BusView) (old : DeviceView B) (completions : List Completion)
     (new : DeviceView B) : Type 0 where

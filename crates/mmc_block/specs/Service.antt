@@ -15,7 +15,8 @@ use Rattle.mmc_queue.specs.declared.group.Group.{Group}
 use Rattle.mmc_requests.specs.declared.kind.Kind.{Kind}
 use Rattle.mmc_requests.specs.declared.kind.Kind.TheVariants as kind
 use Rattle.mmc_switch.specs.Info.{lasting}
-use Rattle.mmc_switch.specs.Place.{IsLoose, IsReady}
+use Rattle.mmc_switch.specs.Place.{IsBroken, IsReady}
+use Rattle.mmc_switch.specs.Stands.{StandsIn, info_of}
 use Rattle.mmc_switch.specs.Turns.{progress_of}
 use Rattle.mmc_switch.specs.UnderWay.{part_of}
 use Rattle.mmc_switch.specs.declared.broken.Broken.{Broken}
@@ -33,8 +34,8 @@ use Rattle.mmc_block.specs.Machine.{Waiting}
 use Rattle.mmc_block.specs.declared.completion.Answer.TheVariants.{Failed as FailedFor}
 use Rattle.mmc_block.specs.declared.completion.Completion.{Completion}
 use Rattle.mmc_block.specs.declared.service.Attempt.{Attempt}
-use Rattle.mmc_block.specs.declared.service.Link.{Link}
-use Rattle.mmc_block.specs.declared.service.Link.TheVariants.{Down, Up}
+use Rattle.mmc_switch.specs.declared.stands.Stands.{Stands}
+use Rattle.mmc_switch.specs.declared.stands.Stands.TheVariants as Stands
 use Rattle.mmc_switch.specs.declared.progress.Progress.{Progress}
 use Rattle.mmc_switch.specs.declared.progress.Progress.TheVariants.{Done, Failed, More}
 use Rattle.mmc_switch.specs.declared.progress.Standing.{Standing}
@@ -48,56 +49,52 @@ use Rattle.mmc_block.specs.declared.service.Stage.TheVariants.{At, Running}
 -- What a device is at, as contracts see it: nothing is in service, or an attempt is, which has come so far. The device itself
 -- keeps the phase and the attempt apart, so that a turn moves the phase alone.
 pub data Service : Type 0 where
-  Idle : Link → Service
+  Idle : Stands → Service
   Serving : Stage → Attempt → Service
   Taken : Service
 
 -- the two together
 abbrev pub service_of : Phase → Attempt → Service
-service_of (phase.Idle link) attempt = Idle link
+service_of (phase.Idle stands) attempt = Idle stands
 service_of (phase.Serving stage) attempt = Serving stage attempt
 service_of phase.Taken attempt = Taken
 
 -- where nothing is in service the attempt has no requests
 abbrev pub EmptyIfIdle : Phase → Attempt → Type 0
-EmptyIfIdle (phase.Idle link) attempt = (attempt.group.members.items ≡ []) × (attempt.others.items ≡ [])
+EmptyIfIdle (phase.Idle stands) attempt = (attempt.group.members.items ≡ []) × (attempt.others.items ≡ [])
 EmptyIfIdle (phase.Serving stage) attempt = Unit {0}
 EmptyIfIdle phase.Taken attempt = Unit {0}
 
 -- What is known of the card.
 
 -- for good: an SD card may publish another RCA after each reset, and take another speed
-abbrev pub info_of : Session → Info
-info_of session = lasting session.info
+abbrev pub lasting_of : Session → Info
+lasting_of session = lasting session.info
 
-abbrev pub info_of_link : Link → Info
-info_of_link (Up session) = info_of session
-info_of_link (Down broken) = info_of broken.session
+abbrev pub lasting_by : Stands → Info
+lasting_by (Stands.Ready session) = lasting_of session
+lasting_by (Stands.Broken broken) = lasting_of broken.session
 
 abbrev pub session_of : Work → Session
 session_of (Blocks run) = run.job.session
 session_of (Erase run) = run.job.session
 
 abbrev pub info_of_stage : Stage → Info
-info_of_stage (At link) = info_of_link link
-info_of_stage (Running work) = info_of (session_of work)
+info_of_stage (At stands) = lasting_by stands
+info_of_stage (Running work) = lasting_of (session_of work)
 
 abbrev pub info_of_outcome : Progress Stage → Info
 info_of_outcome (More stage) = info_of_stage stage
-info_of_outcome (Done session) = info_of session
-info_of_outcome (Failed broken) = info_of broken.session
+info_of_outcome (Done session) = lasting_of session
+info_of_outcome (Failed broken) = lasting_of broken.session
 
 -- with the RCA and the speed that it has now
-abbrev pub info_now_by : Link → Info
-info_now_by (Up session) = session.info
-info_now_by (Down broken) = broken.session.info
-
 abbrev pub info_now_at : Stage → Info
-info_now_at (At link) = info_now_by link
+info_now_at (At stands) = info_of stands
 info_now_at (Running work) = (session_of work).info
 
 abbrev pub IsInfoNow : Service → Info → Type 0
-IsInfoNow (Idle link) info = info ≡ info_now_by link
+IsInfoNow (Idle stands) info = info ≡ info_of stands
 IsInfoNow (Serving stage attempt) info = info ≡ info_now_at stage
 IsInfoNow Taken info = Unit {0}
 
@@ -109,49 +106,49 @@ work_then work standing = progress_of (session_of work) (Running work) standing
 
 -- it is not in the hands of a call
 abbrev pub IsHere : Phase → Type 0
-IsHere (phase.Idle link) = Unit {0}
+IsHere (phase.Idle stands) = Unit {0}
 IsHere (phase.Serving stage) = Unit {0}
 IsHere phase.Taken = ⊥
 
 -- an attempt is in service, and this holds of how far it has come
 abbrev pub IfServing : Phase → (Stage → Type 0) → Type 0
 IfServing (phase.Serving stage) Holds = Holds stage
-IfServing (phase.Idle link) Holds = ⊥
+IfServing (phase.Idle stands) Holds = ⊥
 IfServing phase.Taken Holds = ⊥
 
 -- nothing is in service, and this holds of the card
-abbrev pub IfIdle : Phase → (Link → Type 0) → Type 0
-IfIdle (phase.Idle link) Holds = Holds link
+abbrev pub IfIdle : Phase → (Stands → Type 0) → Type 0
+IfIdle (phase.Idle stands) Holds = Holds stands
 IfIdle (phase.Serving stage) Holds = ⊥
 IfIdle phase.Taken Holds = ⊥
 
 -- an attempt's run is still to begin, or is under way
-abbrev pub IfAt : Phase → (Link → Type 0) → Type 0
-IfAt (phase.Serving (At link)) Holds = Holds link
+abbrev pub IfAt : Phase → (Stands → Type 0) → Type 0
+IfAt (phase.Serving (At stands)) Holds = Holds stands
 IfAt (phase.Serving (Running work)) Holds = ⊥
-IfAt (phase.Idle link) Holds = ⊥
+IfAt (phase.Idle stands) Holds = ⊥
 IfAt phase.Taken Holds = ⊥
 
 -- a card is ready for an attempt whose run is still to begin
 abbrev pub IfReady : Phase → (Session → Type 0) → Type 0
-IfReady (phase.Serving (At (Up session))) Holds = Holds session
-IfReady (phase.Serving (At (Down broken))) Holds = ⊥
+IfReady (phase.Serving (At (Stands.Ready session))) Holds = Holds session
+IfReady (phase.Serving (At (Stands.Broken broken))) Holds = ⊥
 IfReady (phase.Serving (Running work)) Holds = ⊥
-IfReady (phase.Idle link) Holds = ⊥
+IfReady (phase.Idle stands) Holds = ⊥
 IfReady phase.Taken Holds = ⊥
 
 abbrev pub IfRunning : Phase → (Work → Type 0) → Type 0
 IfRunning (phase.Serving (Running work)) Holds = Holds work
-IfRunning (phase.Serving (At link)) Holds = ⊥
-IfRunning (phase.Idle link) Holds = ⊥
+IfRunning (phase.Serving (At stands)) Holds = ⊥
+IfRunning (phase.Idle stands) Holds = ⊥
 IfRunning phase.Taken Holds = ⊥
 
 -- what a step has left of an attempt: it goes on, or it is over, and the phase has the card; one in the hands of a call has
 -- left it where it was
 abbrev pub outcome_of : Stage → Phase → Progress Stage
 outcome_of was (phase.Serving stage) = More stage
-outcome_of was (phase.Idle (Up session)) = Done session
-outcome_of was (phase.Idle (Down broken)) = Failed broken
+outcome_of was (phase.Idle (Stands.Ready session)) = Done session
+outcome_of was (phase.Idle (Stands.Broken broken)) = Failed broken
 outcome_of was phase.Taken = More was
 
 -- A run for a group.
@@ -174,7 +171,7 @@ IsWorkOf group (Erase run) =
     IsFor group run.job.session run.job.start run.job.count × (group.extent.kind ≡ kind_of_how run.job.how)
 
 abbrev pub IsStageOf : Group → Stage → Type 0
-IsStageOf group (At link) = Unit {0}
+IsStageOf group (At stands) = Unit {0}
 IsStageOf group (Running work) = IsWorkOf group work
 
 abbrev pub IsOutcomeOf : Group → Progress Stage → Type 0
@@ -182,13 +179,13 @@ IsOutcomeOf group (More stage) = IsStageOf group stage
 IsOutcomeOf group (Done session) = Unit {0}
 IsOutcomeOf group (Failed broken) = Unit {0}
 
--- what goes on isn't a card that is to be settled: one that something failed with has failed the attempt
-abbrev pub GoesOnUp : Progress Stage → Type 0
-GoesOnUp (More (At (Up session))) = Unit {0}
-GoesOnUp (More (At (Down broken))) = ⊥
-GoesOnUp (More (Running work)) = Unit {0}
-GoesOnUp (Done session) = Unit {0}
-GoesOnUp (Failed broken) = Unit {0}
+-- what goes on isn't a broken card: one that something failed with has failed the attempt
+abbrev pub GoesOnReady : Progress Stage → Type 0
+GoesOnReady (More (At (Stands.Ready session))) = Unit {0}
+GoesOnReady (More (At (Stands.Broken broken))) = ⊥
+GoesOnReady (More (Running work)) = Unit {0}
+GoesOnReady (Done session) = Unit {0}
+GoesOnReady (Failed broken) = Unit {0}
 
 -- the blocks that a group lends to a run which moves blocks this way
 abbrev pub lent_for : Way → Group → List Sector
@@ -207,10 +204,6 @@ change_of_group info group = change_by info group group.extent.kind
 
 -- Where the card is.
 
-abbrev pub IsLinked : Link → BusView → Type 0
-IsLinked (Up session) view = IsReady session view
-IsLinked (Down broken) view = IsLoose broken view
-
 -- the run is under way with the blocks of the group, after so many faults in its turns
 abbrev pub IsUnderWay : Work → Group → ℕ → BusView → Type 0
 IsUnderWay (Blocks run) group faults view = IsMoving run (lent_for run.job.way group) faults view
@@ -218,7 +211,7 @@ IsUnderWay (Erase run) group faults view = IsErasing run faults view
 
 -- the card is where the attempt says
 abbrev pub IsAt : Stage → Group → ℕ → BusView → Type 0
-IsAt (At link) group faults view = IsLinked link view
+IsAt (At stands) group faults view = StandsIn stands view
 IsAt (Running work) group faults view = IsUnderWay work group faults view
 
 -- What a turn of an attempt leaves, after so many faults in the turns of its run: it goes on; or it is done with its whole
@@ -231,7 +224,7 @@ HasLeft change group faults old (Done session) new =
     IsReady session new × Within (holds new.card) (changed change (holds old.card))
     × HoldWhatTheyRead (holds new.card) group.members.items
 HasLeft change group faults old (Failed broken) new =
-    IsLoose broken new × (InProfile old.card.made → 0 < faults)
+    IsBroken broken new × (InProfile old.card.made → 0 < faults)
     × Within (holds new.card) (maybe_changed change (holds old.card))
 
 pub record Did (change : Change) (group : Group) (faults : ℕ) (old : BusView) (outcome : Progress Stage)
@@ -243,12 +236,12 @@ pub record Did (change : Change) (group : Group) (faults : ℕ) (old : BusView) 
 
 -- the service is not in the hands of a call
 abbrev pub IsHeld : Service → Type 0
-IsHeld (Idle link) = Unit {0}
+IsHeld (Idle stands) = Unit {0}
 IsHeld (Serving stage attempt) = Unit {0}
 IsHeld Taken = ⊥
 
 abbrev pub in_service_of : Service → List Waiting
-in_service_of (Idle link) = []
+in_service_of (Idle stands) = []
 in_service_of (Serving stage attempt) = waits_of attempt.group.members.items ++ waits_of attempt.others.items
 in_service_of Taken = []
 
@@ -280,7 +273,7 @@ pub record AreServed (in_service waits : List Waiting) (next : ℕ) : Type 0 whe
   pub passes_none : PassNone in_service waits
 
 abbrev pub ServiceOk : Info → Service → List Waiting → ℕ → Type 0
-ServiceOk info (Idle link) waits next = info_of_link link ≡ info
+ServiceOk info (Idle stands) waits next = lasting_by stands ≡ info
 ServiceOk info (Serving stage attempt) waits next =
     (info_of_stage stage ≡ info) × IsStageOf attempt.group stage × AttemptOk info attempt
     × AreServed (in_service_of (Serving stage attempt)) waits next
@@ -306,32 +299,32 @@ pub record IsFirstTry (attempt : Attempt) (members others : List Entry) : Type 0
 
 -- where nothing is in service, the next group goes into service, if something waits
 abbrev pub HasStarted : List Entry → Service → List Entry → Service → Type 0
-HasStarted old (Idle link) left service =
-    ((old ≡ []) × (left ≡ []) × (service ≡ Idle link))
-    ⊎ ((attempt : Attempt) × (service ≡ Serving (At link) attempt) × IsFirstTry attempt attempt.group.members.items []
+HasStarted old (Idle stands) left service =
+    ((old ≡ []) × (left ≡ []) × (service ≡ Idle stands))
+    ⊎ ((attempt : Attempt) × (service ≡ Serving (At stands) attempt) × IsFirstTry attempt attempt.group.members.items []
     × IsFair old attempt.group.members.items attempt.group.extent left)
 HasStarted old (Serving stage attempt) left service = (service ≡ Serving stage attempt) × (left ≡ old)
 HasStarted old Taken left service = ⊥
 
 -- the first of those that are to be served alone, or none
-abbrev pub IsNext : Link → List Entry → Service → Type 0
-IsNext link [] service = service ≡ Idle link
-IsNext link (e ∷ es) service = (attempt : Attempt) × (service ≡ Serving (At link) attempt) × IsFirstTry attempt (e ∷ []) es
+abbrev pub IsNext : Stands → List Entry → Service → Type 0
+IsNext stands [] service = service ≡ Idle stands
+IsNext stands (e ∷ es) service = (attempt : Attempt) × (service ≡ Serving (At stands) attempt) × IsFirstTry attempt (e ∷ []) es
 
 -- after the last attempt has failed: one alone fails, and of several each is served alone
 abbrev pub AfterFailure : Broken → List Entry → List Entry → Service → List Completion → Type 0
 AfterFailure broken [] others service completions = ⊥
 AfterFailure broken (e ∷ []) others service completions =
-    IsNext (Down broken) others service
+    IsNext (Stands.Broken broken) others service
     × (completions ≡ record { ticket = e.ticket; client = e.client; answer = FailedFor broken.cause } ∷ [])
 AfterFailure broken (e ∷ f ∷ es) others service completions =
-    IsNext (Down broken) (e ∷ f ∷ es) service × (completions ≡ [])
+    IsNext (Stands.Broken broken) (e ∷ f ∷ es) service × (completions ≡ [])
 
 -- after a failure there is another attempt, until the last one has failed
 abbrev pub AfterAttempt : Broken → Attempt → Service → List Completion → Type 0
 AfterAttempt broken attempt service completions =
     ((attempt.failed + 1 < tries attempt.group.members.items)
-    × (service ≡ Serving (At (Down broken)) (record attempt { failed = attempt.failed + 1 })) × (completions ≡ []))
+    × (service ≡ Serving (At (Stands.Broken broken)) (record attempt { failed = attempt.failed + 1 })) × (completions ≡ []))
     ⊎ ((attempt.failed + 1 ≡ tries attempt.group.members.items)
     × AfterFailure broken attempt.group.members.items attempt.others.items service completions)
 
@@ -339,5 +332,5 @@ AfterAttempt broken attempt service completions =
 abbrev pub Concludes : Progress Stage → Attempt → Service → List Completion → Type 0
 Concludes (More stage) attempt service completions = (service ≡ Serving stage attempt) × (completions ≡ [])
 Concludes (Done session) attempt service completions =
-    IsNext (Up session) attempt.others.items service × (completions ≡ map completion_of attempt.group.members.items)
+    IsNext (Stands.Ready session) attempt.others.items service × (completions ≡ map completion_of attempt.group.members.items)
 Concludes (Failed broken) attempt service completions = AfterAttempt broken attempt service completions

@@ -18,8 +18,8 @@ use Rattle.mmc_transfer.specs.declared.pace.Pace.{Pace}
 use Rattle.mmc_transfer.specs.declared.pace.Pace.TheVariants.{Exchange, Transfer}
 use Rattle.mmc_block.specs.Service.{tries}
 use Rattle.mmc_block.specs.declared.service.Attempt.{Attempt}
-use Rattle.mmc_block.specs.declared.service.Link.{Link}
-use Rattle.mmc_block.specs.declared.service.Link.TheVariants.{Down, Up}
+use Rattle.mmc_switch.specs.declared.stands.Stands.{Stands}
+use Rattle.mmc_switch.specs.declared.stands.Stands.TheVariants as Stands
 use Rattle.mmc_switch.specs.declared.progress.Progress.{Progress}
 use Rattle.mmc_switch.specs.declared.progress.Progress.TheVariants.{Done, Failed, More}
 use Rattle.mmc_block.specs.declared.service.Work.{Work}
@@ -43,14 +43,14 @@ run_left (Erase run) = erases_left run
 
 -- what is left of an attempt at a group of this partition: a settle, a select, and a run
 abbrev pub stage_left : Stage → Part → ℕ
-stage_left (At (Down broken)) part = TURNS_OF_A_RUN + 2
-stage_left (At (Up session)) part = if is_on session.selected part then TURNS_OF_A_RUN else TURNS_OF_A_RUN + 1
+stage_left (At (Stands.Broken broken)) part = TURNS_OF_A_RUN + 2
+stage_left (At (Stands.Ready session)) part = if is_on session.selected part then TURNS_OF_A_RUN else TURNS_OF_A_RUN + 1
 stage_left (Running work) part = run_left work
 
 -- the card isn't ready in this partition
-abbrev pub IsElsewhere : Part → Link → Type 0
-IsElsewhere part (Up session) = is_on session.selected part ≡ false
-IsElsewhere part (Down broken) = Unit {0}
+abbrev pub IsElsewhere : Part → Stands → Type 0
+IsElsewhere part (Stands.Ready session) = is_on session.selected part ≡ false
+IsElsewhere part (Stands.Broken broken) = Unit {0}
 
 -- what is left of it after a turn
 abbrev pub left_behind : Part → Progress Stage → ℕ
@@ -80,12 +80,12 @@ IsShort (Erase run) = Unit {0}
 
 -- the same of an attempt's run, where it is under way
 abbrev pub IsShortAt : Stage → Type 0
-IsShortAt (At link) = Unit {0}
+IsShortAt (At stands) = Unit {0}
 IsShortAt (Running work) = IsShort work
 
 -- an attempt at some requests, of which not all have failed, and not at too many, by a run that isn't too long
 abbrev pub IsCountable : Service → Type 0
-IsCountable (Idle link) = Unit {0}
+IsCountable (Idle stands) = Unit {0}
 IsCountable (Serving stage attempt) =
     (0 < length attempt.group.members.items) × (attempt.failed < tries attempt.group.members.items)
     × (length attempt.group.members.items + length attempt.others.items ≤ MAX_GROUP) × IsShortAt stage
@@ -93,7 +93,7 @@ IsCountable Taken = Unit {0}
 
 -- a bound on the turns of those in service
 abbrev pub service_left : Service → ℕ
-service_left (Idle link) = 0
+service_left (Idle stands) = 0
 service_left (Serving stage attempt) =
     stage_left stage attempt.group.extent.part + TURNS_OF_AN_ATTEMPT * attempts_left attempt
 service_left Taken = 0
@@ -117,28 +117,28 @@ most_ready Transfer = TURNS_OF_A_RUN
 
 -- how many exchanges a turn may make at most: those of a settle, of a select, or of a run
 abbrev pub most_at : Pace → Stage → ℕ
-most_at pace (At (Down broken)) = EXCHANGES_OF_A_SETTLE
-most_at pace (At (Up session)) = most_ready pace
+most_at pace (At (Stands.Broken broken)) = EXCHANGES_OF_A_SETTLE
+most_at pace (At (Stands.Ready session)) = most_ready pace
 most_at pace (Running work) = most_of_run pace (run_left work)
 
 abbrev pub most_exchanges : Pace → Service → ℕ
-most_exchanges pace (Idle link) = most_at pace (At link)
+most_exchanges pace (Idle stands) = most_at pace (At stands)
 most_exchanges pace (Serving stage attempt) = most_at pace stage
 most_exchanges pace Taken = 0
 
 -- Causes.
 
--- something had failed, and the card is to be settled
-abbrev pub is_down : Stage → Bool
-is_down (At (Down broken)) = true
-is_down (At (Up session)) = false
-is_down (Running work) = false
+-- the card is broken
+abbrev pub is_broken : Stage → Bool
+is_broken (At (Stands.Broken broken)) = true
+is_broken (At (Stands.Ready session)) = false
+is_broken (Running work) = false
 
--- want of recovery where the card was to be settled, otherwise what the last exchange tells
+-- want of recovery where the card was broken, otherwise what the last exchange tells
 abbrev pub IsCauseAfter : Bool → Cause → BusView → Type 0
 IsCauseAfter true cause view = cause ≡ Recovery
 IsCauseAfter false cause view = cause_of view.last ≡ Some cause
 
 abbrev pub IsCausedBy : Bool → Progress Stage → BusView → Type 0
-IsCausedBy down (Failed broken) view = IsCauseAfter down broken.cause view
-IsCausedBy down outcome view = Unit {0}
+IsCausedBy was_broken (Failed broken) view = IsCauseAfter was_broken broken.cause view
+IsCausedBy was_broken outcome view = Unit {0}

@@ -8,12 +8,12 @@ ghost use Rattle.mmc_block.specs.declared.completion.Answer.TheVariants.{Failed}
 ghost use Rattle.mmc_block.specs.declared.service.Stage.{Stage};
 
 use crate::completion::{Answer, Completion};
-use crate::service::{Attempt, Link, Phase, Stage};
+use crate::service::{Attempt, Phase, Stage};
 use arrayvec::ArrayVec;
 use mmc_bus::Bytes;
 use mmc_queue::{Entry, MAX_GROUP, Members, Request};
 use mmc_requests::{ATTEMPTS, ATTEMPTS_OF_A_GROUP};
-use mmc_switch::Broken;
+use mmc_switch::{Broken, Stands};
 use std::mem;
 
 /// Answers by ticket.
@@ -79,18 +79,18 @@ fn answer_all(members: &mut Members, answers: &mut Completions)
 
 // Goes on with the first of the others alone, if there is one.
 #[inline(never)]
-fn next(link: Link, attempt: &mut Attempt) -> Phase
+fn next(stands: Stands, attempt: &mut Attempt) -> Phase
     requires none { attempt.old.group.members.items ≡ [] }
     requires sound { AreSound attempt.old.others.items }
-    ensures next { IsNext link attempt.old.others.items (service_of result attempt.new) }
+    ensures next { IsNext stands attempt.old.others.items (service_of result attempt.new) }
     ensures empty { EmptyIfIdle result attempt.new }
 {
     let Some(first) = take_first(&mut attempt.others) else {
-        return Phase::Idle(link);
+        return Phase::Idle(stands);
     };
     attempt.group.take_alone(first);
     attempt.failed = 0;
-    Phase::Serving(Stage::At(link))
+    Phase::Serving(Stage::At(stands))
 }
 
 // The last attempt at these has failed: one alone is answered, and several go on alone.
@@ -102,7 +102,7 @@ fn give_up(broken: Broken, attempt: &mut Attempt, answers: &mut Completions) -> 
 {
     if attempt.group.members.len() > 1 {
         mem::swap(&mut attempt.group.members, &mut attempt.others);
-        return next(Link::Down(broken), attempt);
+        return next(Stands::Broken(broken), attempt);
     }
     let Some(
         Entry {
@@ -120,7 +120,7 @@ fn give_up(broken: Broken, attempt: &mut Attempt, answers: &mut Completions) -> 
         client,
         answer: Answer::Failed(broken.cause()),
     });
-    next(Link::Down(broken), attempt)
+    next(Stands::Broken(broken), attempt)
 }
 
 // After a failure.
@@ -134,7 +134,7 @@ fn retry(broken: Broken, attempt: &mut Attempt, answers: &mut Completions) -> Ph
         return give_up(broken, attempt, answers);
     }
     attempt.failed = attempt.failed + 1;
-    Phase::Serving(Stage::At(Link::Down(broken)))
+    Phase::Serving(Stage::At(Stands::Broken(broken)))
 }
 
 // What follows an attempt that is over.
@@ -147,11 +147,11 @@ fn over(phase: &mut Phase, attempt: &mut Attempt, answers: &mut Completions)
 {
     *phase = match mem::replace(phase, Phase::Taken) {
         Phase::Serving(stage) => Phase::Serving(stage),
-        Phase::Idle(Link::Up(session)) => {
+        Phase::Idle(Stands::Ready(session)) => {
             answer_all(&mut attempt.group.members, answers);
-            next(Link::Up(session), attempt)
+            next(Stands::Ready(session), attempt)
         }
-        Phase::Idle(Link::Down(broken)) => retry(broken, attempt, answers),
+        Phase::Idle(Stands::Broken(broken)) => retry(broken, attempt, answers),
         Phase::Taken => unreachable!(),
     };
 }
@@ -166,7 +166,7 @@ pub fn conclude(phase: &mut Phase, attempt: &mut Attempt, answers: &mut Completi
 {
     match phase {
         Phase::Serving(_) => {}
-        Phase::Idle(Link::Up(_)) if attempt.others.is_empty() => {
+        Phase::Idle(Stands::Ready(_)) if attempt.others.is_empty() => {
             answer_all(&mut attempt.group.members, answers)
         }
         Phase::Idle(_) | Phase::Taken => over(phase, attempt, answers),

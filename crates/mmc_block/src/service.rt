@@ -8,36 +8,15 @@
 // 2. A group of several has two attempts. Then each of its requests is served alone, by ticket, before anything else.
 // 3. A request that is served alone has four attempts. Then it fails, with the cause of the last one, and nobody else.
 ghost use Rattle.std.specs.Prelude.{◌≡◌, []};
-ghost use Rattle.mmc_block.specs.Service.{info_now_at, info_now_by};
+ghost use Rattle.mmc_block.specs.Service.{info_now_at};
 ghost use Rattle.mmc_block.specs.Service.{session_of};
 
 use arrayvec::ArrayVec;
 use mmc_erase::EraseRun;
 use mmc_queue::{Group, Members};
-use mmc_switch::{Broken, Info, Session};
+use mmc_switch::{Info, Session, Stands};
 use mmc_transfer::Run;
 use std::alloc::Global;
-
-/// How the device stands to its card between runs.
-#[derive(Debug, Drop)]
-pub enum Link {
-    /// The card is ready.
-    Up(Session),
-    /// Something failed, and the card is to be settled.
-    Down(Broken),
-}
-
-impl Link {
-    /// What is known of the card.
-    pub fn info(&self) -> &Info
-        ensures { result.now ≡ info_now_by self.now }
-    {
-        match self {
-            Link::Up(session) => session.info(),
-            Link::Down(broken) => broken.info(),
-        }
-    }
-}
 
 /// What serves a group.
 #[derive(Debug, Drop)]
@@ -64,7 +43,7 @@ impl Work {
 #[derive(Debug, Drop)]
 pub enum Stage {
     /// The run is still to begin.
-    At(Link),
+    At(Stands),
     /// The run is under way.
     Running(Work),
 }
@@ -75,7 +54,7 @@ impl Stage {
         ensures { result.now ≡ info_now_at self.now }
     {
         match self {
-            Stage::At(link) => link.info(),
+            Stage::At(stands) => stands.info(),
             Stage::Running(Work::Blocks(run)) => run.info(),
             Stage::Running(Work::Erase(run)) => run.info(),
         }
@@ -111,7 +90,7 @@ impl Attempt {
 #[derive(Debug, Drop)]
 pub enum Phase {
     /// Nothing is in service, and the attempt has no requests; after a step, whose attempt is over, those that it was made for.
-    Idle(Link),
+    Idle(Stands),
     /// The attempt is in service.
     Serving(Stage),
     /// It is in the hands of a call.

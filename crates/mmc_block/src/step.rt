@@ -5,7 +5,7 @@ ghost use Rattle.mmc_queue.specs.Lent.{AreLent};
 ghost use Rattle.mmc_queue.specs.declared.group.Group.{Group};
 ghost use Rattle.mmc_requests.specs.declared.kind.Kind.TheVariants as kind;
 ghost use Rattle.mmc_recovery.specs.declared.settling.TheConstants.{EXCHANGES_OF_A_SETTLE};
-ghost use Rattle.mmc_switch.specs.Place.{IsLoose, IsReady};
+ghost use Rattle.mmc_switch.specs.Place.{IsBroken, IsReady};
 ghost use Rattle.mmc_switch.specs.UnderWay.{FailsBy, faults_then};
 ghost use Rattle.mmc_switch.specs.declared.mmc.TheConstants.{EXCHANGES_OF_A_SWITCH};
 ghost use Rattle.mmc_transfer.specs.First.{Nears};
@@ -14,19 +14,18 @@ ghost use Rattle.mmc_transfer.specs.declared.pace.Pace.TheVariants.{Exchange};
 ghost use Rattle.mmc_transfer.specs.Run.{HasTurned, IsRunning, IsSameRun, Lowers as LowersBlocks, run_then};
 ghost use Rattle.mmc_block.specs.Entries.{AreServable};
 ghost use Rattle.mmc_block.specs.Service.{Did, IfAt, IfReady, IfRunning, IfServing, IsHere, IsStageOf, IsUnderWay, IsWorkOf};
-ghost use Rattle.mmc_block.specs.Service.{change_of_group, info_of, info_of_link, info_of_stage, lent_for, outcome_of, session_of};
+ghost use Rattle.mmc_block.specs.Service.{change_of_group, lasting_of, lasting_by, info_of_stage, lent_for, outcome_of, session_of};
 ghost use Rattle.mmc_block.specs.Service.{work_then};
 ghost use Rattle.mmc_block.specs.Healing.{StepHeals};
 ghost use Rattle.mmc_block.specs.Step.{Advances, HasBegun, Stepped};
 ghost use Rattle.mmc_block.specs.Work.{IsElsewhere, is_on, most_of_run, run_left, stage_left};
-ghost use Rattle.mmc_block.specs.declared.service.Link.{Link};
-ghost use Rattle.mmc_block.specs.declared.service.Link.TheVariants.{Down, Up};
+ghost use Rattle.mmc_switch.specs.declared.stands.Stands.{Stands};
 ghost use Rattle.mmc_block.specs.declared.service.Phase.TheVariants.{Serving};
 ghost use Rattle.mmc_block.specs.declared.service.Work.TheVariants.{Blocks};
 ghost use Rattle.mmc_block.specs.declared.service.Stage.{Stage};
 ghost use Rattle.mmc_block.specs.declared.service.Stage.TheVariants.{At, Running};
 
-use crate::service::{Link, Phase, Stage, Work};
+use crate::service::{Phase, Stage, Work};
 use mmc_bus::{Bus, Part};
 use mmc_erase::{EraseRun, How};
 use mmc_queue::laws::{
@@ -35,14 +34,14 @@ use mmc_queue::laws::{
 };
 use mmc_queue::{Group, Kind};
 use mmc_recovery::{Healed, settle_telling};
-use mmc_switch::{Broken, Progress, Session, Standing, select};
+use mmc_switch::{Broken, Progress, Session, Standing, Stands, select};
 use mmc_transfer::{Pace, Run, Way};
 use std::mem;
 
 // Begins the run of a group, whose partition is selected.
 fn begin(session: Session, group: &Group) -> Work
     requires joined { IsJoined group.now.members.items group.now.extent }
-    requires servable { AreServable (info_of session) group.now.members.items }
+    requires servable { AreServable (lasting_of session) group.now.members.items }
     requires selected { session.selected ≡ Some group.now.extent.part }
     ensures { HasBegun session group.now result }
 {
@@ -87,9 +86,9 @@ fn move_on<B: Bus>(bus: &mut B, run: &mut Run, group: &mut Group, pace: Pace) ->
 fn exchange<B: Bus>(bus: &mut B, work: &mut Work, group: &mut Group, pace: Pace) -> Standing
     requires joined { IsJoined group.old.members.items group.old.extent }
     requires of { IsWorkOf group.old work.old }
-    ensures advances { Advances (info_of (session_of work.old)) false (most_of_run pace (run_left work.old)) (run_left work.old) group.old (B.view bus.old) (work_then work.new result) group.new (B.view bus.new) }
+    ensures advances { Advances (lasting_of (session_of work.old)) false (most_of_run pace (run_left work.old)) (run_left work.old) group.old (B.view bus.old) (work_then work.new result) group.new (B.view bus.new) }
     ensures did { (B.view bus.new).is_kept ≡ true → (faults : ℕ) → IsUnderWay work.old group.old faults (B.view bus.old)
-        → Did (change_of_group (info_of (session_of work.old)) group.old) group.new (faults_then faults (B.view bus.old) (B.view bus.new))
+        → Did (change_of_group (lasting_of (session_of work.old)) group.old) group.new (faults_then faults (B.view bus.old) (B.view bus.new))
         (B.view bus.old) (work_then work.new result) (B.view bus.new) }
 {
     a_group_is_one_extent();
@@ -107,16 +106,16 @@ fn exchange<B: Bus>(bus: &mut B, work: &mut Work, group: &mut Group, pace: Pace)
 #[tactic(auto, using(crate::proofs::StepLemmas::same_lent))]
 fn change_over<B: Bus>(bus: &mut B, session: Session, group: &Group) -> Progress<Stage>
     requires joined { IsJoined group.now.members.items group.now.extent }
-    requires servable { AreServable (info_of session) group.now.members.items }
+    requires servable { AreServable (lasting_of session) group.now.members.items }
     requires other { is_on session.selected group.now.extent.part ≡ false }
-    ensures advances { Advances (info_of session) false EXCHANGES_OF_A_SWITCH (stage_left (At (Up session)) group.now.extent.part) group.now (B.view bus.old) result group.now (B.view bus.new) }
+    ensures advances { Advances (lasting_of session) false EXCHANGES_OF_A_SWITCH (stage_left (At (Stands.Ready session)) group.now.extent.part) group.now (B.view bus.old) result group.now (B.view bus.new) }
     ensures did { (B.view bus.new).is_kept ≡ true → IsReady session (B.view bus.old)
-        → Did (change_of_group (info_of session) group.now) group.now (faults_then 0 (B.view bus.old) (B.view bus.new))
+        → Did (change_of_group (lasting_of session) group.now) group.now (faults_then 0 (B.view bus.old) (B.view bus.new))
         (B.view bus.old) result (B.view bus.new) }
 {
     a_group_is_one_extent();
     match select(bus, session, group.extent.part) {
-        Ok(session) => Progress::More(Stage::At(Link::Up(session))),
+        Ok(session) => Progress::More(Stage::At(Stands::Ready(session))),
         Err(broken) => Progress::Failed(broken),
     }
 }
@@ -125,16 +124,16 @@ fn change_over<B: Bus>(bus: &mut B, session: Session, group: &Group) -> Progress
 #[inline(never)]
 fn restore<B: Bus>(bus: &mut B, broken: Broken, healed: &mut Healed) -> Progress<Stage>
     ensures advances { (group : Group) → IsJoined group.members.items group.extent
-        → Advances (info_of broken.session) true EXCHANGES_OF_A_SETTLE (stage_left (At (Down broken)) group.extent.part) group (B.view bus.old) result group (B.view bus.new) }
-    ensures did { (B.view bus.new).is_kept ≡ true → IsLoose broken (B.view bus.old) → (group : Group) (faults : ℕ)
-        → Did (change_of_group (info_of broken.session) group) group (faults_then faults (B.view bus.old) (B.view bus.new))
+        → Advances (lasting_of broken.session) true EXCHANGES_OF_A_SETTLE (stage_left (At (Stands.Broken broken)) group.extent.part) group (B.view bus.old) result group (B.view bus.new) }
+    ensures did { (B.view bus.new).is_kept ≡ true → IsBroken broken (B.view bus.old) → (group : Group) (faults : ℕ)
+        → Did (change_of_group (lasting_of broken.session) group) group (faults_then faults (B.view bus.old) (B.view bus.new))
         (B.view bus.old) result (B.view bus.new) }
-    ensures healed { StepHeals (At (Down broken)) (B.view bus.old) healed.old result (B.view bus.new) healed.new }
+    ensures healed { StepHeals (At (Stands.Broken broken)) (B.view bus.old) healed.old result (B.view bus.new) healed.new }
 {
     let (settled, was_reset) = settle_telling(bus, broken);
     *healed = healed.settled(was_reset);
     match settled {
-        Ok(session) => Progress::More(Stage::At(Link::Up(session))),
+        Ok(session) => Progress::More(Stage::At(Stands::Ready(session))),
         Err(broken) => Progress::Failed(broken),
     }
 }
@@ -146,8 +145,8 @@ fn left(outcome: Progress<Stage>) -> Phase
 {
     match outcome {
         Progress::More(stage) => Phase::Serving(stage),
-        Progress::Done(session) => Phase::Idle(Link::Up(session)),
-        Progress::Failed(broken) => Phase::Idle(Link::Down(broken)),
+        Progress::Done(session) => Phase::Idle(Stands::Ready(session)),
+        Progress::Failed(broken) => Phase::Idle(Stands::Broken(broken)),
     }
 }
 
@@ -158,8 +157,10 @@ fn left_by(work: Work, standing: Standing) -> Phase
 {
     match standing {
         Standing::GoesOn => Phase::Serving(Stage::Running(work)),
-        Standing::Done => Phase::Idle(Link::Up(work.into_session())),
-        Standing::Failed(cause) => Phase::Idle(Link::Down(work.into_session().break_off(cause))),
+        Standing::Done => Phase::Idle(Stands::Ready(work.into_session())),
+        Standing::Failed(cause) => Phase::Idle(Stands::Broken(
+            work.into_session().break_off(cause),
+        )),
     }
 }
 
@@ -179,7 +180,7 @@ fn end(phase: &mut Phase, standing: Standing)
 // The next exchanges of a run that is under way. In the middle of the run the phase isn't moved.
 fn go_on<B: Bus>(bus: &mut B, phase: &mut Phase, group: &mut Group, pace: Pace)
     requires joined { IsJoined group.old.members.items group.old.extent }
-    requires running { IfRunning phase.old (λ work. AreServable (info_of (session_of work)) group.old.members.items × IsWorkOf group.old work) }
+    requires running { IfRunning phase.old (λ work. AreServable (lasting_of (session_of work)) group.old.members.items × IsWorkOf group.old work) }
     ensures held { IsHere phase.new }
     ensures stepped { IfRunning phase.old (λ work. (was : Stage) → Stepped pace (Running work) group.old (B.view bus.old) (outcome_of was phase.new) group.new (B.view bus.new)) }
 {
@@ -195,10 +196,10 @@ fn go_on<B: Bus>(bus: &mut B, phase: &mut Phase, group: &mut Group, pace: Pace)
 // Whether the card is ready in this partition, so that a run can begin.
 fn can_begin(phase: &Phase, part: Part) -> bool
     ensures yes { result ≡ true → IfReady phase.now (λ session. session.selected ≡ Some part) }
-    ensures no { result ≡ false → (link : Link) → phase.now ≡ Serving (At link) → IsElsewhere part link }
+    ensures no { result ≡ false → (stands : Stands) → phase.now ≡ Serving (At stands) → IsElsewhere part stands }
 {
     match phase {
-        Phase::Serving(Stage::At(Link::Up(session))) => session.selected() == Some(part),
+        Phase::Serving(Stage::At(Stands::Ready(session))) => session.selected() == Some(part),
         Phase::Serving(_) | Phase::Idle(_) | Phase::Taken => false,
     }
 }
@@ -206,12 +207,12 @@ fn can_begin(phase: &Phase, part: Part) -> bool
 // The run begins, and the phase has it.
 fn begin_here(phase: &mut Phase, group: &Group)
     requires joined { IsJoined group.now.members.items group.now.extent }
-    requires ready { IfReady phase.old (λ session. AreServable (info_of session) group.now.members.items
+    requires ready { IfReady phase.old (λ session. AreServable (lasting_of session) group.now.members.items
         × (session.selected ≡ Some group.now.extent.part)) }
     ensures { IfReady phase.old (λ session. IfRunning phase.new (HasBegun session group.now)) }
 {
     *phase = match mem::replace(phase, Phase::Taken) {
-        Phase::Serving(Stage::At(Link::Up(session))) => {
+        Phase::Serving(Stage::At(Stands::Ready(session))) => {
             Phase::Serving(Stage::Running(begin(session, group)))
         }
         Phase::Serving(_) | Phase::Idle(_) | Phase::Taken => unreachable!(),
@@ -222,26 +223,31 @@ fn begin_here(phase: &mut Phase, group: &Group)
 #[inline(never)]
 fn set_out<B: Bus>(bus: &mut B, phase: &mut Phase, group: &mut Group, pace: Pace)
     requires joined { IsJoined group.old.members.items group.old.extent }
-    requires ready { IfReady phase.old (λ session. AreServable (info_of session) group.old.members.items
+    requires ready { IfReady phase.old (λ session. AreServable (lasting_of session) group.old.members.items
         × (session.selected ≡ Some group.old.extent.part)) }
     ensures held { IsHere phase.new }
-    ensures stepped { IfReady phase.old (λ session. (was : Stage) → Stepped pace (At (Up session)) group.old (B.view bus.old) (outcome_of was phase.new) group.new (B.view bus.new)) }
+    ensures stepped { IfReady phase.old (λ session. (was : Stage) → Stepped pace (At (Stands.Ready session)) group.old (B.view bus.old) (outcome_of was phase.new) group.new (B.view bus.new)) }
 {
     begin_here(phase, group);
     go_on(bus, phase, group, pace);
 }
 
 // From a card that no run can begin with yet.
-fn depart<B: Bus>(bus: &mut B, link: Link, group: &Group, healed: &mut Healed) -> Progress<Stage>
+fn depart<B: Bus>(
+    bus: &mut B,
+    stands: Stands,
+    group: &Group,
+    healed: &mut Healed,
+) -> Progress<Stage>
     requires joined { IsJoined group.now.members.items group.now.extent }
-    requires servable { AreServable (info_of_link link) group.now.members.items }
-    requires elsewhere { IsElsewhere group.now.extent.part link }
-    ensures stepped { (pace : Pace) → Stepped pace (At link) group.now (B.view bus.old) result group.now (B.view bus.new) }
-    ensures healed { StepHeals (At link) (B.view bus.old) healed.old result (B.view bus.new) healed.new }
+    requires servable { AreServable (lasting_by stands) group.now.members.items }
+    requires elsewhere { IsElsewhere group.now.extent.part stands }
+    ensures stepped { (pace : Pace) → Stepped pace (At stands) group.now (B.view bus.old) result group.now (B.view bus.new) }
+    ensures healed { StepHeals (At stands) (B.view bus.old) healed.old result (B.view bus.new) healed.new }
 {
-    match link {
-        Link::Up(session) => change_over(bus, session, group),
-        Link::Down(broken) => restore(bus, broken, healed),
+    match stands {
+        Stands::Ready(session) => change_over(bus, session, group),
+        Stands::Broken(broken) => restore(bus, broken, healed),
     }
 }
 
@@ -249,13 +255,13 @@ fn depart<B: Bus>(bus: &mut B, link: Link, group: &Group, healed: &mut Healed) -
 #[inline(never)]
 fn prepare<B: Bus>(bus: &mut B, phase: &mut Phase, group: &Group, healed: &mut Healed)
     requires joined { IsJoined group.now.members.items group.now.extent }
-    requires at { IfAt phase.old (λ link. AreServable (info_of_link link) group.now.members.items × IsElsewhere group.now.extent.part link) }
+    requires at { IfAt phase.old (λ stands. AreServable (lasting_by stands) group.now.members.items × IsElsewhere group.now.extent.part stands) }
     ensures held { IsHere phase.new }
     ensures stepped { (pace : Pace) → IfServing phase.old (λ stage. Stepped pace stage group.now (B.view bus.old) (outcome_of stage phase.new) group.now (B.view bus.new)) }
     ensures healed { IfServing phase.old (λ stage. StepHeals stage (B.view bus.old) healed.old (outcome_of stage phase.new) (B.view bus.new) healed.new) }
 {
     *phase = match mem::replace(phase, Phase::Taken) {
-        Phase::Serving(Stage::At(link)) => left(depart(bus, link, group, healed)),
+        Phase::Serving(Stage::At(stands)) => left(depart(bus, stands, group, healed)),
         Phase::Idle(_) | Phase::Serving(Stage::Running(_)) | Phase::Taken => unreachable!(),
     };
 }

@@ -12,10 +12,11 @@ ghost use Rattle.mmc_block.specs.Work.{IsCountable, IsShort, IsShortAt, attempts
 
 use crate::conclude::tries;
 use crate::device::BlockDev;
-use crate::service::{Attempt, Link, Phase, Stage, Work};
+use crate::service::{Attempt, Phase, Stage, Work};
 use mmc_bus::{Bus, Part};
 use mmc_queue::{MAX_COUNT, Members};
 use mmc_requests::ATTEMPTS;
+use mmc_switch::Stands;
 use mmc_transfer::{EXCHANGES_BESIDE_BLOCKS, EXCHANGES_OF_A_BLOCK};
 
 /// The most turns of a run for a group.
@@ -55,9 +56,9 @@ fn stage_left(stage: &Stage, part: Part) -> u64
     ensures bounded { result ≤ TURNS_OF_AN_ATTEMPT }
 {
     match stage {
-        Stage::At(Link::Down(_)) => TURNS_OF_A_RUN + 2,
-        Stage::At(Link::Up(session)) if is_on(session.selected(), part) => TURNS_OF_A_RUN,
-        Stage::At(Link::Up(_)) => TURNS_OF_A_RUN + 1,
+        Stage::At(Stands::Broken(_)) => TURNS_OF_A_RUN + 2,
+        Stage::At(Stands::Ready(session)) if is_on(session.selected(), part) => TURNS_OF_A_RUN,
+        Stage::At(Stands::Ready(_)) => TURNS_OF_A_RUN + 1,
         Stage::Running(work) => run_left(work),
     }
 }

@@ -1,7 +1,7 @@
 -- A record notes how a card stands, and a card stands as it is noted.
-use Rattle.std.proofs.Common.{◌&&◌, ◌≡◌, ap, false, refl, subst, sym, true}
+use Rattle.std.proofs.Common.{◌&&◌, ◌≡◌, false, refl, subst, sym, true}
 use Rattle.std.proofs.lemmas.Bool.{cond_both, false≢true}
-use Rattle.std.specs.Prelude.{Bool, Err, None, Ok, Option, Result, Some}
+use Rattle.std.specs.Prelude.{Bool, Err, Ok, Result}
 use Rattle.mmc_frame.specs.declared.kind.Kind.TheVariants.{Mmc}
 use Rattle.mmc_frame.specs.Field.{field}
 use Rattle.mmc_ext_csd.specs.ExtCsd.{partition_config}
@@ -11,19 +11,20 @@ use Rattle.mmc_card.specs.Laws.{Stands as IsSetTo, setting_of}
 use Rattle.mmc_card.specs.Made.{HasRegisters, Made}
 use Rattle.mmc_card.specs.declared.exchange.Lines.{Lines}
 use Rattle.mmc_direct.specs.Healing.{HasHealed}
-use Rattle.mmc_direct.specs.Stands.{AnswersBy, IfRefused, IfServed, StandsIn, stands_of}
+use Rattle.mmc_direct.specs.Served.{AnswersBy, IfRefused, IfServed}
+use Rattle.mmc_switch.specs.Stands.{StandsIn}
 use Rattle.mmc_direct.specs.declared.refused.NotDone.{NotDone}
 use Rattle.mmc_direct.specs.declared.refused.NotDone.TheVariants.{Failed, Refused as RefusedFor}
-use Rattle.mmc_direct.specs.declared.stands.Served.{Served}
-use Rattle.mmc_direct.specs.declared.stands.Stands.{Stands}
-use Rattle.mmc_direct.specs.declared.stands.Stands.TheVariants.{Loose, Ready}
+use Rattle.mmc_direct.specs.declared.served.Served.{Served}
+use Rattle.mmc_switch.specs.declared.stands.Stands.{Stands}
+use Rattle.mmc_switch.specs.declared.stands.Stands.TheVariants as Stands
 use Rattle.mmc_host.specs.Hosts.{HostView, bus_over}
 use Rattle.mmc_bus.specs.declared.wire.Wire.{Wire}
 use Rattle.mmc_record.specs.Note.{IsNoteOf, given_up, what_is_left}
 use Rattle.mmc_recovery.specs.declared.healed.Healed.{Healed}
 use Rattle.mmc_record.specs.declared.record.CardRecord.{CardRecord}
 use Rattle.mmc_switch.specs.Info.{IsInfo}
-use Rattle.mmc_switch.specs.Place.{IsLoose, IsPartOf, IsReady, Knows, setting_in}
+use Rattle.mmc_switch.specs.Place.{IsBroken, IsPartOf, IsReady, Knows, setting_in}
 use Rattle.mmc_switch.specs.Stages.{IsAtRest}
 use Rattle.mmc_switch.specs.declared.broken.Broken.{Broken}
 use Rattle.mmc_switch.specs.declared.info.Info.{Info}
@@ -31,46 +32,39 @@ use Rattle.mmc_switch.specs.declared.session.Session.{Session}
 use Rattle.mmc_calls.specs.Noted.{IsCounted, HasServed, IsNoted, IsNotedOf, Notes, bus_going_on, lines_in}
 
 -- what a note says of a card whose registers have their checks
-abbrev pub IfItsCard : Info → (Result Session Broken) → CardRecord → Type 0
+abbrev pub IfItsCard : Info → Stands → CardRecord → Type 0
 IfItsCard info how note =
     (limits : Lines) → (made : Made) → HasRegisters made → IsInfo limits made info → IsNoteOf how note
 
-pub ready_noted : (stands : Stands) (session : Session) (note : CardRecord) → stands ≡ Ready session
-    → IfItsCard session.info (Ok session) note → Notes stands note
+pub ready_noted : (stands : Stands) (session : Session) (note : CardRecord) → stands ≡ Stands.Ready session
+    → IfItsCard session.info (Stands.Ready session) note → Notes stands note
 ready_noted stands session note is says view stood =
     let ready : IsReady session view = subst (λ s. StandsIn s view) is stood in record {
-      how = Ok session;
+      how = Stands.Ready session;
       says = says view.limits view.card.made ready.is_card.registers ready.knows.info;
       stands = ready;
     }
 
-gives_up : (broken : Broken) (view : BusView) → IsLoose broken view → IsLoose (given_up broken.session) view
-gives_up broken view loose = record {
-  is_card = loose.is_card;
-  knows = record { info = loose.knows.info; partition_config = loose.knows.partition_config };
+gives_up : (broken : Broken) (view : BusView) → IsBroken broken view → IsBroken (given_up broken.session) view
+gives_up broken view is_broken = record {
+  is_card = is_broken.is_card;
+  knows = record { info = is_broken.knows.info; partition_config = is_broken.knows.partition_config };
   stands = λ no. absurd (false≢true (sym no));
 }
 
-what_is_left_stands : (broken : Broken) (view : BusView) → IsLoose broken view → IsLoose (what_is_left broken) view
-what_is_left_stands broken view loose =
-    cond_both broken.must_reset (given_up broken.session) broken (λ left. IsLoose left view)
-    (λ p. gives_up broken view loose) (λ p. loose)
+what_is_left_stands : (broken : Broken) (view : BusView) → IsBroken broken view → IsBroken (what_is_left broken) view
+what_is_left_stands broken view is_broken =
+    cond_both broken.must_reset (given_up broken.session) broken (λ left. IsBroken left view)
+    (λ p. gives_up broken view is_broken) (λ p. is_broken)
 
-pub loose_noted : (stands : Stands) (broken : Broken) (note : CardRecord) → stands ≡ Loose broken
-    → IfItsCard broken.session.info (Err (what_is_left broken)) note → Notes stands note
-loose_noted stands broken note is says view stood =
-    let loose : IsLoose broken view = subst (λ s. StandsIn s view) is stood in record {
-      how = Err (what_is_left broken);
-      says = says view.limits view.card.made loose.is_card.registers loose.knows.info;
-      stands = what_is_left_stands broken view loose;
+pub broken_noted : (stands : Stands) (broken : Broken) (note : CardRecord) → stands ≡ Stands.Broken broken
+    → IfItsCard broken.session.info (Stands.Broken (what_is_left broken)) note → Notes stands note
+broken_noted stands broken note is says view stood =
+    let is_broken : IsBroken broken view = subst (λ s. StandsIn s view) is stood in record {
+      how = Stands.Broken (what_is_left broken);
+      says = says view.limits view.card.made is_broken.is_card.registers is_broken.knows.info;
+      stands = what_is_left_stands broken view is_broken;
     }
-
-abbrev pub standing : Option (Result Session Broken) → Option Stands
-standing None = None
-standing (Some how) = Some (stands_of how)
-
-pub stands_so : (a b : Option (Result Session Broken)) → a ≡ b → standing a ≡ standing b
-stands_so a b p = ap standing p
 
 pub refused_noted : (P : Type 0) (answer : Result Unit NotDone) (left stands : Stands) (note : CardRecord)
     → IfRefused answer (P × (left ≡ stands)) → Notes left note → IfRefused answer (P × Notes stands note)
@@ -106,7 +100,7 @@ knows_too session v w card limits k = record {
 
 pub stands_too : (stands : Stands) (v w : BusView) → w.card ≡ v.card → w.limits ≡ v.limits → w.lines ≡ lines_in stands
     → StandsIn stands v → StandsIn stands w
-stands_too (Ready session) v w card limits lines ready = record {
+stands_too (Stands.Ready session) v w card limits lines ready = record {
   is_card = subst IsCard (sym card) ready.is_card;
   knows = knows_too session v w card limits ready.knows;
   set = record {
@@ -116,10 +110,10 @@ stands_too (Ready session) v w card limits lines ready = record {
   };
   part = subst (λ (c : Card). IsPartOf session c.part) (sym card) ready.part;
 }
-stands_too (Loose broken) v w card limits lines loose = record {
-  is_card = subst IsCard (sym card) loose.is_card;
-  knows = knows_too broken.session v w card limits loose.knows;
-  stands = λ no. let at = loose.stands no in record {
+stands_too (Stands.Broken broken) v w card limits lines is_broken = record {
+  is_card = subst IsCard (sym card) is_broken.is_card;
+  knows = knows_too broken.session v w card limits is_broken.knows;
+  stands = λ no. let at = is_broken.stands no in record {
     part = at.part;
     is_part = at.is_part;
     stands = subst (IsSetTo (setting_in broken.session.info at.part)) (sym card) at.stands;
@@ -151,6 +145,6 @@ pub noted_of : (host : HostView) (wire : Wire) (misused : Bool) (note : CardReco
 noted_of host wire misused note within n = record {
   how = n.how;
   says = n.says;
-  stands = stands_too (stands_of n.how) (bus_over host wire misused) (bus_going_on host (lines_in (stands_of n.how))) refl
+  stands = stands_too n.how (bus_over host wire misused) (bus_going_on host (lines_in n.how)) refl
       within refl n.stands;
 }

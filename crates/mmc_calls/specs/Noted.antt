@@ -3,22 +3,21 @@ use Rattle.std.specs.Prelude.{◌≡◌, Result, true}
 use Rattle.mmc_card.specs.BusView.{BusView}
 use Rattle.mmc_card.specs.declared.exchange.Lines.{Lines}
 use Rattle.mmc_direct.specs.Healing.{HasHealed}
-use Rattle.mmc_direct.specs.Stands.{AnswersBy, StandsIn, info_of, stands_of}
+use Rattle.mmc_direct.specs.Served.{AnswersBy}
+use Rattle.mmc_switch.specs.Stands.{StandsIn, info_of}
 use Rattle.mmc_direct.specs.declared.refused.NotDone.{NotDone}
-use Rattle.mmc_direct.specs.declared.stands.Served.{Served}
-use Rattle.mmc_direct.specs.declared.stands.Stands.{Stands}
+use Rattle.mmc_direct.specs.declared.served.Served.{Served}
+use Rattle.mmc_switch.specs.declared.stands.Stands.{Stands}
 use Rattle.mmc_host.specs.Hosts.{HostView, bus_of}
 use Rattle.mmc_record.specs.Note.{IsNoteOf}
 use Rattle.mmc_recovery.specs.declared.healed.Healed.{Healed}
 use Rattle.mmc_record.specs.declared.record.CardRecord.{CardRecord}
-use Rattle.mmc_switch.specs.declared.broken.Broken.{Broken}
-use Rattle.mmc_switch.specs.declared.session.Session.{Session}
 
--- The record notes how the card stands: ready, or loose after a failure.
+-- The record notes how the card stands: ready, or broken after a failure.
 pub record IsNoted (note : CardRecord) (view : BusView) : Type 0 where
-  pub how : Result Session Broken
+  pub how : Stands
   pub says : IsNoteOf how note
-  pub stands : StandsIn (stands_of how) view
+  pub stands : StandsIn how view
 
 -- whatever card stands so, the record notes it
 abbrev pub Notes : Stands → CardRecord → Type 0
@@ -34,9 +33,9 @@ bus_going_on host lines = record (bus_of host) { lines = lines }
 
 -- The record notes how the card of a host stands, between two calls.
 pub record IsNotedOf (note : CardRecord) (host : HostView) : Type 0 where
-  pub how : Result Session Broken
+  pub how : Stands
   pub says : IsNoteOf how note
-  pub stands : StandsIn (stands_of how) (bus_going_on host (lines_in (stands_of how)))
+  pub stands : StandsIn how (bus_going_on host (lines_in how))
 
 -- A request was served with this answer, by what it promises of the card, and the record notes how the card stands after it.
 pub record HasServed (Has : Served → Type 0) (answer : Result Unit NotDone) (note : CardRecord) : Type 0 where

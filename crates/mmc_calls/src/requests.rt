@@ -6,9 +6,10 @@ ghost use Rattle.mmc_requests.specs.Changes.{erased_at, written_at};
 ghost use Rattle.mmc_requests.specs.Kinds.{kind_of_how};
 ghost use Rattle.mmc_direct.specs.Refusal.{refusal};
 ghost use Rattle.mmc_direct.specs.Requests.{HasChanged, HasRead};
-ghost use Rattle.mmc_direct.specs.Stands.{IfRefused, IfServed, StandsIn, info_of, refusal_in};
 ghost use Rattle.mmc_requests.specs.declared.kind.Kind.TheVariants.{Read, Write};
 ghost use Rattle.mmc_requests.specs.declared.limits.TheConstants.{ATTEMPTS};
+ghost use Rattle.mmc_direct.specs.Served.{IfRefused, IfServed, refusal_in};
+ghost use Rattle.mmc_switch.specs.Stands.{StandsIn, info_of};
 ghost use Rattle.mmc_calls.specs.Noted.{HasServed, IsCounted, Notes};
 
 use crate::noting::noted;

@@ -15,7 +15,7 @@ use Rattle.mmc_erase.specs.Job.{erased}
 use Rattle.mmc_erase.specs.Whole.{HasErased}
 use Rattle.mmc_recovery.specs.Settled.{Leaves}
 use Rattle.mmc_switch.specs.Info.{lasting}
-use Rattle.mmc_switch.specs.Place.{IsLoose, IsReady}
+use Rattle.mmc_switch.specs.Place.{IsBroken, IsReady}
 use Rattle.mmc_switch.specs.UnderWay.{known_part}
 use Rattle.mmc_switch.specs.declared.broken.Broken.{Broken}
 use Rattle.mmc_switch.specs.declared.info.Info.{Info}
@@ -26,7 +26,7 @@ use Rattle.mmc_transfer.specs.declared.way.Way.{Way}
 use Rattle.mmc_transfer.specs.declared.way.Way.TheVariants.{Read, Write}
 use Rattle.mmc_direct.specs.Attempts.{HasPrepared, HasTried}
 use Rattle.mmc_requests.specs.Changes.{TakesEffect, erased_at, written_at}
-use Rattle.mmc_direct.specs.Stands.{StandsIn, stands_of}
+use Rattle.mmc_switch.specs.Stands.{StandsIn, stands_of}
 
 -- Settling and selecting.
 
@@ -57,18 +57,18 @@ profile_then a b stays profile = subst InProfile (sym stays.carried.made) profil
 
 pub selected_prepared : (session : Session) (a b : BusView) (result : Result Session Broken) (c : BusView)
     → HasPrepared a (Ok session) b → Stays b c × Narrows b c → IfOk result (λ ready. IsReady ready c)
-    → IfErr result (λ broken. IsLoose broken c × (b.faults < c.faults)) → HasPrepared a result c
-selected_prepared session a b (Ok ready) c was stays is loose = record {
+    → IfErr result (λ broken. IsBroken broken c × (b.faults < c.faults)) → HasPrepared a result c
+selected_prepared session a b (Ok ready) c was stays is is_broken = record {
   stays = stays_then a b c was.stays stays.0;
   narrows = narrows_then a b c was.narrows stays.1;
   stands = is;
   fell = tt;
 }
-selected_prepared session a b (Err broken) c was stays is loose = record {
+selected_prepared session a b (Err broken) c was stays is is_broken = record {
   stays = stays_then a b c was.stays stays.0;
   narrows = narrows_then a b c was.narrows stays.1;
-  stands = loose.0;
-  fell = λ profile. let l = was.stays.later in let m = loose.1 in omega (arith, l, m);
+  stands = is_broken.0;
+  fell = λ profile. let l = was.stays.later in let m = is_broken.1 in omega (arith, l, m);
 }
 
 -- Sets.
@@ -118,7 +118,7 @@ pub record HasMade (change : Change) (old : BusView) (result : Result Session Br
   pub stays : Stays old new
   pub within : Within (holds new.card) (maybe_changed change (holds old.card))
   pub done : IfOk result (λ session. IsReady session new × Same (holds new.card) (changed change (holds old.card)))
-  pub failed : IfErr result (λ broken. IsLoose broken new × (old.faults < new.faults))
+  pub failed : IfErr result (λ broken. IsBroken broken new × (old.faults < new.faults))
 
 fell_by : (old new : ℕ) → 0 < new - old → old < new
 fell_by old new h = omega (arith, h)
@@ -133,7 +133,7 @@ moved session start way blocks old (Err broken) new run =
       stays = run.stays;
       within = run.within;
       done = tt;
-      failed = (run.leaves.loose, fell_by old.faults new.faults run.leaves.fell);
+      failed = (run.leaves.is_broken, fell_by old.faults new.faults run.leaves.fell);
     }
 
 pub made_write : (session : Session) (part : Part) (start : ℕ) (blocks : List Sector) (old : BusView)
@@ -167,7 +167,7 @@ made_erased session start count old (Err broken) new run =
       stays = run.stays;
       within = run.within;
       done = tt;
-      failed = (run.leaves.loose, fell_by old.faults new.faults run.leaves.fell);
+      failed = (run.leaves.is_broken, fell_by old.faults new.faults run.leaves.fell);
     }
 
 pub made_erase : (session : Session) (info : Info) (part : Part) (start count : ℕ) (old : BusView)

@@ -13,8 +13,9 @@ use Rattle.mmc_recovery.specs.Settled.{given_up}
 use Rattle.mmc_recovery.specs.declared.settling.TheConstants.{EXCHANGES_OF_A_SETTLE}
 use Rattle.mmc_switch.specs.declared.broken.Broken.{Broken}
 use Rattle.mmc_switch.specs.declared.session.Session.{Session}
-use Rattle.mmc_direct.specs.Stands.{IfLeft, IsCausedIn, answer_of, stands_of}
-use Rattle.mmc_direct.specs.declared.stands.Served.{Served}
+use Rattle.mmc_direct.specs.Served.{IfLeft, IsCausedIn, answer_of}
+use Rattle.mmc_switch.specs.Stands.{stands_of}
+use Rattle.mmc_direct.specs.declared.served.Served.{Served}
 
 -- No exchange is the cause Recovery.
 

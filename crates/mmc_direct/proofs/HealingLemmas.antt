@@ -8,11 +8,12 @@ use Rattle.mmc_switch.specs.declared.broken.Broken.{Broken}
 use Rattle.mmc_switch.specs.declared.session.Session.{Session}
 use Rattle.mmc_direct.specs.Healing.{HasHealed, HasSettled, Heals, after_attempt}
 use Rattle.mmc_direct.specs.Healing.Heals.{again, first}
-use Rattle.mmc_direct.specs.Stands.{IfServed, answer_of, stands_of}
 use Rattle.mmc_requests.specs.declared.limits.TheConstants.{ATTEMPTS}
-use Rattle.mmc_direct.specs.declared.stands.Served.{Served}
-use Rattle.mmc_direct.specs.declared.stands.Stands.{Stands}
-use Rattle.mmc_direct.specs.declared.stands.Stands.TheVariants.{Loose, Ready}
+use Rattle.mmc_direct.specs.Served.{IfServed, answer_of}
+use Rattle.mmc_switch.specs.Stands.{stands_of}
+use Rattle.mmc_direct.specs.declared.served.Served.{Served}
+use Rattle.mmc_switch.specs.declared.stands.Stands.{Stands}
+use Rattle.mmc_switch.specs.declared.stands.Stands.TheVariants as Stands
 
 pub heals_first : (stands : Stands) (old settled : Healed) (left : Stands) (new : Healed) → HasSettled stands old settled
     → new ≡ after_attempt left settled → Heals stands old 1 left new
@@ -20,23 +21,23 @@ heals_first stands old settled left new settles is =
     subst (λ n. Heals stands old 1 left n) (sym is) (first settled left settles)
 
 pub heals_again : (stands : Stands) (old : Healed) (before : ℕ) (broken : Broken) (healed settled : Healed) (left : Stands)
-    (new : Healed) → Heals stands old before (Loose broken) healed → HasSettled (Loose broken) healed settled
+    (new : Healed) → Heals stands old before (Stands.Broken broken) healed → HasSettled (Stands.Broken broken) healed settled
     → new ≡ after_attempt left settled → Heals stands old (before + 1) left new
 heals_again stands old before broken healed settled left new so_far settles is =
     subst (λ n. Heals stands old (before + 1) left n) (sym is) (again before broken healed settled left so_far settles)
 
 -- an attempt that failed, as it is counted
 pub failed_so : (broken : Broken) (settled counted : Healed) (cause : Cause) → cause ≡ broken.cause
-    → counted ≡ with_failure cause (with_attempt settled) → counted ≡ after_attempt (Loose broken) settled
+    → counted ≡ with_failure cause (with_attempt settled) → counted ≡ after_attempt (Stands.Broken broken) settled
 failed_so broken settled counted cause why is = is ∙ ap (λ (c : Cause). with_failure c (with_attempt settled)) why
 
 -- a request that is done, or one whose attempts are used up
 pub healed_done : (stands : Stands) (old : Healed) (attempts : ℕ) (session : Session) (new : Healed) → attempts ≤ ATTEMPTS
-    → Heals stands old attempts (Ready session) new → HasHealed stands old (Ready session) new
+    → Heals stands old attempts (Stands.Ready session) new → HasHealed stands old (Stands.Ready session) new
 healed_done stands old attempts session new few heals = record { attempts = attempts; all = few; heals = heals }
 
 pub healed_in_vain : (stands : Stands) (old : Healed) (attempts : ℕ) (broken : Broken) (new : Healed) → ATTEMPTS ≤ attempts
-    → attempts ≤ ATTEMPTS → Heals stands old attempts (Loose broken) new → HasHealed stands old (Loose broken) new
+    → attempts ≤ ATTEMPTS → Heals stands old attempts (Stands.Broken broken) new → HasHealed stands old (Stands.Broken broken) new
 healed_in_vain stands old attempts broken new least few heals =
     record { attempts = attempts; all = omega (arith, least, few); heals = heals }
 

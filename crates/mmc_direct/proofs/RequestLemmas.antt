@@ -11,8 +11,9 @@ use Rattle.mmc_switch.specs.declared.session.Session.{Session}
 use Rattle.mmc_direct.specs.Attempts.{HasTried}
 use Rattle.mmc_requests.specs.Changes.{written_at}
 use Rattle.mmc_direct.specs.Requests.{HasChanged, HasRead}
-use Rattle.mmc_direct.specs.Stands.{answer_of, stands_of}
-use Rattle.mmc_direct.specs.declared.stands.Served.{Served}
+use Rattle.mmc_direct.specs.Served.{answer_of}
+use Rattle.mmc_switch.specs.Stands.{stands_of}
+use Rattle.mmc_direct.specs.declared.served.Served.{Served}
 
 served_as : (P : Served → Type 0) (served : Served) (result : Result Session Broken) → served.stands ≡ stands_of result
     → served.answer ≡ answer_of result → P (record { stands = stands_of result; answer = answer_of result }) → P served

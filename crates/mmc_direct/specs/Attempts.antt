@@ -12,9 +12,10 @@ use Rattle.mmc_switch.specs.declared.session.Session.{Session}
 use Rattle.mmc_transfer.specs.declared.turns.TheConstants.{EXCHANGES_BESIDE_BLOCKS, EXCHANGES_OF_A_BLOCK}
 use Rattle.mmc_erase.specs.declared.turns.TheConstants.{EXCHANGES_OF_AN_ERASE}
 use Rattle.mmc_requests.specs.Changes.{TakesEffect}
-use Rattle.mmc_direct.specs.Stands.{IsCausedIn, StandsIn, info_of, stands_of}
+use Rattle.mmc_direct.specs.Served.{IsCausedIn}
+use Rattle.mmc_switch.specs.Stands.{StandsIn, info_of, stands_of}
 use Rattle.mmc_direct.specs.declared.attempts.TheConstants.{EXCHANGES_BESIDE_A_RUN}
-use Rattle.mmc_direct.specs.declared.stands.Stands.{Stands}
+use Rattle.mmc_switch.specs.declared.stands.Stands.{Stands}
 
 -- the most exchanges of an attempt that moves so many blocks
 abbrev pub moving : ℕ → ℕ

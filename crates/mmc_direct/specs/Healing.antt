@@ -4,25 +4,25 @@ use Rattle.mmc_recovery.specs.Healed.{with_attempt, with_failure, with_settling}
 use Rattle.mmc_recovery.specs.declared.healed.Healed.{Healed}
 use Rattle.mmc_switch.specs.declared.broken.Broken.{Broken}
 use Rattle.mmc_requests.specs.declared.limits.TheConstants.{ATTEMPTS}
-use Rattle.mmc_direct.specs.declared.stands.Stands.{Stands}
-use Rattle.mmc_direct.specs.declared.stands.Stands.TheVariants.{Loose, Ready}
+use Rattle.mmc_switch.specs.declared.stands.Stands.{Stands}
+use Rattle.mmc_switch.specs.declared.stands.Stands.TheVariants as Stands
 
 -- the card has to be reset
 abbrev pub must_reset : Stands → Bool
-must_reset (Ready session) = false
-must_reset (Loose broken) = broken.must_reset
+must_reset (Stands.Ready session) = false
+must_reset (Stands.Broken broken) = broken.must_reset
 
--- a card that is loose was settled, and reset or not
+-- a card that is broken was settled, and reset or not
 abbrev pub after_settling : Stands → Bool → Healed → Healed
-after_settling (Ready session) was_reset healed = healed
-after_settling (Loose broken) was_reset healed = with_settling was_reset healed
+after_settling (Stands.Ready session) was_reset healed = healed
+after_settling (Stands.Broken broken) was_reset healed = with_settling was_reset healed
 
 -- an attempt that left the card so is over
 abbrev pub after_attempt : Stands → Healed → Healed
-after_attempt (Ready session) healed = with_attempt healed
-after_attempt (Loose broken) healed = with_failure broken.cause (with_attempt healed)
+after_attempt (Stands.Ready session) healed = with_attempt healed
+after_attempt (Stands.Broken broken) healed = with_failure broken.cause (with_attempt healed)
 
--- Before its run an attempt settles a card that stands loose, and resets one that has to be reset.
+-- Before its run an attempt settles a card that stands broken, and resets one that has to be reset.
 pub record HasSettled (stands : Stands) (old new : Healed) : Type 0 where
   pub was_reset : Bool
   pub needed : must_reset stands ≡ true → was_reset ≡ true
@@ -33,13 +33,13 @@ pub data Heals (stands : Stands) (old : Healed) : ℕ → Stands → Healed → 
   first : (settled : Healed) (left : Stands) → HasSettled stands old settled
       → Heals stands old 1 left (after_attempt left settled)
   again : (before : ℕ) (broken : Broken) (healed settled : Healed) (left : Stands)
-      → Heals stands old before (Loose broken) healed → HasSettled (Loose broken) healed settled
+      → Heals stands old before (Stands.Broken broken) healed → HasSettled (Stands.Broken broken) healed settled
       → Heals stands old (before + 1) left (after_attempt left settled)
 
 -- all attempts were used up where the last one has failed
 abbrev pub AreAll : ℕ → Stands → Type 0
-AreAll attempts (Ready session) = attempts ≤ ATTEMPTS
-AreAll attempts (Loose broken) = attempts ≡ ATTEMPTS
+AreAll attempts (Stands.Ready session) = attempts ≤ ATTEMPTS
+AreAll attempts (Stands.Broken broken) = attempts ≡ ATTEMPTS
 
 -- A request that left the card so is counted by its attempts.
 pub record HasHealed (stands : Stands) (old : Healed) (left : Stands) (new : Healed) : Type 0 where

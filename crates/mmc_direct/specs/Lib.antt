@@ -2,4 +2,4 @@ pub mod Attempts
 pub mod Healing
 pub mod Refusal
 pub mod Requests
-pub mod Stands
+pub mod Served

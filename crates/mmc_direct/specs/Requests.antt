@@ -8,8 +8,9 @@ use Rattle.mmc_card.specs.Profile.{InProfile}
 use Rattle.mmc_card.specs.Sectors.{AreRead, Change, Sector, Within, maybe_changed}
 use Rattle.mmc_card.specs.declared.part.Part.{Part}
 use Rattle.mmc_requests.specs.Changes.{TakesEffect}
-use Rattle.mmc_direct.specs.Stands.{IfFailed, StandsIn}
-use Rattle.mmc_direct.specs.declared.stands.Served.{Served}
+use Rattle.mmc_direct.specs.Served.{IfFailed}
+use Rattle.mmc_switch.specs.Stands.{StandsIn}
+use Rattle.mmc_direct.specs.declared.served.Served.{Served}
 
 -- A write, an erase or a trim.
 pub record HasChanged (change : Change) (old : BusView) (served : Served) (new : BusView) : Type 0 where

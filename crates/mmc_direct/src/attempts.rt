@@ -13,15 +13,15 @@ ghost use Rattle.mmc_requests.specs.Changes.{erased_at, written_at};
 ghost use Rattle.mmc_direct.specs.Healing.{HasSettled};
 ghost use Rattle.mmc_requests.specs.Kinds.{kind_of_how};
 ghost use Rattle.mmc_direct.specs.Refusal.{refusal};
-ghost use Rattle.mmc_direct.specs.Stands.{IfLoose, IsCausedIn, StandsIn, info_of, stands_of};
 ghost use Rattle.mmc_requests.specs.declared.kind.Kind.TheVariants.{Read, Write};
+ghost use Rattle.mmc_direct.specs.Served.{IsCausedIn};
+ghost use Rattle.mmc_switch.specs.Stands.{IfBroken, StandsIn, info_of, stands_of};
 ghost use Rattle.mmc_direct.specs.declared.attempts.TheConstants.{EXCHANGES_BESIDE_A_RUN};
 
-use crate::stands::Stands;
 use mmc_bus::{Blocks, BlocksMut, Bus, Part};
 use mmc_erase::{How, erase_run};
 use mmc_recovery::{EXCHANGES_OF_A_SETTLE, Healed, settle_telling};
-use mmc_switch::{Broken, EXCHANGES_OF_A_SWITCH, Session, select};
+use mmc_switch::{Broken, EXCHANGES_OF_A_SWITCH, Session, Stands, select};
 use mmc_transfer::{read_run, write_run};
 
 /// The most exchanges of an attempt beside those of its run: a settle and a select.
@@ -33,7 +33,7 @@ fn settled<B: Bus>(bus: &mut B, healed: &mut Healed, stands: Stands) -> Result<S
     ensures bounded { (B.view bus.new).exchanges ≤ (B.view bus.old).exchanges + EXCHANGES_OF_A_SETTLE }
     ensures kept { (B.view bus.new).is_kept ≡ true → (B.view bus.old).is_kept ≡ true }
     ensures cause { IfErr result (λ broken. IsCausedIn 0 broken (B.view bus.old) (B.view bus.new)) }
-    ensures told { IfLoose stands (λ broken. (was_reset : Bool) × (healed.new ≡ with_settling was_reset healed.old)
+    ensures told { IfBroken stands (λ broken. (was_reset : Bool) × (healed.new ≡ with_settling was_reset healed.old)
         × TellsReset broken (B.view bus.old) (session_of result) was_reset (B.view bus.new)) }
     ensures healed { HasSettled stands healed.old healed.new }
     ensures prepared { (B.view bus.new).is_kept ≡ true → StandsIn stands (B.view bus.old)
@@ -41,7 +41,7 @@ fn settled<B: Bus>(bus: &mut B, healed: &mut Healed, stands: Stands) -> Result<S
 {
     match stands {
         Stands::Ready(session) => Ok(session),
-        Stands::Loose(broken) => {
+        Stands::Broken(broken) => {
             let (outcome, was_reset) = settle_telling(bus, broken);
             *healed = healed.settled(was_reset);
             outcome

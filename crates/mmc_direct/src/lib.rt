@@ -7,13 +7,14 @@ mod refused;
 mod requests;
 mod retries;
 mod rules;
-mod stands;
+mod served;
 
 pub use attempts::EXCHANGES_BESIDE_A_RUN;
 pub use mmc_erase::How;
 pub use mmc_recovery::Healed;
 pub use mmc_requests::{ATTEMPTS, Kind, Kind as Action, Refused};
 pub use refused::NotDone;
+pub use mmc_switch::Stands;
 pub use requests::{action_of, erase, read, write};
 pub use rules::refusal;
-pub use stands::{Served, Stands};
+pub use served::Served;

@@ -9,17 +9,19 @@ ghost use Rattle.mmc_direct.specs.Healing.{HasHealed};
 ghost use Rattle.mmc_requests.specs.Kinds.{kind_of_how};
 ghost use Rattle.mmc_direct.specs.Refusal.{refusal};
 ghost use Rattle.mmc_direct.specs.Requests.{HasChanged, HasRead};
-ghost use Rattle.mmc_direct.specs.Stands.{AnswersBy, IfLeft, IfRefused, IfServed, IsCausedIn, StandsIn, info_of, refusal_in};
 ghost use Rattle.mmc_requests.specs.declared.kind.Kind.TheVariants.{Read, Write};
 ghost use Rattle.mmc_requests.specs.declared.limits.TheConstants.{ATTEMPTS};
+ghost use Rattle.mmc_direct.specs.Served.{AnswersBy, IfLeft, IfRefused, IfServed, IsCausedIn, refusal_in};
+ghost use Rattle.mmc_switch.specs.Stands.{StandsIn, info_of};
 
 use crate::retries::{keep_erasing, keep_reading, keep_writing};
 use crate::rules::refusal;
-use crate::stands::{Served, Stands};
+use crate::served::Served;
 use mmc_bus::{Blocks, BlocksMut, Bus, Part};
 use mmc_erase::How;
 use mmc_recovery::Healed;
 use mmc_requests::Kind;
+use mmc_switch::Stands;
 
 /// Reads these blocks, 1 to 65,535, from this sector of a partition on, in at most four attempts: each settles the card where
 /// something has failed, selects the partition where another one is selected, and makes the run. What the blocks hold is open

@@ -8,18 +8,17 @@ ghost use Rattle.mmc_requests.specs.Changes.{erased_at, written_at};
 ghost use Rattle.mmc_direct.specs.Healing.{HasHealed};
 ghost use Rattle.mmc_requests.specs.Kinds.{kind_of_how};
 ghost use Rattle.mmc_direct.specs.Refusal.{refusal};
-ghost use Rattle.mmc_direct.specs.Stands.{StandsIn, info_of, stands_of};
 ghost use Rattle.mmc_requests.specs.declared.kind.Kind.TheVariants.{Read, Write};
 ghost use Rattle.mmc_requests.specs.declared.limits.TheConstants.{ATTEMPTS};
+ghost use Rattle.mmc_switch.specs.Stands.{StandsIn, info_of, stands_of};
 
 use crate::attempts::{try_erase, try_read, try_write};
 use crate::counting::{count_done, count_failed};
-use crate::stands::Stands;
 use mmc_bus::{Blocks, BlocksMut, Bus, Part};
 use mmc_erase::How;
 use mmc_recovery::Healed;
 use mmc_requests::ATTEMPTS;
-use mmc_switch::{Broken, Session};
+use mmc_switch::{Broken, Session, Stands};
 
 /// Reads these blocks.
 pub fn keep_reading<B: Bus, D: BlocksMut>(
@@ -50,7 +49,7 @@ pub fn keep_reading<B: Bus, D: BlocksMut>(
         }
     };
     for _failed in 1..ATTEMPTS {
-        match try_read(bus, healed, Stands::Loose(broken), part, start, blocks) {
+        match try_read(bus, healed, Stands::Broken(broken), part, start, blocks) {
             Ok(session) => {
                 count_done(healed);
                 return Ok(session);
@@ -89,7 +88,7 @@ pub fn keep_writing<B: Bus, D: Blocks>(
         }
     };
     for _failed in 1..ATTEMPTS {
-        match try_write(bus, healed, Stands::Loose(broken), part, start, blocks) {
+        match try_write(bus, healed, Stands::Broken(broken), part, start, blocks) {
             Ok(session) => {
                 count_done(healed);
                 return Ok(session);
@@ -129,7 +128,7 @@ pub fn keep_erasing<B: Bus>(
         }
     };
     for _failed in 1..ATTEMPTS {
-        match try_erase(bus, healed, Stands::Loose(broken), part, start, count, how) {
+        match try_erase(bus, healed, Stands::Broken(broken), part, start, count, how) {
             Ok(session) => {
                 count_done(healed);
                 return Ok(session);

@@ -29,6 +29,8 @@ use Rattle.mmc_switch.specs.Sizes.{size_of}
 use Rattle.mmc_switch.specs.UnderWay.{broken_off}
 use Rattle.mmc_switch.specs.declared.broken.Broken.{Broken}
 use Rattle.mmc_switch.specs.declared.session.Session.{Session}
+use Rattle.mmc_switch.specs.declared.stands.Stands.{Stands}
+use Rattle.mmc_switch.specs.declared.stands.Stands.TheVariants as Stands
 use Rattle.mmc_switch.specs.declared.sizes.Sizes.{Sizes}
 use Rattle.mmc_record.specs.Note.{HasChecks, IsNoteOf, SaysInfo, SaysSession, given_up, stands_by, what_is_left}
 use Rattle.mmc_record.specs.Numbers.{cause_of, part_of}
@@ -172,9 +174,9 @@ says_session note session info part says selected is = record {
 }
 
 -- What stands by the numbers is what they are a note of.
-pub as_noted : (note : CardRecord) (session : Session) (is stands : Result Session Broken) → SaysSession note session
+pub as_noted : (note : CardRecord) (session : Session) (is stands : Stands) → SaysSession note session
     → stands_by note.state session (cause_of note.cause) ≡ Some is → IsNoteOf stands note
-    → ◌≡◌ {A = Option (Result Session Broken)} (Some is) (Some stands)
+    → ◌≡◌ {A = Option Stands} (Some is) (Some stands)
 as_noted note session is stands says how noted =
     sym how ∙ ap (λ s. stands_by note.state s (cause_of note.cause)) (one_session note session noted.session says noted.says)
     ∙ noted.how
@@ -182,30 +184,30 @@ as_noted note session is stands says how noted =
 -- How the card stands by each state.
 
 pub stands_ready : (note : CardRecord) (session : Session) → note.state ≡ 1
-    → stands_by note.state session (cause_of note.cause) ≡ Some (Ok session)
+    → stands_by note.state session (cause_of note.cause) ≡ Some (Stands.Ready session)
 stands_ready note session state = rw state refl
 
-pub stands_loose : (note : CardRecord) (session : Session) (broken : Broken) (cause : Cause) → note.state ≡ 2
+pub stands_broken : (note : CardRecord) (session : Session) (broken : Broken) (cause : Cause) → note.state ≡ 2
     → cause ≡ cause_of note.cause → broken ≡ broken_off session cause
-    → stands_by note.state session (cause_of note.cause) ≡ Some (Err broken)
-stands_loose note session broken cause state by is = rw state (ap (λ b. Some (Err b)) (sym (is ∙ ap (broken_off session) by)))
+    → stands_by note.state session (cause_of note.cause) ≡ Some (Stands.Broken broken)
+stands_broken note session broken cause state by is = rw state (ap (λ b. Some (Stands.Broken b)) (sym (is ∙ ap (broken_off session) by)))
 
 pub stands_lost : (note : CardRecord) (session : Session) (broken lost : Broken) (cause : Cause) → note.state ≡ 3
     → broken ≡ broken_off session cause → lost ≡ given_up broken.session
-    → stands_by note.state session (cause_of note.cause) ≡ Some (Err lost)
+    → stands_by note.state session (cause_of note.cause) ≡ Some (Stands.Broken lost)
 stands_lost note session broken lost cause state is given =
-    rw state (ap (λ b. Some (Err b)) (sym (given ∙ ap (λ (b : Broken). given_up b.session) is)))
+    rw state (ap (λ b. Some (Stands.Broken b)) (sym (given ∙ ap (λ (b : Broken). given_up b.session) is)))
 
 -- A broken card's session, with the state and the cause of what failed, is a note of what is left.
 
 how_left : (state : ℕ) (broken : Broken) → (must : Bool) → broken.must_reset ≡ must → state ≡ (if must then 3 else 2)
-    → stands_by state broken.session broken.cause ≡ Some (Err (what_is_left broken))
+    → stands_by state broken.session broken.cause ≡ Some (Stands.Broken (what_is_left broken))
 how_left state broken true must is = rw (is, must) refl
 how_left state broken false must is = rw (is, must) refl
 
 pub note_of_broken : (note : CardRecord) (broken : Broken) → SaysSession note broken.session
     → cause_of note.cause ≡ broken.cause → note.state ≡ (if broken.must_reset then 3 else 2)
-    → IsNoteOf (Err (what_is_left broken)) note
+    → IsNoteOf (Stands.Broken (what_is_left broken)) note
 note_of_broken note broken says cause state = record {
   session = broken.session;
   says = says;

@@ -1,5 +1,5 @@
 -- What the numbers of a record say of a card.
-use Rattle.std.specs.Prelude.{◌&&◌, ◌==◌, ◌||◌, ◌≡◌, Bool, Err, None, Ok, Option, Result, Some, if◌then◌else◌, is_ok, not}
+use Rattle.std.specs.Prelude.{◌&&◌, ◌==◌, ◌||◌, ◌≡◌, Bool, None, Ok, Option, Some, if◌then◌else◌, is_ok, not}
 use Rattle.std.specs.Prelude.{true, ℕ}
 use Rattle.std.specs.Int.{bytes_high_first}
 use Rattle.mmc_regs.specs.Csd.{csd_in, csd_number}
@@ -14,6 +14,8 @@ use Rattle.mmc_switch.specs.UnderWay.{broken_off}
 use Rattle.mmc_switch.specs.declared.broken.Broken.{Broken}
 use Rattle.mmc_switch.specs.declared.info.Info.{Info}
 use Rattle.mmc_switch.specs.declared.session.Session.{Session}
+use Rattle.mmc_switch.specs.declared.stands.Stands.{Stands}
+use Rattle.mmc_switch.specs.declared.stands.Stands.TheVariants as Stands
 use Rattle.mmc_record.specs.Numbers.{addressing_of, cause_of, is_set, kind_of, part_of, timing_of, width_of}
 use Rattle.mmc_record.specs.declared.record.CardRecord.{CardRecord}
 
@@ -54,15 +56,15 @@ pub record SaysSession (note : CardRecord) (session : Session) : Type 0 where
 abbrev pub given_up : Session → Broken
 given_up session = record { session = record session { selected = None }; cause = Recovery; must_reset = true }
 
--- How a card of this session stands: 1 ready, 2 to be settled, for this cause, 3 to be reset.
-abbrev pub stands_by : ℕ → Session → Cause → Option (Result Session Broken)
+-- How a card of this session stands: 1 ready, 2 broken, for this cause, 3 broken so that it has to be reset.
+abbrev pub stands_by : ℕ → Session → Cause → Option Stands
 stands_by state session cause =
-    if state == 1 then Some (Ok session)
-    else (if state == 2 then Some (Err (broken_off session cause))
-    else (if state == 3 then Some (Err (given_up session)) else None))
+    if state == 1 then Some (Stands.Ready session)
+    else (if state == 2 then Some (Stands.Broken (broken_off session cause))
+    else (if state == 3 then Some (Stands.Broken (given_up session)) else None))
 
 -- The numbers are a note of a card that stands so.
-pub record IsNoteOf (stands : Result Session Broken) (note : CardRecord) : Type 0 where
+pub record IsNoteOf (stands : Stands) (note : CardRecord) : Type 0 where
   pub session : Session
   pub says : SaysSession note session
   pub how : stands_by note.state session (cause_of note.cause) ≡ Some stands

@@ -1,5 +1,5 @@
 // How a card stands, noted.
-ghost use Rattle.std.specs.Prelude.{◌≡◌, Err, Ok};
+ghost use Rattle.std.specs.Prelude.{◌≡◌};
 ghost use Rattle.mmc_bus.specs.declared.cause.Cause.TheVariants as Why;
 ghost use Rattle.mmc_card.specs.Made.{HasRegisters, Made};
 ghost use Rattle.mmc_card.specs.declared.exchange.Lines.{Lines};
@@ -12,7 +12,7 @@ use crate::numbers::{
 };
 use crate::record::CardRecord;
 use mmc_bus::Cause;
-use mmc_switch::{Broken, Session};
+use mmc_switch::{Broken, Session, Stands};
 
 // A session, with these numbers for how it stands.
 fn noted(session: &Session, state: u8, cause: Cause) -> CardRecord
@@ -50,17 +50,17 @@ fn noted(session: &Session, state: u8, cause: Cause) -> CardRecord
 /// Notes a card that is ready.
 pub fn note(session: &Session) -> CardRecord
     ensures of_a_card { (limits : Lines) → (made : Made) → HasRegisters made → IsInfo limits made session.now.info
-        → IsNoteOf (Ok session.now) result }
-    ensures checked { HasChecks session.now.info → IsNoteOf (Ok session.now) result }
+        → IsNoteOf (Stands.Ready session.now) result }
+    ensures checked { HasChecks session.now.info → IsNoteOf (Stands.Ready session.now) result }
 {
     noted(session, 1, Cause::Answer)
 }
 
-/// Notes a card that has to be settled or reset. What has to be reset is read back as `Broken::give_up` leaves it.
+/// Notes a broken card. What has to be reset is read back as `Broken::give_up` leaves it.
 pub fn note_broken(broken: &Broken) -> CardRecord
     ensures of_a_card { (limits : Lines) → (made : Made) → HasRegisters made → IsInfo limits made broken.now.session.info
-        → IsNoteOf (Err (what_is_left broken.now)) result }
-    ensures checked { HasChecks broken.now.session.info → IsNoteOf (Err (what_is_left broken.now)) result }
+        → IsNoteOf (Stands.Broken (what_is_left broken.now)) result }
+    ensures checked { HasChecks broken.now.session.info → IsNoteOf (Stands.Broken (what_is_left broken.now)) result }
 {
     let state = if broken.must_reset() { 3 } else { 2 };
     noted(broken.session(), state, broken.cause())

@@ -1,10 +1,9 @@
 // A record that is read, with a check.
-ghost use Rattle.std.specs.Prelude.{◌≡◌, ◌≤◌, IfSome, Result, Some, is_some};
+ghost use Rattle.std.specs.Prelude.{◌≡◌, ◌≤◌, IfSome, Some, is_some};
 ghost use Rattle.mmc_ext_csd.specs.Partition.{addressable_sectors, existing_sectors};
 ghost use Rattle.mmc_card.specs.declared.part.Part.{Part};
 ghost use Rattle.mmc_switch.specs.Sizes.{size_of};
-ghost use Rattle.mmc_switch.specs.declared.broken.Broken.{Broken};
-ghost use Rattle.mmc_switch.specs.declared.session.Session.{Session};
+ghost use Rattle.mmc_switch.specs.declared.stands.Stands.{Stands};
 ghost use Rattle.mmc_record.specs.Note.{IsNoteOf, SaysInfo, SaysSession, has_info, is_note, noted_size};
 
 use crate::numbers::{addressing_of, cause_of, is_set, kind_of, part_of, timing_of, width_of};
@@ -12,7 +11,7 @@ use crate::record::CardRecord;
 use mmc_ext_csd::existing_sectors;
 use mmc_frame::Addressing;
 use mmc_regs::{read_cid, read_csd};
-use mmc_switch::{Broken, Info, Session, Sizes};
+use mmc_switch::{Info, Session, Sizes, Stands};
 
 // A partition that commands can't address as a whole counts as none.
 fn sizes_of(note: &CardRecord, addressing: Addressing) -> Sizes
@@ -69,20 +68,20 @@ fn restored_session(note: &CardRecord) -> Option<Session>
     Some(Session::of(info, note.partition_config, part_of(note.selected)))
 }
 
-/// How the card stands: ready, or to be settled or reset. What `note` and `note_broken` have noted of a card comes back as it
+/// How the card stands: ready, or broken. What `note` and `note_broken` have noted of a card comes back as it
 /// was. `None` where these numbers are no note of a card: the state is none of the three, the check of CID or CSD doesn't fit,
 /// the CSD is none that a card of this kind may have, or the erase unit is 0.
-pub fn restored(note: &CardRecord) -> Option<Result<Session, Broken>>
+pub fn restored(note: &CardRecord) -> Option<Stands>
     ensures refused { is_some result ≡ is_note note.now }
     ensures says { IfSome result (λ stands. IsNoteOf stands note.now) }
-    ensures as_noted { (stands : Result Session Broken) → IsNoteOf stands note.now → result ≡ Some stands }
+    ensures as_noted { (stands : Stands) → IsNoteOf stands note.now → result ≡ Some stands }
 {
     let session = restored_session(note)?;
     let cause = cause_of(note.cause);
     match note.state {
-        1 => Some(Ok(session)),
-        2 => Some(Err(session.break_off(cause))),
-        3 => Some(Err(session.break_off(cause).give_up())),
+        1 => Some(Stands::Ready(session)),
+        2 => Some(Stands::Broken(session.break_off(cause))),
+        3 => Some(Stands::Broken(session.break_off(cause).give_up())),
         _ => None,
     }
 }

@@ -10,7 +10,7 @@ use Rattle.mmc_bus.proofs.WorkLemmas.{moved_as}
 use Rattle.mmc_bus.specs.Learned.{Stays}
 use Rattle.mmc_bus.specs.Work.{Moved}
 use Rattle.mmc_switch.specs.Info.{IsInfo}
-use Rattle.mmc_switch.specs.Place.{IsLoose, IsReady, Knows}
+use Rattle.mmc_switch.specs.Place.{IsBroken, IsReady, Knows}
 use Rattle.mmc_switch.specs.declared.broken.Broken.{Broken}
 use Rattle.mmc_switch.specs.declared.info.Info.{Info}
 use Rattle.mmc_switch.specs.declared.initialization.InitializationFault.{InitializationFault}
@@ -40,21 +40,21 @@ knows_no_part : (session : Session) (view : BusView) → Knows session view
     → Knows (record session { selected = None }) view
 knows_no_part session view knows = record { info = knows.info; partition_config = knows.partition_config }
 
-left_loose : (broken left : Broken) (a b : BusView) → left ≡ given_up broken → IsCard b.card → Stays a b
-    → Knows broken.session a → IsLoose left b
-left_loose broken left a b e is stays knows =
-    let loose : IsLoose (given_up broken) b = record {
+left_broken : (broken left : Broken) (a b : BusView) → left ≡ given_up broken → IsCard b.card → Stays a b
+    → Knows broken.session a → IsBroken left b
+left_broken broken left a b e is stays knows =
+    let is_broken : IsBroken (given_up broken) b = record {
       is_card = is;
       knows = knows_no_part broken.session b (knows_then broken.session a b stays knows);
       stands = λ no_reset. cc (no_reset);
     } in
-    subst (λ x. IsLoose x b) (sym e) loose
+    subst (λ x. IsBroken x b) (sym e) is_broken
 
 -- it wasn't initialized
 pub resets_none : (broken left : Broken) (fault : InitializationFault) (a b : BusView) → left ≡ given_up broken
     → Initializes (Err fault) a b → Resets broken (Err left) a b
 resets_none broken left fault a b e p =
-    moved_as a b p (λ knows. left_loose broken left a b e p.is_card p.stays knows)
+    moved_as a b p (λ knows. left_broken broken left a b e p.is_card p.stays knows)
     (λ same profile knows. cc (p.fine same profile))
 
 -- it is another one
@@ -63,7 +63,7 @@ pub resets_other : (broken left : Broken) (session : Session) (one other : Info)
     → ((limits : Lines) (made : Made) → IsInfo limits made one → IsInfo limits made other → is_same ≡ true)
     → Initializes (Ok session) a b → Resets broken (Err left) a b
 resets_other broken left session one other is_same a b e now was differs known p =
-    moved_as a b p (λ knows. left_loose broken left a b e p.is_card p.stays knows)
+    moved_as a b p (λ knows. left_broken broken left a b e p.is_card p.stays knows)
     (λ same profile knows.
     let made = b.card.made in
     let still = knows_then broken.session a b p.stays knows in

@@ -6,7 +6,7 @@ use Rattle.mmc_card.specs.Profile.{InProfile}
 use Rattle.mmc_bus.proofs.WorkLemmas.{fell, moved_then, quiet_parts, refuted}
 use Rattle.mmc_bus.specs.Learned.{Stays}
 use Rattle.mmc_bus.specs.Work.{Moved, Narrows}
-use Rattle.mmc_switch.specs.Place.{IsLoose, IsReady, Knows}
+use Rattle.mmc_switch.specs.Place.{IsBroken, IsReady, Knows}
 use Rattle.mmc_switch.specs.declared.broken.Broken.{Broken}
 use Rattle.mmc_switch.specs.declared.info.Info.{Info}
 use Rattle.mmc_switch.specs.declared.session.Session.{Session}
@@ -36,7 +36,7 @@ resets_fell broken r a b p knows profile err =
 
 -- The card is restored where it stands, and ready for its session.
 pub restored_ready : (broken : Broken) (session : Session) (info : Info) (a b : BusView) → broken.must_reset ≡ false
-    → info ≡ broken.session.info → session ≡ broken.session → Restored info (Ok tt) a b → IsLoose broken a
+    → info ≡ broken.session.info → session ≡ broken.session → Restored info (Ok tt) a b → IsBroken broken a
     → IsReady session b
-restored_ready broken session info a b none is e p loose =
-    subst (λ s. IsReady s b) (sym e) (p.own broken.session (sym is) loose.knows (loose.stands none) refl)
+restored_ready broken session info a b none is e p is_broken =
+    subst (λ s. IsReady s b) (sym e) (p.own broken.session (sym is) is_broken.knows (is_broken.stands none) refl)

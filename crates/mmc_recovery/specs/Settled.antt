@@ -5,7 +5,7 @@ use Rattle.mmc_card.specs.BusView.{BusView}
 use Rattle.mmc_card.specs.declared.part.Part.TheVariants.{User}
 use Rattle.mmc_bus.specs.declared.cause.Cause.{Cause}
 use Rattle.mmc_bus.specs.declared.cause.Cause.TheVariants.{Recovery}
-use Rattle.mmc_switch.specs.Place.{IsLoose, IsReady, Knows, StandsAs}
+use Rattle.mmc_switch.specs.Place.{IsBroken, IsReady, Knows, StandsAs}
 use Rattle.mmc_switch.specs.declared.broken.Broken.{Broken}
 use Rattle.mmc_switch.specs.declared.info.Info.{Info}
 use Rattle.mmc_switch.specs.declared.session.Session.{Session}
@@ -17,9 +17,9 @@ Restores info result old new =
     (session : Session) → session.info ≡ info → Knows session old → StandsAs session old → IsOk result
     → IsReady session new
 
--- a card that is ready for its session, or one that is left loose
+-- a card that is ready for its session, or one that is left broken
 abbrev pub Leaves : Result Session Broken → BusView → Type 0
-Leaves result new = MatchResult result (λ session. IsReady session new) (λ left. IsLoose left new)
+Leaves result new = MatchResult result (λ session. IsReady session new) (λ left. IsBroken left new)
 
 -- The card has to be reset, since settling failed, and which partition is selected isn't known.
 abbrev pub given_up : Broken → Broken

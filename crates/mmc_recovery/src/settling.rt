@@ -15,7 +15,7 @@ ghost use Rattle.mmc_card.specs.declared.part.Part.TheVariants.{User};
 ghost use Rattle.mmc_bus.specs.Learned.{Stays};
 ghost use Rattle.mmc_bus.specs.Work.{Narrows};
 ghost use Rattle.mmc_switch.specs.Info.{lasting};
-ghost use Rattle.mmc_switch.specs.Place.{IsLoose};
+ghost use Rattle.mmc_switch.specs.Place.{IsBroken};
 ghost use Rattle.mmc_recovery.specs.Settled.{Leaves, TellsReset, given_up, session_of};
 
 use crate::order::{EXCHANGES_OF_A_RESTORATION, restore};
@@ -40,8 +40,8 @@ pub fn settle<B: Bus>(bus: &mut B, broken: Broken) -> Result<Session, Broken>
     ensures kept { (B.view bus.new).is_kept ≡ true → (B.view bus.old).is_kept ≡ true }
     ensures stays { (B.view bus.new).is_kept ≡ true
         → Stays (B.view bus.old) (B.view bus.new) × Narrows (B.view bus.old) (B.view bus.new) }
-    ensures settled { (B.view bus.new).is_kept ≡ true → IsLoose broken (B.view bus.old) → Leaves result (B.view bus.new) }
-    ensures refused { (B.view bus.new).is_kept ≡ true → IsLoose broken (B.view bus.old)
+    ensures settled { (B.view bus.new).is_kept ≡ true → IsBroken broken (B.view bus.old) → Leaves result (B.view bus.new) }
+    ensures refused { (B.view bus.new).is_kept ≡ true → IsBroken broken (B.view bus.old)
         → InProfile (B.view bus.old).card.made → IsErr result → (B.view bus.old).faults < (B.view bus.new).faults }
 {
     settle_telling(bus, broken).0
@@ -61,8 +61,8 @@ pub fn settle_telling<B: Bus>(bus: &mut B, broken: Broken) -> (Result<Session, B
     ensures kept { (B.view bus.new).is_kept ≡ true → (B.view bus.old).is_kept ≡ true }
     ensures stays { (B.view bus.new).is_kept ≡ true
         → Stays (B.view bus.old) (B.view bus.new) × Narrows (B.view bus.old) (B.view bus.new) }
-    ensures settled { (B.view bus.new).is_kept ≡ true → IsLoose broken (B.view bus.old) → Leaves result.0 (B.view bus.new) }
-    ensures refused { (B.view bus.new).is_kept ≡ true → IsLoose broken (B.view bus.old)
+    ensures settled { (B.view bus.new).is_kept ≡ true → IsBroken broken (B.view bus.old) → Leaves result.0 (B.view bus.new) }
+    ensures refused { (B.view bus.new).is_kept ≡ true → IsBroken broken (B.view bus.old)
         → InProfile (B.view bus.old).card.made → IsErr result.0 → (B.view bus.old).faults < (B.view bus.new).faults }
 {
     if broken.must_reset() {

@@ -29,7 +29,7 @@ use Rattle.mmc_switch.specs.declared.broken.Broken.{Broken}
 use Rattle.mmc_switch.specs.declared.info.Info.{Info}
 use Rattle.mmc_switch.specs.declared.session.Session.{Session}
 use Rattle.mmc_switch.specs.Info.{IsInfo, sectors_of}
-use Rattle.mmc_switch.specs.Place.{IsLoose, IsPartOf, IsReady, Knows, StandsAs, setting_in}
+use Rattle.mmc_switch.specs.Place.{IsBroken, IsPartOf, IsReady, Knows, StandsAs, setting_in}
 use Rattle.mmc_switch.specs.Sizes.{some_size}
 use Rattle.mmc_switch.specs.Stages.{lines_of}
 use Rattle.mmc_switch.proofs.SwitchLemmas.{Switches}
@@ -250,7 +250,7 @@ pub select_fails : (session : Session) (part : Part) (argument : ℕ) (fault : C
     → session.info.kind ≡ Mmc → Asks session part argument → IsSome (sectors_of session.info part)
     → broken ≡ record { session = unknown session; cause = fault; must_reset = false }
     → Switches session.info.rca argument (Err fault) a b
-    → IsReady session a → IsLoose broken b × (a.faults < b.faults)
+    → IsReady session a → IsBroken broken b × (a.faults < b.faults)
 select_fails session part argument fault broken a b mmc e some is p r =
     let kind : a.card.made.kind ≡ Mmc = sym r.knows.info.kind ∙ mmc in
     let made = p.stays.carried.made in
@@ -264,7 +264,7 @@ select_fails session part argument fault broken a b mmc e some is p r =
       | inl old ↦ stands_as session a.card.part b mmc old lines
       | inr new ↦ stands_as session part b mmc new lines
     ] in
-    let loose : IsLoose (record { session = unknown session; cause = fault; must_reset = false }) b = record {
+    let is_broken : IsBroken (record { session = unknown session; cause = fault; must_reset = false }) b = record {
       is_card = p.is_card;
       knows = knows_still session None b (knows_then session a b p.stays r.knows);
       stands = λ kept. stands;
@@ -272,4 +272,4 @@ select_fails session part argument fault broken a b mmc e some is p r =
     let fine : NoFault a b → ⊥ =
     λ same. cc (p.fine same (record a.card { part = part }) kind r.set.rest (ap (λ (s : Setting). s.rca) r.set.is_set)
     (known_switch session part argument a r kind e some)) in
-    (subst (λ x. IsLoose x b) (sym is) loose, fell a b p.stays fine)
+    (subst (λ x. IsBroken x b) (sym is) is_broken, fell a b p.stays fine)

@@ -20,7 +20,7 @@ use Rattle.mmc_card.specs.RowsSwitch.{timing_number, width_number}
 use Rattle.mmc_bus.specs.Learned.{Stays}
 use Rattle.mmc_bus.specs.Work.{StaysSet, Worked}
 use Rattle.mmc_switch.specs.Info.{IsInfo}
-use Rattle.mmc_switch.specs.Place.{IsLoose, IsPartOf, IsReady, Knows, StandsAs, setting_in}
+use Rattle.mmc_switch.specs.Place.{IsBroken, IsPartOf, IsReady, Knows, StandsAs, setting_in}
 use Rattle.mmc_switch.specs.Stages.{lines_of}
 use Rattle.mmc_switch.specs.UnderWay.{HasFailed, IsQuiet, IsUnderWay, faults_then, known_part, part_of, room_of}
 use Rattle.mmc_switch.specs.declared.broken.Broken.{Broken}
@@ -128,7 +128,7 @@ module _ {Holds Own Fine : BusView → BusView → Type 0} (session : Session) (
       → HasFailed broken (faults_then faults a b) b
   has_failed broken same calm =
       record {
-        loose = (subst (λ s. Knows s b → StandsAs s b → IsLoose broken b) same (λ knows stands. record {
+        is_broken = (subst (λ s. Knows s b → StandsAs s b → IsBroken broken b) same (λ knows stands. record {
           is_card = work.is_card;
           knows = knows;
           stands = λ no_reset. stands;

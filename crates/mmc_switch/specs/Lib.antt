@@ -4,5 +4,6 @@ pub mod Info
 pub mod Place
 pub mod Sizes
 pub mod Stages
+pub mod Stands
 pub mod Turns
 pub mod UnderWay

@@ -51,8 +51,8 @@ pub record StandsAs (session : Session) (view : BusView) : Type 0 where
   pub stands : Stands (setting_in session.info part) view.card
   pub lines : view.lines ≡ lines_of (setting_in session.info part)
 
--- Loose, after a failure: the session knows the card, and unless it has to be reset, it stands so.
-pub record IsLoose (broken : Broken) (view : BusView) : Type 0 where
+-- Broken, after a failure: the session knows the card, and unless it has to be reset, it stands so.
+pub record IsBroken (broken : Broken) (view : BusView) : Type 0 where
   pub is_card : IsCard view.card
   pub knows : Knows broken.session view
   pub stands : broken.must_reset ≡ false → StandsAs broken.session view

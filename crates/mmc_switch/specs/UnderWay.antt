@@ -10,7 +10,7 @@ use Rattle.mmc_card.specs.Sectors.{Change, Sector, Within, changed, maybe_change
 use Rattle.mmc_bus.specs.Heard.{cause_of}
 use Rattle.mmc_bus.specs.Learned.{Stays}
 use Rattle.mmc_bus.specs.declared.cause.Cause.{Cause}
-use Rattle.mmc_switch.specs.Place.{IsLoose, Knows, StandsAs}
+use Rattle.mmc_switch.specs.Place.{IsBroken, Knows, StandsAs}
 use Rattle.mmc_switch.specs.Sizes.{size_of}
 use Rattle.mmc_switch.specs.declared.broken.Broken.{Broken}
 use Rattle.mmc_switch.specs.declared.progress.Progress.{Progress}
@@ -86,9 +86,9 @@ abbrev pub FailsBy : {R : Type 0} → Progress R → BusView → Type 0
 FailsBy (Failed broken) view = cause_of view.last ≡ Some broken.cause
 FailsBy _ view = Unit {0}
 
--- what a failure leaves: a loose card, and a fault that fell in one of the work's turns
+-- what a failure leaves: a broken card, and a fault that fell in one of the work's turns
 pub record HasFailed (broken : Broken) (faults : ℕ) (view : BusView) : Type 0 where
-  pub loose : IsLoose broken view
+  pub is_broken : IsBroken broken view
   pub fell : 0 < faults
 
 -- A turn of work that changes some sectors, after so many faults in its turns: each of them is old or new, and no other

@@ -14,6 +14,7 @@ mod sd;
 mod selection;
 mod session;
 mod sizes;
+mod stands;
 mod widening;
 
 pub use broken::Broken;
@@ -28,4 +29,5 @@ pub use progress::{Progress, Standing};
 pub use selection::select;
 pub use session::Session;
 pub use sizes::Sizes;
+pub use stands::Stands;
 pub use widening::widen;

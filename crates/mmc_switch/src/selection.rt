@@ -11,7 +11,7 @@ ghost use Rattle.mmc_bus.specs.Heard.{cause_of};
 ghost use Rattle.mmc_bus.specs.Learned.{Stays};
 ghost use Rattle.mmc_bus.specs.Work.{Narrows};
 ghost use Rattle.mmc_switch.specs.Info.{sectors_of};
-ghost use Rattle.mmc_switch.specs.Place.{IsLoose, IsReady};
+ghost use Rattle.mmc_switch.specs.Place.{IsBroken, IsReady};
 ghost use Rattle.mmc_switch.specs.declared.mmc.TheConstants.{EXCHANGES_OF_A_SWITCH};
 
 use crate::broken::Broken;
@@ -46,8 +46,8 @@ pub fn select<B: Bus>(bus: &mut B, session: Session, part: Part) -> Result<Sessi
         → Stays (B.view bus.old) (B.view bus.new) × Narrows (B.view bus.old) (B.view bus.new) }
     ensures ready { (B.view bus.new).is_kept ≡ true → IsReady session (B.view bus.old)
         → IfOk result (λ ready. IsReady ready (B.view bus.new)) }
-    ensures loose { (B.view bus.new).is_kept ≡ true → IsReady session (B.view bus.old)
-        → IfErr result (λ broken. IsLoose broken (B.view bus.new)
+    ensures is_broken { (B.view bus.new).is_kept ≡ true → IsReady session (B.view bus.old)
+        → IfErr result (λ broken. IsBroken broken (B.view bus.new)
         × ((B.view bus.old).faults < (B.view bus.new).faults)) }
 {
     let is_there = session.selected == Some(part);

@@ -71,7 +71,7 @@ IsLost session faults view = IsUnderWay session Never Never faults view
 pub lost_fails : (session : Session) (cause : Cause) (faults : ℕ) (view : BusView) → IsLost session faults view
     → HasFailed (broken_off session cause) faults view
 lost_fails session cause faults view lost = record {
-  loose = record { is_card = lost.is_card; knows = lost.knows; stands = λ no_reset. lost.stands };
+  is_broken = record { is_card = lost.is_card; knows = lost.knows; stands = λ no_reset. lost.stands };
   fell = some_of faults lost.fine;
 }
 

@@ -244,9 +244,9 @@ module _ (job : Job) (blocks : List Sector) (way : job.way ≡ Write) (full : le
       let work = none_offered between b got bytes not e kept in
       let fell = failed.fell in
       let lost : IsLost job.session n between = record {
-        is_card = failed.loose.is_card;
-        knows = failed.loose.knows;
-        stands = failed.loose.stands refl;
+        is_card = failed.is_broken.is_card;
+        knows = failed.is_broken.knows;
+        stands = failed.is_broken.stands refl;
         shown = λ s. s;
         fine = λ none. omega (arith, fell, none);
       } in
@@ -309,7 +309,7 @@ module _ (job : Job) (blocks : List Sector) (way : job.way ≡ Write) (full : le
       stays = t.stays;
       within = t.within;
       left = record {
-        loose = record {
+        is_broken = record {
           is_card = t.left.under_way.is_card;
           knows = t.left.under_way.knows;
           stands = λ no_reset. t.left.under_way.stands;

@@ -3,7 +3,7 @@ use Rattle.std.specs.Prelude.{IfOk}
 use Rattle.mmc_calls.specs.Noted.{IsServed}
 use Rattle.mmc_requests.specs.Changes.{erased_at}
 use Rattle.mmc_direct.specs.Requests.{HasChanged}
-use Rattle.mmc_direct.specs.Stands.{info_of}
+use Rattle.mmc_switch.specs.Stands.{info_of}
 use Rattle.mmc_host.specs.Hosts.{bus_over}
 use Rattle.mmc_story.specs.Story.{host_with}
 use Rattle.kelifandro.proofs.CallLemmas.{holds_as_noted, noted_again}

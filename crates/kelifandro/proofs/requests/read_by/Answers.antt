@@ -1,7 +1,7 @@
 use Rattle.std.proofs.Common.{◌≡◌, List, [], rules, subst, ℕ}
 use Rattle.mmc_card.specs.declared.part.Part.{Part}
-use Rattle.mmc_direct.specs.Stands.{IfRefused}
-use Rattle.mmc_direct.specs.declared.stands.Stands.{Stands}
+use Rattle.mmc_direct.specs.Served.{IfRefused}
+use Rattle.mmc_switch.specs.declared.stands.Stands.{Stands}
 use Rattle.mmc_host.specs.Hosts.{HostView}
 use Rattle.mmc_story.specs.Story.{IsTrueOf}
 use Rattle.kelifandro.specs.Calls.{IfNoted, host_of}

@@ -8,14 +8,14 @@ use Rattle.mmc_block.proofs.step.prepare.Goals as goal
 
 pub returns-clause-stepped : goal.returns-clause-stepped
 returns-clause-stepped g c pace =
-    let stage : Stage = At c.in-Serving-At.link in
+    let stage : Stage = At c.in-Serving-At.stands in
     rw (← c.replace.ensures.value, c.in-Serving-At.is, c.in-Serving-At.field-0-is)
     (subst (λ (o : Progress Stage). Stepped pace stage c.args.group.now (g.B.Bus.view c.args.bus.now) o c.args.group.now
     (g.B.Bus.view c.depart.new.bus)) (sym (c.left.ensures.left stage)) (c.depart.ensures.stepped pace))
 
 pub returns-clause-healed : goal.returns-clause-healed
 returns-clause-healed g c =
-    let stage : Stage = At c.in-Serving-At.link in
+    let stage : Stage = At c.in-Serving-At.stands in
     rw (← c.replace.ensures.value, c.in-Serving-At.is, c.in-Serving-At.field-0-is)
     (subst (λ (o : Progress Stage). StepHeals stage (g.B.Bus.view c.args.bus.now) c.args.healed.now o
     (g.B.Bus.view c.depart.new.bus) c.depart.new.healed) (sym (c.left.ensures.left stage)) c.depart.ensures.healed)

@@ -1,5 +1,5 @@
 use Rattle.std.proofs.Common.{arith, refl, rules}
-use Rattle.mmc_block.proofs.StepLemmas.{down_did, settle_paid, same_lent, up_did}
+use Rattle.mmc_block.proofs.StepLemmas.{broken_did, settle_paid, same_lent, ready_did}
 use Rattle.mmc_block.proofs.step.restore.Goals as goal
 
 pub returns-in-Ok-clause-advances : goal.returns-in-Ok-clause-advances
@@ -33,15 +33,15 @@ returns-in-Err-clause-advances g c group joined = record {
 }
 
 pub returns-in-Ok-clause-did : goal.returns-in-Ok-clause-did
-returns-in-Ok-clause-did g c kept loose group faults =
-    up_did _ group _ c.in-Ok.session _ _ (c.settle_telling-settled.ensures.stays kept)
-    (rw c.in-Ok.is at (c.settle_telling-settled.ensures.settled kept loose))
+returns-in-Ok-clause-did g c kept is_broken group faults =
+    ready_did _ group _ c.in-Ok.session _ _ (c.settle_telling-settled.ensures.stays kept)
+    (rw c.in-Ok.is at (c.settle_telling-settled.ensures.settled kept is_broken))
 
 pub returns-in-Err-clause-did : goal.returns-in-Err-clause-did
-returns-in-Err-clause-did g c kept loose group faults =
-    down_did _ group _ c.in-Err.broken _ _ (c.settle_telling-settled.ensures.stays kept)
-    (rw c.in-Err.is at (c.settle_telling-settled.ensures.settled kept loose))
-    (λ made. let fell = c.settle_telling-settled.ensures.refused kept loose made (rw c.in-Err.is refl) in omega (arith, fell))
+returns-in-Err-clause-did g c kept is_broken group faults =
+    broken_did _ group _ c.in-Err.broken _ _ (c.settle_telling-settled.ensures.stays kept)
+    (rw c.in-Err.is at (c.settle_telling-settled.ensures.settled kept is_broken))
+    (λ made. let fell = c.settle_telling-settled.ensures.refused kept is_broken made (rw c.in-Err.is refl) in omega (arith, fell))
 
 pub returns-in-Ok-clause-healed : goal.returns-in-Ok-clause-healed
 returns-in-Ok-clause-healed g c = record {

@@ -7,5 +7,5 @@ next_into-requires c = nobody_served c.args.phase.now c.args.attempt.now c.requi
 
 pub returns-clause-started : goal.returns-clause-started
 returns-clause-started c =
-    group_started c.args.phase.now c.in-Idle.link c.args.queue.now c.next_into.new.self c.args.attempt.now c.next_into.new.group
+    group_started c.args.phase.now c.in-Idle.stands c.args.queue.now c.next_into.new.self c.args.attempt.now c.next_into.new.group
     (sym c.replace.ensures.value ∙ c.in-Idle.is) c.requires.empty (c.if-not-next_into.ensures.fair refl)

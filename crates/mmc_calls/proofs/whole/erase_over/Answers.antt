@@ -1,5 +1,5 @@
 use Rattle.mmc_requests.specs.Changes.{erased_at}
-use Rattle.mmc_direct.specs.Stands.{info_of}
+use Rattle.mmc_switch.specs.Stands.{info_of}
 use Rattle.mmc_direct.specs.Requests.{HasChanged}
 use Rattle.mmc_host.specs.Hosts.{bus_over}
 use Rattle.mmc_calls.specs.Noted.{bus_going_on, lines_in}

@@ -15,7 +15,7 @@ returns-clause-prepared g c kept at =
     let was = c.in_ok-session.ensures.prepared (done.kept kept) at in
     selected_prepared c.in_ok-session.session (g.B.Bus.view c.args.bus.now) (g.B.Bus.view c.settled.new.bus)
     c.select.result (g.B.Bus.view c.select.new.bus) was (done.stays kept was.stands) (done.ready kept was.stands)
-    (done.loose kept was.stands)
+    (done.is_broken kept was.stands)
 
 pub returns-clause-cause : goal.returns-clause-cause
 returns-clause-cause g c =

@@ -3,7 +3,7 @@ use Rattle.mmc_direct.proofs.CauseLemmas.{caused_by_exchange}
 use Rattle.mmc_direct.proofs.ServeLemmas.{can_erase, can_write, erases_nothing_else, room_holds}
 use Rattle.mmc_requests.specs.Changes.{erased_at}
 use Rattle.mmc_requests.specs.Kinds.{kind_of_how}
-use Rattle.mmc_direct.specs.Stands.{info_of}
+use Rattle.mmc_switch.specs.Stands.{info_of}
 use Rattle.mmc_direct.proofs.attempts.try_erase.Goals as goal
 
 pub returns-in_err-session-clause-tried : goal.returns-in_err-session-clause-tried

@@ -4,8 +4,8 @@ use Rattle.mmc_direct.proofs.AttemptLemmas.{made_read, tried, tried_in_vain, was
 use Rattle.mmc_direct.proofs.CauseLemmas.{caused_by_exchange}
 use Rattle.mmc_direct.proofs.ServeLemmas.{room_holds}
 use Rattle.mmc_requests.specs.Changes.{written_at}
-use Rattle.mmc_direct.specs.Stands.{info_of}
 use Rattle.mmc_requests.specs.declared.kind.Kind.TheVariants.{Read}
+use Rattle.mmc_switch.specs.Stands.{info_of}
 use Rattle.mmc_direct.proofs.attempts.try_read.Goals as goal
 
 pub returns-in_err-session-clause-lent : goal.returns-in_err-session-clause-lent

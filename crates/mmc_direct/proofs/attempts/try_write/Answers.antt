@@ -3,8 +3,8 @@ use Rattle.mmc_direct.proofs.AttemptLemmas.{made_write, tried, tried_in_vain}
 use Rattle.mmc_direct.proofs.CauseLemmas.{caused_by_exchange}
 use Rattle.mmc_direct.proofs.ServeLemmas.{can_write, room_holds}
 use Rattle.mmc_requests.specs.Changes.{written_at}
-use Rattle.mmc_direct.specs.Stands.{info_of}
 use Rattle.mmc_requests.specs.declared.kind.Kind.TheVariants.{Write}
+use Rattle.mmc_switch.specs.Stands.{info_of}
 use Rattle.mmc_direct.proofs.attempts.try_write.Goals as goal
 
 pub returns-in_err-session-clause-tried : goal.returns-in_err-session-clause-tried

@@ -1,12 +1,12 @@
 use Rattle.std.proofs.Common.{◌*◌, ◌-◌}
 use Rattle.mmc_requests.specs.Changes.{erased_at}
-use Rattle.mmc_direct.specs.Stands.{info_of}
+use Rattle.mmc_switch.specs.Stands.{info_of}
 use Rattle.mmc_direct.proofs.CauseLemmas.{left_by}
 use Rattle.mmc_direct.proofs.HealingLemmas.{healed_by}
 use Rattle.mmc_direct.proofs.RequestLemmas.{has_changed}
 use Rattle.mmc_direct.specs.Attempts.{erasing}
-use Rattle.mmc_direct.specs.Stands.{IsCausedIn}
 use Rattle.mmc_requests.specs.declared.limits.TheConstants.{ATTEMPTS}
+use Rattle.mmc_direct.specs.Served.{IsCausedIn}
 use Rattle.mmc_direct.proofs.requests.erase.Goals as goal
 
 pub returns-in-None-clause-served : goal.returns-in-None-clause-served

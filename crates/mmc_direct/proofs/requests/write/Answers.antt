@@ -4,8 +4,8 @@ use Rattle.mmc_direct.proofs.CauseLemmas.{left_by}
 use Rattle.mmc_direct.proofs.HealingLemmas.{healed_by}
 use Rattle.mmc_direct.proofs.RequestLemmas.{has_changed}
 use Rattle.mmc_direct.specs.Attempts.{moving}
-use Rattle.mmc_direct.specs.Stands.{IsCausedIn}
 use Rattle.mmc_requests.specs.declared.limits.TheConstants.{ATTEMPTS}
+use Rattle.mmc_direct.specs.Served.{IsCausedIn}
 use Rattle.mmc_direct.proofs.requests.write.Goals as goal
 
 pub returns-in-None-clause-served : goal.returns-in-None-clause-served

@@ -3,9 +3,9 @@ use Rattle.std.specs.Prelude.{Err, Ok}
 use Rattle.mmc_direct.specs.Attempts.{erasing}
 use Rattle.mmc_requests.specs.Changes.{erased_at}
 use Rattle.mmc_requests.specs.Kinds.{kind_of_how}
-use Rattle.mmc_direct.specs.Stands.{info_of}
-use Rattle.mmc_direct.specs.declared.stands.Stands.TheVariants.{Loose, Ready}
 use Rattle.mmc_requests.specs.declared.limits.TheConstants.{ATTEMPTS}
+use Rattle.mmc_switch.specs.Stands.{info_of}
+use Rattle.mmc_switch.specs.declared.stands.Stands.TheVariants as Stands
 use Rattle.mmc_direct.proofs.HealingLemmas.{failed_so, healed_done, healed_in_vain, heals_again, heals_first}
 use Rattle.mmc_direct.proofs.ServeLemmas.{still_served}
 use Rattle.mmc_direct.proofs.TriesLemmas.{one_erase, one_try, tries_again, tries_all, tries_enough}
@@ -26,7 +26,7 @@ loop-failed-init g c =
       one_try erasing (erased_at (info_of c.args.stands) c.args.part c.args.start c.args.count) c.args.stands
           (g.B.Bus.view c.args.bus.now) (Err c.in-Err.broken) (g.B.Bus.view c.try_erase.new.bus) e.info e.bounded e.kept
           e.cause e.tried,
-      heals_first c.args.stands c.args.healed.now c.try_erase.new.healed (Loose c.in-Err.broken) c.count_failed.new.healed e.healed
+      heals_first c.args.stands c.args.healed.now c.try_erase.new.healed (Stands.Broken c.in-Err.broken) c.count_failed.new.healed e.healed
           (failed_so c.in-Err.broken c.try_erase.new.healed c.count_failed.new.healed c.cause.result c.cause.ensures c.count_failed.ensures),
     )
 
@@ -65,7 +65,7 @@ loop-failed-preserved g c =
           (one_erase (info_of c.args.stands) c.loop-failed.broken c.args.part c.args.start c.args.count b result new
           c.loop-failed.invariant.0.info e.info e.bounded e.kept e.cause e.tried),
       heals_again c.args.stands c.args.healed.now c.loop-failed._failed c.loop-failed.broken c.loop-failed.healed
-          c.try_erase-in-loop-failed.new.healed (Loose c.in-Err-try_erase.left) c.count_failed-in-Err-try_erase.new.healed c.loop-failed.invariant.1 e.healed
+          c.try_erase-in-loop-failed.new.healed (Stands.Broken c.in-Err-try_erase.left) c.count_failed-in-Err-try_erase.new.healed c.loop-failed.invariant.1 e.healed
           (failed_so c.in-Err-try_erase.left c.try_erase-in-loop-failed.new.healed c.count_failed-in-Err-try_erase.new.healed c.cause-in-Err-try_erase.result
           c.cause-in-Err-try_erase.ensures c.count_failed-in-Err-try_erase.ensures),
     )
@@ -79,7 +79,7 @@ returns-clause-tries g c =
 pub returns-in-Ok-clause-healed : goal.returns-in-Ok-clause-healed
 returns-in-Ok-clause-healed g c =
     healed_done c.args.stands c.args.healed.now 1 c.in-Ok.session c.count_done.new.healed (omega arith)
-    (heals_first c.args.stands c.args.healed.now c.try_erase.new.healed (Ready c.in-Ok.session) c.count_done.new.healed
+    (heals_first c.args.stands c.args.healed.now c.try_erase.new.healed (Stands.Ready c.in-Ok.session) c.count_done.new.healed
     c.in-Ok.ensures.healed c.count_done.ensures)
 
 pub returns-in-Ok-try_erase-clause-healed : goal.returns-in-Ok-try_erase-clause-healed
@@ -88,7 +88,7 @@ returns-in-Ok-try_erase-clause-healed g c =
     healed_done c.args.stands c.args.healed.now (c.loop-failed._failed + 1) c.in-Ok-try_erase.session c.count_done-in-Ok-try_erase.new.healed
     (omega (arith, few))
     (heals_again c.args.stands c.args.healed.now c.loop-failed._failed c.loop-failed.broken c.loop-failed.healed
-    c.try_erase-in-loop-failed.new.healed (Ready c.in-Ok-try_erase.session) c.count_done-in-Ok-try_erase.new.healed c.loop-failed.invariant.1
+    c.try_erase-in-loop-failed.new.healed (Stands.Ready c.in-Ok-try_erase.session) c.count_done-in-Ok-try_erase.new.healed c.loop-failed.invariant.1
     c.in-Ok-try_erase.ensures.healed c.count_done-in-Ok-try_erase.ensures)
 
 pub returns-clause-healed : goal.returns-clause-healed

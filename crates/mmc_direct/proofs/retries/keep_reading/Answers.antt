@@ -3,10 +3,10 @@ use Rattle.std.specs.Prelude.{Err, None, Ok}
 use Rattle.mmc_direct.specs.Attempts.{moving}
 use Rattle.mmc_requests.specs.Changes.{written_at}
 use Rattle.mmc_direct.specs.Refusal.{refusal}
-use Rattle.mmc_direct.specs.Stands.{info_of}
 use Rattle.mmc_requests.specs.declared.kind.Kind.TheVariants.{Read}
-use Rattle.mmc_direct.specs.declared.stands.Stands.TheVariants.{Loose, Ready}
 use Rattle.mmc_requests.specs.declared.limits.TheConstants.{ATTEMPTS}
+use Rattle.mmc_switch.specs.Stands.{info_of}
+use Rattle.mmc_switch.specs.declared.stands.Stands.TheVariants as Stands
 use Rattle.mmc_direct.proofs.LentLemmas.{lent_then}
 use Rattle.mmc_direct.proofs.HealingLemmas.{failed_so, healed_done, healed_in_vain, heals_again, heals_first}
 use Rattle.mmc_direct.proofs.ServeLemmas.{still_served}
@@ -31,7 +31,7 @@ loop-failed-init g c =
           e.bounded e.kept e.cause e.tried,
       e.count,
       e.lent,
-      heals_first c.args.stands c.args.healed.now c.try_read.new.healed (Loose c.in-Err.broken) c.count_failed.new.healed e.healed
+      heals_first c.args.stands c.args.healed.now c.try_read.new.healed (Stands.Broken c.in-Err.broken) c.count_failed.new.healed e.healed
           (failed_so c.in-Err.broken c.try_read.new.healed c.count_failed.new.healed c.cause.result c.cause.ensures c.count_failed.ensures),
     )
 
@@ -79,7 +79,7 @@ loop-failed-preserved g c =
       e.count ∙ c.loop-failed.invariant.1,
       lent_then c.loop-failed.invariant.2 e.lent,
       heals_again c.args.stands c.args.healed.now c.loop-failed._failed c.loop-failed.broken c.loop-failed.healed
-          c.try_read-in-loop-failed.new.healed (Loose c.in-Err-try_read.left) c.count_failed-in-Err-try_read.new.healed c.loop-failed.invariant.3 e.healed
+          c.try_read-in-loop-failed.new.healed (Stands.Broken c.in-Err-try_read.left) c.count_failed-in-Err-try_read.new.healed c.loop-failed.invariant.3 e.healed
           (failed_so c.in-Err-try_read.left c.try_read-in-loop-failed.new.healed c.count_failed-in-Err-try_read.new.healed c.cause-in-Err-try_read.result
           c.cause-in-Err-try_read.ensures c.count_failed-in-Err-try_read.ensures),
     )
@@ -99,7 +99,7 @@ returns-in-Ok-try_read-clause-read g c kept at =
 pub returns-in-Ok-clause-healed : goal.returns-in-Ok-clause-healed
 returns-in-Ok-clause-healed g c =
     healed_done c.args.stands c.args.healed.now 1 c.in-Ok.session c.count_done.new.healed (omega arith)
-    (heals_first c.args.stands c.args.healed.now c.try_read.new.healed (Ready c.in-Ok.session) c.count_done.new.healed
+    (heals_first c.args.stands c.args.healed.now c.try_read.new.healed (Stands.Ready c.in-Ok.session) c.count_done.new.healed
     c.in-Ok.ensures.healed c.count_done.ensures)
 
 pub returns-in-Ok-try_read-clause-healed : goal.returns-in-Ok-try_read-clause-healed
@@ -108,7 +108,7 @@ returns-in-Ok-try_read-clause-healed g c =
     healed_done c.args.stands c.args.healed.now (c.loop-failed._failed + 1) c.in-Ok-try_read.session c.count_done-in-Ok-try_read.new.healed
     (omega (arith, few))
     (heals_again c.args.stands c.args.healed.now c.loop-failed._failed c.loop-failed.broken c.loop-failed.healed
-    c.try_read-in-loop-failed.new.healed (Ready c.in-Ok-try_read.session) c.count_done-in-Ok-try_read.new.healed c.loop-failed.invariant.3
+    c.try_read-in-loop-failed.new.healed (Stands.Ready c.in-Ok-try_read.session) c.count_done-in-Ok-try_read.new.healed c.loop-failed.invariant.3
     c.in-Ok-try_read.ensures.healed c.count_done-in-Ok-try_read.ensures)
 
 pub returns-clause-healed : goal.returns-clause-healed

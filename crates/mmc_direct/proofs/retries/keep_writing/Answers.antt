@@ -2,10 +2,10 @@ use Rattle.std.proofs.Common.{◌+◌, arith, length}
 use Rattle.std.specs.Prelude.{Err, Ok}
 use Rattle.mmc_direct.specs.Attempts.{moving}
 use Rattle.mmc_requests.specs.Changes.{written_at}
-use Rattle.mmc_direct.specs.Stands.{info_of}
 use Rattle.mmc_requests.specs.declared.kind.Kind.TheVariants.{Write}
-use Rattle.mmc_direct.specs.declared.stands.Stands.TheVariants.{Loose, Ready}
 use Rattle.mmc_requests.specs.declared.limits.TheConstants.{ATTEMPTS}
+use Rattle.mmc_switch.specs.Stands.{info_of}
+use Rattle.mmc_switch.specs.declared.stands.Stands.TheVariants as Stands
 use Rattle.mmc_direct.proofs.HealingLemmas.{failed_so, healed_done, healed_in_vain, heals_again, heals_first}
 use Rattle.mmc_direct.proofs.ServeLemmas.{still_served}
 use Rattle.mmc_direct.proofs.TriesLemmas.{one_try, tries_again, tries_all, tries_enough}
@@ -29,7 +29,7 @@ loop-failed-init g c =
       one_try (moving (length blocks)) (written_at c.args.part c.args.start blocks) c.args.stands
           (g.B.Bus.view c.args.bus.now) (Err c.in-Err.broken) (g.B.Bus.view c.try_write.new.bus) e.info e.bounded e.kept
           e.cause e.tried,
-      heals_first c.args.stands c.args.healed.now c.try_write.new.healed (Loose c.in-Err.broken) c.count_failed.new.healed e.healed
+      heals_first c.args.stands c.args.healed.now c.try_write.new.healed (Stands.Broken c.in-Err.broken) c.count_failed.new.healed e.healed
           (failed_so c.in-Err.broken c.try_write.new.healed c.count_failed.new.healed c.cause.result c.cause.ensures c.count_failed.ensures),
     )
 
@@ -55,7 +55,7 @@ returns-in-Ok-try_write-clause-tries g c =
     (omega (arith, few))
     (tries_again c.loop-failed._failed each change c.args.stands c.loop-failed.broken a b result new
     c.loop-failed.invariant.0
-    (one_try each change (Loose c.loop-failed.broken) b result new e.info e.bounded e.kept e.cause e.tried))
+    (one_try each change (Stands.Broken c.loop-failed.broken) b result new e.info e.bounded e.kept e.cause e.tried))
 
 pub loop-failed-preserved : goal.loop-failed-preserved
 loop-failed-preserved g c =
@@ -68,9 +68,9 @@ loop-failed-preserved g c =
     let e = c.in-Err-try_write.ensures in (
       tries_again c.loop-failed._failed each change c.args.stands c.loop-failed.broken (g.B.Bus.view c.args.bus.now) b
           result new c.loop-failed.invariant.0
-          (one_try each change (Loose c.loop-failed.broken) b result new e.info e.bounded e.kept e.cause e.tried),
+          (one_try each change (Stands.Broken c.loop-failed.broken) b result new e.info e.bounded e.kept e.cause e.tried),
       heals_again c.args.stands c.args.healed.now c.loop-failed._failed c.loop-failed.broken c.loop-failed.healed
-          c.try_write-in-loop-failed.new.healed (Loose c.in-Err-try_write.left) c.count_failed-in-Err-try_write.new.healed c.loop-failed.invariant.1 e.healed
+          c.try_write-in-loop-failed.new.healed (Stands.Broken c.in-Err-try_write.left) c.count_failed-in-Err-try_write.new.healed c.loop-failed.invariant.1 e.healed
           (failed_so c.in-Err-try_write.left c.try_write-in-loop-failed.new.healed c.count_failed-in-Err-try_write.new.healed c.cause-in-Err-try_write.result
           c.cause-in-Err-try_write.ensures c.count_failed-in-Err-try_write.ensures),
     )
@@ -85,7 +85,7 @@ returns-clause-tries g c =
 pub returns-in-Ok-clause-healed : goal.returns-in-Ok-clause-healed
 returns-in-Ok-clause-healed g c =
     healed_done c.args.stands c.args.healed.now 1 c.in-Ok.session c.count_done.new.healed (omega arith)
-    (heals_first c.args.stands c.args.healed.now c.try_write.new.healed (Ready c.in-Ok.session) c.count_done.new.healed
+    (heals_first c.args.stands c.args.healed.now c.try_write.new.healed (Stands.Ready c.in-Ok.session) c.count_done.new.healed
     c.in-Ok.ensures.healed c.count_done.ensures)
 
 pub returns-in-Ok-try_write-clause-healed : goal.returns-in-Ok-try_write-clause-healed
@@ -94,7 +94,7 @@ returns-in-Ok-try_write-clause-healed g c =
     healed_done c.args.stands c.args.healed.now (c.loop-failed._failed + 1) c.in-Ok-try_write.session c.count_done-in-Ok-try_write.new.healed
     (omega (arith, few))
     (heals_again c.args.stands c.args.healed.now c.loop-failed._failed c.loop-failed.broken c.loop-failed.healed
-    c.try_write-in-loop-failed.new.healed (Ready c.in-Ok-try_write.session) c.count_done-in-Ok-try_write.new.healed c.loop-failed.invariant.1
+    c.try_write-in-loop-failed.new.healed (Stands.Ready c.in-Ok-try_write.session) c.count_done-in-Ok-try_write.new.healed c.loop-failed.invariant.1
     c.in-Ok-try_write.ensures.healed c.count_done-in-Ok-try_write.ensures)
 
 pub returns-clause-healed : goal.returns-clause-healed

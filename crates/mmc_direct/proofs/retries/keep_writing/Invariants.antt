@@ -3,7 +3,7 @@ use Rattle.std.specs.Prelude.{Err}
 use Rattle.mmc_direct.specs.Attempts.{Tries, moving}
 use Rattle.mmc_requests.specs.Changes.{written_at}
 use Rattle.mmc_direct.specs.Healing.{Heals}
-use Rattle.mmc_direct.specs.declared.stands.Stands.TheVariants.{Loose}
+use Rattle.mmc_switch.specs.declared.stands.Stands.TheVariants as Stands
 use Rattle.mmc_direct.proofs.retries.keep_writing.Given as goal
 
 abbrev pub invariant-loop-failed : goal.invariant-loop-failed
@@ -11,4 +11,4 @@ invariant-loop-failed g l =
     (Tries l._failed (moving (length (g.D.Blocks.blocks l.fn.blocks)))
     (written_at l.fn.part l.fn.start (g.D.Blocks.blocks l.fn.blocks)) l.fn.stands
     (g.B.Bus.view l.fn.bus) (Err l.broken) (g.B.Bus.view l.bus))
-    × Heals l.fn.stands l.fn.healed l._failed (Loose l.broken) l.healed
+    × Heals l.fn.stands l.fn.healed l._failed (Stands.Broken l.broken) l.healed

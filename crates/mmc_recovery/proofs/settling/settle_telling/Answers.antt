@@ -8,15 +8,15 @@ returns-then-must_reset-clause-stays g c kept =
     (c.reset.ensures.moves kept)
 
 pub returns-then-must_reset-clause-refused : goal.returns-then-must_reset-clause-refused
-returns-then-must_reset-clause-refused g c kept loose profile err =
+returns-then-must_reset-clause-refused g c kept is_broken profile err =
     resets_fell c.args.broken c.reset.result (g.B.Bus.view c.args.bus.now) (g.B.Bus.view c.reset.new.bus)
-    (c.reset.ensures.moves kept) loose.knows profile err
+    (c.reset.ensures.moves kept) is_broken.knows profile err
 
 pub returns-in-Ok-clause-settled : goal.returns-in-Ok-clause-settled
-returns-in-Ok-clause-settled g c kept loose =
+returns-in-Ok-clause-settled g c kept is_broken =
     restored_ready c.args.broken c.into_session.result c.info.result.now (g.B.Bus.view c.args.bus.now)
     (g.B.Bus.view c.restore.new.bus) (sym c.must_reset.ensures ∙ c.if-must_reset.false) c.info.ensures
-    c.into_session.ensures.session (c.in-Ok.ensures.moves kept) loose
+    c.into_session.ensures.session (c.in-Ok.ensures.moves kept) is_broken
 
 pub returns-in-Err-clause-stays : goal.returns-in-Err-clause-stays
 returns-in-Err-clause-stays g c kept =
@@ -29,14 +29,14 @@ returns-in-Err-clause-stays g c kept =
     (c.in-Err.ensures.moves q.was_kept) q)
 
 pub returns-in-Err-clause-settled : goal.returns-in-Err-clause-settled
-returns-in-Err-clause-settled g c kept loose =
+returns-in-Err-clause-settled g c kept is_broken =
     let q = c.reset-in-Err.ensures.moves kept in
     let p = resets_then c.args.broken c.reset-in-Err.result (g.B.Bus.view c.args.bus.now)
     (g.B.Bus.view c.restore.new.bus) (g.B.Bus.view c.reset-in-Err.new.bus) (c.in-Err.ensures.moves q.was_kept) q in
-    p.own loose.knows
+    p.own is_broken.knows
 
 pub returns-in-Err-clause-refused : goal.returns-in-Err-clause-refused
-returns-in-Err-clause-refused g c kept loose profile err =
+returns-in-Err-clause-refused g c kept is_broken profile err =
     let start = g.B.Bus.view c.args.bus.now in
     let end = g.B.Bus.view c.reset-in-Err.new.bus in
     let broken = c.args.broken in
@@ -44,4 +44,4 @@ returns-in-Err-clause-refused g c kept loose profile err =
     resets_fell broken c.reset-in-Err.result start end
     (resets_then broken c.reset-in-Err.result start (g.B.Bus.view c.restore.new.bus) end
     (c.in-Err.ensures.moves q.was_kept) q)
-    loose.knows profile err
+    is_broken.knows profile err

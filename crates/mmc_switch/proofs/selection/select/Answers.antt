@@ -30,8 +30,8 @@ returns-in-Ok-clause-ready g c kept ready =
 pub returns-in-Err-clause-stays : goal.returns-in-Err-clause-stays
 returns-in-Err-clause-stays g c kept ready = let p = c.in-Err.ensures.done kept in (p.stays, p.sectors)
 
-pub returns-in-Err-clause-loose : goal.returns-in-Err-clause-loose
-returns-in-Err-clause-loose g c kept ready =
+pub returns-in-Err-clause-is_broken : goal.returns-in-Err-clause-is_broken
+returns-in-Err-clause-is_broken g c kept ready =
     select_fails c.args.session c.args.part c.access_argument-argument.result c.in-Err.cause c.break_off.result
     (g.B.Bus.view c.args.bus.now) (g.B.Bus.view c.switch.new.bus)
     (is_mmc_kind c.args.session.info.kind (sym c.if-eq.ensures)) c.access_argument-argument.ensures c.requires.exists

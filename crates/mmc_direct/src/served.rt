@@ -1,32 +1,12 @@
-// How a card stands between two requests, and what came of one.
+// What came of a request, and how it left the card.
 ghost use Rattle.std.specs.Prelude.{◌≡◌, Err};
-ghost use Rattle.mmc_direct.specs.Stands.{answer_of, info_of, stands_of};
+ghost use Rattle.mmc_direct.specs.Served.{answer_of};
+ghost use Rattle.mmc_switch.specs.Stands.{stands_of};
 ghost use Rattle.mmc_direct.specs.declared.refused.NotDone.TheVariants as NotDone;
 
 use crate::refused::NotDone;
 use mmc_requests::Refused;
-use mmc_switch::{Broken, Info, Session};
-
-/// How a card stands between two requests, as far as the host knows.
-#[derive(Debug, Drop)]
-pub enum Stands {
-    /// It is ready.
-    Ready(Session),
-    /// Something failed with it. The next request settles it first.
-    Loose(Broken),
-}
-
-impl Stands {
-    /// What is known of the card.
-    pub fn info(&self) -> &Info
-        ensures { result.now ≡ info_of self.now }
-    {
-        match self {
-            Stands::Ready(session) => session.info(),
-            Stands::Loose(broken) => broken.info(),
-        }
-    }
-}
+use mmc_switch::{Broken, Session, Stands};
 
 /// What came of a request.
 #[derive(Debug, Drop)]
@@ -62,7 +42,7 @@ impl Served {
             Err(broken) => {
                 let cause = broken.cause();
                 Served {
-                    stands: Stands::Loose(broken),
+                    stands: Stands::Broken(broken),
                     answer: Err(NotDone::Failed(cause)),
                 }
             }

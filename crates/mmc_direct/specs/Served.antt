@@ -1,41 +1,19 @@
--- How a card stands between two requests, and what came of one.
+-- What came of a request, and how it left the card.
 use Rattle.std.specs.Prelude.{◌+◌, ◌≡◌, ◌≢◌, ◌≤◌, Err, None, Ok, Option, Result, Some, true, ℕ}
 use Rattle.mmc_card.specs.BusView.{BusView}
 use Rattle.mmc_bus.specs.Heard.{cause_of}
 use Rattle.mmc_bus.specs.declared.cause.Cause.{Cause}
 use Rattle.mmc_bus.specs.declared.cause.Cause.TheVariants.{Recovery}
 use Rattle.mmc_recovery.specs.declared.settling.TheConstants.{EXCHANGES_OF_A_SETTLE}
-use Rattle.mmc_switch.specs.Place.{IsLoose, IsReady}
 use Rattle.mmc_switch.specs.declared.broken.Broken.{Broken}
-use Rattle.mmc_switch.specs.declared.info.Info.{Info}
 use Rattle.mmc_switch.specs.declared.session.Session.{Session}
 use Rattle.mmc_direct.specs.declared.refused.NotDone.{NotDone}
 use Rattle.mmc_direct.specs.declared.refused.NotDone.TheVariants.{Failed, Refused as RefusedFor}
 use Rattle.mmc_requests.specs.declared.refused.Refused.{Refused}
-use Rattle.mmc_direct.specs.declared.stands.Stands.{Stands}
-use Rattle.mmc_direct.specs.declared.stands.Stands.TheVariants.{Loose, Ready}
-
--- what is known of the card
-abbrev pub info_of : Stands → Info
-info_of (Ready session) = session.info
-info_of (Loose broken) = broken.session.info
-
--- where the card is loose, this holds of its failure
-abbrev pub IfLoose : Stands → (Broken → Type 0) → Type 0
-IfLoose (Ready session) Holds = Unit {0}
-IfLoose (Loose broken) Holds = Holds broken
-
--- the card is ready as its session says, or loose after a failure
-abbrev pub StandsIn : Stands → BusView → Type 0
-StandsIn (Ready session) view = IsReady session view
-StandsIn (Loose broken) view = IsLoose broken view
+use Rattle.mmc_switch.specs.declared.stands.Stands.{Stands}
+use Rattle.mmc_switch.specs.declared.stands.Stands.TheVariants as Stands
 
 -- What came of attempts.
-
--- done, the card is ready; failed, it is loose
-abbrev pub stands_of : Result Session Broken → Stands
-stands_of (Ok session) = Ready session
-stands_of (Err broken) = Loose broken
 
 abbrev pub answer_of : Result Session Broken → Result Unit NotDone
 answer_of (Ok session) = Ok tt
@@ -66,17 +44,17 @@ IfFailed (Ok done) Holds = Unit {0}
 IfFailed (Err (RefusedFor why)) Holds = Unit {0}
 IfFailed (Err (Failed cause)) Holds = Holds cause
 
--- where it was done the card is ready, and where it failed the card is loose, by the same cause
+-- where it was done the card is ready, and where it failed the card is broken, by the same cause
 abbrev pub AnswersBy : Result Unit NotDone → Stands → Type 0
-AnswersBy (Ok done) (Ready session) = Unit {0}
-AnswersBy (Ok done) (Loose broken) = ⊥
+AnswersBy (Ok done) (Stands.Ready session) = Unit {0}
+AnswersBy (Ok done) (Stands.Broken broken) = ⊥
 AnswersBy (Err (RefusedFor why)) stands = Unit {0}
-AnswersBy (Err (Failed cause)) (Ready session) = ⊥
-AnswersBy (Err (Failed cause)) (Loose broken) = cause ≡ broken.cause
+AnswersBy (Err (Failed cause)) (Stands.Ready session) = ⊥
+AnswersBy (Err (Failed cause)) (Stands.Broken broken) = cause ≡ broken.cause
 
 -- where its attempts have failed, this holds of what they left
 abbrev pub IfLeft : Result Unit NotDone → Stands → (Broken → Type 0) → Type 0
-IfLeft (Err (Failed cause)) (Loose broken) Holds = Holds broken
+IfLeft (Err (Failed cause)) (Stands.Broken broken) Holds = Holds broken
 IfLeft _ _ Holds = Unit {0}
 
 -- Why attempts have failed.
