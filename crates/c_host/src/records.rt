@@ -8,7 +8,7 @@ ghost use Rattle.c_host.specs.Told.{lent_at, table_at};
 ghost use Rattle.mmc_sdhci.specs.Lending.{Fits, FitsTable};
 ghost use Rattle.mmc_card.specs.CardAnswer.{Silent};
 ghost use Rattle.mmc_host.specs.Hosts.{answer_heard};
-ghost use Rattle.mmc_host.specs.declared.response.Response.TheVariants.{R1};
+ghost use Rattle.mmc_card.specs.declared.response.Response.TheVariants.{R1};
 
 use mmc_bus::Moved;
 use mmc_card::{DataIn, DataOut, Timing, Width};

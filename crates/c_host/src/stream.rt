@@ -13,7 +13,7 @@ ghost use Rattle.mmc_sdhci.specs.Lending.{Fits, FitsTable};
 ghost use Rattle.mmc_sdhci.specs.Tables.{bytes_of};
 ghost use Rattle.mmc_host.specs.Hosts.{unkept_host};
 ghost use Rattle.mmc_host.specs.Together.{ReadsWith, WritesWith};
-ghost use Rattle.mmc_host.specs.declared.response.Response.TheVariants.{R1};
+ghost use Rattle.mmc_card.specs.declared.response.Response.TheVariants.{R1};
 
 use crate::diary::{Call, Diary, Note};
 use crate::records::{

@@ -4,7 +4,7 @@ ghost use Rattle.mmc_host.specs.HostStates.{AreMovable, IsFree, IsTold, IsToCome
 ghost use Rattle.mmc_host.specs.Hosts.{CanBeSet, IsSlowEnough, IsUnused, IsWithin, Looks, ReadsBlock, Sends, SetsIos, Waits, Where};
 ghost use Rattle.mmc_host.specs.Hosts.{WritesBlock};
 ghost use Rattle.mmc_host.specs.Together.{AreAhead, AreBehind, ReadsWith, WritesWith};
-ghost use Rattle.mmc_host.specs.declared.response.Response.TheVariants.{R1};
+ghost use Rattle.mmc_card.specs.declared.response.Response.TheVariants.{R1};
 ghost use Rattle.mmc_sdhci.specs.Controller.{IsAtMost, lines_in};
 ghost use Rattle.mmc_sdhci.specs.Driver.{IsNew, IsReady, speed_limit};
 ghost use Rattle.mmc_sdhci.specs.Moving.{WhereKept};

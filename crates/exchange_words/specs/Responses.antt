@@ -17,8 +17,8 @@ use Rattle.mmc_card.specs.declared.command.Command.TheVariants.{SendCsd}
 use Rattle.mmc_card.specs.declared.exchange.Reply.{Reply}
 use Rattle.mmc_card.specs.declared.exchange.Reply.TheVariants.{Long, Short, Silent}
 use Rattle.mmc_host.specs.Table.{response_of}
-use Rattle.mmc_host.specs.declared.response.Response.{Response}
-use Rattle.mmc_host.specs.declared.response.Response.TheVariants.{Nothing, R1b, R3, R6 as R6_response, R7 as R7_response}
+use Rattle.mmc_card.specs.declared.response.Response.{Response}
+use Rattle.mmc_card.specs.declared.response.Response.TheVariants.{Nothing, R1b, R3, R6 as R6_response, R7 as R7_response}
 use Rattle.exchange_words.specs.Statuses.{status_words}
 
 -- why a response is refused

@@ -3,6 +3,7 @@ pub mod BusView
 pub mod Card
 pub mod CardAnswer
 pub mod CardLaws
+pub mod CommandRows
 pub mod ErrorBits
 pub mod Faults
 pub mod Judged

@@ -3,10 +3,14 @@
 
 pub mod card_laws;
 mod command;
+mod command_row;
 mod exchange;
 pub mod laws;
 mod part;
+mod response;
 
 pub use command::{Command, is_addressed, leaves_erase, wanted};
+pub use command_row::{Carried, CommandRow, row_of};
 pub use exchange::{DataIn, DataOut, Exchange, Lines, Reply, Timing, Want, Width};
 pub use part::Part;
+pub use response::Response;

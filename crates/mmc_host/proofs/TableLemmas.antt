@@ -25,15 +25,15 @@ use Rattle.mmc_card.specs.declared.command.Command.TheVariants.{SendExtCsd, Send
 use Rattle.mmc_card.specs.declared.command.Command.TheVariants.{SendStatus, SetBlockCount, SetBlocklen, SetRelativeAddr}
 use Rattle.mmc_card.specs.declared.command.Command.TheVariants.{StopTransmission, Switch, SwitchFunc, Unknown}
 use Rattle.mmc_card.specs.declared.command.Command.TheVariants.{WriteBlock, WriteMultipleBlock}
-use Rattle.mmc_host.specs.declared.response.Response.{Response}
-use Rattle.mmc_host.specs.declared.response.Response.TheVariants as To
+use Rattle.mmc_card.specs.declared.response.Response.{Response}
+use Rattle.mmc_card.specs.declared.response.Response.TheVariants as To
 use Rattle.mmc_card.specs.CardAnswer.{refused, shown}
 use Rattle.mmc_card.specs.Made.{HasRegisters, Made}
 use Rattle.mmc_frame.specs.declared.card_state.State.TheVariants as In
 use Rattle.mmc_host.specs.declared.data.Data.{Data}
 use Rattle.mmc_host.specs.Fits.{AreSent, AreToCome, Begins, HasDataBehind, IsAnswered, IsBusyBehind}
-use Rattle.mmc_card.specs.Wanted.{response_to}
-use Rattle.mmc_host.specs.Table.{data_of, response_of, want_of}
+use Rattle.mmc_card.specs.Wanted.{response_to, want_of}
+use Rattle.mmc_host.specs.Table.{data_of, response_of}
 use Rattle.mmc_card.proofs.ByteLemmas.{reread_length}
 
 -- the card that a command reaches has other errors and erase addresses alone

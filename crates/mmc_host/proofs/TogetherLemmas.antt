@@ -30,7 +30,7 @@ use Rattle.mmc_card.specs.BusView.{BusView}
 use Rattle.mmc_host.specs.Hosts.{Does, HostView, OnlySets, Rests, Sends, Where, WritesBlock, answer_heard, bus_over}
 use Rattle.mmc_host.specs.Together.{CanRead, CanWrite, HostRead, IsBegun, IsUnderWay, HostRested, ReadsWith, WritesWith, all_noted, all_writes_noted}
 use Rattle.mmc_host.specs.Together.{blocks_noted, noted, passed, passed_on, poll_noted, writes_noted}
-use Rattle.mmc_host.specs.declared.response.Response.TheVariants as To
+use Rattle.mmc_card.specs.declared.response.Response.TheVariants as To
 use Rattle.mmc_host.specs.declared.told.Heard.{Heard}
 use Rattle.mmc_host.specs.declared.told.HostCommand.{HostCommand}
 use Rattle.mmc_host.specs.declared.told.HostState.{HostState}

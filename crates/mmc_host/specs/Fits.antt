@@ -5,8 +5,8 @@ use Rattle.mmc_card.specs.Card.{Card, FromBytes, FromSectors, Source, is_in}
 use Rattle.mmc_card.specs.CardAnswer.{CardAnswer, Checked, Silent, R2, R3}
 use Rattle.mmc_host.specs.declared.data.Data.{Data}
 use Rattle.mmc_host.specs.declared.data.Data.TheVariants as Behind
-use Rattle.mmc_host.specs.declared.response.Response.{Response}
-use Rattle.mmc_host.specs.declared.response.Response.TheVariants as To
+use Rattle.mmc_card.specs.declared.response.Response.{Response}
+use Rattle.mmc_card.specs.declared.response.Response.TheVariants as To
 
 -- the answer is such a response, to the command with this index, or none
 abbrev pub IsAnswered : Response → ℕ → CardAnswer → Type 0

@@ -17,8 +17,8 @@ use Rattle.mmc_host.specs.declared.data.Data.{Data}
 use Rattle.mmc_host.specs.declared.told.HostCommand.{HostCommand}
 use Rattle.mmc_host.specs.declared.told.HostState.{HostState}
 use Rattle.mmc_host.specs.declared.told.Ios.{Ios}
-use Rattle.mmc_host.specs.declared.response.Response.{Response}
-use Rattle.mmc_host.specs.declared.response.Response.TheVariants.{R1b}
+use Rattle.mmc_card.specs.declared.response.Response.{Response}
+use Rattle.mmc_card.specs.declared.response.Response.TheVariants.{R1b}
 use Rattle.mmc_host.specs.declared.work.Work.{Work}
 use Rattle.mmc_host.specs.declared.work.Work.TheVariants.{Erase, Settling, Switch, Write}
 

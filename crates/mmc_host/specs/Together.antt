@@ -15,7 +15,7 @@ use Rattle.mmc_bus.specs.declared.moved.Moved.TheVariants as Move
 use Rattle.mmc_bus.specs.declared.wire.Wire.{Wire}
 use Rattle.mmc_host.specs.HostStates.{AreMovable, IsCounted, IsFree, IsTold, block_passed, less_by, lines_of}
 use Rattle.mmc_host.specs.Hosts.{HostView, IsSlowEnough, Looks, ReadsBlock, Sends, WritesBlock, answer_heard}
-use Rattle.mmc_host.specs.declared.response.Response.TheVariants as To
+use Rattle.mmc_card.specs.declared.response.Response.TheVariants as To
 use Rattle.mmc_host.specs.declared.data.Data.{Data}
 use Rattle.mmc_host.specs.declared.data.Data.TheVariants as Behind
 use Rattle.mmc_host.specs.declared.told.Heard.{Heard}

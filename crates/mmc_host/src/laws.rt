@@ -4,10 +4,10 @@ ghost use Rattle.std.specs.Prelude.{◌<◌, ◌≡◌, ℕ};
 ghost use Rattle.mmc_card.specs.Card.{Card, IsCard};
 ghost use Rattle.mmc_card.specs.CardAnswer.{Choice};
 ghost use Rattle.mmc_card.specs.Rows.{command_of, respond};
-ghost use Rattle.mmc_card.specs.Wanted.{response_to};
+ghost use Rattle.mmc_card.specs.Wanted.{response_to, want_of};
 ghost use Rattle.mmc_card.specs.declared.command.Command.{Command};
 ghost use Rattle.mmc_host.specs.Fits.{HasDataBehind, IsAnswered, IsBusyBehind};
-ghost use Rattle.mmc_host.specs.Table.{data_of, response_of, want_of};
+ghost use Rattle.mmc_host.specs.Table.{data_of, response_of};
 ghost use Rattle.mmc_host.specs.WireLaws.{FaithfulIsHeard, UnsoundIsLost};
 
 /// Whatever a card does with a command, by its kind, its state and after CMD55 or not: its answer is the response of the

@@ -7,8 +7,8 @@ use Rattle.mmc_frame.specs.Field.{field}
 use Rattle.mmc_frame.specs.declared.commands.TheConstants as Index
 use Rattle.mmc_host.specs.HostStates.{AreMovable, IsFree}
 use Rattle.mmc_host.specs.declared.data.Data.{Data}
-use Rattle.mmc_host.specs.declared.response.Response.{Response}
-use Rattle.mmc_host.specs.declared.response.Response.TheVariants as To
+use Rattle.mmc_card.specs.declared.response.Response.{Response}
+use Rattle.mmc_card.specs.declared.response.Response.TheVariants as To
 use Rattle.mmc_host.specs.declared.told.HostCommand.{HostCommand}
 use Rattle.mmc_sdhci.specs.Commands.{Begins, CanMoveBy, Clears, IsIdleFor, IsSet, IsUnderWay, SetsSizes, begun, dma_bit, flags_of, is_clear, mode_of, moves, older_bits, response_flags, sizes_after, sizes_of}
 use Rattle.mmc_sdhci.specs.Controller.{ControllerView, Settled, has_data, is_set}

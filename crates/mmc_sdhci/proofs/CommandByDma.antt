@@ -18,8 +18,8 @@ use Rattle.mmc_host.specs.Hosts.{Answers, HostView, Sends, Steps as HostSteps, a
 use Rattle.mmc_host.specs.Together.{ReadsWith, WritesWith}
 use Rattle.mmc_host.specs.declared.data.Data.{Data}
 use Rattle.mmc_card.specs.CardAnswer.{Silent}
-use Rattle.mmc_host.specs.declared.response.Response.{Response}
-use Rattle.mmc_host.specs.declared.response.Response.TheVariants as To
+use Rattle.mmc_card.specs.declared.response.Response.{Response}
+use Rattle.mmc_card.specs.declared.response.Response.TheVariants as To
 use Rattle.mmc_host.specs.declared.told.Heard.{Heard}
 use Rattle.mmc_host.specs.declared.told.Heard.TheVariants as Hears
 use Rattle.mmc_host.specs.declared.told.HostCommand.{HostCommand}

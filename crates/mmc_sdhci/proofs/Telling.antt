@@ -1,6 +1,6 @@
 -- What is read of Response.
 use Rattle.std.proofs.Common.{◌∙◌, ◌∷◌, ◌≡◌, [], List, ap, refl, ℕ}
-use Rattle.mmc_host.specs.declared.response.Response.TheVariants as To
+use Rattle.mmc_card.specs.declared.response.Response.TheVariants as To
 use Rattle.mmc_host.specs.declared.told.Heard.TheVariants.{Register}
 use Rattle.mmc_sdhci.specs.Commands.{ReadsWord, Tells}
 use Rattle.mmc_sdhci.specs.Controller.{ControllerView}

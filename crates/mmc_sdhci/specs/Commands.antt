@@ -5,8 +5,8 @@ use Rattle.mmc_frame.specs.Field.{field}
 use Rattle.mmc_frame.specs.declared.commands.TheConstants as Index
 use Rattle.mmc_host.specs.Hosts.{Answers, answer_heard}
 use Rattle.mmc_host.specs.declared.data.Data.{Data}
-use Rattle.mmc_host.specs.declared.response.Response.{Response}
-use Rattle.mmc_host.specs.declared.response.Response.TheVariants as To
+use Rattle.mmc_card.specs.declared.response.Response.{Response}
+use Rattle.mmc_card.specs.declared.response.Response.TheVariants as To
 use Rattle.mmc_host.specs.declared.told.Heard.{Heard}
 use Rattle.mmc_host.specs.declared.told.Heard.TheVariants as Hears
 use Rattle.mmc_host.specs.declared.told.HostCommand.{HostCommand}

@@ -5,7 +5,7 @@ ghost use Rattle.mmc_host.specs.Hosts.{answer_heard};
 ghost use Rattle.mmc_host.specs.HostStates.{AreMovable, IsFree};
 ghost use Rattle.mmc_sdhci.specs.Commands.{Begins, Clears, Ends, IsIdleFor, IsRunning, IsSet, KeepsSettings, LosesAll, ReadsWord, ResetsData, ResetsLine, SetsSizes, Tells, flags_of, mode_of};
 ghost use Rattle.mmc_sdhci.specs.Commands.{CanMoveBy, IsUnderWay, IsWord, KeepsLent, RestsButMoves, Sends, fault_in, is_moved_by, older_bits, response_flags, several, sizes_of};
-ghost use Rattle.mmc_host.specs.declared.response.Response.TheVariants.{R1, R2};
+ghost use Rattle.mmc_card.specs.declared.response.Response.TheVariants.{R1, R2};
 ghost use Rattle.mmc_sdhci.specs.Controller.{has_data};
 ghost use Rattle.mmc_sdhci.specs.CommandLooks.{bytes_shown};
 ghost use Rattle.mmc_sdhci.specs.Accesses.{IsAtRest, IsStill};

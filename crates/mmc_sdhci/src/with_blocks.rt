@@ -4,7 +4,7 @@ ghost use Rattle.mmc_host.specs.HostStates.{AreMovable, IsFree, IsTold, sent};
 ghost use Rattle.mmc_host.specs.Hosts.{IsSlowEnough, Where};
 ghost use Rattle.mmc_host.specs.Together.{AreAhead, AreBehind, ReadsWith, WritesWith};
 ghost use Rattle.mmc_host.specs.declared.data.Data.TheVariants as Behind;
-ghost use Rattle.mmc_host.specs.declared.response.Response.TheVariants.{R1};
+ghost use Rattle.mmc_card.specs.declared.response.Response.TheVariants.{R1};
 ghost use Rattle.mmc_sdhci.specs.Accesses.{Stays};
 ghost use Rattle.mmc_sdhci.specs.Commands.{IsWord};
 ghost use Rattle.mmc_sdhci.specs.Driver.{StaysHost, host_over};

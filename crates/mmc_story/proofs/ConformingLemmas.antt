@@ -6,7 +6,7 @@ use Rattle.mmc_card.specs.Card.{Card}
 use Rattle.mmc_card.specs.CardAnswer.{Silent}
 use Rattle.mmc_card.specs.Faults.CommandStep.{lose_command}
 use Rattle.mmc_host.specs.Hosts.{answer_heard}
-use Rattle.mmc_host.specs.declared.response.Response.{Response}
+use Rattle.mmc_card.specs.declared.response.Response.{Response}
 use Rattle.mmc_host.specs.declared.told.ResponseFault.TheVariants.{Timeout}
 use Rattle.mmc_story.proofs.Telling.{are_alike, are_same, are_themselves}
 use Rattle.mmc_story.specs.Conforming.{AreSteps, StepsGoOn, conforming}

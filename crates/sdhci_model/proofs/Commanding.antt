@@ -6,8 +6,8 @@ use Rattle.mmc_bus.specs.Exchanges.{Kept}
 use Rattle.mmc_card.specs.CardAnswer.{CardAnswer, R2, Silent}
 use Rattle.mmc_host.specs.Hosts.{Answers, answer_heard}
 use Rattle.mmc_host.specs.declared.data.Data.{Data}
-use Rattle.mmc_host.specs.declared.response.Response.{Response}
-use Rattle.mmc_host.specs.declared.response.Response.TheVariants as To
+use Rattle.mmc_card.specs.declared.response.Response.{Response}
+use Rattle.mmc_card.specs.declared.response.Response.TheVariants as To
 use Rattle.mmc_host.specs.declared.told.Heard.{Heard}
 use Rattle.mmc_host.specs.declared.told.ResponseFault.{ResponseFault}
 use Rattle.mmc_host.specs.declared.told.ResponseFault.TheVariants.{Timeout}

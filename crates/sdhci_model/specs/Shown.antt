@@ -3,7 +3,7 @@ use Rattle.std.specs.Prelude.{Bool, List, None, Ok, Option, Some, drop, false, i
 use Rattle.mmc_frame.specs.Field.{field}
 use Rattle.mmc_host.specs.Hosts.{answer_heard}
 use Rattle.mmc_host.specs.declared.data.Data.{Data}
-use Rattle.mmc_host.specs.declared.response.Response.{Response}
+use Rattle.mmc_card.specs.declared.response.Response.{Response}
 use Rattle.mmc_host.specs.declared.told.Heard.{Heard}
 use Rattle.mmc_host.specs.declared.told.HostCommand.{HostCommand}
 use Rattle.mmc_host.specs.declared.told.HostState.{HostState}

@@ -4,7 +4,7 @@ ghost use Rattle.mmc_frame.specs.Field.{field};
 ghost use Rattle.mmc_card.specs.declared.exchange.DataIn.TheVariants as Came;
 ghost use Rattle.mmc_sdhci.specs.Driver.{IsNew};
 ghost use Rattle.mmc_host.specs.HostStates.{is_good};
-ghost use Rattle.mmc_host.specs.declared.response.Response.TheVariants.{Nothing};
+ghost use Rattle.mmc_card.specs.declared.response.Response.TheVariants.{Nothing};
 ghost use Rattle.mmc_host.specs.declared.told.ResponseFault.TheVariants.{Timeout};
 ghost use Rattle.mmc_sdhci.specs.Accesses.{DataLookedBy, Does8, Looked, Passes, Polls, Reads, Reads8, Writes, Writes8, may_write, may_write8};
 ghost use Rattle.mmc_sdhci.specs.DataLooks.{DataLooked, ReadLook, WriteLook};

@@ -2,7 +2,7 @@
 ghost use Rattle.std.specs.Prelude.{[], Err, ◌≡◌, ◌∷◌, false, ℕ};
 ghost use Rattle.mmc_card.specs.declared.exchange.DataIn.TheVariants as Came;
 ghost use Rattle.mmc_host.specs.declared.data.Data.TheVariants as Data;
-ghost use Rattle.mmc_host.specs.declared.response.Response.TheVariants.{Nothing};
+ghost use Rattle.mmc_card.specs.declared.response.Response.TheVariants.{Nothing};
 ghost use Rattle.mmc_host.specs.declared.told.ResponseFault.TheVariants.{Timeout};
 ghost use Rattle.mmc_sdhci.specs.Accesses.{Does8};
 ghost use Rattle.mmc_sdhci.specs.Controller.{Settled};

@@ -6,7 +6,7 @@ use Rattle.mmc_card.specs.CardAnswer.{Silent}
 use Rattle.mmc_card.specs.declared.exchange.DataOut.{DataOut}
 use Rattle.mmc_card.specs.declared.exchange.DataOut.TheVariants.{Accepted}
 use Rattle.mmc_host.specs.Hosts.{answer_heard}
-use Rattle.mmc_host.specs.declared.response.Response.{Response}
+use Rattle.mmc_card.specs.declared.response.Response.{Response}
 use Rattle.c_host.proofs.MovedLemmas.{few_moved, is_other_out, some_failed}
 use Rattle.c_host.proofs.WritesLemmas.{none_went, some_went}
 use Rattle.c_host.proofs.stream.Stream.write_with.Goals as goal

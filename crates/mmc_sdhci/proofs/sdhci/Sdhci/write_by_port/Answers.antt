@@ -2,7 +2,7 @@ use Rattle.std.proofs.Common.{[], ◌≡◌, List, arith, length, slice_index_or
 use Rattle.mmc_card.specs.CardAnswer.{Silent}
 use Rattle.mmc_card.specs.declared.exchange.DataOut.{DataOut}
 use Rattle.mmc_host.specs.Hosts.{WritesBlock, answer_heard}
-use Rattle.mmc_host.specs.declared.response.Response.{Response}
+use Rattle.mmc_card.specs.declared.response.Response.{Response}
 use Rattle.mmc_sdhci.specs.Driver.{host_over}
 use Rattle.mmc_sdhci.proofs.Together.{goes_next, none_went, one_failed, one_went, under_way}
 use Rattle.mmc_sdhci.proofs.sdhci.Sdhci.write_by_port.Goals as goal

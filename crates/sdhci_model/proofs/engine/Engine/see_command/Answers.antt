@@ -1,5 +1,5 @@
 use Rattle.std.proofs.Common.{◌∙◌}
-use Rattle.mmc_host.specs.declared.response.Response.TheVariants as To
+use Rattle.mmc_card.specs.declared.response.Response.TheVariants as To
 use Rattle.sdhci_model.proofs.Commanding.{completes, fails, noted_after, runs_on}
 use Rattle.sdhci_model.proofs.engine.Engine.see_command.Goals as goal
 
