@@ -128,6 +128,13 @@ tells_counts answer stands old (Ok did) number note new told other none counts =
   served_only (answer did) (IsCounted stands old (answer did) note new) (ap (λ (n : ℤ). is_attempted n) (sym told) ∙ made) counts,
 )
 
+-- what holds of how the card stands and of the partition that is meant holds of what was noted
+pub as_noted : (note : CardRecord) (number : ℕ) (stands : Stands) (part : Part) → IsAsNoted stands note
+    → part_of number ≡ Some part → (Holds : Stands → Part → Type 0) → Holds stands part → IfNoted note number Holds
+as_noted note number stands part noted meant Holds holds other meant_too is says =
+    let same : part ≡ meant_too = cc in
+    subst (λ (s : Stands). Holds s meant_too) (noted other is) (subst (λ (p : Part). Holds stands p) same holds)
+
 -- what holds of the host that a call goes on with holds of the story's, where the card was noted
 pub holds_as_noted : (story : Story) (note : CardRecord) (number : ℕ) (stands : Stands) (part : Part) (past : List Entry)
     (state : HostState) (own limits : Lines) → IsAsNoted stands note → part_of number ≡ Some part → past ≡ []

@@ -6,7 +6,11 @@ use Rattle.mmc_direct.specs.Requests.{HasChanged}
 use Rattle.mmc_switch.specs.Stands.{info_of}
 use Rattle.mmc_host.specs.Hosts.{bus_over}
 use Rattle.mmc_story.specs.Story.{host_with}
-use Rattle.kelifandro.proofs.CallLemmas.{holds_as_noted, noted_again}
+use Rattle.mmc_calls.specs.Noted.{IsCounted}
+use Rattle.mmc_direct.specs.Refusal.{action_of, refusal}
+use Rattle.mmc_direct.specs.Served.{IfServed, refusal_in}
+use Rattle.std.proofs.Common.{◌≡◌}
+use Rattle.kelifandro.proofs.CallLemmas.{as_noted, holds_as_noted, noted_again}
 use Rattle.kelifandro.proofs.requests.erase_by.Goals as goal
 
 pub returns-in_err-stands-clause-functions : goal.returns-in_err-stands-clause-functions
@@ -28,3 +32,18 @@ pub returns-clause-untouched : goal.returns-clause-untouched
 returns-clause-untouched g c =
     noted_again _ c.args.card.now _ c.args.part c.in_ok-stands.stands c.erase_over-answer.result.0 c.in_ok-stands.ensures.stands
     c.erase_over-answer.ensures.untouched
+
+pub returns-clause-judged : goal.returns-clause-judged
+returns-clause-judged g c =
+    as_noted c.args.card.now c.args.part c.in_ok-stands.stands c.in_ok-stands.part c.in_ok-stands.ensures.stands
+    c.in_ok-stands.ensures.part
+    (λ stands part. refusal_in c.erase_over-answer.result.0 ≡ refusal (action_of c.args.how) (info_of stands) part c.args.start c.args.count)
+    c.erase_over-answer.ensures.refused
+
+pub returns-clause-counted : goal.returns-clause-counted
+returns-clause-counted g c =
+    as_noted c.args.card.now c.args.part c.in_ok-stands.stands c.in_ok-stands.part c.in_ok-stands.ensures.stands
+    c.in_ok-stands.ensures.part
+    (λ stands part. IfServed c.erase_over-answer.result.0 (IsCounted stands c.args.healed.now c.erase_over-answer.result.0
+    c.erase_over-answer.new.card c.erase_over-answer.new.healed))
+    c.erase_over-answer.ensures.healed

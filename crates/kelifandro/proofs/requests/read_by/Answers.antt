@@ -1,17 +1,20 @@
-use Rattle.std.proofs.Common.{◌≡◌, List, [], rules, subst, ℕ}
+use Rattle.std.proofs.Common.{◌≡◌, List, [], length, rules, subst, ℕ}
 use Rattle.mmc_card.specs.declared.part.Part.{Part}
-use Rattle.mmc_direct.specs.Served.{IfRefused}
+use Rattle.mmc_direct.specs.Served.{IfRefused, IfServed, refusal_in}
 use Rattle.mmc_switch.specs.declared.stands.Stands.{Stands}
 use Rattle.mmc_host.specs.Hosts.{HostView}
 use Rattle.mmc_story.specs.Story.{IsTrueOf}
 use Rattle.kelifandro.specs.Calls.{IfNoted, host_of}
 use Rattle.std.proofs.lemmas.Bool.{false≢true}
 use Rattle.std.specs.Prelude.{IfOk}
-use Rattle.mmc_calls.specs.Noted.{IsServed, Notes}
+use Rattle.mmc_calls.specs.Noted.{IsCounted, IsServed, Notes}
 use Rattle.mmc_direct.specs.Requests.{HasRead}
 use Rattle.mmc_host.specs.Hosts.{bus_over}
 use Rattle.mmc_story.specs.Story.{host_with}
-use Rattle.kelifandro.proofs.CallLemmas.{holds_as_noted, same_memory, unread_again}
+use Rattle.mmc_direct.specs.Refusal.{refusal}
+use Rattle.mmc_direct.specs.declared.action.Action.TheVariants.{Read}
+use Rattle.mmc_switch.specs.Stands.{info_of}
+use Rattle.kelifandro.proofs.CallLemmas.{as_noted, holds_as_noted, same_memory, unread_again}
 use Rattle.kelifandro.proofs.requests.read_by.Goals as goal
 
 pub returns-in_err-stands-clause-functions : goal.returns-in_err-stands-clause-functions
@@ -41,3 +44,18 @@ returns-clause-untouched g c =
     (search rules)
     (unread_again _ c.args.card.now _ c.args.part c.in_ok-stands.stands c.read_over-answer.result.0 _
     c.read_over-answer.new.blocks c.in_ok-stands.ensures.stands c.read_over-answer.ensures.untouched)
+
+pub returns-clause-judged : goal.returns-clause-judged
+returns-clause-judged g c =
+    as_noted c.args.card.now c.args.part c.in_ok-stands.stands c.in_ok-stands.part c.in_ok-stands.ensures.stands
+    c.in_ok-stands.ensures.part
+    (λ stands part. refusal_in c.read_over-answer.result.0 ≡ refusal Read (info_of stands) part c.args.start (length c.args.blocks.now))
+    c.read_over-answer.ensures.refused
+
+pub returns-clause-counted : goal.returns-clause-counted
+returns-clause-counted g c =
+    as_noted c.args.card.now c.args.part c.in_ok-stands.stands c.in_ok-stands.part c.in_ok-stands.ensures.stands
+    c.in_ok-stands.ensures.part
+    (λ stands part. IfServed c.read_over-answer.result.0 (IsCounted stands c.args.healed.now c.read_over-answer.result.0
+    c.read_over-answer.new.card c.read_over-answer.new.healed))
+    c.read_over-answer.ensures.healed
