@@ -6,9 +6,9 @@ use Rattle.mmc_card_sim.specs.declared.spec.CardSpec.{CardSpec}
 use Rattle.card_maker.specs.CardText.{card_file_text}
 use Rattle.card_maker.specs.Wanted.{IsAsWanted}
 use Rattle.card_maker.specs.declared.wanted.Wanted.{Wanted}
-use Rattle.exchange_words.specs.Frames.{frame_text}
-use Rattle.register_words.specs.Summaries.{PutsRegister}
-use Rattle.register_words.specs.declared.register.Register.{Register}
+use Rattle.card_explain.specs.Frames.{frame_text}
+use Rattle.card_decode.specs.Summaries.{PutsRegister}
+use Rattle.card_decode.specs.declared.register.Register.{Register}
 
 -- 0 where all went well, and 2 otherwise
 abbrev pub IsStatus : ℕ → Type 0

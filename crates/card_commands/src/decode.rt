@@ -4,11 +4,11 @@ ghost use Rattle.card_commands.specs.Printed.{PrintsDecoded};
 ghost use Rattle.card_commands.specs.declared.fault.CommandFault.TheVariants as Fault;
 
 use crate::fault::CommandFault;
+use card_decode::{Register, put_register, read_register};
+use card_explain::put_frame;
 use card_served::{ServeFault, whole};
 use clap::{Arg, Command};
-use exchange_words::put_frame;
 use mmc_frame::Kind;
-use register_words::{Register, put_register, read_register};
 use std::alloc::Global;
 use std::io::{Read, Write};
 use text_out::put::put;

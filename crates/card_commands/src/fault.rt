@@ -3,10 +3,10 @@ ghost use Rattle.std.specs.Prelude.{◌≡◌};
 ghost use Rattle.card_commands.specs.declared.fault.CommandFault.TheVariants.{NoMemory, Unread, Write};
 
 use card_check::CheckFault;
+use card_decode::HexFault;
 use card_maker::MakeFault;
 use card_nbd::NbdFault;
 use card_served::ServeFault;
-use register_words::HexFault;
 use std::alloc::{AllocError, AllocFailed};
 use std::io;
 use thiserror::Error;

@@ -1,7 +1,7 @@
 // The trace with words after each of its lines, and what was met and healed.
 use crate::watched::WatchedCard;
+use card_explain::{KnownCard, Note, put_lines};
 use card_served::ServeFault;
-use exchange_words::{KnownCard, Note, put_lines};
 use mmc_block::Healed;
 use mmc_bus::{Bus, Exchange, TraceBus};
 use mmc_card_sim::{CardSpec, Fault};

@@ -1,6 +1,6 @@
 use Rattle.std.proofs.Common.{◌++◌, ◌∙◌, List, ap, subst, ℕ}
 use Rattle.std.specs.Io.KnownBytes.{Appends}
-use Rattle.exchange_words.specs.Frames.{frame_text}
+use Rattle.card_explain.specs.Frames.{frame_text}
 use Rattle.card_commands.specs.Printed.PrintsDecoded.{a_frame, a_register}
 use Rattle.card_commands.proofs.decode.put_subject.Goals as goal
 

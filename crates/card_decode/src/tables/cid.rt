@@ -1,0 +1,58 @@
+// The fields of a CID (SD Physical Layer 6.00, section 5.2; JESD84-B51, section 7.2).
+ghost use Rattle.std.specs.Prelude.{◌≡◌, true};
+ghost use Rattle.mmc_frame.specs.declared.kind.Kind.TheVariants.{Mmc, Sd};
+ghost use Rattle.card_decode.specs.Fields.{all_fit};
+ghost use Rattle.card_decode.specs.Tables.{IsCid, covers_all};
+ghost use Rattle.card_decode.specs.declared.register.Register.TheVariants.{Cid};
+
+use crate::field::{Field, Meaning, Name};
+use crate::tables::csd_common::ALWAYS_ONE;
+
+const PACKAGES: &[Name] = names![
+    0 => b"removable card",
+    1 => b"discrete embedded device (BGA)",
+    2 => b"package on package (POP)",
+];
+
+static CID_SD: [Field; 9] = [
+    field!(b"MID", 127, 120, Meaning::Hexadecimal),
+    field!(b"OID", 119, 104, Meaning::Text(2)),
+    field!(b"PNM", 103, 64, Meaning::Text(5)),
+    field!(b"PRV", 63, 56, Meaning::Revision),
+    field!(b"PSN", 55, 24, Meaning::Hexadecimal),
+    reserved!(23, 20),
+    field!(b"MDT", 19, 8, Meaning::Date),
+    field!(b"CRC", 7, 1, Meaning::Hexadecimal),
+    field!(b"not used", 0, 0, Meaning::Named(ALWAYS_ONE)),
+];
+
+static CID_MMC: [Field; 10] = [
+    field!(b"MID", 127, 120, Meaning::Hexadecimal),
+    reserved!(119, 114),
+    field!(b"CBX", 113, 112, Meaning::Named(PACKAGES)),
+    field!(b"OID", 111, 104, Meaning::Hexadecimal),
+    field!(b"PNM", 103, 56, Meaning::Text(6)),
+    field!(b"PRV", 55, 48, Meaning::Revision),
+    field!(b"PSN", 47, 16, Meaning::Hexadecimal),
+    field!(b"MDT", 15, 8, Meaning::MmcDate),
+    field!(b"CRC", 7, 1, Meaning::Hexadecimal),
+    field!(b"not used", 0, 0, Meaning::Named(ALWAYS_ONE)),
+];
+
+/// The fields of an SD card's CID.
+pub(crate) fn cid_sd() -> &'static [Field]
+    ensures covers { covers_all (Cid Sd) result.now ≡ true }
+    ensures fits { all_fit (Cid Sd) result.now ≡ true }
+    ensures fields { IsCid (Cid Sd) result.now }
+{
+    &CID_SD
+}
+
+/// The fields of an eMMC device's CID.
+pub(crate) fn cid_mmc() -> &'static [Field]
+    ensures covers { covers_all (Cid Mmc) result.now ≡ true }
+    ensures fits { all_fit (Cid Mmc) result.now ≡ true }
+    ensures fields { IsCid (Cid Mmc) result.now }
+{
+    &CID_MMC
+}

@@ -1,0 +1,128 @@
+// What the argument of a command asks for.
+ghost use Rattle.std.specs.Prelude.{OnOk, ◌++◌, ◌≡◌};
+ghost use Rattle.card_explain.specs.Arguments.{argument_words, count_words, erase_words, function_words, rca_words, sector_words, width_words};
+ghost use Rattle.card_explain.specs.Arguments.{switch_words};
+
+use crate::words::say;
+use mmc_card::Command;
+use mmc_frame::Addressing;
+use std::alloc::AllocError;
+use text_out::Piece;
+
+// The sector at an address, or the byte where it is none's first.
+fn put_sector(out: &mut Vec<u8>, addressing: Addressing, address: u32) -> Result<(), AllocError>
+    ensures { OnOk result (out.new.items ≡ out.old.items ++ sector_words addressing address) }
+{
+    let (unit, number) = match addressing {
+        Addressing::Sectors => (b", sector ".as_slice(), address),
+        Addressing::Bytes if address % 512 == 0 => (b", sector ".as_slice(), address / 512),
+        Addressing::Bytes => (b", byte ".as_slice(), address),
+    };
+    say(out, &[Piece::Text(unit), Piece::Number(u64::from(number))])
+}
+
+// The byte of the EXT_CSD that CMD6 of eMMC writes: which one in bits 23 to 16, and its value in bits 15 to 8.
+fn put_switch(out: &mut Vec<u8>, argument: u32) -> Result<(), AllocError>
+    ensures { OnOk result (out.new.items ≡ out.old.items ++ switch_words argument) }
+{
+    say(
+        out,
+        &[
+            Piece::Text(b", byte "),
+            Piece::Number(u64::from(argument / 0x1_0000 % 0x100)),
+            Piece::Text(b" to "),
+            Piece::Number(u64::from(argument / 0x100 % 0x100)),
+        ],
+    )
+}
+
+// Whether CMD6 of SD switches or asks, by bit 31.
+fn function_words(argument: u32) -> &'static [u8]
+    ensures { result.now ≡ function_words argument }
+{
+    if argument / 0x8000_0000 == 1 {
+        b", switches to high speed"
+    } else {
+        b", asks for high speed"
+    }
+}
+
+// How many lines ACMD6 sets, by bits 1 and 0.
+fn width_words(argument: u32) -> &'static [u8]
+    ensures { result.now ≡ width_words argument }
+{
+    if argument % 4 == 2 {
+        b", four lines"
+    } else {
+        b", one line"
+    }
+}
+
+// Whether CMD38 erases or trims.
+fn erase_words(argument: u32) -> &'static [u8]
+    ensures { result.now ≡ erase_words argument }
+{
+    if argument == 1 { b", trim" } else { b"" }
+}
+
+// These words.
+fn say_words(out: &mut Vec<u8>, words: &'static [u8]) -> Result<(), AllocError>
+    ensures { OnOk result (out.new.items ≡ out.old.items ++ words.now) }
+{
+    say(out, &[Piece::Text(words)])
+}
+
+// The RCA in bits 31 to 16.
+fn put_rca(out: &mut Vec<u8>, argument: u32) -> Result<(), AllocError>
+    ensures { OnOk result (out.new.items ≡ out.old.items ++ rca_words argument) }
+{
+    let rca = u64::from(argument / 0x1_0000);
+    say(out, &[Piece::Text(b", RCA "), Piece::Number(rca)])
+}
+
+// So many of a unit.
+fn put_count(out: &mut Vec<u8>, count: u32, unit: &'static [u8]) -> Result<(), AllocError>
+    ensures { OnOk result (out.new.items ≡ out.old.items ++ count_words count unit.now) }
+{
+    let count = u64::from(count);
+    say(
+        out,
+        &[Piece::Text(b", "), Piece::Number(count), Piece::Text(unit)],
+    )
+}
+
+/// Writes what the argument of a command asks for, with a comma and a space before it: a sector, a length, an RCA. Where it asks
+/// for nothing, or the command is unknown, it writes nothing.
+///
+/// # Errors
+/// `AllocError` where memory is refused.
+#[tactic(auto, unfolding(crate::specs::Arguments::argument_words))]
+pub(crate) fn put_argument(
+    out: &mut Vec<u8>,
+    addressing: Addressing,
+    command: Command,
+    argument: u32,
+) -> Result<(), AllocError>
+    ensures { OnOk result (out.new.items ≡ out.old.items ++ argument_words addressing command argument) }
+{
+    match command {
+        Command::SelectCard
+        | Command::SendCsd
+        | Command::SendStatus
+        | Command::AppCmd
+        | Command::SetRelativeAddr => put_rca(out, argument),
+        Command::ReadSingleBlock
+        | Command::ReadMultipleBlock
+        | Command::WriteBlock
+        | Command::WriteMultipleBlock
+        | Command::EraseStart
+        | Command::EraseEnd => put_sector(out, addressing, argument),
+        Command::SetBlocklen => put_count(out, argument, b" bytes"),
+        Command::SetBlockCount => put_count(out, argument % 0x1_0000, b" blocks"),
+        Command::Switch => put_switch(out, argument),
+        Command::SwitchFunc => say_words(out, function_words(argument)),
+        Command::SetBusWidth => say_words(out, width_words(argument)),
+        Command::Erase => say_words(out, erase_words(argument)),
+        _ => Ok(()),
+    }
+}

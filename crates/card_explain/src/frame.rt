@@ -1,0 +1,190 @@
+// A frame of 48 bits, field by field.
+ghost use Rattle.std.specs.Prelude.{OnOk, ◌++◌, ◌<◌, ◌≡◌};
+ghost use Rattle.card_explain.specs.Frames.{argument_text, back_text, check_text, direction_words, fields_text, frame_text};
+ghost use Rattle.card_explain.specs.Frames.{head_text, index_text, meaning_words, right_check, start_text, tail_text, transmission_text};
+
+use crate::command::put_command;
+use crate::named::named;
+use crate::status::put_status;
+use crate::words::say;
+use mmc_frame::{Kind, with_check};
+use std::alloc::AllocError;
+use text_out::Piece;
+
+// Who sends the frame, by its transmission bit.
+fn direction_words(first: u8) -> &'static [u8]
+    ensures { result.now ≡ direction_words first }
+{
+    if first / 64 % 2 == 1 {
+        b": from the host"
+    } else {
+        b": from the card"
+    }
+}
+
+// What the frame means: the command, or a card status as an R1 has it.
+#[tactic(auto, unfolding(crate::specs::Frames::meaning_words))]
+fn put_meaning(out: &mut Vec<u8>, kind: Kind, first: u8, argument: u32) -> Result<(), AllocError>
+    ensures { OnOk result (out.new.items ≡ out.old.items ++ meaning_words kind first argument) }
+{
+    if first / 64 % 2 == 1 {
+        let index = first % 64;
+        let command = named(kind, false, index);
+        put_command(out, kind, command, false, index)
+    } else {
+        say(out, &[Piece::Text(b"R1: ")])?;
+        put_status(out, kind, argument)
+    }
+}
+
+// The start bit.
+#[tactic(auto, unfolding(crate::specs::Frames::start_text))]
+fn put_start(out: &mut Vec<u8>, first: u8) -> Result<(), AllocError>
+    ensures { OnOk result (out.new.items ≡ out.old.items ++ start_text first) }
+{
+    let bit = u64::from(first / 128);
+    say(out, &[Piece::Text(b"start bit [47] "), Piece::Number(bit)])
+}
+
+// The transmission bit.
+#[tactic(auto, unfolding(crate::specs::Frames::transmission_text))]
+fn put_transmission(out: &mut Vec<u8>, first: u8) -> Result<(), AllocError>
+    ensures { OnOk result (out.new.items ≡ out.old.items ++ transmission_text first) }
+{
+    let bit = u64::from(first / 64 % 2);
+    let direction = direction_words(first);
+    say(
+        out,
+        &[
+            Piece::Text(b"\ntransmission bit [46] "),
+            Piece::Number(bit),
+            Piece::Text(direction),
+        ],
+    )
+}
+
+// The index.
+#[tactic(auto, unfolding(crate::specs::Frames::index_text))]
+fn put_index(out: &mut Vec<u8>, first: u8) -> Result<(), AllocError>
+    ensures { OnOk result (out.new.items ≡ out.old.items ++ index_text first) }
+{
+    let index = u64::from(first % 64);
+    say(
+        out,
+        &[
+            Piece::Text(b"\ncommand index [45:40] "),
+            Piece::Number(index),
+        ],
+    )
+}
+
+// The argument.
+#[tactic(auto, unfolding(crate::specs::Frames::argument_text))]
+fn put_argument_bytes(out: &mut Vec<u8>, bytes: &[u8]) -> Result<(), AllocError>
+    ensures { OnOk result (out.new.items ≡ out.old.items ++ argument_text bytes.now) }
+{
+    say(
+        out,
+        &[
+            Piece::Text(b"\nargument [39:8] 0x"),
+            Piece::Hex(bytes),
+            Piece::Text(b": "),
+        ],
+    )
+}
+
+// The fields of the last byte.
+#[tactic(auto, unfolding(crate::specs::Frames::back_text))]
+fn put_back(out: &mut Vec<u8>, last: u8) -> Result<(), AllocError>
+    ensures { OnOk result (out.new.items ≡ out.old.items ++ back_text last) }
+{
+    let check = [last / 2 % 128];
+    say(
+        out,
+        &[
+            Piece::Text(b"\nCRC7 [7:1] 0x"),
+            Piece::Hex(&check),
+            Piece::Text(b"\nend bit [0] "),
+            Piece::Number(u64::from(last % 2)),
+            Piece::Text(b"\n"),
+        ],
+    )
+}
+
+// The fields of the first byte.
+#[tactic(auto, unfolding(crate::specs::Frames::head_text))]
+fn put_head(out: &mut Vec<u8>, first: u8) -> Result<(), AllocError>
+    ensures { OnOk result (out.new.items ≡ out.old.items ++ head_text first) }
+{
+    put_start(out, first)?;
+    put_transmission(out, first)?;
+    put_index(out, first)
+}
+
+// Those after it.
+#[tactic(auto, unfolding(crate::specs::Frames::tail_text))]
+fn put_tail(
+    out: &mut Vec<u8>,
+    kind: Kind,
+    first: u8,
+    bytes: &[u8],
+    argument: u32,
+    last: u8,
+) -> Result<(), AllocError>
+    ensures { OnOk result (out.new.items ≡ out.old.items ++ tail_text kind first bytes.now argument last) }
+{
+    put_argument_bytes(out, bytes)?;
+    put_meaning(out, kind, first, argument)?;
+    put_back(out, last)
+}
+
+// All fields.
+fn put_fields(out: &mut Vec<u8>, kind: Kind, frame: &[u8; 6]) -> Result<(), AllocError>
+    ensures { OnOk result (out.new.items ≡ out.old.items ++ fields_text kind frame.now) }
+{
+    let argument = u32::from_be_bytes([frame[1], frame[2], frame[3], frame[4]]);
+    put_head(out, frame[0])?;
+    put_tail(out, kind, frame[0], &frame[1..5], argument, frame[5])
+}
+
+// The check that fits a frame's first five bytes with a start bit of 0. Zeros before them change no remainder.
+fn right_check(frame: &[u8; 6]) -> u8
+    ensures { result ≡ right_check frame.now }
+{
+    let first = frame[0] % 128;
+    let bytes = [
+        0, 0, 0, 0, 0, 0, 0, 0, 0, 0, first, frame[1], frame[2], frame[3], frame[4],
+    ];
+    let register = with_check(&bytes);
+    register[15] / 2
+}
+
+// Whether a check is the right one.
+fn put_check(out: &mut Vec<u8>, check: u8, right: u8) -> Result<(), AllocError>
+    ensures { OnOk result (out.new.items ≡ out.old.items ++ check_text check right) }
+{
+    if check == right {
+        return say(out, &[Piece::Text(b"check: it fits\n")]);
+    }
+    let right = [right];
+    say(
+        out,
+        &[
+            Piece::Text(b"check: it doesn't fit; 0x"),
+            Piece::Hex(&right),
+            Piece::Text(b" would\n"),
+        ],
+    )
+}
+
+/// Writes the fields of a frame of 48 bits, a line each, with its command, or with the card status that it has as an R1; and after
+/// them whether its check fits (SD Physical Layer 6.00, sections 4.7.2 and 4.9; JESD84-B51, sections 6.10.1 and 6.12).
+///
+/// # Errors
+/// `AllocError` where memory is refused.
+pub fn put_frame(out: &mut Vec<u8>, kind: Kind, frame: &[u8; 6]) -> Result<(), AllocError>
+    ensures { OnOk result (out.new.items ≡ out.old.items ++ frame_text kind frame.now) }
+{
+    put_fields(out, kind, frame)?;
+    put_check(out, frame[5] / 2, right_check(frame))
+}

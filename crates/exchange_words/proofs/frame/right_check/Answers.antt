@@ -1,5 +1,0 @@
-use Rattle.exchange_words.proofs.FrameLemmas.{check_behind_zeros}
-use Rattle.exchange_words.proofs.frame.right_check.Goals as goal
-
-pub returns : goal.returns
-returns c = check_behind_zeros c.args.frame.now c.with_check-register.result c.with_check-register.ensures.value

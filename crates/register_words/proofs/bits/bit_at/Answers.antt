@@ -1,9 +1,0 @@
-use Rattle.std.proofs.Common.{◌∙◌, ap, ◌/◌, ◌%◌, ◌^◌}
-use Rattle.register_words.specs.Registers.{number_of}
-use Rattle.register_words.proofs.ByteLemmas.{bit_of_byte}
-use Rattle.register_words.proofs.bits.bit_at.Goals as goal
-
-pub returns : goal.returns
-returns c =
-    c.from.ensures ∙ ap (λ b. b / 2 ^ (c.args.place % 8) % 2) c.byte_at-byte.ensures
-    ∙ bit_of_byte (number_of c.args.register c.args.bytes.now) c.args.place

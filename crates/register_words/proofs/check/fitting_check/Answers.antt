@@ -1,5 +1,0 @@
-use Rattle.register_words.proofs.SummaryLemmas.{last_byte}
-use Rattle.register_words.proofs.check.fitting_check.Goals as goal
-
-pub returns : goal.returns
-returns c = last_byte c.args.bytes.now c.fitting_register.result c.requires c.fitting_register.ensures

@@ -1,8 +1,0 @@
-use Rattle.std.proofs.Common.{◌≡◌, ◌++◌, take, drop}
-use Rattle.std.specs.Prelude.{map}
-use Rattle.register_words.specs.Words.{printable}
-use Rattle.register_words.proofs.meaning.make_printable.Given as goal
-
-abbrev pub invariant-loop-byte : goal.invariant-loop-byte
-invariant-loop-byte l =
-    l.text ≡ map printable (take l.byte-index l.initial.text) ++ drop l.byte-index l.initial.text

@@ -1,6 +1,0 @@
-use Rattle.std.proofs.Common.{◌≡◌, drop}
-use Rattle.register_words.specs.Words.{name_in}
-use Rattle.register_words.proofs.meaning.name_in.Given as goal
-
-abbrev pub invariant-loop-name : goal.invariant-loop-name
-invariant-loop-name l = name_in l.fn.names l.value ≡ name_in (drop l.name-index l.fn.names) l.value
