@@ -79,7 +79,7 @@ fn answer_all(members: &mut Members, answers: &mut Completions)
 
 // Goes on with the first of the others alone, if there is one.
 #[inline(never)]
-fn next(stands: Stands, attempt: &mut Attempt) -> Phase
+fn serve_next_alone(stands: Stands, attempt: &mut Attempt) -> Phase
     requires none { attempt.old.group.members.items ≡ [] }
     requires sound { AreSound attempt.old.others.items }
     ensures next { IsNext stands attempt.old.others.items (service_of result attempt.new) }
@@ -95,14 +95,14 @@ fn next(stands: Stands, attempt: &mut Attempt) -> Phase
 
 // The last attempt at these has failed: one alone is answered, and several go on alone.
 #[inline(never)]
-fn give_up(broken: Broken, attempt: &mut Attempt, answers: &mut Completions) -> Phase
+fn answer_or_split(broken: Broken, attempt: &mut Attempt, answers: &mut Completions) -> Phase
     requires { IsTried attempt.old answers.old.items }
     ensures after { AfterFailure broken attempt.old.group.members.items attempt.old.others.items (service_of result attempt.new) answers.new.items }
     ensures empty { EmptyIfIdle result attempt.new }
 {
     if attempt.group.members.len() > 1 {
         mem::swap(&mut attempt.group.members, &mut attempt.others);
-        return next(Stands::Broken(broken), attempt);
+        return serve_next_alone(Stands::Broken(broken), attempt);
     }
     let Some(
         Entry {
@@ -120,18 +120,18 @@ fn give_up(broken: Broken, attempt: &mut Attempt, answers: &mut Completions) -> 
         client,
         answer: Answer::Failed(broken.cause()),
     });
-    next(Stands::Broken(broken), attempt)
+    serve_next_alone(Stands::Broken(broken), attempt)
 }
 
 // After a failure.
 #[inline(never)]
-fn retry(broken: Broken, attempt: &mut Attempt, answers: &mut Completions) -> Phase
+fn after_failure(broken: Broken, attempt: &mut Attempt, answers: &mut Completions) -> Phase
     requires { IsTried attempt.old answers.old.items }
     ensures after { AfterAttempt broken attempt.old (service_of result attempt.new) answers.new.items }
     ensures empty { EmptyIfIdle result attempt.new }
 {
     if attempt.failed + 1 == tries(&attempt.group.members) {
-        return give_up(broken, attempt, answers);
+        return answer_or_split(broken, attempt, answers);
     }
     attempt.failed = attempt.failed + 1;
     Phase::Serving(Stage::At(Stands::Broken(broken)))
@@ -139,7 +139,7 @@ fn retry(broken: Broken, attempt: &mut Attempt, answers: &mut Completions) -> Ph
 
 // What follows an attempt that is over.
 #[inline(never)]
-fn over(phase: &mut Phase, attempt: &mut Attempt, answers: &mut Completions)
+fn after_attempt(phase: &mut Phase, attempt: &mut Attempt, answers: &mut Completions)
     requires here { IsHere phase.old }
     requires tried { IsTried attempt.old answers.old.items }
     ensures concludes { (was : Stage) → Concludes (outcome_of was phase.old) attempt.old (service_of phase.new attempt.new) answers.new.items }
@@ -149,9 +149,9 @@ fn over(phase: &mut Phase, attempt: &mut Attempt, answers: &mut Completions)
         Phase::Serving(stage) => Phase::Serving(stage),
         Phase::Idle(Stands::Ready(session)) => {
             answer_all(&mut attempt.group.members, answers);
-            next(Stands::Ready(session), attempt)
+            serve_next_alone(Stands::Ready(session), attempt)
         }
-        Phase::Idle(Stands::Broken(broken)) => retry(broken, attempt, answers),
+        Phase::Idle(Stands::Broken(broken)) => after_failure(broken, attempt, answers),
         Phase::Taken => unreachable!(),
     };
 }
@@ -169,6 +169,6 @@ pub fn conclude(phase: &mut Phase, attempt: &mut Attempt, answers: &mut Completi
         Phase::Idle(Stands::Ready(_)) if attempt.others.is_empty() => {
             answer_all(&mut attempt.group.members, answers)
         }
-        Phase::Idle(_) | Phase::Taken => over(phase, attempt, answers),
+        Phase::Idle(_) | Phase::Taken => after_attempt(phase, attempt, answers),
     }
 }

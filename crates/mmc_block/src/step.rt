@@ -39,7 +39,7 @@ use mmc_transfer::{Pace, Run, Way};
 use std::mem;
 
 // Begins the run of a group, whose partition is selected.
-fn begin(session: Session, group: &Group) -> Work
+fn begin_run(session: Session, group: &Group) -> Work
     requires joined { IsJoined group.now.members.items group.now.extent }
     requires servable { AreServable (lasting_of session) group.now.members.items }
     requires selected { session.selected ≡ Some group.now.extent.part }
@@ -57,7 +57,7 @@ fn begin(session: Session, group: &Group) -> Work
 }
 
 // The next exchange of a run that moves blocks, or all that the bus moves with a command.
-fn move_on<B: Bus>(bus: &mut B, run: &mut Run, group: &mut Group, pace: Pace) -> Standing
+fn advance_blocks<B: Bus>(bus: &mut B, run: &mut Run, group: &mut Group, pace: Pace) -> Standing
     requires joined { IsJoined group.old.members.items group.old.extent }
     requires of { IsWorkOf group.old (Blocks run.old) }
     ensures lent { AreLent group.old.members.items group.new.members.items }
@@ -83,7 +83,7 @@ fn move_on<B: Bus>(bus: &mut B, run: &mut Run, group: &mut Group, pace: Pace) ->
 
 // The next exchanges of a run at this pace. The run is advanced where it stands: a turn in the middle of it moves no session.
 #[tactic(auto, using(crate::proofs::StepLemmas::same_lent))]
-fn exchange<B: Bus>(bus: &mut B, work: &mut Work, group: &mut Group, pace: Pace) -> Standing
+fn advance_run<B: Bus>(bus: &mut B, work: &mut Work, group: &mut Group, pace: Pace) -> Standing
     requires joined { IsJoined group.old.members.items group.old.extent }
     requires of { IsWorkOf group.old work.old }
     ensures advances { Advances (lasting_of (session_of work.old)) false (most_of_run pace (run_left work.old)) (run_left work.old) group.old (B.view bus.old) (work_then work.new result) group.new (B.view bus.new) }
@@ -95,7 +95,7 @@ fn exchange<B: Bus>(bus: &mut B, work: &mut Work, group: &mut Group, pace: Pace)
     a_group_lends_each_sector_of_its_extent();
     a_group_lends_the_blocks_of_its_members();
     match work {
-        Work::Blocks(run) => move_on(bus, run, group, pace),
+        Work::Blocks(run) => advance_blocks(bus, run, group, pace),
         Work::Erase(run) => run.turn(bus),
     }
 }
@@ -104,7 +104,7 @@ fn exchange<B: Bus>(bus: &mut B, work: &mut Work, group: &mut Group, pace: Pace)
 // run doesn't pay for their locals.
 #[inline(never)]
 #[tactic(auto, using(crate::proofs::StepLemmas::same_lent))]
-fn change_over<B: Bus>(bus: &mut B, session: Session, group: &Group) -> Progress<Stage>
+fn select_partition<B: Bus>(bus: &mut B, session: Session, group: &Group) -> Progress<Stage>
     requires joined { IsJoined group.now.members.items group.now.extent }
     requires servable { AreServable (lasting_of session) group.now.members.items }
     requires other { is_on session.selected group.now.extent.part ≡ false }
@@ -122,7 +122,7 @@ fn change_over<B: Bus>(bus: &mut B, session: Session, group: &Group) -> Progress
 
 // From a card that something failed with: the settle, for whatever group. It is counted.
 #[inline(never)]
-fn restore<B: Bus>(bus: &mut B, broken: Broken, healed: &mut Healed) -> Progress<Stage>
+fn settle<B: Bus>(bus: &mut B, broken: Broken, healed: &mut Healed) -> Progress<Stage>
     ensures advances { (group : Group) → IsJoined group.members.items group.extent
         → Advances (lasting_of broken.session) true EXCHANGES_OF_A_SETTLE (stage_left (At (Stands.Broken broken)) group.extent.part) group (B.view bus.old) result group (B.view bus.new) }
     ensures did { (B.view bus.new).is_kept ≡ true → IsBroken broken (B.view bus.old) → (group : Group) (faults : ℕ)
@@ -139,7 +139,7 @@ fn restore<B: Bus>(bus: &mut B, broken: Broken, healed: &mut Healed) -> Progress
 }
 
 // Leaves an outcome in the phase.
-fn left(outcome: Progress<Stage>) -> Phase
+fn phase_after(outcome: Progress<Stage>) -> Phase
     ensures held { IsHere result }
     ensures left { (was : Stage) → outcome_of was result ≡ outcome }
 {
@@ -151,7 +151,7 @@ fn left(outcome: Progress<Stage>) -> Phase
 }
 
 // What a run leaves in the phase.
-fn left_by(work: Work, standing: Standing) -> Phase
+fn phase_after_run(work: Work, standing: Standing) -> Phase
     ensures held { IsHere result }
     ensures left { (was : Stage) → outcome_of was result ≡ work_then work standing }
 {
@@ -166,35 +166,35 @@ fn left_by(work: Work, standing: Standing) -> Phase
 
 // A run that is over leaves its card.
 #[inline(never)]
-fn end(phase: &mut Phase, standing: Standing)
+fn leave_run(phase: &mut Phase, standing: Standing)
     requires running { IfRunning phase.old (λ work. Unit {0}) }
     ensures held { IsHere phase.new }
     ensures left { IfRunning phase.old (λ work. (was : Stage) → outcome_of was phase.new ≡ work_then work standing) }
 {
     *phase = match mem::replace(phase, Phase::Taken) {
-        Phase::Serving(Stage::Running(work)) => left_by(work, standing),
+        Phase::Serving(Stage::Running(work)) => phase_after_run(work, standing),
         Phase::Idle(_) | Phase::Serving(Stage::At(_)) | Phase::Taken => unreachable!(),
     };
 }
 
 // The next exchanges of a run that is under way. In the middle of the run the phase isn't moved.
-fn go_on<B: Bus>(bus: &mut B, phase: &mut Phase, group: &mut Group, pace: Pace)
+fn advance<B: Bus>(bus: &mut B, phase: &mut Phase, group: &mut Group, pace: Pace)
     requires joined { IsJoined group.old.members.items group.old.extent }
     requires running { IfRunning phase.old (λ work. AreServable (lasting_of (session_of work)) group.old.members.items × IsWorkOf group.old work) }
     ensures held { IsHere phase.new }
     ensures stepped { IfRunning phase.old (λ work. (was : Stage) → Stepped pace (Running work) group.old (B.view bus.old) (outcome_of was phase.new) group.new (B.view bus.new)) }
 {
     match phase {
-        Phase::Serving(Stage::Running(work)) => match exchange(bus, work, group, pace) {
+        Phase::Serving(Stage::Running(work)) => match advance_run(bus, work, group, pace) {
             Standing::GoesOn => {}
-            standing => end(phase, standing),
+            standing => leave_run(phase, standing),
         },
         Phase::Idle(_) | Phase::Serving(Stage::At(_)) | Phase::Taken => unreachable!(),
     }
 }
 
 // Whether the card is ready in this partition, so that a run can begin.
-fn can_begin(phase: &Phase, part: Part) -> bool
+fn can_begin_run(phase: &Phase, part: Part) -> bool
     ensures yes { result ≡ true → IfReady phase.now (λ session. session.selected ≡ Some part) }
     ensures no { result ≡ false → (stands : Stands) → phase.now ≡ Serving (At stands) → IsElsewhere part stands }
 {
@@ -205,7 +205,7 @@ fn can_begin(phase: &Phase, part: Part) -> bool
 }
 
 // The run begins, and the phase has it.
-fn begin_here(phase: &mut Phase, group: &Group)
+fn begin_run_here(phase: &mut Phase, group: &Group)
     requires joined { IsJoined group.now.members.items group.now.extent }
     requires ready { IfReady phase.old (λ session. AreServable (lasting_of session) group.now.members.items
         × (session.selected ≡ Some group.now.extent.part)) }
@@ -213,7 +213,7 @@ fn begin_here(phase: &mut Phase, group: &Group)
 {
     *phase = match mem::replace(phase, Phase::Taken) {
         Phase::Serving(Stage::At(Stands::Ready(session))) => {
-            Phase::Serving(Stage::Running(begin(session, group)))
+            Phase::Serving(Stage::Running(begin_run(session, group)))
         }
         Phase::Serving(_) | Phase::Idle(_) | Phase::Taken => unreachable!(),
     };
@@ -221,19 +221,19 @@ fn begin_here(phase: &mut Phase, group: &Group)
 
 // The run begins, with its first exchanges.
 #[inline(never)]
-fn set_out<B: Bus>(bus: &mut B, phase: &mut Phase, group: &mut Group, pace: Pace)
+fn begin_and_advance<B: Bus>(bus: &mut B, phase: &mut Phase, group: &mut Group, pace: Pace)
     requires joined { IsJoined group.old.members.items group.old.extent }
     requires ready { IfReady phase.old (λ session. AreServable (lasting_of session) group.old.members.items
         × (session.selected ≡ Some group.old.extent.part)) }
     ensures held { IsHere phase.new }
     ensures stepped { IfReady phase.old (λ session. (was : Stage) → Stepped pace (At (Stands.Ready session)) group.old (B.view bus.old) (outcome_of was phase.new) group.new (B.view bus.new)) }
 {
-    begin_here(phase, group);
-    go_on(bus, phase, group, pace);
+    begin_run_here(phase, group);
+    advance(bus, phase, group, pace);
 }
 
 // From a card that no run can begin with yet.
-fn depart<B: Bus>(
+fn settle_or_select<B: Bus>(
     bus: &mut B,
     stands: Stands,
     group: &Group,
@@ -246,8 +246,8 @@ fn depart<B: Bus>(
     ensures healed { StepHeals (At stands) (B.view bus.old) healed.old result (B.view bus.new) healed.new }
 {
     match stands {
-        Stands::Ready(session) => change_over(bus, session, group),
-        Stands::Broken(broken) => restore(bus, broken, healed),
+        Stands::Ready(session) => select_partition(bus, session, group),
+        Stands::Broken(broken) => settle(bus, broken, healed),
     }
 }
 
@@ -261,7 +261,9 @@ fn prepare<B: Bus>(bus: &mut B, phase: &mut Phase, group: &Group, healed: &mut H
     ensures healed { IfServing phase.old (λ stage. StepHeals stage (B.view bus.old) healed.old (outcome_of stage phase.new) (B.view bus.new) healed.new) }
 {
     *phase = match mem::replace(phase, Phase::Taken) {
-        Phase::Serving(Stage::At(stands)) => left(depart(bus, stands, group, healed)),
+        Phase::Serving(Stage::At(stands)) => phase_after(settle_or_select(
+            bus, stands, group, healed,
+        )),
         Phase::Idle(_) | Phase::Serving(Stage::Running(_)) | Phase::Taken => unreachable!(),
     };
 }
@@ -282,10 +284,10 @@ pub fn step<B: Bus>(
     ensures healed { IfServing phase.old (λ stage. StepHeals stage (B.view bus.old) healed.old (outcome_of stage phase.new) (B.view bus.new) healed.new) }
 {
     match phase {
-        Phase::Serving(Stage::Running(_)) => go_on(bus, phase, group, pace),
+        Phase::Serving(Stage::Running(_)) => advance(bus, phase, group, pace),
         Phase::Serving(Stage::At(_)) | Phase::Idle(_) | Phase::Taken => {
-            if can_begin(phase, group.extent.part) {
-                set_out(bus, phase, group, pace);
+            if can_begin_run(phase, group.extent.part) {
+                begin_and_advance(bus, phase, group, pace);
             } else {
                 prepare(bus, phase, group, healed);
             }

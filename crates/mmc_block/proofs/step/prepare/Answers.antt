@@ -11,11 +11,11 @@ returns-clause-stepped g c pace =
     let stage : Stage = At c.in-Serving-At.stands in
     rw (← c.replace.ensures.value, c.in-Serving-At.is, c.in-Serving-At.field-0-is)
     (subst (λ (o : Progress Stage). Stepped pace stage c.args.group.now (g.B.Bus.view c.args.bus.now) o c.args.group.now
-    (g.B.Bus.view c.depart.new.bus)) (sym (c.left.ensures.left stage)) (c.depart.ensures.stepped pace))
+    (g.B.Bus.view c.settle_or_select.new.bus)) (sym (c.phase_after.ensures.left stage)) (c.settle_or_select.ensures.stepped pace))
 
 pub returns-clause-healed : goal.returns-clause-healed
 returns-clause-healed g c =
     let stage : Stage = At c.in-Serving-At.stands in
     rw (← c.replace.ensures.value, c.in-Serving-At.is, c.in-Serving-At.field-0-is)
     (subst (λ (o : Progress Stage). StepHeals stage (g.B.Bus.view c.args.bus.now) c.args.healed.now o
-    (g.B.Bus.view c.depart.new.bus) c.depart.new.healed) (sym (c.left.ensures.left stage)) c.depart.ensures.healed)
+    (g.B.Bus.view c.settle_or_select.new.bus) c.settle_or_select.new.healed) (sym (c.phase_after.ensures.left stage)) c.settle_or_select.ensures.healed)

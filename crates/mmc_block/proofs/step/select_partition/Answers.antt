@@ -2,7 +2,7 @@ use Rattle.std.proofs.Common.{arith}
 use Rattle.mmc_block.specs.Service.{lasting_of}
 use Rattle.mmc_block.proofs.BeginLemmas.{run_exists}
 use Rattle.mmc_block.proofs.StepLemmas.{broken_did, ready_did}
-use Rattle.mmc_block.proofs.step.change_over.Goals as goal
+use Rattle.mmc_block.proofs.step.select_partition.Goals as goal
 
 pub select-requires : goal.select-requires
 select-requires g c = record {

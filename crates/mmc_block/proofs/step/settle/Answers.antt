@@ -1,6 +1,6 @@
 use Rattle.std.proofs.Common.{arith, refl, rules}
 use Rattle.mmc_block.proofs.StepLemmas.{broken_did, settle_paid, same_lent, ready_did}
-use Rattle.mmc_block.proofs.step.restore.Goals as goal
+use Rattle.mmc_block.proofs.step.settle.Goals as goal
 
 pub returns-in-Ok-clause-advances : goal.returns-in-Ok-clause-advances
 returns-in-Ok-clause-advances g c group joined = record {

@@ -1,6 +1,6 @@
 use Rattle.std.proofs.Common.{◌∙◌, refl, sym}
 use Rattle.mmc_block.proofs.BeginLemmas.{group_started, nobody_served}
-use Rattle.mmc_block.proofs.turn.set_off.Goals as goal
+use Rattle.mmc_block.proofs.turn.take_next_group.Goals as goal
 
 pub next_into-requires : goal.next_into-requires
 next_into-requires c = nobody_served c.args.phase.now c.args.attempt.now c.requires.idle c.requires.empty

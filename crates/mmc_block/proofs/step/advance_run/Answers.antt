@@ -1,19 +1,19 @@
 use Rattle.mmc_block.proofs.StepLemmas.{blocks_advance, blocks_turned, blocks_work, erase_advance, erase_turned, erase_work}
 use Rattle.mmc_transfer.specs.Run.{run_then}
 use Rattle.mmc_erase.specs.Run.{run_then as erase_then}
-use Rattle.mmc_block.proofs.step.exchange.Goals as goal
+use Rattle.mmc_block.proofs.step.advance_run.Goals as goal
 
 pub returns-in-Blocks-clause-did : goal.returns-in-Blocks-clause-did
 returns-in-Blocks-clause-did g c kept faults at =
-    let new = c.move_on.new.group in
-    let joined = c.move_on.ensures.joined in
-    blocks_work c.move_on.new.run _ _ _ _ _ _
+    let new = c.advance_blocks.new.group in
+    let joined = c.advance_blocks.ensures.joined in
+    blocks_work c.advance_blocks.new.run _ _ _ _ _ _
     (blocks_turned new (c.a_group_is_one_extent.ensures new.members.items new.extent joined)
     (c.a_group_lends_each_sector_of_its_extent.ensures.reads new joined)
     (λ e i is there less. c.a_group_lends_the_blocks_of_its_members.ensures.reads new e i joined is there less)
-    c.args.work.now c.in-Blocks.run' c.args.group.now faults (g.B.Bus.view c.args.bus.now) (g.B.Bus.view c.move_on.new.bus)
-    (run_then c.move_on.new.run c.move_on.result) c.in-Blocks.is c.requires.of c.move_on.ensures.writes
-    c.move_on.ensures.extent c.move_on.ensures.same (λ there. c.move_on.ensures.turned kept faults there) at)
+    c.args.work.now c.in-Blocks.run' c.args.group.now faults (g.B.Bus.view c.args.bus.now) (g.B.Bus.view c.advance_blocks.new.bus)
+    (run_then c.advance_blocks.new.run c.advance_blocks.result) c.in-Blocks.is c.requires.of c.advance_blocks.ensures.writes
+    c.advance_blocks.ensures.extent c.advance_blocks.ensures.same (λ there. c.advance_blocks.ensures.turned kept faults there) at)
 
 pub returns-in-Erase-clause-did : goal.returns-in-Erase-clause-did
 returns-in-Erase-clause-did g c kept faults at =
@@ -29,10 +29,10 @@ returns-in-Erase-clause-did g c kept faults at =
 
 pub returns-in-Blocks-clause-advances : goal.returns-in-Blocks-clause-advances
 returns-in-Blocks-clause-advances g c =
-    let e = c.move_on.ensures in
+    let e = c.advance_blocks.ensures in
     let of = rw c.in-Blocks.is at c.requires.of in
-    rw c.in-Blocks.is (blocks_advance c.args.pace c.in-Blocks.run' c.move_on.new.run c.move_on.result c.args.group.now
-    c.move_on.new.group _ _ of e.lent e.extent e.joined e.bounded e.nears e.kept e.same e.lowers e.cause)
+    rw c.in-Blocks.is (blocks_advance c.args.pace c.in-Blocks.run' c.advance_blocks.new.run c.advance_blocks.result c.args.group.now
+    c.advance_blocks.new.group _ _ of e.lent e.extent e.joined e.bounded e.nears e.kept e.same e.lowers e.cause)
 
 pub returns-in-Erase-clause-advances : goal.returns-in-Erase-clause-advances
 returns-in-Erase-clause-advances g c =

@@ -3,7 +3,7 @@ use Rattle.mmc_bus.specs.Lending.{nothing}
 use Rattle.mmc_queue.specs.Lent.{write_blocks_of}
 use Rattle.mmc_transfer.specs.Run.{HasTurned, IsRunning, run_then}
 use Rattle.mmc_block.proofs.StepLemmas.{bytes_are_lent, room_is_lent}
-use Rattle.mmc_block.proofs.step.move_on.Goals as goal
+use Rattle.mmc_block.proofs.step.advance_blocks.Goals as goal
 
 pub returns-in-Read-clause-turned : goal.returns-in-Read-clause-turned
 returns-in-Read-clause-turned g c kept faults at =

@@ -2,7 +2,7 @@ use Rattle.mmc_erase.specs.declared.how.How.TheVariants as how
 use Rattle.mmc_queue.specs.Requests.{can_merge}
 use Rattle.std.proofs.Common.{◌∙◌, ap, arith, rules, sym}
 use Rattle.mmc_block.proofs.BeginLemmas.{run_erasable, run_inside, run_suits, run_writable}
-use Rattle.mmc_block.proofs.step.begin.Goals as goal
+use Rattle.mmc_block.proofs.step.begin_run.Goals as goal
 
 pub begin-requires-clause-inside : goal.begin-requires-clause-inside
 begin-requires-clause-inside c =
@@ -68,10 +68,10 @@ returns-in-Read c = record {
   of = search rules;
   session_is = search rules;
   bounded =
-      let most = c.begin.ensures.bounded in
+      let most = c.begin_run.ensures.bounded in
       let short = c.requires.joined.short (ap can_merge c.in-Read.is) in
       omega (arith, most, short);
-  under_way = λ view ready. c.begin.ensures.running view _ ready;
+  under_way = λ view ready. c.begin_run.ensures.running view _ ready;
 }
 
 pub returns-in-Write : goal.returns-in-Write
@@ -79,8 +79,8 @@ returns-in-Write c = record {
   of = search rules;
   session_is = search rules;
   bounded =
-      let most = c.begin-in-Write.ensures.bounded in
+      let most = c.begin_run-in-Write.ensures.bounded in
       let short = c.requires.joined.short (ap can_merge c.in-Write.is) in
       omega (arith, most, short);
-  under_way = λ view ready. c.begin-in-Write.ensures.running view _ ready;
+  under_way = λ view ready. c.begin_run-in-Write.ensures.running view _ ready;
 }
