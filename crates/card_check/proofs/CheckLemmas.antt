@@ -14,8 +14,8 @@ module _ (all : List (List ℕ)) (old mid new : Option (List ℕ)) where
   broken_findings p = front_before old new (findings_text all) (missing_texts (is_sd (kind_in all)) all) p
 
   -- a fault after them
-  pub broken_behind : Appends old new (findings_text all) → AppendsFront old new (all_findings all)
-  broken_behind p = (findings_text all, missing_texts (is_sd (kind_in all)) all, refl, p)
+  pub broken_after : Appends old new (findings_text all) → AppendsFront old new (all_findings all)
+  broken_after p = (findings_text all, missing_texts (is_sd (kind_in all)) all, refl, p)
 
   -- a fault within the keys that are missing
   pub broken_missing : (sd : Bool) → sd ≡ is_sd (kind_in all) → Appends old mid (findings_text all)

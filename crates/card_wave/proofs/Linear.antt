@@ -141,12 +141,12 @@ shift_within zero p = refl
 shift_within (suc k) p = ap times_x (shift_within k p)
 
 -- zeros after a string
-zeros_behind : (k : ℕ) (bs : List Bool) → remainder (bs ++ replicate k false) ≡ shift k (remainder bs)
+zeros_after : (k : ℕ) (bs : List Bool) → remainder (bs ++ replicate k false) ≡ shift k (remainder bs)
 unfolding shift
-zeros_behind zero bs = ap remainder (append-nil bs)
-zeros_behind (suc k) bs =
+zeros_after zero bs = ap remainder (append-nil bs)
+zeros_after (suc k) bs =
     ap remainder (sym (append_assoc bs (false ∷ []) (replicate k false)))
-    ∙ zeros_behind k (bs ++ false ∷ [])
+    ∙ zeros_after k (bs ++ false ∷ [])
     ∙ ap (shift k) (remainder-push bs false ∙ xor_zero_r (times_x (remainder bs)))
     ∙ shift_within k (remainder bs)
 
@@ -156,7 +156,7 @@ line_check-lt bs = remainder-lt (bs ++ replicate 16 false)
 
 pub line_check_is : (bs : List Bool) → line_check bs ≡ shift 16 (remainder bs)
 unfolding line_check
-line_check_is bs = zeros_behind 16 bs
+line_check_is bs = zeros_after 16 bs
 
 pub line_check_none : line_check [] ≡ 0
 unfolding line_check remainder
@@ -178,11 +178,11 @@ pushed_check check bit = bit_xor (times_x check) (cond bit 4129 0)
 pub line_check-push : (bs : List Bool) (b : Bool) → line_check (bs ++ b ∷ []) ≡ pushed_check (line_check bs) b
 unfolding line_check
 line_check-push bs b =
-    zeros_behind 16 (bs ++ b ∷ [])
+    zeros_after 16 (bs ++ b ∷ [])
     ∙ ap (shift 16) (remainder-push bs b)
     ∙ shift_linear 16 (times_x (remainder bs)) (cond b 1 0) (times_x-lt (remainder bs) (remainder-lt bs)) (one_bit b)
     ∙ ap (bit_xor (shift 16 (times_x (remainder bs)))) (bit_shifted b)
-    ∙ ap (λ x. bit_xor x (cond b 4129 0)) (shift_within 16 (remainder bs) ∙ ap times_x (sym (zeros_behind 16 bs)))
+    ∙ ap (λ x. bit_xor x (cond b 4129 0)) (shift_within 16 (remainder bs) ∙ ap times_x (sym (zeros_after 16 bs)))
 
 -- what the code does: twice the check without its top bit, and x^12 + x^5 + 1 more where the top bit isn't the new bit
 pub next_same : (p : ℕ) (b : Bool) → p < 65536 → beq (leb 32768 p) b ≡ true → p % 32768 * 2 ≡ bit_xor (times_x p)
@@ -220,11 +220,11 @@ abbrev checked_from : ℕ → List Bool → ℕ
 checked_from check [] = check
 checked_from check (b ∷ bs) = checked_from (pushed_check check b) bs
 
-checked_behind : (xs ys : List Bool) → line_check (xs ++ ys) ≡ checked_from (line_check xs) ys
-checked_behind xs [] = ap line_check (append-nil xs)
-checked_behind xs (y ∷ ys) =
+checked_after : (xs ys : List Bool) → line_check (xs ++ ys) ≡ checked_from (line_check xs) ys
+checked_after xs [] = ap line_check (append-nil xs)
+checked_after xs (y ∷ ys) =
     ap line_check (sym (append_assoc xs (y ∷ []) ys))
-    ∙ checked_behind (xs ++ y ∷ []) ys
+    ∙ checked_after (xs ++ y ∷ []) ys
     ∙ ap (λ n. checked_from n ys) (line_check-push xs y)
 
 ones_checked : checked_from 0 (bits_of (replicate 512 255)) ≡ 32673
@@ -233,6 +233,6 @@ ones_checked = refl
 
 pub check_of_ones : line_check (bits_of (replicate 512 255)) ≡ 32673
 check_of_ones =
-    checked_behind [] (bits_of (replicate 512 255))
+    checked_after [] (bits_of (replicate 512 255))
     ∙ ap (λ n. checked_from n (bits_of (replicate 512 255))) line_check_none
     ∙ ones_checked

@@ -5,7 +5,7 @@ use Rattle.std.proofs.lemmas.Bool.{eqb-true}
 use Rattle.mmc_block.specs.Execution.{Event as MachineEvent, Follow, Reply}
 use Rattle.card_text.specs.declared.event.ScriptEvent.{ScriptEvent}
 use Rattle.card_text.specs.declared.event.ScriptEvent.TheVariants.{Cancel, Run, Submit, Turn}
-use Rattle.cardtool.specs.Serving.{IsNext, Standing, due_events, events_behind, standing_of}
+use Rattle.cardtool.specs.Serving.{IsNext, Standing, due_events, events_after, standing_of}
 
 -- something comes
 abbrev IsMore : List ScriptEvent → Type 0
@@ -64,17 +64,17 @@ stands_before_run : (pending : ℕ) (script : List ScriptEvent) → IsMore scrip
 stands_before_run pending script more ends =
     record { ends = due_ends pending script ends; none_pending = none_due pending script more }
 
-behind_event : (pending : ℕ) (next : ScriptEvent) (later : List ScriptEvent) → EndsInRun (next ∷ later)
-    → IsBeforeRun (standing_of pending (events_behind next later))
-behind_event pending (Submit c r) later (more, ends) = stands_before_run pending later more ends
-behind_event pending (Cancel t) later (more, ends) = stands_before_run pending later more ends
-behind_event pending Turn later (more, ends) = stands_before_run pending later more ends
-behind_event pending Run later ends = stands_before_run pending (Run ∷ later) (λ h. absurd cc) ends
+after_event : (pending : ℕ) (next : ScriptEvent) (later : List ScriptEvent) → EndsInRun (next ∷ later)
+    → IsBeforeRun (standing_of pending (events_after next later))
+after_event pending (Submit c r) later (more, ends) = stands_before_run pending later more ends
+after_event pending (Cancel t) later (more, ends) = stands_before_run pending later more ends
+after_event pending Turn later (more, ends) = stands_before_run pending later more ends
+after_event pending Run later ends = stands_before_run pending (Run ∷ later) (λ h. absurd cc) ends
 
 step_before_run : (old : Standing) (e : MachineEvent) (r : Reply) (new : Standing) → IsBeforeRun old
     → IsNext old e r new → IsBeforeRun new
 step_before_run old e r new before step =
-    subst IsBeforeRun (sym step.new_is) (behind_event _ step.next step.later (subst EndsInRun step.first before.ends))
+    subst IsBeforeRun (sym step.new_is) (after_event _ step.next step.later (subst EndsInRun step.first before.ends))
 
 follow_before_run : (old : Standing) (es : List MachineEvent) (rs : List Reply) (new : Standing) → IsBeforeRun old
     → Follow IsNext old es rs new → IsBeforeRun new

@@ -24,7 +24,7 @@ use Rattle.card_text.specs.declared.event.ScriptEvent.{ScriptEvent}
 use Rattle.card_text.specs.declared.event.ScriptEvent.TheVariants.{Submit, Cancel, Turn, Run}
 use Rattle.card_text.specs.Output.{cancelled_text, queued_text, refused_text, uncancelled_text}
 use Rattle.cardtool.specs.Serving.{IsNext, ServesEvents, ServesPrefix, ServesScript, ServesUpTo, Standing, TurnsAndPrints}
-use Rattle.cardtool.specs.Serving.{answer_if_printed, any_bad, due_events, events_behind, is_bad, machine_event}
+use Rattle.cardtool.specs.Serving.{answer_if_printed, any_bad, due_events, events_after, is_bad, machine_event}
 use Rattle.cardtool.specs.Serving.{pending_after, print_result, standing_of, text_of, texts}
 
 -- Where a script stands.
@@ -71,7 +71,7 @@ due_more pending (Run ∷ script) next later more h =
     more_so (pending == 0) pending script next later more (due_more pending script next later more) h
 
 behind_more : (next : ScriptEvent) (later more : List ScriptEvent)
-    → events_behind next later ++ more ≡ events_behind next (later ++ more)
+    → events_after next later ++ more ≡ events_after next (later ++ more)
 behind_more (Submit c r) later more = refl
 behind_more (Cancel t) later more = refl
 behind_more Turn later more = refl
@@ -96,7 +96,7 @@ script_goes_on pending script [] [] then left more h =
     sym (with_more_stands then left more) ∙ ap (with_more more) h ∙ with_more_stands pending script more
 script_goes_on pending script (e ∷ es) (r ∷ rs) then left more (mid, step, h) =
     let now = pending_after pending r in
-    let rest = events_behind step.next step.later in (
+    let rest = events_after step.next step.later in (
       standing_of now (rest ++ more),
       record {
         next = step.next;
@@ -231,16 +231,16 @@ record IsStepOfScript {B : Type 0} (view : B → BusView) (old : DeviceView B) (
 
 executed_one : {B : Type 0} (view : B → BusView) (old new : DeviceView B) (e : ScriptEvent) (r : Reply)
     → IsStepOfScript view old e r new
-    → ServesEvents view old new (e ∷ []) (events_behind e []) (machine_event e ∷ []) (r ∷ [])
+    → ServesEvents view old new (e ∷ []) (events_after e []) (machine_event e ∷ []) (r ∷ [])
 executed_one view old new e r h = record {
   of_script = (
-    standing_of (unanswered_of new) (events_behind e []),
+    standing_of (unanswered_of new) (events_after e []),
     record {
       next = e;
       later = [];
       first = h.is_due;
       event_is = refl;
-      new_is = ap (λ k. standing_of k (events_behind e [])) h.count;
+      new_is = ap (λ k. standing_of k (events_after e [])) h.count;
     },
     refl,
   );
@@ -251,7 +251,7 @@ executed_one view old new e r h = record {
 serves_one : {B : Type 0} (view : B → BusView) (start now : DeviceView B) (e : ScriptEvent) (r : Reply)
     (old new : Option (List ℕ)) → IsStepOfScript view start e r now
     → Appends old new (text_of (machine_event e) r)
-    → ServesUpTo view start now (e ∷ []) (events_behind e []) old new (is_bad r)
+    → ServesUpTo view start now (e ∷ []) (events_after e []) old new (is_bad r)
 unfolding texts any_bad
 serves_one view start now e r old new step wrote = record {
   events = machine_event e ∷ [];
@@ -268,14 +268,14 @@ unfolding texts
 breaks_one view start now e r old new step wrote = record {
   events = machine_event e ∷ [];
   replies = r ∷ [];
-  left = events_behind e [];
+  left = events_after e [];
   execution = executed_one view start now e r step;
   printed = subst (AppendsFront old new) (sym (append-nil (text_of (machine_event e) r))) wrote;
 }
 
 one_event : {B E : Type 0} (view : B → BusView) (start now : DeviceView B) (e : ScriptEvent) (r : Reply)
     (old new : Option (List ℕ)) (printed : Result Unit E) → IsStepOfScript view start e r now
-    → events_behind e [] ≡ [] → Writes old new printed (text_of (machine_event e) r)
+    → events_after e [] ≡ [] → Writes old new printed (text_of (machine_event e) r)
     → ServesScript view start now (e ∷ []) old new (answer_if_printed (is_bad r) printed)
 one_event view start now e r old new (Ok x) step none wrote =
     subst (λ l. ServesUpTo view start now (e ∷ []) l old new (is_bad r)) none

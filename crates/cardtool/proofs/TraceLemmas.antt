@@ -16,7 +16,7 @@ use Rattle.card_text.specs.declared.event.ScriptEvent.{ScriptEvent}
 use Rattle.card_served.specs.declared.fault.ServeFault.{ServeFault}
 use Rattle.card_served.specs.declared.fault.ServeFault.TheVariants.{Locked, NoCard, NoMemory, Unsupported, Voltage, Write}
 use Rattle.cardtool.specs.Serving.{texts}
-use Rattle.cardtool.specs.Whole.{IsServed, IsTraceBehind, ended_by, trace_text}
+use Rattle.cardtool.specs.Whole.{IsServed, IsTraceAfter, ended_by, trace_text}
 
 -- nothing stood after the text
 bare : (old new : Option (List ℕ)) (text behind : List ℕ) → behind ≡ [] → Appends old new (text ++ behind)
@@ -38,10 +38,10 @@ with_trace limits made before later fell script n exchanges start old new status
       events = s.events;
       replies = s.replies;
       execution = s.execution;
-      text_behind = trace_text exchanges;
+      text_after = trace_text exchanges;
       traced = record { exchanges = exchanges; few = few; framed = framed; text_is = refl };
       printed = appends_more start old new text (trace_text exchanges)
-          (bare start old text s.text_behind s.traced s.printed) wrote;
+          (bare start old text s.text_after s.traced s.printed) wrote;
       status_is = s.status_is;
     }
 with_trace limits made before later fell script n exchanges start old new status (Err e) few framed s wrote =
@@ -53,10 +53,10 @@ with_trace limits made before later fell script n exchanges start old new status
       replies = s.replies;
       left = [];
       execution = s.execution;
-      text_behind = trace_text exchanges;
+      text_after = trace_text exchanges;
       traced = record { exchanges = exchanges; few = few; framed = framed; text_is = refl };
       printed = front_after start old new text (trace_text exchanges)
-          (bare start old text s.text_behind s.traced s.printed) wrote;
+          (bare start old text s.text_after s.traced s.printed) wrote;
     }
 
 -- as many as were asked for at most
@@ -68,9 +68,9 @@ kept_count n exchanges = let left = length-drop (length exchanges - n) exchanges
 
 -- a prefix of the text of answers and what stands after them where a trace was asked for
 record FrontWithTrace (n : ℕ) (left : List ScriptEvent) (old new : Option (List ℕ)) (text : List ℕ) : Type 0 where
-  text_behind : List ℕ
-  traced : IsTraceBehind (Some n) left text_behind
-  printed : AppendsFront old new (text ++ text_behind)
+  text_after : List ℕ
+  traced : IsTraceAfter (Some n) left text_after
+  printed : AppendsFront old new (text ++ text_after)
 
 -- a prefix of the answers' text is a prefix of what is printed with a trace, too
 front_with_trace : (n : ℕ) (left : List ScriptEvent) (old new : Option (List ℕ)) (text behind : List ℕ)
@@ -78,12 +78,12 @@ front_with_trace : (n : ℕ) (left : List ScriptEvent) (old new : Option (List �
 front_with_trace n [] old new text behind none front =
     let same = subst (λ t. AppendsFront old new (text ++ t)) none front in
     record {
-      text_behind = trace_text [];
+      text_after = trace_text [];
       traced = record { exchanges = []; few = omega arith; framed = All-nil HasItsFrame; text_is = refl };
       printed = front_before old new text (trace_text []) (subst (AppendsFront old new) (append-nil text) same);
     }
 front_with_trace n (e ∷ left) old new text behind none front =
-    record { text_behind = behind; traced = none; printed = front }
+    record { text_after = behind; traced = none; printed = front }
 
 fault_with_trace : (limits : Lines) (made : Made) (before later : Sets) (fell : ℕ) (script : List ScriptEvent) (n : ℕ)
     (old new : Option (List ℕ)) (fault : ServeFault)
@@ -91,7 +91,7 @@ fault_with_trace : (limits : Lines) (made : Made) (before later : Sets) (fell : 
     → IsServed limits made before later fell script (Some n) old new (Err fault)
 fault_with_trace limits made before later fell script n old new NoMemory served = served
 fault_with_trace limits made before later fell script n old new Write s =
-    let front = front_with_trace n s.left old new (texts s.events s.replies) s.text_behind s.traced s.printed in
+    let front = front_with_trace n s.left old new (texts s.events s.replies) s.text_after s.traced s.printed in
     record {
       info = s.info;
       of_card = s.of_card;
@@ -99,7 +99,7 @@ fault_with_trace limits made before later fell script n old new Write s =
       replies = s.replies;
       left = s.left;
       execution = s.execution;
-      text_behind = front.text_behind;
+      text_after = front.text_after;
       traced = front.traced;
       printed = front.printed;
     }

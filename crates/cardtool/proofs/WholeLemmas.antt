@@ -164,7 +164,7 @@ module _ {B : Type 0} (view : B → BusView) (start now : DeviceView B) (limits 
     events = served.events;
     replies = served.replies;
     execution = executed_over_sectors [] served.events served.replies served.execution;
-    text_behind = [];
+    text_after = [];
     traced = refl;
     printed = subst (Appends old new) (sym (append-nil (texts served.events served.replies))) served.printed;
     status_is = ap status_of served.bad_is;
@@ -176,7 +176,7 @@ module _ {B : Type 0} (view : B → BusView) (start now : DeviceView B) (limits 
     replies = served.replies;
     left = due_events (unanswered_of now) served.left;
     execution = executed_over_sectors served.left served.events served.replies served.execution;
-    text_behind = [];
+    text_after = [];
     traced = refl;
     printed = front_before old new (texts served.events served.replies) [] served.printed;
   }

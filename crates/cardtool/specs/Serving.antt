@@ -32,9 +32,9 @@ due_events pending (Run ∷ script) = if pending == 0 then due_events pending sc
 due_events pending (event ∷ script) = event ∷ script
 
 -- what is left after an event: a `run` goes on
-abbrev pub events_behind : ScriptEvent → List ScriptEvent → List ScriptEvent
-events_behind Run script = Run ∷ script
-events_behind event script = script
+abbrev pub events_after : ScriptEvent → List ScriptEvent → List ScriptEvent
+events_after Run script = Run ∷ script
+events_after event script = script
 
 -- how many requests have no answer after this reply
 abbrev pub pending_after : ℕ → Reply → ℕ
@@ -58,7 +58,7 @@ pub record IsNext (old : Standing) (event : MachineEvent) (reply : Reply) (new :
   pub later : List ScriptEvent
   pub first : old.left ≡ next ∷ later
   pub event_is : event ≡ machine_event next
-  pub new_is : new ≡ standing_of (pending_after old.pending reply) (events_behind next later)
+  pub new_is : new ≡ standing_of (pending_after old.pending reply) (events_after next later)
 
 -- These events with their replies are the script's, up to where it stands then.
 abbrev pub FollowScript : List ScriptEvent → List MachineEvent → List Reply → Standing → Type 0

@@ -74,10 +74,10 @@ pub record IsTrace (most : ℕ) (text : List ℕ) : Type 0 where
   pub text_is : text ≡ trace_text exchanges
 
 -- What stands after the answers: with a trace its text, but nothing while events are left.
-abbrev pub IsTraceBehind : Option ℕ → List ScriptEvent → List ℕ → Type 0
-IsTraceBehind None left text = text ≡ []
-IsTraceBehind (Some n) (event ∷ left) text = text ≡ []
-IsTraceBehind (Some n) [] text = IsTrace n text
+abbrev pub IsTraceAfter : Option ℕ → List ScriptEvent → List ℕ → Type 0
+IsTraceAfter None left text = text ≡ []
+IsTraceAfter (Some n) (event ∷ left) text = text ≡ []
+IsTraceAfter (Some n) [] text = IsTrace n text
 
 -- the machine that is opened on these sectors, after so many faults; none of them is a request's own
 abbrev pub opened_after : ℕ → Bool → Sets → Counted
@@ -128,9 +128,9 @@ pub record IsServedToItsEnd (limits : Lines) (made : Made) (before later : Sets)
   pub replies : List Reply
   pub execution : ExecutedInAnyProfile made info before later fell script [] events replies
   -- what was printed after the answers
-  pub text_behind : List ℕ
-  pub traced : IsTraceBehind trace [] text_behind
-  pub printed : Appends old new (texts events replies ++ text_behind)
+  pub text_after : List ℕ
+  pub traced : IsTraceAfter trace [] text_after
+  pub printed : Appends old new (texts events replies ++ text_after)
   pub status_is : status ≡ status_of (any_bad replies)
 
 -- After a write fault a prefix of the script was served, and a prefix of what is printed of it went out.
@@ -144,9 +144,9 @@ pub record IsServedInPart (limits : Lines) (made : Made) (before later : Sets) (
   pub left : List ScriptEvent
   pub execution : ExecutedInAnyProfile made info before later fell script left events replies
   -- what is printed after the answers
-  pub text_behind : List ℕ
-  pub traced : IsTraceBehind trace left text_behind
-  pub printed : AppendsFront old new (texts events replies ++ text_behind)
+  pub text_after : List ℕ
+  pub traced : IsTraceAfter trace left text_after
+  pub printed : AppendsFront old new (texts events replies ++ text_after)
 
 -- The card wasn't opened: nothing was printed, no sector may hold more, and a card in profile had three faults at least.
 pub record IsUnopened (made : Made) (before later : Sets) (fell : ℕ) (old new : Option (List ℕ)) : Type 0 where

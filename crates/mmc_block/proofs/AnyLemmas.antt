@@ -121,21 +121,21 @@ start_of_waits old left (Serving stage attempt) new s = inl (rw (s.0, s.1) (refl
 start_of_waits old left Taken new s = absurd s
 
 -- of requests by ticket none passes one after it
-passes_behind : (w : Waiting) (low : ℕ) (ws : List Waiting) (next : ℕ) → w.ticket < low → AreInOrder low ws next
+passes_after : (w : Waiting) (low : ℕ) (ws : List Waiting) (next : ℕ) → w.ticket < low → AreInOrder low ws next
     → PassesNone w ws
-passes_behind w low [] next above order = tt
-passes_behind w low (v ∷ vs) next above order =
+passes_after w low [] next above order = tt
+passes_after w low (v ∷ vs) next above order =
     let least = order.0 in (
       λ earlier. absurd (omega (arith, above, least, earlier)),
-      passes_behind w (v.ticket + 1) vs next (omega (arith, above, least)) order.1,
+      passes_after w (v.ticket + 1) vs next (omega (arith, above, least)) order.1,
     )
 
-pass_behind : (low : ℕ) (answered left : List Waiting) (next : ℕ) → AreInOrder low (answered ++ left) next
+pass_after : (low : ℕ) (answered left : List Waiting) (next : ℕ) → AreInOrder low (answered ++ left) next
     → PassNone answered left
-pass_behind low [] left next order = tt
-pass_behind low (w ∷ ws) left next order = (
-  passes_behind w (w.ticket + 1) left next (omega arith) (in_order-rest (w.ticket + 1) ws left next order.1),
-  pass_behind (w.ticket + 1) ws left next order.1,
+pass_after low [] left next order = tt
+pass_after low (w ∷ ws) left next order = (
+  passes_after w (w.ticket + 1) left next (omega arith) (in_order-rest (w.ticket + 1) ws left next order.1),
+  pass_after (w.ticket + 1) ws left next order.1,
 )
 
 pub answers_of : (old left : List Entry) (service started new : Service) (cs : List Completion) (next : ℕ)
@@ -149,7 +149,7 @@ answers_of old left service started new cs next s l order = record {
   served = l.served;
   named = l.named;
   passes_none = l.passes_none;
-  passes_none_served = pass_behind 0 l.answered (in_service_of new) next
+  passes_none_served = pass_after 0 l.answered (in_service_of new) next
       (subst (λ ws. AreInOrder 0 ws next) l.served order);
 }
 

@@ -53,7 +53,7 @@ fn offers_a_rejected_block_again(rt: HostRuntime) -> Result<(), Fail> {
 
 // Or all that are offered after it are ignored, until CMD12.
 #[test]
-fn ignores_blocks_behind_a_rejected_one(rt: HostRuntime) -> Result<(), Fail> {
+fn ignores_blocks_after_a_rejected_one(rt: HostRuntime) -> Result<(), Fail> {
     let mut card = faulty(rt.alloc(), 1, Fault::RejectAll)?;
     expect_r1(&rt, &mut card, 25, 512, 0x900);
     expect_taken(&rt, &mut card, 0x5a, DataOut::Rejected);
@@ -107,7 +107,7 @@ fn takes_a_lost_block_later(rt: HostRuntime) -> Result<(), Fail> {
 
 // After CMD24 a rejected block may leave the card busy in prg, and nothing is stored.
 #[test]
-fn is_busy_behind_a_rejected_block(rt: HostRuntime) -> Result<(), Fail> {
+fn is_busy_after_a_rejected_block(rt: HostRuntime) -> Result<(), Fail> {
     let mut spec = sdsc_cmd23();
     spec.busy = 2;
     let mut card = selected_sd(rt.alloc(), spec)?;

@@ -39,7 +39,7 @@ fn tells_the_response_of_a_command(rt: HostRuntime) {
 }
 
 #[test]
-fn tells_the_data_behind_a_command(rt: HostRuntime) {
+fn tells_the_data_after_a_command(rt: HostRuntime) {
     let sectors = |blocks| Data::Read {
         length: 512,
         blocks,

@@ -31,7 +31,7 @@ use Rattle.nbd_server.specs.Acts.{answered_by, answers_bytes, asked_by, bytes_by
 use Rattle.nbd_server.specs.Acts.{reply_to, times}
 use Rattle.nbd_server.specs.Acts.Act.{Asks, AsksPart, Clears, Gathers, Gives, Says, Turns}
 use Rattle.nbd_server.specs.Desk.{AnswersEach, AreNumbered, DeskView, Does, Leads, pending}
-use Rattle.nbd_server.proofs.TimesLemmas.{load, load_answered, load_merged, load_more, load_then, no_times, numbered_behind}
+use Rattle.nbd_server.proofs.TimesLemmas.{load, load_answered, load_merged, load_more, load_then, no_times, numbered_after}
 use Rattle.nbd_server.proofs.TimesLemmas.{numbered_front, numbered_merged, numbered_more, numbered_then, times_then}
 
 -- More acts.
@@ -190,9 +190,9 @@ pub turn_numbered : (k : List ℕ) (waits served waits_new served_new : List Wai
     → AreNumbered k (waits_new ++ served_new)
 turn_numbered k waits served waits_new served_new given h numbered =
     let (started, waiting) = started_numbered k waits served waits_new h.started h.start
-    (numbered_front k waits served numbered) (numbered_behind k waits served numbered) in
+    (numbered_front k waits served numbered) (numbered_after k waits served numbered) in
     numbered_then k waits_new served_new waiting
-    (numbered_behind k h.answered served_new (subst (AreNumbered k) h.served started))
+    (numbered_after k h.answered served_new (subst (AreNumbered k) h.served started))
 
 pub turned : {B : Type 0} (view : B → BusView) (pace : Pace) (old new : DeskView B) (given : List Completion)
     → IsTurn view pace old.device given new.device → new.cookies ≡ old.cookies
@@ -238,7 +238,7 @@ queue_once : (k : List ℕ) (cookie x : ℕ) (waits served : List Waiting) (w : 
 queue_once k cookie x waits served w number numbered =
     let l = k ++ cookie ∷ [] in
     let waiting = load_more k cookie x waits (numbered_front k waits served numbered) in
-    let serving = load_more k cookie x served (numbered_behind k waits served numbered) in
+    let serving = load_more k cookie x served (numbered_after k waits served numbered) in
     let his : cookie_under l w.client ≡ cookie = get_or_push k cookie 0 w.client (sym number) in
     let one : load l x (w ∷ []) ≡ times x (cookie ∷ []) = ap (λ c. times x (c ∷ [])) his in
     let was = load_then k x waits served in
@@ -267,7 +267,7 @@ queued_numbered k old new cookie ticket client request number queues numbered =
     let w : Waiting = record { ticket = old.next; client = client; request = request } in
     let longer = length-append k (cookie ∷ []) in
     let waiting = numbered_more k cookie old.waits (numbered_front k old.waits served numbered) in
-    let serving = numbered_more k cookie served (numbered_behind k old.waits served numbered) in
+    let serving = numbered_more k cookie served (numbered_after k old.waits served numbered) in
     let l = k ++ cookie ∷ [] in
     rw queues.waits
     (numbered_then l (old.waits ++ w ∷ []) served

@@ -42,8 +42,8 @@ slice_stays a d xs ys le =
     ∙ take-append-le a (drop d xs) ys (omega (arith, le, length-drop d xs))
 
 -- what is put after is found there
-pub slice_behind : (a d : ℕ) (xs ys : List ℕ) → length xs ≡ d → length ys ≡ a → take a (drop d (xs ++ ys)) ≡ ys
-slice_behind a d xs ys at long =
+pub slice_after : (a d : ℕ) (xs ys : List ℕ) → length xs ≡ d → length ys ≡ a → take a (drop d (xs ++ ys)) ≡ ys
+slice_after a d xs ys at long =
     ap (take a) (ap (λ k. drop k (xs ++ ys)) (sym at) ∙ drop-append_seam xs ys) ∙ take_all a ys (omega (arith, long))
 
 -- Bytes of parts that are joined one after the other.
@@ -81,7 +81,7 @@ joined given count parts k bytes piece all lt long one before now =
       c,
       among,
       client,
-      answer ∙ ap Data (sym (slice_behind (512 * sectors_of count k) (8192 * k) bytes piece
+      answer ∙ ap Data (sym (slice_after (512 * sectors_of count k) (8192 * k) bytes piece
           (long ∙ begins_there count parts k all lt) one)),
     ))
 
@@ -194,8 +194,8 @@ lacks_moved Wanted given all n moved (inl none) = inl (λ answer has. none answe
 lacks_moved Wanted given all n moved (inr (answer, has, other)) =
     inr (answer, has_moved all given n answer (IsPermutation-sym given all moved) has, other)
 
-gathered_behind : (xs ys : List Act) → gathered xs ≡ [] → gathered (xs ++ ys) ≡ gathered ys
-gathered_behind xs ys none = gathered_then xs ys ∙ ap (λ zs. zs ++ gathered ys) none
+gathered_after : (xs ys : List Act) → gathered xs ≡ [] → gathered (xs ++ ys) ≡ gathered ys
+gathered_after xs ys none = gathered_then xs ys ∙ ap (λ zs. zs ++ gathered ys) none
 
 accepted_before : (xs ys : List Act) → accepted ys ≡ [] → accepted (xs ++ ys) ≡ accepted xs
 accepted_before xs ys none = accepted_then xs ys ∙ ap (λ zs. accepted xs ++ zs) none ∙ append-nil (accepted xs)
@@ -208,7 +208,7 @@ window_read part start count parts xs ys all bytes none whole asked (nothing, ke
   all = whole;
   asked = accepted_before xs ys nothing ∙ asked;
   long = omega (arith, long, whole.0);
-  answered = λ n less. subst (λ given. Has given n (Data (bytes_of_part bytes count n))) (sym (gathered_behind xs ys none))
+  answered = λ n less. subst (λ given. Has given n (Data (bytes_of_part bytes count n))) (sym (gathered_after xs ys none))
       (has_moved all (gathered ys) n (Data (bytes_of_part bytes count n)) (IsPermutation-sym (gathered ys) all kept) (answered n less));
 }
 
@@ -219,7 +219,7 @@ window_written part start count parts xs ys all bytes none whole asked (nothing,
   parts = parts;
   all = whole;
   asked = accepted_before xs ys nothing ∙ asked;
-  done = λ n less. subst (λ given. Has given n Done) (sym (gathered_behind xs ys none)) (has_moved all (gathered ys) n Done (IsPermutation-sym (gathered ys) all kept) (done n less));
+  done = λ n less. subst (λ given. Has given n Done) (sym (gathered_after xs ys none)) (has_moved all (gathered ys) n Done (IsPermutation-sym (gathered ys) all kept) (done n less));
 }
 
 -- a part of it failed
@@ -236,7 +236,7 @@ window_failed each parts xs ys all n none asked (nothing, kept) less lacks =
       request = each n;
       some = rw same (rw (length_firsts each parts) less);
       asked = rw same (firsts_at each parts n (each n) less);
-      lacks = rw (gathered_behind xs ys none) (lacks_moved (IsWanted (each n)) (gathered ys) all n kept lacks);
+      lacks = rw (gathered_after xs ys none) (lacks_moved (IsWanted (each n)) (gathered ys) all n kept lacks);
     }
 
 -- after others
@@ -321,11 +321,11 @@ window_more windows count n acts more bytes piece h = record {
       ∙ ap (λ xs. xs ++ (piece ++ [])) h.of_bytes ∙ ap (λ xs. bytes ++ xs) (append-nil piece);
 }
 
-place_behind : (done n m : ℕ) → m ≡ 512 * done + 512 * n - 512 * done → 512 * (done + n) ≡ 512 * done + m
-place_behind done n m same = omega (arith, same)
+place_after : (done n m : ℕ) → m ≡ 512 * done + 512 * n - 512 * done → 512 * (done + n) ≡ 512 * done + m
+place_after done n m same = omega (arith, same)
 
 -- the first bytes, and then those of the next window
 pub bytes_next : (done n m : ℕ) (bytes : List ℕ) → m ≡ 512 * done + 512 * n - 512 * done
     → take (512 * (done + n)) bytes ≡ take (512 * done) bytes ++ take m (drop (512 * done) bytes)
 bytes_next done n m bytes same =
-    ap (λ k. take k bytes) (place_behind done n m same) ∙ take-add (512 * done) m bytes
+    ap (λ k. take k bytes) (place_after done n m same) ∙ take-add (512 * done) m bytes

@@ -88,9 +88,9 @@ served_asks export header given acts (plan, its, (turns, own, are, whole, is)) =
     ∙ ap (λ cs. cs ++ asked own) (turns_ask_nothing turns are)
     ∙ own_asks export.part header.cookie plan own is
 
-pub behind_turns : (export : Export) (header : RequestHeader) (given : Option (List ℕ)) (xs ys : List Act) → AreTurns xs
+pub after_turns : (export : Export) (header : RequestHeader) (given : Option (List ℕ)) (xs ys : List Act) → AreTurns xs
     → IsServedBy export header given ys → IsServedBy export header given (xs ++ ys)
-behind_turns export header given xs ys before (plan, its, (turns, own, are, whole, is)) = (
+after_turns export header given xs ys before (plan, its, (turns, own, are, whole, is)) = (
   plan,
   its,
   (
@@ -149,9 +149,9 @@ none_taken export input = record {
 }
 
 -- turns between requests
-pub turns_behind : (export : Export) (old left : Option (List ℕ)) (acts more : List Act) (served : List Served)
+pub turns_after : (export : Export) (old left : Option (List ℕ)) (acts more : List Act) (served : List Served)
     → AreTakenUp export old left acts served → AreTurns more → AreTakenUp export old left (acts ++ more) served
-turns_behind export old left acts more served h are = record {
+turns_after export old left acts more served h are = record {
   read = h.read;
   each = h.each;
   cookies = asked_then acts more
@@ -179,7 +179,7 @@ taken_more export old between left acts more served header behind next given h i
           (ap (λ bs. flat_map all_bytes served ++ bs) (sym (append-nil next)) ∙ sym (flat_map-append all_bytes served (one ∷ [])))
           (consumes_then old between left (flat_map all_bytes served) next h.read read);
       each = All-append (IsServed export) served (one ∷ []) h.each (All-cons (IsServed export) one []
-          (behind, given, is, its, behind_turns export header given h.turns more h.are_turns by) (All-nil (IsServed export)));
+          (behind, given, is, its, after_turns export header given h.turns more h.are_turns by) (All-nil (IsServed export)));
       cookies = asked_then acts more
           ∙ ap (λ cs. cs ++ asked more) h.cookies
           ∙ ap (λ cs. map cookie served ++ cs) (served_asks export header given more by)

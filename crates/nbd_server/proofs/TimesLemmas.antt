@@ -66,10 +66,10 @@ pub numbered_front : (cookies : List ℕ) (ws vs : List Waiting) → AreNumbered
 numbered_front cookies [] vs h = tt
 numbered_front cookies (w ∷ ws) vs h = (h.0, numbered_front cookies ws vs h.1)
 
-pub numbered_behind : (cookies : List ℕ) (ws vs : List Waiting) → AreNumbered cookies (ws ++ vs)
+pub numbered_after : (cookies : List ℕ) (ws vs : List Waiting) → AreNumbered cookies (ws ++ vs)
     → AreNumbered cookies vs
-numbered_behind cookies [] vs h = h
-numbered_behind cookies (w ∷ ws) vs h = numbered_behind cookies ws vs h.1
+numbered_after cookies [] vs h = h
+numbered_after cookies (w ∷ ws) vs h = numbered_after cookies ws vs h.1
 
 pub numbered_merged : (cookies : List ℕ) (zs xs ys : List Waiting) → IsMerged zs xs ys → AreNumbered cookies zs
     → AreNumbered cookies xs × AreNumbered cookies ys

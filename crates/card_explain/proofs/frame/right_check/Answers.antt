@@ -1,5 +1,5 @@
-use Rattle.card_explain.proofs.FrameLemmas.{check_behind_zeros}
+use Rattle.card_explain.proofs.FrameLemmas.{check_after_zeros}
 use Rattle.card_explain.proofs.frame.right_check.Goals as goal
 
 pub returns : goal.returns
-returns c = check_behind_zeros c.args.frame.now c.with_check-register.result c.with_check-register.ensures.value
+returns c = check_after_zeros c.args.frame.now c.with_check-register.result c.with_check-register.ensures.value

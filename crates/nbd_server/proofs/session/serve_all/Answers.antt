@@ -2,7 +2,7 @@ use Rattle.std.proofs.Common.{[], ap, append-nil, arith, inl, inr, length-append
 use Rattle.nbd_server.specs.Acts.{AreTurns}
 use Rattle.nbd_server.specs.Served.{Served}
 use Rattle.nbd_server.proofs.DeskLemmas.{does_none, does_then}
-use Rattle.nbd_server.proofs.SessionLemmas.{behind_turns, does_broken, if_no_ok, ends_as, if_some_mapped, none_taken, taken_more, turns_behind}
+use Rattle.nbd_server.proofs.SessionLemmas.{after_turns, does_broken, if_no_ok, ends_as, if_some_mapped, none_taken, taken_more, turns_after}
 use Rattle.nbd_server.proofs.session.serve_all.Goals as goal
 
 pub loop-served-init : goal.loop-served-init
@@ -31,7 +31,7 @@ loop-served-preserved g c =
       does = does_then g.B.Bus.view _ _ _ _ _ _ tt _ so_far.acts (ys ++ zs) so_far.does
           (does_then g.B.Bus.view _ _ _ _ _ _ tt _ ys zs first second);
       taken = taken_more _ _ _ _ so_far.acts (ys ++ zs) so_far.served message.header behind next _ so_far.taken is
-          (if_some_mapped message.given _ _ its) (behind_turns _ message.header _ ys zs turns by) read;
+          (if_some_mapped message.given _ _ its) (after_turns _ message.header _ ys zs turns by) read;
       count = omega (arith, longer, count);
     }
 
@@ -55,7 +55,7 @@ returns-in-Ok-None g c =
       (
         _,
         so_far.served,
-        turns_behind _ _ _ so_far.acts ys so_far.served so_far.taken turns,
+        turns_after _ _ _ so_far.acts ys so_far.served so_far.taken turns,
         ([], read, inl (inl (refl, end))),
       ),
     )
@@ -66,7 +66,7 @@ returns-in-Err g c =
     let (ys, turns, first) = c.in_ok-settle.ensures.does in (
       so_far.acts ++ ys,
       does_then g.B.Bus.view _ _ _ _ _ _ tt _ so_far.acts ys so_far.does first,
-      (_, so_far.served, turns_behind _ _ _ so_far.acts ys so_far.served so_far.taken turns, ends_as _ _ _ so_far.served c.in-Err.ensures.fault),
+      (_, so_far.served, turns_after _ _ _ so_far.acts ys so_far.served so_far.taken turns, ends_as _ _ _ so_far.served c.in-Err.ensures.fault),
     )
 
 pub returns-in_err-serve_message : goal.returns-in_err-serve_message
@@ -97,7 +97,7 @@ returns-then-not-branch g c =
       (
         _,
         so_far.served,
-        turns_behind _ _ _ so_far.acts (ys ++ zs) so_far.served so_far.taken more,
+        turns_after _ _ _ so_far.acts (ys ++ zs) so_far.served so_far.taken more,
         (next, read, inl (inr (c.in-Ok-Some.message.header, behind, ends, is))),
       ),
     )

@@ -1,6 +1,6 @@
 use Rattle.std.proofs.Common.{◌++◌}
 use Rattle.nbd_server.proofs.DeskLemmas.{does_then}
-use Rattle.nbd_server.proofs.SessionLemmas.{does_broken, does_flushed, if_no_ok, turns_behind}
+use Rattle.nbd_server.proofs.SessionLemmas.{does_broken, does_flushed, if_no_ok, turns_after}
 use Rattle.nbd_server.proofs.session.serve_export.Goals as goal
 
 pub returns-in_err-ended : goal.returns-in_err-ended
@@ -44,5 +44,5 @@ returns g c =
       acts ++ more,
       does_flushed g.B.Bus.view _ _ _ _ _ tt _ (acts ++ more)
           (does_then g.B.Bus.view _ _ _ _ _ _ tt _ acts more does drains) c.in_ok-flush.ensures,
-      (c.in_ok-drain.ensures.none, (left, served, turns_behind _ _ _ acts more served taken turns, ends)),
+      (c.in_ok-drain.ensures.none, (left, served, turns_after _ _ _ acts more served taken turns, ends)),
     )
