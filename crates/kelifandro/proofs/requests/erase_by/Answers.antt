@@ -7,7 +7,8 @@ use Rattle.mmc_switch.specs.Stands.{info_of}
 use Rattle.mmc_host.specs.Hosts.{bus_over}
 use Rattle.mmc_story.specs.Story.{host_with}
 use Rattle.mmc_calls.specs.Noted.{IsCounted}
-use Rattle.mmc_direct.specs.Refusal.{action_of, refusal}
+use Rattle.mmc_direct.specs.Refusal.{refusal}
+use Rattle.mmc_requests.specs.Kinds.{kind_of_how}
 use Rattle.mmc_direct.specs.Served.{IfServed, refusal_in}
 use Rattle.std.proofs.Common.{◌≡◌}
 use Rattle.kelifandro.proofs.CallLemmas.{as_noted, holds_as_noted, noted_again}
@@ -37,7 +38,7 @@ pub returns-clause-judged : goal.returns-clause-judged
 returns-clause-judged g c =
     as_noted c.args.card.now c.args.part c.in_ok-stands.stands c.in_ok-stands.part c.in_ok-stands.ensures.stands
     c.in_ok-stands.ensures.part
-    (λ stands part. refusal_in c.erase_over-answer.result.0 ≡ refusal (action_of c.args.how) (info_of stands) part c.args.start c.args.count)
+    (λ stands part. refusal_in c.erase_over-answer.result.0 ≡ refusal (kind_of_how c.args.how) (info_of stands) part c.args.start c.args.count)
     c.erase_over-answer.ensures.refused
 
 pub returns-clause-counted : goal.returns-clause-counted

@@ -12,7 +12,7 @@ use Rattle.mmc_direct.specs.Requests.{HasRead}
 use Rattle.mmc_host.specs.Hosts.{bus_over}
 use Rattle.mmc_story.specs.Story.{host_with}
 use Rattle.mmc_direct.specs.Refusal.{refusal}
-use Rattle.mmc_direct.specs.declared.action.Action.TheVariants.{Read}
+use Rattle.mmc_requests.specs.declared.kind.Kind.TheVariants.{Read}
 use Rattle.mmc_switch.specs.Stands.{info_of}
 use Rattle.kelifandro.proofs.CallLemmas.{as_noted, holds_as_noted, same_memory, unread_again}
 use Rattle.kelifandro.proofs.requests.read_by.Goals as goal

@@ -2,11 +2,11 @@ use Rattle.std.proofs.lemmas.Bool.{false≢true}
 use Rattle.std.proofs.Common.{◌≡◌, length}
 use Rattle.std.specs.Prelude.{IfOk}
 use Rattle.mmc_calls.specs.Noted.{IsCounted, IsServed}
-use Rattle.mmc_direct.specs.Changes.{written_at}
+use Rattle.mmc_requests.specs.Changes.{written_at}
 use Rattle.mmc_direct.specs.Refusal.{refusal}
 use Rattle.mmc_direct.specs.Requests.{HasChanged}
 use Rattle.mmc_direct.specs.Served.{IfServed, refusal_in}
-use Rattle.mmc_direct.specs.declared.action.Action.TheVariants.{Write}
+use Rattle.mmc_requests.specs.declared.kind.Kind.TheVariants.{Write}
 use Rattle.mmc_host.specs.Hosts.{bus_over}
 use Rattle.mmc_story.specs.Story.{host_with}
 use Rattle.mmc_switch.specs.Stands.{info_of}
