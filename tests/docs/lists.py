@@ -31,6 +31,17 @@ def definitions_that_differ(documents):
         yield from (f"{name} is marked {mark}, and isn't reached" for name in sorted(marked - due))
 
 
+def faults_that_are_not(documents):
+    """Each fault of the card relation, a constructor of a step, stands in both tables of faults."""
+    steps = re.findall(r"^pub data (\w+Step)\b(.*?)(?=^pub data|\Z)", source("crates/mmc_card/specs/Faults.antt"), re.M | re.S)
+    for step, text in steps:
+        for fault in set(re.findall(r"^  (\w+) : ", text, re.M)) - {"faithful", "brownout"}:
+            if f"`{step}.{fault}`" not in documents.texts["docs/ARCHITECTURE.md"]:
+                yield f"docs/ARCHITECTURE.md, \"Where a fault lives\", hasn't {step}.{fault}"
+            if f"`{fault}`" not in section(documents.texts["docs/STANDARD.md"], "Faults"):
+                yield f"docs/STANDARD.md, \"Faults\", hasn't {fault}"
+
+
 def commands_that_are_not(documents):
     """Each command of a code block is there, and each option of cardtool's."""
     options = set(re.findall(r"--[a-z][\w-]*", " ".join(source(name) for name in files() if re.match(r"crates/card\w*/src/", name))))
@@ -47,4 +58,4 @@ def commands_that_are_not(documents):
                     yield f"{place}: cardtool has no {option}"
 
 
-CHECKS = [code_that_differs, definitions_that_differ, commands_that_are_not]
+CHECKS = [code_that_differs, definitions_that_differ, faults_that_are_not, commands_that_are_not]
