@@ -92,10 +92,10 @@ mmc_wanted : (wanted : Wanted) (registers : Registers) (ocr cid number sectors b
     → csd ≡ checked_register number → block ≡ new_ext_csd sectors boot gp wanted.high_speed
     → registers ≡ mmc_registers ocr (checked_register cid) csd block
     → (let made = mmc_registers ocr (checked_register cid) (checked_register number)
-      (new_ext_csd sectors boot gp wanted.high_speed) in
-      (boot < 256 → IsCardOf Is.Mmc wanted.sectors made)
-      → (wanted.boot ≡ boot * 256 → wanted.gp ≡ gp * 1024 → wanted.gp ≤ most → HasPartitions wanted (made_of made))
-      → is_read_only (made_of made) ≡ wanted.read_only → HasWanted wanted registers)
+    (new_ext_csd sectors boot gp wanted.high_speed) in
+    (boot < 256 → IsCardOf Is.Mmc wanted.sectors made)
+    → (wanted.boot ≡ boot * 256 → wanted.gp ≡ gp * 1024 → wanted.gp ≤ most → HasPartitions wanted (made_of made))
+    → is_read_only (made_of made) ≡ wanted.read_only → HasWanted wanted registers)
 mmc_wanted wanted registers ocr cid number sectors boot gp most csd block beside boot_is gp_is csd_is block_is is card partitions
     protection =
     let ext = new_ext_csd sectors boot gp wanted.high_speed in
