@@ -68,10 +68,10 @@ returns-in-Read c = record {
   of = search rules;
   session_is = search rules;
   bounded =
-      let most = c.begin_run.ensures.bounded in
+      let most = c.begin.ensures.bounded in
       let short = c.requires.joined.short (ap can_merge c.in-Read.is) in
       omega (arith, most, short);
-  under_way = λ view ready. c.begin_run.ensures.running view _ ready;
+  under_way = λ view ready. c.begin.ensures.running view _ ready;
 }
 
 pub returns-in-Write : goal.returns-in-Write
@@ -79,8 +79,8 @@ returns-in-Write c = record {
   of = search rules;
   session_is = search rules;
   bounded =
-      let most = c.begin_run-in-Write.ensures.bounded in
+      let most = c.begin-in-Write.ensures.bounded in
       let short = c.requires.joined.short (ap can_merge c.in-Write.is) in
       omega (arith, most, short);
-  under_way = λ view ready. c.begin_run-in-Write.ensures.running view _ ready;
+  under_way = λ view ready. c.begin-in-Write.ensures.running view _ ready;
 }

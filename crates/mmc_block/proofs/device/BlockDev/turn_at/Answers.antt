@@ -174,7 +174,7 @@ returns-in-Serving g c =
     let started = started_most c.args.pace c.self.inside.queue c.start.new.queue (service_of c.self.inside.phase c.self.inside.attempt) c.in-Serving.field-0 attempt (begun g c) in
     rw (← c.self.view_is) record {
       machine = λ kept. turn_serves g.B.Bus.view c.self.inside.bus c.step.new.bus c.self.inside.info (service_of c.self.inside.phase c.self.inside.attempt) (service_of c.conclude.new.phase c.conclude.new.attempt)
-          c.self.inside.queue c.start.new.queue c.self.inside.next c.self.inside.healed c.note.new.healed c.in-Serving.field-0 attempt (after g c) change
+          c.self.inside.queue c.start.new.queue c.self.inside.next c.self.inside.healed c.count_attempt.new.healed c.in-Serving.field-0 attempt (after g c) change
           (outcome g c) c.conclude.new.answers.items c.self.invariant.ok (begun g c) (after_ok g c)
           serves.3
           (lent_waits attempt.group.members.items c.step.new.group.members.items
@@ -197,5 +197,5 @@ returns-in-Serving g c =
       healed = λ some. turn_heals g.B.Bus.view _ _ c.self.inside.queue c.start.new.queue c.in-Serving.field-0 attempt (after g c)
           (outcome g c) c.conclude.new.answers.items c.step.new.healed (begun g c) (after_ok g c).joined.some
           (stepped g c).advances.goes_on (c.conclude.ensures.concludes c.in-Serving.field-0) (heals g c)
-          (c.note.ensures c.in-Serving.field-0);
+          (c.count_attempt.ensures c.in-Serving.field-0);
     }
