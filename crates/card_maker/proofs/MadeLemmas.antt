@@ -5,7 +5,7 @@ use Rattle.std.specs.Prelude.{◌==◌, nat_le, not}
 use Rattle.std.proofs.lemmas.Bool.{and_from, le-leb, ne_eqb}
 use Rattle.mmc_frame.specs.declared.kind.Kind.{Kind}
 use Rattle.mmc_frame.specs.declared.kind.Kind.TheVariants as Is
-use Rattle.mmc_card.specs.Made.{user_sectors}
+use Rattle.mmc_card.specs.Made.{is_read_only, user_sectors}
 use Rattle.mmc_card_sim.specs.CardSpec.{has_early_bits, has_user_sectors, image_is_taken, refusal_of, registers_are_taken}
 use Rattle.mmc_card_sim.specs.CardSpec.{sizes_of, takes_image}
 use Rattle.mmc_card_sim.specs.Registers.{made_of}
