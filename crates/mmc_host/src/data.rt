@@ -4,7 +4,7 @@ ghost use Rattle.mmc_host.specs.Together.{AreAhead, AreBehind};
 ghost use Rattle.mmc_host.specs.HostStates.{less_by, less_one};
 ghost use Rattle.mmc_host.specs.Table.{blocks_of, data_of};
 
-use mmc_card::{Carried, Command, row_of};
+use mmc_card::Command;
 
 /// The data after a command, over the data lines.
 #[derive(Clone, Copy, Debug, PartialEq, Eq)]
@@ -98,16 +98,27 @@ fn blocks_of(count: u16, moved: u16) -> u16
 pub fn data_of(command: Command, count: u16, moved: u16) -> Data
     ensures { result ≡ data_of command count moved }
 {
-    match row_of(command).carries {
-        Carried::Nothing => Data::Nothing,
-        Carried::ReadOne(length) => Data::Read { length, blocks: 1 },
-        Carried::ReadSeveral => Data::Read {
+    match command {
+        Command::SendScr => Data::Read {
+            length: 8,
+            blocks: 1,
+        },
+        Command::SwitchFunc => Data::Read {
+            length: 64,
+            blocks: 1,
+        },
+        Command::SendExtCsd | Command::ReadSingleBlock => Data::Read {
+            length: 512,
+            blocks: 1,
+        },
+        Command::ReadMultipleBlock => Data::Read {
             length: 512,
             blocks: blocks_of(count, moved),
         },
-        Carried::WriteOne => Data::Write { blocks: 1 },
-        Carried::WriteSeveral => Data::Write {
+        Command::WriteBlock => Data::Write { blocks: 1 },
+        Command::WriteMultipleBlock => Data::Write {
             blocks: blocks_of(count, moved),
         },
+        _ => Data::Nothing,
     }
 }
