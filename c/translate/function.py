@@ -10,6 +10,11 @@ from .types import declared, type_of
 SHORT_MOVE = 32
 
 
+def has_nothing(value):
+    """A number in it may be any."""
+    return isinstance(value.what, Nothing) or isinstance(value.what, tuple) and any(map(has_nothing, value.what))
+
+
 class FunctionWriter:
     """A function's text, by what the core knows of names, tables, helpers and calls."""
 
@@ -49,6 +54,8 @@ class FunctionWriter:
     def constant(self, value):
         if value.type == 'ptr':
             return Expression('(uint8_t *)0')
+        if isinstance(value.what, tuple):
+            return Expression('(%s){%s}' % (type_of(value.type), ', '.join(self.constant(field).text for field in value.what)))
         if isinstance(value.type, tuple):
             raise Refused('a struct that is constant')
         return number(value.what, value.type)
@@ -259,7 +266,7 @@ class FunctionWriter:
             given = made.values[made.more.index(name)]
             value = self.guarded(lambda made: self.operand(given), made)
             if value.text != self.variable(made.name):
-                copies.append((made.type, self.variable(made.name), value, ' /* any */' * isinstance(given.what, Nothing)))
+                copies.append((made.type, self.variable(made.name), value, ' /* any */' * has_nothing(given)))
         while copies:
             free = next((copy for copy in copies if not any(copy[1] in other[2].reads for other in copies if other is not copy)), None)
             if free is None:

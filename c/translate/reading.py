@@ -148,7 +148,19 @@ class Line:
             return Value('#', 1, kind)
         if re.fullmatch(r'-?\d+', word) and kind != 'ptr':
             return Value('#', int(word) % (1 << bits(kind)), kind)
+        if word == '{' and kind[0] == 'struct':
+            return Value('#', self.fields(), kind)
         raise self.refused('a value that is unknown')
+
+    def fields(self):
+        """The fields of a struct that is constant."""
+        values = []
+        while not self.take('}'):
+            values.append(self.typed())
+            if values[-1].kind != '#':
+                raise self.refused('a struct that is no constant')
+            self.take(',')
+        return tuple(values)
 
     def typed(self):
         kind = self.type()
