@@ -279,6 +279,11 @@ void kelifandro_close(struct kelifandro *kelifandro);
 /* The size of a partition in sectors of 512 bytes, 0 where there is no such one, or the card isn't open. */
 uint64_t kelifandro_sectors(const struct kelifandro *kelifandro, enum kelifandro_part part);
 
+/* What a request answers is the first of these that holds, and then no command was sent: NO_HOST; NO_PARTITION, where the number is that of
+   none; NOT_OPEN; by registers NO_BASE_CLOCK; NO_PARTITION, where the card hasn't it; COUNT; OUT_OF_RANGE; of all but a read READ_ONLY; of
+   an erase or a trim NOT_ERASABLE. Else it is DONE, or FAILED_ANSWER to FAILED_RECOVERY. kelifandro_open answers DONE, NO_HOST,
+   NO_BASE_CLOCK or one of the others. */
+
 /* Reads or writes 1 to 65,535 sectors. `bytes` has room for all of them; of no sector (KELIFANDRO_COUNT) it may be null. */
 int32_t kelifandro_read(struct kelifandro *kelifandro, enum kelifandro_part part, uint64_t start, size_t count, void *bytes);
 int32_t kelifandro_write(struct kelifandro *kelifandro, enum kelifandro_part part, uint64_t start, size_t count,

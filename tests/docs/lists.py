@@ -10,13 +10,17 @@ def section(text, title):
 
 
 def code_that_differs(documents):
-    """The code under "A driver in Rattle" is that of crates/example_device, paragraph by paragraph."""
+    """The code under "A driver in Rattle" is that of crates/example_device, paragraph by paragraph, and has the whole driver."""
     sources = [path.read_text() for path in (TOP / "crates/example_device/src").glob("*.rt")]
     porting = section(documents.texts["docs/PORTING.md"], "A driver in Rattle")
     for block in re.findall(r"(?:^    .*\n)(?:(?:    .*)?\n)*", porting, re.M):
         for paragraph in re.split(r"\n\n+", re.sub(r"^    ", "", block, flags=re.M).strip("\n")):
             if not any(paragraph in text for text in sources):
                 yield f"docs/PORTING.md has code that the example hasn't:\n{paragraph}"
+    shown = re.sub(r"^    ", "", porting, flags=re.M)
+    for paragraph in re.split(r"\n\n+", source("crates/example_device/src/driver.rt").strip("\n"))[1:]:
+        if paragraph not in shown:
+            yield f"crates/example_device/src/driver.rt has code that docs/PORTING.md hasn't:\n{paragraph}"
 
 
 def definitions_that_differ(documents):

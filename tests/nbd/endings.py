@@ -121,22 +121,23 @@ def saves_a_part(trial):
 
 
 def begins_nothing(trial):
-    """What is wrong before the session is one line and status 2."""
+    """What is wrong before the session is one line and status 2, with a second one about the file or the word where that says more."""
     card, there = trial.file("card", cards.SD), trial.file("there", b"mine")
     short = trial.file("short", bytes(SD_BYTES - 512))
-    for label, words in [("a save that is there", [card, "--save", there]), ("an image that isn't there", [card, "--image", card + "-none"]),
-                         ("a short image", [card, "--image", short]), ("no card file", [card + "-none"]),
-                         ("a locked card", [trial.file("card", cards.LOCKED)]),
-                         ("a save that can't be made", [card, "--save", card + "/saved"])]:
+    for label, said, words in [("a save that is there", 2, [card, "--save", there]),
+                               ("an image that isn't there", 2, [card, "--image", card + "-none"]),
+                               ("a short image", 2, [card, "--image", short]), ("no card file", 2, [card + "-none"]),
+                               ("a locked card", 2, [trial.file("card", cards.LOCKED)]),
+                               ("a save that can't be made", 1, [card, "--save", card + "/saved"])]:
         with Session(trial, *words) as session:
             session.close_input()
-            ends_badly(trial, label, session)
+            ends_badly(trial, label, session, said)
     trial.want("the file that was there", Path(there).read_bytes(), b"mine")
-    for words in (["--part", "nonsense"], ["--part"], ["--script", card]):
+    for said, words in ((1, ["--part", "nonsense"]), (2, ["--part"]), (2, ["--script", card])):
         with Session(trial, card, *words) as session:
             session.close_input()
             rest, status, lines = session.ended()
-            trial.want(f"words {words}", (rest, status, len(lines)), (b"", 2, 1))
+            trial.want(f"words {words}", (rest, status, len(lines)), (b"", 2, said))
 
 
 def try_all(trial):

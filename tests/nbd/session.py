@@ -196,8 +196,8 @@ def ends_well(trial, name, session):
     trial.want(f"{name}: the end", session.disconnect(), (b"", 0, []))
 
 
-def ends_badly(trial, name, session):
-    """What breaks the session off is one line on standard error, and status 2."""
+def ends_badly(trial, name, session, said=1):
+    """What breaks the session off is one line on standard error, or so many, and status 2."""
     rest, status, lines = session.ended()
-    trial.want(f"{name}: status, lines, how they begin", (status, len(lines), [line[:10] for line in lines]), (2, 1, ["cardtool: "]))
+    trial.want(f"{name}: status, lines, how they begin", (status, len(lines), [line[:10] for line in lines]), (2, said, ["cardtool: "] * said))
     return rest

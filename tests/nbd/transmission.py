@@ -212,7 +212,7 @@ def serves_large_cards(trial):
         trial.want("2 GiB: read", session.read((1 << 31) - 512, 512), (0, b"l" * 512))
         ends_well(trial, "2 GiB", session)
     with Session(trial, trial.file("card", trial.new("--kind", "sd", "--sectors", str((1 << 22) + 1024)))) as session:
-        ends_badly(trial, "more than 2 GiB", session)
+        ends_badly(trial, "more than 2 GiB", session, 2)
     image = trial.path("saved")
     for words in (["--save", image], ["--image", image, "--save", trial.path("saved")]):
         note = trial.path("memory")

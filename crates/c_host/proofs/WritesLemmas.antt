@@ -1,7 +1,7 @@
 -- What C says of blocks that are written: nothing has to be shown of a host that isn't kept.
 use Rattle.std.proofs.Common.{◌<◌, ◌≡◌, ◌≤◌, List, arith, length, refl, suc, zero, ℕ}
 use Rattle.std.specs.Prelude.{Result}
-use Rattle.mmc_bus.specs.Together.{AreAccepted, MovesAtMost, RestsBehind, WrittenOn, accepted_one, none_accepted, writes, writes_none}
+use Rattle.mmc_bus.specs.Together.{AreAccepted, MovesAtMost, RestsAfter, WrittenOn, accepted_one, none_accepted, writes, writes_none}
 use Rattle.mmc_bus.specs.declared.moved.Moved.{Moved}
 use Rattle.mmc_bus.specs.declared.moved.Moved.TheVariants as Move
 use Rattle.mmc_card.specs.CardAnswer.{Silent}
@@ -13,7 +13,7 @@ use Rattle.mmc_host.specs.declared.told.Heard.{Heard}
 use Rattle.mmc_host.specs.declared.told.HostCommand.{HostCommand}
 use Rattle.mmc_host.specs.declared.told.ResponseFault.{ResponseFault}
 
-rests : (k : ℕ) → RestsBehind HostRested k unkept_host unkept_host
+rests : (k : ℕ) → RestsAfter HostRested k unkept_host unkept_host
 rests zero = refl
 rests (suc k) = λ kept. absurd (cc)
 
@@ -27,7 +27,7 @@ all_accepted blocks (suc k) few =
 module _ (command : HostCommand) (blocks : List (List ℕ)) (heard : Result Heard ResponseFault) where
   pub none_went : WritesWith unkept_host command blocks heard (Move.Good 0) unkept_host
   none_went = record {
-    behind = unkept_host;
+    between = unkept_host;
     sent = λ kept. absurd (cc);
     unheard = λ silent. refl;
     written = writes 0 unkept_host none_accepted;
@@ -46,7 +46,7 @@ module _ (command : HostCommand) (blocks : List (List ℕ)) (heard : Result Hear
       → ((got : DataOut) → moved ≡ Move.Failed got → (got ≡ Accepted → ⊥) × (0 < length blocks))
       → WritesWith unkept_host command blocks heard moved unkept_host
   some_went heard_it moved few failed = record {
-    behind = unkept_host;
+    between = unkept_host;
     sent = λ kept. absurd (cc);
     unheard = λ silent. absurd (heard_it silent);
     written = written_on moved few failed;

@@ -13,7 +13,7 @@ use Rattle.mmc_card.specs.declared.exchange.Width.TheVariants.{Eight, Four, One}
 use Rattle.mmc_bus.specs.declared.moved.Moved.{Moved}
 use Rattle.mmc_bus.specs.declared.moved.Moved.TheVariants as Move
 use Rattle.mmc_host.specs.declared.data.Data.{Data}
-use Rattle.mmc_host.specs.declared.data.Data.TheVariants as Behind
+use Rattle.mmc_host.specs.declared.data.Data.TheVariants as After
 use Rattle.mmc_card.specs.declared.response.Response.{Response}
 use Rattle.mmc_card.specs.declared.response.Response.TheVariants as To
 use Rattle.mmc_host.specs.declared.told.Heard.{Heard}
@@ -35,19 +35,19 @@ response_number To.R6 = 5
 response_number To.R7 = 6
 
 abbrev pub data_number : Data → ℕ
-data_number Behind.Nothing = 0
-data_number (Behind.Read size blocks) = 1
-data_number (Behind.Write blocks) = 2
+data_number After.Nothing = 0
+data_number (After.Read size blocks) = 1
+data_number (After.Write blocks) = 2
 
 abbrev pub length_number : Data → ℕ
-length_number Behind.Nothing = 0
-length_number (Behind.Read size blocks) = size
-length_number (Behind.Write blocks) = 512
+length_number After.Nothing = 0
+length_number (After.Read size blocks) = size
+length_number (After.Write blocks) = 512
 
 abbrev pub count_number : Data → ℕ
-count_number Behind.Nothing = 0
-count_number (Behind.Read size blocks) = blocks
-count_number (Behind.Write blocks) = blocks
+count_number After.Nothing = 0
+count_number (After.Read size blocks) = blocks
+count_number (After.Write blocks) = blocks
 
 abbrev pub command_bytes : HostCommand → List ℕ
 command_bytes command =

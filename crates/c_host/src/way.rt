@@ -1,9 +1,9 @@
 // The two ways in for C.
 ghost use Rattle.std.specs.Prelude.{◌<◌, ◌≡◌, IfOk, IsOk, false, length};
 ghost use Rattle.mmc_host.specs.HostStates.{AreMovable, IsFree, IsTold, IsToCome, IsToGo, begun, lines_of};
-ghost use Rattle.mmc_host.specs.Hosts.{CanBeSet, IsSlowEnough, IsUnused, IsWithin, Looks, ReadsBlock, Sends, SetsIos, Waits, Where};
+ghost use Rattle.mmc_host.specs.Hosts.{CanBeSet, IsSlowEnough, IsWithin, Looks, ReadsBlock, Sends, SetsIos, Waits, Where};
 ghost use Rattle.mmc_host.specs.Hosts.{WritesBlock};
-ghost use Rattle.mmc_host.specs.Together.{AreAhead, AreBehind, ReadsWith, WritesWith};
+ghost use Rattle.mmc_host.specs.Together.{AreAhead, AreAfter, ReadsWith, WritesWith};
 ghost use Rattle.mmc_card.specs.declared.response.Response.TheVariants.{R1};
 ghost use Rattle.mmc_sdhci.specs.Controller.{IsAtMost, lines_in};
 ghost use Rattle.mmc_sdhci.specs.Driver.{IsNew, IsReady, speed_limit};
@@ -162,7 +162,7 @@ impl<H: Host> Host for Way<H> {
         requires free { Where (view_of H.view self.old) (IsFree (view_of H.view self.old).state.transfer command) }
         requires told { Where (view_of H.view self.old) (IsTold (view_of H.view self.old).state command) }
         requires clock { Where (view_of H.view self.old) (IsSlowEnough (view_of H.view self.old).state command) }
-        requires behind { AreBehind command.transfer (length (D.blocks blocks.old)) }
+        requires to_come { AreAfter command.transfer (length (D.blocks blocks.old)) }
         ensures reads { ReadsWith D.blocks D.with (view_of H.view self.old) command blocks.old result.0 result.1 blocks.new
             (view_of H.view self.new) }
         ensures speaks { Speaks self.old self.new (TellsReadWith command (D.blocks blocks.new) result.0 result.1) }

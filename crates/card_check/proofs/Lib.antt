@@ -1,7 +1,12 @@
+pub mod AlikeLemmas
+pub mod ByLineLemmas
 pub mod CheckLemmas
 pub mod ContradictionLemmas
+pub mod FaultNoteLemmas
 pub mod FindingLemmas
+pub mod KnowledgeLemmas
 pub mod PrintLemmas
 pub mod RegisterLemmas
 pub mod UnlessLemmas
+pub mod UnopenedLemmas
 pub mod WrongLineLemmas

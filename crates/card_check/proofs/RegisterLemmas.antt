@@ -15,8 +15,9 @@ use Rattle.mmc_regs.specs.declared.fault.RegFault.TheVariants.{Check, Range, Str
 use Rattle.mmc_ext_csd.specs.ExtCsd.{sec_count}
 use Rattle.mmc_card.specs.Made.{or_none, user_sectors}
 use Rattle.mmc_card_sim.specs.CardSpec.{each_register_is_taken, has_access_mode, has_cid, has_csd, has_early_bits, has_erase_unit}
-use Rattle.mmc_card_sim.specs.CardSpec.{has_no_ready_bit, has_ocr, has_short_waits, has_user_sectors, image_is_taken, kind_is_taken}
-use Rattle.mmc_card_sim.specs.CardSpec.{refusal_of, registers_are_taken, works_at_3_3_volts}
+use Rattle.mmc_card_sim.specs.CardSpec.{has_no_ready_bit, has_ocr, has_short_waits, has_user_sectors, image_is_taken_within, kind_is_taken}
+use Rattle.mmc_card_sim.specs.CardSpec.{refusal_within, registers_are_taken, works_at_3_3_volts}
+use Rattle.mmc_card_rows.specs.declared.store.TheConstants.{MAX_LARGE}
 use Rattle.mmc_card_sim.specs.Registers.{ext_csd_of, kind_of, made_of}
 use Rattle.mmc_card_rows.specs.declared.registers.KindRegisters.{KindRegisters}
 use Rattle.mmc_card_rows.specs.declared.registers.KindRegisters.TheVariants.{Mmc, Sd}
@@ -178,12 +179,12 @@ fits true true is h = refl
 fits true false is h = absurd (some _ _ h)
 fits false c is h = cc is
 
-pub silent : (spec : CardSpec) → refusal_of spec ≡ None → contradictions spec ≡ []
+pub silent : (spec : CardSpec) → refusal_within MAX_LARGE spec ≡ None → contradictions spec ≡ []
 silent spec h =
-    two_none _ _ (registers_silent spec (by_none (registers_are_taken spec) (image_is_taken spec) h)) (ap size_text h)
+    two_none _ _ (registers_silent spec (by_none (registers_are_taken spec) (image_is_taken_within MAX_LARGE spec) h)) (ap size_text h)
 
 pub spoken : (spec : CardSpec) → has_short_waits spec ≡ true → has_early_bits spec.early ≡ true
-    → contradictions spec ≡ [] → refusal_of spec ≡ None
+    → contradictions spec ≡ [] → refusal_within MAX_LARGE spec ≡ None
 spoken spec short early h =
     let each = both_none (registers_text spec) _ h in
-    fits (registers_are_taken spec) (image_is_taken spec) (silent_registers spec short early each.0) each.1
+    fits (registers_are_taken spec) (image_is_taken_within MAX_LARGE spec) (silent_registers spec short early each.0) each.1

@@ -15,17 +15,17 @@ use Rattle.std.proofs.lemmas.List.Sums.{count_by-le-length}
 use Rattle.card_text.specs.CardFile.{kind_in}
 use Rattle.card_text.specs.CardLines.{card_line_of}
 use Rattle.card_text.specs.Parts.{left_parts, parts}
-use Rattle.card_text.specs.Script.{line_of, lines}
+use Rattle.card_text.specs.Script.{lines}
 use Rattle.card_text.specs.declared.card_line.CardLine.{CardLine}
 use Rattle.mmc_frame.specs.declared.kind.Kind.{Kind as CardKind}
 use Rattle.card_check.specs.Causes.{wrong_with}
-use Rattle.card_check.specs.WrongLines.{WrongLine, bad_text, bad_texts, good_with, numbered, shown, wrong_from, wrong_lines}
+use Rattle.card_check.specs.WrongLines.{WrongLine, good_with, numbered, shown, wrong_from, wrong_lines}
 use Rattle.card_check.specs.WrongLines.{wrong_text}
 use Rattle.card_check.specs.declared.fault.CheckFault.{CheckFault}
 use Rattle.card_check.specs.declared.finding.Finding.{Finding}
 
 -- a text has one line more than line feeds at most
-lines_few : (text : List ℕ) → length (lines text) ≤ length text + 1
+pub lines_few : (text : List ℕ) → length (lines text) ≤ length text + 1
 unfolding parts
 lines_few text = omega (arith, length-slice_split (λ b. eqb b 10) text, count_by-le-length (λ b. eqb b 10) text)
 
@@ -131,46 +131,3 @@ put_all fs i old now over so_far =
     (sym (append-nil so_far.front)
     ∙ ap (λ xs. so_far.front ++ flat_map wrong_text (map shown xs)) (sym (drop_all i fs over)) ∙ sym so_far.split)
     so_far.printed
-
--- Of a script.
-
--- so many lines were judged, this was written of them, and `left` are those to come
-pub record Reviewed (all left : List (List ℕ)) (most number : ℕ) (front : List ℕ) : Type 0 where
-  pub few : number + length left ≤ most
-  pub whole : bad_texts 1 all ≡ front ++ bad_texts (number + 1) left
-
-pub reviewed_none : (text : List ℕ) → Reviewed (lines text) (lines text) (length text + 1) 0 []
-reviewed_none text = let few = lines_few text in record { few = omega (arith, few); whole = refl }
-
-pub reviewed_few : (all left others : List (List ℕ)) (line : List ℕ) (most number : ℕ) (front : List ℕ)
-    → Reviewed all left most number front → left ≡ line ∷ others → number + 1 ≤ most
-reviewed_few all left others line most number front j first =
-    let few = j.few in
-    let size : length left ≡ suc (length others) = ap length first in
-    omega (arith, few, size)
-
--- what is written of the next line, and after it
-pub reviewed_next : (all left others : List (List ℕ)) (line : List ℕ) (most number : ℕ) (front : List ℕ)
-    → Reviewed all left most number front → left ≡ line ∷ others
-    → bad_texts 1 all ≡ front ++ (bad_text (number + 1) line (line_of line) ++ bad_texts (number + 1 + 1) others)
-unfolding bad_texts
-reviewed_next all left others line most number front j first =
-    j.whole ∙ ap (λ ls. front ++ bad_texts (number + 1) ls) first
-
-pub reviewed_more : (all left others : List (List ℕ)) (line : List ℕ) (most number : ℕ) (front : List ℕ)
-    → Reviewed all left most number front → left ≡ line ∷ others
-    → Reviewed all others most (number + 1) (front ++ bad_text (number + 1) line (line_of line))
-reviewed_more all left others line most number front j first =
-    let few = j.few in
-    let size : length left ≡ suc (length others) = ap length first in
-    record {
-      few = omega (arith, few, size);
-      whole = reviewed_next all left others line most number front j first
-          ∙ sym (append_assoc front (bad_text (number + 1) line (line_of line)) (bad_texts (number + 1 + 1) others));
-    }
-
-pub reviewed_all : (all left : List (List ℕ)) (most number : ℕ) (front : List ℕ)
-    → Reviewed all left most number front → left ≡ [] → front ≡ bad_texts 1 all
-unfolding bad_texts
-reviewed_all all left most number front j none =
-    sym (append-nil front) ∙ sym (j.whole ∙ ap (λ ls. front ++ bad_texts (number + 1) ls) none)

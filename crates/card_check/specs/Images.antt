@@ -1,5 +1,5 @@
 -- Whether an image fits.
-use Rattle.std.specs.Prelude.{ℕ, ◌*◌, ◌-◌, ◌/◌, ◌%◌, ◌==◌, ◌&&◌, ◌++◌, ◌^◌, Bool, List, [], codes, if◌then◌else◌, min, nat_lt}
+use Rattle.std.specs.Prelude.{ℕ, ◌*◌, ◌-◌, ◌/◌, ◌%◌, ◌==◌, ◌&&◌, ◌++◌, ◌^◌, Bool, List, [], codes, if◌then◌else◌, max, min, nat_lt}
 use Rattle.std.specs.Fmt.{decimal}
 use Rattle.mmc_card_sim.specs.declared.spec.TheConstants.{MAX_SECTORS}
 
@@ -7,14 +7,18 @@ use Rattle.mmc_card_sim.specs.declared.spec.TheConstants.{MAX_SECTORS}
 abbrev pub is_image : ℕ → ℕ → Bool
 is_image sectors bytes = (bytes % 512 == 0) && (bytes / 512 == sectors)
 
--- after a number of bytes that no card in memory has
-abbrev pub more_words : ℕ → List ℕ
-more_words bytes = if nat_lt (512 * MAX_SECTORS) bytes then codes " or more" else []
+-- An image is read up to one byte past that of the largest card that `serve` takes, or of this one where it is larger.
+abbrev pub most_bytes : ℕ → ℕ
+most_bytes sectors = min (512 * max sectors MAX_SECTORS) (2 ^ 64 - 1)
+
+-- after a number of bytes that may be more
+abbrev pub more_words : ℕ → ℕ → List ℕ
+more_words sectors bytes = if nat_lt (most_bytes sectors) bytes then codes " or more" else []
 
 -- that so many bytes are another number than those of the sectors
 unfoldable pub image_line : ℕ → ℕ → List ℕ
 image_line sectors bytes =
-    codes "image: " ++ (decimal bytes ++ (more_words bytes ++ (codes " bytes, but the card's partitions have "
+    codes "image: " ++ (decimal bytes ++ (more_words sectors bytes ++ (codes " bytes, but the card's partitions have "
     ++ (decimal (min (512 * sectors) (2 ^ 64 - 1)) ++ (codes " together, 512 for each of "
     ++ (decimal sectors ++ codes " sectors\n"))))))
 

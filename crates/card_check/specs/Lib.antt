@@ -1,9 +1,12 @@
+pub mod ByLines
 pub mod Causes
 pub mod Checks
 pub mod Findings
 pub mod Images
 pub mod Keys
 pub mod Missing
+pub mod Notes
 pub mod Registers
 pub mod Scripts
+pub mod Unopened
 pub mod WrongLines

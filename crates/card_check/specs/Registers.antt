@@ -1,5 +1,5 @@
 -- What is said of the registers of a card that contradict.
-use Rattle.std.specs.Prelude.{◌&&◌, ◌+◌, ◌++◌, ◌/◌, ◌==◌, ◌∷◌, Bool, Err, List, None, Ok, Option, Result, Some, [], codes, if◌then◌else◌, length, not, slice_index, slice_range, ℕ}
+use Rattle.std.specs.Prelude.{◌&&◌, ◌++◌, ◌==◌, ◌∷◌, Bool, Err, List, None, Ok, Option, Result, Some, [], codes, if◌then◌else◌, not, slice_index, slice_range, ℕ}
 use Rattle.std.specs.Fmt.{decimal}
 use Rattle.text_out.specs.Hex.{hex_text}
 use Rattle.mmc_frame.specs.RegisterFrame.{has_end_bit, is_sound_register, with_check}
@@ -8,15 +8,11 @@ use Rattle.mmc_regs.specs.declared.csd.Csd.{Csd}
 use Rattle.mmc_regs.specs.declared.fault.RegFault.{RegFault}
 use Rattle.mmc_regs.specs.declared.fault.RegFault.TheVariants.{Range, Structure}
 use Rattle.mmc_ext_csd.specs.ExtCsd.{sec_count}
-use Rattle.mmc_card.specs.Card.{Card, powered_on, stored}
 use Rattle.mmc_card.specs.Made.{has_sector_addresses, is_mmc}
-use Rattle.mmc_card.specs.declared.part.Part.{Part}
-use Rattle.mmc_card.specs.declared.part.Part.TheVariants.{Boot1, Boot2, Gp1, Gp2, Gp3, Gp4, User}
 use Rattle.mmc_card_sim.specs.CardSpec.{has_access_mode, has_erase_unit, has_no_ready_bit, has_user_sectors}
-use Rattle.mmc_card_sim.specs.CardSpec.{refusal_of, works_at_3_3_volts}
+use Rattle.mmc_card_sim.specs.CardSpec.{refusal_within, works_at_3_3_volts}
 use Rattle.mmc_card_sim.specs.Registers.{ext_csd_of, kind_of, made_of}
-use Rattle.mmc_card_sim.specs.SimView.{first_parts}
-use Rattle.mmc_card_sim.specs.Store.{bytes_of}
+use Rattle.mmc_card_rows.specs.declared.store.TheConstants.{MAX_LARGE}
 use Rattle.mmc_card_rows.specs.declared.registers.KindRegisters.{KindRegisters}
 use Rattle.mmc_card_rows.specs.declared.registers.KindRegisters.TheVariants.{Mmc, Sd}
 use Rattle.mmc_card_rows.specs.declared.registers.Registers.{Registers}
@@ -129,23 +125,9 @@ registers_text spec =
     ++ (ocr_text spec.registers.ocr ++ (kind_text spec.registers.kind spec.registers.ocr ++ sectors_text spec))))
 
 abbrev pub size_text : Option BuildFault → List ℕ
-size_text (Some ImageSize) = line_text (codes "the partitions have more than 65536 sectors together")
+size_text (Some ImageSize) = line_text (codes "the partitions have more than 4194304 sectors together")
 size_text refusal = []
 
 -- and after them that the card is too large
 abbrev pub contradictions : CardSpec → List ℕ
-contradictions spec = registers_text spec ++ size_text (refusal_of spec)
-
--- the card that is built by it
-abbrev pub card_by : CardSpec → Card
-card_by spec = powered_on (made_of spec.registers) (first_parts spec)
-
--- how many sectors a partition of a card has
-abbrev pub sectors_in : Card → Part → ℕ
-sectors_in card part = length (bytes_of (stored card part)) / 512
-
--- and all of them together
-abbrev pub all_sectors : Card → ℕ
-all_sectors card =
-    sectors_in card User + (sectors_in card Boot1 + sectors_in card Boot2)
-    + (sectors_in card Gp1 + sectors_in card Gp2) + (sectors_in card Gp3 + sectors_in card Gp4)
+contradictions spec = registers_text spec ++ size_text (refusal_within MAX_LARGE spec)

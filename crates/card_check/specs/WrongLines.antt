@@ -12,6 +12,7 @@ use Rattle.card_text.specs.declared.text_line.Line.{Line}
 use Rattle.card_text.specs.declared.text_line.Line.TheVariants.{Bad, Says}
 use Rattle.mmc_frame.specs.declared.kind.Kind.{Kind as CardKind}
 use Rattle.card_check.specs.Causes.{wrong_with}
+use Rattle.card_check.specs.ByLines.{by_lines}
 use Rattle.card_check.specs.Findings.{cause_words, wrong_line}
 use Rattle.card_check.specs.Scripts.{event_words}
 use Rattle.card_check.specs.declared.cause.Cause.{Cause}
@@ -64,10 +65,12 @@ abbrev pub bad_text : ℕ → List ℕ → Line ScriptEvent → List ℕ
 bad_text number text Bad = wrong_line (codes "script") number text (event_words text)
 bad_text number text said = []
 
+abbrev pub bad_line : ℕ → List ℕ → List ℕ
+bad_line number text = bad_text number text (line_of text)
+
 -- what is written of these lines, which are counted from a number on
-unfoldable pub bad_texts : ℕ → List (List ℕ) → List ℕ
-bad_texts number [] = []
-bad_texts number (text ∷ others) = bad_text number text (line_of text) ++ bad_texts (number + 1) others
+abbrev pub bad_texts : ℕ → List (List ℕ) → List ℕ
+bad_texts number all = by_lines bad_line number all
 
 -- What goes out.
 

@@ -1,5 +1,5 @@
 // What is wrong with a line.
-ghost use Rattle.std.specs.Prelude.{◌≡◌, option_map};
+ghost use Rattle.std.specs.Prelude.{◌≡◌};
 ghost use Rattle.card_check.specs.Causes.{cause_of_bad, ends_with_return, why_unfit, wrong_with};
 
 use crate::key::Key;

@@ -51,10 +51,10 @@ fn say_quoted(line: &mut Vec<u8>, bytes: &[u8]) -> Result<(), AllocError>
 }
 
 // What stands after the front of a line.
-fn end_words(behind: &[u8]) -> &'static [u8]
-    ensures { result.now ≡ end_words behind.now }
+fn end_words(after: &[u8]) -> &'static [u8]
+    ensures { result.now ≡ end_words after.now }
 {
-    if behind.is_empty() { b"\"" } else { b"\".." }
+    if after.is_empty() { b"\"" } else { b"\".." }
 }
 
 // The front of a line in quotes, with dots where it goes on.
@@ -62,10 +62,10 @@ fn end_words(behind: &[u8]) -> &'static [u8]
 fn say_found(line: &mut Vec<u8>, found: &[u8]) -> Result<(), AllocError>
     ensures { OnOk result (line.new.items ≡ line.old.items ++ found_text found.now) }
 {
-    let (front, behind) = found.split_at(found.len().min(MAX_SHOWN));
+    let (front, after) = found.split_at(found.len().min(MAX_SHOWN));
     line.extend_from_slice(b"\"")?;
     say_quoted(line, front)?;
-    let end = end_words(behind);
+    let end = end_words(after);
     line.extend_from_slice(end)?;
     Ok(())
 }

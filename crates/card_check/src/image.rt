@@ -1,7 +1,7 @@
 // Whether an image fits.
 ghost use Rattle.std.specs.Prelude.{IfOk, ◌≡◌};
 ghost use Rattle.text_out.specs.Writing.{Writes};
-ghost use Rattle.card_check.specs.Images.{image_line, image_text, is_image, more_words};
+ghost use Rattle.card_check.specs.Images.{image_line, image_text, is_image, more_words, most_bytes};
 ghost use Rattle.card_check.specs.WrongLines.{Prints};
 
 use crate::fault::CheckFault;
@@ -16,11 +16,19 @@ fn is_image(sectors: usize, bytes: usize) -> bool
     bytes % 512 == 0 && bytes / 512 == sectors
 }
 
-// What stands after a number of bytes that no card in memory has.
-fn more_words(bytes: usize) -> &'static [u8]
-    ensures { result.now ≡ more_words bytes }
+/// The most bytes of an image that count for a card of so many sectors, all partitions together: those of the largest card that
+/// `serve` takes, or of this one where it is larger.
+pub fn most_bytes(sectors: usize) -> usize
+    ensures { result ≡ most_bytes sectors }
 {
-    if bytes > 512 * MAX_SECTORS {
+    512usize.saturating_mul(sectors.max(MAX_SECTORS))
+}
+
+// What stands after a number of bytes that may be more.
+fn more_words(sectors: usize, bytes: usize) -> &'static [u8]
+    ensures { result.now ≡ more_words sectors bytes }
+{
+    if bytes > most_bytes(sectors) {
         b" or more"
     } else {
         b""
@@ -32,7 +40,7 @@ fn more_words(bytes: usize) -> &'static [u8]
 fn put_other_size<W: Write>(out: &mut W, sectors: usize, bytes: usize) -> io::Result<()>
     ensures { Writes (W.contents out.old) (W.contents out.new) result (image_line sectors bytes) }
 {
-    let more = more_words(bytes);
+    let more = more_words(sectors, bytes);
     put_pieces(
         out,
         &[

@@ -1,5 +1,5 @@
 // The keys of card files, with what stands after each.
-ghost use Rattle.std.specs.Prelude.{◌≡◌, option_map};
+ghost use Rattle.std.specs.Prelude.{◌≡◌};
 ghost use Rattle.card_check.specs.Keys.{expected_words, further_key_of, key_of};
 
 /// A key of a card file.

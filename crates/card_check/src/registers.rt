@@ -1,21 +1,21 @@
 // Whatever contradicts in the registers of a card.
-ghost use Rattle.std.specs.Prelude.{◌<◌, ◌^◌, ◌≡◌, IfOk, IfSome, None, [], is_none, is_some, true};
+ghost use Rattle.std.specs.Prelude.{◌≡◌, ◌≤◌, IfOk, IfSome, None, [], is_none, is_some, true};
 ghost use Rattle.mmc_card_sim.specs.CardSpec.{has_access_mode, has_early_bits, has_erase_unit, has_no_ready_bit, has_short_waits};
-ghost use Rattle.mmc_card_sim.specs.CardSpec.{has_user_sectors, refusal_of, works_at_3_3_volts};
+ghost use Rattle.mmc_card_sim.specs.CardSpec.{has_user_sectors, refusal_within, sizes_of, works_at_3_3_volts};
+ghost use Rattle.mmc_card_rows.specs.Sizes.{total};
+ghost use Rattle.mmc_card_rows.specs.declared.store.TheConstants.{MAX_LARGE};
 ghost use Rattle.mmc_card_sim.specs.Registers.{kind_of};
 ghost use Rattle.mmc_regs.specs.Csd.{csd_in};
 ghost use Rattle.text_out.specs.Writing.{Writes};
-ghost use Rattle.card_check.specs.Registers.{all_sectors, card_by, check_text, contradictions, csd_text, is_checked, kind_text, line_text, mmc_text, ocr_text};
-ghost use Rattle.card_check.specs.Registers.{last_text, registers_text, right_check, right_text, sectors_in, sectors_line, sectors_text, sectors_told, teller_words, unless};
+ghost use Rattle.card_check.specs.Registers.{check_text, contradictions, csd_text, is_checked, kind_text, line_text, mmc_text, ocr_text};
+ghost use Rattle.card_check.specs.Registers.{last_text, registers_text, right_check, right_text, sectors_line, sectors_text, sectors_told, teller_words, unless};
 ghost use Rattle.card_check.specs.WrongLines.{Prints};
 
 use crate::fault::CheckFault;
-use mmc_bus::Part;
-use mmc_card_sim::{BuildFault, CardSpec, KindRegisters, Registers, SimCard};
+use mmc_card_sim::{BuildFault, CardSpec, KindRegisters, MAX_LARGE, Registers, judge};
 use mmc_ext_csd::ExtCsd;
 use mmc_frame::{check_fits, with_check};
 use mmc_regs::{Ocr, RegFault, read_csd};
-use std::alloc::Global;
 use std::io::{self, Write};
 use text_out::{Piece, put_pieces};
 
@@ -269,51 +269,45 @@ fn put_registers<W: Write>(out: &mut W, spec: &CardSpec) -> io::Result<()>
     put_sectors(out, spec)
 }
 
-// How many sectors a partition of a card has.
-fn sectors_in(card: &SimCard, part: Part) -> usize
-    ensures count { result ≡ sectors_in card.now.card part }
-    ensures small { result < 2 ^ 57 }
+// The sum of these sizes.
+fn total(sizes: &[usize; 7]) -> usize
+    requires { total sizes.now ≤ MAX_LARGE }
+    ensures { result ≡ total sizes.now }
 {
-    card.contents(part).len() / 512
+    let mut sum = 0;
+    for size in sizes {
+        sum += *size;
+    }
+    sum
 }
 
-// How many all partitions of a card have together.
-fn all_sectors(card: &SimCard) -> usize
-    ensures { result ≡ all_sectors card.now.card }
-{
-    let boot = sectors_in(card, Part::Boot1) + sectors_in(card, Part::Boot2);
-    let first = sectors_in(card, Part::Gp1) + sectors_in(card, Part::Gp2);
-    let last = sectors_in(card, Part::Gp3) + sectors_in(card, Part::Gp4);
-    sectors_in(card, Part::User) + boot + first + last
-}
-
-/// Writes a line for each contradiction in the registers of a card, where no card is built by them. Otherwise it gives the number
-/// of sectors that all partitions have together, at most `MAX_SECTORS`.
+/// Writes a line for each contradiction in the registers of a card, where no card is built by them, be it as large as `nbd` serves
+/// one. Otherwise it gives the number of sectors that all partitions have together, at most `MAX_LARGE`.
 ///
 /// # Errors
-/// `NoMemory`; `Write` where a write failed, and a front of the lines went out then.
+/// `Write` where a write failed, and a front of the lines went out then. `NoMemory` doesn't come.
 #[tactic(auto, using(crate::proofs::RegisterLemmas::silent, crate::proofs::RegisterLemmas::spoken))]
-pub fn check_registers<W: Write>(
-    alloc: Global,
-    spec: CardSpec,
-    out: &mut W,
-) -> Result<Option<usize>, CheckFault>
-    ensures taken { IfOk result (λ checked. is_some checked ≡ is_none (refusal_of spec)) }
-    ensures sectors { IfOk result (λ checked. IfSome checked (λ sectors. sectors ≡ all_sectors (card_by spec))) }
-    ensures said { Prints (W.contents out.old) (W.contents out.new) result (contradictions spec) }
+pub fn check_registers<W: Write>(spec: &CardSpec, out: &mut W) -> Result<Option<usize>, CheckFault>
+    ensures taken { IfOk result (λ checked. is_some checked ≡ is_none (refusal_within MAX_LARGE spec.now)) }
+    ensures sectors { IfOk result (λ checked. IfSome checked (λ sectors. sectors ≡ total (sizes_of spec.now.registers))) }
+    ensures few { IfOk result (λ checked. IfSome checked (λ sectors. sectors ≤ MAX_LARGE)) }
+    ensures said { Prints (W.contents out.old) (W.contents out.new) result (contradictions spec.now) }
 
     // Nothing is said of a card that is built. Of one that isn't something is, unless it is one of its delays or its early bits
     // that is refused, which aren't registers.
-    ensures silent { refusal_of spec ≡ None → contradictions spec ≡ [] }
-    ensures spoken { has_short_waits spec ≡ true → has_early_bits spec.early ≡ true → contradictions spec ≡ []
-        → refusal_of spec ≡ None }
+    ensures silent { refusal_within MAX_LARGE spec.now ≡ None → contradictions spec.now ≡ [] }
+    ensures spoken { has_short_waits spec.now ≡ true → has_early_bits spec.now.early ≡ true → contradictions spec.now ≡ []
+        → refusal_within MAX_LARGE spec.now ≡ None }
 {
-    put_registers(out, &spec)?;
-    match SimCard::build(alloc, spec) {
-        Ok(card) => Ok(Some(all_sectors(&card))),
+    put_registers(out, spec)?;
+    match judge(spec, MAX_LARGE) {
+        Ok(judged) => Ok(Some(total(&judged.sizes))),
         Err(BuildFault::Register) => Ok(None),
         Err(BuildFault::ImageSize) => {
-            put_line(out, b"the partitions have more than 65536 sectors together")?;
+            put_line(
+                out,
+                b"the partitions have more than 4194304 sectors together",
+            )?;
             Ok(None)
         }
         Err(BuildFault::NoMemory) => Err(CheckFault::NoMemory),

@@ -1,5 +1,5 @@
 -- What the commands print, and how they end.
-use Rattle.std.specs.Prelude.{◌≡◌, ◌⊎◌, List, Ok, Option, Some, ℕ}
+use Rattle.std.specs.Prelude.{◌≡◌, ◌⊎◌, List, Ok, Option, ℕ}
 use Rattle.std.specs.Io.KnownBytes.{Appends}
 use Rattle.mmc_frame.specs.declared.kind.Kind.{Kind}
 use Rattle.mmc_card_sim.specs.declared.spec.CardSpec.{CardSpec}
@@ -7,7 +7,10 @@ use Rattle.card_maker.specs.CardText.{card_file_text}
 use Rattle.card_maker.specs.Wanted.{IsAsWanted}
 use Rattle.card_maker.specs.declared.wanted.Wanted.{Wanted}
 use Rattle.card_explain.specs.Frames.{frame_text}
+use Rattle.card_explain.specs.LongFrames.{long_frame_text}
 use Rattle.card_decode.specs.Summaries.{PutsRegister}
+use Rattle.card_decode.specs.declared.frame.Frame.{Frame}
+use Rattle.card_decode.specs.declared.frame.Frame.TheVariants.{Long, Short}
 use Rattle.card_decode.specs.declared.register.Register.{Register}
 
 -- 0 where all went well, and 2 otherwise
@@ -21,7 +24,12 @@ pub record PrintsCard (old new : Option (List ℕ)) : Type 0 where
   pub as_wanted : IsAsWanted wanted card
   pub printed : Appends old new (card_file_text card)
 
+-- what a frame says
+abbrev pub frame_lines : Kind → Frame → List ℕ
+frame_lines kind (Short bytes) = frame_text kind bytes
+frame_lines kind (Long bytes) = long_frame_text bytes
+
 -- what a frame says, or a register
 pub data PrintsDecoded (old new : Option (List ℕ)) : Type 0 where
-  a_frame : (kind : Kind) (frame : List ℕ) → Appends old new (frame_text kind frame) → PrintsDecoded old new
+  a_frame : (kind : Kind) (frame : Frame) → Appends old new (frame_lines kind frame) → PrintsDecoded old new
   a_register : (register : Register) (bytes : List ℕ) → PutsRegister register bytes old new (Ok tt) → PrintsDecoded old new

@@ -1,15 +1,15 @@
 // `decode`: a register or a frame, field by field.
 ghost use Rattle.std.specs.Prelude.{◌≡◌, IfErr, IfOk};
-ghost use Rattle.card_commands.specs.Printed.{PrintsDecoded};
+ghost use Rattle.card_commands.specs.Printed.{PrintsDecoded, frame_lines};
 ghost use Rattle.card_commands.specs.declared.fault.CommandFault.TheVariants as Fault;
 
 use crate::fault::CommandFault;
-use card_decode::{Register, put_register, read_register};
-use card_explain::put_frame;
+use card_decode::{Frame, Register, put_register, read_frame, read_register};
+use card_explain::{put_frame, put_long_frame};
 use card_served::{ServeFault, whole};
 use clap::{Arg, Command};
 use mmc_frame::Kind;
-use std::alloc::Global;
+use std::alloc::{AllocError, Global};
 use std::io::{Read, Write};
 use text_out::put::put;
 
@@ -21,7 +21,7 @@ const MAX_DIGITS: usize = 65_536;
 enum Subject {
     // A register.
     Register(Register),
-    // A frame of 48 bits.
+    // A frame of 48 or 136 bits.
     Frame,
 }
 
@@ -52,11 +52,20 @@ fn subject_named(word: &str, kind: Kind) -> Result<Subject, CommandFault> {
     }
 }
 
-// The six bytes of a frame.
-fn frame_of(digits: &[u8]) -> Result<[u8; 6], CommandFault> {
-    match card_text::hexadecimal::bytes(digits) {
-        Some(frame) => Ok(frame),
-        None => Err(CommandFault::NoFrame),
+// What is printed of a frame.
+fn frame_lines(alloc: Global, kind: Kind, frame: Frame) -> Result<Vec<u8>, AllocError>
+    ensures { IfOk result (λ lines. lines.items ≡ frame_lines kind frame) }
+{
+    let mut lines = Vec::new(alloc);
+    match frame {
+        Frame::Short(bytes) => {
+            put_frame(&mut lines, kind, &bytes)?;
+            Ok(lines)
+        }
+        Frame::Long(bytes) => {
+            put_long_frame(&mut lines, &bytes)?;
+            Ok(lines)
+        }
     }
 }
 
@@ -72,13 +81,14 @@ fn put_subject<W: Write>(
     ensures unprinted { IfErr result (λ fault. (fault ≡ Fault.Write → ⊥) → W.contents out.new ≡ W.contents out.old) }
 {
     match subject {
-        Subject::Frame => {
-            let frame = frame_of(digits.trim_ascii())?;
-            let mut lines = Vec::new(alloc);
-            put_frame(&mut lines, kind, &frame)?;
-            put(out, lines.as_slice())?;
-            Ok(())
-        }
+        Subject::Frame => match read_frame(alloc, digits) {
+            Ok(frame) => {
+                let lines = frame_lines(alloc, kind, frame)?;
+                put(out, lines.as_slice())?;
+                Ok(())
+            }
+            Err(fault) => Err(CommandFault::Hex(fault)),
+        },
         Subject::Register(register) => match read_register(alloc, register, digits) {
             Ok(bytes) => {
                 put_register(out, register, bytes.as_slice())?;
@@ -104,11 +114,19 @@ fn put_input<R: Read, W: Write>(
     put_subject(alloc, subject, kind, digits.as_slice(), out)
 }
 
+/// The command as `clap` reads it.
+pub(crate) fn command<'a>(alloc: Global) -> Result<Command<'a>, AllocError> {
+    Command::new(alloc, "decode")
+        .arg(Arg::new(alloc, "register").required(true))?
+        .arg(Arg::new(alloc, "digits"))?
+        .arg(Arg::new(alloc, "kind").long("kind"))
+}
+
 /// Decodes as the words say, of which `decode` is the first: a register or a frame, field by field. Without digits among the words
 /// they are read from `input`.
 ///
 /// # Errors
-/// `Usage`, `Value` or `NoRegister` for other words; then `Unread` of the input, `Hex` and `NoFrame` of the digits; `NoMemory`;
+/// `Usage`, `Value` or `NoRegister` for other words; then `Unread` of the input, `Hex` of the digits; `NoMemory`;
 /// `Write`, where a front of the lines went out.
 pub fn decode<R: Read, W: Write>(
     alloc: Global,
@@ -119,10 +137,7 @@ pub fn decode<R: Read, W: Write>(
     ensures printed { IfOk result (λ _. PrintsDecoded (W.contents out.old) (W.contents out.new)) }
     ensures unprinted { IfErr result (λ fault. (fault ≡ Fault.Write → ⊥) → W.contents out.new ≡ W.contents out.old) }
 {
-    let command = Command::new(alloc, "decode")
-        .arg(Arg::new(alloc, "register").required(true))?
-        .arg(Arg::new(alloc, "digits"))?
-        .arg(Arg::new(alloc, "kind").long("kind"))?;
+    let command = command(alloc)?;
     let Ok(matches) = command.try_get_matches_from(words) else {
         return Err(CommandFault::Usage);
     };

@@ -31,12 +31,9 @@ pub enum CommandFault {
     /// A file or standard input wasn't read.
     #[error("{0}")]
     Unread(ServeFault),
-    /// The digits aren't those of the register.
+    /// The digits aren't those of the register or of a frame.
     #[error("{0}")]
     Hex(HexFault),
-    /// A frame has six bytes.
-    #[error("a frame is 12 hexadecimal digits")]
-    NoFrame,
     /// No card is as it is wanted.
     #[error("{0}")]
     Make(MakeFault),

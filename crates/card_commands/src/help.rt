@@ -41,7 +41,7 @@ pub fn help<W: Write>(words: &[&str], out: &mut W) -> Result<(), CommandFault>
 pub fn version<W: Write>(words: &[&str], out: &mut W) -> Result<(), CommandFault>
     ensures unprinted { IfErr result (λ fault. (fault ≡ Fault.Write → ⊥) → W.contents out.new ≡ W.contents out.old) }
 {
-    let ["version"] = words else {
+    let ["version" | "--version"] = words else {
         return Err(CommandFault::Usage);
     };
     put(out, b"cardtool 1.0\n")?;

@@ -6,7 +6,11 @@ mod commands;
 mod decode;
 mod fault;
 mod help;
+mod hint;
 mod make;
+mod mistake;
 mod texts;
 
 pub use commands::{CommandName, run};
+pub use hint::put_hint;
+pub use mistake::{put_mistake, put_unknown};

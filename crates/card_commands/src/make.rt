@@ -12,8 +12,8 @@ use mmc_frame::Kind;
 use std::alloc::{AllocError, Global};
 use std::io::Write;
 
-// The command as `clap` reads it.
-fn command<'a>(alloc: Global) -> Result<Command<'a>, AllocError> {
+/// The command as `clap` reads it.
+pub(crate) fn command<'a>(alloc: Global) -> Result<Command<'a>, AllocError> {
     let command = Command::new(alloc, "new")
         .arg(Arg::new(alloc, "kind").long("kind").required(true))?
         .arg(Arg::new(alloc, "sectors").long("sectors").required(true))?

@@ -62,7 +62,8 @@ Status: 0, or 2 where no card is like that.
 pub(crate) const CHECK: &str = "usage: cardtool check --card FILE [--script FILE] [--image FILE]
 
 Says whatever is wrong with a card file, a script and an image: each bad line with its number, what was found, and what was
-expected; and which register contradicts which.
+expected; which register contradicts which; and why a card isn't opened, with the answer of serve. Notes after that, which don't
+change the status, name the requests that will be refused, planned faults that can't fall, and a card that only nbd serves.
 
 Status: 0 where nothing is wrong, otherwise 2.
 
@@ -75,21 +76,24 @@ pub(crate) const DECODE: &str = "usage: cardtool decode REGISTER [HEX] [--kind s
 Prints the fields of a register or a frame, a line each: name, bits, value, and what it means. Without HEX the digits are read
 from standard input.
 
-    REGISTER       ocr, cid, csd, scr, ext_csd, status (the card status), switch (the 64 bytes behind CMD6), or frame
-    HEX            its hexadecimal digits, the first byte first, with or without 0x in front; in quotes with spaces between; a CID or CSD may
-                   lack its last byte, or have 00 there, as Linux shows them
+    REGISTER       ocr, cid, csd, scr, ext_csd, status (the card status), switch (the 64 bytes after CMD6), or frame (the 6 bytes
+                   of a command or a response, or the 17 of an R2)
+    HEX            its hexadecimal digits, the first byte first, with or without 0x in front; in quotes with spaces between; an OCR
+                   or a card status with 0x may leave leading zeros out; a CID or CSD may lack its last byte, or have 00 there, as
+                   Linux shows them, or come as the 34 digits of an R2
     --kind KIND    sd where it is left out, or mmc; scr and switch are of SD cards, ext_csd of eMMC devices
 
 Status: 0, or 2 where the digits aren't those of such a register.
 
     cardtool decode csd 0000000000090000000040000240009b
     cat /sys/block/mmcblk0/device/cid | cardtool decode cid --kind mmc
+    cardtool decode status 0x900
     cardtool decode frame 510000000055
 ";
 
 /// That of `nbd`.
 pub(crate) const NBD: &str =
-    "usage: cardtool nbd --card FILE [--image FILE] [--save FILE] [--part PART]
+    "usage: cardtool nbd --card FILE [--image FILE] [--save FILE] [--part PART] [--stats]
 
 Serves the card of a card file as a network block device (NBD, fixed newstyle) on standard input and output, with the faults that
 the card file plans. Exports are the partitions that the card has, by their names. A client starts it (libnbd's connect_command), or socat
@@ -100,6 +104,7 @@ gives it a socket.
     --save FILE    writes what the card holds at the end, of all partitions in order; FILE must not be there yet
     --part PART    the partition that goes by the empty name, user where it is left out: user, boot1, boot2, gp1, gp2, gp3 or
                    gp4; it is saved alone
+    --stats        says at the end on standard error what happened: exchanges, faults that fell, attempts, settlings, resets
 
 Status: 0 where the client or the end of the input ended the session, 2 where something was refused, or couldn't be read or
 written. The card is saved in each case once it was opened.

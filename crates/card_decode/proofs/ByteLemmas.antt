@@ -49,10 +49,10 @@ little_byte (suc n) i (suc k) xs small h =
     let less : k < n = omega arith in
     let rest = little_byte n (suc i) k xs small less in
     let further : 8 * suc k ≡ 8 + 8 * k = omega arith in
-    let behind : (x + 256 * r) / 2 ^ 8 ≡ r = omega (arith, top) in
+    let after : (x + 256 * r) / 2 ^ 8 ≡ r = omega (arith, top) in
     let place : suc i + k ≡ i + suc k = omega arith in
     ap (λ m. (x + 256 * r) / 2 ^ m % 256) further
-    ∙ ap (λ m. m % 256) (sym (shr-shr (x + 256 * r) 8 (8 * k)) ∙ ap (λ m. m / 2 ^ (8 * k)) behind)
+    ∙ ap (λ m. m % 256) (sym (shr-shr (x + 256 * r) 8 (8 * k)) ∙ ap (λ m. m / 2 ^ (8 * k)) after)
     ∙ rest ∙ ap (slice_index xs) place
 
 big_top : (n x r : ℕ) → x < 256 → r < 2 ^ (8 * n) → (x * 256 ^ n + r) / 2 ^ (8 * n) % 256 ≡ x

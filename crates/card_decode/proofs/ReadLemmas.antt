@@ -1,67 +1,109 @@
--- Digits of which there are as many as a register may have write its bytes.
-use Rattle.std.proofs.Common.{◌≡◌, ◌+◌, ◌*◌, ◌%◌, ◌⊎◌, inl, inr, ℕ, List, [], ◌∷◌, length, Bool, true, false, refl, sym, ap, ◌∙◌, arith}
-use Rattle.std.specs.Prelude.{Err, None, Ok, Some, cond, count_by, filter, position, slice_index}
+-- Digits of which there are as many as a register or a frame may have write its bytes.
+use Rattle.std.proofs.Common.{◌≡◌, ◌+◌, ◌*◌, ◌%◌, ℕ, zero, suc, List, [], ◌∷◌, ◌++◌, length, Bool, true, false}
+use Rattle.std.proofs.Common.{refl, sym, ap, ◌∙◌, arith, length-append}
+use Rattle.std.specs.Prelude.{Err, None, Ok, Some, cond, count_by, filter, replicate}
+use Rattle.std.specs.List.{AllPass}
+use Rattle.std.proofs.lemmas.List.{length-replicate}
 use Rattle.std.proofs.lemmas.List.Sums.{length-filter}
 use Rattle.hex.specs.Hex.{decode_of, is_hex_digit}
 use Rattle.hex.proofs.HexLemmas.{decode_of-digits, decode_of-ok}
 use Rattle.card_decode.specs.Registers.{register_len}
-use Rattle.card_decode.specs.Reading.{bytes_if, is_stray, judged, may_have, reading_of, sized_bytes, with_check, without_prefix}
-use Rattle.std.specs.List.{AllPass}
-use Rattle.std.proofs.Common.{◌-◌, zero, suc}
-use Rattle.card_decode.specs.declared.fault.HexFault.TheVariants.{Character, Length}
+use Rattle.card_decode.specs.Digits.{bytes_if, digits_in, stray_in, unless, without_prefix}
+use Rattle.card_decode.specs.Reading.{frame_may_have, frame_reading_of, may_have, reading_of, register_digits, register_if}
+use Rattle.card_decode.specs.Reading.{register_of, sized_frame, sized_register, zeros_left_out}
+use Rattle.card_decode.specs.declared.fault.HexFault.{HexFault}
+use Rattle.card_decode.specs.declared.fault.HexFault.TheVariants.{FrameLength, Length}
 use Rattle.card_decode.specs.declared.register.Register.{Register}
-use Rattle.card_decode.specs.declared.register.Register.TheVariants.{Ocr, Cid, Csd, Scr, ExtCsd, CardStatus, SwitchStatus}
 
-pub may_cases : (register : Register) (count : ℕ) → may_have register count ≡ true
-    → (count ≡ 2 * register_len register) ⊎ ((count ≡ 30) × (register_len register ≡ 16))
-may_cases (Ocr kind) count h = grind arith
-may_cases (Cid kind) count h = grind arith
-may_cases (Csd kind) count h = grind arith
-may_cases Scr count h = grind arith
-may_cases ExtCsd count h = grind arith
-may_cases (CardStatus kind) count h = grind arith
-may_cases SwitchStatus count h = grind arith
-
-pub reads_stray : (register : Register) (text digits : List ℕ) (place : ℕ) → digits ≡ without_prefix text
-    → Some place ≡ position is_stray digits
-    → reading_of register text
-    ≡ Err (Character (slice_index text (length text - length digits + place)) (length text - length digits + place))
+-- a stray character comes first
+pub reads_stray : (register : Register) (text : List ℕ) (fault : HexFault) → Some fault ≡ stray_in text
+    → reading_of register text ≡ Err fault
 unfolding reading_of
-reads_stray register text digits place same stray =
-    ap (λ r. judged text r (sized_bytes register (filter is_hex_digit (without_prefix text))))
-    (ap (position is_stray) (sym same) ∙ sym stray)
-    ∙ ap (λ d. Err (Character (slice_index text (length text - length d + place)) (length text - length d + place)))
-    (sym same)
+reads_stray register text fault stray =
+    ap (λ s. unless s (sized_register register (register_digits register text))) (sym stray)
 
 -- with no stray character, the digits are judged
-reads_digits : (register : Register) (text digits : List ℕ) → digits ≡ without_prefix text
-    → None ≡ position is_stray digits → reading_of register text ≡ sized_bytes register (filter is_hex_digit digits)
+reads_digits : (register : Register) (text : List ℕ) → None ≡ stray_in text
+    → reading_of register text ≡ sized_register register (register_digits register text)
 unfolding reading_of
-reads_digits register text digits same stray =
-    ap (λ r. judged text r (sized_bytes register (filter is_hex_digit (without_prefix text))))
-    (ap (position is_stray) (sym same) ∙ sym stray)
-    ∙ ap (λ d. sized_bytes register (filter is_hex_digit d)) (sym same)
+reads_digits register text stray =
+    ap (λ s. unless s (sized_register register (register_digits register text))) (sym stray)
 
-pub reads_length : (register : Register) (text digits : List ℕ) (count : ℕ) → digits ≡ without_prefix text
-    → None ≡ position is_stray digits → count ≡ count_by is_hex_digit digits → may_have register count ≡ false
+-- how many digits there are with the leading zeros that are left out
+pub digits_count : (register : Register) (text digits : List ℕ) (zeros count : ℕ) → digits ≡ without_prefix text
+    → zeros ≡ zeros_left_out register text → count ≡ count_by is_hex_digit digits
+    → length (register_digits register text) ≡ zeros + count
+digits_count register text digits zeros count same left counted =
+    length-append (replicate (zeros_left_out register text) 48) (digits_in text)
+    ∙ ap (λ n. n + length (digits_in text)) (length-replicate (zeros_left_out register text) 48 ∙ sym left)
+    ∙ ap (λ n. zeros + n)
+    (length-filter is_hex_digit (without_prefix text) ∙ ap (count_by is_hex_digit) (sym same) ∙ sym counted)
+
+-- the digits that are decoded
+pub digits_are : (register : Register) (text digits : List ℕ) (zeros : ℕ) → digits ≡ without_prefix text
+    → zeros ≡ zeros_left_out register text
+    → register_digits register text ≡ replicate zeros 48 ++ filter is_hex_digit digits
+digits_are register text digits zeros same left =
+    ap (λ n. replicate n 48 ++ digits_in text) (sym left)
+    ∙ ap (λ d. replicate zeros 48 ++ filter is_hex_digit d) (sym same)
+
+pub reads_length : (register : Register) (text : List ℕ) (count : ℕ) → None ≡ stray_in text
+    → length (register_digits register text) ≡ count → may_have register count ≡ false
     → reading_of register text ≡ Err (Length count (2 * register_len register))
-reads_length register text digits count same stray counted other =
-    let many : length (filter is_hex_digit digits) ≡ count = length-filter is_hex_digit digits ∙ sym counted in
-    reads_digits register text digits same stray
-    ∙ ap (λ n. cond (may_have register n) (bytes_if register (decode_of (filter is_hex_digit digits)))
-    (Err (Length n (2 * register_len register)))) many
-    ∙ ap (λ t. cond t (bytes_if register (decode_of (filter is_hex_digit digits)))
-    (Err (Length count (2 * register_len register)))) other
+reads_length register text count stray many other =
+    let digits = register_digits register text in
+    reads_digits register text stray
+    ∙ ap (λ n. cond (may_have register n) (register_if (bytes_if (decode_of digits))) (Err (Length n (2 * register_len register)))) many
+    ∙ ap (λ t. cond t (register_if (bytes_if (decode_of digits))) (Err (Length count (2 * register_len register)))) other
 
-pub reads_bytes : (register : Register) (text digits : List ℕ) → digits ≡ without_prefix text
-    → None ≡ position is_stray digits → may_have register (count_by is_hex_digit digits) ≡ true
-    → reading_of register text ≡ bytes_if register (decode_of (filter is_hex_digit digits))
-reads_bytes register text digits same stray enough =
-    let sized : may_have register (length (filter is_hex_digit digits)) ≡ true =
-    ap (may_have register) (length-filter is_hex_digit digits) ∙ enough in
-    reads_digits register text digits same stray
-    ∙ ap (λ t. cond t (bytes_if register (decode_of (filter is_hex_digit digits)))
-    (Err (Length (length (filter is_hex_digit digits)) (2 * register_len register)))) sized
+-- digits that are enough write the bytes that say the register
+pub reads_bytes : (register : Register) (text bytes : List ℕ) → None ≡ stray_in text
+    → may_have register (length (register_digits register text)) ≡ true
+    → decode_of (register_digits register text) ≡ Ok bytes → reading_of register text ≡ register_of bytes
+reads_bytes register text bytes stray enough decoded =
+    let digits = register_digits register text in
+    reads_digits register text stray
+    ∙ ap (λ t. cond t (register_if (bytes_if (decode_of digits))) (Err (Length (length digits) (2 * register_len register)))) enough
+    ∙ ap (λ r. register_if (bytes_if r)) decoded
+
+-- and there are half as many bytes as digits
+pub bytes_count : (digits bytes : List ℕ) → decode_of digits ≡ Ok bytes → 2 * length bytes ≡ length digits
+bytes_count digits bytes decoded =
+    let parts = decode_of-ok digits bytes decoded in
+    omega (arith, parts.2)
+
+-- a stray character comes first of a frame too
+pub frame_reads_stray : (text : List ℕ) (fault : HexFault) → Some fault ≡ stray_in text
+    → frame_reading_of text ≡ Err fault
+unfolding frame_reading_of
+frame_reads_stray text fault stray = ap (λ s. unless s (sized_frame (digits_in text))) (sym stray)
+
+frame_reads_digits : (text digits : List ℕ) → digits ≡ without_prefix text → None ≡ stray_in text
+    → frame_reading_of text ≡ sized_frame (filter is_hex_digit digits)
+unfolding frame_reading_of
+frame_reads_digits text digits same stray =
+    ap (λ s. unless s (sized_frame (digits_in text))) (sym stray)
+    ∙ ap (λ d. sized_frame (filter is_hex_digit d)) (sym same)
+
+pub frame_reads_length : (text digits : List ℕ) (count : ℕ) → digits ≡ without_prefix text → None ≡ stray_in text
+    → count ≡ count_by is_hex_digit digits → frame_may_have count ≡ false
+    → frame_reading_of text ≡ Err (FrameLength count)
+frame_reads_length text digits count same stray counted other =
+    let found = filter is_hex_digit digits in
+    frame_reads_digits text digits same stray
+    ∙ ap (λ n. cond (frame_may_have n) (bytes_if (decode_of found)) (Err (FrameLength n)))
+    (length-filter is_hex_digit digits ∙ sym counted)
+    ∙ ap (λ t. cond t (bytes_if (decode_of found)) (Err (FrameLength count))) other
+
+pub frame_reads_bytes : (text digits bytes : List ℕ) → digits ≡ without_prefix text → None ≡ stray_in text
+    → frame_may_have (count_by is_hex_digit digits) ≡ true → decode_of (filter is_hex_digit digits) ≡ Ok bytes
+    → frame_reading_of text ≡ Ok bytes
+frame_reads_bytes text digits bytes same stray enough decoded =
+    let found = filter is_hex_digit digits in
+    frame_reads_digits text digits same stray
+    ∙ ap (λ n. cond (frame_may_have n) (bytes_if (decode_of found)) (Err (FrameLength n))) (length-filter is_hex_digit digits)
+    ∙ ap (λ t. cond t (bytes_if (decode_of found)) (Err (FrameLength (count_by is_hex_digit digits)))) enough
+    ∙ ap bytes_if decoded
 
 pass_more : (b : ℕ) (bs : List ℕ) → is_hex_digit b ≡ true → AllPass is_hex_digit bs → AllPass is_hex_digit (b ∷ bs)
 pass_more b bs pass h zero d lt = pass
@@ -76,55 +118,10 @@ all_digits : (bs : List ℕ) → AllPass is_hex_digit (filter is_hex_digit bs)
 all_digits [] = λ k d lt. absurd (omega arith)
 all_digits (b ∷ bs) = pass_kept (is_hex_digit b) b (filter is_hex_digit bs) refl (all_digits bs)
 
-even_count : (register : Register) (count : ℕ) → may_have register count ≡ true → count % 2 ≡ 0
-even_count register count h = elim (may_cases register count h) [ inl whole ↦ omega (arith, whole) | inr short ↦ omega (arith, short.0) ]
-
--- such digits write bytes
-pub decodes : (register : Register) (digits : List ℕ) → may_have register (count_by is_hex_digit digits) ≡ true
+-- the digits of a frame write bytes
+pub frame_decodes : (digits : List ℕ) → frame_may_have (count_by is_hex_digit digits) ≡ true
     → (bytes : List ℕ) × (decode_of (filter is_hex_digit digits) ≡ Ok bytes)
-decodes register digits enough =
-    let even = even_count register (count_by is_hex_digit digits) enough in
+frame_decodes digits enough =
     let many = length-filter is_hex_digit digits in
-    let halves : length (filter is_hex_digit digits) % 2 ≡ 0 = omega (arith, even, many) in
-    decode_of-digits (filter is_hex_digit digits) halves (all_digits digits)
-
--- as many as the register has, or one less of a register of sixteen
-pub bytes_count : (register : Register) (digits bytes : List ℕ)
-    → may_have register (count_by is_hex_digit digits) ≡ true → decode_of (filter is_hex_digit digits) ≡ Ok bytes
-    → (length bytes ≡ register_len register) ⊎ ((length bytes ≡ 15) × (register_len register ≡ 16))
-bytes_count register digits bytes enough decoded =
-    let parts = decode_of-ok (filter is_hex_digit digits) bytes decoded in
-    let many = length-filter is_hex_digit digits in
-    let twice : count_by is_hex_digit digits ≡ 2 * length bytes = omega (arith, many, parts.2) in
-    elim (may_cases register (count_by is_hex_digit digits) enough) [
-      | inl whole ↦ inl (omega (arith, twice, whole))
-      | inr short ↦ inr (omega (arith, twice, short.0), short.1)
-    ]
-
-pub not_fifteen : (register : Register) → register_len register ≡ 15 → ⊥
-not_fifteen (Ocr kind) h = omega arith
-not_fifteen (Cid kind) h = omega arith
-not_fifteen (Csd kind) h = omega arith
-not_fifteen Scr h = omega arith
-not_fifteen ExtCsd h = omega arith
-not_fifteen (CardStatus kind) h = omega arith
-not_fifteen SwitchStatus h = omega arith
-
--- with a check after fifteen bytes there are as many as the register has
-pub sized : (register : Register) (digits bytes : List ℕ) → may_have register (count_by is_hex_digit digits) ≡ true
-    → decode_of (filter is_hex_digit digits) ≡ Ok bytes
-    → (length bytes ≡ 15 → register_len register ≡ 16) × ((length bytes ≡ 15 → ⊥) → length bytes ≡ register_len register)
-sized register digits bytes enough decoded = elim (bytes_count register digits bytes enough decoded) [
-  | inl whole ↦ (λ short. absurd (not_fifteen register (sym whole ∙ short)), λ other. whole)
-  | inr short ↦ (λ fifteen. short.1, λ other. absurd (other short.0))
-]
-
--- then the text is a register
-pub reads_fine : (register : Register) (text digits : List ℕ) → digits ≡ without_prefix text
-    → None ≡ position is_stray digits → may_have register (count_by is_hex_digit digits) ≡ true
-    → (bytes : List ℕ) × (reading_of register text ≡ Ok bytes)
-reads_fine register text digits same stray enough =
-    let decoded = decodes register digits enough in (
-      with_check register decoded.0,
-      reads_bytes register text digits same stray enough ∙ ap (bytes_if register) decoded.1,
-    )
+    let even : length (filter is_hex_digit digits) % 2 ≡ 0 = grind (arith, many) in
+    decode_of-digits (filter is_hex_digit digits) even (all_digits digits)

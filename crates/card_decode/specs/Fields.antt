@@ -8,7 +8,7 @@ use Rattle.card_decode.specs.Registers.{is_low_first, register_len}
 use Rattle.card_decode.specs.declared.register.Register.{Register}
 use Rattle.card_decode.specs.declared.field.Field.{Field}
 use Rattle.card_decode.specs.declared.field.Meaning.{Meaning}
-use Rattle.card_decode.specs.declared.field.Meaning.TheVariants.{Hexadecimal, Bits, Scaled, Text, Reserved}
+use Rattle.card_decode.specs.declared.field.Meaning.TheVariants.{Hexadecimal, Listed, Bits, Scaled, Text, Reserved}
 
 -- The fields of an EXT_CSD go by bytes, those of other registers by bits.
 abbrev pub unit_of : Register → ℕ
@@ -30,6 +30,7 @@ is_reserved _ = false
 
 abbrev pub is_hexadecimal : Meaning → Bool
 is_hexadecimal Hexadecimal = true
+is_hexadecimal (Listed names) = true
 is_hexadecimal (Bits names) = true
 is_hexadecimal (Text count) = true
 is_hexadecimal Reserved = true

@@ -1,3 +1,5 @@
+pub mod Capacities
+pub mod Digits
 pub mod Fields
 pub mod Reading
 pub mod Registers

@@ -16,6 +16,7 @@ use Rattle.mmc_ext_csd.specs.ExtCsd.{boot_sectors, erase_unit, gp_sectors, sec_c
 use Rattle.std.specs.Prelude.{Option}
 use Rattle.std.specs.declared.io.Error.{Error}
 use Rattle.text_out.specs.Writing.{Writes}
+use Rattle.card_decode.specs.Capacities.{capacity_text}
 use Rattle.card_decode.specs.Registers.{number_of}
 use Rattle.card_decode.specs.Tables.{IsTable}
 use Rattle.card_decode.specs.Words.{fields_text}
@@ -42,15 +43,17 @@ check_text bytes =
     then fit_text (slice_index bytes 15 ∷ [])
     else misfit_text (slice_index bytes 15 ∷ []) (fitting_check bytes ∷ []))
 
+abbrev pub erase_unit_text : ℕ → List ℕ
+erase_unit_text sectors = codes "erase unit: " ++ (decimal sectors ++ codes " sectors\n")
+
+abbrev pub card_size_text : ℕ → ℕ → List ℕ
+card_size_text sectors unit = capacity_text sectors ++ erase_unit_text unit
+
 -- the size of a card, and of an SD card its erase unit
 unfoldable pub size_text : Csd → List ℕ
-size_text (V1 csd) =
-    codes "capacity: " ++ (decimal (sectors_of (V1 csd)) ++ (codes " sectors of 512 bytes\nerase unit: "
-    ++ (decimal (erase_unit_of (V1 csd)) ++ codes " sectors\n")))
-size_text (V2 csd) =
-    codes "capacity: " ++ (decimal (sectors_of (V2 csd)) ++ (codes " sectors of 512 bytes\nerase unit: "
-    ++ (decimal (erase_unit_of (V2 csd)) ++ codes " sectors\n")))
-size_text (Mmc csd) = codes "capacity: " ++ (decimal (sectors_of (Mmc csd)) ++ codes " sectors of 512 bytes\n")
+size_text (V1 csd) = card_size_text (sectors_of (V1 csd)) (erase_unit_of (V1 csd))
+size_text (V2 csd) = card_size_text (sectors_of (V2 csd)) (erase_unit_of (V2 csd))
+size_text (Mmc csd) = capacity_text (sectors_of (Mmc csd))
 
 unfoldable pub size_if : Result Csd RegFault → List ℕ
 size_if (Ok csd) = size_text csd
@@ -60,16 +63,19 @@ size_if (Err fault) = codes "capacity: not known\n"
 abbrev pub csd_text : Kind → List ℕ → List ℕ
 csd_text kind bytes = size_if (csd_in kind (with_check (take 15 bytes)))
 
--- the sizes in an EXT_CSD
-unfoldable pub ext_csd_text : List ℕ → List ℕ
-ext_csd_text block =
-    codes "capacity: " ++ (decimal (sec_count block)
-    ++ (codes " sectors of 512 bytes\nboot partitions 1 and 2: " ++ (decimal (boot_sectors block)
+-- the sizes of the other partitions in an EXT_CSD, and the erase unit
+unfoldable pub partitions_text : List ℕ → List ℕ
+partitions_text block =
+    codes "boot partitions 1 and 2: " ++ (decimal (boot_sectors block)
     ++ (codes " sectors each\ngeneral purpose partition 1: " ++ (decimal (gp_sectors 1 block)
     ++ (codes " sectors\ngeneral purpose partition 2: " ++ (decimal (gp_sectors 2 block)
     ++ (codes " sectors\ngeneral purpose partition 3: " ++ (decimal (gp_sectors 3 block)
     ++ (codes " sectors\ngeneral purpose partition 4: " ++ (decimal (gp_sectors 4 block)
-    ++ (codes " sectors\nerase unit: " ++ (decimal (erase_unit block) ++ codes " sectors\n")))))))))))))
+    ++ (codes " sectors\nerase unit: " ++ (decimal (erase_unit block) ++ codes " sectors\n")))))))))))
+
+-- the sizes in an EXT_CSD
+abbrev pub ext_csd_text : List ℕ → List ℕ
+ext_csd_text block = capacity_text (sec_count block) ++ partitions_text block
 
 -- the version of the SD Physical Layer Specification by SD_SPEC, SD_SPEC3, SD_SPEC4 and SD_SPECX
 abbrev pub version_name : ℕ → ℕ → ℕ → ℕ → List ℕ

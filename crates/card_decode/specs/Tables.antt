@@ -1,5 +1,6 @@
 -- What the tables of fields have in common with the definitions that the stack reads registers by.
-use Rattle.std.specs.Prelude.{◌≡◌, ℕ, ◌*◌, ◌/◌, Bool, true, List, Option, None, Some, codes}
+use Rattle.std.specs.Prelude.{◌≡◌, ℕ, ◌*◌, ◌/◌, ◌&&◌, nat_lt, Bool, true, List, [], ◌∷◌, Option, None, Some, codes}
+use Rattle.std.specs.List.{list_all}
 use Rattle.mmc_frame.specs.declared.kind.Kind.TheVariants.{Sd, Mmc as MmcDevice}
 use Rattle.mmc_regs.specs.CsdFields.{csd_structure, ccc, read_bl_len, c_size, c_size_mult, erase_blk_en, sector_size}
 use Rattle.mmc_regs.specs.CsdFields.{write_bl_len, perm_write_protect, tmp_write_protect, c_size_v2}
@@ -11,6 +12,9 @@ use Rattle.card_decode.specs.Fields.{all_fit, named, spans, unit_of, value_of}
 use Rattle.card_decode.specs.declared.register.Register.{Register}
 use Rattle.card_decode.specs.declared.register.Register.TheVariants.{Ocr, Cid, Csd, Scr, ExtCsd, CardStatus, SwitchStatus}
 use Rattle.card_decode.specs.declared.field.Field.{Field}
+use Rattle.card_decode.specs.declared.field.Meaning.{Meaning}
+use Rattle.card_decode.specs.declared.field.Meaning.TheVariants.{Listed}
+use Rattle.card_decode.specs.declared.field.Name.{Name}
 
 -- every bit of the register stands in one field
 abbrev pub covers_all : Register → List Field → Bool
@@ -53,9 +57,23 @@ pub record IsCsdMmc (fields : List Field) : Type 0 where
   pub size : Reads (Csd MmcDevice) fields (codes "C_SIZE") c_size
   pub multiplier : Reads (Csd MmcDevice) fields (codes "C_SIZE_MULT") c_size_mult
 
+-- the values of names ascend, so that each has one name
+abbrev pub ascend : List Name → Bool
+ascend [] = true
+ascend (name ∷ names) = list_all (λ other. nat_lt name.value other.value) names && ascend names
+
+abbrev pub lists_once : Meaning → Bool
+lists_once (Listed names) = ascend names.now
+lists_once _ = true
+
+-- each number that a field lists stands once
+abbrev pub all_list_once : List Field → Bool
+all_list_once fields = list_all (λ f. lists_once f.meaning) fields
+
 -- the fields of a CID
 pub record IsCid (register : Register) (fields : List Field) : Type 0 where
   pub maker : Reads register fields (codes "MID") manufacturer
+  pub once : all_list_once fields ≡ true
 
 -- the fields of an SD card's OCR
 pub record IsOcrSd (fields : List Field) : Type 0 where

@@ -1,6 +1,6 @@
 -- The lines that are printed of a register.
 use Rattle.std.specs.Prelude.{◌<◌, ◌≤◌, ℕ, ◌+◌, ◌-◌, ◌*◌, ◌/◌, ◌%◌, ◌^◌, ◌==◌, ◌&&◌, nat_lt, nat_le, Bool, List, [], ◌∷◌, ◌++◌, codes, map, if◌then◌else◌}
-use Rattle.std.specs.Prelude.{Option, Some, slice_get}
+use Rattle.std.specs.Prelude.{Option, Some, None, find, slice_get}
 use Rattle.std.specs.Fmt.{decimal}
 use Rattle.std.specs.Int.{bytes_high_first}
 use Rattle.text_out.specs.Hex.{hex_text}
@@ -9,7 +9,7 @@ use Rattle.card_decode.specs.declared.field.Field.{Field}
 use Rattle.card_decode.specs.declared.field.Name.{Name}
 use Rattle.card_decode.specs.declared.field.Scale.{Scale}
 use Rattle.card_decode.specs.declared.field.Meaning.{Meaning}
-use Rattle.card_decode.specs.declared.field.Meaning.TheVariants.{Number, Hexadecimal, Flag, Named, Bits, Scaled, Power, Product, Text, Revision, Date, MmcDate, Reserved}
+use Rattle.card_decode.specs.declared.field.Meaning.TheVariants.{Number, Hexadecimal, Flag, Named, Listed, Bits, Scaled, Power, Product, Text, Revision, Date, MmcDate, Reserved}
 use Rattle.card_decode.specs.Fields.{high_bit, is_hexadecimal, is_reserved, low_bit, value_of}
 
 -- `NAME [HIGH:LOW] `, or `NAME [BIT] ` of a single one
@@ -35,6 +35,14 @@ said text = codes ": " ++ (text ++ codes "\n")
 unfoldable pub name_in : List Name → ℕ → List ℕ
 name_in [] value = codes "reserved"
 name_in (name ∷ names) value = if name.value == value then name.text.now else name_in names value
+
+abbrev pub said_if : Option Name → List ℕ
+said_if None = codes "\n"
+said_if (Some name) = said name.text.now
+
+-- the name of a value, where one is known
+abbrev pub listed_text : List Name → ℕ → List ℕ
+listed_text names value = said_if (find (λ name. name.value == value) names)
 
 -- a bit is set, the lowest at 0
 abbrev pub has_bit : ℕ → ℕ → Bool
@@ -93,6 +101,7 @@ ending_text Number value = codes "\n"
 ending_text Hexadecimal value = codes "\n"
 ending_text (Flag text) value = if value == 0 then codes "\n" else said text.now
 ending_text (Named names) value = said (name_in names.now value)
+ending_text (Listed names) value = listed_text names.now value
 ending_text (Bits names) value = set_text (codes ": ") names.now value
 ending_text (Scaled s) value = counted_text ((value + s.offset) * s.factor) s.unit.now
 ending_text (Power unit) value = power_text unit.now value

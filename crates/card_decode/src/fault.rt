@@ -1,10 +1,10 @@
-// Why a text is no register.
+// Why a text is no register, or no frame.
 ghost use Rattle.std.specs.Prelude.{◌≡◌};
 
 use std::alloc::{AllocError, AllocFailed};
 use thiserror::Error;
 
-/// Why a register isn't read from a text.
+/// Why a register or a frame isn't read from a text.
 #[derive(Clone, Copy, Debug, PartialEq, Eq, Error)]
 pub enum HexFault {
     /// A character that is no hexadecimal digit and no white space.
@@ -22,6 +22,18 @@ pub enum HexFault {
         found: usize,
         /// How many the register has.
         expected: usize,
+    },
+    /// The text has another number of digits than a frame of 48 or 136 bits.
+    #[error("{found} hexadecimal digits, where a frame has 12, or 34 with a CID or a CSD in it")]
+    FrameLength {
+        /// How many digits the text has.
+        found: usize,
+    },
+    /// The text has the digits of an R2, but doesn't begin as one.
+    #[error("34 hexadecimal digits are a response, which begins with 0x3f, not with {byte:#04x}")]
+    FirstByte {
+        /// The first byte.
+        byte: u8,
     },
     /// Memory was refused.
     #[error("no memory")]

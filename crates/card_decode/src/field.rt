@@ -33,6 +33,8 @@ pub enum Meaning {
     Flag(&'static [u8]),
     /// One of these values; another one is reserved.
     Named(&'static [Name]),
+    /// A number in hexadecimal digits, which has one of these names, or none that is known.
+    Listed(&'static [Name]),
     /// A set of these bits.
     Bits(&'static [Name]),
     /// So many of a unit.
@@ -62,7 +64,11 @@ impl Meaning {
     {
         matches!(
             self,
-            Meaning::Hexadecimal | Meaning::Bits(_) | Meaning::Text(_) | Meaning::Reserved
+            Meaning::Hexadecimal
+                | Meaning::Listed(_)
+                | Meaning::Bits(_)
+                | Meaning::Text(_)
+                | Meaning::Reserved
         )
     }
 

@@ -1,5 +1,5 @@
 // Writes the line of a field.
-ghost use Rattle.std.specs.Prelude.{◌≡◌, ◌==◌, ◌&&◌, ◌+◌, ◌-◌, ◌*◌, ◌<◌, ◌≤◌, length, true, false};
+ghost use Rattle.std.specs.Prelude.{◌≡◌, ◌==◌, ◌&&◌, ◌+◌, ◌-◌, ◌*◌, ◌<◌, ◌≤◌, length, true};
 ghost use Rattle.std.specs.Int.{byte_at};
 ghost use Rattle.mmc_frame.specs.Field.{field};
 ghost use Rattle.card_decode.specs.Fields.{can_say, fits, high_bit, is_reserved, low_bit};

@@ -1,7 +1,8 @@
 // Writes what a value stands for, and ends the line.
-ghost use Rattle.std.specs.Prelude.{codes, ◌≡◌, ◌<◌, ◌≤◌, false, map};
+ghost use Rattle.std.specs.Prelude.{codes, ◌≡◌, ◌==◌, ◌<◌, ◌≤◌, false, find, map};
 ghost use Rattle.card_decode.specs.Fields.{is_wide};
-ghost use Rattle.card_decode.specs.Words.{IsSmall, characters_text, counted_text, either_date_text, ending_text, has_bit, mmc_date_text, name_in, power_text, printable, product_text, revision_text, said, said_date, set_text};
+ghost use Rattle.card_decode.specs.Words.{IsSmall, characters_text, counted_text, either_date_text, ending_text, has_bit, listed_text, mmc_date_text};
+ghost use Rattle.card_decode.specs.Words.{name_in, power_text, printable, product_text, revision_text, said, said_date, set_text};
 ghost use Rattle.text_out.specs.Writing.{Writes};
 
 use crate::field::{Meaning, Name, Scale};
@@ -70,6 +71,23 @@ fn name_in(names: &'static [Name], value: u64) -> &'static [u8]
         }
     }
     b"reserved"
+}
+
+// The name of a value, where one is known.
+fn known_name(names: &'static [Name], value: u64) -> Option<Name>
+    ensures { result ≡ find (λ name. name.value == value) names.now }
+{
+    names.iter().copied().find(|name| name.value == value)
+}
+
+// Writes the name of a value, where one is known.
+fn put_listed<W: Write>(out: &mut W, names: &'static [Name], value: u64) -> io::Result<()>
+    ensures { Writes (W.contents out.old) (W.contents out.new) result (listed_text names.now value) }
+{
+    match known_name(names, value) {
+        Some(name) => put_said(out, name.text),
+        None => put(out, b"\n"),
+    }
 }
 
 // Whether a value has this bit, the lowest at 0.
@@ -208,6 +226,7 @@ pub(crate) fn put_ending<W: Write>(out: &mut W, meaning: Meaning, value: u64) ->
             }
         }
         Meaning::Named(names) => put_said(out, name_in(names, value)),
+        Meaning::Listed(names) => put_listed(out, names, value),
         Meaning::Bits(names) => put_set(out, names, value),
         Meaning::Scaled(scale) => {
             put_counted(out, (value + scale.offset) * scale.factor, scale.unit)

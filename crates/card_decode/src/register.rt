@@ -1,5 +1,6 @@
 // The registers.
 ghost use Rattle.std.specs.Prelude.{◌≡◌};
+ghost use Rattle.card_decode.specs.Reading.{is_in_r2, is_number};
 ghost use Rattle.card_decode.specs.Registers.{is_low_first, register_len};
 
 use mmc_frame::Kind;
@@ -42,5 +43,19 @@ impl Register {
         ensures { result ≡ is_low_first self }
     {
         matches!(self, Register::ExtCsd)
+    }
+
+    /// Whether the register is shown as a number of 32 bits.
+    pub(crate) fn is_number(self) -> bool
+        ensures { result ≡ is_number self }
+    {
+        matches!(self, Register::Ocr(_) | Register::CardStatus(_))
+    }
+
+    /// Whether an R2 carries the register (SD Physical Layer 6.00, section 4.9.3).
+    pub(crate) fn is_in_r2(self) -> bool
+        ensures { result ≡ is_in_r2 self }
+    {
+        matches!(self, Register::Cid(_) | Register::Csd(_))
     }
 }

@@ -1,12 +1,13 @@
 // Writes what follows from a register as a whole.
-ghost use Rattle.std.specs.Prelude.{◌≡◌, ◌++◌, codes, length};
-ghost use Rattle.std.specs.Fmt.{decimal};
+ghost use Rattle.std.specs.Prelude.{◌≡◌, length};
 ghost use Rattle.card_decode.specs.Registers.{number_of, register_len};
-ghost use Rattle.card_decode.specs.Summaries.{csd_text, ext_csd_text, scr_text, size_text, summary_text, version_name, version_text};
+ghost use Rattle.card_decode.specs.Summaries.{card_size_text, csd_text, erase_unit_text, ext_csd_text, partitions_text, scr_text, size_text};
+ghost use Rattle.card_decode.specs.Summaries.{summary_text, version_name, version_text};
 ghost use Rattle.card_decode.specs.declared.register.Register.TheVariants.{Scr};
 ghost use Rattle.text_out.specs.Writing.{Writes};
 
 use crate::bits::bits;
+use crate::capacity::put_capacity;
 use crate::check::{fitting_register, put_check};
 use crate::register::Register;
 use mmc_ext_csd::ExtCsd;
@@ -16,21 +17,26 @@ use std::io::{self, Write};
 use text_out::put::put;
 use text_out::{Piece, put_pieces};
 
-// Writes the size and the erase unit of an SD card.
-fn put_card_size<W: Write>(out: &mut W, sectors: u64, erase_unit: u64) -> io::Result<()>
-    ensures { Writes (W.contents out.old) (W.contents out.new) result (codes "capacity: " ++ (decimal sectors
-        ++ (codes " sectors of 512 bytes\nerase unit: " ++ (decimal erase_unit ++ codes " sectors\n")))) }
+// Writes the erase unit.
+fn put_erase_unit<W: Write>(out: &mut W, sectors: u64) -> io::Result<()>
+    ensures { Writes (W.contents out.old) (W.contents out.new) result (erase_unit_text sectors) }
 {
     put_pieces(
         out,
         &[
-            Piece::Text(b"capacity: "),
+            Piece::Text(b"erase unit: "),
             Piece::Number(sectors),
-            Piece::Text(b" sectors of 512 bytes\nerase unit: "),
-            Piece::Number(erase_unit),
             Piece::Text(b" sectors\n"),
         ],
     )
+}
+
+// Writes the size and the erase unit of an SD card.
+fn put_card_size<W: Write>(out: &mut W, sectors: u64, erase_unit: u64) -> io::Result<()>
+    ensures { Writes (W.contents out.old) (W.contents out.new) result (card_size_text sectors erase_unit) }
+{
+    put_capacity(out, sectors)?;
+    put_erase_unit(out, erase_unit)
 }
 
 // Writes the size of a card, and of an SD card its erase unit.
@@ -41,14 +47,7 @@ fn put_size<W: Write>(out: &mut W, csd: &Csd) -> io::Result<()>
     match csd {
         Csd::V1(_) => put_card_size(out, csd.sectors(), csd.erase_unit()),
         Csd::V2(_) => put_card_size(out, csd.sectors(), csd.erase_unit()),
-        Csd::Mmc(_) => put_pieces(
-            out,
-            &[
-                Piece::Text(b"capacity: "),
-                Piece::Number(csd.sectors()),
-                Piece::Text(b" sectors of 512 bytes\n"),
-            ],
-        ),
+        Csd::Mmc(_) => put_capacity(out, csd.sectors()),
     }
 }
 
@@ -64,17 +63,15 @@ fn put_csd<W: Write>(out: &mut W, kind: Kind, bytes: &[u8]) -> io::Result<()>
     }
 }
 
-// Writes the sizes in an EXT_CSD.
-#[tactic(auto, unfolding(crate::specs::Summaries::ext_csd_text))]
-fn put_ext_csd<W: Write>(out: &mut W, ext_csd: &ExtCsd) -> io::Result<()>
-    ensures { Writes (W.contents out.old) (W.contents out.new) result (ext_csd_text ext_csd.now) }
+// Writes the sizes of the other partitions in an EXT_CSD, and the erase unit.
+#[tactic(auto, unfolding(crate::specs::Summaries::partitions_text))]
+fn put_partitions<W: Write>(out: &mut W, ext_csd: &ExtCsd) -> io::Result<()>
+    ensures { Writes (W.contents out.old) (W.contents out.new) result (partitions_text ext_csd.now) }
 {
     put_pieces(
         out,
         &[
-            Piece::Text(b"capacity: "),
-            Piece::Number(ext_csd.sectors()),
-            Piece::Text(b" sectors of 512 bytes\nboot partitions 1 and 2: "),
+            Piece::Text(b"boot partitions 1 and 2: "),
             Piece::Number(ext_csd.boot_sectors()),
             Piece::Text(b" sectors each\ngeneral purpose partition 1: "),
             Piece::Number(ext_csd.gp_sectors(1)),
@@ -89,6 +86,14 @@ fn put_ext_csd<W: Write>(out: &mut W, ext_csd: &ExtCsd) -> io::Result<()>
             Piece::Text(b" sectors\n"),
         ],
     )
+}
+
+// Writes the sizes in an EXT_CSD.
+fn put_ext_csd<W: Write>(out: &mut W, ext_csd: &ExtCsd) -> io::Result<()>
+    ensures { Writes (W.contents out.old) (W.contents out.new) result (ext_csd_text ext_csd.now) }
+{
+    put_capacity(out, ext_csd.sectors())?;
+    put_partitions(out, ext_csd)
 }
 
 // The EXT_CSD in these bytes.

@@ -1,9 +1,11 @@
 -- Zeros before the bits of a frame change no remainder.
-use Rattle.std.proofs.Common.{◌≡◌, ℕ, ◌+◌, ◌*◌, ◌/◌, ◌%◌, ◌∙◌, [], ◌∷◌, ◌++◌, List, ap, append_assoc, arith, false, refl, replicate}
-use Rattle.std.specs.Prelude.{Err, Ok, OnOk, Result, slice_index}
+use Rattle.std.proofs.Common.{◌≡◌, ℕ, ◌+◌, ◌*◌, ◌/◌, ◌%◌, ◌∙◌, [], ◌∷◌, ◌++◌, List, ap, arith, false, length, length-drop, length-take, refl, replicate, sym}
+use Rattle.std.proofs.Math.Seq.{get_or-append_seam}
+use Rattle.std.specs.Prelude.{slice_index, slice_range}
 use Rattle.mmc_frame.specs.Check.{bits_of, remainder}
 use Rattle.mmc_frame.specs.RegisterFrame.{with_check}
-use Rattle.card_explain.specs.Frames.{check_text, right_check}
+use Rattle.card_explain.specs.Frames.{right_check}
+use Rattle.card_explain.specs.LongFrames.{register_check}
 
 after_zeros : (a b c d e : ℕ)
     → remainder (bits_of (0 ∷ 0 ∷ 0 ∷ 0 ∷ 0 ∷ 0 ∷ 0 ∷ 0 ∷ 0 ∷ 0 ∷ a ∷ b ∷ c ∷ d ∷ e ∷ []) ++ replicate 7 false)
@@ -23,11 +25,14 @@ unfolding right_check
 check_after_zeros frame register is =
     ap (λ r. slice_index r 15 / 2) is ∙ halved _ ∙ after_zeros _ _ _ _ _
 
--- the fields, and after them whether the check fits
-pub check_after : {E : Type 0} (r : Result Unit E) (old mid new fields : List ℕ) (check right fits : ℕ) → right ≡ fits
-    → mid ≡ old ++ fields → OnOk r (new ≡ mid ++ check_text check right)
-    → OnOk r (new ≡ old ++ (fields ++ check_text check fits))
-check_after (Ok done) old mid new fields check right fits same first said =
-    said ∙ ap (λ m. m ++ check_text check right) first ∙ append_assoc old fields (check_text check right)
-    ∙ ap (λ n. old ++ (fields ++ check_text check n)) same
-check_after (Err fault) old mid new fields check right fits same first said = tt
+-- the last byte of a register that begins with the bytes of one in an R2
+pub check_of_register : (frame register : List ℕ) → length frame ≡ 17
+    → register ≡ with_check (slice_range frame 1 16) → slice_index register 15 / 2 ≡ register_check frame
+unfolding register_check
+check_of_register frame register size is =
+    let covered = slice_range frame 1 16 in
+    let len : length covered ≡ 15 = simp (length-take, length-drop) (omega arith) in
+    ap (λ r. slice_index r 15 / 2) is
+    ∙ ap (λ k. slice_index (with_check covered) k / 2) (sym len)
+    ∙ ap (λ n. n / 2) (get_or-append_seam covered (2 * remainder (bits_of covered ++ replicate 7 false) + 1) [] 0)
+    ∙ halved _

@@ -24,10 +24,19 @@ rca_words argument = codes ", RCA " ++ decimal (field 31 16 argument)
 abbrev pub count_words : ℕ → List ℕ → List ℕ
 count_words count unit = codes ", " ++ (decimal count ++ unit)
 
--- the byte of the EXT_CSD, in bits 23 to 16, and its value, in bits 15 to 8
+-- A byte of the EXT_CSD; those that a host of this kind writes have their names (JESD84-B51, section 7.4).
+unfoldable pub byte_words : ℕ → List ℕ
+byte_words byte =
+    if byte == 175 then codes ", ERASE_GROUP_DEF"
+    else if byte == 179 then codes ", PARTITION_CONFIG"
+    else if byte == 183 then codes ", BUS_WIDTH"
+    else if byte == 185 then codes ", HS_TIMING"
+    else codes ", byte " ++ decimal byte
+
+-- the byte, in bits 23 to 16, and its value, in bits 15 to 8
 abbrev pub switch_words : ℕ → List ℕ
 switch_words argument =
-    codes ", byte " ++ (decimal (field 23 16 argument) ++ (codes " to " ++ decimal (field 15 8 argument)))
+    byte_words (field 23 16 argument) ++ (codes " to " ++ decimal (field 15 8 argument))
 
 -- bit 31: it switches
 abbrev pub function_words : ℕ → List ℕ

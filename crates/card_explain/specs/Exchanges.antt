@@ -1,11 +1,14 @@
 -- Exchanges in words.
-use Rattle.std.specs.Prelude.{ℕ, ◌==◌, Bool, false, true, List, ◌++◌, codes, Option, None, Some, Result, Ok, Err}
+use Rattle.std.specs.Prelude.{ℕ, ◌&&◌, ◌==◌, if◌then◌else◌, not, Bool, false, true, List, ◌++◌, codes, Option, None, Some, Result, Ok, Err}
 use Rattle.mmc_frame.specs.Field.{field}
 use Rattle.mmc_frame.specs.Frame.{command_in, response_in}
 use Rattle.mmc_frame.specs.declared.commands.TheConstants as Index
 use Rattle.mmc_frame.specs.declared.fault.FrameFault.{FrameFault}
 use Rattle.mmc_card.specs.Rows.{command_of}
 use Rattle.mmc_card.specs.declared.command.Command.{Command as CardCommand}
+use Rattle.mmc_card.specs.declared.command.Command.TheVariants.{SendIfCond}
+use Rattle.mmc_frame.specs.declared.kind.Kind.{Kind}
+use Rattle.mmc_frame.specs.declared.kind.Kind.TheVariants.{Mmc, Sd}
 use Rattle.mmc_card.specs.declared.exchange.DataIn.{DataIn}
 use Rattle.mmc_card.specs.declared.exchange.DataIn.TheVariants as Received
 use Rattle.mmc_card.specs.declared.exchange.DataOut.{DataOut}
@@ -43,6 +46,12 @@ abbrev pub announces : Exchange → Bool
 announces (Command frame want (Short response)) = has_app_cmd (response_in response Index.APP_CMD)
 announces exchange = false
 
+-- The command that a host means: an index of eMMC, but CMD8 with an argument is SD's, which eMMC's has not.
+abbrev pub meant : Kind → Bool → ℕ → ℕ → CardCommand
+meant Mmc is_app index argument =
+    if index == Index.SEND_IF_COND && not (argument == 0) then SendIfCond else command_of Mmc is_app index
+meant Sd is_app index argument = command_of Sd is_app index
+
 -- a command: its number, its name and what it asks for, and what its response tells
 unfoldable pub known_words : KnownCard → CardCommand → Bool → ℕ → ℕ → Reply → List ℕ
 known_words card command is_app index argument reply =
@@ -53,7 +62,7 @@ known_words card command is_app index argument reply =
 abbrev pub asked_by : KnownCard → Bool → Option (ℕ × ℕ) → Reply → List ℕ
 asked_by card is_app None reply = codes "no sound command"
 asked_by card is_app (Some (index, argument)) reply =
-    known_words card (command_of card.kind is_app index) is_app index argument reply
+    known_words card (meant card.kind is_app index argument) is_app index argument reply
 
 -- a command with what came back of it
 unfoldable pub asked_words : KnownCard → Bool → List ℕ → Reply → List ℕ

@@ -69,6 +69,25 @@ check_text check right =
     if check == right then codes "check: it fits\n"
     else codes "check: it doesn't fit; 0x" ++ (hex_text (right ∷ []) ++ codes " would\n")
 
--- all of a frame: its fields, and whether the check in the last byte fits
+-- what a field has to be that has one value in every frame, where it has another
+abbrev pub fixed_text : List ℕ → ℕ → ℕ → List ℕ → List ℕ
+fixed_text name value right digits =
+    if value == right then [] else name ++ (codes ": wrong; it has to be " ++ (digits ++ codes "\n"))
+
+unfoldable pub start_bit_text : ℕ → List ℕ
+start_bit_text first = fixed_text (codes "start bit") (first / 128) 0 (codes "0")
+
+unfoldable pub end_bit_text : ℕ → List ℕ
+end_bit_text last = fixed_text (codes "end bit") (field 0 0 last) 1 (codes "1")
+
+-- whether the check in the last byte fits
+unfoldable pub fit_text : List ℕ → List ℕ
+fit_text frame = check_text (slice_index frame 5 / 2) (right_check frame)
+
+-- the same, and which of the start bit and the end bit is wrong
+unfoldable pub verdict_text : List ℕ → List ℕ
+verdict_text frame = fit_text frame ++ (start_bit_text (slice_index frame 0) ++ end_bit_text (slice_index frame 5))
+
+-- all of a frame: its fields, and what is right and wrong of it
 abbrev pub frame_text : Kind → List ℕ → List ℕ
-frame_text kind frame = fields_text kind frame ++ check_text (slice_index frame 5 / 2) (right_check frame)
+frame_text kind frame = fields_text kind frame ++ verdict_text frame

@@ -4,5 +4,6 @@ pub mod Exchanges
 pub mod Explained
 pub mod Faults
 pub mod Frames
+pub mod LongFrames
 pub mod Responses
 pub mod Statuses

@@ -1,6 +1,6 @@
 // What the argument of a command asks for.
 ghost use Rattle.std.specs.Prelude.{OnOk, ◌++◌, ◌≡◌};
-ghost use Rattle.card_explain.specs.Arguments.{argument_words, count_words, erase_words, function_words, rca_words, sector_words, width_words};
+ghost use Rattle.card_explain.specs.Arguments.{argument_words, byte_words, count_words, erase_words, function_words, rca_words, sector_words, width_words};
 ghost use Rattle.card_explain.specs.Arguments.{switch_words};
 
 use crate::words::say;
@@ -21,19 +21,30 @@ fn put_sector(out: &mut Vec<u8>, addressing: Addressing, address: u32) -> Result
     say(out, &[Piece::Text(unit), Piece::Number(u64::from(number))])
 }
 
+// A byte of the EXT_CSD, by its name where a host writes it.
+#[tactic(auto, unfolding(crate::specs::Arguments::byte_words))]
+fn put_byte(out: &mut Vec<u8>, byte: u32) -> Result<(), AllocError>
+    ensures { OnOk result (out.new.items ≡ out.old.items ++ byte_words byte) }
+{
+    match byte {
+        175 => say_words(out, b", ERASE_GROUP_DEF"),
+        179 => say_words(out, b", PARTITION_CONFIG"),
+        183 => say_words(out, b", BUS_WIDTH"),
+        185 => say_words(out, b", HS_TIMING"),
+        _ => say(
+            out,
+            &[Piece::Text(b", byte "), Piece::Number(u64::from(byte))],
+        ),
+    }
+}
+
 // The byte of the EXT_CSD that CMD6 of eMMC writes: which one in bits 23 to 16, and its value in bits 15 to 8.
 fn put_switch(out: &mut Vec<u8>, argument: u32) -> Result<(), AllocError>
     ensures { OnOk result (out.new.items ≡ out.old.items ++ switch_words argument) }
 {
-    say(
-        out,
-        &[
-            Piece::Text(b", byte "),
-            Piece::Number(u64::from(argument / 0x1_0000 % 0x100)),
-            Piece::Text(b" to "),
-            Piece::Number(u64::from(argument / 0x100 % 0x100)),
-        ],
-    )
+    put_byte(out, argument / 0x1_0000 % 0x100)?;
+    let value = u64::from(argument / 0x100 % 0x100);
+    say(out, &[Piece::Text(b" to "), Piece::Number(value)])
 }
 
 // Whether CMD6 of SD switches or asks, by bit 31.

@@ -1,16 +1,16 @@
 // An exchange in words.
 ghost use Rattle.std.specs.Prelude.{OnOk, ◌++◌, ◌≡◌};
-ghost use Rattle.card_explain.specs.Exchanges.{announces, asked_words, card_explain, known_words};
+ghost use Rattle.card_explain.specs.Exchanges.{announces, asked_words, card_explain, known_words, meant};
 
 use crate::argument::put_argument;
 use crate::block::{poll_words, received_words, sent_words};
 use crate::command::put_command;
-use crate::named::named;
 use crate::response::put_reply;
 use crate::words::say;
 use mmc_bus::{Exchange, Reply};
 use mmc_card::Command;
-use mmc_frame::commands::APP_CMD;
+use mmc_card_rows::command_of;
+use mmc_frame::commands::{APP_CMD, SEND_IF_COND};
 use mmc_frame::{Addressing, Kind, read_command, read_r1};
 use std::alloc::AllocError;
 use text_out::Piece;
@@ -35,6 +35,17 @@ pub fn announces_application_command(exchange: &Exchange) -> bool
             ..
         } => read_r1(response, APP_CMD).is_ok_and(|status| status / 32 % 2 == 1),
         _ => false,
+    }
+}
+
+// The command that a host means, whichever kind the card turns out to be: CMD8 with an argument is SD's (SD Physical Layer 6.00,
+// section 4.3.13; JESD84-B51, section 6.10.4).
+fn meant(kind: Kind, is_app: bool, index: u8, argument: u32) -> Command
+    ensures { result ≡ meant kind is_app index argument }
+{
+    match kind {
+        Kind::Mmc if index == SEND_IF_COND && argument != 0 => Command::SendIfCond,
+        _ => command_of(kind, is_app, index),
     }
 }
 
@@ -71,7 +82,7 @@ fn put_asked(
     match read_command(frame) {
         None => say(out, &[Piece::Text(b"no sound command")]),
         Some((index, argument)) => {
-            let command = named(card.kind, is_app, index);
+            let command = meant(card.kind, is_app, index, argument);
             put_known(out, card, command, is_app, index, argument, reply)
         }
     }

@@ -1,18 +1,19 @@
 // A frame of 48 bits, field by field.
 ghost use Rattle.std.specs.Prelude.{OnOk, ◌++◌, ◌<◌, ◌≡◌};
-ghost use Rattle.card_explain.specs.Frames.{argument_text, back_text, check_text, direction_words, fields_text, frame_text};
-ghost use Rattle.card_explain.specs.Frames.{head_text, index_text, meaning_words, right_check, start_text, tail_text, transmission_text};
+ghost use Rattle.card_explain.specs.Frames.{argument_text, back_text, check_text, direction_words, end_bit_text, fields_text, fit_text, fixed_text, frame_text};
+ghost use Rattle.card_explain.specs.Frames.{head_text, index_text, meaning_words, right_check, start_bit_text, start_text, tail_text, transmission_text};
+ghost use Rattle.card_explain.specs.Frames.{verdict_text};
 
 use crate::command::put_command;
-use crate::named::named;
 use crate::status::put_status;
 use crate::words::say;
+use mmc_card_rows::command_of;
 use mmc_frame::{Kind, with_check};
 use std::alloc::AllocError;
 use text_out::Piece;
 
-// Who sends the frame, by its transmission bit.
-fn direction_words(first: u8) -> &'static [u8]
+/// Who sends the frame, by its transmission bit.
+pub(crate) fn direction_words(first: u8) -> &'static [u8]
     ensures { result.now ≡ direction_words first }
 {
     if first / 64 % 2 == 1 {
@@ -29,7 +30,7 @@ fn put_meaning(out: &mut Vec<u8>, kind: Kind, first: u8, argument: u32) -> Resul
 {
     if first / 64 % 2 == 1 {
         let index = first % 64;
-        let command = named(kind, false, index);
+        let command = command_of(kind, false, index);
         put_command(out, kind, command, false, index)
     } else {
         say(out, &[Piece::Text(b"R1: ")])?;
@@ -93,9 +94,9 @@ fn put_argument_bytes(out: &mut Vec<u8>, bytes: &[u8]) -> Result<(), AllocError>
     )
 }
 
-// The fields of the last byte.
+/// The fields of the last byte: CRC7 and end bit.
 #[tactic(auto, unfolding(crate::specs::Frames::back_text))]
-fn put_back(out: &mut Vec<u8>, last: u8) -> Result<(), AllocError>
+pub(crate) fn put_back(out: &mut Vec<u8>, last: u8) -> Result<(), AllocError>
     ensures { OnOk result (out.new.items ≡ out.old.items ++ back_text last) }
 {
     let check = [last / 2 % 128];
@@ -159,8 +160,8 @@ fn right_check(frame: &[u8; 6]) -> u8
     register[15] / 2
 }
 
-// Whether a check is the right one.
-fn put_check(out: &mut Vec<u8>, check: u8, right: u8) -> Result<(), AllocError>
+/// Whether a check is the right one.
+pub(crate) fn put_check(out: &mut Vec<u8>, check: u8, right: u8) -> Result<(), AllocError>
     ensures { OnOk result (out.new.items ≡ out.old.items ++ check_text check right) }
 {
     if check == right {
@@ -177,8 +178,66 @@ fn put_check(out: &mut Vec<u8>, check: u8, right: u8) -> Result<(), AllocError>
     )
 }
 
+/// Says what a field has to be that has one value in every frame, where it has another.
+pub(crate) fn put_fixed<'a>(
+    out: &mut Vec<u8>,
+    name: &'a [u8],
+    value: u8,
+    right: u8,
+    digits: &'a [u8],
+) -> Result<(), AllocError>
+    ensures { OnOk result (out.new.items ≡ out.old.items ++ fixed_text name.now value right digits.now) }
+{
+    if value == right {
+        return Ok(());
+    }
+    say(
+        out,
+        &[
+            Piece::Text(name),
+            Piece::Text(b": wrong; it has to be "),
+            Piece::Text(digits),
+            Piece::Text(b"\n"),
+        ],
+    )
+}
+
+/// Says that the start bit is wrong, where it is.
+#[tactic(auto, unfolding(crate::specs::Frames::start_bit_text))]
+pub(crate) fn put_start_bit(out: &mut Vec<u8>, first: u8) -> Result<(), AllocError>
+    ensures { OnOk result (out.new.items ≡ out.old.items ++ start_bit_text first) }
+{
+    put_fixed(out, b"start bit", first / 128, 0, b"0")
+}
+
+/// Says that the end bit is wrong, where it is.
+#[tactic(auto, unfolding(crate::specs::Frames::end_bit_text))]
+pub(crate) fn put_end_bit(out: &mut Vec<u8>, last: u8) -> Result<(), AllocError>
+    ensures { OnOk result (out.new.items ≡ out.old.items ++ end_bit_text last) }
+{
+    put_fixed(out, b"end bit", last % 2, 1, b"1")
+}
+
+// Whether the check fits.
+fn put_fit(out: &mut Vec<u8>, frame: &[u8; 6]) -> Result<(), AllocError>
+    ensures { OnOk result (out.new.items ≡ out.old.items ++ fit_text frame.now) }
+{
+    put_check(out, frame[5] / 2, right_check(frame))
+}
+
+// The same, and which of the start bit and the end bit is wrong.
+#[tactic(auto, unfolding(crate::specs::Frames::verdict_text))]
+fn put_verdict(out: &mut Vec<u8>, frame: &[u8; 6]) -> Result<(), AllocError>
+    ensures { OnOk result (out.new.items ≡ out.old.items ++ verdict_text frame.now) }
+{
+    put_fit(out, frame)?;
+    put_start_bit(out, frame[0])?;
+    put_end_bit(out, frame[5])
+}
+
 /// Writes the fields of a frame of 48 bits, a line each, with its command, or with the card status that it has as an R1; and after
-/// them whether its check fits (SD Physical Layer 6.00, sections 4.7.2 and 4.9; JESD84-B51, sections 6.10.1 and 6.12).
+/// them whether its check fits, and that the start bit or the end bit is wrong, where it is (SD Physical Layer 6.00, sections 4.7.2
+/// and 4.9; JESD84-B51, sections 6.10.1 and 6.12).
 ///
 /// # Errors
 /// `AllocError` where memory is refused.
@@ -186,5 +245,5 @@ pub fn put_frame(out: &mut Vec<u8>, kind: Kind, frame: &[u8; 6]) -> Result<(), A
     ensures { OnOk result (out.new.items ≡ out.old.items ++ frame_text kind frame.now) }
 {
     put_fields(out, kind, frame)?;
-    put_check(out, frame[5] / 2, right_check(frame))
+    put_verdict(out, frame)
 }

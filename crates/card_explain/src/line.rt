@@ -23,6 +23,17 @@ pub struct Note {
     pub fell: bool,
 }
 
+/// An exchange that is explained.
+#[derive(Clone, Copy, Debug, PartialEq, Eq)]
+pub struct Numbered {
+    /// Its number, the first of a card is 0, as faults are planned by it.
+    pub number: u64,
+    /// The exchange.
+    pub exchange: Exchange,
+    /// The fault that is planned for it.
+    pub note: Option<Note>,
+}
+
 // The line of an exchange without its line feed, filled up with spaces.
 fn front(alloc: Global, exchange: &Exchange) -> Result<Vec<u8>, AllocError>
     ensures { IfOk result (λ line. line.items ≡ padded COLUMN (front_of (exchange_text exchange.now))) }
@@ -54,7 +65,8 @@ fn put_note(out: &mut Vec<u8>, note: Option<Note>) -> Result<(), AllocError>
     put_fault(out, note.fault)
 }
 
-/// Writes the line of an exchange as a trace has it, with the exchange in words after it, and the fault that was planned for it.
+/// Writes the line of an exchange as a trace has it, with its number and the exchange in words after it, and the fault that was
+/// planned for it.
 ///
 /// # Errors
 /// `AllocError` where memory is refused.
@@ -64,14 +76,21 @@ pub fn put_line(
     out: &mut Vec<u8>,
     card: KnownCard,
     is_app: bool,
-    exchange: &Exchange,
-    note: Option<Note>,
+    numbered: &Numbered,
 ) -> Result<(), AllocError>
-    ensures { OnOk result (out.new.items ≡ out.old.items ++ explained card is_app exchange.now note) }
+    ensures { OnOk result (out.new.items ≡ out.old.items ++ explained card is_app numbered.now) }
 {
-    let line = front(alloc, exchange)?;
-    say(out, &[Piece::Text(line.as_slice()), Piece::Text(b" ")])?;
-    put_exchange(out, card, is_app, exchange)?;
-    put_note(out, note)?;
+    let line = front(alloc, &numbered.exchange)?;
+    say(
+        out,
+        &[
+            Piece::Text(line.as_slice()),
+            Piece::Text(b" #"),
+            Piece::Number(numbered.number),
+            Piece::Text(b" "),
+        ],
+    )?;
+    put_exchange(out, card, is_app, &numbered.exchange)?;
+    put_note(out, numbered.note)?;
     say(out, &[Piece::Text(b"\n")])
 }

@@ -3,8 +3,7 @@ ghost use Rattle.std.specs.Prelude.{OnOk, false, ◌++◌, ◌≡◌};
 ghost use Rattle.card_explain.specs.Explained.{lines_from};
 
 use crate::exchange::{KnownCard, announces_application_command};
-use crate::line::{Note, put_line};
-use mmc_bus::Exchange;
+use crate::line::{Numbered, put_line};
 use std::alloc::{AllocError, Global};
 
 /// Writes a line with words for each of these exchanges, which follow each other, with the fault that was planned for it.
@@ -16,14 +15,14 @@ pub fn put_lines(
     alloc: Global,
     out: &mut Vec<u8>,
     card: KnownCard,
-    exchanges: &[(Exchange, Option<Note>)],
+    exchanges: &[Numbered],
 ) -> Result<(), AllocError>
     ensures { OnOk result (out.new.items ≡ out.old.items ++ lines_from card false exchanges.now) }
 {
     let mut is_app = false;
-    for noted in exchanges {
-        put_line(alloc, out, card, is_app, &noted.0, noted.1)?;
-        is_app = announces_application_command(&noted.0);
+    for numbered in exchanges {
+        put_line(alloc, out, card, is_app, numbered)?;
+        is_app = announces_application_command(&numbered.exchange);
     }
     Ok(())
 }

@@ -425,9 +425,9 @@ no_plan place (byte ∷ bytes) =
       | false ↦ no_plan (suc place) bytes
     ]
 
-set_behind : (front rest : List ℕ) (old byte : ℕ) → slice_set (front ++ old ∷ rest) (length front) byte ≡ front ++ byte ∷ rest
-set_behind [] rest old byte = refl
-set_behind (f ∷ front) rest old byte = ap (λ bs. f ∷ bs) (set_behind front rest old byte)
+set_after : (front rest : List ℕ) (old byte : ℕ) → slice_set (front ++ old ∷ rest) (length front) byte ≡ front ++ byte ∷ rest
+set_after [] rest old byte = refl
+set_after (f ∷ front) rest old byte = ap (λ bs. f ∷ bs) (set_after front rest old byte)
 
 put_step : (t : Bool) (place byte : ℕ) (front zeros : List ℕ) (ls : List CardLine) (whole : List ℕ) → (t ≡ true → byte ≡ 0)
     → fold with_byte (front ++ byte ∷ zeros) ls ≡ whole → slice_set (front ++ 0 ∷ zeros) place byte ≡ front ++ byte ∷ zeros
@@ -448,7 +448,7 @@ exts_put front (byte ∷ bytes) place e =
     ap (λ block. fold with_byte block (exts (suc place) bytes)) (sym (append_assoc front (byte ∷ []) zeros)) ∙ rest
     ∙ append_assoc front (byte ∷ []) bytes in
     let set : slice_set (front ++ 0 ∷ zeros) place byte ≡ front ++ byte ∷ zeros =
-    ap (λ i. slice_set (front ++ 0 ∷ zeros) i byte) e ∙ set_behind front zeros 0 byte in
+    ap (λ i. slice_set (front ++ 0 ∷ zeros) i byte) e ∙ set_after front zeros 0 byte in
     put_step (byte == 0) place byte front zeros (exts (suc place) bytes) (front ++ byte ∷ bytes) (λ z. eqb-true byte 0 z) next set
 
 abbrev mmc_card_lines : List ℕ → ℕ → List ℕ → List ℕ → ℕ → List CardLine

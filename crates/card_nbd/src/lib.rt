@@ -7,4 +7,5 @@ mod options;
 mod serving;
 
 pub use fault::NbdFault;
+pub use options::nbd_command;
 pub use serving::nbd;

@@ -1,6 +1,6 @@
 // The words of the command.
 use crate::fault::NbdFault;
-use clap::{Arg, ArgMatches, Command};
+use clap::{Arg, ArgAction, ArgMatches, Command};
 use mmc_bus::Part;
 use nbd_server::part_by;
 use std::alloc::{AllocError, Global};
@@ -16,15 +16,25 @@ pub struct Options<'a> {
     pub save: Option<&'a str>,
     /// The partition that goes by the empty name, and that is saved alone, where one was given.
     pub part: Option<Part>,
+    /// Whether a line at the end says what happened.
+    pub stats: bool,
 }
 
-// The command as `clap` reads it.
-fn command<'a>(alloc: Global) -> Result<Command<'a>, AllocError> {
+/// The command as `clap` reads it.
+///
+/// # Errors
+/// `AllocError` where memory is refused.
+pub fn nbd_command<'a>(alloc: Global) -> Result<Command<'a>, AllocError> {
     Command::new(alloc, "nbd")
         .arg(Arg::new(alloc, "card").long("card").required(true))?
         .arg(Arg::new(alloc, "image").long("image"))?
         .arg(Arg::new(alloc, "save").long("save"))?
-        .arg(Arg::new(alloc, "part").long("part"))
+        .arg(Arg::new(alloc, "part").long("part"))?
+        .arg(
+            Arg::new(alloc, "stats")
+                .long("stats")
+                .action(ArgAction::SetTrue),
+        )
 }
 
 // The partition that is named, where one is.
@@ -43,7 +53,7 @@ fn part_given(matches: &ArgMatches<'_>) -> Result<Option<Part>, NbdFault> {
 /// # Errors
 /// `Usage` for other words, `NoPart`; `Unserved(NoMemory)`.
 pub fn options_given<'a>(alloc: Global, words: &'a [&'a str]) -> Result<Options<'a>, NbdFault> {
-    let command = command(alloc)?;
+    let command = nbd_command(alloc)?;
     let Ok(matches) = command.try_get_matches_from(words) else {
         return Err(NbdFault::Usage);
     };
@@ -55,5 +65,6 @@ pub fn options_given<'a>(alloc: Global, words: &'a [&'a str]) -> Result<Options<
         image: matches.get_str("image"),
         save: matches.get_str("save"),
         part: part_given(&matches)?,
+        stats: matches.get_str("stats") == Some("true"),
     })
 }

@@ -2,7 +2,7 @@
 use crate::fault::NbdFault;
 use crate::files::read_files;
 use crate::options::{Options, options_given};
-use card_served::{ServeFault, built_large, named_new_file, save};
+use card_served::{ServeFault, Stats, begun_where_named, built_large, save};
 use card_text::card_file::CardFile;
 use mmc_block::BlockDev;
 use mmc_bus::Part;
@@ -54,7 +54,7 @@ fn serve_streams<R: Read + Drop, W: Write + Drop>(
 }
 
 // Serves as the options say.
-fn serve_card<R: Files + Input + Print + AllocGlobal>(
+fn serve_card<R: Files + Input + Print + Eprint + AllocGlobal>(
     rt: &R,
     options: &Options<'_>,
 ) -> Result<(), NbdFault> {
@@ -62,24 +62,39 @@ fn serve_card<R: Files + Input + Print + AllocGlobal>(
     let CardFile { spec, plan } = read_files(rt, options.card, options.image)?;
     let card = built_large(alloc, spec, plan.as_slice())?;
     let (mut desk, default) = opened(alloc, card, options.part)?;
-    let file = named_new_file(rt, options.save, ServeFault::Save)?;
+    let file = begun_where_named(rt, options.save, ServeFault::Save)?;
     let served = serve_streams(alloc, &mut desk, default, rt.reader(), io::writer(rt));
+    let healed = desk.device().healed();
     let card = desk.close();
+    if options.stats {
+        let stats = Stats {
+            exchanges: card.exchanges(),
+            planned: plan.len() as u64,
+            fell: card.faults(),
+            healed,
+        };
+        let _ = eprintln!(rt; "cardtool: {stats}");
+    }
     if let Some(mut file) = file {
-        if save(&card, options.part, &mut file).is_err() {
+        if save(&card, options.part, &mut file.out).is_err() {
             return Err(NbdFault::Unserved(ServeFault::Save));
         }
+        file.finish(rt)?;
     }
     served
 }
 
 /// Serves the card that the words name, of which `nbd` is the first, on standard input and output, until the client ends the
-/// session or the input ends; then saves what it holds, however the session ended.
+/// session or the input ends; then saves what it holds, however the session ended, and where it is asked for says in a line on
+/// standard error what happened.
 ///
 /// # Errors
 /// `Usage`, `NoPart`; `Unserved` with those of the files, in the order card file, image, card, save, or with `Save` at the end;
 /// `Session`. With any of the last two the card was served.
-pub fn nbd<R: Files + Input + Print + AllocGlobal>(rt: &R, words: &[&str]) -> Result<(), NbdFault> {
+pub fn nbd<R: Files + Input + Print + Eprint + AllocGlobal>(
+    rt: &R,
+    words: &[&str],
+) -> Result<(), NbdFault> {
     let options = options_given(rt.alloc(), words)?;
     serve_card(rt, &options)
 }

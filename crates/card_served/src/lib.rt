@@ -8,9 +8,13 @@ mod files;
 mod inputs;
 mod planning;
 mod saving;
+mod stats;
+mod whole_file;
 
 pub use building::{built, built_large};
 pub use fault::ServeFault;
 pub use files::{named_file, named_new_file, opened};
 pub use inputs::{card_in, image_front, whole};
 pub use saving::save;
+pub use stats::Stats;
+pub use whole_file::{WholeFile, begun_where_named};

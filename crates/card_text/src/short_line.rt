@@ -1,5 +1,5 @@
 // A short line of the output, which is put together before it is written: a write costs more than the bytes of a line.
-ghost use Rattle.std.specs.Prelude.{◌≡◌, ◌≤◌, ◌+◌, ◌++◌, [], length};
+ghost use Rattle.std.specs.Prelude.{◌≡◌, ◌≤◌, ◌+◌, ◌++◌, length};
 ghost use Rattle.std.specs.Fmt.{decimal};
 
 use arrayvec::ArrayVec;

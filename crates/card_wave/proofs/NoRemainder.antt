@@ -36,10 +36,10 @@ pushed_sum p q (b ∷ bs) h k =
     ∙ ap (λ x. bit_xor x (pushed_all (pushed q b) bs)) (shift_within (length bs) p)
 
 -- after a string, bits of their own
-remainder_behind : (xs ys : List Bool) → remainder (xs ++ ys) ≡ bit_xor (shift (length ys) (remainder xs))
+remainder_after : (xs ys : List Bool) → remainder (xs ++ ys) ≡ bit_xor (shift (length ys) (remainder xs))
     (remainder ys)
 unfolding remainder
-remainder_behind xs ys =
+remainder_after xs ys =
     remainder-append xs ys
     ∙ ap (λ p. pushed_all p ys) (sym (xor_zero_r (remainder xs)))
     ∙ pushed_sum (remainder xs) 0 ys (remainder-lt xs) (omega arith)
@@ -92,7 +92,7 @@ remainder_of_bits n h =
 
 pub no_remainder : (bits : List Bool) → remainder (bits ++ check_bits (line_check bits)) ≡ 0
 no_remainder bits =
-    remainder_behind bits (check_bits (line_check bits))
+    remainder_after bits (check_bits (line_check bits))
     ∙ ap (bit_xor (shift 16 (remainder bits))) (remainder_of_bits (line_check bits) (line_check-lt bits))
     ∙ ap (λ x. bit_xor x (line_check bits)) (sym (line_check_is bits))
     ∙ xor_self (line_check bits)

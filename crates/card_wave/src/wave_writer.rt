@@ -1,6 +1,6 @@
 // Writes clocks of a waveform.
 ghost use Rattle.std.specs.Fmt.{decimal};
-ghost use Rattle.std.specs.Prelude.{◌≡◌, ◌<◌, ◌≤◌, ◌∷◌, []};
+ghost use Rattle.std.specs.Prelude.{◌<◌, ◌∷◌, []};
 ghost use Rattle.card_wave.specs.Samples.{held, idle};
 ghost use Rattle.card_wave.specs.WaveText.{Draws, changed, changes_text, edge_text, sample_text};
 ghost use Rattle.text_out.specs.Writing.{Writes};

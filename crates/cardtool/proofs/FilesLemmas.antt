@@ -1,5 +1,5 @@
 -- Files that were read, or weren't.
-use Rattle.std.proofs.Common.{◌≡◌, ℕ, List, Option, None, Some, Result, Ok, Err, inl, inr, sym, subst}
+use Rattle.std.proofs.Common.{◌≡◌, ℕ, List, Option, Some, Result, Ok, Err, inl, inr, sym, subst}
 use Rattle.std.specs.Prelude.{◌⊎◌, IfSome, IsSome}
 use Rattle.mmc_card_sim.specs.declared.spec.CardSpec.{CardSpec}
 use Rattle.card_text.specs.declared.event.ScriptEvent.{ScriptEvent}

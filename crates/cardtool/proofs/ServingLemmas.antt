@@ -70,12 +70,12 @@ due_more pending (Turn ∷ script) next later more h = ap (λ l. l ++ more) h
 due_more pending (Run ∷ script) next later more h =
     more_so (pending == 0) pending script next later more (due_more pending script next later more) h
 
-behind_more : (next : ScriptEvent) (later more : List ScriptEvent)
+after_more : (next : ScriptEvent) (later more : List ScriptEvent)
     → events_after next later ++ more ≡ events_after next (later ++ more)
-behind_more (Submit c r) later more = refl
-behind_more (Cancel t) later more = refl
-behind_more Turn later more = refl
-behind_more Run later more = refl
+after_more (Submit c r) later more = refl
+after_more (Cancel t) later more = refl
+after_more Turn later more = refl
+after_more Run later more = refl
 
 -- with more to come after it
 abbrev with_more : List ScriptEvent → Standing → Standing
@@ -103,7 +103,7 @@ script_goes_on pending script (e ∷ es) (r ∷ rs) then left more (mid, step, h
         later = step.later ++ more;
         first = due_more pending script step.next step.later more step.first;
         event_is = step.event_is;
-        new_is = ap (standing_of now) (behind_more step.next step.later more);
+        new_is = ap (standing_of now) (after_more step.next step.later more);
       },
       script_goes_on now rest es rs then left more
           (subst (λ s. Follow IsNext s es rs (standing_of then left)) step.new_is h),

@@ -19,9 +19,9 @@ use Rattle.cardtool.specs.Serving.{texts}
 use Rattle.cardtool.specs.Whole.{IsServed, IsTraceAfter, ended_by, trace_text}
 
 -- nothing stood after the text
-bare : (old new : Option (List ℕ)) (text behind : List ℕ) → behind ≡ [] → Appends old new (text ++ behind)
+bare : (old new : Option (List ℕ)) (text after : List ℕ) → after ≡ [] → Appends old new (text ++ after)
     → Appends old new text
-bare old new text behind none wrote =
+bare old new text after none wrote =
     subst (Appends old new) (append-nil text) (subst (λ t. Appends old new (text ++ t)) none wrote)
 
 -- the trace went out after the answers, or the writer failed within it
@@ -73,17 +73,17 @@ record FrontWithTrace (n : ℕ) (left : List ScriptEvent) (old new : Option (Lis
   printed : AppendsFront old new (text ++ text_after)
 
 -- a prefix of the answers' text is a prefix of what is printed with a trace, too
-front_with_trace : (n : ℕ) (left : List ScriptEvent) (old new : Option (List ℕ)) (text behind : List ℕ)
-    → behind ≡ [] → AppendsFront old new (text ++ behind) → FrontWithTrace n left old new text
-front_with_trace n [] old new text behind none front =
+front_with_trace : (n : ℕ) (left : List ScriptEvent) (old new : Option (List ℕ)) (text after : List ℕ)
+    → after ≡ [] → AppendsFront old new (text ++ after) → FrontWithTrace n left old new text
+front_with_trace n [] old new text after none front =
     let same = subst (λ t. AppendsFront old new (text ++ t)) none front in
     record {
       text_after = trace_text [];
       traced = record { exchanges = []; few = omega arith; framed = All-nil HasItsFrame; text_is = refl };
       printed = front_before old new text (trace_text []) (subst (AppendsFront old new) (append-nil text) same);
     }
-front_with_trace n (e ∷ left) old new text behind none front =
-    record { text_after = behind; traced = none; printed = front }
+front_with_trace n (e ∷ left) old new text after none front =
+    record { text_after = after; traced = none; printed = front }
 
 fault_with_trace : (limits : Lines) (made : Made) (before later : Sets) (fell : ℕ) (script : List ScriptEvent) (n : ℕ)
     (old new : Option (List ℕ)) (fault : ServeFault)

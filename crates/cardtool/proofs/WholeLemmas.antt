@@ -1,5 +1,5 @@
 -- The whole: a script that was served from the machine that holds what the card held, and a card that wasn't opened.
-use Rattle.std.proofs.Common.{◌≡◌, ◌≤◌, ◌-◌, ◌+◌, ◌*◌, ◌∙◌, ℕ, List, [], ◌∷◌, ◌++◌, Option, None, length}
+use Rattle.std.proofs.Common.{◌≡◌, ◌≤◌, ◌-◌, ◌+◌, ◌∙◌, ℕ, List, [], ◌∷◌, ◌++◌, Option, None, length}
 use Rattle.std.proofs.Common.{Result, Ok, Err, Bool, true, sym, refl, ap, ap₂, subst, arith, append-nil}
 use Rattle.std.specs.Prelude.{IfErr, IsSomeAnd, Some, false}
 use Rattle.std.proofs.lemmas.Bool.{false≢true}
@@ -13,21 +13,18 @@ use Rattle.mmc_card.specs.Card.{holds}
 use Rattle.mmc_card.specs.Made.{Made}
 use Rattle.mmc_card.specs.declared.exchange.Lines.{Lines}
 use Rattle.mmc_card.specs.Profile.{InProfile}
-use Rattle.mmc_card.specs.declared.part.Part.{Part}
-use Rattle.mmc_card.specs.Sectors.{Sector, Sets, Within}
-use Rattle.mmc_card_sim.specs.CardSpec.{IsRefusal, refusal_of}
+use Rattle.mmc_card.specs.Sectors.{Sets, Within}
+use Rattle.mmc_card_sim.specs.CardSpec.{refusal_of}
 use Rattle.mmc_card_sim.specs.SimView.{SimView, sim_bus_view}
 use Rattle.mmc_card_sim.proofs.PlanLemmas.{all_to_come}
-use Rattle.mmc_card_sim.specs.declared.spec.BuildFault.{BuildFault}
-use Rattle.mmc_card_sim.specs.declared.spec.BuildFault.TheVariants as Refused
 use Rattle.mmc_card_sim.specs.declared.spec.CardSpec.{CardSpec}
 use Rattle.mmc_switch.specs.Info.{IsInfo}
 use Rattle.mmc_switch.specs.declared.info.Info.{Info}
-use Rattle.mmc_block.specs.Answers.{failures}
 use Rattle.mmc_block.specs.Device.{Agrees, AgreesCounted, DeviceView, IsOpened, unanswered_of}
-use Rattle.mmc_block.specs.InOrder.{AreDecided, EndsInOrder, IsInOrder, MayHold, answers, history}
+use Rattle.mmc_block.specs.InOrder.{AreDecided}
 use Rattle.mmc_block.specs.Machine.{Machine, Waiting, all_failed, opened}
-use Rattle.mmc_block.specs.Execution.{Counted, IsCountedExecution, Event as MachineEvent, Follow, Reply, IsExecution, unanswered}
+use Rattle.mmc_block.specs.Execution.{Counted, Event as MachineEvent, Follow, Reply, opened_after, unanswered}
+use Rattle.mmc_block.specs.ExecutionLaws.{ExecutionLaws}
 use Rattle.mmc_block.specs.Service.{in_service_of}
 use Rattle.mmc_block.specs.declared.open_fault.OpenFault.{OpenFault}
 use Rattle.mmc_block.specs.declared.open_fault.OpenFault.TheVariants as Unopened
@@ -41,44 +38,10 @@ use Rattle.cardtool.specs.Serving.{standing_of, texts}
 use Rattle.card_text.specs.Planning.{PlannedFault}
 use Rattle.card_served.specs.New.{IsNew}
 use Rattle.cardtool.specs.Whole.{IsServed, IsServedOnNewCard, IsServedOnSpec, IsUnopened, IsUnwritten}
-use Rattle.cardtool.specs.Whole.{ExecutedInAnyProfile, opened_after}
+use Rattle.cardtool.specs.Whole.{ExecutedInAnyProfile}
 use Rattle.cardtool.specs.Whole.{outcome_of, status_of}
 use Rattle.card_served.specs.Faults.{opening_fault}
 use Rattle.cardtool.proofs.EndLemmas.{ends_answered}
-
--- What the laws of the sector machine say of every execution.
-
-abbrev pub CountedLaw : Type 0
-CountedLaw =
-    (info : Info) (old : Counted) (events : List MachineEvent) (replies : List Reply) (new : Counted)
-    → IsCountedExecution info old events replies new → IsExecution info old.machine events replies new.machine
-
-abbrev pub FaultLaw : Type 0
-FaultLaw =
-    (info : Info) (old : Counted) (events : List MachineEvent) (replies : List Reply) (new : Counted)
-    → old.in_profile ≡ true → old.machine.waits ≡ [] → old.machine.in_service ≡ []
-    → IsCountedExecution info old events replies new → old.faults + 4 * failures (answers replies) ≤ new.faults
-
-abbrev pub OrderLaw : Type 0
-OrderLaw =
-    (info : Info) (old : Machine) (events : List MachineEvent) (replies : List Reply) (new : Machine)
-    → AreDecided old.sets → old.waits ≡ [] → old.in_service ≡ []
-    → IsExecution info old events replies new → IsInOrder (history info old.sets events replies)
-
-abbrev pub EndLaw : Type 0
-EndLaw =
-    (info : Info) (old : Machine) (events : List MachineEvent) (replies : List Reply) (new : Machine) (sets : Sets)
-    (contents : Part → ℕ → Sector)
-    → AreDecided old.sets → old.waits ≡ [] → old.in_service ≡ [] → IsExecution info old events replies new
-    → Within sets new.sets
-    → MayHold sets contents
-    → EndsInOrder (history info old.sets events replies) sets new.next contents
-
-pub record Laws : Type 0 where
-  pub counted : CountedLaw
-  pub faults : FaultLaw
-  pub order : OrderLaw
-  pub ends : EndLaw
 
 -- What is known of a device that was opened, and of what was served on it.
 pub record Served {B : Type 0} (view : B → BusView) (start now : DeviceView B) (limits : Lines) (made : Made)
@@ -112,7 +75,7 @@ none_to_change info later m idle within = subst (λ ws. Within later (all_failed
 
 module _ {B : Type 0} (view : B → BusView) (start now : DeviceView B) (limits : Lines) (made : Made)
     (before later : Sets)
-    (fell : ℕ) (laws : Laws) (decided : AreDecided before) (device : Served view start now limits made before later fell)
+    (fell : ℕ) (laws : ExecutionLaws) (decided : AreDecided before) (device : Served view start now limits made before later fell)
     (script : List ScriptEvent) where
   -- an execution from the machine that holds what the card held, over the sectors that the device has then
   executed_over_sectors : (left : List ScriptEvent) (events : List MachineEvent) (replies : List Reply)
@@ -253,8 +216,8 @@ module _ {B : Type 0} (view : B → BusView) (start now : DeviceView B) (first l
       let (stays, narrows) = opens was_kept in
       let c : Counted = opened_after (view start.bus).faults false (holds (view start.bus).card) in
       let agrees = machine was_kept c (record { machine = refl; faults = refl; in_profile = λ is. absurd (false≢true is) }) in
-      let behind = script_stays view start now script old new r c agrees served in
-      λ most few. subst (λ b. FallAtMost most (view b)) (sym ends) (behind.bounded most (stays.bounded most few))
+      let after = script_stays view start now script old new r c agrees served in
+      λ most few. subst (λ b. FallAtMost most (view b)) (sym ends) (after.bounded most (stays.bounded most few))
 
 pub unwritten : {E : Type 0} (old new : Option (List ℕ)) (r : Result Bool E)
     → IfErr (outcome_of r) (λ fault. IsUnwritten old new fault)

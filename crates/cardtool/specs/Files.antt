@@ -1,5 +1,5 @@
 -- The files: why they weren't read, or what they say.
-use Rattle.std.specs.Prelude.{◌≡◌, ◌⊎◌, ◌*◌, ◌+◌, ◌<◌, ℕ, IfSome, IsSome, List, Option, None, Some, Result, Ok, Err, take, length, ⊤}
+use Rattle.std.specs.Prelude.{◌≡◌, ◌⊎◌, ◌*◌, ◌+◌, ℕ, IfSome, IsSome, List, Option, None, Some, Result, Ok, Err, take, ⊤}
 use Rattle.mmc_card_sim.specs.declared.spec.CardSpec.{CardSpec}
 use Rattle.mmc_card_sim.specs.declared.spec.TheConstants.{MAX_SECTORS}
 use Rattle.card_text.specs.declared.event.ScriptEvent.{ScriptEvent}

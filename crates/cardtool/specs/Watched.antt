@@ -1,5 +1,5 @@
 -- A card in memory whose fallen faults are noted.
-use Rattle.std.specs.Prelude.{◌≡◌, ◌<◌, ◌++◌, ◌∷◌, ℕ, List, [], if◌then◌else◌, length, nat_lt, ◌&&◌}
+use Rattle.std.specs.Prelude.{◌≡◌, ◌++◌, ◌∷◌, ℕ, [], if◌then◌else◌, length, nat_lt, ◌&&◌}
 use Rattle.mmc_card_sim.specs.declared.plan.TheConstants.{MAX_PLANNED}
 use Rattle.cardtool.specs.declared.watched.WatchedCard.{WatchedCard}
 

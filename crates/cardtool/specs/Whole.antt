@@ -25,8 +25,8 @@ use Rattle.mmc_switch.specs.Info.{IsInfo}
 use Rattle.mmc_switch.specs.declared.info.Info.{Info}
 use Rattle.mmc_block.specs.Answers.{failures}
 use Rattle.mmc_block.specs.InOrder.{AreDecided, EndsInOrder, IsInOrder, MayHold, answers, history}
-use Rattle.mmc_block.specs.Machine.{all_failed, opened}
-use Rattle.mmc_block.specs.Execution.{Counted, IsCountedExecution, Event as MachineEvent, Reply, unanswered}
+use Rattle.mmc_block.specs.Machine.{all_failed}
+use Rattle.mmc_block.specs.Execution.{Counted, IsCountedExecution, Event as MachineEvent, Reply, opened_after, unanswered}
 use Rattle.card_text.specs.declared.event.ScriptEvent.{ScriptEvent}
 use Rattle.card_text.specs.declared.event.ScriptEvent.TheVariants.{Run}
 use Rattle.card_served.specs.declared.fault.ServeFault.{ServeFault}
@@ -78,15 +78,6 @@ abbrev pub IsTraceAfter : Option ℕ → List ScriptEvent → List ℕ → Type 
 IsTraceAfter None left text = text ≡ []
 IsTraceAfter (Some n) (event ∷ left) text = text ≡ []
 IsTraceAfter (Some n) [] text = IsTrace n text
-
--- the machine that is opened on these sectors, after so many faults; none of them is a request's own
-abbrev pub opened_after : ℕ → Bool → Sets → Counted
-opened_after faults in_profile sets = record {
-  machine = opened sets;
-  in_profile = in_profile;
-  faults = faults;
-  own_faults = λ ticket. 0;
-}
 
 -- An execution by these events and replies, which are the script's up to what is left, over sectors that held `before` and
 -- then `later`, while so many faults fell.

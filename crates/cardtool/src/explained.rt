@@ -1,6 +1,6 @@
 // The trace with words after each of its lines, and what was met and healed.
 use crate::watched::WatchedCard;
-use card_explain::{KnownCard, Note, put_lines};
+use card_explain::{KnownCard, Note, Numbered, put_lines};
 use card_served::ServeFault;
 use mmc_block::Healed;
 use mmc_bus::{Bus, Exchange, TraceBus};
@@ -56,18 +56,22 @@ fn note_at(exchange: u64, plan: &[(u64, Fault)], fell: &[u64]) -> Option<Note> {
     })
 }
 
-// These exchanges, the last of so many, each with the fault that is planned for it.
+// These exchanges, the last of so many, each with its number and the fault that is planned for it.
 fn with_notes(
     alloc: Global,
     kept: &[Exchange],
     count: u64,
     plan: &[(u64, Fault)],
     fell: &[u64],
-) -> Result<Vec<(Exchange, Option<Note>)>, ServeFault> {
+) -> Result<Vec<Numbered>, ServeFault> {
     let mut noted = Vec::new(alloc);
     let mut number = count.saturating_sub(kept.len() as u64);
     for exchange in kept {
-        noted.push((*exchange, note_at(number, plan, fell)))?;
+        noted.push(Numbered {
+            number,
+            exchange: *exchange,
+            note: note_at(number, plan, fell),
+        })?;
         number = number.saturating_add(1);
     }
     Ok(noted)

@@ -1,5 +1,5 @@
 // Serves a script, and shows or draws the exchanges.
-ghost use Rattle.std.specs.Prelude.{◌≡◌, ◌≤◌, None, Some};
+ghost use Rattle.std.specs.Prelude.{◌≤◌, None, Some};
 ghost use Rattle.mmc_bus.specs.declared.trace.TheConstants.{MAX_KEPT};
 ghost use Rattle.mmc_card_sim.specs.SimView.{sim_bus_view};
 ghost use Rattle.cardtool.specs.More.{IsShown, trace_of};

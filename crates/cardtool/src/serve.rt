@@ -11,10 +11,7 @@ use crate::play::play;
 use crate::trace::{end_with_trace, traced};
 use card_served::{ServeFault, built};
 use card_text::script::Script;
-use mmc_block::laws::{
-    a_card_at_rest_is_decided, a_counted_execution_is_an_execution, a_failure_takes_four_faults,
-    answers_are_in_order, contents_are_in_order,
-};
+use mmc_block::laws::{a_card_at_rest_is_decided, an_execution_has_its_laws};
 use mmc_block::{BlockDev, Healed};
 use mmc_bus::Bus;
 use mmc_card_sim::{CardSpec, Fault};
@@ -47,10 +44,7 @@ pub fn serve_counting<B: Bus + Drop, W: Write>(
     ensures served { IsServedOver (B.view bus) (B.view result.0) script None (W.contents out.old) (W.contents out.new) result.2 }
     ensures unwritten { IfErr result.2 (λ fault. IsUnwritten (W.contents out.old) (W.contents out.new) fault) }
 {
-    a_counted_execution_is_an_execution();
-    a_failure_takes_four_faults();
-    answers_are_in_order();
-    contents_are_in_order();
+    an_execution_has_its_laws();
     let mut device = match BlockDev::open(alloc, bus) {
         Ok(device) => device,
         Err((bus, fault)) => return (bus, Healed::new(), Err(ServeFault::from(fault))),

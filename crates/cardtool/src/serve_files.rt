@@ -10,7 +10,9 @@ use crate::more::{Drawn, Served, Shown, serve_drawn};
 use crate::options_given::Options;
 use crate::serve::serve;
 use crate::watched::WatchedCard;
-use card_served::{ServeFault, built, named_file, named_new_file, opened, save};
+use card_served::{
+    ServeFault, WholeFile, begun_where_named, built, named_file, named_new_file, opened, save,
+};
 use mmc_bus::MAX_KEPT;
 use std::alloc::Global;
 use std::io::{self, BufWriter, Read, Write};
@@ -60,12 +62,16 @@ fn finish_wave<V: Write + Drop>(drawn: Option<Drawn<V>>) -> Result<(), ServeFaul
 }
 
 // Writes the image of a card, where it is to be saved.
-fn finish_save<V: Write + Drop>(watched: &WatchedCard, file: Option<V>) -> Result<(), ServeFault> {
+fn finish_save<F: Write + Drop>(
+    rt: &impl Files,
+    watched: &WatchedCard,
+    file: Option<WholeFile<'_, F>>,
+) -> Result<(), ServeFault> {
     let Some(mut file) = file else {
         return Ok(());
     };
-    match save(&watched.card, None, &mut file) {
-        Ok(()) => Ok(()),
+    match save(&watched.card, None, &mut file.out) {
+        Ok(()) => file.finish(rt),
         Err(_) => Err(ServeFault::Save),
     }
 }
@@ -83,7 +89,7 @@ fn serve_more<R: Files + Print + AllocGlobal, C: Read, S: Read, I: Read>(
     let known = known_card(&spec);
     let card = built(alloc, spec, plan.as_slice())?;
     let wave = named_new_file(rt, options.vcd, ServeFault::Vcd)?;
-    let image = named_new_file(rt, options.save, ServeFault::Save)?;
+    let image = begun_where_named(rt, options.save, ServeFault::Save)?;
     let Ok(mut out) = BufWriter::new(alloc, io::writer(rt)) else {
         return Err(ServeFault::NoMemory);
     };
@@ -96,7 +102,7 @@ fn serve_more<R: Files + Print + AllocGlobal, C: Read, S: Read, I: Read>(
     };
     let flushed = out.flush();
     finish_wave(drawn)?;
-    finish_save(&bus, image)?;
+    finish_save(rt, &bus, image)?;
     let status = status?;
     explained?;
     match flushed {

@@ -4,7 +4,7 @@
 //! did, the device is the sector machine over the card of that story.
 #![tactic(auto)]
 
-ghost use Rattle.std.specs.Prelude.{◌+◌, ◌≡◌, ◌≤◌, [], IfErr, IfOk, OnErr, false, ℕ};
+ghost use Rattle.std.specs.Prelude.{◌+◌, ◌≡◌, ◌≤◌, [], IfErr, IfOk, OnErr, false};
 ghost use Rattle.mmc_card.specs.Profile.{InProfile};
 ghost use Rattle.mmc_block.specs.Device.{AgreesCounted, Comes, IsOpened};
 ghost use Rattle.mmc_block.specs.Execution.{Counted, CountedSteps, submitted_reply};

@@ -1,5 +1,5 @@
 -- What a turn does over any bus.
-use Rattle.std.specs.Prelude.{◌++◌, ◌*◌, ◌∷◌, ◌≡◌, ◌⊎◌, Bool, List, [], false, length, ℕ}
+use Rattle.std.specs.Prelude.{◌++◌, ◌*◌, ◌∷◌, ◌≡◌, ◌⊎◌, Bool, List, [], false, length}
 use Rattle.mmc_bus.specs.declared.cause.Cause.{Cause}
 use Rattle.mmc_queue.specs.declared.request.Request.{Request}
 use Rattle.mmc_queue.specs.declared.request.Request.TheVariants.{Read}

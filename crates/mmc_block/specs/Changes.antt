@@ -1,5 +1,5 @@
 -- Headline (docs/AUDIT.md, "What to read").
--- What a request changes. The rules are the project's own.
+-- What each request of a queue changes, by what it names. The rules are the project's own.
 use Rattle.std.specs.Prelude.{[]}
 use Rattle.mmc_card.specs.Sectors.{Change, pieces}
 use Rattle.mmc_requests.specs.Changes.{erased_at, written_at}

@@ -1,6 +1,7 @@
 -- Headline (docs/AUDIT.md, "What to read").
 -- An execution of the sector machine: events with their replies, one after the other.
 use Rattle.std.specs.Prelude.{◌+◌, ◌==◌, ◌∷◌, ◌≡◌, ◌≤◌, Bool, Err, List, None, Ok, Option, Result, Some, [], if◌then◌else◌, length, true, ℕ}
+use Rattle.mmc_card.specs.Sectors.{Sets}
 use Rattle.mmc_block.specs.declared.completion.Answer.{Answer}
 use Rattle.mmc_block.specs.declared.completion.Answer.TheVariants.{Data, Done, Failed}
 use Rattle.mmc_block.specs.declared.completion.Completion.{Completion}
@@ -9,7 +10,7 @@ use Rattle.mmc_block.specs.declared.cancel.CancelFault.{CancelFault}
 use Rattle.mmc_block.specs.declared.cancel.CancelFault.TheVariants as fault
 use Rattle.mmc_block.specs.declared.refused.Refused.{Refused}
 use Rattle.mmc_queue.specs.declared.request.Request.{Request}
-use Rattle.mmc_block.specs.Machine.{Accepts, GivesBack, IsTicketOf, Machine, AnswersAll, StartsIfIdle, Turns, Waiting}
+use Rattle.mmc_block.specs.Machine.{Accepts, GivesBack, IsTicketOf, Machine, AnswersAll, StartsIfIdle, Turns, Waiting, opened}
 use Rattle.mmc_block.specs.Refusal.{IsFirst, first_refusal}
 
 -- what a client may do
@@ -80,6 +81,15 @@ pub record Counted : Type 0 where
   pub in_profile : Bool
   pub faults : ℕ
   pub own_faults : ℕ → ℕ
+
+-- as a device opens whose card may hold these sets, after so many faults
+abbrev pub opened_after : ℕ → Bool → Sets → Counted
+opened_after faults in_profile sets = record {
+  machine = opened sets;
+  in_profile = in_profile;
+  faults = faults;
+  own_faults = λ ticket. 0;
+}
 
 -- so many more for one ticket, or for none
 abbrev pub own_after : ℕ → Option ℕ → (ℕ → ℕ) → ℕ → ℕ

@@ -1,4 +1,4 @@
-ghost use Rattle.std.specs.Prelude.{◌≡◌, ◌↔◌, Err, IfOk, OnErr, MatchOption, false, true, ℕ};
+ghost use Rattle.std.specs.Prelude.{◌≡◌, ◌↔◌, Err, IfOk, OnErr, false, true};
 ghost use Rattle.mmc_block.specs.Entries.{waits_of};
 ghost use Rattle.mmc_block.specs.Machine.{IsTicketOf};
 ghost use Rattle.mmc_block.specs.Service.{in_service_of, service_of};

@@ -1,11 +1,10 @@
 //! Laws about the sector machine. Each function does nothing; its contract is the law, which a caller then knows.
-ghost use Rattle.std.specs.Prelude.{◌*◌, ◌+◌, ◌≡◌, ◌≤◌, ◌↔◌, ◌⊎◌, List, [], false, true, ℕ};
+ghost use Rattle.std.specs.Prelude.{◌*◌, ◌+◌, ◌≡◌, ◌≤◌, ◌⊎◌, List, [], true, ℕ};
 ghost use Rattle.mmc_card.specs.declared.part.Part.{Part};
 ghost use Rattle.mmc_card.specs.Card.{Card, holds};
 ghost use Rattle.mmc_card.specs.Sectors.{IsDecided, Sector, Sets, Within, touches};
 ghost use Rattle.mmc_block.specs.declared.completion.Completion.{Completion};
 ghost use Rattle.mmc_switch.specs.declared.info.Info.{Info};
-ghost use Rattle.mmc_queue.specs.declared.request.Request.{Request};
 ghost use Rattle.mmc_block.specs.Answers.{any_failed, failures, is_failed};
 ghost use Rattle.mmc_block.specs.Machine.{Completes, Decides, Machine, Turns};
 ghost use Rattle.mmc_block.specs.MachineLaws.{EachOnce, KeepsValues};
@@ -15,8 +14,8 @@ ghost use Rattle.mmc_queue.specs.declared.group.Group.{Group};
 ghost use Rattle.mmc_block.specs.Entries.{waits_of};
 ghost use Rattle.mmc_block.specs.Groups.{IsChangeOf};
 ghost use Rattle.mmc_block.specs.Service.{change_of_group};
-ghost use Rattle.mmc_queue.specs.Requests.{ShareSector, conflicts, is_read};
 ghost use Rattle.mmc_block.specs.Execution.{Counted, IsCountedExecution, Event, Reply, IsExecution};
+ghost use Rattle.mmc_block.specs.ExecutionLaws.{ExecutionLaws};
 ghost use Rattle.mmc_block.specs.InOrder.{AreDecided, EndsInOrder, IsInOrder, MayHold, answers, history};
 
 use mmc_bus::card_laws;
@@ -79,6 +78,16 @@ pub fn contents_are_in_order()
         → AreDecided old.sets → old.waits ≡ [] → old.in_service ≡ [] → IsExecution info old events replies new → Within sets new.sets → MayHold sets contents
         → EndsInOrder (history info old.sets events replies) sets new.next contents }
 {}
+
+/// The four laws of every execution together.
+pub fn an_execution_has_its_laws()
+    ensures { ExecutionLaws }
+{
+    a_counted_execution_is_an_execution();
+    a_failure_takes_four_faults();
+    answers_are_in_order();
+    contents_are_in_order();
+}
 
 /// Each sector of a card at rest is decided: no write or erase is unfinished.
 pub fn a_card_at_rest_is_decided()

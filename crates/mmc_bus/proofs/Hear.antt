@@ -423,8 +423,8 @@ record WriteWays (old : BusView) (block : Sector) (got : DataOut) (new : BusView
 one_further : (card : Card) (block : Sector) → next_written (accepted block card) ≡ next_written card + 1
 one_further card block = let long = snoc_length card.values block in omega (arith, long)
 
-behind : (lands : ℕ → Bool) (card : Card) → next_written (fallen_short lands card) + 1 ≡ next_written card + 1
-behind lands card = omega arith
+between : (lands : ℕ → Bool) (card : Card) → next_written (fallen_short lands card) + 1 ≡ next_written card + 1
+between lands card = omega arith
 
 ignoring_next : (ignores : Bool) (card : Card) → next_written (ignoring ignores card) ≡ next_written card
 ignoring_next true card = refl
@@ -464,7 +464,7 @@ write_ways old block got new (fall_short lands bits ignores of can count card an
       accepts = λ h. record {
         could = can;
         goes_on = ap next_written card ∙ ignoring_next ignores (accepted block (fallen_short lands old.card))
-            ∙ one_further (fallen_short lands old.card) block ∙ behind lands old.card;
+            ∙ one_further (fallen_short lands old.card) block ∙ between lands old.card;
         shown = λ none. absurd (signed old.card.errors bits of.1
             (sym (ap (λ (c : Card). c.errors) card
             ∙ ap (λ n. bit_or n bits) (ignoring_errors ignores (accepted block (fallen_short lands old.card)))) ∙ none));

@@ -10,7 +10,7 @@ use Rattle.mmc_card.specs.declared.exchange.DataIn.{DataIn}
 use Rattle.mmc_card.specs.declared.exchange.DataOut.{DataOut}
 use Rattle.mmc_bus.specs.Lending.{IsRewritten, block, nothing}
 use Rattle.mmc_bus.specs.declared.moved.Moved.{Moved}
-use Rattle.mmc_bus.specs.Together.{AreAccepted, AreGood, MovesAtMost, OneOf, ReadOn, RestsBehind, WrittenOn, accepted_one, good_one}
+use Rattle.mmc_bus.specs.Together.{AreAccepted, AreGood, MovesAtMost, OneOf, ReadOn, RestsAfter, WrittenOn, accepted_one, good_one}
 use Rattle.mmc_bus.specs.Together.{none_accepted, none_good, reads, reads_none, reads_nothing, writes, writes_none}
 
 -- what is known of a step is known of the exchange
@@ -51,7 +51,7 @@ module _ {V S : Type 0} {Reads Takes : V → DataIn → List ℕ → V → Type 
       (each view next got left read) lent
 
 rests_as : {V : Type 0} {Rests Finds : V → V → Type 0} (finds : (a b : V) → Rests a b → Finds a b) (done : ℕ)
-    (view ready : V) → RestsBehind Rests done view ready → RestsBehind Finds done view ready
+    (view ready : V) → RestsAfter Rests done view ready → RestsAfter Finds done view ready
 rests_as finds zero view ready rests = rests
 rests_as finds (suc done) view ready rests = finds view ready rests
 

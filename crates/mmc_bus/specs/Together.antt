@@ -46,16 +46,16 @@ pub data ReadOn {V S : Type 0} (Reads : V → DataIn → List ℕ → V → Type
       → ReadOn Reads blocks leave old was (Move.Failed got) new last
 
 -- Writes. After a block that was accepted the card is found no longer busy before the next one goes.
-abbrev pub RestsBehind : {V : Type 0} → (V → V → Type 0) → ℕ → V → V → Type 0
-RestsBehind Rests zero view ready = ready ≡ view
-RestsBehind Rests (suc done) view ready = Rests view ready
+abbrev pub RestsAfter : {V : Type 0} → (V → V → Type 0) → ℕ → V → V → Type 0
+RestsAfter Rests zero view ready = ready ≡ view
+RestsAfter Rests (suc done) view ready = Rests view ready
 
 -- So many blocks went, and each was accepted.
 pub data AreAccepted {V : Type 0} (Writes : V → List ℕ → DataOut → V → Type 0) (Rests : V → V → Type 0)
     (blocks : List (List ℕ)) (old : V) : ℕ → V → Type 0 where
   none_accepted : AreAccepted Writes Rests blocks old 0 old
   accepted_one : (done : ℕ) (view ready new : V) → AreAccepted Writes Rests blocks old done view
-      → RestsBehind Rests done view ready → done < length blocks
+      → RestsAfter Rests done view ready → done < length blocks
       → Writes ready (slice_index_or blocks done []) Accepted new → AreAccepted Writes Rests blocks old (suc done) new
 
 -- either no more were offered, or the next one wasn't accepted; then it isn't told how many were
@@ -64,7 +64,7 @@ pub data WrittenOn {V : Type 0} (Writes : V → List ℕ → DataOut → V → T
   writes : (good : ℕ) (new : V) → AreAccepted Writes Rests blocks old good new
       → WrittenOn Writes Rests blocks old (Move.Good good) new
   writes_none : (some : ℕ) (view ready : V) (got : DataOut) (new : V)
-      → AreAccepted Writes Rests blocks old some view → RestsBehind Rests some view ready → some < length blocks
+      → AreAccepted Writes Rests blocks old some view → RestsAfter Rests some view ready → some < length blocks
       → (got ≡ Accepted → ⊥) → Writes ready (slice_index_or blocks some []) got new
       → WrittenOn Writes Rests blocks old (Move.Failed got) new
 
@@ -90,19 +90,19 @@ NotBusy old new = OneOf old (Busy false) (PollStep old false new) new
 pub record ReadWith {S : Type 0} (blocks : S → List (List ℕ)) (leave : S → ℕ → List ℕ → S) (old : BusView)
     (frame : List ℕ) (want : Want) (was : S) (reply : Reply) (moved : Moved DataIn) (now : S)
     (new : BusView) : Type 0 where
-  pub behind : BusView
-  pub commanded : Commanded old frame want reply behind
-  pub read : ReadOn BlockRead blocks leave behind was moved new now
+  pub between : BusView
+  pub commanded : Commanded old frame want reply between
+  pub read : ReadOn BlockRead blocks leave between was moved new now
 
 -- A command, and blocks that are written after it.
 pub record WrittenWith (old : BusView) (frame : List ℕ) (want : Want) (blocks : List (List ℕ)) (reply : Reply)
     (moved : Moved DataOut) (new : BusView) : Type 0 where
-  pub behind : BusView
-  pub commanded : Commanded old frame want reply behind
+  pub between : BusView
+  pub commanded : Commanded old frame want reply between
   -- none goes where no sound response was heard
   pub unheard : (command : ℕ × ℕ) → command_in frame ≡ Some command → IsErr (response_heard command.0 reply)
       → moved ≡ Move.Good 0
-  pub written : WrittenOn BlockWritten NotBusy blocks behind moved new
+  pub written : WrittenOn BlockWritten NotBusy blocks between moved new
 
 -- The same as a host learns of it.
 abbrev pub BlockReceived : BusView → DataIn → List ℕ → BusView → Type 0
@@ -117,15 +117,15 @@ FoundAtRest old new = OneOf old (Busy false) (PollFacts old false new) new
 pub record AskedReading {S : Type 0} (blocks : S → List (List ℕ)) (leave : S → ℕ → List ℕ → S) (old : BusView)
     (index argument : ℕ) (was : S) (heard : Result ℕ Unheard) (moved : Moved DataIn) (now : S)
     (new : BusView) : Type 0 where
-  pub behind : BusView
-  pub asked : Asked (response_heard index) (response_of index) old index argument heard behind
-  pub cause : cause_of behind.last ≡ Some (cause_of_response heard)
-  pub read : ReadOn BlockReceived blocks leave behind was moved new now
+  pub between : BusView
+  pub asked : Asked (response_heard index) (response_of index) old index argument heard between
+  pub cause : cause_of between.last ≡ Some (cause_of_response heard)
+  pub read : ReadOn BlockReceived blocks leave between was moved new now
 
 pub record AskedWriting (old : BusView) (index argument : ℕ) (blocks : List (List ℕ)) (heard : Result ℕ Unheard)
     (moved : Moved DataOut) (new : BusView) : Type 0 where
-  pub behind : BusView
-  pub asked : Asked (response_heard index) (response_of index) old index argument heard behind
-  pub cause : cause_of behind.last ≡ Some (cause_of_response heard)
+  pub between : BusView
+  pub asked : Asked (response_heard index) (response_of index) old index argument heard between
+  pub cause : cause_of between.last ≡ Some (cause_of_response heard)
   pub unheard : IsErr heard → moved ≡ Move.Good 0
-  pub written : WrittenOn BlockOffered FoundAtRest blocks behind moved new
+  pub written : WrittenOn BlockOffered FoundAtRest blocks between moved new

@@ -1,7 +1,7 @@
 //! Laws about the commands of identification and status: what a host may conclude from what it learned of an exchange,
 //! so that it never looks at the table of the card's commands. Each function does nothing; its contract is the law,
 //! which a caller then knows.
-ghost use Rattle.std.specs.Prelude.{◌≡◌, ◌⊎◌, Bool, List, Ok, Result, false, true, ℕ};
+ghost use Rattle.std.specs.Prelude.{◌≡◌, ◌⊎◌, Bool, List, Result, false, true, ℕ};
 ghost use Rattle.mmc_frame.specs.Field.{field};
 ghost use Rattle.mmc_frame.specs.declared.card_state.State.TheVariants.{Ident, Idle, Ready, Stby, Tran};
 ghost use Rattle.mmc_frame.specs.declared.kind.Kind.TheVariants.{Mmc, Sd};
@@ -14,7 +14,6 @@ ghost use Rattle.mmc_bus.specs.CommandLaws.{Does, DoesOne, Inquires, IsUnheard, 
 ghost use Rattle.mmc_card.specs.Faults.{NoFault};
 ghost use Rattle.mmc_bus.specs.Heard.{nothing_of, ocr_of, register_of};
 ghost use Rattle.mmc_bus.specs.Learned.{CommandFacts};
-ghost use Rattle.mmc_card.specs.Rows.{without_addresses};
 ghost use Rattle.mmc_card.specs.RowsErase.{forgotten};
 ghost use Rattle.mmc_card.specs.RowsIdentify.{is_served};
 ghost use Rattle.mmc_card.specs.BusView.{BusView};

@@ -1,7 +1,6 @@
-ghost use Rattle.std.specs.Prelude.{◌≡◌, [], length};
+ghost use Rattle.std.specs.Prelude.{◌≡◌, length};
 ghost use Rattle.mmc_bus.specs.Exchanges.{Commanded, DataWritten, Polled, DataRead};
 ghost use Rattle.mmc_bus.specs.Scripted.{IsFilled, PollsNext, ReadsNext, RepliesNext, WritesNext};
-ghost use Rattle.mmc_bus.specs.Wires.{unkept};
 
 use crate::bus::Bus;
 use crate::bytes::Bytes;

@@ -6,14 +6,12 @@ ghost use Rattle.mmc_frame.specs.declared.kind.Kind.TheVariants.{Mmc, Sd};
 ghost use Rattle.mmc_frame.specs.declared.commands.TheConstants as Index;
 ghost use Rattle.mmc_bus.specs.declared.host.Unheard.{Unheard};
 ghost use Rattle.mmc_card.specs.CardAnswer.{shown};
-ghost use Rattle.mmc_card.specs.Judged.{Shows};
 ghost use Rattle.mmc_card.specs.Card.{Card, NoAddress};
 ghost use Rattle.mmc_bus.specs.CommandLaws.{Does, IsSwitchSource, Responded, ShowsDropped, Switches, bytes_sent};
 ghost use Rattle.mmc_card.specs.Laws.{timing_once_sent};
 ghost use Rattle.mmc_card.specs.Made.{has_switch_function};
-ghost use Rattle.mmc_card.specs.Rows.{without_addresses};
 ghost use Rattle.mmc_card.specs.RowsErase.{forgotten};
-ghost use Rattle.mmc_card.specs.RowsSwitch.{IsExtCsdOf, programs_switch, switched, timing_after, width_by};
+ghost use Rattle.mmc_card.specs.RowsSwitch.{IsExtCsdOf, switched, width_by};
 ghost use Rattle.mmc_card.specs.RowsTransfer.{sending};
 ghost use Rattle.mmc_card.specs.BusView.{BusView};
 

@@ -1,6 +1,6 @@
 // A whole call: a request is judged, a host goes on with a card that was noted, the request is made, and how the card stands is
 // noted. The bus is handed out, since by it the contract says what became of the card.
-ghost use Rattle.std.specs.Prelude.{◌≡◌, Err, IfOk, is_err, is_some, length, true};
+ghost use Rattle.std.specs.Prelude.{◌≡◌, Err, IfOk, is_err, is_some, length};
 ghost use Rattle.mmc_bus.specs.Lending.{IsRewritten};
 ghost use Rattle.mmc_requests.specs.Changes.{erased_at, written_at};
 ghost use Rattle.mmc_requests.specs.Kinds.{kind_of_how};

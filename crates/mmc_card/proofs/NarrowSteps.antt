@@ -42,9 +42,9 @@ adds_accepted block lines c t = record {
 }
 
 -- or what has come so far is settled, and the block is the next one
-adds_behind : (block : Sector) (lands : ℕ → Bool) (lines : Lines) (c : Card) → can_accept lines c ≡ true
+adds_after : (block : Sector) (lands : ℕ → Bool) (lines : Lines) (c : Card) → can_accept lines c ≡ true
     → Adds block c (accepted block (fallen_short lands c))
-adds_behind block lands lines c t =
+adds_after block lands lines c t =
     let before = keeps_fallen_short lands c in
     let rcv = accepts_in_rcv lines c t in
     record {
@@ -90,7 +90,7 @@ write_adds old block got new step =
     after_write (Adds block old.card) old block got new (adds_none block old.card _ (keeps_same old.card))
     (λ accepts. adds_accepted block old.lines old.card accepts)
     (λ ignores is_busy _. adds_none block old.card _ (keeps_rejected ignores is_busy old.card))
-    (λ lands accepts. adds_behind block lands old.lines old.card accepts)
+    (λ lands accepts. adds_after block lands old.lines old.card accepts)
     (λ lands _. adds_none block old.card _
     (keeps_then (keeps_fallen_short lands old.card) (keeps_rejected true false (fallen_short lands old.card))))
     (λ ignores card a. adds_then block old.card card _ a (keeps_ignoring ignores card))

@@ -1,7 +1,8 @@
 -- One row a command: its index and its name, who has it, its response and the data after it (SD Physical Layer 6.00,
 -- sections 4.7.4 and 4.9; JESD84-B51, sections 6.10.4 and 6.12).
-use Rattle.std.specs.Prelude.{ℕ, Bool, true, false, List, [], codes}
+use Rattle.std.specs.Prelude.{◌≡◌, ℕ, Bool, true, false, List, [], codes}
 use Rattle.mmc_frame.specs.declared.commands.TheConstants as Index
+use Rattle.mmc_frame.specs.StatusBits.{defines}
 use Rattle.mmc_frame.specs.declared.status_bits.Standard.{Standard}
 use Rattle.mmc_frame.specs.declared.status_bits.Standard.TheVariants.{Both, Sd, Mmc}
 use Rattle.mmc_frame.specs.declared.kind.Kind.{Kind}
@@ -17,6 +18,7 @@ use Rattle.mmc_card.specs.declared.command_row.Carried.TheVariants as Data
 use Rattle.mmc_card.specs.declared.command_row.CommandRow.{CommandRow}
 use Rattle.mmc_card.specs.declared.response.Response.{Response}
 use Rattle.mmc_card.specs.declared.response.Response.TheVariants as To
+use Rattle.mmc_card.specs.Rows.{command_of}
 
 pub record Row : Type 0 where
   -- in SD's standard, or in eMMC's where that alone defines it
@@ -103,3 +105,9 @@ row_of Unknown = one Both false 63 [] To.R1 Data.Nothing
 abbrev pub index_for : Kind → Row → ℕ
 index_for SdCard row = row.index
 index_for MmcDevice row = row.mmc_index
+
+-- Each kind of card that has the command knows it by its row's index, after CMD55 or not as the row says.
+abbrev pub IsKnownByItsRow : Command → Type 0
+IsKnownByItsRow command =
+    (kind : Kind) → defines kind (row_of command).standard ≡ true
+    → command_of kind (row_of command).is_app (index_for kind (row_of command)) ≡ command

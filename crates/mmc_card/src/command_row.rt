@@ -1,7 +1,7 @@
 //! One row a command: its index and its name, who has it, its response and the data after it (SD Physical Layer 6.00,
 //! sections 4.7.4 and 4.9; JESD84-B51, sections 6.10.4 and 6.12).
 ghost use Rattle.std.specs.Prelude.{◌≡◌};
-ghost use Rattle.mmc_card.specs.CommandRows.{row_of, told};
+ghost use Rattle.mmc_card.specs.CommandRows.{IsKnownByItsRow, row_of, told};
 
 use crate::command::Command;
 use crate::response::Response;
@@ -312,6 +312,7 @@ const UNKNOWN: CommandRow = row!(Both, false, 63, b"", R1, Carried::Nothing);
 /// The row of a command.
 pub fn row_of(command: Command) -> CommandRow
     ensures whole { told result ≡ row_of command }
+    ensures known { IsKnownByItsRow command }
     ensures response { result.response ≡ (row_of command).response }
     ensures carries { result.carries ≡ (row_of command).carries }
 {

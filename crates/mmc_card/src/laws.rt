@@ -1,6 +1,6 @@
 //! Laws about the steps of a card, and about the cards in profile. Each function does nothing; its contract is the law,
 //! which a caller then knows.
-ghost use Rattle.std.specs.Prelude.{◌≡◌, ◌<◌, Bool, List, None, Ok, Some, length, true, ℕ};
+ghost use Rattle.std.specs.Prelude.{◌≡◌, ◌<◌, Bool, List, None, Ok, Some, true, ℕ};
 ghost use Rattle.mmc_frame.specs.Frame.{command_in};
 ghost use Rattle.mmc_frame.specs.declared.addressing.Addressing.{Addressing};
 ghost use Rattle.mmc_frame.specs.declared.kind.Kind.{Kind};

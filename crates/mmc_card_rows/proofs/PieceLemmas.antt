@@ -49,33 +49,33 @@ pieces_put : (first count rest : ℕ) (bytes new : List ℕ) → 512 * (first + 
     → pieces (first + (count + rest)) (put_mid (512 * first) (512 * count) bytes new)
     ≡ with_values (pieces (first + (count + rest)) bytes) first (pieces count new)
 pieces_put first count rest bytes new within len =
-    let behind : List ℕ = drop (512 * first) bytes in
-    let after : List ℕ = drop (512 * count) behind in
+    let later : List ℕ = drop (512 * first) bytes in
+    let after : List ℕ = drop (512 * count) later in
     let start : 512 * first ≤ length bytes = omega (arith, within) in
-    let left : 512 * count ≤ length behind = omega (arith, within, length-drop (512 * first) bytes) in
+    let left : 512 * count ≤ length later = omega (arith, within, length-drop (512 * first) bytes) in
     let front : List Sector = pieces first (take (512 * first) bytes) in
-    let old : List Sector = pieces count (take (512 * count) behind) in
+    let old : List Sector = pieces count (take (512 * count) later) in
     let back : List Sector = pieces rest after in
     let whole : pieces (first + (count + rest)) bytes ≡ front ++ (old ++ back) =
-    split_pieces first (count + rest) bytes start ∙ ap (λ xs. front ++ xs) (split_pieces count rest behind left) in
+    split_pieces first (count + rest) bytes start ∙ ap (λ xs. front ++ xs) (split_pieces count rest later left) in
     let put : pieces (first + (count + rest)) (take (512 * first) bytes ++ (new ++ after))
     ≡ front ++ (pieces count new ++ back) =
     pieces_append first (count + rest) (take (512 * first) bytes) (new ++ after) (length-take-le (512 * first) bytes start)
     ∙ ap (λ xs. front ++ xs) (pieces_append count rest new after len) in
     let same : length (pieces count new) ≡ length old =
-    length_pieces count new ∙ sym (length_pieces count (take (512 * count) behind)) in
+    length_pieces count new ∙ sym (length_pieces count (take (512 * count) later)) in
     put ∙ sym (ap (λ xs. with_values xs first (pieces count new)) whole
     ∙ with_between front old back (pieces count new) first (length_pieces first (take (512 * first) bytes)) same)
 
 length_put : (at k : ℕ) (xs ys : List ℕ) → at + k ≤ length xs → length ys ≡ k
     → length (put_mid at k xs ys) ≡ length xs
 length_put at k xs ys within len =
-    let behind : List ℕ = drop at xs in
+    let later : List ℕ = drop at xs in
     let front = length-take-le at xs (omega (arith, within)) in
     let some = length-drop at xs in
-    let rest = length-drop k behind in
-    let tail = length-append ys (drop k behind) in
-    let all = length-append (take at xs) (ys ++ drop k behind) in
+    let rest = length-drop k later in
+    let tail = length-append ys (drop k later) in
+    let all = length-append (take at xs) (ys ++ drop k later) in
     omega (arith, front, some, rest, tail, all, within, len)
 
 -- the whole sectors of bytes, after others were put into the place of `count` sectors

@@ -85,9 +85,9 @@ put_within : (n s k : ℕ) (xs ys : List Sector) → s + k ≤ n → n ≤ lengt
 put_within n s k xs ys fits all len =
     same_lists _ _ (search (rules, places)) (λ j d h. grind (arith, places))
 
-put_behind : (n s at k : ℕ) (xs ys : List Sector) → at ≡ n + s → at ≤ length xs
+put_after : (n s at k : ℕ) (xs ys : List Sector) → at ≡ n + s → at ≤ length xs
     → drop n (put_mid at k xs ys) ≡ put_mid s k (drop n xs) ys
-put_behind n s at k xs ys e within =
+put_after n s at k xs ys e within =
     same_lists _ _ (search (rules, places)) (λ j d h. grind (arith, places))
 
 -- the whole, with other values from the sector `s` of a partition on
@@ -103,12 +103,12 @@ split_put (n ∷ sizes) xs ys zero s k at h all fits len e =
 split_put (n ∷ sizes) xs ys (suc p) s k at h all fits len e =
     let within = place_within sizes p in
     let left = length-drop n xs in
-    let behind : at - n ≡ total (take p sizes) + s = omega (arith, e) in
+    let after : at - n ≡ total (take p sizes) + s = omega (arith, e) in
     let place : at ≡ n + (at - n) = omega (arith, e) in
     let inside : at ≤ length xs = omega (arith, e, all, within, fits) in
     ap₂ (λ zs rest. zs ∷ rest) (take-put_mid_below at k xs ys n (omega (arith, e)) inside)
-    (ap (split sizes) (put_behind n (at - n) at k xs ys place inside)
-    ∙ split_put sizes (drop n xs) ys p s k (at - n) (omega (arith, h)) (omega (arith, all, left)) fits len behind)
+    (ap (split sizes) (put_after n (at - n) at k xs ys place inside)
+    ∙ split_put sizes (drop n xs) ys p s k (at - n) (omega (arith, h)) (omega (arith, all, left)) fits len after)
 
 -- What is known of each partition.
 

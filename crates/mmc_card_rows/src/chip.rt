@@ -153,7 +153,7 @@ fn first_block_length(kind: Kind, named_length: u32) -> u32
 
 impl Chip {
     ghost use Rattle.mmc_frame.specs.Frame.{command_in};
-    ghost use Rattle.mmc_card.specs.CardAnswer.{Checked, Choice, Silent, done, raised, refused, shown, status};
+    ghost use Rattle.mmc_card.specs.CardAnswer.{Checked, Silent, done, raised, refused, shown, status};
     ghost use Rattle.mmc_card.specs.Card.{is_identified, is_in, powered_on};
     ghost use Rattle.mmc_card_rows.specs.Chip.{Answers, card_of, choice_of, command_choice};
     ghost use Rattle.mmc_card_rows.specs.Store.{parts_of, values_of};

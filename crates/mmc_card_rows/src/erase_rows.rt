@@ -1,6 +1,6 @@
 // What the card in memory does with the commands of erase and trim (SD Physical Layer 6.00, section 4.3.5; JESD84-B51,
 // sections 6.6.9 and 6.6.10), each in tran.
-ghost use Rattle.std.specs.Prelude.{◌<◌, ◌≡◌, ◌≤◌, ◌^◌, length, not, true};
+ghost use Rattle.std.specs.Prelude.{◌<◌, ◌≡◌, ◌≤◌, length, not, true};
 
 use crate::answer::Answer;
 use crate::chip::{Addresses, Chip};
@@ -86,7 +86,7 @@ impl Chip {
         requires { sector < length (stored (card_of self.now) self.now.part) }
         ensures to { result
             ≡ erased_to (card_of self.now).made trims (length (stored (card_of self.now) self.now.part)) sector }
-        ensures behind { sector < result }
+        ensures after { sector < result }
         ensures within { result ≤ length (stored (card_of self.now) self.now.part) }
     {
         let size = self.store.size(self.part);

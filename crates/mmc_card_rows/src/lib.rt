@@ -18,6 +18,7 @@ mod transfer_rows;
 
 pub use answer::Answer;
 pub use chip::{Addresses, Chip, PATIENCE, Source};
+pub use command::command_of;
 pub use delays::{Delays, Refusal};
 pub use fault::{CommandError, Outcome};
 pub use registers::{KindRegisters, MmcRegisters, Registers, SdRegisters};

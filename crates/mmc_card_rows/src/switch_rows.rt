@@ -105,7 +105,7 @@ fn function_selected(refusal: Refusal) -> u8
 
 impl Chip {
     ghost use Rattle.mmc_card.specs.CardAnswer.{Checked, busied, status};
-    ghost use Rattle.mmc_card.specs.RowsSwitch.{accessed, access_switched, ext_csd_now, partition_config_for};
+    ghost use Rattle.mmc_card.specs.RowsSwitch.{access_switched, ext_csd_now, partition_config_for};
     ghost use Rattle.mmc_card.specs.RowsSwitch.{send_ext_csd, set_bus_width, switch_byte, switch_func, switched};
     ghost use Rattle.mmc_card.specs.RowsSwitch.{is_to_speed_up, refusal as refusal_in, timing_after, switch_row};
     ghost use Rattle.mmc_card.specs.RowsTransfer.{send_scr, sending};

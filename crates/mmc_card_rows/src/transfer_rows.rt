@@ -1,6 +1,6 @@
 // What the card in memory does with the commands of transfers (SD Physical Layer 6.00, sections 4.3.3 and 4.3.4;
 // JESD84-B51, sections 6.6.6 to 6.6.8), each where it is legal.
-ghost use Rattle.std.specs.Prelude.{◌&&◌, ◌||◌, ◌*◌, ◌<◌, ◌^◌, ◌≡◌, ◌≤◌, false, if◌then◌else◌};
+ghost use Rattle.std.specs.Prelude.{◌&&◌, ◌||◌, ◌*◌, ◌<◌, ◌^◌, ◌≡◌, false, if◌then◌else◌};
 ghost use Rattle.mmc_frame.specs.Status.{bits_in};
 ghost use Rattle.mmc_frame.specs.declared.card_state.State.TheVariants.{Data, Rcv};
 ghost use Rattle.mmc_card.specs.Card.{AreAmong};

@@ -124,14 +124,14 @@ by_first : (b : Bool) (p : Planned) (plan : List Planned) (made : ℕ) (fault : 
     → cond b (Some p.fault) (fault_at plan made) ≡ Some fault
     → (fault_at plan made ≡ Some fault → to_come plan (made + 1) + 1 ≤ to_come plan made)
     → to_come (p ∷ plan) (made + 1) + 1 ≤ to_come (p ∷ plan) made
-by_first true p plan made fault here found behind =
+by_first true p plan made fault here found between =
     omega (
       arith,
       is_now p.exchange made (eqb-true p.exchange made here),
       fewer_later plan made (made + 1) (omega arith),
     )
-by_first false p plan made fault other found behind =
-    omega (arith, is_later p.exchange made (made + 1) (omega arith), behind found)
+by_first false p plan made fault other found between =
+    omega (arith, is_later p.exchange made (made + 1) (omega arith), between found)
 
 -- one that is planned for now is to come no more
 one_less : (plan : List Planned) (made : ℕ) (fault : Fault) → fault_at plan made ≡ Some fault

@@ -18,8 +18,9 @@ use mmc_frame::State;
 // The error bits that carrying a command out may raise.
 const EXECUTION_ERRORS: u32 = 0xec39_8000;
 
-// Whether these are some of them, one at least.
-fn is_of_execution(bits: u32) -> bool
+/// Whether these are error bits that carrying a command out may raise, one at least (SD Physical Layer 6.00, section 4.10.1;
+/// JESD84-B51, section 6.13).
+pub fn is_of_execution(bits: u32) -> bool
     ensures { result ≡ are_of_execution bits }
 {
     bits | EXECUTION_ERRORS == EXECUTION_ERRORS && bits >= 0x2000

@@ -1,12 +1,12 @@
 -- The commands of an erase, each with its R1 judged.
-use Rattle.std.proofs.Common.{◌≡◌, Bool, false, refl, subst, true, ℕ}
+use Rattle.std.proofs.Common.{◌≡◌, Bool, refl, subst, true, ℕ}
 use Rattle.std.specs.Prelude.{None, Ok, Result, Some}
 use Rattle.mmc_frame.specs.Status.{error_bits}
 use Rattle.mmc_frame.specs.declared.kind.Kind.{Kind}
 use Rattle.mmc_frame.specs.declared.kind.Kind.TheVariants.{Mmc, Sd}
 use Rattle.mmc_card.specs.BusView.{BusView}
 use Rattle.mmc_card.specs.Card.{Both, Card, First, Held, IsCard, NoAddress}
-use Rattle.mmc_card.specs.CardAnswer.{shown, status}
+use Rattle.mmc_card.specs.CardAnswer.{shown}
 use Rattle.mmc_card.specs.Faults.{NoFault}
 use Rattle.mmc_card.specs.Laws.{erased_by, erased_by_command, is_frame_of_run, is_of_run}
 use Rattle.mmc_card.specs.Rows.{command_of}

@@ -70,10 +70,10 @@ shift-lt zero p h = h
 shift-lt (suc k) p h = shift-lt k (times_x p) (times_x-lt p h)
 
 -- after a string, bits of their own
-pub remainder_behind : (xs ys : List Bool) → remainder (xs ++ ys) ≡ bit_xor (shift (length ys) (remainder xs))
+pub remainder_after : (xs ys : List Bool) → remainder (xs ++ ys) ≡ bit_xor (shift (length ys) (remainder xs))
     (remainder ys)
 unfolding remainder
-remainder_behind xs ys =
+remainder_after xs ys =
     remainder-append xs ys
     ∙ ap (λ p. pushed_all p ys) (sym (xor_zero_r (remainder xs)))
     ∙ pushed_sum (remainder xs) 0 ys (remainder-lt xs) (omega arith)
@@ -85,7 +85,7 @@ zeros = replicate 7 false
 
 pub check_is : (xs : List Bool) → remainder (xs ++ zeros) ≡ shift 7 (remainder xs)
 unfolding remainder
-check_is xs = remainder_behind xs zeros ∙ xor_zero_r (shift 7 (remainder xs))
+check_is xs = remainder_after xs zeros ∙ xor_zero_r (shift 7 (remainder xs))
 
 pub check_step : (xs : List Bool) (b : ℕ) → b < 256
     → slice_index SHIFTED (bit_xor (2 * remainder (xs ++ zeros)) b) ≡ remainder ((xs ++ byte_bits b) ++ zeros)
@@ -101,7 +101,7 @@ check_step xs b h =
     steps_are _ within ∙ ap (shift 7) at in
     let right : remainder ((xs ++ byte_bits b) ++ zeros) ≡ shift 7 (bit_xor (shift 8 r) (eight b)) =
     check_is (xs ++ byte_bits b) ∙ ap (shift 7)
-    (remainder_behind xs (byte_bits b) ∙ ap (bit_xor (shift 8 r)) (byte_remainder b h)) in
+    (remainder_after xs (byte_bits b) ∙ ap (bit_xor (shift 8 r)) (byte_remainder b h)) in
     rw is (left ∙ sym right)
 
 -- the bits of a list of bytes with one more
@@ -125,7 +125,7 @@ seven_remainder = same_from_test 256 _ _ refl
 
 pub sound_is : (xs : List Bool) (n : ℕ) → n < 256 → remainder (xs ++ seven n) ≡ bit_xor (remainder (xs ++ zeros))
     (n / 2)
-sound_is xs n h = remainder_behind xs (seven n)
+sound_is xs n h = remainder_after xs (seven n)
     ∙ (let e : shift 7 (remainder xs) ≡ remainder (xs ++ zeros) = sym (check_is xs) in rw (e, seven_remainder n h))
 
 -- the test of the code is the test of the definition

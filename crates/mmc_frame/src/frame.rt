@@ -1,5 +1,5 @@
 // What commands and responses have in common: six bytes, with the argument between the first byte and the check.
-ghost use Rattle.std.specs.Prelude.{◌≡◌, ◌<◌, true};
+ghost use Rattle.std.specs.Prelude.{◌≡◌, true};
 ghost use Rattle.mmc_frame.specs.Field.{field};
 ghost use Rattle.mmc_frame.specs.Frame.{argument_in, is_sound, number};
 

@@ -32,7 +32,7 @@ pub fn with_check(bytes: &[u8; 15]) -> [u8; 16]
 }
 
 // The sixteen bytes after the first.
-fn behind_first(frame: &[u8; 17]) -> [u8; 16]
+fn after_first(frame: &[u8; 17]) -> [u8; 16]
     ensures { result ≡ slice_range frame.now 1 17 }
 {
     let mut register = [0; 16];
@@ -63,7 +63,7 @@ pub fn read_r2(frame: &[u8; 17]) -> Result<[u8; 16], FrameFault>
     if frame[0] != FIRST_BYTE || frame[16] % 2 != 1 {
         return Err(FrameFault::FixedBits);
     }
-    let register = behind_first(frame);
+    let register = after_first(frame);
     if !check_fits(&register) {
         return Err(FrameFault::Check);
     }

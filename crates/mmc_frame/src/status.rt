@@ -1,5 +1,5 @@
 // The card status.
-ghost use Rattle.std.specs.Prelude.{⊤, ◌≡◌, ◌≤◌, ◌↔◌, [], ◌∷◌, ◌^◌, codes, IsNone, IfSome, IsTrue};
+ghost use Rattle.std.specs.Prelude.{⊤, ◌≡◌, ◌≤◌, ◌↔◌, [], ◌∷◌, codes, IsNone, IfSome, IsTrue};
 ghost use Rattle.mmc_frame.specs.Field.{field};
 ghost use Rattle.mmc_frame.specs.declared.kind.Kind.{Kind};
 ghost use Rattle.mmc_frame.specs.Status.{IsAtWork, IsClean, bits_in, error_bits, own_status, state_number};

@@ -1,23 +1,18 @@
 -- What a device with its history keeps true is so of a card that was opened, stays so from call to call, and tells what was served.
-use Rattle.std.proofs.Common.{[], ap, refl, subst, sym, ◌*◌, ◌++◌, ◌+◌, ◌∙◌, ◌∷◌, ◌≡◌, ◌≤◌, List, false, true, ℕ}
-use Rattle.std.specs.Prelude.{Bool, Err, IfOk, Ok, OnErr, Result, map, reverse}
+use Rattle.std.proofs.Common.{[], ap, refl, subst, sym, ◌*◌, ◌++◌, ◌+◌, ◌∙◌, ◌∷◌, ◌≡◌, ◌≤◌, Bool, List, false, true}
+use Rattle.std.specs.Prelude.{Err, IfOk, Ok, OnErr, Result, reverse}
 use Rattle.std.proofs.lemmas.List.{map_push, reverse-append}
 use Rattle.mmc_card.specs.BusView.{BusView}
 use Rattle.mmc_card.specs.Card.{holds}
-use Rattle.mmc_card.specs.Profile.{InProfile}
-use Rattle.mmc_card.specs.Sectors.{Sector, Sets, Within}
-use Rattle.mmc_card.specs.declared.part.Part.{Part}
-use Rattle.mmc_switch.specs.declared.info.Info.{Info}
+use Rattle.mmc_card.specs.Sectors.{Within}
 use Rattle.mmc_block.specs.Answers.{failures}
-use Rattle.mmc_block.specs.Device.{AgreesCounted, Comes, DeviceView, IsOpened, Queues, Withdraws, work_of}
-use Rattle.mmc_block.specs.declared.cancel.CancelFault.{CancelFault}
-use Rattle.mmc_block.specs.declared.refused.Refused.{Refused}
-use Rattle.mmc_queue.specs.declared.request.Request.{Request}
-use Rattle.mmc_block.specs.Execution.{Counted, CountedSteps, Event, Follow, IsCountedExecution, IsExecution, Reply}
-use Rattle.mmc_block.specs.InOrder.{AreDecided, EndsInOrder, IsInOrder, MayHold, answers, history}
-use Rattle.mmc_block.specs.Machine.{Machine, Waiting, all_failed, opened as machine_of}
+use Rattle.mmc_block.specs.Device.{AgreesCounted, Comes, DeviceView, IsOpened, work_of}
+use Rattle.mmc_block.specs.Execution.{Counted, CountedSteps, Event, Follow, IsCountedExecution, Reply, opened_after}
+use Rattle.mmc_block.specs.ExecutionLaws.{ExecutionLaws}
+use Rattle.mmc_block.specs.InOrder.{AreDecided, answers}
+use Rattle.mmc_block.specs.Machine.{all_failed, opened as machine_of}
 use Rattle.mmc_history.specs.History.{Continues, DeviceHistory, HasServed, Told, events, replies}
-use Rattle.mmc_history.specs.Serving.{Agreed, IsServing, Laws, counted_from}
+use Rattle.mmc_history.specs.Serving.{IsServing}
 
 -- ---- one call more
 
@@ -35,14 +30,17 @@ pub one_more : (call : Told) (past : List Told) → reverse (call ∷ past) ≡ 
 one_more call past = reverse-append (call ∷ []) past
 
 module _ {B : Type 0} (view : B → BusView) (opened : BusView) where
+  abbrev first : Bool → Counted
+  first profile = opened_after opened.faults profile (holds opened.card)
+
   pub serves_from : (device : DeviceView B) → opened ≡ view device.bus → AreDecided (holds (view device.bus).card)
       → ((c : Counted) → IsOpened (view device.bus) c → AgreesCounted view device c) → IsServing view opened device []
   serves_from device is decided agrees = record {
     decided = subst (λ (v : BusView). AreDecided (holds v.card)) (sym is) decided;
     agreed = λ profile in_profile. record {
-      counted = counted_from opened profile;
+      counted = first profile;
       executed = refl;
-      agrees = agrees (counted_from opened profile) (subst (λ v. IsOpened v (counted_from opened profile)) is (record {
+      agrees = agrees (first profile) (subst (λ v. IsOpened v (first profile)) is (record {
         machine = refl;
         faults = refl;
         in_profile = in_profile;
@@ -57,18 +55,17 @@ module _ {B : Type 0} (view : B → BusView) (opened : BusView) where
     decided = served.decided;
     agreed = λ profile in_profile.
         let before = served.agreed profile in_profile in
-        let first = counted_from opened profile in
         let call : Told = record { event = event; reply = reply } in
         let (next, step, agrees) = (comes before.counted before.agrees).1 in
-        let longer : IsCountedExecution old.info first (events calls ++ event ∷ []) (replies calls ++ reply ∷ []) next =
-        follow_then (CountedSteps old.info) first before.counted next (events calls) (replies calls) event reply before.executed step in
+        let longer : IsCountedExecution old.info (first profile) (events calls ++ event ∷ []) (replies calls ++ reply ∷ []) next =
+        follow_then (CountedSteps old.info) (first profile) before.counted next (events calls) (replies calls) event reply before.executed step in
         record {
           counted = next;
-          executed = subst (λ i. IsCountedExecution i first (events (calls ++ call ∷ [])) (replies (calls ++ call ∷ [])) next)
+          executed = subst (λ i. IsCountedExecution i (first profile) (events (calls ++ call ∷ [])) (replies (calls ++ call ∷ [])) next)
               (sym same)
-              (subst (λ rs. IsCountedExecution old.info first (events (calls ++ call ∷ [])) rs next)
+              (subst (λ rs. IsCountedExecution old.info (first profile) (events (calls ++ call ∷ [])) rs next)
               (sym (map_push (λ (t : Told). t.reply) calls call))
-              (subst (λ es. IsCountedExecution old.info first es (replies calls ++ reply ∷ []) next)
+              (subst (λ es. IsCountedExecution old.info (first profile) es (replies calls ++ reply ∷ []) next)
               (sym (map_push (λ (t : Told). t.event) calls call)) longer));
           agrees = agrees;
         };
@@ -76,7 +73,7 @@ module _ {B : Type 0} (view : B → BusView) (opened : BusView) where
 
   -- ---- what was served
 
-  pub tells : (laws : Laws) (device : DeviceView B) (calls : List Told) → IsServing view opened device calls
+  pub tells : (laws : ExecutionLaws) (device : DeviceView B) (calls : List Told) → IsServing view opened device calls
       → HasServed device.info opened (view device.bus) calls
   tells laws device calls served =
       let start = machine_of (holds opened.card) in
@@ -86,7 +83,7 @@ module _ {B : Type 0} (view : B → BusView) (opened : BusView) where
       let agrees = plain.agrees.agrees in
       let within : Within now (all_failed device.info counted.machine.in_service counted.machine.sets) =
       subst (λ ws. Within now (all_failed device.info ws counted.machine.sets)) (sym agrees.in_service) agrees.within in
-      let executed = laws.plain device.info (counted_from opened false) (events calls) (replies calls) counted plain.executed in
+      let executed = laws.counted device.info (first false) (events calls) (replies calls) counted plain.executed in
       record {
         machine = counted.machine;
         executed = executed;
@@ -97,7 +94,7 @@ module _ {B : Type 0} (view : B → BusView) (opened : BusView) where
             (subst (λ ws. Within now (all_failed device.info ws counted.machine.sets)) idle within) may_hold;
         four_each = λ profile.
             let four = served.agreed true (λ h. profile) in
-            let all = laws.faults device.info (counted_from opened true) (events calls) (replies calls) four.counted refl refl refl
+            let all = laws.faults device.info (first true) (events calls) (replies calls) four.counted refl refl refl
             four.executed in
             subst (λ n. opened.faults + 4 * failures (answers (replies calls)) ≤ n) four.agrees.faults all;
       }
@@ -114,51 +111,37 @@ module _ {B : Type 0} (view : B → BusView) (opened : BusView) where
     work_left = work_of device;
   }
 
-  -- a call did this with the device, and was noted
-  pub record IsCall (event : Event) (reply : Reply) (old : DeviceView B) (past : List Told) (new : DeviceView B) (longer : List Told)
-      : Type 0 where
-    pub noted : longer ≡ record { event = event; reply = reply } ∷ past
-    pub info : new.info ≡ old.info
-    pub kept : (view new.bus).is_kept ≡ true → (view old.bus).is_kept ≡ true
-    pub comes : (view new.bus).is_kept ≡ true → Comes view old (λ (c n : Counted). CountedSteps old.info c event reply n) new
-
-  pub goes_on : (event : Event) (reply : Reply) (old : DeviceView B) (past : List Told) (new : DeviceView B) (longer : List Told)
-      → IsCall event reply old past new longer → ((view old.bus).is_kept ≡ true → IsServing view opened old (reverse past))
-      → (view new.bus).is_kept ≡ true → IsServing view opened new (reverse longer)
-  goes_on event reply old past new longer call served now =
-      let told : Told = record { event = event; reply = reply } in
-      subst (IsServing view opened new) (sym (ap reverse call.noted ∙ one_more told past))
-      (serves_on old new (reverse past) event reply call.info (call.comes now) (served (call.kept now)))
-
-  pub continues : (laws : Laws) (event : Event) (reply : Reply) (old : DeviceView B) (past : List Told) (new : DeviceView B)
-      (longer : List Told) (shown : DeviceHistory B) → seen old past ≡ shown → IsCall event reply old past new longer
+  -- a call came to this with the device, and was noted
+  pub goes_on : (event : Event) (reply : Reply) (old new : DeviceView B) (past longer : List Told)
+      → longer ≡ record { event = event; reply = reply } ∷ past → new.info ≡ old.info
+      → ((view new.bus).is_kept ≡ true → (view old.bus).is_kept ≡ true)
+      → ((view new.bus).is_kept ≡ true → Comes view old (λ (c n : Counted). CountedSteps old.info c event reply n) new)
       → ((view old.bus).is_kept ≡ true → IsServing view opened old (reverse past))
+      → (view new.bus).is_kept ≡ true → IsServing view opened new (reverse longer)
+  goes_on event reply old new past longer noted info kept comes served now =
+      subst (IsServing view opened new) (sym (ap reverse noted ∙ one_more (record { event = event; reply = reply }) past))
+      (serves_on old new (reverse past) event reply info (comes now) (served (kept now)))
+
+  pub continues : (laws : ExecutionLaws) (event : Event) (reply : Reply) (old new : DeviceView B) (past longer : List Told)
+      (shown : DeviceHistory B) → seen old past ≡ shown → longer ≡ record { event = event; reply = reply } ∷ past
+      → new.info ≡ old.info → ((view new.bus).is_kept ≡ true → IsServing view opened new (reverse longer))
       → Continues view shown event reply (seen new longer)
-  continues laws event reply old past new longer shown is call served =
-      let told : Told = record { event = event; reply = reply } in
+  continues laws event reply old new past longer shown is noted info served =
       subst (λ before. Continues view before event reply (seen new longer)) is (record {
-        calls = ap reverse call.noted ∙ one_more told past;
-        info = call.info;
+        calls = ap reverse noted ∙ one_more (record { event = event; reply = reply }) past;
+        info = info;
         opened = refl;
-        served = λ now. tells laws new (reverse longer) (goes_on event reply old past new longer call served now);
+        served = λ now. tells laws new (reverse longer) (served now);
       })
 
 -- ---- what stays in a call that makes no exchange
 
-pub same_queued : {B : Type 0} (old new : DeviceView B) (client : ℕ) (request : Request) (reply : Result ℕ (Request × Refused))
-    → IfOk reply (λ ticket. Queues old client request ticket new) → OnErr reply (new ≡ old)
+-- it changes what waits alone, or nothing
+pub same_by : {A E B : Type 0} {Changes : A → Type 0} (old new : DeviceView B) (reply : Result A E) → IfOk reply Changes
+    → ((x : A) → Changes x → (new.bus ≡ old.bus) × (new.info ≡ old.info)) → OnErr reply (new ≡ old)
     → (new.bus ≡ old.bus) × (new.info ≡ old.info)
-same_queued {B} old new client request (Ok ticket) queued refused =
-    (ap (λ (d : DeviceView B). d.bus) queued.waits, ap (λ (d : DeviceView B). d.info) queued.waits)
-same_queued {B} old new client request (Err why) queued refused =
-    (ap (λ (d : DeviceView B). d.bus) refused, ap (λ (d : DeviceView B). d.info) refused)
-
-pub same_withdrawn : {B : Type 0} (old new : DeviceView B) (ticket : ℕ) (reply : Result Request CancelFault)
-    → IfOk reply (λ request. Withdraws old ticket request new) → OnErr reply (new ≡ old)
-    → (new.bus ≡ old.bus) × (new.info ≡ old.info)
-same_withdrawn {B} old new ticket (Ok request) given refused =
-    (ap (λ (d : DeviceView B). d.bus) given.waits, ap (λ (d : DeviceView B). d.info) given.waits)
-same_withdrawn {B} old new ticket (Err why) given refused =
+same_by old new (Ok x) changes stays refused = stays x changes
+same_by {B = B} old new (Err why) changes stays refused =
     (ap (λ (d : DeviceView B). d.bus) refused, ap (λ (d : DeviceView B). d.info) refused)
 
 pub kept_by : {B : Type 0} (view : B → BusView) (old new : B) → new ≡ old → (view new).is_kept ≡ true → (view old).is_kept ≡ true

@@ -1,13 +1,9 @@
 ghost use Rattle.std.specs.Prelude.{◌≡◌, [], true};
 ghost use Rattle.mmc_block.specs.Device.{work_of};
-ghost use Rattle.mmc_history.specs.Serving.{Laws};
 
 use crate::call::{Call, Cancellation, Shown, Submission, Turned, View};
 use ghost_diary::{Diary, Seen};
-use mmc_block::laws::{
-    a_counted_execution_is_an_execution, a_failure_takes_four_faults, answers_are_in_order,
-    contents_are_in_order,
-};
+use mmc_block::laws::an_execution_has_its_laws;
 use mmc_block::{BlockDev, Bus, CancelFault, Completions, OpenFault, Refused, Request, Ticket};
 use std::alloc::Global;
 use std::marker::Model;
@@ -32,16 +28,6 @@ impl<B: Bus> Model for Device<B> {
     ghost view = { λ d. record { bus = d.device.bus; info = d.device.info; opened = d.opened; calls = reverse d.calls.past; work_left = work_of d.device } };
 
     ghost invariant = { λ d. (B.view d.device.bus).is_kept ≡ true → IsServing B.view d.opened d.device (reverse d.calls.past) };
-}
-
-// What each call rests on.
-fn the_machine_has_its_laws()
-    ensures { Laws }
-{
-    a_counted_execution_is_an_execution();
-    a_failure_takes_four_faults();
-    answers_are_in_order();
-    contents_are_in_order();
 }
 
 impl<B: Bus> Device<B> {
@@ -69,7 +55,7 @@ impl<B: Bus> Device<B> {
         ensures refused { IfErr result (λ e. (B.view e.0).is_kept ≡ true → InProfile (B.view bus).card.made
             → (B.view bus).faults + 3 ≤ (B.view e.0).faults) }
     {
-        the_machine_has_its_laws();
+        an_execution_has_its_laws();
         let device = BlockDev::open(alloc, bus)?;
         let opened = Seen::of(&Shown { bus: device.bus() });
         Ok(Device {
@@ -91,7 +77,7 @@ impl<B: Bus> Device<B> {
     ) -> Result<Ticket, (Request, Refused)>
         ensures continues { Continues B.view self.old (Submit client request) (submitted_reply result) self.new }
     {
-        the_machine_has_its_laws();
+        an_execution_has_its_laws();
         let asked = Seen::of(&request);
         let reply = self.device.submit(alloc, client, request);
         self.calls = self.calls.then(&Submission {
@@ -109,7 +95,7 @@ impl<B: Bus> Device<B> {
     pub fn cancel(&mut self, ticket: u64) -> Result<Request, CancelFault>
         ensures continues { Continues B.view self.old (Cancel ticket) (cancelled_reply result) self.new }
     {
-        the_machine_has_its_laws();
+        an_execution_has_its_laws();
         let reply = self.device.cancel(ticket);
         self.calls = self.calls.then(&Cancellation {
             ticket,
@@ -123,7 +109,7 @@ impl<B: Bus> Device<B> {
         ensures continues { Continues B.view self.old Turn (Answers result.items) self.new }
         ensures lowers { 0 < self.old.work_left → self.new.work_left < self.old.work_left }
     {
-        the_machine_has_its_laws();
+        an_execution_has_its_laws();
         let answers = self.device.turn();
         self.calls = self.calls.then(&Turned { answers: &answers });
         answers
@@ -143,7 +129,7 @@ impl<B: Bus> Device<B> {
         ensures bus { result ≡ self.bus }
         ensures served { (B.view result).is_kept ≡ true → HasServed self.info self.opened (B.view result) self.calls }
     {
-        the_machine_has_its_laws();
+        an_execution_has_its_laws();
         let Device {
             device,
             opened: _,

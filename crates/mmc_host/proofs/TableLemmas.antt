@@ -31,7 +31,7 @@ use Rattle.mmc_card.specs.CardAnswer.{refused, shown}
 use Rattle.mmc_card.specs.Made.{HasRegisters, Made}
 use Rattle.mmc_frame.specs.declared.card_state.State.TheVariants as In
 use Rattle.mmc_host.specs.declared.data.Data.{Data}
-use Rattle.mmc_host.specs.Fits.{AreSent, AreToCome, Begins, HasDataBehind, IsAnswered, IsBusyBehind}
+use Rattle.mmc_host.specs.Fits.{AreSent, AreToCome, Begins, HasDataAfter, IsAnswered, IsBusyAfter}
 use Rattle.mmc_card.specs.Wanted.{response_to, want_of}
 use Rattle.mmc_host.specs.Table.{data_of, response_of}
 use Rattle.mmc_card.proofs.ByteLemmas.{reread_length}
@@ -56,7 +56,7 @@ like_reached choice command card =
 -- Busy.
 
 abbrev Rests : Command → Card → Card → Type 0
-Rests command old new = IsBusyBehind (response_of command) old new
+Rests command old new = IsBusyAfter (response_of command) old new
 
 busy_first : (index : ℕ) (card : Card) (argument : ℕ) (held : Held)
     → Rests EraseStart card (hold_first index card argument held).0
@@ -98,17 +98,17 @@ busy_row choice EraseEnd card index argument = busy_last index card argument car
 busy_row choice _ card index argument = λ busy. inl busy
 
 -- a card that is as busy
-as_busy : (response : Response) (old before new : Card) → before.is_busy ≡ old.is_busy → IsBusyBehind response before new
-    → IsBusyBehind response old new
-as_busy response old before new same behind = λ busy.
-    elim (behind busy) [
+as_busy : (response : Response) (old before new : Card) → before.is_busy ≡ old.is_busy → IsBusyAfter response before new
+    → IsBusyAfter response old new
+as_busy response old before new same between = λ busy.
+    elim (between busy) [
       | inl was ↦ inl (sym same ∙ was)
       | inr is ↦ inr is
     ]
 
-pub busy_behind : (choice : Choice) (command : Command) (card : Card) (index argument : ℕ)
-    → IsBusyBehind (response_of command) card (responded choice command card index argument).0
-busy_behind choice command card index argument =
+pub busy_after : (choice : Choice) (command : Command) (card : Card) (index argument : ℕ)
+    → IsBusyAfter (response_of command) card (responded choice command card index argument).0
+busy_after choice command card index argument =
     let now = reached choice command card in
     let same = (like_reached choice command card).is_busy in
     after_response (Rests command card) choice command card index argument (λ busy. inl busy)
@@ -228,17 +228,17 @@ answer_told choice kind app card index argument below =
 -- so many blocks will be moved where none are preset
 module _ (moved : ℕ) where
   abbrev Moves : Command → Card → Card → Type 0
-  Moves command old new = HasDataBehind (data_of command old.count moved) old new
+  Moves command old new = HasDataAfter (data_of command old.count moved) old new
 
   -- it neither sends nor accepts blocks that it didn't before
-  stays : (told : Data) (old new : Card) → new.state ≡ old.state → HasDataBehind told old new
+  stays : (told : Data) (old new : Card) → new.state ≡ old.state → HasDataAfter told old new
   stays told old new same = record {
     sends = λ now before. cc (ap (λ s. is_in s In.Data) same, now, before);
     accepts = λ now before. cc (ap (λ s. is_in s In.Rcv) same, now, before);
   }
 
   leaves : (told : Data) (old new : Card) → is_in new.state In.Data ≡ false → is_in new.state In.Rcv ≡ false
-      → HasDataBehind told old new
+      → HasDataAfter told old new
   leaves told old new no_data no_rcv = record {
     sends = λ now before. cc (now, no_data);
     accepts = λ now before. cc (now, no_rcv);
@@ -250,12 +250,12 @@ module _ (moved : ℕ) where
   preset_blocks true count = tt
   preset_blocks false count = refl
 
-  begins_to_send : (told : Data) (old new : Card) → is_in new.state In.Rcv ≡ false → Begins told new → HasDataBehind told old new
+  begins_to_send : (told : Data) (old new : Card) → is_in new.state In.Rcv ≡ false → Begins told new → HasDataAfter told old new
   begins_to_send told old new no_rcv begins =
       record { sends = λ now before. begins; accepts = λ now before. cc (now, no_rcv) }
 
   begins_to_accept : (told : Data) (old new : Card) → is_in new.state In.Data ≡ false → Begins told new
-      → HasDataBehind told old new
+      → HasDataAfter told old new
   begins_to_accept told old new no_data begins =
       record { sends = λ now before. cc (now, no_data); accepts = λ now before. begins }
 
@@ -360,8 +360,8 @@ module _ (moved : ℕ) where
       begins_to_send (data_of SendExtCsd card.count moved) card after refl (refl, (size, refl))
   move_row choice _ card index argument sized = stays _ card _ refl
 
-  as_before : (told : Data) (old before new : Card) → before.state ≡ old.state → HasDataBehind told before new
-      → HasDataBehind told old new
+  as_before : (told : Data) (old before new : Card) → before.state ≡ old.state → HasDataAfter told before new
+      → HasDataAfter told old new
   as_before told old before new same moves = record {
     sends = λ now was. moves.sends now (ap (λ s. is_in s In.Data) same ∙ was);
     accepts = λ now was. moves.accepts now (ap (λ s. is_in s In.Rcv) same ∙ was);
@@ -373,14 +373,14 @@ module _ (moved : ℕ) where
   sized_as SendExtCsd old now same sized = ap (λ (m : Made). length m.ext_csd) same ∙ sized
   sized_as _ old now same sized = tt
 
-  pub data_behind : (choice : Choice) (command : Command) (card : Card) (index argument : ℕ) → AreSized command card
-      → HasDataBehind (data_of command card.count moved) card (responded choice command card index argument).0
-  data_behind choice command card index argument sized =
+  pub data_after : (choice : Choice) (command : Command) (card : Card) (index argument : ℕ) → AreSized command card
+      → HasDataAfter (data_of command card.count moved) card (responded choice command card index argument).0
+  data_after choice command card index argument sized =
       let now = reached choice command card in
       let like = like_reached choice command card in
       after_response (Moves command card) choice command card index argument (stays _ card card refl)
       (λ _. as_before _ card now _ like.state
-      (subst (λ n. HasDataBehind (data_of command n moved) now (row choice command now index argument).0) like.count
+      (subst (λ n. HasDataAfter (data_of command n moved) now (row choice command now index argument).0) like.count
       (move_row choice command now index argument (sized_as command card now like.made sized))))
       (stays _ card (refused now) like.state)
 
@@ -410,10 +410,10 @@ module _ (moved : ℕ) where
 
   pub blocks_told : (choice : Choice) (kind : Kind) (app : Bool) (card : Card) (index argument : ℕ) → index < 64
       → card.made.kind ≡ kind → HasRegisters card.made
-      → HasDataBehind (data_of (command_of kind app index) card.count moved) card
+      → HasDataAfter (data_of (command_of kind app index) card.count moved) card
       (responded choice (command_of kind app index) card index argument).0
   blocks_told choice kind app card index argument below is registers =
-      data_behind choice (command_of kind app index) card index argument
+      data_after choice (command_of kind app index) card index argument
       (sized_of kind (command_of kind app index) card is registers (means_its_own kind app index below))
 
 -- Lengths.

@@ -18,7 +18,7 @@ use Rattle.mmc_card.specs.declared.exchange.Reply.{Reply}
 use Rattle.mmc_card.specs.declared.exchange.Want.{Want}
 use Rattle.mmc_bus.specs.Exchanges.{Commanded}
 use Rattle.mmc_bus.specs.Heard.{or_unsound, response_heard}
-use Rattle.mmc_bus.specs.Together.{AreAccepted, AreGood, BlockRead, BlockWritten, NotBusy, OneOf, ReadOn, ReadWith, RestsBehind, WrittenOn, WrittenWith}
+use Rattle.mmc_bus.specs.Together.{AreAccepted, AreGood, BlockRead, BlockWritten, NotBusy, OneOf, ReadOn, ReadWith, RestsAfter, WrittenOn, WrittenWith}
 use Rattle.mmc_bus.specs.Together.{accepted_one, good_one, none_accepted, none_good, reads, reads_none, reads_nothing, writes, writes_none}
 use Rattle.mmc_bus.specs.Wires.{Notes}
 use Rattle.mmc_bus.specs.declared.moved.Moved.{Moved}
@@ -80,8 +80,8 @@ so_lines exchange (suc k) wire = refl
 
 -- what a call leaves of a host by the blocks that it moved
 abbrev HasMoved : {T : Type 0} → HostView → Moved T → HostView → Type 0
-HasMoved behind moved new =
-    Where new ((behind.is_kept ≡ true) × (new.state ≡ passed_on moved behind.state) × (new.limits ≡ behind.limits))
+HasMoved between moved new =
+    Where new ((between.is_kept ≡ true) × (new.state ≡ passed_on moved between.state) × (new.limits ≡ between.limits))
 
 pub sets_none : (view : HostView) → OnlySets view view
 sets_none view kept = (kept, refl)
@@ -103,10 +103,10 @@ is_other_in Received.Good not = absurd (not refl)
 is_other_in Received.Bad not = refl
 is_other_in Received.Nothing not = refl
 
-module _ {S : Type 0} (blocks : S → List (List ℕ)) (leave : S → ℕ → List ℕ → S) (was : S) (behind : HostView)
-    (wire : Wire) (misused : Bool) (lines : Where behind (lines_of behind.state.ios ≡ wire.lines)) where
+module _ {S : Type 0} (blocks : S → List (List ℕ)) (leave : S → ℕ → List ℕ → S) (was : S) (between : HostView)
+    (wire : Wire) (misused : Bool) (lines : Where between (lines_of between.state.ios ≡ wire.lines)) where
   -- Where it is kept, the lines stay as they were.
-  lines_in : (k : ℕ) (view : HostView) (now : S) → AreGood HostRead blocks leave behind was k view now
+  lines_in : (k : ℕ) (view : HostView) (now : S) → AreGood HostRead blocks leave between was k view now
       → Where view (lines_of view.state.ios ≡ (blocks_noted k wire).lines)
   lines_in k view now none_good kept = lines kept
   lines_in k view now (good_one done from held left next before below long read) kept =
@@ -114,21 +114,21 @@ module _ {S : Type 0} (blocks : S → List (List ℕ)) (leave : S → ℕ → Li
       ap (λ (state : HostState). lines_of state.ios) s.state ∙ lines_in done from held before s.step.was_kept
 
   -- and it has been told of as many blocks as were good
-  state_in : (k : ℕ) (view : HostView) (now : S) → AreGood HostRead blocks leave behind was k view now
-      → Where view (view.state ≡ passed k behind.state)
+  state_in : (k : ℕ) (view : HostView) (now : S) → AreGood HostRead blocks leave between was k view now
+      → Where view (view.state ≡ passed k between.state)
   state_in k view now none_good kept = refl
   state_in k view now (good_one done from held left next before below long read) kept =
       let s = read kept in
       s.state ∙ ap (λ (state : HostState). block_passed state true) (state_in done from held before s.step.was_kept)
 
-  kept_in : (k : ℕ) (view : HostView) (now : S) → AreGood HostRead blocks leave behind was k view now
-      → view.is_kept ≡ true → behind.is_kept ≡ true
+  kept_in : (k : ℕ) (view : HostView) (now : S) → AreGood HostRead blocks leave between was k view now
+      → view.is_kept ≡ true → between.is_kept ≡ true
   kept_in k view now none_good kept = kept
   kept_in k view now (good_one done from held left next before below long read) kept =
       kept_in done from held before (read kept).step.was_kept
 
-  limits_in : (k : ℕ) (view : HostView) (now : S) → AreGood HostRead blocks leave behind was k view now
-      → Where view (view.limits ≡ behind.limits)
+  limits_in : (k : ℕ) (view : HostView) (now : S) → AreGood HostRead blocks leave between was k view now
+      → Where view (view.limits ≡ between.limits)
   limits_in k view now none_good kept = refl
   limits_in k view now (good_one done from held left next before below long read) kept =
       let s = read kept in s.limits ∙ limits_in done from held before s.step.was_kept
@@ -140,8 +140,8 @@ module _ {S : Type 0} (blocks : S → List (List ℕ)) (leave : S → ℕ → Li
       one_told from next at then misused (In 512 got) (λ old new. ReadStep old 512 got left new)
       (does_read from from next at misused 512 got left same (sets_none from) read) tells
 
-  good_over : (k : ℕ) (view : HostView) (now : S) → AreGood HostRead blocks leave behind was k view now
-      → AreGood BlockRead blocks leave (bus_over behind wire misused) was k (bus_over view (blocks_noted k wire) misused) now
+  good_over : (k : ℕ) (view : HostView) (now : S) → AreGood HostRead blocks leave between was k view now
+      → AreGood BlockRead blocks leave (bus_over between wire misused) was k (bus_over view (blocks_noted k wire) misused) now
   good_over k view now none_good = none_good
   good_over k view now (good_one done from held left next before below long read) =
       good_one done (bus_over from (blocks_noted done wire) misused) held left
@@ -150,13 +150,13 @@ module _ {S : Type 0} (blocks : S → List (List ℕ)) (leave : S → ℕ → Li
       read (noted_tells (In 512 Good) (blocks_noted done wire)))
 
   -- uncounted
-  lines_so : (k : ℕ) (view : HostView) (now : S) → AreGood HostRead blocks leave behind was k view now
+  lines_so : (k : ℕ) (view : HostView) (now : S) → AreGood HostRead blocks leave between was k view now
       → Where view (lines_of view.state.ios ≡ (told_so (In 512 Good) k wire).lines)
   lines_so k view now all kept =
       lines_in k view now all kept ∙ lines_of_blocks k wire ∙ sym (so_lines (In 512 Good) k wire)
 
-  good_so : (k : ℕ) (view : HostView) (now : S) → AreGood HostRead blocks leave behind was k view now
-      → AreGood BlockRead blocks leave (bus_over behind wire misused) was k
+  good_so : (k : ℕ) (view : HostView) (now : S) → AreGood HostRead blocks leave between was k view now
+      → AreGood BlockRead blocks leave (bus_over between wire misused) was k
       (bus_over view (told_so (In 512 Good) k wire) misused) now
   good_so k view now none_good = none_good
   good_so k view now (good_one done from held left next before below long read) =
@@ -166,8 +166,8 @@ module _ {S : Type 0} (blocks : S → List (List ℕ)) (leave : S → ℕ → Li
       (lines_so done from held before) read (so_tells (In 512 Good) (In 512 Good) done wire))
 
   pub read_over : (moved : Moved DataIn) (new : HostView) (now : S)
-      → ReadOn HostRead blocks leave behind was moved new now
-      → ReadOn BlockRead blocks leave (bus_over behind wire misused) was moved
+      → ReadOn HostRead blocks leave between was moved new now
+      → ReadOn BlockRead blocks leave (bus_over between wire misused) was moved
       (bus_over new (all_noted moved wire) misused) now
   read_over moved new now (reads good next held all) = reads good _ held (good_over good next held all)
   read_over moved new now (reads_nothing held lent) = reads_nothing held lent
@@ -178,7 +178,7 @@ module _ {S : Type 0} (blocks : S → List (List ℕ)) (leave : S → ℕ → Li
       read (so_noted (In 512 Good) (In 512 got) some wire)) lent
 
   pub state_on : (moved : Moved DataIn) (new : HostView) (now : S)
-      → ReadOn HostRead blocks leave behind was moved new now → HasMoved behind moved new
+      → ReadOn HostRead blocks leave between was moved new now → HasMoved between moved new
   state_on moved new now (reads good next held all) kept =
       (kept_in good next held all kept, state_in good next held all kept, limits_in good next held all kept)
   state_on moved new now (reads_nothing held lent) kept = (kept, refl, refl)
@@ -200,25 +200,25 @@ limits_noted (Move.Good good) wire = limits_of good wire
 limits_noted (Move.Failed got) wire = refl
 
 -- A command with the blocks after it, whichever way they go.
-module _ (v0 v1 behind : HostView) (w0 w1 : Wire) (state : HostState) (frame : List ℕ) (want : Want)
+module _ (v0 v1 between : HostView) (w0 w1 : Wire) (state : HostState) (frame : List ℕ) (want : Want)
     (command : HostCommand) (heard : Result Heard ResponseFault) (reply : Reply) (told : Where v1 (v1.state ≡ state))
-    (sends : Sends v1 command heard behind) (notes_it : Notes w0 (Command frame want reply) w1) where
-  lines_behind : lines_of state.ios ≡ w0.lines → Where behind (lines_of behind.state.ios ≡ w1.lines)
-  lines_behind set kept =
+    (sends : Sends v1 command heard between) (notes_it : Notes w0 (Command frame want reply) w1) where
+  lines_after : lines_of state.ios ≡ w0.lines → Where between (lines_of between.state.ios ≡ w1.lines)
+  lines_after set kept =
       let s = sends kept in
       ap (λ (x : HostState). lines_of x.ios) s.state
       ∙ ap (λ (x : HostState). lines_of x.ios) (told s.step.was_kept) ∙ set ∙ sym notes_it.lines
 
   commanded_by : (misused : Bool) → OnlySets v0 v1 → command_in frame ≡ Some (command.index, command.argument)
       → Spells (answer_heard command.response command.index heard) reply
-      → Commanded (bus_over v0 w0 misused) frame want reply (bus_over behind w1 misused)
+      → Commanded (bus_over v0 w0 misused) frame want reply (bus_over between w1 misused)
   commanded_by misused only holds spells =
-      exchanged v0 behind w0 w0 w1 misused misused (Command frame want reply) (λ old next. CommandStep old frame reply next)
-      (does_command v0 behind w0 misused command.index command.argument frame reply holds
-      (replied v0 v1 behind behind command heard reply only sends (rests behind) spells)) refl notes_it
+      exchanged v0 between w0 w0 w1 misused misused (Command frame want reply) (λ old next. CommandStep old frame reply next)
+      (does_command v0 between w0 misused command.index command.argument frame reply holds
+      (replied v0 v1 between between command heard reply only sends (rests between) spells)) refl notes_it
 
   -- a bus that keeps all of it has told its host the same, within the same limits
-  kept_by : {T : Type 0} (moved : Moved T) (new : HostView) (after : HostState) (wire : Wire) → HasMoved behind moved new
+  kept_by : {T : Type 0} (moved : Moved T) (new : HostView) (after : HostState) (wire : Wire) → HasMoved between moved new
       → after ≡ passed_on moved (sent state command (is_ok heard)) → wire.limits ≡ w1.limits
       → Where v1 (v1.limits ≡ w0.limits) → Where new (new.state ≡ after) × Where new (new.limits ≡ wire.limits)
   kept_by moved new after wire has same limits within = (
@@ -241,25 +241,25 @@ module _ {S : Type 0} {blocks : S → List (List ℕ)} {leave : S → ℕ → Li
     (told : Where v1 (v1.state ≡ state)) (can : CanRead state frame command count w0.lines)
     (read : ReadsWith blocks leave v1 command was heard moved now new)
     (notes_it : Notes w0 (Command frame want reply) w1) where
-  lines_read : Where read.behind (lines_of read.behind.state.ios ≡ w1.lines)
-  lines_read = lines_behind v0 v1 read.behind w0 w1 state frame want command heard reply told read.sent notes_it can.set
+  lines_read : Where read.between (lines_of read.between.state.ios ≡ w1.lines)
+  lines_read = lines_after v0 v1 read.between w0 w1 state frame want command heard reply told read.sent notes_it can.set
 
   pub over : OnlySets v0 v1 → Spells (answer_heard command.response command.index heard) reply
       → ReadWith blocks leave (bus_over v0 w0 misused) frame want was reply moved now
       (bus_over new (all_noted moved w1) misused)
   over only spells = record {
-    behind = bus_over read.behind w1 misused;
-    commanded = commanded_by v0 v1 read.behind w0 w1 state frame want command heard reply told read.sent notes_it misused
+    between = bus_over read.between w1 misused;
+    commanded = commanded_by v0 v1 read.between w0 w1 state frame want command heard reply told read.sent notes_it misused
         only can.holds spells;
-    read = read_over blocks leave was read.behind w1 misused lines_read moved new now read.read;
+    read = read_over blocks leave was read.between w1 misused lines_read moved new now read.read;
   }
 
   pub read_kept : (after : HostState) (wire : Wire) → after ≡ passed_on moved (sent state command (is_ok heard))
       → wire ≡ all_noted moved w1 → Where v1 (v1.limits ≡ w0.limits)
       → Where new (new.state ≡ after) × Where new (new.limits ≡ wire.limits)
   read_kept after wire same noted =
-      kept_by v0 v1 read.behind w0 w1 state frame want command heard reply told read.sent notes_it moved new after wire
-      (state_on blocks leave was read.behind w1 misused lines_read moved new now read.read) same
+      kept_by v0 v1 read.between w0 w1 state frame want command heard reply told read.sent notes_it moved new after wire
+      (state_on blocks leave was read.between w1 misused lines_read moved new now read.read) same
       (ap (λ (w : Wire). w.limits) noted ∙ limits_noted moved w1)
 
 -- Writes.
@@ -289,7 +289,7 @@ limits_all_written (Move.Good good) wire = limits_written good wire
 limits_all_written (Move.Failed got) wire = refl
 
 -- a poll leaves what it has been told
-rested_state : (done : ℕ) (view ready : HostView) → RestsBehind HostRested done view ready
+rested_state : (done : ℕ) (view ready : HostView) → RestsAfter HostRested done view ready
     → Where ready ((view.is_kept ≡ true) × (ready.state ≡ view.state) × (ready.limits ≡ view.limits))
 rested_state zero view ready rests kept = (
   subst (λ (v : HostView). v.is_kept ≡ true) rests kept,
@@ -309,26 +309,26 @@ rests_told k view ready at then misused rests tells =
     one_told view ready at then misused (Busy false) (λ old new. PollStep old false new)
     (does_poll view ready at misused false rests) tells
 
-rests_over : (done : ℕ) (view ready : HostView) (at : Wire) (misused : Bool) → RestsBehind HostRested done view ready
-    → RestsBehind NotBusy done (bus_over view at misused) (bus_over ready (poll_noted done at) misused)
+rests_over : (done : ℕ) (view ready : HostView) (at : Wire) (misused : Bool) → RestsAfter HostRested done view ready
+    → RestsAfter NotBusy done (bus_over view at misused) (bus_over ready (poll_noted done at) misused)
 rests_over zero view ready at misused rests = ap (λ (v : HostView). bus_over v at misused) rests
 rests_over (suc done) view ready at misused rests =
     subst (λ (w : Wire). NotBusy (bus_over view at misused) (bus_over ready w misused)) (sym (some_polled done at))
     (rests_told done view ready at (noted (Busy false) at) misused rests (noted_tells (Busy false) at))
 
 -- uncounted
-rests_so : (k : ℕ) (view ready : HostView) (wire : Wire) (misused : Bool) → RestsBehind HostRested k view ready
-    → RestsBehind NotBusy k (bus_over view (told_so (Out Accepted) k wire) misused)
+rests_so : (k : ℕ) (view ready : HostView) (wire : Wire) (misused : Bool) → RestsAfter HostRested k view ready
+    → RestsAfter NotBusy k (bus_over view (told_so (Out Accepted) k wire) misused)
     (bus_over ready (told_so (Busy false) k wire) misused)
 rests_so zero view ready wire misused rests = ap (λ (v : HostView). bus_over v wire misused) rests
 rests_so (suc k) view ready wire misused rests =
     rests_told k view ready (told (Out Accepted) wire) (told (Busy false) wire) misused rests
     (so_tells (Out Accepted) (Busy false) (suc k) wire)
 
-module _ (blocks : List (List ℕ)) (behind : HostView) (wire : Wire) (misused : Bool)
-    (lines : Where behind (lines_of behind.state.ios ≡ wire.lines)) where
-  state_out : (k : ℕ) (view : HostView) → AreAccepted WritesBlock HostRested blocks behind k view
-      → Where view ((behind.is_kept ≡ true) × (view.state ≡ passed k behind.state) × (view.limits ≡ behind.limits))
+module _ (blocks : List (List ℕ)) (between : HostView) (wire : Wire) (misused : Bool)
+    (lines : Where between (lines_of between.state.ios ≡ wire.lines)) where
+  state_out : (k : ℕ) (view : HostView) → AreAccepted WritesBlock HostRested blocks between k view
+      → Where view ((between.is_kept ≡ true) × (view.state ≡ passed k between.state) × (view.limits ≡ between.limits))
   state_out k view none_accepted kept = (kept, refl, refl)
   state_out k view (accepted_one done from ready next before rests below written) kept =
       let s = written kept in
@@ -340,8 +340,8 @@ module _ (blocks : List (List ℕ)) (behind : HostView) (wire : Wire) (misused :
       )
 
   -- Where it is kept, the lines stay as they were.
-  lines_out : (k : ℕ) (view ready : HostView) → AreAccepted WritesBlock HostRested blocks behind k view
-      → RestsBehind HostRested k view ready
+  lines_out : (k : ℕ) (view ready : HostView) → AreAccepted WritesBlock HostRested blocks between k view
+      → RestsAfter HostRested k view ready
       → Where ready (lines_of ready.state.ios ≡ (poll_noted k (writes_noted k wire)).lines)
   lines_out k view ready all rests kept =
       let r = rested_state k view ready rests kept in
@@ -356,8 +356,8 @@ module _ (blocks : List (List ℕ)) (behind : HostView) (wire : Wire) (misused :
       one_told ready next at then misused (Out got) (λ old new. WriteStep old block got new)
       (does_write ready ready next at misused block got same (sets_none ready) written) tells
 
-  accepted_over : (k : ℕ) (view : HostView) → AreAccepted WritesBlock HostRested blocks behind k view
-      → AreAccepted BlockWritten NotBusy blocks (bus_over behind wire misused) k (bus_over view (writes_noted k wire) misused)
+  accepted_over : (k : ℕ) (view : HostView) → AreAccepted WritesBlock HostRested blocks between k view
+      → AreAccepted BlockWritten NotBusy blocks (bus_over between wire misused) k (bus_over view (writes_noted k wire) misused)
   accepted_over k view none_accepted = none_accepted
   accepted_over k view (accepted_one done from ready next before rests below written) =
       accepted_one done (bus_over from (writes_noted done wire) misused)
@@ -369,15 +369,15 @@ module _ (blocks : List (List ℕ)) (behind : HostView) (wire : Wire) (misused :
       (noted_tells (Out Accepted) (poll_noted done (writes_noted done wire))))
 
   -- uncounted
-  lines_so_out : (k : ℕ) (view ready : HostView) → AreAccepted WritesBlock HostRested blocks behind k view
-      → RestsBehind HostRested k view ready
+  lines_so_out : (k : ℕ) (view ready : HostView) → AreAccepted WritesBlock HostRested blocks between k view
+      → RestsAfter HostRested k view ready
       → Where ready (lines_of ready.state.ios ≡ (told_so (Busy false) k wire).lines)
   lines_so_out k view ready all rests kept =
       lines_out k view ready all rests kept ∙ lines_polled k (writes_noted k wire) ∙ lines_written k wire
       ∙ sym (so_lines (Busy false) k wire)
 
-  accepted_so : (k : ℕ) (view : HostView) → AreAccepted WritesBlock HostRested blocks behind k view
-      → AreAccepted BlockWritten NotBusy blocks (bus_over behind wire misused) k
+  accepted_so : (k : ℕ) (view : HostView) → AreAccepted WritesBlock HostRested blocks between k view
+      → AreAccepted BlockWritten NotBusy blocks (bus_over between wire misused) k
       (bus_over view (told_so (Out Accepted) k wire) misused)
   accepted_so k view none_accepted = none_accepted
   accepted_so k view (accepted_one done from ready next before rests below written) =
@@ -389,8 +389,8 @@ module _ (blocks : List (List ℕ)) (behind : HostView) (wire : Wire) (misused :
       (so_tells (Busy false) (Out Accepted) done wire))
 
   pub written_over : (moved : Moved DataOut) (new : HostView)
-      → WrittenOn WritesBlock HostRested blocks behind moved new
-      → WrittenOn BlockWritten NotBusy blocks (bus_over behind wire misused) moved
+      → WrittenOn WritesBlock HostRested blocks between moved new
+      → WrittenOn BlockWritten NotBusy blocks (bus_over between wire misused) moved
       (bus_over new (all_writes_noted moved wire) misused)
   written_over moved new (writes good next all) = writes good _ (accepted_over good next all)
   written_over moved new (writes_none some view ready got next all rests below not written) =
@@ -401,7 +401,7 @@ module _ (blocks : List (List ℕ)) (behind : HostView) (wire : Wire) (misused :
       (lines_so_out some view ready all rests) written (so_noted (Busy false) (Out got) some wire))
 
   pub state_on_out : (moved : Moved DataOut) (new : HostView)
-      → WrittenOn WritesBlock HostRested blocks behind moved new → HasMoved behind moved new
+      → WrittenOn WritesBlock HostRested blocks between moved new → HasMoved between moved new
   state_on_out moved new (writes good next all) kept = state_out good next all kept
   state_on_out moved new (writes_none some view ready got next all rests below not written) kept =
       let s = written kept in
@@ -430,9 +430,9 @@ module _ (blocks : List (List ℕ)) (v0 v1 : HostView)
     (told : Where v1 (v1.state ≡ state)) (can : CanWrite state frame command count w0.lines)
     (write : WritesWith v1 command blocks heard moved new)
     (notes_it : Notes w0 (Command frame want reply) w1) where
-  lines_written_on : Where write.behind (lines_of write.behind.state.ios ≡ w1.lines)
+  lines_written_on : Where write.between (lines_of write.between.state.ios ≡ w1.lines)
   lines_written_on =
-      lines_behind v0 v1 write.behind w0 w1 state frame want command heard reply told write.sent notes_it can.set
+      lines_after v0 v1 write.between w0 w1 state frame want command heard reply told write.sent notes_it can.set
 
   none_unheard : Spells (answer_heard command.response command.index heard) reply → (c : ℕ × ℕ)
       → command_in frame ≡ Some c → IsErr (response_heard c.0 reply) → moved ≡ Move.Good 0
@@ -447,19 +447,19 @@ module _ (blocks : List (List ℕ)) (v0 v1 : HostView)
       → WrittenWith (bus_over v0 w0 misused) frame want blocks reply moved
       (bus_over new (all_writes_noted moved w1) misused)
   writes_over only spells = record {
-    behind = bus_over write.behind w1 misused;
-    commanded = commanded_by v0 v1 write.behind w0 w1 state frame want command heard reply told write.sent notes_it misused
+    between = bus_over write.between w1 misused;
+    commanded = commanded_by v0 v1 write.between w0 w1 state frame want command heard reply told write.sent notes_it misused
         only can.holds spells;
     unheard = none_unheard spells;
-    written = written_over blocks write.behind w1 misused lines_written_on moved new write.written;
+    written = written_over blocks write.between w1 misused lines_written_on moved new write.written;
   }
 
   pub write_kept : (after : HostState) (wire : Wire) → after ≡ passed_on moved (sent state command (is_ok heard))
       → wire ≡ all_writes_noted moved w1 → Where v1 (v1.limits ≡ w0.limits)
       → Where new (new.state ≡ after) × Where new (new.limits ≡ wire.limits)
   write_kept after wire same noted =
-      kept_by v0 v1 write.behind w0 w1 state frame want command heard reply told write.sent notes_it moved new after wire
-      (state_on_out blocks write.behind w1 misused lines_written_on moved new write.written) same
+      kept_by v0 v1 write.between w0 w1 state frame want command heard reply told write.sent notes_it moved new after wire
+      (state_on_out blocks write.between w1 misused lines_written_on moved new write.written) same
       (ap (λ (w : Wire). w.limits) noted ∙ limits_all_written moved w1)
 
 -- what a command that is under way was told is how it has begun
@@ -467,8 +467,8 @@ pub begun_as : (frame : List ℕ) (old : HostState) (moved : ℕ) (command : Hos
     → command_in frame ≡ Some (command.index, command.argument) → IsUnderWay command new
     → IsCounted old.count moved command.index command.transfer → IsBegun old frame moved new
 begun_as frame old moved command new holds (inl none) counted = inl none
-begun_as frame old moved command new holds (inr behind) counted =
+begun_as frame old moved command new holds (inr between) counted =
     let is_counted : IsCounted old.count moved command.index new.transfer =
-    λ several. ap blocks_in behind ∙ counted several in
+    λ several. ap blocks_in between ∙ counted several in
     inr (subst (λ (o : Option (ℕ × ℕ)). IfSome o (λ told. IsCounted old.count moved told.0 new.transfer)) (sym holds)
     is_counted)

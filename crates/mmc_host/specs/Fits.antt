@@ -4,7 +4,7 @@ use Rattle.mmc_frame.specs.declared.card_state.State.TheVariants as In
 use Rattle.mmc_card.specs.Card.{Card, FromBytes, FromSectors, Source, is_in}
 use Rattle.mmc_card.specs.CardAnswer.{CardAnswer, Checked, Silent, R2, R3}
 use Rattle.mmc_host.specs.declared.data.Data.{Data}
-use Rattle.mmc_host.specs.declared.data.Data.TheVariants as Behind
+use Rattle.mmc_host.specs.declared.data.Data.TheVariants as After
 use Rattle.mmc_card.specs.declared.response.Response.{Response}
 use Rattle.mmc_card.specs.declared.response.Response.TheVariants as To
 
@@ -20,8 +20,8 @@ IsAnswered To.R7 index (Checked other argument) = other ≡ index
 IsAnswered response index answer = ⊥
 
 -- a card that is busy was so before, but after an R1b
-abbrev pub IsBusyBehind : Response → Card → Card → Type 0
-IsBusyBehind response old new = new.is_busy ≡ true → (old.is_busy ≡ true) ⊎ (response ≡ To.R1b)
+abbrev pub IsBusyAfter : Response → Card → Card → Type 0
+IsBusyAfter response old new = new.is_busy ≡ true → (old.is_busy ≡ true) ⊎ (response ≡ To.R1b)
 
 -- so many blocks are to come, or more until the card is stopped
 abbrev pub AreToCome : ℕ → Option ℕ → Type 0
@@ -35,11 +35,11 @@ AreSent size blocks (FromBytes bytes timing) left = (length bytes ≡ size) × (
 
 -- The data after the command: a card begins to send just these blocks, or to accept just these.
 abbrev pub Begins : Data → Card → Type 0
-Begins Behind.Nothing card = ⊥
-Begins (Behind.Read size blocks) card = (is_in card.state In.Data ≡ true) × AreSent size blocks card.source card.left
-Begins (Behind.Write blocks) card = (is_in card.state In.Rcv ≡ true) × AreToCome blocks card.left
+Begins After.Nothing card = ⊥
+Begins (After.Read size blocks) card = (is_in card.state In.Data ≡ true) × AreSent size blocks card.source card.left
+Begins (After.Write blocks) card = (is_in card.state In.Rcv ≡ true) × AreToCome blocks card.left
 
 -- where it sends or accepts blocks, it did before, or it is with this command
-pub record HasDataBehind (told : Data) (old new : Card) : Type 0 where
+pub record HasDataAfter (told : Data) (old new : Card) : Type 0 where
   pub sends : is_in new.state In.Data ≡ true → is_in old.state In.Data ≡ false → Begins told new
   pub accepts : is_in new.state In.Rcv ≡ true → is_in old.state In.Rcv ≡ false → Begins told new

@@ -4,13 +4,13 @@ use Rattle.mmc_frame.specs.Field.{field}
 use Rattle.mmc_frame.specs.Frame.{command_in}
 use Rattle.mmc_frame.specs.declared.commands.TheConstants as Index
 use Rattle.mmc_host.specs.declared.data.Data.{Data}
-use Rattle.mmc_host.specs.declared.data.Data.TheVariants as Behind
+use Rattle.mmc_host.specs.declared.data.Data.TheVariants as After
 use Rattle.mmc_host.specs.declared.told.HostState.{HostState}
 
 abbrev pub has_data : Data → Bool
-has_data Behind.Nothing = false
-has_data (Behind.Read size blocks) = true
-has_data (Behind.Write blocks) = true
+has_data After.Nothing = false
+has_data (After.Read size blocks) = true
+has_data (After.Write blocks) = true
 
 -- Sectors are read or written, or a register comes as a block: the EXT_CSD, the SCR after CMD55, or the switch status of an SD card
 -- (SD Physical Layer 6.00, section 4.7.4; JESD84-B51, section 6.10.4).

@@ -17,20 +17,20 @@ use Rattle.mmc_host.specs.HostStates.{AreMovable, IsCounted, IsFree, IsTold, blo
 use Rattle.mmc_host.specs.Hosts.{HostView, IsSlowEnough, Looks, ReadsBlock, Sends, WritesBlock, answer_heard}
 use Rattle.mmc_card.specs.declared.response.Response.TheVariants as To
 use Rattle.mmc_host.specs.declared.data.Data.{Data}
-use Rattle.mmc_host.specs.declared.data.Data.TheVariants as Behind
+use Rattle.mmc_host.specs.declared.data.Data.TheVariants as After
 use Rattle.mmc_host.specs.declared.told.Heard.{Heard}
 use Rattle.mmc_host.specs.declared.told.HostCommand.{HostCommand}
 use Rattle.mmc_host.specs.declared.told.HostState.{HostState}
 use Rattle.mmc_host.specs.declared.told.ResponseFault.{ResponseFault}
 
 -- so many blocks of 512 bytes are to come, or more
-abbrev pub AreBehind : Data → ℕ → Type 0
-AreBehind (Behind.Read size all) count = (size ≡ 512) × (count ≤ all)
-AreBehind _ count = ⊥
+abbrev pub AreAfter : Data → ℕ → Type 0
+AreAfter (After.Read size all) count = (size ≡ 512) × (count ≤ all)
+AreAfter _ count = ⊥
 
 -- so many blocks are to go, or more
 abbrev pub AreAhead : Data → ℕ → Type 0
-AreAhead (Behind.Write all) count = count ≤ all
+AreAhead (After.Write all) count = count ≤ all
 AreAhead _ count = ⊥
 
 abbrev pub HostRead : HostView → DataIn → List ℕ → HostView → Type 0
@@ -39,9 +39,9 @@ HostRead old got bytes new = ReadsBlock old 512 got bytes new
 pub record ReadsWith {S : Type 0} (blocks : S → List (List ℕ)) (leave : S → ℕ → List ℕ → S) (old : HostView)
     (command : HostCommand) (was : S) (heard : Result Heard ResponseFault) (moved : Moved DataIn) (now : S)
     (new : HostView) : Type 0 where
-  pub behind : HostView
-  pub sent : Sends old command heard behind
-  pub read : ReadOn HostRead blocks leave behind was moved new now
+  pub between : HostView
+  pub sent : Sends old command heard between
+  pub read : ReadOn HostRead blocks leave between was moved new now
 
 abbrev pub HostRested : HostView → HostView → Type 0
 HostRested old new = Looks old false new
@@ -49,10 +49,10 @@ HostRested old new = Looks old false new
 -- none goes where no response was heard
 pub record WritesWith (old : HostView) (command : HostCommand) (blocks : List (List ℕ)) (heard : Result Heard ResponseFault)
     (moved : Moved DataOut) (new : HostView) : Type 0 where
-  pub behind : HostView
-  pub sent : Sends old command heard behind
+  pub between : HostView
+  pub sent : Sends old command heard between
   pub unheard : answer_heard command.response command.index heard ≡ Silent → moved ≡ Move.Good 0
-  pub written : WrittenOn WritesBlock HostRested blocks behind moved new
+  pub written : WrittenOn WritesBlock HostRested blocks between moved new
 
 -- A controller counts 1 to 65,535 blocks.
 abbrev pub number_of : ℕ → ℕ
@@ -60,12 +60,12 @@ number_of count = min (max count 1) 0xffff
 
 -- After a command its data is under way, or none is.
 abbrev pub IsUnderWay : HostCommand → HostState → Type 0
-IsUnderWay command new = (new.transfer ≡ Behind.Nothing) ⊎ (new.transfer ≡ command.transfer)
+IsUnderWay command new = (new.transfer ≡ After.Nothing) ⊎ (new.transfer ≡ command.transfer)
 
 -- After the command of a frame nothing is under way, or it is counted so.
 abbrev pub IsBegun : HostState → List ℕ → ℕ → HostState → Type 0
 IsBegun old frame moved new =
-    (new.transfer ≡ Behind.Nothing)
+    (new.transfer ≡ After.Nothing)
     ⊎ IfSome (command_in frame) (λ command. IsCounted old.count moved command.0 new.transfer)
 
 -- the command of a frame can be sent, and so many blocks come after it on these lines
@@ -76,7 +76,7 @@ pub record CanRead (state : HostState) (frame : List ℕ) (command : HostCommand
   pub told : IsTold state command
   pub free : IsFree state.transfer command
   pub clock : IsSlowEnough state command
-  pub behind : AreBehind command.transfer count
+  pub to_come : AreAfter command.transfer count
   pub set : lines_of state.ios ≡ lines
 
 -- and so many go after it

@@ -1,6 +1,6 @@
 // The data after commands.
 ghost use Rattle.std.specs.Prelude.{◌≡◌, ◌↔◌, IsTrue};
-ghost use Rattle.mmc_host.specs.Together.{AreAhead, AreBehind};
+ghost use Rattle.mmc_host.specs.Together.{AreAhead, AreAfter};
 ghost use Rattle.mmc_host.specs.HostStates.{less_by, less_one};
 ghost use Rattle.mmc_host.specs.Table.{blocks_of, data_of};
 
@@ -27,8 +27,8 @@ pub enum Data {
 
 impl Data {
     /// Whether so many blocks of 512 bytes are to come, or more.
-    pub fn are_behind(self, count: usize) -> bool
-        ensures { IsTrue result ↔ AreBehind self count }
+    pub fn are_after(self, count: usize) -> bool
+        ensures { IsTrue result ↔ AreAfter self count }
     {
         match self {
             Data::Read { length, blocks } => length == 512 && count <= blocks as usize,

@@ -2,7 +2,7 @@
 ghost use Rattle.std.specs.Prelude.{◌<◌, ◌≡◌, length};
 ghost use Rattle.mmc_host.specs.Hosts.{CanBeSet, HostView, IsSlowEnough, IsWithin, Looks, ReadsBlock, Sends};
 ghost use Rattle.mmc_host.specs.Hosts.{SetsIos, Waits, Where, WritesBlock};
-ghost use Rattle.mmc_host.specs.Together.{AreAhead, AreBehind, ReadsWith, WritesWith};
+ghost use Rattle.mmc_host.specs.Together.{AreAhead, AreAfter, ReadsWith, WritesWith};
 ghost use Rattle.mmc_card.specs.declared.response.Response.TheVariants.{R1};
 ghost use Rattle.mmc_host.specs.HostStates.{AreMovable, IsFree, IsTold, IsToCome, IsToGo, lines_of};
 ghost use Rattle.mmc_host.specs.declared.told.Ios.{Ios};
@@ -63,7 +63,7 @@ pub trait Host {
         requires free { Where (view self.old) (IsFree (view self.old).state.transfer command) }
         requires told { Where (view self.old) (IsTold (view self.old).state command) }
         requires clock { Where (view self.old) (IsSlowEnough (view self.old).state command) }
-        requires behind { AreBehind command.transfer (length (D.blocks blocks.old)) }
+        requires to_come { AreAfter command.transfer (length (D.blocks blocks.old)) }
         ensures { ReadsWith D.blocks D.with (view self.old) command blocks.old result.0 result.1 blocks.new (view self.new) }
     {
         let _ = blocks;

@@ -205,7 +205,7 @@ impl<H: Host> HostBus<H> {
         let lines = self.wire.lines;
         if index >= 64
             || !self.state.is_free(command)
-            || !command.transfer.are_behind(count)
+            || !command.transfer.are_after(count)
             || !are_within(lines, self.wire.limits)
         {
             return None;

@@ -6,7 +6,7 @@ ghost use Rattle.mmc_card.specs.CardAnswer.{Choice};
 ghost use Rattle.mmc_card.specs.Rows.{command_of, respond};
 ghost use Rattle.mmc_card.specs.Wanted.{response_to, want_of};
 ghost use Rattle.mmc_card.specs.declared.command.Command.{Command};
-ghost use Rattle.mmc_host.specs.Fits.{HasDataBehind, IsAnswered, IsBusyBehind};
+ghost use Rattle.mmc_host.specs.Fits.{HasDataAfter, IsAnswered, IsBusyAfter};
 ghost use Rattle.mmc_host.specs.Table.{data_of, response_of};
 ghost use Rattle.mmc_host.specs.WireLaws.{FaithfulIsHeard, UnsoundIsLost};
 
@@ -18,9 +18,9 @@ pub fn a_card_does_as_the_table_says()
         → IsAnswered (response_of (command_of card.made.kind card.app index)) index (respond choice card index argument).1 }
     ensures length { (command : Command) → want_of (response_of command) ≡ response_to command }
     ensures busy { (choice : Choice) (card : Card) (index argument : ℕ)
-        → IsBusyBehind (response_of (command_of card.made.kind card.app index)) card (respond choice card index argument).0 }
+        → IsBusyAfter (response_of (command_of card.made.kind card.app index)) card (respond choice card index argument).0 }
     ensures blocks { (choice : Choice) (card : Card) (index argument moved : ℕ) → index < 64 → IsCard card
-        → HasDataBehind (data_of (command_of card.made.kind card.app index) card.count moved) card
+        → HasDataAfter (data_of (command_of card.made.kind card.app index) card.count moved) card
         (respond choice card index argument).0 }
 {}
 

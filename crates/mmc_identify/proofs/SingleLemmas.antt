@@ -248,9 +248,9 @@ pub told_unlocked : (rca told : ℕ) (old new : Card) → IsSelected rca old →
     → TellsStatus old told new → field 25 25 told ≡ 0
 told_unlocked rca told old new is profile locked (inl itself) =
     shows_unlocked rca told old is profile locked (less old.made.kind told _ itself.0)
-told_unlocked rca told old new is profile locked (inr behind) =
-    locked told (at_work behind.choice old) (less old.made.kind told _ behind.told_is)
-    ∙ lags_unlocked rca behind.choice old is profile.unlocked
+told_unlocked rca told old new is profile locked (inr later) =
+    locked told (at_work later.choice old) (less old.made.kind told _ later.told_is)
+    ∙ lags_unlocked rca later.choice old is profile.unlocked
 
 -- what a clean status leaves
 clean_leaves : (rca : ℕ) (kind : Kind) (old new : Card) → Looks rca old → IsInOrder kind old × (new ≡ shown old) → IsLeft rca new

@@ -6,7 +6,7 @@
 // 3. CMD2, CMD3, CMD9, CMD7, polls until the card isn't busy, and CMD13, whose status has to be clean. While it shows the card
 //    on its way to tran still, CMD13 comes again, at most `MAX_POLLS` times with the polls that were answered yes.
 // 4. Any other missing or unsound response ends it. Registers are judged at the end.
-ghost use Rattle.std.specs.Prelude.{◌≡◌, ◌+◌, ◌<◌, ◌≤◌, IfOk, IsErr, IsOk, IsOkAnd, Ok, false, true, ℕ};
+ghost use Rattle.std.specs.Prelude.{◌≡◌, ◌+◌, ◌<◌, ◌≤◌, IfOk, IsErr, IsOk, IsOkAnd, Ok, false, true};
 ghost use Rattle.mmc_frame.specs.declared.card_state.State.TheVariants.{Ident, Ready};
 ghost use Rattle.mmc_frame.specs.declared.kind.Kind.TheVariants as Is;
 ghost use Rattle.mmc_card.specs.declared.exchange.Timing.TheVariants.{Default};

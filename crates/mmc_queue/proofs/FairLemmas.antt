@@ -60,8 +60,8 @@ first_goes (x ∷ xs) e zs ys up m =
     let h = member_above (e.ticket + 1) zs x xs ys up m in
     let yes : nat_lt e.ticket x.ticket ≡ true = grind (arith, nat_tests, h) in rw yes refl
 
-behind : (m e : Entry) (ms : List Entry) → m.ticket + 1 ≤ e.ticket → with_member (m ∷ ms) e ≡ m ∷ with_member ms e
-behind m e ms h = let no : nat_lt e.ticket m.ticket ≡ false = grind (arith, nat_tests, h) in rw no refl
+passed_by : (m e : Entry) (ms : List Entry) → m.ticket + 1 ≤ e.ticket → with_member (m ∷ ms) e ≡ m ∷ with_member ms e
+passed_by m e ms h = let no : nat_lt e.ticket m.ticket ≡ false = grind (arith, nat_tests, h) in rw no refl
 
 -- one that is left becomes a member, in its place
 member_merged : (low : ℕ) (zs xs ys before : List Entry) (e : Entry) (after : List Entry) → Ascend low zs → IsMerged zs xs ys
@@ -72,7 +72,7 @@ member_merged low (z ∷ zs) xs ys before e after up (inl m) is =
     let h = left_above (z.ticket + 1) zs m.0 ys before e after up.1 m.2 is in
     inl (
       with_member m.0 e,
-      ap (λ vs. with_member vs e) m.1 ∙ behind z e m.0 h,
+      ap (λ vs. with_member vs e) m.1 ∙ passed_by z e m.0 h,
       member_merged (z.ticket + 1) zs m.0 ys before e after up.1 m.2 is,
     )
 member_merged low (z ∷ zs) xs ys [] e after up (inr m) is =
@@ -300,7 +300,7 @@ step waits members extent left e rest up old j =
         oldest = f.oldest;
         others = with_member f.others e;
         later = f.later;
-        members_are = ap (λ vs. with_member vs e) f.members_are ∙ behind f.oldest e f.others above;
+        members_are = ap (λ vs. with_member vs e) f.members_are ∙ passed_by f.oldest e f.others above;
         waits_are = f.waits_are;
         parts = subst (λ vs. IsMerged f.later (with_member f.others e) vs) (sym t.3)
             (member_merged (f.oldest.ticket + 1) f.later f.others left t.0 e t.1 later_up f.parts t.2);

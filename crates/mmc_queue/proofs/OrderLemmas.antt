@@ -58,11 +58,11 @@ goes_before [] k e d below less = absurd (omega (arith, below))
 goes_before (m ∷ ms) zero e d below less = let yes : nat_lt e.ticket m.ticket ≡ true = grind (arith, nat_tests, less) in rw yes refl
 goes_before (m ∷ ms) (suc k) e d below less = goes_before ms k e d (omega (arith, below)) less
 
-pub goes_behind : (ms : List Entry) (k : ℕ) (e d : Entry) → k < length ms → (slice_index_or ms k d).ticket ≤ e.ticket
+pub goes_after : (ms : List Entry) (k : ℕ) (e d : Entry) → k < length ms → (slice_index_or ms k d).ticket ≤ e.ticket
     → take k ms ++ with_member (drop k ms) e ≡ take (suc k) ms ++ with_member (drop (suc k) ms) e
-goes_behind [] k e d below less = absurd (omega (arith, below))
-goes_behind (m ∷ ms) zero e d below less = let no : nat_lt e.ticket m.ticket ≡ false = grind (arith, nat_tests, less) in rw no refl
-goes_behind (m ∷ ms) (suc k) e d below less = ap (λ xs. m ∷ xs) (goes_behind ms k e d (omega (arith, below)) less)
+goes_after [] k e d below less = absurd (omega (arith, below))
+goes_after (m ∷ ms) zero e d below less = let no : nat_lt e.ticket m.ticket ≡ false = grind (arith, nat_tests, less) in rw no refl
+goes_after (m ∷ ms) (suc k) e d below less = ap (λ xs. m ∷ xs) (goes_after ms k e d (omega (arith, below)) less)
 
 pub below_push : (t : ℕ) (es : List Entry) (e : Entry) → AreBelow t es → e.ticket < t + 1 → AreBelow (t + 1) (es ++ e ∷ [])
 below_push t [] e below less = (less, tt)

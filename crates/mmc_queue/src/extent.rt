@@ -1,4 +1,4 @@
-ghost use Rattle.std.specs.Prelude.{◌≡◌, ◌+◌, ◌<◌, ◌≤◌, ◌^◌, true};
+ghost use Rattle.std.specs.Prelude.{◌≡◌, ◌+◌, ◌<◌, ◌≤◌, ◌^◌};
 ghost use Rattle.mmc_queue.specs.Requests.{end_of};
 ghost use Rattle.mmc_queue.specs.Rule.{fits, is_beside, extent_of, widened};
 

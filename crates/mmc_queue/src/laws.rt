@@ -1,5 +1,5 @@
 //! Laws about requests that wait. Each function does nothing; its contract is the law, which a caller then knows.
-ghost use Rattle.std.specs.Prelude.{◌+◌, ◌-◌, ◌<◌, ◌≡◌, ◌≤◌, ◌^◌, ◌↔◌, ◌⊎◌, List, []};
+ghost use Rattle.std.specs.Prelude.{◌+◌, ◌-◌, ◌<◌, ◌≡◌, ◌↔◌, ◌⊎◌, List, []};
 ghost use Rattle.std.specs.Prelude.{false, length, slice_index_or, true, ℕ};
 ghost use Rattle.mmc_bus.specs.Lending.{IsRewritten};
 ghost use Rattle.mmc_card.specs.Sectors.{pieces};
@@ -7,12 +7,10 @@ ghost use Rattle.mmc_queue.specs.declared.entry.Entry.{Entry};
 ghost use Rattle.mmc_queue.specs.declared.group.Group.{Group};
 ghost use Rattle.mmc_requests.specs.declared.kind.Kind.TheVariants.{Read, Write};
 ghost use Rattle.mmc_queue.specs.declared.request.Request.{Request};
-ghost use Rattle.mmc_requests.specs.declared.limits.TheConstants.{MAX_COUNT};
 ghost use Rattle.mmc_queue.specs.declared.extent.Extent.{Extent};
 ghost use Rattle.mmc_queue.specs.Group.{IsJoined, IsOneOf, FormExtent};
 ghost use Rattle.mmc_queue.specs.Lent.{AreLent, blocks_of, with_lent, write_blocks_of};
-ghost use Rattle.mmc_queue.specs.Requests.{ShareSector, bytes_of, can_merge, conflicts, count_of, end_of, is_read, kind_of, part_of, start_of};
-ghost use Rattle.mmc_queue.specs.Waiting.{IsSound};
+ghost use Rattle.mmc_queue.specs.Requests.{ShareSector, bytes_of, conflicts, count_of, is_read, start_of};
 
 /// Of two requests that conflict either conflicts with the other.
 pub fn conflict_is_symmetric()

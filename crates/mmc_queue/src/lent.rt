@@ -1,5 +1,5 @@
 // The buffers of a group, lent as the blocks of its extent.
-ghost use Rattle.std.specs.Prelude.{◌≡◌, ◌+◌, ◌-◌, ◌<◌, ◌≤◌, [], length, slice_index_or, MatchOption, None};
+ghost use Rattle.std.specs.Prelude.{◌≡◌, ◌+◌, ◌-◌, ◌<◌, [], length, slice_index_or, MatchOption, None};
 ghost use Rattle.std.specs.Borrow.{Array, Lends, sem, u8 as byte};
 ghost use Rattle.mmc_bus.specs.Bytes.{blocks_in};
 ghost use Rattle.mmc_queue.specs.contracts.entry.Entry.{the_row as entry_row};

@@ -1,5 +1,5 @@
-ghost use Rattle.std.specs.Prelude.{◌≡◌, ◌*◌, ◌+◌, length};
-ghost use Rattle.mmc_queue.specs.Requests.{bytes_of, count_of, end_of, has_its_bytes, is_read, kind_of, part_of, start_of};
+ghost use Rattle.std.specs.Prelude.{◌≡◌, ◌*◌};
+ghost use Rattle.mmc_queue.specs.Requests.{count_of, has_its_bytes, is_read, kind_of, part_of, start_of};
 
 use mmc_bus::{Bytes, Part};
 use mmc_requests::Kind;

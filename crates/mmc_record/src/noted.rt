@@ -1,6 +1,5 @@
 // How a card stands, noted.
 ghost use Rattle.std.specs.Prelude.{◌≡◌};
-ghost use Rattle.mmc_bus.specs.declared.cause.Cause.TheVariants as Why;
 ghost use Rattle.mmc_card.specs.Made.{HasRegisters, Made};
 ghost use Rattle.mmc_card.specs.declared.exchange.Lines.{Lines};
 ghost use Rattle.mmc_switch.specs.Info.{IsInfo};

@@ -59,7 +59,7 @@ Shows r = Worked Narrows (λ old new. IsOk r → HasShown old.card new.card) Any
 -- a status shows itself, whether it lags or not
 pub has_shown : {told : ℕ} (old new : Card) → TellsStatus old told new → HasShown old new
 has_shown old new (inl itself) = subst (HasShown old) (sym itself.1) refl
-has_shown old new (inr behind) = subst (HasShown old) (sym behind.card) refl
+has_shown old new (inr after) = subst (HasShown old) (sym after.card) refl
 
 -- a card in tran stands as it did
 stands_with_blocks : (session : Session) (a b : BusView) → b.lines ≡ a.lines → a.card.state ≡ Tran

@@ -1,5 +1,5 @@
 // Bringing a card back in order where it stands, without a reset.
-ghost use Rattle.std.specs.Prelude.{◌≡◌, ◌+◌, ◌≤◌, IsOk, true};
+ghost use Rattle.std.specs.Prelude.{◌≡◌, ◌+◌, ◌≤◌, IsOk};
 ghost use Rattle.mmc_frame.specs.declared.card_state.State.TheVariants.{Tran};
 ghost use Rattle.mmc_card.specs.CardAnswer.{shown};
 ghost use Rattle.mmc_card.specs.RowsErase.{forgotten};

@@ -1,5 +1,5 @@
 // The card-specific data register.
-ghost use Rattle.std.specs.Prelude.{◌≡◌, ℕ, ◌+◌, ◌*◌, ◌/◌, ◌^◌, ◌<◌, ◌≤◌, ◌↔◌, IfOk, IsTrue};
+ghost use Rattle.std.specs.Prelude.{◌≡◌, ◌+◌, ◌*◌, ◌/◌, ◌^◌, ◌<◌, ◌↔◌, IfOk, IsTrue};
 ghost use Rattle.mmc_regs.specs.Csd.{IsOfKind, IsSdCsd, csd_in, csd_number, erase_unit_of, erase_unit_v1, has_block_length, is_protected, may_switch, sd_csd_of, sectors_of, v1_of};
 ghost use Rattle.mmc_regs.specs.CsdFields.{perm_write_protect, tmp_write_protect};
 

@@ -6,7 +6,7 @@ use Rattle.std.specs.Prelude.{slice_index_or, slice_set, ◌==◌}
 use Rattle.mmc_bus.proofs.TogetherLemmas.{WritesOne, good_count}
 use Rattle.mmc_bus.specs.Exchanges.{Kept}
 use Rattle.mmc_bus.specs.Lending.{IsRewritten, block, nothing}
-use Rattle.mmc_bus.specs.Together.{AreAccepted, AreGood, ReadOn, RestsBehind, WrittenOn, accepted_one, good_one, none_accepted, none_good}
+use Rattle.mmc_bus.specs.Together.{AreAccepted, AreGood, ReadOn, RestsAfter, WrittenOn, accepted_one, good_one, none_accepted, none_good}
 use Rattle.mmc_bus.specs.Together.{reads, reads_none, writes, writes_none}
 use Rattle.mmc_bus.specs.declared.moved.Moved.{Moved}
 use Rattle.mmc_bus.specs.declared.moved.Moved.TheVariants as Move
@@ -86,19 +86,19 @@ one_bad state limits some view new got left not is after_is step kept = record {
 }
 
 module _ {S : Type 0} (blocks : S → List (List ℕ)) (leave : S → ℕ → List ℕ → S) (one : WritesOne blocks leave) (was : S)
-    (come : List (List ℕ)) (state : HostState) (limits : Lines) (behind : BusView) (is : IsBusOf state limits behind) where
-  come_bus : (k : ℕ) (view : BusView) → HaveCome come behind k view → IsBusOf state limits view
+    (come : List (List ℕ)) (state : HostState) (limits : Lines) (between : BusView) (is : IsBusOf state limits between) where
+  come_bus : (k : ℕ) (view : BusView) → HaveCome come between k view → IsBusOf state limits view
   come_bus k view none_came = is
   come_bus k view (one_came done before next have long step) =
       stays_one state limits before next (come_bus done before have) step
 
-  come_good : (k : ℕ) (view : BusView) → HaveCome come behind k view → k ≤ length (blocks was)
-      → AreGood HostRead blocks leave (host_at behind state limits) was k (host_at view (passed k state) limits)
+  come_good : (k : ℕ) (view : BusView) → HaveCome come between k view → k ≤ length (blocks was)
+      → AreGood HostRead blocks leave (host_at between state limits) was k (host_at view (passed k state) limits)
       (placed leave come was k)
   come_good k view none_came few = none_good
   come_good k view (one_came done before next have long step) few =
       let so_far = come_good done before have (omega (arith, few)) in
-      let count = good_count (host_at behind state limits) was one done _ _ so_far in
+      let count = good_count (host_at between state limits) was one done _ _ so_far in
       good_one done (host_at before (passed done state) limits) (placed leave come was done) (slice_index_or come done [])
       (host_at next (passed (suc done) state) limits) so_far (omega (arith, few, count)) long
       (one_good state limits done before next (slice_index_or come done []) (come_bus done before have)
@@ -106,9 +106,9 @@ module _ {S : Type 0} (blocks : S → List (List ℕ)) (leave : S → ℕ → Li
 
 -- of a host that isn't kept nothing is known
 module _ {S : Type 0} (blocks : S → List (List ℕ)) (leave : S → ℕ → List ℕ → S) (one : WritesOne blocks leave) (was : S)
-    (these : List (List ℕ)) (behind last : HostView) (unkept : last.is_kept ≡ false) where
+    (these : List (List ℕ)) (between last : HostView) (unkept : last.is_kept ≡ false) where
   abbrev view_after : ℕ → HostView
-  view_after zero = behind
+  view_after zero = between
   view_after (suc done) = last
 
   after_some : (n : ℕ) → 1 ≤ n → view_after n ≡ last
@@ -116,11 +116,11 @@ module _ {S : Type 0} (blocks : S → List (List ℕ)) (leave : S → ℕ → Li
   after_some (suc n) less = refl
 
   any_good : (k : ℕ) → ((i : ℕ) → i < k → length (slice_index_or these i []) ≡ 512) → k ≤ length (blocks was)
-      → AreGood HostRead blocks leave behind was k (view_after k) (placed leave these was k)
+      → AreGood HostRead blocks leave between was k (view_after k) (placed leave these was k)
   any_good zero sized few = none_good
   any_good (suc k) sized few =
       let so_far = any_good k (λ i less. sized i (omega (arith, less))) (omega (arith, few)) in
-      let count = good_count behind was one k _ _ so_far in
+      let count = good_count between was one k _ _ so_far in
       good_one k (view_after k) (placed leave these was k) (slice_index_or these k []) last so_far (omega (arith, few, count))
       (sized k (omega arith)) (λ kept. absurd (false≢true (sym unkept ∙ kept)))
 
@@ -221,8 +221,8 @@ module _ {S : Type 0} (blocks : S → List (List ℕ)) (leave : S → ℕ → Li
     (under_way : WhereKept v1 (v1.transfer ≡ Data.Read 512 count))
     (lines : WhereKept v1 (lines_in v1.settings.control ≡ lines_of after.ios))
     (most : WhereKept v1 (limits_in v1.built.capabilities ≡ limits)) (taken : TakesBack leave v2 was count now v3) where
-  abbrev behind : HostView
-  behind = host_over v1 after limits
+  abbrev between : HostView
+  between = host_over v1 after limits
 
   abbrev last : HostView
   last = host_over v3 (ended after) limits
@@ -238,13 +238,13 @@ module _ {S : Type 0} (blocks : S → List (List ℕ)) (leave : S → ℕ → Li
   one_at_least : 0 < length (blocks was)
   one_at_least = omega (arith, some, full)
 
-  all_by : (kept : Bool) → v3.is_kept ≡ kept → Finishes v1 None v2 → ReadOn HostRead blocks leave behind was (Move.Good count) last now
+  all_by : (kept : Bool) → v3.is_kept ≡ kept → Finishes v1 None v2 → ReadOn HostRead blocks leave between was (Move.Good count) last now
   all_by false kept finishes =
-      subst (λ (s : S). ReadOn HostRead blocks leave behind was (Move.Good count) last s) (sym taken.placed)
+      subst (λ (s : S). ReadOn HostRead blocks leave between was (Move.Good count) last s) (sym taken.placed)
       (reads count last (placed leave taken.blocks was count)
-      (subst (λ (h : HostView). AreGood HostRead blocks leave behind was count h (placed leave taken.blocks was count))
-      (after_some blocks leave one was taken.blocks behind last kept count some)
-      (any_good blocks leave one was taken.blocks behind last kept count taken.sized few)))
+      (subst (λ (h : HostView). AreGood HostRead blocks leave between was count h (placed leave taken.blocks was count))
+      (after_some blocks leave one was taken.blocks between last kept count some)
+      (any_good blocks leave one was taken.blocks between last kept count taken.sized few)))
   all_by true kept finishes =
       let t = taken.back kept in
       let f = finishes t.0 in
@@ -257,17 +257,17 @@ module _ {S : Type 0} (blocks : S → List (List ℕ)) (leave : S → ℕ → Li
       ap (λ (s : HostState). host_at (seen v2) s limits) over ∙ same_host v2 v3 (ended after) limits t.1.1 in
       let there : placed leave e.0 was count ≡ now =
       sym (placed_as leave was taken.blocks e.0 count (t.1.0 e.0 e.1.0)) ∙ sym taken.placed in
-      subst (λ (s : S). ReadOn HostRead blocks leave behind was (Move.Good count) last s) there
+      subst (λ (s : S). ReadOn HostRead blocks leave between was (Move.Good count) last s) there
       (reads count last (placed leave e.0 was count)
-      (subst (λ (h : HostView). AreGood HostRead blocks leave behind was count h (placed leave e.0 was count)) host good))
+      (subst (λ (h : HostView). AreGood HostRead blocks leave between was count h (placed leave e.0 was count)) host good))
 
-  pub all_read : Finishes v1 None v2 → ReadOn HostRead blocks leave behind was (Move.Good count) last now
+  pub all_read : Finishes v1 None v2 → ReadOn HostRead blocks leave between was (Move.Good count) last now
   all_read finishes = all_by v3.is_kept refl finishes
 
   failed_by : (kept : Bool) → v3.is_kept ≡ kept → (got : DataIn) → (got ≡ Came.Good → ⊥) → Finishes v1 (Some got) v2
-      → ReadOn HostRead blocks leave behind was (Move.Failed got) last now
+      → ReadOn HostRead blocks leave between was (Move.Failed got) last now
   failed_by false kept got not finishes =
-      reads_none 0 behind was now got (slice_index_or taken.blocks 0 []) last none_good one_at_least (taken.sized 0 some) not
+      reads_none 0 between was now got (slice_index_or taken.blocks 0 []) last none_good one_at_least (taken.sized 0 some) not
       (λ k. absurd (false≢true (sym kept ∙ k))) is_rewritten
   failed_by true kept got not finishes =
       let t = taken.back kept in
@@ -276,7 +276,7 @@ module _ {S : Type 0} (blocks : S → List (List ℕ)) (leave : S → ℕ → Li
       let is = same_bus v1 after limits (lines f.0) (most f.0) in
       let fewer = o.fewer in
       let good = come_good blocks leave one was o.blocks after limits (seen v1) is o.some o.before o.come (omega (arith, fewer, full)) in
-      let count_is = good_count behind was one o.some _ _ good in
+      let count_is = good_count between was one o.some _ _ good in
       let left = slice_index_or taken.blocks o.some [] in
       let bus = come_bus blocks leave one was o.blocks after limits (seen v1) is o.some o.before o.come in
       let step = o.fails left in
@@ -288,7 +288,7 @@ module _ {S : Type 0} (blocks : S → List (List ℕ)) (leave : S → ℕ → Li
       is_rewritten
 
   pub one_failed : (got : DataIn) → (got ≡ Came.Good → ⊥) → Finishes v1 (Some got) v2
-      → ReadOn HostRead blocks leave behind was (Move.Failed got) last now
+      → ReadOn HostRead blocks leave between was (Move.Failed got) last now
   one_failed got not finishes = failed_by v3.is_kept refl got not finishes
 
 -- Writes.
@@ -320,25 +320,25 @@ one_rest state limits view new is after_is step kept = record {
   step = stepped state state limits (λ a b. PollStep a false b) view new is after_is step;
 }
 
-module _ (blocks : List (List ℕ)) (state : HostState) (limits : Lines) (behind : BusView) (is : IsBusOf state limits behind) where
-  rest_bus : (done : ℕ) (view ready : BusView) → RestsBehind CardRests done view ready → IsBusOf state limits view
+module _ (blocks : List (List ℕ)) (state : HostState) (limits : Lines) (between : BusView) (is : IsBusOf state limits between) where
+  rest_bus : (done : ℕ) (view ready : BusView) → RestsAfter CardRests done view ready → IsBusOf state limits view
       → IsBusOf state limits ready
   rest_bus zero view ready rests bus = subst (λ (b : BusView). IsBusOf state limits b) (sym rests) bus
   rest_bus (suc done) view ready rests bus = stays_one state limits view ready bus rests
 
-  rest_host : (done : ℕ) (view ready : BusView) → RestsBehind CardRests done view ready → IsBusOf state limits view
-      → RestsBehind HostRested done (host_at view (passed done state) limits) (host_at ready (passed done state) limits)
+  rest_host : (done : ℕ) (view ready : BusView) → RestsAfter CardRests done view ready → IsBusOf state limits view
+      → RestsAfter HostRested done (host_at view (passed done state) limits) (host_at ready (passed done state) limits)
   rest_host zero view ready rests bus = ap (λ (b : BusView). host_at b state limits) rests
   rest_host (suc done) view ready rests bus =
       one_rest (passed (suc done) state) limits view ready bus (stays_one state limits view ready bus rests) rests
 
-  gone_bus : (k : ℕ) (view : BusView) → HaveGone blocks behind k view → IsBusOf state limits view
+  gone_bus : (k : ℕ) (view : BusView) → HaveGone blocks between k view → IsBusOf state limits view
   gone_bus k view none_accepted = is
   gone_bus k view (accepted_one done before ready next have rests below step) =
       stays_one state limits ready next (rest_bus done before ready rests (gone_bus done before have)) step
 
-  gone : (k : ℕ) (view : BusView) → HaveGone blocks behind k view
-      → AreAccepted WritesBlock HostRested blocks (host_at behind state limits) k (host_at view (passed k state) limits)
+  gone : (k : ℕ) (view : BusView) → HaveGone blocks between k view
+      → AreAccepted WritesBlock HostRested blocks (host_at between state limits) k (host_at view (passed k state) limits)
   gone k view none_accepted = none_accepted
   gone k view (accepted_one done before ready next have rests below step) =
       let bus = gone_bus done before have in
@@ -347,9 +347,9 @@ module _ (blocks : List (List ℕ)) (state : HostState) (limits : Lines) (behind
       (host_at next (passed (suc done) state) limits) (gone done before have) (rest_host done before ready rests bus) below
       (one_gone state limits done ready next _ at (stays_one state limits ready next at step) step)
 
-  lost : (moved : Moved DataOut) (new : BusView) (last : HostView) → WrittenOn BlockGoes CardRests blocks behind moved new
+  lost : (moved : Moved DataOut) (new : BusView) (last : HostView) → WrittenOn BlockGoes CardRests blocks between moved new
       → moved ≡ Move.Failed Went.Nothing → host_at new (ended state) limits ≡ last
-      → WrittenOn WritesBlock HostRested blocks (host_at behind state limits) (Move.Failed Went.Nothing) last
+      → WrittenOn WritesBlock HostRested blocks (host_at between state limits) (Move.Failed Went.Nothing) last
   lost moved new last (writes good next all) is_so same = cc
   lost moved new last (writes_none some view ready got next all rests below not step) is_so same =
       let nothing_told : got ≡ Went.Nothing = cc in
@@ -361,16 +361,16 @@ module _ (blocks : List (List ℕ)) (state : HostState) (limits : Lines) (behind
       (subst (λ (h : HostView). WritesBlock (host_at ready (passed some state) limits) (slice_index_or blocks some []) Went.Nothing h) same
       (one_lost state limits some ready next _ at (stays_one state limits ready next at lost_step) lost_step))
 
-module _ (blocks : List (List ℕ)) (behind last : HostView) (unkept : last.is_kept ≡ false) where
+module _ (blocks : List (List ℕ)) (between last : HostView) (unkept : last.is_kept ≡ false) where
   abbrev view_then : ℕ → HostView
-  view_then zero = behind
+  view_then zero = between
   view_then (suc done) = last
 
-  rests_then : (done : ℕ) → RestsBehind HostRested done (view_then done) (view_then done)
+  rests_then : (done : ℕ) → RestsAfter HostRested done (view_then done) (view_then done)
   rests_then zero = refl
   rests_then (suc done) = λ kept. absurd (false≢true (sym unkept ∙ kept))
 
-  any_gone : (k : ℕ) → k ≤ length blocks → AreAccepted WritesBlock HostRested blocks behind k (view_then k)
+  any_gone : (k : ℕ) → k ≤ length blocks → AreAccepted WritesBlock HostRested blocks between k (view_then k)
   any_gone zero few = none_accepted
   any_gone (suc k) few =
       accepted_one k (view_then k) (view_then k) last (any_gone k (omega (arith, few))) (rests_then k) (omega (arith, few))
@@ -385,18 +385,18 @@ module _ (blocks : List (List ℕ)) (v1 v2 v3 : ControllerView) (after : HostSta
     (under_way : WhereKept v1 (v1.transfer ≡ Data.Write count)) (lent : WhereKept v1 (blocks_to_go v1.dma.lent ≡ blocks))
     (lines : WhereKept v1 (lines_in v1.settings.control ≡ lines_of after.ios))
     (most : WhereKept v1 (limits_in v1.built.capabilities ≡ limits)) (back : Settled v2 (v3 ≡ unlent v2) v3) where
-  abbrev behind_it : HostView
-  behind_it = host_over v1 after limits
+  abbrev after_it : HostView
+  after_it = host_over v1 after limits
 
   abbrev last_one : HostView
   last_one = host_over v3 (ended after) limits
 
   gone_by : (kept : Bool) → v3.is_kept ≡ kept → Finishes v1 None v2
-      → WrittenOn WritesBlock HostRested blocks behind_it (Move.Good count) last_one
+      → WrittenOn WritesBlock HostRested blocks after_it (Move.Good count) last_one
   gone_by false kept finishes =
       writes count last_one
-      (subst (λ (h : HostView). AreAccepted WritesBlock HostRested blocks behind_it count h)
-      (then_some blocks behind_it last_one kept count some) (any_gone blocks behind_it last_one kept count (omega (arith, full))))
+      (subst (λ (h : HostView). AreAccepted WritesBlock HostRested blocks after_it count h)
+      (then_some blocks after_it last_one kept count some) (any_gone blocks after_it last_one kept count (omega (arith, full))))
   gone_by true kept finishes =
       let t = back kept in
       let f = finishes t.0 in
@@ -408,16 +408,16 @@ module _ (blocks : List (List ℕ)) (v1 v2 v3 : ControllerView) (after : HostSta
       let host : host_at (seen v2) (passed count after) limits ≡ last_one =
       ap (λ (s : HostState). host_at (seen v2) s limits) over ∙ same_host v2 v3 (ended after) limits t.1 in
       writes count last_one
-      (subst (λ (h : HostView). AreAccepted WritesBlock HostRested blocks behind_it count h) host
+      (subst (λ (h : HostView). AreAccepted WritesBlock HostRested blocks after_it count h) host
       (gone blocks after limits (seen v1) is count (seen v2) went))
 
-  pub all_gone : Finishes v1 None v2 → WrittenOn WritesBlock HostRested blocks behind_it (Move.Good count) last_one
+  pub all_gone : Finishes v1 None v2 → WrittenOn WritesBlock HostRested blocks after_it (Move.Good count) last_one
   all_gone finishes = gone_by v3.is_kept refl finishes
 
   lost_by : (kept : Bool) → v3.is_kept ≡ kept → (got : DataIn) → Finishes v1 (Some got) v2
-      → WrittenOn WritesBlock HostRested blocks behind_it (Move.Failed Went.Nothing) last_one
+      → WrittenOn WritesBlock HostRested blocks after_it (Move.Failed Went.Nothing) last_one
   lost_by false kept got finishes =
-      writes_none 0 behind_it behind_it Went.Nothing last_one none_accepted refl (omega (arith, some, full)) (λ e. cc)
+      writes_none 0 after_it after_it Went.Nothing last_one none_accepted refl (omega (arith, some, full)) (λ e. cc)
       (λ k. absurd (false≢true (sym kept ∙ k)))
   lost_by true kept got finishes =
       let t = back kept in
@@ -428,5 +428,5 @@ module _ (blocks : List (List ℕ)) (v1 v2 v3 : ControllerView) (after : HostSta
       lost blocks after limits (seen v1) is _ (seen v2) last_one went refl (same_host v2 v3 (ended after) limits t.1)
 
   pub one_is_lost : (got : DataIn) → Finishes v1 (Some got) v2
-      → WrittenOn WritesBlock HostRested blocks behind_it (Move.Failed Went.Nothing) last_one
+      → WrittenOn WritesBlock HostRested blocks after_it (Move.Failed Went.Nothing) last_one
   one_is_lost got finishes = lost_by v3.is_kept refl got finishes

@@ -30,7 +30,7 @@ use Rattle.mmc_sdhci.specs.Commands as Command
 use Rattle.mmc_sdhci.specs.Commands.{KeepsLent}
 use Rattle.mmc_sdhci.specs.Controller.{Built, ControllerView, Settings, Settled, has_data, limits_in, lines_in}
 use Rattle.mmc_sdhci.specs.Driver.{StaysHost, host_over}
-use Rattle.mmc_sdhci.specs.Finishing.{Finishes, IsLentFor, IsMoving, MovesBehind, MovesWith, Prepares, ended}
+use Rattle.mmc_sdhci.specs.Finishing.{Finishes, IsLentFor, IsMoving, MovesAfter, MovesWith, Prepares, ended}
 use Rattle.mmc_sdhci.specs.Lending.{Lends, TakesBack, unlent}
 use Rattle.mmc_sdhci.specs.Lent.{Come, Dma, Lent, Room, ToGo, blocks_to_go, is_lent_for}
 use Rattle.mmc_sdhci.specs.Moving.{WhereKept}
@@ -68,8 +68,8 @@ module _ (v0 v1 v2 : ControllerView) (lent : Lent) (start : ℕ) (state : HostSt
     (lines : WhereKept v0 (lines_in v0.settings.control ≡ lines_of state.ios))
     (most : WhereKept v0 (limits_in v0.built.capabilities ≡ limits)) (lends : Lends v0 lent (Some start) v1)
     (moves : MovesWith v1 command heard count moved v2) where
-  abbrev behind_command : ControllerView
-  behind_command = moves.behind
+  abbrev command_sent : ControllerView
+  command_sent = moves.between
 
   abbrev after_command : HostState
   after_command = sent state command (is_ok heard)
@@ -87,24 +87,24 @@ module _ (v0 v1 v2 : ControllerView) (lent : Lent) (start : ℕ) (state : HostSt
       ap (λ (v : ControllerView). limits_in v.built.capabilities) p.1.same
       ∙ (ap (λ (v : ControllerView). limits_in v.built.capabilities) m.1 ∙ most m.0)
 
-  pub sent_first : Sends (host_over v0 state limits) command heard (host_over behind_command after_command limits)
+  pub sent_first : Sends (host_over v0 state limits) command heard (host_over command_sent after_command limits)
   sent_first =
-      sends_from (host_over v0 state limits) (host_over moves.set state limits) (host_over behind_command after_command limits) command heard
+      sends_from (host_over v0 state limits) (host_over moves.set state limits) (host_over command_sent after_command limits) command heard
       (still_there v0 v1 moves.set state limits lent start lends moves.prepared)
-      (sent_over moves.set behind_command state after_command limits command heard lined limited refl moves.sent)
+      (sent_over moves.set command_sent state after_command limits command heard lined limited refl moves.sent)
 
-  pub lined_after : WhereKept behind_command (lines_in behind_command.settings.control ≡ lines_of after_command.ios)
+  pub lined_after : WhereKept command_sent (lines_in command_sent.settings.control ≡ lines_of after_command.ios)
   lined_after kept =
       let s = moves.sent kept in ap (λ (t : Settings). lines_in t.control) s.1.settings ∙ lined s.0
 
-  pub limited_after : WhereKept behind_command (limits_in behind_command.built.capabilities ≡ limits)
+  pub limited_after : WhereKept command_sent (limits_in command_sent.built.capabilities ≡ limits)
   limited_after kept = let s = moves.sent kept in ap (λ (b : Built). limits_in b.capabilities) s.1.built ∙ limited s.0
 
-  pub under_way_after : is_ok heard ≡ true → WhereKept behind_command (behind_command.transfer ≡ command.transfer)
+  pub under_way_after : is_ok heard ≡ true → WhereKept command_sent (command_sent.transfer ≡ command.transfer)
   under_way_after ok kept =
       let s = moves.sent kept in s.1.transfer ∙ ap (λ (b : Bool). if b then command.transfer else Data.Nothing) ok
 
-  pub lent_after : WhereKept behind_command (behind_command.dma.lent ≡ Some lent)
+  pub lent_after : WhereKept command_sent (command_sent.dma.lent ≡ Some lent)
   lent_after kept =
       let k = moves.lent kept in
       let p = moves.prepared k.0 in
@@ -120,9 +120,9 @@ serves_data (Some (Room room)) Data.Nothing serves = absurd (false≢true serves
 serves_data (Some (Come blocks)) Data.Nothing serves = absurd (false≢true serves)
 serves_data (Some (ToGo blocks)) Data.Nothing serves = absurd (false≢true serves)
 
-pub moves_behind : (v0 v1 v2 : ControllerView) (command : HostCommand) (heard : Result Heard ResponseFault) → is_ok heard ≡ true
+pub moves_after : (v0 v1 v2 : ControllerView) (command : HostCommand) (heard : Result Heard ResponseFault) → is_ok heard ≡ true
     → IsLentFor v0 command.transfer → Prepares v0 v1 → Command.Sends v1 command heard v2 → KeepsLent v1 (is_ok heard) v2 → IsMoving v2
-moves_behind v0 v1 v2 command heard ok serves prepared sent lent kept =
+moves_after v0 v1 v2 command heard ok serves prepared sent lent kept =
     let k = lent kept in
     let s = sent kept in
     let p = prepared k.0 in (
@@ -132,17 +132,17 @@ moves_behind v0 v1 v2 command heard ok serves prepared sent lent kept =
     )
 
 pub none_moved : (view : ControllerView) (heard : Result Heard ResponseFault) (count : ℕ) → is_ok heard ≡ false
-    → MovesBehind view heard count (Move.Good 0) view
+    → MovesAfter view heard count (Move.Good 0) view
 none_moved view (Err fault) count unheard = (refl, refl)
 none_moved view (Ok heard) count unheard = absurd (false≢true (sym unheard))
 
 pub all_moved : (old new : ControllerView) (heard : Result Heard ResponseFault) (count : ℕ) → is_ok heard ≡ true
-    → Finishes old None new → MovesBehind old heard count (Move.Good count) new
+    → Finishes old None new → MovesAfter old heard count (Move.Good count) new
 all_moved old new (Err fault) count ok finishes = absurd (false≢true ok)
 all_moved old new (Ok heard) count ok finishes = (refl, finishes)
 
 pub one_unmoved : (old new : ControllerView) (heard : Result Heard ResponseFault) (count : ℕ) (got : DataIn) → is_ok heard ≡ true
-    → (got ≡ Came.Good → ⊥) → Finishes old (Some got) new → MovesBehind old heard count (Move.Failed got) new
+    → (got ≡ Came.Good → ⊥) → Finishes old (Some got) new → MovesAfter old heard count (Move.Failed got) new
 one_unmoved old new (Err fault) count got ok bad finishes = absurd (false≢true ok)
 one_unmoved old new (Ok heard) count got ok bad finishes = (bad, finishes)
 
@@ -175,8 +175,8 @@ module _ {S : Type 0} (blocks : S → List (List ℕ)) (leave : S → ℕ → Li
       subst (λ (m : Moved DataIn). ReadsWith blocks leave (host_over v0 state limits) command was (Err fault) m now (host_over v3 after limits))
       (sym unmoved.0)
       (record {
-        behind = host_over v3 after limits;
-        sent = sends_then (host_over v0 state limits) (host_over moves.behind after limits) (host_over v3 after limits) command (Err fault)
+        between = host_over v3 after limits;
+        sent = sends_then (host_over v0 state limits) (host_over moves.between after limits) (host_over v3 after limits) command (Err fault)
             (sent_first v0 v1 v2 (Room count) start state limits command (Err fault) count moved lines most lends moves)
             (λ kept. let t = taken.back kept in (
               subst (λ (v : ControllerView). v.is_kept ≡ true) unmoved.1 t.0,
@@ -190,9 +190,9 @@ module _ {S : Type 0} (blocks : S → List (List ℕ)) (leave : S → ℕ → Li
       subst (λ (n : ℕ). ReadsWith blocks leave (host_over v0 state limits) command was (Ok heard) (Move.Good n) now (host_over v3 (ended after) limits))
       (sym moves.moves.0)
       (record {
-        behind = host_over moves.behind after limits;
+        between = host_over moves.between after limits;
         sent = sent_first v0 v1 v2 (Room count) start state limits command (Ok heard) count (Move.Good done) lines most lends moves;
-        read = all_read blocks leave one was now moves.behind v2 v3 after limits count some full asked
+        read = all_read blocks leave one was now moves.between v2 v3 after limits count some full asked
             (λ kept. under_way_after v0 v1 v2 (Room count) start state limits command (Ok heard) count (Move.Good done) lines most lends moves refl kept ∙ asked)
             (lined_after v0 v1 v2 (Room count) start state limits command (Ok heard) count (Move.Good done) lines most lends moves)
             (limited_after v0 v1 v2 (Room count) start state limits command (Ok heard) count (Move.Good done) lines most lends moves)
@@ -201,9 +201,9 @@ module _ {S : Type 0} (blocks : S → List (List ℕ)) (leave : S → ℕ → Li
   reads_by_dma (Ok heard) (Move.Failed got) moves =
       let after = sent state command true in
       record {
-        behind = host_over moves.behind after limits;
+        between = host_over moves.between after limits;
         sent = sent_first v0 v1 v2 (Room count) start state limits command (Ok heard) count (Move.Failed got) lines most lends moves;
-        read = one_failed blocks leave one was now moves.behind v2 v3 after limits count some full asked
+        read = one_failed blocks leave one was now moves.between v2 v3 after limits count some full asked
             (λ kept. under_way_after v0 v1 v2 (Room count) start state limits command (Ok heard) count (Move.Failed got) lines most lends moves refl kept ∙ asked)
             (lined_after v0 v1 v2 (Room count) start state limits command (Ok heard) count (Move.Failed got) lines most lends moves)
             (limited_after v0 v1 v2 (Room count) start state limits command (Ok heard) count (Move.Failed got) lines most lends moves)
@@ -230,8 +230,8 @@ module _ (blocks : List (List ℕ)) (v0 v1 v2 v3 : ControllerView) (start : ℕ)
       subst (λ (m : Moved DataIn). WritesWith (host_over v0 state limits) command blocks (Err fault) (told m) (host_over v3 after limits))
       (sym unmoved.0)
       (record {
-        behind = host_over v3 after limits;
-        sent = sends_then (host_over v0 state limits) (host_over moves.behind after limits) (host_over v3 after limits) command (Err fault)
+        between = host_over v3 after limits;
+        sent = sends_then (host_over v0 state limits) (host_over moves.between after limits) (host_over v3 after limits) command (Err fault)
             (sent_first v0 v1 v2 (ToGo blocks) start state limits command (Err fault) count moved lines most lends moves)
             (λ kept. let t = back kept in (
               subst (λ (v : ControllerView). v.is_kept ≡ true) unmoved.1 t.0,
@@ -245,10 +245,10 @@ module _ (blocks : List (List ℕ)) (v0 v1 v2 v3 : ControllerView) (start : ℕ)
       subst (λ (n : ℕ). WritesWith (host_over v0 state limits) command blocks (Ok heard) (Move.Good n) (host_over v3 (ended after) limits))
       (sym moves.moves.0)
       (record {
-        behind = host_over moves.behind after limits;
+        between = host_over moves.between after limits;
         sent = sent_first v0 v1 v2 (ToGo blocks) start state limits command (Ok heard) count (Move.Good done) lines most lends moves;
         unheard = λ silent. absurd (word_heard command.response command.index (Ok heard) response refl word silent);
-        written = all_gone blocks moves.behind v2 v3 after limits count some full asked
+        written = all_gone blocks moves.between v2 v3 after limits count some full asked
             (λ kept. under_way_after v0 v1 v2 (ToGo blocks) start state limits command (Ok heard) count (Move.Good done) lines most lends moves refl kept ∙ asked)
             (λ kept. ap blocks_to_go (lent_after v0 v1 v2 (ToGo blocks) start state limits command (Ok heard) count (Move.Good done) lines most lends moves kept))
             (lined_after v0 v1 v2 (ToGo blocks) start state limits command (Ok heard) count (Move.Good done) lines most lends moves)
@@ -258,10 +258,10 @@ module _ (blocks : List (List ℕ)) (v0 v1 v2 v3 : ControllerView) (start : ℕ)
   writes_by_dma (Ok heard) (Move.Failed got) word moves =
       let after = sent state command true in
       record {
-        behind = host_over moves.behind after limits;
+        between = host_over moves.between after limits;
         sent = sent_first v0 v1 v2 (ToGo blocks) start state limits command (Ok heard) count (Move.Failed got) lines most lends moves;
         unheard = λ silent. absurd (word_heard command.response command.index (Ok heard) response refl word silent);
-        written = one_is_lost blocks moves.behind v2 v3 after limits count some full asked
+        written = one_is_lost blocks moves.between v2 v3 after limits count some full asked
             (λ kept. under_way_after v0 v1 v2 (ToGo blocks) start state limits command (Ok heard) count (Move.Failed got) lines most lends moves refl kept ∙ asked)
             (λ kept. ap blocks_to_go (lent_after v0 v1 v2 (ToGo blocks) start state limits command (Ok heard) count (Move.Failed got) lines most lends moves kept))
             (lined_after v0 v1 v2 (ToGo blocks) start state limits command (Ok heard) count (Move.Failed got) lines most lends moves)
@@ -277,14 +277,14 @@ pub reads_again : {S : Type 0} (blocks : S → List (List ℕ)) (leave : S → �
     → ReadsWith blocks leave h0 command before heard moved now h2
 reads_again blocks leave h0 h1 h2 command before was heard moved now stays same read =
     let r = subst (λ s. ReadsWith blocks leave h1 command s heard moved now h2) same read in
-    record { behind = r.behind; sent = sends_from h0 h1 r.behind command heard stays r.sent; read = r.read }
+    record { between = r.between; sent = sends_from h0 h1 r.between command heard stays r.sent; read = r.read }
 
 pub writes_again : (h0 h1 h2 : HostView) (command : HostCommand) (blocks : List (List ℕ)) (heard : Result Heard ResponseFault)
     (moved : Moved DataOut) → StaysHost h0 h1 → WritesWith h1 command blocks heard moved h2
     → WritesWith h0 command blocks heard moved h2
 writes_again h0 h1 h2 command blocks heard moved stays write = record {
-  behind = write.behind;
-  sent = sends_from h0 h1 write.behind command heard stays write.sent;
+  between = write.between;
+  sent = sends_from h0 h1 write.between command heard stays write.sent;
   unheard = write.unheard;
   written = write.written;
 }

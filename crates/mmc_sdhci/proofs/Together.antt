@@ -10,28 +10,28 @@ use Rattle.mmc_card.specs.declared.exchange.DataIn.TheVariants.{Good}
 use Rattle.mmc_host.proofs.DataLemmas.{some_left}
 use Rattle.mmc_host.specs.HostStates.{IsToCome, IsToGo, less_by, less_one}
 use Rattle.mmc_host.specs.Hosts.{HostView, Sends, Where, WritesBlock, answer_heard}
-use Rattle.mmc_host.specs.Together.{AreAhead, AreBehind, HostRead, WritesWith}
+use Rattle.mmc_host.specs.Together.{AreAhead, AreAfter, HostRead, WritesWith}
 use Rattle.mmc_host.specs.declared.data.Data.{Data}
 use Rattle.mmc_host.specs.declared.told.Heard.{Heard}
 use Rattle.mmc_host.specs.declared.told.HostCommand.{HostCommand}
 use Rattle.mmc_host.specs.declared.told.ResponseFault.{ResponseFault}
 
 -- after so many blocks of a read another one is to come
-still_to_come : (transfer : Data) (count done : ℕ) → AreBehind transfer count → done < count
+still_to_come : (transfer : Data) (count done : ℕ) → AreAfter transfer count → done < count
     → (blocks : ℕ) × (less_by done transfer ≡ Data.Read 512 blocks)
-still_to_come Data.Nothing count done behind below = absurd behind
-still_to_come (Data.Write blocks) count done behind below = absurd behind
-still_to_come (Data.Read size all) count done behind below =
-    let few = behind.1 in (
+still_to_come Data.Nothing count done come below = absurd come
+still_to_come (Data.Write blocks) count done come below = absurd come
+still_to_come (Data.Read size all) count done come below =
+    let few = come.1 in (
       all - done,
       some_left (λ blocks. Data.Read size blocks) (λ blocks. refl) done all (omega (arith, few, below))
-          ∙ ap (λ n. Data.Read n (all - done)) behind.0,
+          ∙ ap (λ n. Data.Read n (all - done)) come.0,
     )
 
-pub comes_next : (view : HostView) (transfer : Data) (count done : ℕ) → AreBehind transfer count → done < count
+pub comes_next : (view : HostView) (transfer : Data) (count done : ℕ) → AreAfter transfer count → done < count
     → Where view (view.state.transfer ≡ less_by done transfer) → Where view (IsToCome view.state 512)
-comes_next view transfer count done behind below is kept =
-    let next = still_to_come transfer count done behind below in (next.0, is kept ∙ next.1)
+comes_next view transfer count done come below is kept =
+    let next = still_to_come transfer count done come below in (next.0, is kept ∙ next.1)
 
 -- one fewer is to come after a good one
 pub one_fewer : (now new : HostView) (left : List ℕ) (transfer : Data) (done : ℕ) → HostRead now Good left new
@@ -62,14 +62,14 @@ goes_next view transfer count ahead is kept =
 pub none_went : (old new : HostView) (command : HostCommand) (blocks : List (List ℕ)) (heard : Result Heard ResponseFault)
     → Sends old command heard new → WritesWith old command blocks heard (Move.Good 0) new
 none_went old new command blocks heard sends =
-    record { behind = new; sent = sends; unheard = λ silent. refl; written = writes 0 new none_accepted }
+    record { between = new; sent = sends; unheard = λ silent. refl; written = writes 0 new none_accepted }
 
 module _ (old after new : HostView) (command : HostCommand) (blocks : List (List ℕ)) (heard : Result Heard ResponseFault)
     (sends : Sends old command heard after) (is_heard : answer_heard command.response command.index heard ≡ Silent → ⊥)
     (some : 0 < length blocks) where
   pub one_went : WritesBlock after (slice_index_or blocks 0 []) Accepted new → WritesWith old command blocks heard (Move.Good 1) new
   one_went wrote = record {
-    behind = after;
+    between = after;
     sent = sends;
     unheard = λ silent. absurd (is_heard silent);
     written = writes 1 new (accepted_one 0 after after new none_accepted refl some wrote);
@@ -78,7 +78,7 @@ module _ (old after new : HostView) (command : HostCommand) (blocks : List (List
   pub one_failed : (got : DataOut) → (got ≡ Accepted → ⊥) → WritesBlock after (slice_index_or blocks 0 []) got new
       → WritesWith old command blocks heard (Move.Failed got) new
   one_failed got not wrote = record {
-    behind = after;
+    between = after;
     sent = sends;
     unheard = λ silent. absurd (is_heard silent);
     written = writes_none 0 after after got new none_accepted refl some not wrote;

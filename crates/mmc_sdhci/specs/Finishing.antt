@@ -85,17 +85,17 @@ abbrev pub IsLentFor : ControllerView → Data → Type 0
 IsLentFor view transfer = view.is_kept ≡ true → is_lent_for view.dma.lent transfer ≡ true
 
 -- What became of the data after a command: all blocks were moved, or one failed; none, where the command wasn't heard.
-abbrev pub MovesBehind : ControllerView → Result Heard ResponseFault → ℕ → Moved DataIn → ControllerView → Type 0
-MovesBehind old (Err fault) count moved new = (moved ≡ Move.Good 0) × (new ≡ old)
-MovesBehind old (Ok heard) count (Move.Good done) new = (done ≡ count) × Finishes old None new
-MovesBehind old (Ok heard) count (Move.Failed got) new = (got ≡ Came.Good → ⊥) × Finishes old (Some got) new
+abbrev pub MovesAfter : ControllerView → Result Heard ResponseFault → ℕ → Moved DataIn → ControllerView → Type 0
+MovesAfter old (Err fault) count moved new = (moved ≡ Move.Good 0) × (new ≡ old)
+MovesAfter old (Ok heard) count (Move.Good done) new = (done ≡ count) × Finishes old None new
+MovesAfter old (Ok heard) count (Move.Failed got) new = (got ≡ Came.Good → ⊥) × Finishes old (Some got) new
 
 -- A command and so many blocks, which the controller moves by itself: all is set, the command goes out, and then the blocks are moved.
 pub record MovesWith (old : ControllerView) (command : HostCommand) (heard : Result Heard ResponseFault) (count : ℕ)
     (moved : Moved DataIn) (new : ControllerView) : Type 0 where
   pub set : ControllerView
-  pub behind : ControllerView
+  pub between : ControllerView
   pub prepared : Prepares old set
-  pub sent : Sends set command heard behind
-  pub lent : KeepsLent set (is_ok heard) behind
-  pub moves : MovesBehind behind heard count moved new
+  pub sent : Sends set command heard between
+  pub lent : KeepsLent set (is_ok heard) between
+  pub moves : MovesAfter between heard count moved new

@@ -1,5 +1,4 @@
 ghost use Rattle.std.specs.Prelude.{◌<◌, ◌≡◌, IfErr, IfOk, true};
-ghost use Rattle.mmc_frame.specs.Field.{field};
 ghost use Rattle.mmc_host.specs.HostStates.{lines_of, resting};
 ghost use Rattle.mmc_host.specs.Hosts.{IsUnused, Rests};
 ghost use Rattle.mmc_sdhci.specs.Controller.{IsAtMost, Settled, limits_in, lines_in};

@@ -1,9 +1,9 @@
 // A command with the blocks after it, by DMA or through the Buffer Data Port.
-ghost use Rattle.std.specs.Prelude.{◌*◌, ◌+◌, ◌<◌, ◌≡◌, ◌≤◌, ◌^◌, IfOk, IfSome, IsNone, is_ok, length, true};
+ghost use Rattle.std.specs.Prelude.{◌*◌, ◌+◌, ◌<◌, ◌≡◌, ◌^◌, IfOk, IfSome, IsNone, is_ok, length, true};
 ghost use Rattle.mmc_host.specs.HostStates.{AreMovable, IsFree, IsTold, sent};
 ghost use Rattle.mmc_host.specs.Hosts.{IsSlowEnough, Where};
-ghost use Rattle.mmc_host.specs.Together.{AreAhead, AreBehind, ReadsWith, WritesWith};
-ghost use Rattle.mmc_host.specs.declared.data.Data.TheVariants as Behind;
+ghost use Rattle.mmc_host.specs.Together.{AreAhead, AreAfter, ReadsWith, WritesWith};
+ghost use Rattle.mmc_host.specs.declared.data.Data.TheVariants as After;
 ghost use Rattle.mmc_card.specs.declared.response.Response.TheVariants.{R1};
 ghost use Rattle.mmc_sdhci.specs.Accesses.{Stays};
 ghost use Rattle.mmc_sdhci.specs.Commands.{IsWord};
@@ -24,7 +24,7 @@ use mmc_host::{Data, Heard, Host, HostCommand, ResponseFault};
 
 // Whether just so many blocks of 512 bytes are read.
 fn reads_whole(transfer: Data, count: usize) -> bool
-    ensures { result ≡ true → transfer ≡ Behind.Read 512 count }
+    ensures { result ≡ true → transfer ≡ After.Read 512 count }
 {
     match transfer {
         Data::Read { length, blocks } => length == 512 && usize::from(blocks) == count,
@@ -34,7 +34,7 @@ fn reads_whole(transfer: Data, count: usize) -> bool
 
 // Whether just so many blocks are written.
 fn writes_whole(transfer: Data, count: usize) -> bool
-    ensures { result ≡ true → transfer ≡ Behind.Write count }
+    ensures { result ≡ true → transfer ≡ After.Write count }
 {
     match transfer {
         Data::Write { blocks } => usize::from(blocks) == count,
@@ -169,7 +169,7 @@ impl<R: Registers> Sdhci<R> {
             (IsTold self.old.state command) }
         requires clock { Where (host_over (R.view self.old.registers) self.old.state self.old.limits)
             (IsSlowEnough self.old.state command) }
-        requires behind { AreBehind command.transfer (length (D.blocks blocks.old)) }
+        requires to_come { AreAfter command.transfer (length (D.blocks blocks.old)) }
         ensures { ReadsWith D.blocks D.with (host_over (R.view self.old.registers) self.old.state self.old.limits) command
             blocks.old result.0 result.1 blocks.new (host_over (R.view self.new.registers) self.new.state self.new.limits) }
     {

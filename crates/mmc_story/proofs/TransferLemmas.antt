@@ -11,7 +11,7 @@ use Rattle.mmc_card.specs.declared.exchange.DataOut.{DataOut}
 use Rattle.mmc_card.specs.declared.exchange.Lines.{Lines}
 use Rattle.mmc_bus.proofs.TogetherLemmas.{WritesOne, good_count, read_count, read_lent}
 use Rattle.mmc_bus.specs.Exchanges.{Kept}
-use Rattle.mmc_bus.specs.Together.{AreAccepted, AreGood, ReadOn, RestsBehind, WrittenOn, accepted_one, good_one}
+use Rattle.mmc_bus.specs.Together.{AreAccepted, AreGood, ReadOn, RestsAfter, WrittenOn, accepted_one, good_one}
 use Rattle.mmc_bus.specs.Together.{none_accepted, none_good, reads, reads_none, reads_nothing, writes, writes_none}
 use Rattle.mmc_bus.specs.declared.moved.Moved.{Moved}
 use Rattle.mmc_bus.specs.declared.moved.Moved.TheVariants as Move
@@ -74,9 +74,9 @@ one_read old new state next got left lines is_next is read =
 
 -- these are the first so many blocks that came
 abbrev AreRead : List (List ℕ) → BusView → ℕ → BusView → Type 0
-AreRead blocks behind zero view = view ≡ behind
-AreRead blocks behind (suc done) view =
-    (before : BusView) × AreRead blocks behind done before × BlockRead before Good (slice_index_or blocks done []) view
+AreRead blocks between zero view = view ≡ between
+AreRead blocks between (suc done) view =
+    (before : BusView) × AreRead blocks between done before × BlockRead before Good (slice_index_or blocks done []) view
 
 -- a block that is left is there, and no other has changed
 left_there : (before : List (List ℕ)) (done : ℕ) (left : List ℕ) → done < length before
@@ -100,10 +100,10 @@ agree_at : (done : ℕ) (before now end : List (List ℕ)) (left : List ℕ) →
 agree_at done before now end left below is agree =
     sym (left_there before done left below) ∙ ap (λ xs. slice_index_or xs done []) (sym is) ∙ agree done (omega arith)
 
-module _ (behind : BusView) (was : List (List ℕ)) where
+module _ (between : BusView) (was : List (List ℕ)) where
   are_read : (end : List (List ℕ)) (k : ℕ) (view : BusView) (now : List (List ℕ))
-      → AreGood BlockRead (λ places. places) slice_set behind was k view now → Agree k now end
-      → AreRead end behind k view
+      → AreGood BlockRead (λ places. places) slice_set between was k view now → Agree k now end
+      → AreRead end between k view
   are_read end k view now none_good agree = refl
   are_read end k view now (good_one done before held left next all below long read) agree = (
     before,
@@ -112,8 +112,8 @@ module _ (behind : BusView) (was : List (List ℕ)) where
         (agree_at done held (slice_set held done left) end left below refl agree) read,
   )
 
-module _ (behind : BusView) (state : HostState) (is : IsBusIn state behind) where
-  bus_read : (end : List (List ℕ)) (k : ℕ) (view : BusView) → AreRead end behind k view → IsBusIn (passed k state) view
+module _ (between : BusView) (state : HostState) (is : IsBusIn state between) where
+  bus_read : (end : List (List ℕ)) (k : ℕ) (view : BusView) → AreRead end between k view → IsBusIn (passed k state) view
   bus_read end zero view read = subst (λ (b : BusView). IsBusIn state b) (sym read) is
   bus_read end (suc done) view read = stays_bus read.0 view (passed done state) read.2.same (bus_read end done read.0 read.1)
 
@@ -121,19 +121,19 @@ module _ (behind : BusView) (state : HostState) (is : IsBusIn state behind) wher
     -- Some came, whatever they were.
     record Some (k : ℕ) (view : BusView) : Type 0 where
       now : S
-      good : AreGood HostRead blocks leave (host_at behind state) was k (host_at view (passed k state)) now
+      good : AreGood HostRead blocks leave (host_at between state) was k (host_at view (passed k state)) now
       count : length (blocks now) ≡ length (blocks was)
       bus : IsBusIn (passed k state) view
 
     some_came : (places : List (List ℕ)) → length places ≡ length (blocks was) → (k : ℕ) (view : BusView)
-        (now : List (List ℕ)) → AreGood BlockRead (λ places. places) slice_set behind places k view now → Some k view
+        (now : List (List ℕ)) → AreGood BlockRead (λ places. places) slice_set between places k view now → Some k view
     some_came places full k view now none_good = record { now = was; good = none_good; count = refl; bus = is }
     some_came places full k view now (good_one done from held left next all below long read) =
         let so_far = some_came places full done from held all in
-        let same = good_count behind places (λ s i x b l. refl) done from held all in
+        let same = good_count between places (λ s i x b l. refl) done from held all in
         let count = so_far.count in
         let inside : done < length (blocks so_far.now) = omega (arith, below, same, full, count) in
-        let kept = good_count (host_at behind state) was one (suc done) _ _
+        let kept = good_count (host_at between state) was one (suc done) _ _
         (good_one done (host_at from (passed done state)) so_far.now left (host_at next (passed (suc done) state)) so_far.good
         inside long (one_read from next (passed done state) (passed (suc done) state) Good left refl refl so_far.bus read)) in
         record {
@@ -148,10 +148,10 @@ module _ (behind : BusView) (state : HostState) (is : IsBusIn state behind) wher
     module _ {V : Type 0} {Drives : V → DataIn → List ℕ → V → Type 0} (first : V) where
       -- The driver has left the blocks that came.
       follows : (end : List (List ℕ)) (k : ℕ) (driver : V) (now : S) → AreGood Drives blocks leave first was k driver now
-          → Agree k (blocks now) end → (view : BusView) → AreRead end behind k view
-          → AreGood HostRead blocks leave (host_at behind state) was k (host_at view (passed k state)) now
+          → Agree k (blocks now) end → (view : BusView) → AreRead end between k view
+          → AreGood HostRead blocks leave (host_at between state) was k (host_at view (passed k state)) now
       follows end k driver now none_good agree view read =
-          subst (λ (b : BusView). AreGood HostRead blocks leave (host_at behind state) was 0 (host_at b state) was) (sym read)
+          subst (λ (b : BusView). AreGood HostRead blocks leave (host_at between state) was 0 (host_at b state) was) (sym read)
           none_good
       follows end k driver now (good_one done from held left next all below long drove) agree view read =
           let wrote = one held done left below long in
@@ -165,14 +165,14 @@ module _ (behind : BusView) (state : HostState) (is : IsBusIn state behind) wher
       -- What came is what the driver has left, or none came, and what it has left is open.
       good_read : (places held : List (List ℕ)) (moved : Moved DataIn) (driver : V) (now : S) (good : ℕ) (next : BusView)
           → ReadOn Drives blocks leave first was moved driver now → moved ≡ Move.Good good
-          → AreGood BlockRead (λ places. places) slice_set behind places good next held → held ≡ blocks now
-          → ReadOn HostRead blocks leave (host_at behind state) was (Move.Good good) (host_at next (passed good state)) now
+          → AreGood BlockRead (λ places. places) slice_set between places good next held → held ≡ blocks now
+          → ReadOn HostRead blocks leave (host_at between state) was (Move.Good good) (host_at next (passed good state)) now
       good_read places held moved driver now good next (reads done last left drove) is all same =
           let is_all : AreGood Drives blocks leave first was good last left =
           subst (λ n. AreGood Drives blocks leave first was n last left) (let e : done ≡ good = cc in e) drove in
           reads good (host_at next (passed good state)) left
           (follows held good last left is_all (λ i less. ap (λ xs. slice_index_or xs i []) (sym same)) next
-          (are_read behind places held good next held all (λ i less. refl)))
+          (are_read between places held good next held all (λ i less. refl)))
       good_read places held moved driver now good next (reads_nothing left lent) is none_good same = reads_nothing left lent
       good_read places held moved driver now good next (reads_nothing left lent) is
           (good_one done from before bytes after all below long read) same =
@@ -183,8 +183,8 @@ module _ (behind : BusView) (state : HostState) (is : IsBusIn state behind) wher
 
       pub kept_read : (places : List (List ℕ)) (moved : Moved DataIn) (driver : V) (now : S)
           → ReadOn Drives blocks leave first was moved driver now → (view : BusView) (end : List (List ℕ))
-          → ReadOn BlockRead (λ places. places) slice_set behind places moved view end → end ≡ blocks now
-          → ReadOn HostRead blocks leave (host_at behind state) was moved (host_at view (passed_on moved state)) now
+          → ReadOn BlockRead (λ places. places) slice_set between places moved view end → end ≡ blocks now
+          → ReadOn HostRead blocks leave (host_at between state) was moved (host_at view (passed_on moved state)) now
       kept_read places moved driver now drove view end (reads good next held all) same =
           good_read places held _ driver now good next drove refl all same
       kept_read places moved driver now drove view end (reads_nothing held lent) same =
@@ -192,12 +192,12 @@ module _ (behind : BusView) (state : HostState) (is : IsBusIn state behind) wher
       kept_read places moved driver now drove view end
           (reads_none some at held last got left next all below long not read lent) same =
           let counts = read_count first was one _ driver now drove in
-          let counted = read_count behind places (λ s i x b l. refl) _ next last
+          let counted = read_count between places (λ s i x b l. refl) _ next last
           (reads_none some at held last got left next all below long not read lent) in
           let ends = ap (λ (xs : List (List ℕ)). length xs) same in
           let full : length places ≡ length (blocks was) = omega (arith, counts, counted, ends) in
           let so_far = some_came places full some at held all in
-          let held_count = good_count behind places (λ s i x b l. refl) some at held all in
+          let held_count = good_count between places (λ s i x b l. refl) some at held all in
           let count = so_far.count in
           reads_none some (host_at at (passed some state)) so_far.now now got left (host_at next (block_passed state false))
           so_far.good (omega (arith, below, held_count, full, count)) long not
@@ -226,7 +226,7 @@ module _ (host : HostView) (unkept : host.is_kept ≡ false) where
       reads_none some host held last got left host (any_good first was some at held all) below long not (λ kept. nothing kept)
       lent
 
-  any_rested : (k : ℕ) → RestsBehind HostRested k host host
+  any_rested : (k : ℕ) → RestsAfter HostRested k host host
   any_rested zero = refl
   any_rested (suc k) = λ kept. nothing kept
 
@@ -248,9 +248,9 @@ module _ (host : HostView) (unkept : host.is_kept ≡ false) where
 
 -- Writes.
 
-module _ (blocks : List (List ℕ)) (behind : BusView) (state : HostState) (is : IsBusIn state behind) where
-  rested : (k : ℕ) (view ready : BusView) → RestsBehind FoundAtRest k view ready → IsBusIn (passed k state) view
-      → RestsBehind HostRested k (host_at view (passed k state)) (host_at ready (passed k state))
+module _ (blocks : List (List ℕ)) (between : BusView) (state : HostState) (is : IsBusIn state between) where
+  rested : (k : ℕ) (view ready : BusView) → RestsAfter FoundAtRest k view ready → IsBusIn (passed k state) view
+      → RestsAfter HostRested k (host_at view (passed k state)) (host_at ready (passed k state))
       × IsBusIn (passed k state) ready
   rested zero view ready rests at = (
     ap (λ (b : BusView). host_at b state) rests,
@@ -269,8 +269,8 @@ module _ (blocks : List (List ℕ)) (behind : BusView) (state : HostState) (is :
       stepped (λ a b. WriteStep a bytes got b) old new before next (block_passed before (is_accepted got)) lines is_next at
       written
 
-  were_accepted : (k : ℕ) (view : BusView) → AreAccepted BlockWritten FoundAtRest blocks behind k view
-      → AreAccepted WritesBlock HostRested blocks (host_at behind state) k (host_at view (passed k state))
+  were_accepted : (k : ℕ) (view : BusView) → AreAccepted BlockWritten FoundAtRest blocks between k view
+      → AreAccepted WritesBlock HostRested blocks (host_at between state) k (host_at view (passed k state))
       × IsBusIn (passed k state) view
   were_accepted k view none_accepted = (none_accepted, is)
   were_accepted k view (accepted_one done from ready next all rests below written) =
@@ -282,8 +282,8 @@ module _ (blocks : List (List ℕ)) (behind : BusView) (state : HostState) (is :
         stays_bus ready next (passed done state) written.same rest.1,
       )
 
-  pub kept_written : (moved : Moved DataOut) (view : BusView) → WrittenOn BlockWritten FoundAtRest blocks behind moved view
-      → WrittenOn WritesBlock HostRested blocks (host_at behind state) moved (host_at view (passed_on moved state))
+  pub kept_written : (moved : Moved DataOut) (view : BusView) → WrittenOn BlockWritten FoundAtRest blocks between moved view
+      → WrittenOn WritesBlock HostRested blocks (host_at between state) moved (host_at view (passed_on moved state))
   kept_written moved view (writes good next all) =
       writes good (host_at next (passed good state)) (were_accepted good next all).0
   kept_written moved view (writes_none some at ready got next all rests below not written) =
@@ -309,9 +309,9 @@ reads_told blocks leave one story command heard moved was now driver left drove 
     let entry : Entry = record { told = state; limits = limits; event = ReadWith command heard moved (blocks now) } in
     let new = host_with (story.outcome (entry ∷ past)) (passed_on moved (sent state command (is_ok heard))) limits in
     record {
-      behind = new;
+      between = new;
       sent = λ kept. nothing new said kept;
-      read = any_read new said drove.behind was moved left now drove.read;
+      read = any_read new said drove.between was moved left now drove.read;
     }
 reads_told blocks leave one story command heard moved was now driver left drove past state limits true said =
     let entry : Entry = record { told = state; limits = limits; event = ReadWith command heard moved (blocks now) } in
@@ -321,10 +321,10 @@ reads_told blocks leave one story command heard moved was now driver left drove 
     let told = sent state command (is_ok heard) in
     let old = bus_of (host_with (story.outcome past) state limits) in
     record {
-      behind = host_at t.behind told;
+      between = host_at t.between told;
       sent = stepped (λ a b. Answers a command.index command.argument (answer_heard command.response command.index heard) b)
-          old t.behind state told told refl refl refl t.answered;
-      read = kept_read t.behind told (stays_bus old t.behind state t.answered.same refl) blocks leave one was drove.behind t.was
+          old t.between state told told refl refl refl t.answered;
+      read = kept_read t.between told (stays_bus old t.between state t.answered.same refl) blocks leave one was drove.between t.was
           moved left now drove.read (bus_of (host_with (story.outcome (entry ∷ past)) state limits)) (blocks now) t.read refl;
     }
 
@@ -340,10 +340,10 @@ writes_told blocks story command heard moved driver left drove past state limits
     let entry : Entry = record { told = state; limits = limits; event = WrittenWith command heard blocks moved } in
     let new = host_with (story.outcome (entry ∷ past)) (passed_on moved (sent state command (is_ok heard))) limits in
     record {
-      behind = new;
+      between = new;
       sent = λ kept. nothing new said kept;
       unheard = drove.unheard;
-      written = any_written new said drove.behind moved left drove.written;
+      written = any_written new said drove.between moved left drove.written;
     }
 writes_told blocks story command heard moved driver left drove past state limits true said =
     let entry : Entry = record { told = state; limits = limits; event = WrittenWith command heard blocks moved } in
@@ -353,11 +353,11 @@ writes_told blocks story command heard moved driver left drove past state limits
     let told = sent state command (is_ok heard) in
     let old = bus_of (host_with (story.outcome past) state limits) in
     record {
-      behind = host_at t.behind told;
+      between = host_at t.between told;
       sent = stepped (λ a b. Answers a command.index command.argument (answer_heard command.response command.index heard) b)
-          old t.behind state told told refl refl refl t.answered;
+          old t.between state told told refl refl refl t.answered;
       unheard = drove.unheard;
-      written = kept_written blocks t.behind told (stays_bus old t.behind state t.answered.same refl) moved
+      written = kept_written blocks t.between told (stays_bus old t.between state t.answered.same refl) moved
           (bus_of (host_with (story.outcome (entry ∷ past)) state limits)) t.written;
     }
 
@@ -385,46 +385,46 @@ write_noted blocks story command heard moved driver left drove past noted state 
 
 -- A driver that is kept was kept before.
 
-back_over : {S : Type 0} {blocks : S → List (List ℕ)} {leave : S → ℕ → List ℕ → S} (behind : HostView) (was : S) (k : ℕ)
-    (new : HostView) (now : S) → AreGood HostRead blocks leave behind was k new now → new.is_kept ≡ true
-    → behind.is_kept ≡ true
-back_over behind was k new now none_good kept = kept
-back_over behind was k new now (good_one done from held left next all below long read) kept =
-    back_over behind was done from held all (read kept).step.was_kept
+back_over : {S : Type 0} {blocks : S → List (List ℕ)} {leave : S → ℕ → List ℕ → S} (between : HostView) (was : S) (k : ℕ)
+    (new : HostView) (now : S) → AreGood HostRead blocks leave between was k new now → new.is_kept ≡ true
+    → between.is_kept ≡ true
+back_over between was k new now none_good kept = kept
+back_over between was k new now (good_one done from held left next all below long read) kept =
+    back_over between was done from held all (read kept).step.was_kept
 
-behind_read : {S : Type 0} {blocks : S → List (List ℕ)} {leave : S → ℕ → List ℕ → S} (behind : HostView) (was : S)
-    (moved : Moved DataIn) (new : HostView) (now : S) → ReadOn HostRead blocks leave behind was moved new now
-    → new.is_kept ≡ true → behind.is_kept ≡ true
-behind_read behind was moved new now (reads good next held all) kept = back_over behind was good next held all kept
-behind_read behind was moved new now (reads_nothing held lent) kept = kept
-behind_read behind was moved new now (reads_none some at held last got left next all below long not read lent) kept =
-    back_over behind was some at held all (read kept).step.was_kept
+after_read : {S : Type 0} {blocks : S → List (List ℕ)} {leave : S → ℕ → List ℕ → S} (between : HostView) (was : S)
+    (moved : Moved DataIn) (new : HostView) (now : S) → ReadOn HostRead blocks leave between was moved new now
+    → new.is_kept ≡ true → between.is_kept ≡ true
+after_read between was moved new now (reads good next held all) kept = back_over between was good next held all kept
+after_read between was moved new now (reads_nothing held lent) kept = kept
+after_read between was moved new now (reads_none some at held last got left next all below long not read lent) kept =
+    back_over between was some at held all (read kept).step.was_kept
 
 pub before_reads : {S : Type 0} {blocks : S → List (List ℕ)} {leave : S → ℕ → List ℕ → S} (old : HostView)
     (command : HostCommand) (was : S) (heard : Result Heard ResponseFault) (moved : Moved DataIn) (now : S) (new : HostView)
     → ReadsWith blocks leave old command was heard moved now new → new.is_kept ≡ true → old.is_kept ≡ true
 before_reads old command was heard moved now new r kept =
-    (r.sent (behind_read r.behind was moved new now r.read kept)).step.was_kept
+    (r.sent (after_read r.between was moved new now r.read kept)).step.was_kept
 
-back_rested : (k : ℕ) (view ready : HostView) → RestsBehind HostRested k view ready → ready.is_kept ≡ true
+back_rested : (k : ℕ) (view ready : HostView) → RestsAfter HostRested k view ready → ready.is_kept ≡ true
     → view.is_kept ≡ true
 back_rested zero view ready rests kept = subst (λ (v : HostView). v.is_kept ≡ true) rests kept
 back_rested (suc k) view ready rests kept = (rests kept).step.was_kept
 
-back_accepted : {blocks : List (List ℕ)} (behind : HostView) (k : ℕ) (new : HostView)
-    → AreAccepted WritesBlock HostRested blocks behind k new → new.is_kept ≡ true → behind.is_kept ≡ true
-back_accepted behind k new none_accepted kept = kept
-back_accepted behind k new (accepted_one done from ready next all rests below written) kept =
-    back_accepted behind done from all (back_rested done from ready rests (written kept).step.was_kept)
+back_accepted : {blocks : List (List ℕ)} (between : HostView) (k : ℕ) (new : HostView)
+    → AreAccepted WritesBlock HostRested blocks between k new → new.is_kept ≡ true → between.is_kept ≡ true
+back_accepted between k new none_accepted kept = kept
+back_accepted between k new (accepted_one done from ready next all rests below written) kept =
+    back_accepted between done from all (back_rested done from ready rests (written kept).step.was_kept)
 
-behind_written : {blocks : List (List ℕ)} (behind : HostView) (moved : Moved DataOut) (new : HostView)
-    → WrittenOn WritesBlock HostRested blocks behind moved new → new.is_kept ≡ true → behind.is_kept ≡ true
-behind_written behind moved new (writes good next all) kept = back_accepted behind good next all kept
-behind_written behind moved new (writes_none some at ready got next all rests below not written) kept =
-    back_accepted behind some at all (back_rested some at ready rests (written kept).step.was_kept)
+after_written : {blocks : List (List ℕ)} (between : HostView) (moved : Moved DataOut) (new : HostView)
+    → WrittenOn WritesBlock HostRested blocks between moved new → new.is_kept ≡ true → between.is_kept ≡ true
+after_written between moved new (writes good next all) kept = back_accepted between good next all kept
+after_written between moved new (writes_none some at ready got next all rests below not written) kept =
+    back_accepted between some at all (back_rested some at ready rests (written kept).step.was_kept)
 
 pub before_writes : {blocks : List (List ℕ)} (old : HostView) (command : HostCommand) (heard : Result Heard ResponseFault)
     (moved : Moved DataOut) (new : HostView) → WritesWith old command blocks heard moved new → new.is_kept ≡ true
     → old.is_kept ≡ true
 before_writes old command heard moved new w kept =
-    (w.sent (behind_written w.behind moved new w.written kept)).step.was_kept
+    (w.sent (after_written w.between moved new w.written kept)).step.was_kept

@@ -34,16 +34,16 @@ FoundAtRest old new = OneStep old (PollStep old false new) new
 -- failed, after which the places may hold anything, as where none came.
 pub record ReadsTogether (old : BusView) (command : HostCommand) (heard : Result Heard ResponseFault)
     (moved : Moved DataIn) (blocks : List (List ℕ)) (new : BusView) : Type 0 where
-  pub behind : BusView
+  pub between : BusView
   -- what the places held before
   pub was : List (List ℕ)
-  pub answered : CommandAnswered command heard old behind
-  pub read : ReadOn BlockRead (λ places. places) slice_set behind was moved new blocks
+  pub answered : CommandAnswered command heard old between
+  pub read : ReadOn BlockRead (λ places. places) slice_set between was moved new blocks
 
 -- The command, and then the first so many of these blocks, each accepted, with a poll that says no before each but the first; or some
 -- of them, nobody tells how many, and one that wasn't accepted.
 pub record WritesTogether (old : BusView) (command : HostCommand) (heard : Result Heard ResponseFault)
     (blocks : List (List ℕ)) (moved : Moved DataOut) (new : BusView) : Type 0 where
-  pub behind : BusView
-  pub answered : CommandAnswered command heard old behind
-  pub written : WrittenOn BlockWritten FoundAtRest blocks behind moved new
+  pub between : BusView
+  pub answered : CommandAnswered command heard old between
+  pub written : WrittenOn BlockWritten FoundAtRest blocks between moved new

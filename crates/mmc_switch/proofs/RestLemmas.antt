@@ -1,5 +1,5 @@
 -- A card at rest: what a command finds of it, and what it leaves of it.
-use Rattle.std.proofs.Common.{◌∙◌, ◌≡◌, ◌↔◌, Bool, ap, false, refl, subst, sym, true, ℕ}
+use Rattle.std.proofs.Common.{◌∙◌, ◌≡◌, Bool, ap, false, refl, subst, sym, true, ℕ}
 use Rattle.std.specs.Prelude.{IsOk, Ok, Result}
 use Rattle.mmc_frame.specs.Status.{error_bits, own_status}
 use Rattle.mmc_frame.specs.declared.card_state.State.{State}

@@ -1,5 +1,5 @@
 -- A switch of an eMMC device: CMD6 and the status after it; and the switches of widening, one after the other.
-use Rattle.std.proofs.Common.{◌∙◌, ◌≡◌, ◌⊎◌, ◌↔◌, Bool, ap, false, inl, inr, refl, subst, sym, true, ℕ}
+use Rattle.std.proofs.Common.{◌∙◌, ◌≡◌, ◌⊎◌, Bool, ap, false, inl, inr, refl, subst, sym, true, ℕ}
 use Rattle.std.specs.Prelude.{◌&&◌, ◌*◌, ◌+◌, ◌==◌, Err, IfSome, IsErr, IsOk, None, Ok, Option, Result, Some}
 use Rattle.std.specs.Prelude.{if◌then◌else◌, length}
 use Rattle.mmc_frame.specs.Field.{field}

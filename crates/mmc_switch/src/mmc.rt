@@ -1,5 +1,5 @@
 // What widening does with eMMC devices, and a switch of one byte (JESD84-B51, sections 6.6.1, 6.6.2 and 7.4).
-ghost use Rattle.std.specs.Prelude.{◌≡◌, ◌⊎◌, ◌*◌, ◌+◌, ◌==◌, ◌≤◌, IfOk, IsErr, IsOk, Ok, Some, false, if◌then◌else◌, true, ℕ};
+ghost use Rattle.std.specs.Prelude.{◌≡◌, ◌⊎◌, ◌*◌, ◌+◌, ◌==◌, ◌≤◌, IfOk, IsErr, IsOk, Ok, Some, false, if◌then◌else◌, true};
 ghost use Rattle.mmc_frame.specs.declared.addressing.Addressing.TheVariants.{Sectors};
 ghost use Rattle.mmc_frame.specs.declared.kind.Kind.TheVariants.{Mmc};
 ghost use Rattle.mmc_ext_csd.specs.ExtCsd.{ext_csd_in, high_speed_at_52_mhz, sec_count};

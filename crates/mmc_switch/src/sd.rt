@@ -2,7 +2,7 @@
 ghost use Rattle.std.specs.Prelude.{◌≡◌, ◌+◌, ◌≤◌, IfOk, IsOk, Some, false, true, ℕ};
 ghost use Rattle.mmc_frame.specs.declared.kind.Kind.TheVariants.{Sd};
 ghost use Rattle.mmc_regs.specs.Csd.{may_switch};
-ghost use Rattle.mmc_regs.specs.Scr.{four_lines, scr_number, sd_spec};
+ghost use Rattle.mmc_regs.specs.Scr.{scr_number, sd_spec};
 ghost use Rattle.mmc_card.specs.Laws.{Setting};
 ghost use Rattle.mmc_card.specs.Made.{csd_number_of, has_switch_function};
 ghost use Rattle.mmc_card.specs.Profile.{InProfile};

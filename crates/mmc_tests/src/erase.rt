@@ -1,7 +1,6 @@
 // Erases over buses that lie.
-ghost use Rattle.std.specs.Prelude.{◌≡◌, ◌+◌, ◌≤◌, IsSome, IsTrue, false, true};
-ghost use Rattle.mmc_card.specs.Sectors.{is_boot};
-ghost use Rattle.mmc_switch.specs.UnderWay.{part_of, room_of};
+ghost use Rattle.std.specs.Prelude.{◌≡◌, ◌+◌, ◌≤◌, IsTrue, false, true};
+ghost use Rattle.mmc_switch.specs.UnderWay.{room_of};
 ghost use Rattle.mmc_erase.specs.Job.{suits};
 
 use crate::cards::*;

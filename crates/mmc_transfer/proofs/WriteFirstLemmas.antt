@@ -27,7 +27,7 @@ use Rattle.mmc_card.specs.declared.exchange.DataOut.{DataOut}
 use Rattle.mmc_card.specs.declared.exchange.DataOut.TheVariants.{Accepted}
 use Rattle.mmc_bus.proofs.TogetherLemmas.{accepted_few}
 use Rattle.mmc_bus.proofs.WorkLemmas.{done_by}
-use Rattle.mmc_bus.specs.Together.{AreAccepted, BlockOffered, FoundAtRest, RestsBehind, WrittenOn, accepted_one, none_accepted}
+use Rattle.mmc_bus.specs.Together.{AreAccepted, BlockOffered, FoundAtRest, RestsAfter, WrittenOn, accepted_one, none_accepted}
 use Rattle.mmc_bus.specs.Together.{writes, writes_none}
 use Rattle.mmc_bus.specs.declared.cause.Cause.{Cause}
 use Rattle.mmc_bus.specs.declared.cause.Cause.TheVariants as Why
@@ -73,7 +73,7 @@ pauses job done more =
 module _ (job : Job) (blocks : List Sector) (way : job.way ≡ Write) (full : length blocks ≡ job.count)
     (between : BusView) where
   -- the card is found no longer busy, where a block went before
-  rested_turn : (done : ℕ) (view ready : BusView) → RestsBehind FoundAtRest done view ready → done < job.count
+  rested_turn : (done : ℕ) (view ready : BusView) → RestsAfter FoundAtRest done view ready → done < job.count
       → ready.is_kept ≡ true → (faults : ℕ) → IsIn job blocks (after_write_command job done) faults view
       → Turn (change_of job blocks) (λ n v. IsIn job blocks (Block done) n v) faults view ready
   rested_turn zero view ready rests more kept faults at =
@@ -85,7 +85,7 @@ module _ (job : Job) (blocks : List Sector) (way : job.way ≡ Write) (full : le
       (one_polls_by view ready rests kept)
 
   -- kept backwards
-  rested_kept : (done : ℕ) (view ready : BusView) → RestsBehind FoundAtRest done view ready → ready.is_kept ≡ true
+  rested_kept : (done : ℕ) (view ready : BusView) → RestsAfter FoundAtRest done view ready → ready.is_kept ≡ true
       → view.is_kept ≡ true
   rested_kept zero view ready rests kept = subst (λ (v : BusView). v.is_kept ≡ true) rests kept
   rested_kept (suc done) view ready rests kept = (rests.kept kept).was_kept
@@ -108,7 +108,7 @@ module _ (job : Job) (blocks : List Sector) (way : job.way ≡ Write) (full : le
       (good_offered ready next (slice_index_or blocks done []) written kept)))
 
   pub block_refused : (good : ℕ) (view ready : BusView) (got : DataOut) (new : BusView)
-      → AreAccepted BlockOffered FoundAtRest blocks between good view → RestsBehind FoundAtRest good view ready
+      → AreAccepted BlockOffered FoundAtRest blocks between good view → RestsAfter FoundAtRest good view ready
       → good < length blocks → (got ≡ Accepted → ⊥) → BlockOffered ready (slice_index_or blocks good []) got new
       → new.is_kept ≡ true → (faults : ℕ) → IsIn job blocks (Block 0) faults between
       → Turned job blocks faults between (Err Why.Data) new
@@ -123,13 +123,13 @@ module _ (job : Job) (blocks : List Sector) (way : job.way ≡ Write) (full : le
       (λ m there. give_fails job blocks good m (slice_index_or blocks good []) way more full refl ready new there Why.Data
       (Err Why.Data) refl (none_offered ready new got (slice_index_or blocks good []) not written kept)))
 
-  rested_later : (done : ℕ) (view ready : BusView) → RestsBehind FoundAtRest done view ready → ready.is_kept ≡ true
+  rested_later : (done : ℕ) (view ready : BusView) → RestsAfter FoundAtRest done view ready → ready.is_kept ≡ true
       → view.faults ≤ ready.faults
   rested_later zero view ready rests kept = let same = ap (λ (v : BusView). v.faults) rests in omega (arith, same)
   rested_later (suc done) view ready rests kept = (rests.kept kept).step.stays.later
 
   -- Any bus: a block is one exchange, and a poll between two another.
-  rested_costs : (done : ℕ) (view ready : BusView) → RestsBehind FoundAtRest done view ready
+  rested_costs : (done : ℕ) (view ready : BusView) → RestsAfter FoundAtRest done view ready
       → (ready.exchanges ≤ view.exchanges + 1) × (done ≡ 0 → ready.exchanges ≤ view.exchanges)
   rested_costs zero view ready rests =
       let same = ap (λ (v : BusView). v.exchanges) rests in (omega (arith, same), λ none. omega (arith, same))
@@ -290,7 +290,7 @@ module _ (job : Job) (blocks : List Sector) (way : job.way ≡ Write) (full : le
         (λ n here. blocks_written good new all kept n here)
 
     pub one_refused : (good : ℕ) (view ready : BusView) (got : DataOut) (new : BusView)
-        → AreAccepted BlockOffered FoundAtRest blocks between good view → RestsBehind FoundAtRest good view ready
+        → AreAccepted BlockOffered FoundAtRest blocks between good view → RestsAfter FoundAtRest good view ready
         → good < length blocks → (got ≡ Accepted → ⊥) → BlockOffered ready (slice_index_or blocks good []) got new
         → new.is_kept ≡ true → Starts kind job.way (job.count == 1) address true a between
         → Turned job blocks faults a (Err Why.Data) new
@@ -341,7 +341,7 @@ module _ (job : Job) (blocks : List Sector) (way : job.way ≡ Write) (full : le
     some_went good new all kept some work (inr tran) = absurd (none_in_tran good new all kept tran some)
 
     some_refused : (good : ℕ) (view ready : BusView) (got : DataOut) (new : BusView)
-        → AreAccepted BlockOffered FoundAtRest blocks between good view → RestsBehind FoundAtRest good view ready
+        → AreAccepted BlockOffered FoundAtRest blocks between good view → RestsAfter FoundAtRest good view ready
         → good < length blocks → (got ≡ Accepted → ⊥) → BlockOffered ready (slice_index_or blocks good []) got new
         → new.is_kept ≡ true → Starts kind job.way (job.count == 1) address false a between
         → (between.card ≡ starts job.way (job.count == 1) a.card address) ⊎ (between.card.state ≡ Tran)

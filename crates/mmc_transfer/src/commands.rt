@@ -1,5 +1,5 @@
 // The commands of a run, each with its R1 judged (SD Physical Layer 6.00, section 4.3; JESD84-B51, section 6.6).
-ghost use Rattle.std.specs.Prelude.{◌*◌, ◌<◌, ◌^◌, ◌≡◌, ◌⊎◌, IfErr, IsOk, Ok, false, length, true, ℕ};
+ghost use Rattle.std.specs.Prelude.{◌<◌, ◌^◌, ◌≡◌, ◌⊎◌, IfErr, IsOk, Ok, false, length, true, ℕ};
 ghost use Rattle.mmc_frame.specs.Status.{error_bits};
 ghost use Rattle.mmc_card.specs.Card.{NoAddress, is_selected};
 ghost use Rattle.mmc_card.specs.RowsTransfer.{preset_to};

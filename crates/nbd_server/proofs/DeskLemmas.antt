@@ -26,7 +26,7 @@ use Rattle.mmc_queue.specs.declared.request.Request.{Request}
 use Rattle.mmc_switch.specs.declared.info.Info.{Info}
 use Rattle.nbd_messages.specs.declared.error.ReplyError.{ReplyError}
 use Rattle.std.proofs.lemmas.List.Elements.{All-append, All-cons, All-head, All-nil, All-push, All-tail}
-use Rattle.nbd_server.specs.Acts.{Act, AreOfParts, AreTurns, IsOfParts, IsOfTurns, answered, asked, bytes_of, cookie_under, cookies_after, cookies_behind, cookies_of}
+use Rattle.nbd_server.specs.Acts.{Act, AreOfParts, AreTurns, IsOfParts, IsOfTurns, answered, asked, bytes_of, cookie_under, cookies_after, cookies_with, cookies_of}
 use Rattle.nbd_server.specs.Acts.{answered_by, answers_bytes, asked_by, bytes_by, error_of, event_by, events_of, replies_of, reply_by}
 use Rattle.nbd_server.specs.Acts.{reply_to, times}
 use Rattle.nbd_server.specs.Acts.Act.{Asks, AsksPart, Clears, Gathers, Gives, Says, Turns}
@@ -39,14 +39,14 @@ use Rattle.nbd_server.proofs.TimesLemmas.{numbered_front, numbered_merged, numbe
 cookies_then : (k : List ℕ) (xs ys : List Act) → cookies_after k (xs ++ ys) ≡ cookies_after (cookies_after k xs) ys
 unfolding cookies_after
 cookies_then k [] ys = refl
-cookies_then k (x ∷ xs) ys = cookies_then (cookies_behind k x) xs ys
+cookies_then k (x ∷ xs) ys = cookies_then (cookies_with k x) xs ys
 
 events_then : (k : List ℕ) (xs ys : List Act)
     → events_of k (xs ++ ys) ≡ events_of k xs ++ events_of (cookies_after k xs) ys
 unfolding cookies_after events_of
 events_then k [] ys = refl
 events_then k (x ∷ xs) ys =
-    ap (λ es. event_by k x ++ es) (events_then (cookies_behind k x) xs ys)
+    ap (λ es. event_by k x ++ es) (events_then (cookies_with k x) xs ys)
     ∙ sym (append_assoc (event_by k x) _ _)
 
 replies_then : (xs ys : List Act) → replies_of (xs ++ ys) ≡ replies_of xs ++ replies_of ys
@@ -59,14 +59,14 @@ bytes_then : (k : List ℕ) (xs ys : List Act)
 unfolding cookies_after bytes_of
 bytes_then k [] ys = refl
 bytes_then k (x ∷ xs) ys =
-    ap (λ bs. bytes_by k x ++ bs) (bytes_then (cookies_behind k x) xs ys) ∙ sym (append_assoc (bytes_by k x) _ _)
+    ap (λ bs. bytes_by k x ++ bs) (bytes_then (cookies_with k x) xs ys) ∙ sym (append_assoc (bytes_by k x) _ _)
 
 answered_then : (k : List ℕ) (xs ys : List Act)
     → answered k (xs ++ ys) ≡ answered k xs ++ answered (cookies_after k xs) ys
 unfolding cookies_after answered
 answered_then k [] ys = refl
 answered_then k (x ∷ xs) ys =
-    ap (λ cs. answered_by k x ++ cs) (answered_then (cookies_behind k x) xs ys)
+    ap (λ cs. answered_by k x ++ cs) (answered_then (cookies_with k x) xs ys)
     ∙ sym (append_assoc (answered_by k x) _ _)
 
 pub asked_then : (xs ys : List Act) → asked (xs ++ ys) ≡ asked xs ++ asked ys
@@ -106,11 +106,11 @@ once_then : {B : Type 0} (a b c : DeskView B) (xs ys : List Act) → b.cookies �
 once_then a b c xs ys same first second x =
     let f = first x in
     let s = second x in
-    let behind : times x (answered b.cookies ys) ≡ times x (answered (cookies_after a.cookies xs) ys) =
+    let rest : times x (answered b.cookies ys) ≡ times x (answered (cookies_after a.cookies xs) ys) =
     ap (λ k. times x (answered k ys)) same in
     let all = ap (times x) (answered_then a.cookies xs ys) ∙ times_then x (answered a.cookies xs) _ in
     let taken = ap (times x) (asked_then xs ys) ∙ times_then x (asked xs) (asked ys) in
-    omega (arith, f, s, behind, all, taken)
+    omega (arith, f, s, rest, all, taken)
 
 pub leads_then : {B : Type 0} (view : B → BusView) (a b c : DeskView B) (xs ys : List Act)
     → Leads view a xs b → Leads view b ys c → Leads view a (xs ++ ys) c
@@ -120,10 +120,10 @@ leads_then view a b c xs ys first second = record {
   kept = λ h. first.kept (second.kept h);
   executed = λ kept.
       let before = first.executed (second.kept kept) in
-      let behind = subst (λ i. Comes view b.device (λ (n m : Counted). IsCountedExecution i n (events_of b.cookies ys) (replies_of ys) m) c.device)
+      let rest = subst (λ i. Comes view b.device (λ (n m : Counted). IsCountedExecution i n (events_of b.cookies ys) (replies_of ys) m) c.device)
       first.info (second.executed kept) in
       let same = subst (λ k. Comes view b.device (λ (n m : Counted). IsCountedExecution a.device.info n (events_of k ys) (replies_of ys) m) c.device)
-      first.cookies behind in
+      first.cookies rest in
       rw (events_then a.cookies xs ys, replies_then xs ys)
       (comes_then view a.device.info a.device b.device c.device (events_of a.cookies xs) (replies_of xs)
       (events_of (cookies_after a.cookies xs) ys) (replies_of ys) before same);
@@ -135,12 +135,12 @@ pub does_then : {B E : Type 0} (view : B → BusView) (a b c : DeskView B) (befo
     → Does {B = B} {E = E} view a b before between (Ok done) xs → Does view b c between after r ys
     → Does view a c before after r (xs ++ ys)
 does_then view a b c before between after done r xs ys first second =
-    let behind = subst (λ k. Writes between after r (bytes_of k ys)) first.leads.cookies second.written in
+    let rest = subst (λ k. Writes between after r (bytes_of k ys)) first.leads.cookies second.written in
     record {
       leads = leads_then view a b c xs ys first.leads second.leads;
       once = once_then a b c xs ys first.leads.cookies first.once second.once;
       written = subst (Writes before after r) (sym (bytes_then a.cookies xs ys))
-          (writes_after before between after r (bytes_of a.cookies xs) _ first.written behind);
+          (writes_after before between after r (bytes_of a.cookies xs) _ first.written rest);
     }
 
 pub does_none : {B E : Type 0} (view : B → BusView) (d : DeskView B) (out : Option (List ℕ)) (done : Unit {0})
@@ -488,15 +488,15 @@ parts_answer_nothing : (k : List ℕ) (xs : List Act) → AreOfParts xs → answ
 unfolding answered
 parts_answer_nothing k [] h = refl
 parts_answer_nothing k (x ∷ xs) h =
-    ap (λ cs. cs ++ answered (cookies_behind k x) xs) (part_is_silent k x (All-head IsOfParts x xs h)).1
-    ∙ parts_answer_nothing (cookies_behind k x) xs (All-tail IsOfParts x xs h)
+    ap (λ cs. cs ++ answered (cookies_with k x) xs) (part_is_silent k x (All-head IsOfParts x xs h)).1
+    ∙ parts_answer_nothing (cookies_with k x) xs (All-tail IsOfParts x xs h)
 
 parts_write_nothing : (k : List ℕ) (xs : List Act) → AreOfParts xs → bytes_of k xs ≡ []
 unfolding bytes_of
 parts_write_nothing k [] h = refl
 parts_write_nothing k (x ∷ xs) h =
-    ap (λ cs. cs ++ bytes_of (cookies_behind k x) xs) (part_is_silent k x (All-head IsOfParts x xs h)).2
-    ∙ parts_write_nothing (cookies_behind k x) xs (All-tail IsOfParts x xs h)
+    ap (λ cs. cs ++ bytes_of (cookies_with k x) xs) (part_is_silent k x (All-head IsOfParts x xs h)).2
+    ∙ parts_write_nothing (cookies_with k x) xs (All-tail IsOfParts x xs h)
 
 parts_once : {B : Type 0} (old new : DeskView B) (xs : List Act) → AreOfParts xs → unanswered_of old.device ≡ 0
     → unanswered_of new.device ≡ 0 → AnswersEach old xs new

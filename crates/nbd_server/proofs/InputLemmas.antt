@@ -83,26 +83,26 @@ data_within (Some Flush) n m h = omega arith
 data_within (Some Trim) n m h = omega arith
 data_within (Some WriteZeroes) n m h = omega arith
 
-has_whole : (buffer head behind : List ℕ) (header : RequestHeader) → head ≡ take 28 buffer → length behind + 28 ≡ length buffer
-    → request_in head ≡ Some header → data_length header.command header.length ≤ length behind → HasWhole buffer
-has_whole buffer head behind header front rest is fits = (
+has_whole : (buffer head after : List ℕ) (header : RequestHeader) → head ≡ take 28 buffer → length after + 28 ≡ length buffer
+    → request_in head ≡ Some header → data_length header.command header.length ≤ length after → HasWhole buffer
+has_whole buffer head after header front rest is fits = (
   omega (arith, rest),
   subst (λ o. IfSome o (λ h. data_length h.command h.length + 28 ≤ length buffer)) (sym is ∙ ap request_in front) (omega (arith, rest, fits)),
 )
 
-pub has_junk : (buffer head behind : List ℕ) → head ≡ take 28 buffer → length behind + 28 ≡ length buffer
+pub has_junk : (buffer head after : List ℕ) → head ≡ take 28 buffer → length after + 28 ≡ length buffer
     → request_in head ≡ None → HasWhole buffer
-has_junk buffer head behind front rest is = (
+has_junk buffer head after front rest is = (
   omega (arith, rest),
   subst (λ o. IfSome o (λ h. data_length h.command h.length + 28 ≤ length buffer)) (sym is ∙ ap request_in front) tt,
 )
 
-pub has_plain : (buffer head behind : List ℕ) (header : RequestHeader) → head ≡ take 28 buffer
-    → length behind + 28 ≡ length buffer → request_in head ≡ Some header → header.command ≢ Some Write → HasWhole buffer
-has_plain buffer head behind header front rest is plain =
-    has_whole buffer head behind header front rest is (omega (arith, no_data header.command header.length plain))
+pub has_plain : (buffer head after : List ℕ) (header : RequestHeader) → head ≡ take 28 buffer
+    → length after + 28 ≡ length buffer → request_in head ≡ Some header → header.command ≢ Some Write → HasWhole buffer
+has_plain buffer head after header front rest is plain =
+    has_whole buffer head after header front rest is (omega (arith, no_data header.command header.length plain))
 
-pub has_write : (buffer head behind : List ℕ) (header : RequestHeader) → head ≡ take 28 buffer
-    → length behind + 28 ≡ length buffer → request_in head ≡ Some header → header.length ≤ length behind → HasWhole buffer
-has_write buffer head behind header front rest is fits =
-    has_whole buffer head behind header front rest is (data_within header.command header.length (length behind) fits)
+pub has_write : (buffer head after : List ℕ) (header : RequestHeader) → head ≡ take 28 buffer
+    → length after + 28 ≡ length buffer → request_in head ≡ Some header → header.length ≤ length after → HasWhole buffer
+has_write buffer head after header front rest is fits =
+    has_whole buffer head after header front rest is (data_within header.command header.length (length after) fits)

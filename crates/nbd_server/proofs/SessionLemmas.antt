@@ -165,11 +165,11 @@ turns_after export old left acts more served h are = record {
 
 -- one request more, with the turns before it
 pub taken_more : (export : Export) (old between left : Option (List ℕ)) (acts more : List Act) (served : List Served)
-    (header : RequestHeader) (behind next : List ℕ) (given : Option (List ℕ)) (h : AreTakenUp export old between acts served)
-    → IsRequest header behind next → IfSome given (λ bytes. bytes ≡ behind) → IsServedBy export header given more
+    (header : RequestHeader) (rest next : List ℕ) (given : Option (List ℕ)) (h : AreTakenUp export old between acts served)
+    → IsRequest header rest next → IfSome given (λ bytes. bytes ≡ rest) → IsServedBy export header given more
     → Consumes between left next
     → AreTakenUp export old left (acts ++ more) (served ++ record { header = header; bytes = next; acts = h.turns ++ more } ∷ [])
-taken_more export old between left acts more served header behind next given h is its by read =
+taken_more export old between left acts more served header rest next given h is its by read =
     let one : Served = record { header = header; bytes = next; acts = h.turns ++ more } in
     let all_bytes = λ (s : Served). s.bytes in
     let all_acts = λ (s : Served). s.acts in
@@ -179,7 +179,7 @@ taken_more export old between left acts more served header behind next given h i
           (ap (λ bs. flat_map all_bytes served ++ bs) (sym (append-nil next)) ∙ sym (flat_map-append all_bytes served (one ∷ [])))
           (consumes_then old between left (flat_map all_bytes served) next h.read read);
       each = All-append (IsServed export) served (one ∷ []) h.each (All-cons (IsServed export) one []
-          (behind, given, is, its, after_turns export header given h.turns more h.are_turns by) (All-nil (IsServed export)));
+          (rest, given, is, its, after_turns export header given h.turns more h.are_turns by) (All-nil (IsServed export)));
       cookies = asked_then acts more
           ∙ ap (λ cs. cs ++ asked more) h.cookies
           ∙ ap (λ cs. map cookie served ++ cs) (served_asks export header given more by)

@@ -56,16 +56,16 @@ abbrev pub cookie_under : List ℕ → ℕ → ℕ
 cookie_under cookies client = get_or cookies client 0
 
 -- the cookies by number, after an act: who is accepted is the next, with 0 for a part, to which nothing is replied
-abbrev pub cookies_behind : List ℕ → Act → List ℕ
-cookies_behind cookies (Asks cookie request (Accepted ticket)) = cookies ++ cookie ∷ []
-cookies_behind cookies (AsksPart request (Accepted ticket)) = cookies ++ 0 ∷ []
-cookies_behind cookies Clears = []
-cookies_behind cookies act = cookies
+abbrev pub cookies_with : List ℕ → Act → List ℕ
+cookies_with cookies (Asks cookie request (Accepted ticket)) = cookies ++ cookie ∷ []
+cookies_with cookies (AsksPart request (Accepted ticket)) = cookies ++ 0 ∷ []
+cookies_with cookies Clears = []
+cookies_with cookies act = cookies
 
 -- and after all of these
 unfoldable pub cookies_after : List ℕ → List Act → List ℕ
 cookies_after cookies [] = cookies
-cookies_after cookies (act ∷ acts) = cookies_after (cookies_behind cookies act) acts
+cookies_after cookies (act ∷ acts) = cookies_after (cookies_with cookies act) acts
 
 -- the cookies of these answers
 abbrev pub cookies_of : List ℕ → List Completion → List ℕ
@@ -92,7 +92,7 @@ asked (act ∷ acts) = asked_by act ++ asked acts
 
 unfoldable pub answered : List ℕ → List Act → List ℕ
 answered cookies [] = []
-answered cookies (act ∷ acts) = answered_by cookies act ++ answered (cookies_behind cookies act) acts
+answered cookies (act ∷ acts) = answered_by cookies act ++ answered (cookies_with cookies act) acts
 
 -- how often this cookie is among these
 unfoldable pub times : ℕ → List ℕ → ℕ
@@ -132,7 +132,7 @@ bytes_by cookies act = []
 
 unfoldable pub bytes_of : List ℕ → List Act → List ℕ
 bytes_of cookies [] = []
-bytes_of cookies (act ∷ acts) = bytes_by cookies act ++ bytes_of (cookies_behind cookies act) acts
+bytes_of cookies (act ∷ acts) = bytes_by cookies act ++ bytes_of (cookies_with cookies act) acts
 
 -- The sector machine.
 
@@ -159,7 +159,7 @@ reply_by act = []
 
 unfoldable pub events_of : List ℕ → List Act → List Event
 events_of cookies [] = []
-events_of cookies (act ∷ acts) = event_by cookies act ++ events_of (cookies_behind cookies act) acts
+events_of cookies (act ∷ acts) = event_by cookies act ++ events_of (cookies_with cookies act) acts
 
 unfoldable pub replies_of : List Act → List Reply
 replies_of [] = []

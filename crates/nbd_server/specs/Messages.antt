@@ -27,9 +27,9 @@ HasWhole bytes = (28 ≤ length bytes)
     × IfSome (request_in (take 28 bytes)) (λ header. data_length header.command header.length + 28 ≤ length bytes)
 
 -- These bytes are a request: 28 of its header, and the data of a write.
-pub record IsRequest (header : RequestHeader) (behind bytes : List ℕ) : Type 0 where
+pub record IsRequest (header : RequestHeader) (after bytes : List ℕ) : Type 0 where
   pub head : List ℕ
   pub fields : request_in head ≡ Some header
   pub short : length head ≡ 28
-  pub whole : bytes ≡ head ++ behind
-  pub all_data : length behind ≡ data_length header.command header.length
+  pub whole : bytes ≡ head ++ after
+  pub all_data : length after ≡ data_length header.command header.length

@@ -67,5 +67,5 @@ pub record Served : Type 0 where
 -- it was served as it came; its data, where there was memory for them
 abbrev pub IsServed : Export → Served → Type 0
 IsServed export s =
-    (data_behind : List ℕ) × (given : Option (List ℕ)) × IsRequest s.header data_behind s.bytes
-    × IfSome given (λ bytes. bytes ≡ data_behind) × IsServedBy export s.header given s.acts
+    (data_after : List ℕ) × (given : Option (List ℕ)) × IsRequest s.header data_after s.bytes
+    × IfSome given (λ bytes. bytes ≡ data_after) × IsServedBy export s.header given s.acts

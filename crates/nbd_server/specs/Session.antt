@@ -32,7 +32,7 @@ IsTakenUp export header given acts false = (acts ≡ []) × (header.command ≡ 
 abbrev pub IsEnd : Option (List ℕ) → List ℕ → Type 0
 IsEnd left last =
     ((last ≡ []) × IsAtEnd left)
-    ⊎ ((header : RequestHeader) × (behind : List ℕ) × (header.command ≡ Some Disconnect) × IsRequest header behind last)
+    ⊎ ((header : RequestHeader) × (rest : List ℕ) × (header.command ≡ Some Disconnect) × IsRequest header rest last)
 
 -- These requests were next in the input, and this is left after them: each was served, in their order, and nothing else was done.
 pub record AreTakenUp (export : Export) (old left : Option (List ℕ)) (acts : List Act) (served : List Served) : Type 0 where

@@ -36,8 +36,7 @@ pub struct Desk<B: Bus> {
 }
 
 impl<B: Bus> Model for Desk<B> {
-    ghost use Rattle.mmc_block.specs.Service.{in_service_of};
-    ghost use Rattle.nbd_server.specs.Desk.{AreNumbered, DeskView, IsKeptDesk};
+    ghost use Rattle.nbd_server.specs.Desk.{DeskView, IsKeptDesk};
 
     ghost Value = { DeskView B };
 

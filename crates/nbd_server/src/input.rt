@@ -115,8 +115,8 @@ fn data_of<R: Read>(
     input: &mut BufReader<R>,
     header: &RequestHeader,
 ) -> Result<Option<Vec<u8>>, InputFault>
-    ensures read { IfOk result (λ given. (behind : List ℕ) × (length behind ≡ data_length header.now.command header.now.length)
-        × IfSome given (λ bytes. bytes.items ≡ behind) × Reads R.remaining input.old input.new behind) }
+    ensures read { IfOk result (λ given. (after : List ℕ) × (length after ≡ data_length header.now.command header.now.length)
+        × IfSome given (λ bytes. bytes.items ≡ after) × Reads R.remaining input.old input.new after) }
     ensures fault { IfErr result (λ fault. fault ≢ Junk) }
 {
     if header.command != Some(Command::Write) {
@@ -149,8 +149,8 @@ pub fn next_message<R: Read>(
     input: &mut BufReader<R>,
 ) -> Result<Option<Message>, InputFault>
     ensures read { IfOk result (λ next. MatchOption next (IsAtEnd (reader_remaining R.remaining input.old) × Reads R.remaining input.old input.new [])
-        (λ message. (behind bytes : List ℕ) × IsRequest message.header behind bytes
-        × IfSome message.given (λ given. given.items ≡ behind) × Reads R.remaining input.old input.new bytes)) }
+        (λ message. (after bytes : List ℕ) × IsRequest message.header after bytes
+        × IfSome message.given (λ given. given.items ≡ after) × Reads R.remaining input.old input.new bytes)) }
     ensures fault { IfErr result (λ fault. fault ≡ Junk → IsJunk (reader_remaining R.remaining input.old) (reader_remaining R.remaining input.new)) }
 {
     let Some(header) = next_request(input)? else {
@@ -164,12 +164,12 @@ pub fn next_message<R: Read>(
 pub fn has_request<R: Read>(input: &BufReader<R>) -> bool
     ensures { result ≡ true → HasWhole (reader_buffer input.now) }
 {
-    let Some((header, behind)) = input.buffer().split_first_chunk::<28>() else {
+    let Some((header, after)) = input.buffer().split_first_chunk::<28>() else {
         return false;
     };
     match request_in(header) {
         Some(request) => {
-            request.command != Some(Command::Write) || request.length as usize <= behind.len()
+            request.command != Some(Command::Write) || request.length as usize <= after.len()
         }
         None => true,
     }

@@ -37,7 +37,7 @@ fn ask_reads<B: Bus>(
 {
     let parts = span.count.div_ceil(PART) as u32;
     for number in 0..parts {
-        let Span { start, count } = span.behind(PART * number as u64, PART);
+        let Span { start, count } = span.after(PART * number as u64, PART);
         let request = Request::Read { part, start, count };
         desk.ask_part(alloc, request)?;
     }
@@ -61,7 +61,7 @@ fn ask_writes<B: Bus>(
     let parts = span.count.div_ceil(PART) as u32;
     for number in 0..parts {
         let before = PART * number as u64;
-        let Span { start, count } = span.behind(before, PART);
+        let Span { start, count } = span.after(before, PART);
         let from = 512 * before as usize;
         let Ok(piece) = Vec::from_slice(alloc, &bytes[from..from + 512 * count as usize]) else {
             return Err(ReplyError::NoMemory);
@@ -145,7 +145,7 @@ pub fn read_long<B: Bus>(
     };
     let mut done = 0_u64;
     while done < span.count {
-        let next = span.behind(done, WINDOW);
+        let next = span.after(done, WINDOW);
         read_window(alloc, desk, part, next, &mut bytes)?;
         done += next.count;
     }
@@ -174,7 +174,7 @@ pub fn write_long<B: Bus>(
 {
     let mut done = 0_u64;
     while done < span.count {
-        let next = span.behind(done, WINDOW);
+        let next = span.after(done, WINDOW);
         let from = 512 * done as usize;
         let piece = &bytes[from..from + 512 * next.count as usize];
         write_window(alloc, desk, part, next, piece)?;

@@ -102,13 +102,13 @@ fn put_answer<W: Write>(
 
 // The name in the data of `Info` or `Go`: its length, the name, and how many questions of two bytes follow.
 fn name_in(data: &[u8]) -> Option<&[u8]> {
-    let (length, behind) = data.split_first_chunk::<4>()?;
+    let (length, after) = data.split_first_chunk::<4>()?;
     let length = u32::from_be_bytes(*length) as usize;
-    if behind.len() < length {
+    if after.len() < length {
         return None;
     }
-    let (name, behind) = behind.split_at(length);
-    let (count, questions) = behind.split_first_chunk::<2>()?;
+    let (name, after) = after.split_at(length);
+    let (count, questions) = after.split_first_chunk::<2>()?;
     if questions.len() != 2 * u16::from_be_bytes(*count) as usize {
         return None;
     }

@@ -13,7 +13,7 @@ pub struct Span {
 
 impl Span {
     /// The sectors after the first `done`, at most so many.
-    pub fn behind(self, done: u64, most: u64) -> Span
+    pub fn after(self, done: u64, most: u64) -> Span
         requires { done < self.count }
         ensures start { result.start ≡ self.start + done }
         ensures count { result.count ≡ min most (self.count - done) }

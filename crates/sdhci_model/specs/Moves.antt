@@ -1,7 +1,7 @@
 -- What the model's registers do while blocks are moved.
 use Rattle.std.specs.Prelude.{[], List, None, Option, Some, false, slice_index_or, true, ℕ, ◌≡◌}
 use Rattle.mmc_frame.specs.Field.{field}
-use Rattle.mmc_bus.specs.Together.{RestsBehind}
+use Rattle.mmc_bus.specs.Together.{RestsAfter}
 use Rattle.mmc_card.specs.BusView.{BusView}
 use Rattle.mmc_card.specs.declared.exchange.DataIn.{DataIn}
 use Rattle.mmc_card.specs.declared.exchange.DataOut.{DataOut}
@@ -111,7 +111,7 @@ OneHasFailed story past state count got after =
 pub record CanGoOn (blocks : List (List ℕ)) (old : BusView) (count : ℕ) (ready : BusView) : Type 0 where
   pub view : BusView
   pub gone : HaveGone blocks old count view
-  pub rests : RestsBehind CardRests count view ready
+  pub rests : RestsAfter CardRests count view ready
 
 abbrev pub GoesOn : Story → List Entry → State → ℕ → List Entry → Type 0
 GoesOn story past state count after =

@@ -1,18 +1,17 @@
-ghost use Rattle.std.specs.Prelude.{[], Err, IfOk, ◌==◌, ◌≡◌, ◌∷◌, false, true, ℕ};
+ghost use Rattle.std.specs.Prelude.{[], Err, IfOk, ◌==◌, ◌≡◌, ◌∷◌, false, true};
 ghost use Rattle.mmc_host.specs.declared.data.Data.TheVariants as Data;
 ghost use Rattle.mmc_frame.specs.Field.{field};
-ghost use Rattle.mmc_card.specs.declared.exchange.DataIn.TheVariants as Came;
 ghost use Rattle.mmc_sdhci.specs.Driver.{IsNew};
 ghost use Rattle.mmc_host.specs.HostStates.{is_good};
 ghost use Rattle.mmc_card.specs.declared.response.Response.TheVariants.{Nothing};
 ghost use Rattle.mmc_host.specs.declared.told.ResponseFault.TheVariants.{Timeout};
-ghost use Rattle.mmc_sdhci.specs.Accesses.{DataLookedBy, Does8, Looked, Passes, Polls, Reads, Reads8, Writes, Writes8, may_write, may_write8};
+ghost use Rattle.mmc_sdhci.specs.Accesses.{DataLookedBy, Looked, Passes, Polls, Reads, Reads8, Writes, Writes8, may_write, may_write8};
 ghost use Rattle.mmc_sdhci.specs.DataLooks.{DataLooked, ReadLook, WriteLook};
 ghost use Rattle.mmc_story.specs.Noted.{event_of};
 ghost use Rattle.mmc_sdhci.specs.Controller.{Settled};
 ghost use Rattle.mmc_sdhci.specs.CommandLooks.{Look};
-ghost use Rattle.mmc_story.specs.Entry.Event.{Read, Sent, Written};
-ghost use Rattle.sdhci_model.specs.Moves.{IsLostAs, SeesBuffer};
+ghost use Rattle.mmc_story.specs.Entry.Event.{Read, Sent};
+ghost use Rattle.sdhci_model.specs.Moves.{SeesBuffer};
 ghost use Rattle.sdhci_model.specs.Shown.{IsTold, command_of, controller, entry_for, running_in, running_of, shown};
 ghost use Rattle.mmc_story.specs.Story.{Outcome};
 

@@ -14,8 +14,38 @@ const PACKAGES: &[Name] = names![
     2 => b"package on package (POP)",
 ];
 
+// Manufacturers of SD cards, from the lowest number up. SD-3C assigns the numbers, and no public standard lists them:
+// these are the ones that cards are commonly known to have.
+const SD_MAKERS: &[Name] = names![
+    0x01 => b"Panasonic",
+    0x02 => b"Toshiba/Kioxia",
+    0x03 => b"SanDisk",
+    0x1b => b"Samsung",
+    0x1d => b"ADATA",
+    0x27 => b"Phison",
+    0x28 => b"Lexar",
+    0x31 => b"Silicon Power",
+    0x41 => b"Kingston",
+    0x74 => b"Transcend",
+    0x76 => b"Patriot",
+    0x82 => b"Sony",
+    0x9c => b"Angelbird",
+];
+
+// Manufacturers of eMMC devices, whose numbers JEDEC assigns: no public standard lists these either.
+const MMC_MAKERS: &[Name] = names![
+    0x02 => b"SanDisk",
+    0x11 => b"Toshiba/Kioxia",
+    0x13 => b"Micron",
+    0x15 => b"Samsung",
+    0x45 => b"SanDisk",
+    0x70 => b"Kingston",
+    0x90 => b"SK hynix",
+    0xfe => b"Micron",
+];
+
 static CID_SD: [Field; 9] = [
-    field!(b"MID", 127, 120, Meaning::Hexadecimal),
+    field!(b"MID", 127, 120, Meaning::Listed(SD_MAKERS)),
     field!(b"OID", 119, 104, Meaning::Text(2)),
     field!(b"PNM", 103, 64, Meaning::Text(5)),
     field!(b"PRV", 63, 56, Meaning::Revision),
@@ -27,7 +57,7 @@ static CID_SD: [Field; 9] = [
 ];
 
 static CID_MMC: [Field; 10] = [
-    field!(b"MID", 127, 120, Meaning::Hexadecimal),
+    field!(b"MID", 127, 120, Meaning::Listed(MMC_MAKERS)),
     reserved!(119, 114),
     field!(b"CBX", 113, 112, Meaning::Named(PACKAGES)),
     field!(b"OID", 111, 104, Meaning::Hexadecimal),

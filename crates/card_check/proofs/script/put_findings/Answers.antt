@@ -2,21 +2,21 @@ use Rattle.std.proofs.Common.{[], ◌+◌, ◌++◌, ◌∙◌, ap, arith, subst
 use Rattle.std.specs.Io.KnownBytes.{Appends}
 use Rattle.text_out.proofs.WritingLemmas.{appends_more, appends_none, writes_broken}
 use Rattle.card_text.specs.Parts.{left_parts}
-use Rattle.card_text.specs.Script.{line_of}
-use Rattle.card_check.specs.WrongLines.{bad_text, bad_texts}
-use Rattle.card_check.proofs.WrongLineLemmas.{none_left, reviewed_all, reviewed_few, reviewed_more, reviewed_next, reviewed_none}
+use Rattle.card_check.specs.WrongLines.{bad_line, bad_texts}
+use Rattle.card_check.proofs.ByLineLemmas.{reviewed_all, reviewed_few, reviewed_more, reviewed_next, reviewed_none}
+use Rattle.card_check.proofs.WrongLineLemmas.{none_left}
 use Rattle.card_check.proofs.script.put_findings.Goals as goal
 
 pub overflow_add-number : goal.overflow_add-number
 overflow_add-number g c =
     let few =
-    reviewed_few _ _ _ _ _ _ _ c.loop-rest.invariant.reviewed (ap (left_parts 10) c.in-Some.is ∙ c.cut.ensures) in
+    reviewed_few bad_line _ _ _ _ _ _ _ c.loop-rest.invariant.reviewed (ap (left_parts 10) c.in-Some.is ∙ c.cut.ensures) in
     let wf = c.well_formed in omega (arith, few)
 
 pub loop-rest-init : goal.loop-rest-init
 loop-rest-init g c = record {
   front = [];
-  reviewed = reviewed_none c.args.text.now;
+  reviewed = reviewed_none bad_line c.args.text.now;
   printed = appends_none (g.W.Write.contents c.args.out.now);
 }
 
@@ -24,9 +24,9 @@ pub returns-in_err-put_if_bad : goal.returns-in_err-put_if_bad
 returns-in_err-put_if_bad g c =
     let so_far = c.loop-rest.invariant in
     let line = c.cut.result.0.now in
-    writes_broken _ _ _ _ so_far.front (bad_text (c.loop-rest.number + 1) line (line_of line))
+    writes_broken _ _ _ _ so_far.front (bad_line (c.loop-rest.number + 1) line)
     (bad_texts (c.loop-rest.number + 1 + 1) (left_parts 10 c.cut.result.1)) _ c.from_residual.ensures.0
-    (reviewed_next _ _ _ line _ _ _ so_far.reviewed (ap (left_parts 10) c.in-Some.is ∙ c.cut.ensures))
+    (reviewed_next bad_line _ _ _ line _ _ _ so_far.reviewed (ap (left_parts 10) c.in-Some.is ∙ c.cut.ensures))
     so_far.printed c.in_err-put_if_bad.ensures
 
 pub loop-rest-preserved : goal.loop-rest-preserved
@@ -34,12 +34,12 @@ loop-rest-preserved g c =
     let so_far = c.loop-rest.invariant in
     let line = c.cut.result.0.now in
     record {
-      front = so_far.front ++ bad_text (c.loop-rest.number + 1) line (line_of line);
-      reviewed = reviewed_more _ _ _ line _ _ _ so_far.reviewed (ap (left_parts 10) c.in-Some.is ∙ c.cut.ensures);
+      front = so_far.front ++ bad_line (c.loop-rest.number + 1) line;
+      reviewed = reviewed_more bad_line _ _ _ line _ _ _ so_far.reviewed (ap (left_parts 10) c.in-Some.is ∙ c.cut.ensures);
       printed = appends_more _ _ _ so_far.front _ so_far.printed c.in_ok-put_if_bad.ensures;
     }
 
 pub returns : goal.returns
 returns g c =
     subst (Appends (g.W.Write.contents c.args.out.now) (g.W.Write.contents c.loop-rest.out))
-    (reviewed_all _ _ _ _ _ c.loop-rest.invariant.reviewed (none_left c.loop-rest.rest c.in_default.not-Some)) c.loop-rest.invariant.printed
+    (reviewed_all bad_line _ _ _ _ _ c.loop-rest.invariant.reviewed (none_left c.loop-rest.rest c.in_default.not-Some)) c.loop-rest.invariant.printed

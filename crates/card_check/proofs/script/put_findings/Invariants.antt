@@ -2,13 +2,14 @@ use Rattle.std.proofs.Common.{ℕ, ◌+◌, List, length}
 use Rattle.std.specs.Io.KnownBytes.{Appends}
 use Rattle.card_text.specs.Parts.{left_parts}
 use Rattle.card_text.specs.Script.{lines}
-use Rattle.card_check.proofs.WrongLineLemmas.{Reviewed}
+use Rattle.card_check.specs.WrongLines.{bad_line}
+use Rattle.card_check.proofs.ByLineLemmas.{Reviewed}
 use Rattle.card_check.proofs.script.put_findings.Given as goal
 
 abbrev pub invariant-loop-rest : goal.invariant-loop-rest
 invariant-loop-rest g l = record {
   front : List ℕ;
-  reviewed : Reviewed (lines l.fn.text) (left_parts 10 l.rest) (length l.fn.text + 1) l.number front;
+  reviewed : Reviewed bad_line (lines l.fn.text) (left_parts 10 l.rest) (length l.fn.text + 1) l.number front;
   printed : Appends (g.W.Write.contents l.fn.out) (g.W.Write.contents l.out) front;
 }
 

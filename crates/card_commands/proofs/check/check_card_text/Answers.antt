@@ -11,4 +11,4 @@ pub returns-in-Some : goal.returns-in-Some
 returns-in-Some g c =
     let read = subst (λ (checked : Option CardSpec). IfSome checked (λ spec. (plan : List PlannedFault)
     × IsCardFile (lines c.args.text.now) spec plan)) c.in-Some.is c.in_ok-check_card.ensures.good in
-    described_by c.args.text.now c.in-Some.spec read c.check_registers.result c.check_registers.ensures.taken
+    described_by c.args.text.now c.in-Some.spec read c.check_spec.result c.check_spec.ensures

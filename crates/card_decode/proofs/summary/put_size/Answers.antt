@@ -24,4 +24,4 @@ returns-in-V2 g c =
 pub returns-in-Mmc : goal.returns-in-Mmc
 unfolding size_text
 returns-in-Mmc g c =
-    rw c.in-Mmc.is (rw (c.sectors-in-Mmc.ensures ∙ ap sectors_of c.in-Mmc.is) at c.put_pieces.ensures)
+    rw c.in-Mmc.is (rw (c.sectors-in-Mmc.ensures ∙ ap sectors_of c.in-Mmc.is) at c.put_capacity.ensures)

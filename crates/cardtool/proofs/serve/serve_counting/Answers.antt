@@ -1,6 +1,6 @@
 use Rattle.std.proofs.Common.{◌-◌}
 use Rattle.mmc_card.specs.Card.{holds}
-use Rattle.cardtool.proofs.WholeLemmas.{Laws, bounded_device, is_served, kept_at_end, served_device, unopened, unwritten}
+use Rattle.cardtool.proofs.WholeLemmas.{bounded_device, is_served, kept_at_end, served_device, unopened, unwritten}
 use Rattle.cardtool.proofs.serve.serve_counting.Goals as goal
 
 pub returns-clause-served : goal.returns-clause-served
@@ -8,12 +8,7 @@ returns-clause-served g c = λ kept decided.
     let o = c.in-Ok.ensures in
     let first = g.B.Bus.view c.args.bus in
     let last = g.B.Bus.view c.close-bus.result in
-    let laws : Laws = record {
-      counted = c.a_counted_execution_is_an_execution.ensures;
-      faults = c.a_failure_takes_four_faults.ensures.each;
-      order = c.answers_are_in_order.ensures;
-      ends = c.contents_are_in_order.ensures;
-    } in
+    let laws = c.an_execution_has_its_laws.ensures in
     let serves = c.play-served.ensures.serves (kept_at_end g.B.Bus.view _ _ c.close-bus.ensures.bus kept) in
     rw c.outcome.ensures (
       bounded_device g.B.Bus.view c.in-Ok.device c.play-served.new.device c.args.bus c.close-bus.result o.info o.ok.0

@@ -14,7 +14,7 @@ returns-clause-asked g c =
     let command = meant old.card c.args.index in
     let e = c.read_with-reply.ensures in
     record {
-      behind = e.behind;
+      between = e.between;
       asked = asked (IsAnswerTo command) _ _ old c.encode.result c.args.index c.args.argument c.wanted.result
           c.read_with-reply.result.0 c.response_in.result _
           (response_reads c.flipped_response_is_refused.ensures.r1 c.args.index command
@@ -24,22 +24,22 @@ returns-clause-asked g c =
       cause = ap cause_of e.commanded.last
           ∙ ap (λ s. Some (cause_of_command s c.read_with-reply.result.0)) c.encode.ensures
           ∙ ap (λ (r : Result ℕ Unheard). Some (cause_of_response r)) (sym c.response_in.ensures);
-      read = read_as e.behind c.args.blocks.now
+      read = read_as e.between c.args.blocks.now
           (λ a b got left step. one_facts a _ b step (λ k limits bounded s. read_facts a 512 got left b limits bounded s))
           _ _ _ e.read;
     }
 
 pub returns-clause-few : goal.returns-clause-few
 returns-clause-few g c =
-    read_few c.read_with-reply.ensures.behind c.args.blocks.now g.met.D.BlocksMut.writes_one _ _ _
+    read_few c.read_with-reply.ensures.between c.args.blocks.now g.met.D.BlocksMut.writes_one _ _ _
     c.read_with-reply.ensures.read
 
 pub returns-clause-count : goal.returns-clause-count
 returns-clause-count g c =
-    read_count c.read_with-reply.ensures.behind c.args.blocks.now g.met.D.BlocksMut.writes_one _ _ _
+    read_count c.read_with-reply.ensures.between c.args.blocks.now g.met.D.BlocksMut.writes_one _ _ _
     c.read_with-reply.ensures.read
 
 pub returns-clause-lent : goal.returns-clause-lent
 returns-clause-lent g c =
-    read_lent c.read_with-reply.ensures.behind c.args.blocks.now g.met.D.BlocksMut.writes_one _ _ _
+    read_lent c.read_with-reply.ensures.between c.args.blocks.now g.met.D.BlocksMut.writes_one _ _ _
     c.read_with-reply.ensures.read

@@ -15,7 +15,7 @@ returns-clause-asked g c =
     let command = meant old.card c.args.index in
     let e = c.write_with-reply.ensures in
     record {
-      behind = e.behind;
+      between = e.between;
       asked = asked (IsAnswerTo command) _ _ old c.encode.result c.args.index c.args.argument c.wanted.result
           c.write_with-reply.result.0 c.response_in.result _
           (response_reads c.flipped_response_is_refused.ensures.r1 c.args.index command
@@ -27,11 +27,11 @@ returns-clause-asked g c =
           ∙ ap (λ (r : Result ℕ Unheard). Some (cause_of_response r)) (sym c.response_in.ensures);
       unheard = λ err. e.unheard (c.args.index, c.args.argument) c.encode.ensures
           (subst (λ (r : Result ℕ Unheard). IsErr r) c.response_in.ensures err);
-      written = written_as e.behind
+      written = written_as e.between
           (λ a b got bytes step. one_facts a _ b step (λ k limits bounded s. write_facts a bytes got b limits bounded s))
           (λ a b step. one_facts a _ b step (λ k limits bounded s. poll_facts a false b limits bounded s))
           _ _ e.written;
     }
 
 pub returns-clause-few : goal.returns-clause-few
-returns-clause-few g c = written_few c.write_with-reply.ensures.behind _ _ c.write_with-reply.ensures.written
+returns-clause-few g c = written_few c.write_with-reply.ensures.between _ _ c.write_with-reply.ensures.written

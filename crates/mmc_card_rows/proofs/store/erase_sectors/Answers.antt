@@ -11,10 +11,10 @@ returns-clause-sectors c =
     let first = c.args.first in
     let count = c.args.count in
     let bytes = c.args.bytes.now in
-    let behind = length-drop (512 * first) bytes in
+    let later = length-drop (512 * first) bytes in
     let part = length-take (512 * (first + count) - 512 * first) (drop (512 * first) bytes) in
     let size : length (take (512 * (first + count) - 512 * first) (drop (512 * first) bytes)) ≡ 512 * count =
-    omega (arith, behind, part, c.requires) in
+    omega (arith, later, part, c.requires) in
     let new : c.fill.new.self ≡ replicate (512 * count) c.args.erased =
     c.fill.ensures.after (λ y same. same) ∙ ap (λ n. replicate n c.args.erased) size in
     let len : length c.fill.new.self ≡ 512 * count = ap length new ∙ length-replicate (512 * count) c.args.erased in

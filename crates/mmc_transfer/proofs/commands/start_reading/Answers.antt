@@ -15,12 +15,12 @@ returns-clause-started g c =
     let all = c.ask_reading-heard.ensures.asked in
     let asked = asked_as c.command_of.ensures.named all.asked in
     let count = asked.exchanged.exchanges in
-    let few : all.behind.exchanges ≤ old.exchanges + 1 = omega (arith, count) in
+    let few : all.between.exchanges ≤ old.exchanges + 1 = omega (arith, count) in
     record {
-      between = all.behind;
+      between = all.between;
       ends = (
         few,
-        caused c.check_r1.result (cause_of_response c.ask_reading-heard.result.0) (cause_of all.behind.last)
+        caused c.check_r1.result (cause_of_response c.ask_reading-heard.result.0) (cause_of all.between.last)
             c.check_r1.ensures.cause all.cause,
       );
       kept = λ kept. (asked.exchanged.kept kept).was_kept;

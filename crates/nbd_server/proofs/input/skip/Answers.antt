@@ -13,9 +13,9 @@ loop-left-preserved g c =
     let full = so_far.full in
     let taken = length-take c.min-some.result c.loop-left.chunk in
     let kept = length-append c.fill.new.bytes (drop c.min-some.result c.loop-left.chunk) in
-    let behind = length-drop c.min-some.result c.loop-left.chunk in
+    let after = length-drop c.min-some.result c.loop-left.chunk in
     record {
-      full = omega (arith, full, some, taken, few, kept, behind);
+      full = omega (arith, full, some, taken, few, kept, after);
       taken = so_far.taken ++ c.fill.new.bytes;
       many = omega (arith, more, was, some, few, full, taken);
       read = consumes_then _ _ _ so_far.taken c.fill.new.bytes so_far.read c.in_ok-fill.ensures.read;

@@ -14,7 +14,7 @@ loop-number-preserved g c =
     one_asked g.B.Bus.view _ _ _
     (λ (n : ℕ). Read c.args.part (c.args.span.start + 16 * n) (sectors_of c.args.span.count n))
     c.loop-number.number _ acts c.loop-number.invariant of_parts leads none asked
-    (read_is c.args.part c.args.span.start c.args.span.count c.loop-number.number c.behind-start.result.start c.behind-start.result.count c.behind-start.ensures.start c.behind-start.ensures.count)
+    (read_is c.args.part c.args.span.start c.args.span.count c.loop-number.number c.after-start.result.start c.after-start.result.count c.after-start.ensures.start c.after-start.ensures.count)
 
 pub returns-in_err-ask_part-clause-leads : goal.returns-in_err-ask_part-clause-leads
 returns-in_err-ask_part-clause-leads g c =

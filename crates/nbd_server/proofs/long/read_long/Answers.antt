@@ -23,13 +23,13 @@ returns-in_err-read_window-clause-leads g c =
 
 pub loop-done-preserved : goal.loop-done-preserved
 loop-done-preserved g c =
-    let (acts, of_parts, leads, (more, behind, is), nothing) = c.in_ok-read_window.ensures.leads in
-    let one : Window = record { count = c.behind-next.result.count; acts = acts; bytes = more } in
+    let (acts, of_parts, leads, (more, after, is), nothing) = c.in_ok-read_window.ensures.leads in
+    let one : Window = record { count = c.after-next.result.count; acts = acts; bytes = more } in
     record {
-      so_far = rw behind (one_more g.B.Bus.view _ _ _ (λ (from : ℕ) (w : Window). IsRead c.args.part from w.count w.acts w.bytes)
+      so_far = rw after (one_more g.B.Bus.view _ _ _ (λ (from : ℕ) (w : Window). IsRead c.args.part from w.count w.acts w.bytes)
           c.args.span.start c.loop-done.done _ c.loop-done.bytes.items one c.loop-done.invariant.so_far of_parts leads
-          c.behind-next.ensures.start is c.in_ok-read_window.ensures.none c.in_ok-read_window.ensures.cleared);
-      within = omega (arith, c.behind-next.ensures.count, c.loop-done-test.true);
+          c.after-next.ensures.start is c.in_ok-read_window.ensures.none c.in_ok-read_window.ensures.cleared);
+      within = omega (arith, c.after-next.ensures.count, c.loop-done-test.true);
     }
 
 pub returns-clause-leads : goal.returns-clause-leads

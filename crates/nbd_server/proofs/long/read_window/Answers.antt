@@ -25,9 +25,9 @@ returns-clause-leads g c =
       of_parts_then xs ys of_xs of_ys,
       leads_then g.B.Bus.view _ _ _ xs ys leads_xs leads_ys,
       if_ok_then c.join.result _ _
-          (λ done (more, behind, long, answered). (
+          (λ done (more, after, long, answered). (
             more,
-            behind,
+            after,
             window_read c.args.part c.args.span.start c.args.span.count c.in_ok-asked.field-0 xs ys c.gather-given.result.items more none asked.0 asked.1
                 answers long (subst (λ given. AreAnswered given c.args.span.count c.in_ok-asked.field-0 more) same answered),
           ))

@@ -19,14 +19,14 @@ pub loop-done-preserved : goal.loop-done-preserved
 loop-done-preserved g c =
     let (acts, of_parts, leads, is, nothing) = c.in_ok-write_window.ensures.leads in
     let done = c.loop-done.done in
-    let more = take (512 * done + 512 * c.behind-next.result.count - 512 * done) (drop (512 * done) c.args.bytes.now) in
-    let one : Window = record { count = c.behind-next.result.count; acts = acts; bytes = more } in
+    let more = take (512 * done + 512 * c.after-next.result.count - 512 * done) (drop (512 * done) c.args.bytes.now) in
+    let one : Window = record { count = c.after-next.result.count; acts = acts; bytes = more } in
     record {
-      so_far = rw (bytes_next done c.behind-next.result.count _ c.args.bytes.now refl) (one_more g.B.Bus.view _ _ _
+      so_far = rw (bytes_next done c.after-next.result.count _ c.args.bytes.now refl) (one_more g.B.Bus.view _ _ _
           (λ (from : ℕ) (w : Window). IsWritten c.args.part from w.count w.acts w.bytes) c.args.span.start done _
-          (take (512 * done) c.args.bytes.now) one c.loop-done.invariant.so_far of_parts leads c.behind-next.ensures.start is
+          (take (512 * done) c.args.bytes.now) one c.loop-done.invariant.so_far of_parts leads c.after-next.ensures.start is
           c.in_ok-write_window.ensures.none c.in_ok-write_window.ensures.cleared);
-      within = omega (arith, c.behind-next.ensures.count, c.loop-done-test.true);
+      within = omega (arith, c.after-next.ensures.count, c.loop-done-test.true);
     }
 
 pub returns-clause-leads : goal.returns-clause-leads

@@ -19,7 +19,7 @@ loop-served-preserved g c =
     let so_far = c.loop-served.invariant in
     let (ys, turns, first) = c.in_ok-settle.ensures.does in
     let (zs, second, taken) = c.in_ok-serve_message.ensures in
-    let (behind, next, is, its, read) = rw c.in-Ok-Some.field-0-is at c.in-Ok-Some.ensures.read in
+    let (after, next, is, its, read) = rw c.in-Ok-Some.field-0-is at c.in-Ok-Some.ensures.read in
     let message = c.in-Ok-Some.message in
     let by = rw c.if-not-branch.false at taken in
     let one : Served = record { header = message.header; bytes = next; acts = so_far.taken.turns ++ (ys ++ zs) } in
@@ -30,7 +30,7 @@ loop-served-preserved g c =
       served = so_far.served ++ one ∷ [];
       does = does_then g.B.Bus.view _ _ _ _ _ _ tt _ so_far.acts (ys ++ zs) so_far.does
           (does_then g.B.Bus.view _ _ _ _ _ _ tt _ ys zs first second);
-      taken = taken_more _ _ _ _ so_far.acts (ys ++ zs) so_far.served message.header behind next _ so_far.taken is
+      taken = taken_more _ _ _ _ so_far.acts (ys ++ zs) so_far.served message.header after next _ so_far.taken is
           (if_some_mapped message.given _ _ its) (after_turns _ message.header _ ys zs turns by) read;
       count = omega (arith, longer, count);
     }
@@ -88,7 +88,7 @@ returns-then-not-branch g c =
     let so_far = c.loop-served.invariant in
     let (ys, turns, first) = c.in_ok-settle.ensures.does in
     let (zs, second, taken) = c.in_ok-serve_message.ensures in
-    let (behind, next, is, given, read) = rw c.in-Ok-Some.field-0-is at c.in-Ok-Some.ensures.read in
+    let (after, next, is, given, read) = rw c.in-Ok-Some.field-0-is at c.in-Ok-Some.ensures.read in
     let (nothing, ends) = rw c.if-not-branch.true at taken in
     let more = subst AreTurns (ap (λ xs. ys ++ xs) (sym nothing)) (subst AreTurns (sym (append-nil ys)) turns) in (
       so_far.acts ++ (ys ++ zs),
@@ -98,6 +98,6 @@ returns-then-not-branch g c =
         _,
         so_far.served,
         turns_after _ _ _ so_far.acts (ys ++ zs) so_far.served so_far.taken more,
-        (next, read, inl (inr (c.in-Ok-Some.message.header, behind, ends, is))),
+        (next, read, inl (inr (c.in-Ok-Some.message.header, after, ends, is))),
       ),
     )

@@ -56,7 +56,7 @@ pub returns-clause-reads : goal.returns-clause-reads
 returns-clause-reads g c =
     let end : c.loop-done.done ≡ touched_by c.moved_by-moved.result c.len-count.result = omega (arith, c.touched_by-touched.ensures) in
     record {
-      behind = unkept_host;
+      between = unkept_host;
       sent = λ kept. absurd (cc);
       read = all_read g.D.Blocks.blocks g.D.BlocksMut.with g.met.D.BlocksMut.writes_one c.args.blocks.now
           c.moved_by-moved.result c.len-count.result c.loop-done.blocks c.len-count.ensures

@@ -3,7 +3,7 @@ use Rattle.mmc_bus.proofs.bus.Bus.read_with.Goals as goal
 
 pub returns : goal.returns
 returns g c = record {
-  behind = g.Self.Bus.view c.command.new.self;
+  between = g.Self.Bus.view c.command.new.self;
   commanded = c.command.ensures;
   read = reads 0 _ _ none_good;
 }

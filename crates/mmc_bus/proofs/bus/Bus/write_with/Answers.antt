@@ -4,7 +4,7 @@ use Rattle.mmc_bus.proofs.bus.Bus.write_with.Goals as goal
 
 pub returns : goal.returns
 returns g c = record {
-  behind = g.Self.Bus.view c.command.new.self;
+  between = g.Self.Bus.view c.command.new.self;
   commanded = c.command.ensures;
   unheard = λ command is err. refl;
   written = writes 0 _ none_accepted;

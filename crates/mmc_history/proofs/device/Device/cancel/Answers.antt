@@ -1,6 +1,8 @@
+use Rattle.std.proofs.Common.{ap}
+use Rattle.mmc_block.specs.Device.{DeviceView}
 use Rattle.mmc_block.specs.Execution.{cancelled_reply}
 use Rattle.mmc_block.specs.Execution.Event.{Cancel}
-use Rattle.mmc_history.proofs.ServingLemmas.{continues, goes_on, kept_by, same_withdrawn}
+use Rattle.mmc_history.proofs.ServingLemmas.{continues, goes_on, kept_by, same_by}
 use Rattle.mmc_history.proofs.device.Device.cancel.Goals as goal
 
 pub invariant_of-self : goal.invariant_of-self
@@ -8,28 +10,23 @@ invariant_of-self g c =
     let old = c.self.inside.device in
     let new = c.cancel-reply.new.self in
     let e = c.cancel-reply.ensures in
-    let same = same_withdrawn old new c.args.ticket c.cancel-reply.result e.cancelled e.refused in
-    goes_on g.B.Bus.view c.self.inside.opened (Cancel c.args.ticket) (cancelled_reply c.cancel-reply.result) old
-    c.self.inside.calls.past new c.then-self-inside.result.past (record {
-      noted = c.then-self-inside.ensures;
-      info = same.1;
-      kept = kept_by g.B.Bus.view old.bus new.bus same.0;
-      comes = λ kept. e.machine;
-    }) c.self.invariant
+    let same = same_by old new c.cancel-reply.result e.cancelled
+    (λ _ given. (ap (λ (d : DeviceView g.row.B.Denot). d.bus) given.waits, ap (λ (d : DeviceView g.row.B.Denot). d.info) given.waits))
+    e.refused in
+    goes_on g.B.Bus.view c.self.inside.opened (Cancel c.args.ticket) (cancelled_reply c.cancel-reply.result) old new
+    c.self.inside.calls.past c.then-self-inside.result.past c.then-self-inside.ensures same.1
+    (kept_by g.B.Bus.view old.bus new.bus same.0) (λ kept. e.machine) c.self.invariant
 
 pub returns : goal.returns
 returns g c =
     let old = c.self.inside.device in
     let new = c.cancel-reply.new.self in
     let e = c.cancel-reply.ensures in
-    let same = same_withdrawn old new c.args.ticket c.cancel-reply.result e.cancelled e.refused in
+    let same = same_by old new c.cancel-reply.result e.cancelled
+    (λ _ given. (ap (λ (d : DeviceView g.row.B.Denot). d.bus) given.waits, ap (λ (d : DeviceView g.row.B.Denot). d.info) given.waits))
+    e.refused in
     record {
-      continues = continues g.B.Bus.view c.self.inside.opened c.the_machine_has_its_laws.ensures (Cancel c.args.ticket)
-          (cancelled_reply c.cancel-reply.result) old c.self.inside.calls.past new c.then-self-inside.result.past c.args.self.now
-          c.self.view_is (record {
-            noted = c.then-self-inside.ensures;
-            info = same.1;
-            kept = kept_by g.B.Bus.view old.bus new.bus same.0;
-            comes = λ kept. e.machine;
-          }) c.self.invariant;
+      continues = continues g.B.Bus.view c.self.inside.opened c.an_execution_has_its_laws.ensures (Cancel c.args.ticket)
+          (cancelled_reply c.cancel-reply.result) old new c.self.inside.calls.past c.then-self-inside.result.past c.args.self.now
+          c.self.view_is c.then-self-inside.ensures same.1 (invariant_of-self g c);
     }

@@ -10,7 +10,7 @@ returns-clause-served g c kept =
     let view = g.B.Bus.view in
     let past = c.self.inside.calls.past in
     let bus = c.close.ensures.bus in
-    let told = tells view c.self.inside.opened c.the_machine_has_its_laws.ensures device (reverse past)
+    let told = tells view c.self.inside.opened c.an_execution_has_its_laws.ensures device (reverse past)
     (c.self.invariant (subst (λ b. (view b).is_kept ≡ true) bus kept)) in
     subst (λ (d : DeviceHistory g.row.B.Denot). HasServed d.info d.opened (view c.close.result) d.calls) c.self.view_is
     (subst (λ b. HasServed device.info c.self.inside.opened (view b) (reverse past)) (sym bus) told)

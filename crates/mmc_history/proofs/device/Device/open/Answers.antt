@@ -1,4 +1,4 @@
-use Rattle.std.proofs.Common.{[], ap, subst, sym, ◌∙◌}
+use Rattle.std.proofs.Common.{ap, subst, sym, ◌∙◌}
 use Rattle.std.specs.Prelude.{reverse}
 use Rattle.mmc_history.proofs.ServingLemmas.{serves_from, tells}
 use Rattle.mmc_history.specs.Serving.{IsServing}
@@ -14,5 +14,5 @@ invariant_of-result g c kept =
 
 pub returns-clause-served : goal.returns-clause-served
 returns-clause-served g c kept =
-    tells g.B.Bus.view c.of-opened.result c.the_machine_has_its_laws.ensures c.in_ok-device.device (reverse c.new.result.past)
+    tells g.B.Bus.view c.of-opened.result c.an_execution_has_its_laws.ensures c.in_ok-device.device (reverse c.new.result.past)
     (invariant_of-result g c kept)

@@ -7,21 +7,11 @@ pub invariant_of-self : goal.invariant_of-self
 invariant_of-self g c =
     let e = c.turn-answers.ensures in
     goes_on g.B.Bus.view c.self.inside.opened Turn (Answers c.turn-answers.result.items) c.self.inside.device
-    c.self.inside.calls.past c.turn-answers.new.self c.then-self-inside.result.past (record {
-      noted = c.then-self-inside.ensures;
-      info = e.same.0;
-      kept = e.kept;
-      comes = e.machine;
-    }) c.self.invariant
+    c.turn-answers.new.self c.self.inside.calls.past c.then-self-inside.result.past c.then-self-inside.ensures e.same.0 e.kept
+    e.machine c.self.invariant
 
 pub returns-clause-continues : goal.returns-clause-continues
 returns-clause-continues g c =
-    let e = c.turn-answers.ensures in
-    continues g.B.Bus.view c.self.inside.opened c.the_machine_has_its_laws.ensures Turn (Answers c.turn-answers.result.items)
-    c.self.inside.device c.self.inside.calls.past c.turn-answers.new.self c.then-self-inside.result.past c.args.self.now
-    c.self.view_is (record {
-      noted = c.then-self-inside.ensures;
-      info = e.same.0;
-      kept = e.kept;
-      comes = e.machine;
-    }) c.self.invariant
+    continues g.B.Bus.view c.self.inside.opened c.an_execution_has_its_laws.ensures Turn (Answers c.turn-answers.result.items)
+    c.self.inside.device c.turn-answers.new.self c.self.inside.calls.past c.then-self-inside.result.past c.args.self.now
+    c.self.view_is c.then-self-inside.ensures c.turn-answers.ensures.same.0 (invariant_of-self g c)

@@ -3,7 +3,7 @@ use Rattle.mmc_host.proofs.host.Host.read_with.Goals as goal
 
 pub returns : goal.returns
 returns g c = record {
-  behind = g.Self.Host.view c.send.new.self;
+  between = g.Self.Host.view c.send.new.self;
   sent = c.send.ensures;
   read = reads 0 _ _ none_good;
 }

@@ -4,7 +4,7 @@ use Rattle.mmc_host.proofs.host.Host.write_with.Goals as goal
 
 pub returns : goal.returns
 returns g c = record {
-  behind = g.Self.Host.view c.send.new.self;
+  between = g.Self.Host.view c.send.new.self;
   sent = c.send.ensures;
   unheard = λ silent. refl;
   written = writes 0 _ none_accepted;

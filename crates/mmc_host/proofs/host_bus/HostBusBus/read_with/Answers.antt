@@ -28,7 +28,7 @@ returns-in-Some-clause-read g c =
 pub returns-in-None-clause-read : goal.returns-in-None-clause-read
 returns-in-None-clause-read g c =
     rw (sym (c.in-None.ensures.cannot refl)) (record {
-      behind = bus_over (g.H.Host.view c.begin.new.self.host) c.begin.new.self.wire c.begin.new.self.is_misused;
+      between = bus_over (g.H.Host.view c.begin.new.self.host) c.begin.new.self.wire c.begin.new.self.is_misused;
       commanded = c.begin.ensures.commanded;
       read = reads 0 _ _ none_good;
     })

@@ -28,7 +28,7 @@ returns-in-Some-clause-written g c =
 pub returns-in-None-clause-written : goal.returns-in-None-clause-written
 returns-in-None-clause-written g c =
     rw (sym (c.in-None.ensures.cannot refl)) (record {
-      behind = bus_over (g.H.Host.view c.begin.new.self.host) c.begin.new.self.wire c.begin.new.self.is_misused;
+      between = bus_over (g.H.Host.view c.begin.new.self.host) c.begin.new.self.wire c.begin.new.self.is_misused;
       commanded = c.begin.ensures.commanded;
       unheard = λ command is err. refl;
       written = writes 0 _ none_accepted;

@@ -13,7 +13,7 @@ use Rattle.mmc_sdhci.proofs.sdhci.Sdhci.read_by_port.Goals as goal
 
 pub returns-then-not-is_ok : goal.returns-then-not-is_ok
 returns-then-not-is_ok g c = record {
-  behind = host_over (g.R.Registers.view c.send-heard.new.self.registers) c.send-heard.new.self.state c.send-heard.new.self.limits;
+  between = host_over (g.R.Registers.view c.send-heard.new.self.registers) c.send-heard.new.self.state c.send-heard.new.self.limits;
   sent = c.send-heard.ensures;
   read = reads 0 _ _ none_good;
 }
@@ -35,7 +35,7 @@ read_block-got-requires g c =
     let now = host_over (g.R.Registers.view c.loop-done.self.registers) c.loop-done.self.state c.loop-done.self.limits in
     let size : length c.block_mut.result.now ≡ 512 = omega arith in
     subst (λ n. Where now (IsToCome now.state n)) (sym size)
-    (comes_next now c.args.command.transfer (length (g.D.Blocks.blocks c.args.blocks.now)) c.loop-done.done c.requires.behind
+    (comes_next now c.args.command.transfer (length (g.D.Blocks.blocks c.args.blocks.now)) c.loop-done.done c.requires.to_come
     (let count = c.len-count.ensures in omega (arith, count)) c.loop-done.invariant.2)
 
 pub returns-then-not-is_good : goal.returns-then-not-is_good
@@ -51,7 +51,7 @@ returns-then-not-is_good g c =
     let new = host_over (g.R.Registers.view c.read_block-got.new.self.registers) c.read_block-got.new.self.state
     c.read_block-got.new.self.limits in
     record {
-      behind = after;
+      between = after;
       sent = c.send-heard.ensures;
       read = reads_none c.loop-done.done now c.loop-done.blocks _ c.read_block-got.result left new
           c.loop-done.invariant.0 below long (λ is. c.is_good.ensures.no c.if-not-is_good.true is)
@@ -87,7 +87,7 @@ returns g c =
     c.send-heard.new.self.limits in
     let now = host_over (g.R.Registers.view c.loop-done.self.registers) c.loop-done.self.state c.loop-done.self.limits in
     record {
-      behind = after;
+      between = after;
       sent = c.send-heard.ensures;
       read = reads _ _ _ (subst (λ n. AreGood HostRead g.D.Blocks.blocks g.D.BlocksMut.with after c.args.blocks.now n now
           c.loop-done.blocks) end c.loop-done.invariant.0);

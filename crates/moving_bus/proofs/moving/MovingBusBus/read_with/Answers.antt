@@ -32,7 +32,7 @@ returns-then-not-is_good g c =
     let below : c.loop-done.done < length (g.D.Blocks.blocks c.loop-done.blocks) = omega (arith, same) in
     let long : length left ≡ 512 = omega arith in
     record {
-      behind = g.B.Bus.view c.command-reply.new.self;
+      between = g.B.Bus.view c.command-reply.new.self;
       commanded = c.command-reply.ensures;
       read = reads_none c.loop-done.done (g.B.Bus.view c.loop-done.self.bus) c.loop-done.blocks _ c.read_data-got.result left
           (g.B.Bus.view c.read_data-got.new.self) c.loop-done.invariant.0 below long
@@ -47,7 +47,7 @@ pub returns : goal.returns
 returns g c =
     let end : c.loop-done.done ≡ c.len-count.result = omega arith in
     record {
-      behind = g.B.Bus.view c.command-reply.new.self;
+      between = g.B.Bus.view c.command-reply.new.self;
       commanded = c.command-reply.ensures;
       read = reads _ _ _ (subst (λ n. AreGood BlockRead g.D.Blocks.blocks g.D.BlocksMut.with (g.B.Bus.view c.command-reply.new.self)
           c.args.blocks.now n (g.B.Bus.view c.loop-done.self.bus) c.loop-done.blocks) end c.loop-done.invariant.0);
