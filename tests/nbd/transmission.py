@@ -1,5 +1,6 @@
 """The requests and their replies, by hand."""
 import random
+import re
 import struct
 import sys
 from pathlib import Path
@@ -227,7 +228,27 @@ def serves_large_cards(trial):
             trial.want("128 MiB: what is saved", saved.read() == random_bytes(7, MIB), True)
 
 
+def heals_by_rules(trial):
+    """A fault in each two hundredth exchange by chance, more than a card file may plan: nothing is lost, and it is said what fell and that
+    attempts failed. A sector that can't be read is EIO in each request for it, and in no other."""
+    card, data = trial.file("card", trial.new("--kind", "sd", "--sectors", "24576")), random_bytes(11, 12 * MIB)
+    with Session(trial, card, "--fault", "random 1/200 any", "--seed", "7", "--stats") as session:
+        session.go()
+        parts = range(0, len(data), 64 * 1024)
+        trial.want("by chance: written", {session.write(k, data[k:k + 64 * 1024]) for k in parts}, {0})
+        trial.want("by chance: read", all(session.read(k, 64 * 1024) == (0, data[k:k + 64 * 1024]) for k in parts), True)
+        rest, status, lines = session.disconnect()
+        exchanges, fell, planned, attempts, *failed = (int(number) for number in re.findall(r"\d+", "".join(lines)))
+        trial.want("by chance: the end", (rest, status, len(lines), len(failed)), (b"", 0, 1, 7))
+        trial.want("by chance: what fell", (256 < fell <= planned < exchanges // 100, 0 < sum(failed[:5]) < attempts), (True, True))
+    with Session(trial, card, "--fault", "read 5-6 no-block") as session:
+        session.go()
+        errors = [session.read(512 * k, 512)[0] for k in range(9)]
+        trial.want("sectors that can't be read", errors, [0, 0, 0, 0, 0, EIO, EIO, 0, 0])
+        ends_well(trial, "sectors that can't be read", session)
+
+
 def try_all(trial):
     for test in (reads_and_writes, refuses_requests, breaks_off, protects, trims, zeroes, answers_each_once, cuts_inside, flushes,
-                 answers_before_more_comes, answers_before_it_leaves, fails, serves_large_cards):
+                 answers_before_more_comes, answers_before_it_leaves, fails, heals_by_rules, serves_large_cards):
         trial.attempt(test)

@@ -147,6 +147,21 @@ fn put_usage(rt: &(impl Eprint + AllocGlobal), name: CommandName, words: &[&str]
     }
 }
 
+// Tells which file a fault is about, and why.
+fn put_more<'a>(
+    rt: &(impl Files + Eprint + AllocGlobal),
+    name: CommandName,
+    words: &'a [&'a str],
+    fault: ServeFault,
+) {
+    let Ok(Some(command)) = name.words(rt.alloc()) else {
+        return;
+    };
+    if let Ok(matches) = command.try_get_matches_from(words) {
+        put_hint(rt, &matches, fault);
+    }
+}
+
 // The first line of a text.
 fn first_line(text: &str) -> &str {
     text.lines().next().unwrap_or(text)
@@ -154,10 +169,10 @@ fn first_line(text: &str) -> &str {
 
 /// Runs a command with its words, of which its name is the first, and gives the exit status: 0 where all went well, and 2
 /// otherwise, with a line on standard error, and one that says more where there is something to say.
-pub fn run(
+pub fn run<'a>(
     rt: &(impl Files + Input + Print + Eprint + AllocGlobal),
     name: CommandName,
-    words: &[&str],
+    words: &'a [&'a str],
 ) -> ExitCode
     ensures { IsStatus result.status }
 {
@@ -170,7 +185,7 @@ pub fn run(
         Err(fault) => {
             let _ = eprintln!(rt; "cardtool: {fault}");
             if let Some(fault) = file_fault(fault) {
-                put_hint(rt, words, fault);
+                put_more(rt, name, words, fault);
             }
             ExitCode::from(REFUSED)
         }

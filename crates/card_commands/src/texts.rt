@@ -21,20 +21,34 @@ error says what. `serve` has 1 too, where a request failed or was refused. docs/
 pub(crate) const SERVE: &str =
     "usage: cardtool serve --card FILE --script FILE [--image FILE] [--trace N]
                       [--explain] [--vcd FILE] [--save FILE]
+                      [--fault RULE].. [--seed N] [--stats]
 
 Serves the requests of a script on the card of a card file, with a line for each submission, cancellation and answer.
 
     --card FILE    the card file: registers, delays and planned faults
     --script FILE  the script: a request, a cancellation, `turn` or `run` a line
     --image FILE   what the card holds at first, all partitions in order, 512 bytes a sector
-    --trace N      shows the last N exchanges with the card behind the answers, from 1 to 65536
-    --explain      puts words behind each exchange that is shown; without --trace it shows the last 65536
+    --trace N      shows the last N exchanges with the card after the answers, from 1 to 65536
+    --explain      puts words after each exchange that is shown; without --trace it shows the last 65536
     --vcd FILE     writes the exchanges as a waveform of CLK, CMD and DAT0 to DAT7; FILE must not be there yet
     --save FILE    writes what the card holds at the end, as an image has it; FILE must not be there yet
+    --fault RULE   plans faults by a rule as the exchanges come; it may stand more than once, and the first rule that is about an
+                   exchange counts:
+                       N FAULT           in exchange N, counted from 0
+                       from N FAULT      in each exchange from N on
+                       cmd C FAULT       in each CMD C, and with cmd C K FAULT in the K-th, counted from 1
+                       read S FAULT      in each block of sector S that is read, and with read S-T FAULT of S to T
+                       write S FAULT     in each block that is written, likewise
+                       random A/B FAULT  in A of B exchanges, by chance
+                   FAULT is as in a card file, lose-reply or bad-block for instance, or any: one that is of such an exchange, by
+                   chance
+    --seed N       other chances; 0 where it is left out
+    --stats        says at the end on standard error what happened: exchanges, faults that fell, attempts, settlings, resets
 
 Status: 0 where every request was served, 1 where one failed or was refused, 2 where nothing was served or the output failed.
 
     cardtool serve --card examples/sdsc.card --script examples/first.script --trace 6 --explain
+    cardtool serve --card examples/sdsc.card --script examples/first.script --fault 'cmd 13 lose-reply' --explain
 ";
 
 /// That of `new`.
@@ -93,10 +107,10 @@ Status: 0, or 2 where the digits aren't those of such a register.
 
 /// That of `nbd`.
 pub(crate) const NBD: &str =
-    "usage: cardtool nbd --card FILE [--image FILE] [--save FILE] [--part PART] [--stats]
+    "usage: cardtool nbd --card FILE [--image FILE] [--save FILE] [--part PART] [--fault RULE].. [--seed N] [--stats]
 
 Serves the card of a card file as a network block device (NBD, fixed newstyle) on standard input and output, with the faults that
-the card file plans. Exports are the partitions that the card has, by their names. A client starts it (libnbd's connect_command), or socat
+the card file and rules plan. Exports are the partitions that the card has, by their names. A client starts it (libnbd's connect_command), or socat
 gives it a socket.
 
     --card FILE    the card file: registers, delays and planned faults; up to 4194304 sectors, which are 2 GiB
@@ -104,12 +118,15 @@ gives it a socket.
     --save FILE    writes what the card holds at the end, of all partitions in order; FILE must not be there yet
     --part PART    the partition that goes by the empty name, user where it is left out: user, boot1, boot2, gp1, gp2, gp3 or
                    gp4; it is saved alone
+    --fault RULE   plans faults by a rule as the exchanges come: cardtool help serve says which there are
+    --seed N       other chances; 0 where it is left out
     --stats        says at the end on standard error what happened: exchanges, faults that fell, attempts, settlings, resets
 
 Status: 0 where the client or the end of the input ended the session, 2 where something was refused, or couldn't be read or
 written. The card is saved in each case once it was opened.
 
     socat UNIX-LISTEN:card.sock EXEC:'cardtool nbd --card examples/sdsc.card --save after.img',nofork
+    socat UNIX-LISTEN:card.sock EXEC:'cardtool nbd --card examples/sdsc.card --fault \\\"random 1/200 any\\\" --stats',nofork
 ";
 
 /// That of `help`.

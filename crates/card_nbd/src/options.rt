@@ -1,12 +1,14 @@
 // The words of the command.
 use crate::fault::NbdFault;
+use card_rules::Rules;
+use card_served::rules_given;
 use clap::{Arg, ArgAction, ArgMatches, Command};
 use mmc_bus::Part;
 use nbd_server::part_by;
 use std::alloc::{AllocError, Global};
 
 /// What the words give.
-#[derive(Clone, Copy, Debug, PartialEq, Eq)]
+#[derive(Drop)]
 pub struct Options<'a> {
     /// The name of the card file.
     pub card: &'a str,
@@ -18,6 +20,8 @@ pub struct Options<'a> {
     pub part: Option<Part>,
     /// Whether a line at the end says what happened.
     pub stats: bool,
+    /// The rules by which faults are planned.
+    pub rules: Rules,
 }
 
 /// The command as `clap` reads it.
@@ -30,6 +34,12 @@ pub fn nbd_command<'a>(alloc: Global) -> Result<Command<'a>, AllocError> {
         .arg(Arg::new(alloc, "image").long("image"))?
         .arg(Arg::new(alloc, "save").long("save"))?
         .arg(Arg::new(alloc, "part").long("part"))?
+        .arg(
+            Arg::new(alloc, "fault")
+                .long("fault")
+                .action(ArgAction::Append),
+        )?
+        .arg(Arg::new(alloc, "seed").long("seed"))?
         .arg(
             Arg::new(alloc, "stats")
                 .long("stats")
@@ -51,7 +61,7 @@ fn part_given(matches: &ArgMatches<'_>) -> Result<Option<Part>, NbdFault> {
 /// The values of the words, of which `nbd` is the first.
 ///
 /// # Errors
-/// `Usage` for other words, `NoPart`; `Unserved(NoMemory)`.
+/// `Usage` for other words, `NoPart`; `Unserved` with `Rule` or `NoMemory`.
 pub fn options_given<'a>(alloc: Global, words: &'a [&'a str]) -> Result<Options<'a>, NbdFault> {
     let command = nbd_command(alloc)?;
     let Ok(matches) = command.try_get_matches_from(words) else {
@@ -65,6 +75,7 @@ pub fn options_given<'a>(alloc: Global, words: &'a [&'a str]) -> Result<Options<
         image: matches.get_str("image"),
         save: matches.get_str("save"),
         part: part_given(&matches)?,
+        rules: rules_given(alloc, &matches)?,
         stats: matches.get_str("stats") == Some("true"),
     })
 }

@@ -2,11 +2,11 @@
 use crate::fault::NbdFault;
 use crate::files::read_files;
 use crate::options::{Options, options_given};
-use card_served::{ServeFault, Stats, begun_where_named, built_large, save};
+use card_rules::{RuledCard, addressing_of};
+use card_served::{ServeFault, begun_where_named, built_large, put_stats, save};
 use card_text::card_file::CardFile;
 use mmc_block::BlockDev;
 use mmc_bus::Part;
-use mmc_card_sim::SimCard;
 use nbd_server::{Desk, SessionFault, serve};
 use std::alloc::Global;
 use std::io::{self, BufReader, BufWriter, Input, Read, Write};
@@ -18,9 +18,9 @@ const AT_ONCE: usize = 1_048_576;
 // The device of a card, which has the partition that is to go by the empty name.
 fn opened(
     alloc: Global,
-    card: SimCard,
+    card: RuledCard,
     part: Option<Part>,
-) -> Result<(Desk<SimCard>, Part), NbdFault> {
+) -> Result<(Desk<RuledCard>, Part), NbdFault> {
     let device = match BlockDev::open(alloc, card) {
         Ok(device) => device,
         Err((_, fault)) => return Err(NbdFault::Unserved(ServeFault::from(fault))),
@@ -35,7 +35,7 @@ fn opened(
 // Serves a session on these streams.
 fn serve_streams<R: Read + Drop, W: Write + Drop>(
     alloc: Global,
-    desk: &mut Desk<SimCard>,
+    desk: &mut Desk<RuledCard>,
     default: Part,
     input: R,
     out: W,
@@ -56,30 +56,24 @@ fn serve_streams<R: Read + Drop, W: Write + Drop>(
 // Serves as the options say.
 fn serve_card<R: Files + Input + Print + Eprint + AllocGlobal>(
     rt: &R,
-    options: &Options<'_>,
+    options: Options<'_>,
 ) -> Result<(), NbdFault> {
     let alloc = rt.alloc();
     let CardFile { spec, plan } = read_files(rt, options.card, options.image)?;
+    let addressing = addressing_of(&spec);
     let card = built_large(alloc, spec, plan.as_slice())?;
+    let card = RuledCard::new(card, options.rules, addressing);
     let (mut desk, default) = opened(alloc, card, options.part)?;
     let file = begun_where_named(rt, options.save, ServeFault::Save)?;
     let served = serve_streams(alloc, &mut desk, default, rt.reader(), io::writer(rt));
     let healed = desk.device().healed();
     let card = desk.close();
     if options.stats {
-        let stats = Stats {
-            exchanges: card.exchanges(),
-            planned: plan.len() as u64,
-            fell: card.faults(),
-            healed,
-        };
-        let _ = eprintln!(rt; "cardtool: {stats}");
+        put_stats(rt, &card, plan.len(), healed);
     }
     if let Some(mut file) = file {
-        if save(&card, options.part, &mut file.out).is_err() {
-            return Err(NbdFault::Unserved(ServeFault::Save));
-        }
-        file.finish(rt)?;
+        let written = save(&card.card, options.part, &mut file.out);
+        file.finish(rt, written)?;
     }
     served
 }
@@ -96,5 +90,5 @@ pub fn nbd<R: Files + Input + Print + Eprint + AllocGlobal>(
     words: &[&str],
 ) -> Result<(), NbdFault> {
     let options = options_given(rt.alloc(), words)?;
-    serve_card(rt, &options)
+    serve_card(rt, options)
 }

@@ -2,6 +2,7 @@
 ghost use Rattle.std.specs.Prelude.{◌≡◌};
 ghost use Rattle.card_served.specs.declared.fault.ServeFault.TheVariants.{NoMemory};
 
+use card_rules::RuleFault;
 use card_text::fault::{CardFault, ScriptFault};
 use mmc_block::OpenFault;
 use mmc_card_sim::BuildFault;
@@ -71,6 +72,18 @@ pub enum ServeFault {
     /// The file of `--save` is there already, or couldn't be written.
     #[error("the file of --save is there already, or can't be written")]
     Save,
+    /// A rule of `--fault` or the number of `--seed` isn't of its grammar.
+    #[error("a rule of --fault, or --seed")]
+    Rule,
+}
+
+impl From<RuleFault> for ServeFault {
+    fn from(fault: RuleFault) -> ServeFault {
+        match fault {
+            RuleFault::BadRule => ServeFault::Rule,
+            RuleFault::NoMemory => ServeFault::NoMemory,
+        }
+    }
 }
 
 impl From<CardFault> for ServeFault {

@@ -1,11 +1,14 @@
 // A file that is there whole or not at all.
 use crate::fault::ServeFault;
-use std::fs::{self, File, OpenOptions};
-use std::io::{BufWriter, ErrorKind, Write};
+use std::fs::{self, OpenOptions};
+use std::io::{self, BufWriter, ErrorKind, Write};
 use std::rt::Files;
 
-/// A file that is written under another name, its own with `.part` after it, and gets its own once it is whole: so whatever ends the
-/// program, a signal too, the name has the whole file or none. What such an end leaves under the other name is overwritten.
+// How many names of files that are being written are tried.
+const NAMES: u32 = 100;
+
+/// A file that is written under another name, which nothing had, and gets its own once it is whole: so whatever ends the program, a
+/// signal too, the name has the whole file or none, and no other file is touched.
 #[derive(Drop)]
 pub struct WholeFile<'a, F: Write + Drop> {
     /// What is written.
@@ -15,19 +18,46 @@ pub struct WholeFile<'a, F: Write + Drop> {
     unmade: ServeFault,
 }
 
-// Whether nothing has this name.
-fn is_free<R: Files>(rt: &R, name: &str) -> bool {
-    match File::open(rt, name) {
+// Whether nothing has this name, not even a link that leads nowhere.
+fn is_free(rt: &impl Files, name: &str) -> bool {
+    match fs::symlink_metadata(rt, name) {
         Ok(_) => false,
         Err(error) => error.kind() == ErrorKind::NotFound,
     }
 }
 
-/// Begins a file that isn't there yet.
-///
-/// # Errors
-/// The fault `unmade`, where it is there or can't be made, or at the end can't be written or named; `NoMemory`.
-pub fn begun<'a, R: Files + AllocGlobal>(
+// A name for a file that is being written: its own with `.part` after it, then with `.part2`, `.part3` and so on.
+fn interim_name(rt: &impl AllocGlobal, name: &str, number: u32) -> Result<String, ServeFault> {
+    let interim = match number {
+        1 => format!(in rt.alloc(); "{name}.part")?,
+        _ => format!(in rt.alloc(); "{name}.part{number}")?,
+    };
+    Ok(interim)
+}
+
+// A new file, by the first such name that nothing has.
+fn interim_file<R: Files + AllocGlobal>(
+    rt: &R,
+    name: &str,
+    unmade: ServeFault,
+) -> Result<(String, R::File), ServeFault> {
+    for number in 1..=NAMES {
+        let interim = interim_name(rt, name, number)?;
+        match OpenOptions::new()
+            .write(true)
+            .create_new(true)
+            .open(rt, interim.as_str())
+        {
+            Ok(file) => return Ok((interim, file)),
+            Err(error) if error.kind() == ErrorKind::AlreadyExists => {}
+            Err(_) => return Err(unmade),
+        }
+    }
+    Err(unmade)
+}
+
+// Begins a file that isn't there yet.
+fn begun<'a, R: Files + AllocGlobal>(
     rt: &R,
     name: &'a str,
     unmade: ServeFault,
@@ -35,16 +65,9 @@ pub fn begun<'a, R: Files + AllocGlobal>(
     if !is_free(rt, name) {
         return Err(unmade);
     }
-    let interim = format!(in rt.alloc(); "{name}.part")?;
-    let Ok(file) = OpenOptions::new()
-        .write(true)
-        .create(true)
-        .truncate(true)
-        .open(rt, interim.as_str())
-    else {
-        return Err(unmade);
-    };
+    let (interim, file) = interim_file(rt, name, unmade)?;
     let Ok(out) = BufWriter::new(rt.alloc(), file) else {
+        let _ = fs::remove_file(rt, interim.as_str());
         return Err(ServeFault::NoMemory);
     };
     Ok(WholeFile {
@@ -55,7 +78,10 @@ pub fn begun<'a, R: Files + AllocGlobal>(
     })
 }
 
-/// The same, where one is named.
+/// Begins a file that isn't there yet, where one is named.
+///
+/// # Errors
+/// The fault `unmade`, where it is there or can't be made, or at the end can't be written or named; `NoMemory`.
 pub fn begun_where_named<'a, R: Files + AllocGlobal>(
     rt: &R,
     name: Option<&'a str>,
@@ -68,20 +94,23 @@ pub fn begun_where_named<'a, R: Files + AllocGlobal>(
 }
 
 impl<F: Write + Drop> WholeFile<'_, F> {
-    /// Writes out what a buffer holds back, and gives the file its name, unless another one has got it meanwhile.
+    /// Writes out what a buffer holds back, and gives the file its name, unless another one has got it meanwhile. Where that can't
+    /// be done, or what was written before failed, the file is removed.
     ///
     /// # Errors
-    /// The fault of `begun`.
-    pub fn finish(self, rt: &impl Files) -> Result<(), ServeFault> {
+    /// The fault of `begun_where_named`, where it was removed.
+    pub fn finish(self, rt: &impl Files, written: io::Result<()>) -> Result<(), ServeFault> {
         let WholeFile {
             mut out,
             name,
             interim,
             unmade,
         } = self;
-        if out.flush().is_err() || !is_free(rt, name) {
-            return Err(unmade);
+        let is_written = written.is_ok() && out.flush().is_ok();
+        if is_written && is_free(rt, name) && fs::rename(rt, interim.as_str(), name).is_ok() {
+            return Ok(());
         }
-        fs::rename(rt, interim.as_str(), name).map_err(|_| unmade)
+        let _ = fs::remove_file(rt, interim.as_str());
+        Err(unmade)
     }
 }

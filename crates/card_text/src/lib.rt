@@ -8,7 +8,7 @@ pub mod cut;
 mod data;
 pub mod event;
 pub mod fault;
-mod fault_text;
+pub mod fault_text;
 pub mod hexadecimal;
 pub mod input;
 pub mod laws;

@@ -1,18 +1,19 @@
 // Serves a script, and shows or draws the exchanges.
 ghost use Rattle.std.specs.Prelude.{◌≤◌, None, Some};
 ghost use Rattle.mmc_bus.specs.declared.trace.TheConstants.{MAX_KEPT};
-ghost use Rattle.mmc_card_sim.specs.SimView.{sim_bus_view};
+ghost use Rattle.card_rules.specs.RuledCards.{ruled_view};
 ghost use Rattle.cardtool.specs.More.{IsShown, trace_of};
 ghost use Rattle.cardtool.specs.Whole.{IsServedOver};
 
-use crate::explained::{Kept, kept_exchanges};
-use crate::serve::{serve_counting, serve_traced, serve_untraced};
+use crate::explained::kept_exchanges;
+use crate::serve::{serve_counting, serve_traced};
 use crate::trace::traced;
-use crate::watched::WatchedCard;
+use card_rules::RuledCard;
 use card_served::ServeFault;
 use card_text::script::Script;
 use card_wave::WaveBus;
-use mmc_bus::Bus;
+use mmc_block::Healed;
+use mmc_bus::{Bus, Exchange};
 use std::alloc::Global;
 use std::io::{self, Write};
 
@@ -32,8 +33,10 @@ pub enum Shown {
 pub struct Served<B: Drop> {
     /// The bus.
     pub bus: B,
-    /// What is to be explained, or nothing where memory was refused for it.
-    pub kept: Option<Kept>,
+    /// The exchanges that are to be explained, the oldest first, or nothing where memory was refused for them.
+    pub kept: Option<Vec<Exchange>>,
+    /// What was met and healed.
+    pub healed: Healed,
     /// The exit status.
     pub status: Result<u8, ServeFault>,
 }
@@ -56,17 +59,20 @@ fn serve_kept<B: Bus + Drop, W: Write>(
             return Served {
                 bus,
                 kept: None,
+                healed: Healed::new(),
                 status: Err(ServeFault::NoMemory),
             };
         }
     };
     let (bus, healed, status) = serve_counting(alloc, bus, script, out);
-    let kept = match kept_exchanges(alloc, &bus) {
-        Ok(exchanges) => Some(Kept { exchanges, healed }),
-        Err(_) => None,
-    };
+    let kept = kept_exchanges(alloc, &bus).ok();
     let bus = bus.into_inner();
-    Served { bus, kept, status }
+    Served {
+        bus,
+        kept,
+        healed,
+        status,
+    }
 }
 
 /// Serves a script on the card of a bus, as `serve_over` does; the exchanges that are to be explained come back in place of a
@@ -84,18 +90,20 @@ pub fn serve_shown<B: Bus + Drop, W: Write>(
     match shown {
         Shown::Explained(n) => serve_kept(alloc, bus, script, n, out),
         Shown::Trace(n) => {
-            let (bus, status) = serve_traced(alloc, bus, script, n, out);
+            let (bus, healed, status) = serve_traced(alloc, bus, script, n, out);
             Served {
                 bus,
                 kept: None,
+                healed,
                 status,
             }
         }
         Shown::Nothing => {
-            let (bus, status) = serve_untraced(alloc, bus, script, out);
+            let (bus, healed, status) = serve_counting(alloc, bus, script, out);
             Served {
                 bus,
                 kept: None,
+                healed,
                 status,
             }
         }
@@ -114,29 +122,29 @@ pub struct Drawn<V: Write + Drop> {
 /// The same, with a waveform of all exchanges where one is wanted: a fault in writing it changes nothing else.
 pub fn serve_drawn<W: Write, V: Write + Drop>(
     alloc: Global,
-    card: WatchedCard,
+    card: RuledCard,
     script: Script,
     shown: Shown,
     wave: Option<V>,
     out: &mut W,
-) -> (Served<WatchedCard>, Option<Drawn<V>>)
+) -> (Served<RuledCard>, Option<Drawn<V>>)
     requires { IsShown shown }
-    ensures { IsServedOver (sim_bus_view card.card) (sim_bus_view result.0.bus.card) script (trace_of shown) (W.contents out.old) (W.contents out.new) result.0.status }
+    ensures { IsServedOver (ruled_view card) (ruled_view result.0.bus) script (trace_of shown) (W.contents out.old) (W.contents out.new) result.0.status }
 {
     let Some(wave) = wave else {
         return (serve_shown(alloc, card, script, shown, out), None);
     };
-    let Served { bus, kept, status } = serve_shown(
-        alloc,
-        WaveBus::new(card, wave),
-        script,
-        shown,
-        out,
-    );
+    let Served {
+        bus,
+        kept,
+        healed,
+        status,
+    } = serve_shown(alloc, WaveBus::new(card, wave), script, shown, out);
     let (card, wave, written) = bus.into_parts();
     let served = Served {
         bus: card,
         kept,
+        healed,
         status,
     };
     (served, Some(Drawn { out: wave, written }))

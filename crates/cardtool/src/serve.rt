@@ -55,40 +55,26 @@ pub fn serve_counting<B: Bus + Drop, W: Write>(
     (bus, healed, outcome(served))
 }
 
-/// The same without the counts.
-pub fn serve_untraced<B: Bus + Drop, W: Write>(
-    alloc: Global,
-    bus: B,
-    script: Script,
-    out: &mut W,
-) -> (B, Result<u8, ServeFault>)
-    ensures served { IsServedOver (B.view bus) (B.view result.0) script None (W.contents out.old) (W.contents out.new) result.1 }
-    ensures unwritten { IfErr result.1 (λ fault. IsUnwritten (W.contents out.old) (W.contents out.new) fault) }
-{
-    let (bus, _, status) = serve_counting(alloc, bus, script, out);
-    (bus, status)
-}
-
-/// Serves a script, and writes the last `n` exchanges.
+/// The same, and writes the last `n` exchanges.
 pub fn serve_traced<B: Bus + Drop, W: Write>(
     alloc: Global,
     bus: B,
     script: Script,
     n: u32,
     out: &mut W,
-) -> (B, Result<u8, ServeFault>)
+) -> (B, Healed, Result<u8, ServeFault>)
     requires one { 1 ≤ n }
     requires many { n ≤ MAX_KEPT }
-    ensures served { IsServedOver (B.view bus) (B.view result.0) script (Some n) (W.contents out.old) (W.contents out.new) result.1 }
-    ensures unwritten { IfErr result.1 (λ fault. IsUnwritten (W.contents out.old) (W.contents out.new) fault) }
+    ensures served { IsServedOver (B.view bus) (B.view result.0) script (Some n) (W.contents out.old) (W.contents out.new) result.2 }
+    ensures unwritten { IfErr result.2 (λ fault. IsUnwritten (W.contents out.old) (W.contents out.new) fault) }
 {
     let bus = match traced(alloc, bus, n) {
         Ok(bus) => bus,
-        Err(bus) => return (bus, Err(ServeFault::NoMemory)),
+        Err(bus) => return (bus, Healed::new(), Err(ServeFault::NoMemory)),
     };
-    let (bus, served) = serve_untraced(alloc, bus, script, out);
+    let (bus, healed, served) = serve_counting(alloc, bus, script, out);
     let ended = end_with_trace(&bus, n, served, out);
-    (bus.into_inner(), ended)
+    (bus.into_inner(), healed, ended)
 }
 
 /// Opens the card of a bus, serves a script on it, and takes turns until each request has its answer, with a line for each
@@ -110,10 +96,11 @@ pub fn serve_over<B: Bus + Drop, W: Write>(
     ensures served { IsServedOver (B.view bus) (B.view result.0) script trace (W.contents out.old) (W.contents out.new) result.1 }
     ensures unwritten { IfErr result.1 (λ fault. IsUnwritten (W.contents out.old) (W.contents out.new) fault) }
 {
-    match trace {
+    let (bus, _, status) = match trace {
         Some(n) => serve_traced(alloc, bus, script, n, out),
-        None => serve_untraced(alloc, bus, script, out),
-    }
+        None => serve_counting(alloc, bus, script, out),
+    };
+    (bus, status)
 }
 
 /// Serves a script on a new card of a spec, with these faults planned: at most 256, for different exchanges, each below

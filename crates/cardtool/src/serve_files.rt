@@ -4,16 +4,19 @@ ghost use Rattle.std.specs.Option.{ForSome};
 ghost use Rattle.mmc_bus.specs.declared.trace.TheConstants.{MAX_KEPT};
 ghost use Rattle.cardtool.specs.More.{IsShown};
 
+use crate::beside::Beside;
 use crate::explained::{known_card, put_explained};
 use crate::files::{FilesRead, read_files};
-use crate::more::{Drawn, Served, Shown, serve_drawn};
+use crate::more::{Drawn, Shown, serve_drawn};
 use crate::options_given::Options;
 use crate::serve::serve;
-use crate::watched::WatchedCard;
+use card_rules::RuledCard;
 use card_served::{
-    ServeFault, WholeFile, begun_where_named, built, named_file, named_new_file, opened, save,
+    ServeFault, WholeFile, begun_where_named, built, named_file, named_new_file, opened, put_stats,
+    save,
 };
 use mmc_bus::MAX_KEPT;
+use mmc_card_sim::SimCard;
 use std::alloc::Global;
 use std::io::{self, BufWriter, Read, Write};
 use std::rt::Files;
@@ -64,27 +67,27 @@ fn finish_wave<V: Write + Drop>(drawn: Option<Drawn<V>>) -> Result<(), ServeFaul
 // Writes the image of a card, where it is to be saved.
 fn finish_save<F: Write + Drop>(
     rt: &impl Files,
-    watched: &WatchedCard,
+    card: &SimCard,
     file: Option<WholeFile<'_, F>>,
 ) -> Result<(), ServeFault> {
     let Some(mut file) = file else {
         return Ok(());
     };
-    match save(&watched.card, None, &mut file.out) {
-        Ok(()) => file.finish(rt),
-        Err(_) => Err(ServeFault::Save),
-    }
+    let written = save(card, None, &mut file.out);
+    file.finish(rt, written)
 }
 
 // Serves, and explains, draws and saves as the options say.
-fn serve_more<R: Files + Print + AllocGlobal, C: Read, S: Read, I: Read>(
+fn serve_more<R: Files + Print + Eprint + AllocGlobal, C: Read, S: Read, I: Read>(
     rt: &R,
     card: &mut C,
     script: &mut S,
     image: &mut Option<I>,
     options: &Options<'_>,
+    beside: Beside,
 ) -> Result<u8, ServeFault> {
     let alloc = rt.alloc();
+    let Beside { rules, stats } = beside;
     let FilesRead { spec, plan, script } = read_files(alloc, card, script, image)?;
     let known = known_card(&spec);
     let card = built(alloc, spec, plan.as_slice())?;
@@ -93,17 +96,18 @@ fn serve_more<R: Files + Print + AllocGlobal, C: Read, S: Read, I: Read>(
     let Ok(mut out) = BufWriter::new(alloc, io::writer(rt)) else {
         return Err(ServeFault::NoMemory);
     };
-    let card = WatchedCard::new(card);
+    let card = RuledCard::new(card, rules, known.addressing);
     let (served, drawn) = serve_drawn(alloc, card, script, shown(options), wave, &mut out);
-    let Served { bus, kept, status } = served;
-    let explained = match (kept, &status) {
-        (Some(kept), Ok(_)) => put_explained(alloc, known, &kept, &bus, plan.as_slice(), &mut out),
-        _ => Ok(()),
-    };
+    let explained = put_explained(alloc, known, &served, plan.as_slice(), &mut out);
     let flushed = out.flush();
-    finish_wave(drawn)?;
-    finish_save(rt, &bus, image)?;
-    let status = status?;
+    let drawn = finish_wave(drawn);
+    let saved = finish_save(rt, &served.bus.card, image);
+    if stats {
+        put_stats(rt, &served.bus, plan.len(), served.healed);
+    }
+    drawn?;
+    saved?;
+    let status = served.status?;
     explained?;
     match flushed {
         Ok(()) => Ok(status),
@@ -118,14 +122,16 @@ fn serve_more<R: Files + Print + AllocGlobal, C: Read, S: Read, I: Read>(
 /// `ReadCard`, `ReadScript` or `ReadImage` of a file that can't be opened; then those of `serve`; `Vcd` and `Save` of the files
 /// that are written.
 pub fn serve_files(
-    rt: &(impl Files + Print + AllocGlobal),
+    rt: &(impl Files + Print + Eprint + AllocGlobal),
     options: &Options<'_>,
+    beside: Beside,
 ) -> Result<u8, ServeFault> {
     let mut card = opened(rt, options.card, ServeFault::ReadCard)?;
     let mut script = opened(rt, options.script, ServeFault::ReadScript)?;
     let mut image = named_file(rt, options.image, ServeFault::ReadImage)?;
-    if options.explains || options.vcd.is_some() || options.save.is_some() {
-        serve_more(rt, &mut card, &mut script, &mut image, options)
+    let is_more = options.explains || options.vcd.is_some() || options.save.is_some();
+    if is_more || beside.asks() {
+        serve_more(rt, &mut card, &mut script, &mut image, options, beside)
     } else {
         serve_buffered(rt, &mut card, &mut script, &mut image, options.trace)
     }

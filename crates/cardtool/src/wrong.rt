@@ -49,9 +49,17 @@ pub fn put_usage(rt: &(impl Eprint + AllocGlobal), words: &[&str], for_people: b
 }
 
 /// Tells why a card isn't served, and where that is asked for of which file.
-pub fn put_fault(rt: &(impl Files + Eprint), words: &[&str], fault: ServeFault, for_people: bool) {
+pub fn put_fault<'a>(
+    rt: &(impl Files + Eprint + AllocGlobal),
+    words: &'a [&'a str],
+    fault: ServeFault,
+    for_people: bool,
+) {
     let _ = eprintln!(rt; "cardtool: {fault}");
-    if for_people {
-        put_hint(rt, words, fault);
+    if !for_people {
+        return;
+    }
+    if let Ok(matches) = matched(rt.alloc(), words) {
+        put_hint(rt, &matches, fault);
     }
 }

@@ -3,7 +3,7 @@ use Rattle.std.proofs.Common.{◌++◌, ◌<◌, ◌∷◌, ◌∙◌, ◌≡◌
 use Rattle.std.proofs.Common.{length}
 use Rattle.std.proofs.Common.{refl, suc, sym, take, true, zero, ℕ}
 use Rattle.std.specs.Prelude.{◌-◌, ◌==◌, ◌^◌, ◌||◌, Err, IsOk, Ok, OnErr, Option, Result, if◌then◌else◌, min, nat_le}
-use Rattle.std.specs.Prelude.{nat_lt, slice_index_or, slice_set}
+use Rattle.std.specs.Prelude.{filter, nat_lt, slice_index_or, slice_set}
 use Rattle.std.proofs.lemmas.Bool.{eq-eqb, eqb-true}
 use Rattle.std.proofs.lemmas.Bool.Decides.{nat_tests}
 use Rattle.mmc_card_sim.specs.declared.fault.Fault.{Fault}
@@ -167,3 +167,34 @@ spent plan (Some fault) true faults later exchanges made is unplanned never smal
     let less = one_less plan exchanges fault (sym is) in
     let same : to_come plan made ≡ to_come plan (exchanges + 1) = ap (to_come plan) is_next in
     omega (arith, less, same, counts)
+
+-- What is still to come, without what is past.
+
+still_found : (b : Bool) (x : Planned) (rest xs : List Planned) (e : ℕ) → (b ≡ false → (x.exchange == e) ≡ false)
+    → fault_at rest e ≡ fault_at xs e → fault_at (cond b (x ∷ rest) rest) e ≡ fault_at (x ∷ xs) e
+still_found true x rest xs e apart same = ap (λ r. cond (x.exchange == e) (Some x.fault) r) same
+still_found false x rest xs e apart same =
+    same ∙ sym (by_false (x.exchange == e) (Some x.fault) (fault_at xs e) (apart refl))
+
+is_apart : (exchange made e : ℕ) → made ≤ e → nat_le made exchange ≡ false → (exchange == e) ≡ false
+is_apart exchange made e later past = grind (arith, nat_tests, later, past)
+
+-- a fault for an exchange that is still to come is planned as before
+pub later_same : (made : ℕ) (xs : List Planned) (e : ℕ) → made ≤ e
+    → fault_at (filter (λ p. nat_le made p.exchange) xs) e ≡ fault_at xs e
+later_same made [] e later = refl
+later_same made (x ∷ xs) e later =
+    still_found (nat_le made x.exchange) x (filter (λ p. nat_le made p.exchange) xs) xs e
+    (is_apart x.exchange made e later) (later_same made xs e later)
+
+counted_first : (b : Bool) (x : Planned) (rest : List Planned) (n : ℕ) → length rest ≡ n
+    → length (cond b (x ∷ rest) rest) ≡ (if b then 1 else 0) + n
+counted_first true x rest n is = omega (arith, is)
+counted_first false x rest n is = omega (arith, is)
+
+-- and there are as many
+pub later_counted : (made : ℕ) (xs : List Planned) → length (filter (λ p. nat_le made p.exchange) xs) ≡ to_come xs made
+later_counted made [] = refl
+later_counted made (x ∷ xs) =
+    counted_first (nat_le made x.exchange) x (filter (λ p. nat_le made p.exchange) xs) (to_come xs made)
+    (later_counted made xs)

@@ -1,8 +1,8 @@
 // The faults that are planned for the exchanges of a card in memory.
 ghost use Rattle.std.specs.Prelude.{◌≡◌, ◌<◌, ◌≤◌, ◌==◌, ◌+◌, IfErr, IfNone, IfSome, IsOk, None, OnErr, Some, []};
-ghost use Rattle.std.specs.Prelude.{false, if◌then◌else◌, length, slice_index_or, take, ℕ};
+ghost use Rattle.std.specs.Prelude.{false, filter, if◌then◌else◌, length, nat_le, slice_index_or, take, ℕ};
 ghost use Rattle.mmc_card_sim.specs.declared.plan.Planned.{Planned};
-ghost use Rattle.mmc_card_sim.specs.Plan.{fault_at, is_full, refusal_of};
+ghost use Rattle.mmc_card_sim.specs.Plan.{fault_at, is_full, refusal_of, to_come};
 
 use crate::fault::Fault;
 use arrayvec::ArrayVec;
@@ -135,5 +135,14 @@ impl Plan {
         }
         self.put(exchange, fault);
         Ok(())
+    }
+
+    /// Forgets the faults of exchanges that are past, where so many have been made, so that there is room for others.
+    pub fn forget_past(&mut self, made: u64)
+        ensures kept { self.new ≡ filter (λ p. nat_le made p.exchange) self.old }
+        ensures same { (e : ℕ) → made ≤ e → fault_at self.new e ≡ fault_at self.old e }
+        ensures room { length self.new ≡ to_come self.old made }
+    {
+        self.planned.retain(|planned| planned.exchange >= made);
     }
 }

@@ -1,7 +1,7 @@
 // A card in memory of any kind, that has the faults that are planned.
 ghost use Rattle.std.specs.Prelude.{◌+◌, ◌-◌, ◌<◌, ◌==◌, ◌^◌, ◌≡◌, ◌≤◌, IfErr, IfOk, IsOk, None, OnErr, Some, []};
 ghost use Rattle.std.specs.Prelude.{false, if◌then◌else◌, length, true, ℕ};
-ghost use Rattle.mmc_card_sim.specs.Plan.{fault_at, refusal_of};
+ghost use Rattle.mmc_card_sim.specs.Plan.{fault_at, refusal_of, to_come};
 ghost use Rattle.mmc_card_sim.specs.FaultyExchanges.{Commands, Polls, Reads, Writes, fits_command, fits_poll};
 ghost use Rattle.mmc_card_sim.specs.FaultyExchanges.{fits_read, fits_write};
 ghost use Rattle.mmc_card_sim.specs.SimView.{first_delays, planned_fault, sim_bus_view};
@@ -218,6 +218,22 @@ impl SimCard {
         ensures stays { self.new ≡ record self.old { plan = self.new.plan } }
     {
         self.plan.plan(exchange, fault, self.wire.exchanges)
+    }
+
+    /// The fault that is planned for the next exchange.
+    pub fn planned(&self) -> Option<Fault>
+        ensures { result ≡ planned_fault self.now }
+    {
+        self.plan.fault(self.wire.exchanges)
+    }
+
+    /// Forgets the faults that were planned for exchanges that are past, so that there is room for others.
+    pub fn forget_past(&mut self)
+        ensures same { (e : ℕ) → self.old.wire.exchanges ≤ e → fault_at self.new.plan e ≡ fault_at self.old.plan e }
+        ensures room { length self.new.plan ≡ to_come self.old.plan self.old.wire.exchanges }
+        ensures stays { self.new ≡ record self.old { plan = self.new.plan } }
+    {
+        self.plan.forget_past(self.wire.exchanges);
     }
 
     /// Sends a command, and gives what came back, whatever response is wanted.

@@ -1,0 +1,3 @@
+pub mod RuledLemmas
+pub mod StepLemmas
+pub mod TextLemmas

@@ -1,0 +1,50 @@
+-- A step of a card is seen so whatever a view says of faults that may still fall.
+use Rattle.std.proofs.Common.{Bool, List, ℕ}
+use Rattle.std.specs.Prelude.{Option}
+use Rattle.mmc_card.specs.declared.exchange.DataIn.{DataIn}
+use Rattle.mmc_card.specs.declared.exchange.DataOut.{DataOut}
+use Rattle.mmc_card.specs.declared.exchange.Reply.{Reply}
+use Rattle.mmc_card.specs.Faults.{CommandStep, PollStep, ReadStep, WriteStep, brownout, busy, fail, fail_early, faithful}
+use Rattle.mmc_card.specs.Faults.{fail_switch, fall_short, find_protection, flip_command, flip_reply, leave_over, lose_block}
+use Rattle.mmc_card.specs.Faults.{lose_command, lose_reply, lose_status, outlive, reject, slow_inquiry, spoil, turn_out}
+use Rattle.mmc_card.specs.BusView.{BusView}
+
+module _ (old new : BusView) (before after : Option ℕ) where
+  pub command_seen : (frame : List ℕ) (reply : Reply) → CommandStep old frame reply new
+      → CommandStep (record old { may_fall = before }) frame reply (record new { may_fall = after })
+  command_seen frame reply (faithful choice patient count card spells) = faithful choice patient count card spells
+  command_seen frame reply (lose_command count card silent) = lose_command count card silent
+  command_seen frame reply (flip_command keeps_count count card silent) = flip_command keeps_count count card silent
+  command_seen frame reply (lose_reply choice patient count card answers silent) = lose_reply choice patient count card answers silent
+  command_seen frame reply (flip_reply choice patient count card flipped) = flip_reply choice patient count card flipped
+  command_seen frame reply (slow_inquiry choice slow late inquiry count card spells) = slow_inquiry choice slow late inquiry count card spells
+  command_seen frame reply (fail_switch choice fails switch count card spells) = fail_switch choice fails switch count card spells
+  command_seen frame reply (find_protection choice finds patient writes count card spells) = find_protection choice finds patient writes count card spells
+  command_seen frame reply (outlive choice bits argument among patient resets count card silent) = outlive choice bits argument among patient resets count card silent
+  command_seen frame reply (leave_over choice bits of patient count card spells) = leave_over choice bits of patient count card spells
+  command_seen frame reply (brownout choice lands keeps_length after patient count card silent) = brownout choice lands keeps_length after patient count card silent
+
+  pub poll_seen : (said : Bool) → PollStep old said new
+      → PollStep (record old { may_fall = before }) said (record new { may_fall = after })
+  poll_seen said (faithful choice patient count card answer) = faithful choice patient count card answer
+  poll_seen said (busy is_busy late count card answer) = busy is_busy late count card answer
+  poll_seen said (fail lands bits of prg switching count card answer) = fail lands bits of prg switching count card answer
+  poll_seen said (fail_early lands bits of prg switching is_busy count card answer) = fail_early lands bits of prg switching is_busy count card answer
+  poll_seen said (fall_short lands bits ignores of rcv is_busy count card answer) = fall_short lands bits ignores of rcv is_busy count card answer
+  poll_seen said (brownout choice lands keeps_length after patient count card answer) = brownout choice lands keeps_length after patient count card answer
+
+  pub write_seen : (block : List ℕ) (got : DataOut) → WriteStep old block got new
+      → WriteStep (record old { may_fall = before }) block got (record new { may_fall = after })
+  write_seen block got (faithful count card answer) = faithful count card answer
+  write_seen block got (lose_block accepts count card answer) = lose_block accepts count card answer
+  write_seen block got (reject ignores is_busy accepts count card answer) = reject ignores is_busy accepts count card answer
+  write_seen block got (lose_status is_accepted ignores is_busy accepts count card answer) = lose_status is_accepted ignores is_busy accepts count card answer
+  write_seen block got (fall_short lands bits ignores of accepts count card answer) = fall_short lands bits ignores of accepts count card answer
+  write_seen block got (turn_out lands several accepts count card answer) = turn_out lands several accepts count card answer
+  write_seen block got (brownout lands keeps_length after count card answer) = brownout lands keeps_length after count card answer
+
+  pub read_seen : (size : ℕ) (got : DataIn) (block : List ℕ) → ReadStep old size got block new
+      → ReadStep (record old { may_fall = before }) size got block (record new { may_fall = after })
+  read_seen size got block (faithful choice count card answer good) = faithful choice count card answer good
+  read_seen size got block (spoil choice bits goes_on comes among sends count card answer) = spoil choice bits goes_on comes among sends count card answer
+  read_seen size got block (brownout choice lands keeps_length after count card answer) = brownout choice lands keeps_length after count card answer

@@ -1,0 +1,5 @@
+pub mod Chosen
+pub mod Moments
+pub mod RuledCards
+pub mod Rules
+pub mod RuleTexts

@@ -1,0 +1,139 @@
+// A card in memory whose faults are planned by rules too.
+ghost use Rattle.std.specs.Prelude.{◌≡◌, length};
+ghost use Rattle.mmc_card_sim.specs.SimView.{planned_fault, sim_bus_view};
+ghost use Rattle.card_rules.specs.RuledCards.{DoesCommand, DoesPoll, DoesRead, DoesWrite, Notes, Plans, Prepares, planned_between, ruled_view};
+
+use crate::moment::{Moment, Place};
+use crate::rules::Rules;
+use arrayvec::ArrayVec;
+use mmc_bus::{Bus, DataIn, DataOut, Lines, Reply, Timing, Want, Width};
+use mmc_card_sim::{Fault, MAX_PLANNED, Planned, SimCard};
+use mmc_frame::Addressing;
+
+/// A card in memory for whose next exchange rules plan a fault as it comes, in the place of one that was planned before, and of
+/// which it is noted what fell.
+#[derive(Drop)]
+pub struct RuledCard {
+    /// The card.
+    pub card: SimCard,
+    /// How many faults the rules have planned.
+    pub planned: u64,
+    /// The first faults that fell, in order, each with its exchange.
+    pub fell: ArrayVec<Planned, MAX_PLANNED>,
+    /// What the rules go by.
+    pub rules: Rules,
+    place: Place,
+}
+
+impl RuledCard {
+    /// A card with which there was no exchange, and these rules.
+    pub fn new(card: SimCard, rules: Rules, addressing: Addressing) -> RuledCard
+        ensures card { result.card ≡ card }
+        ensures rules { result.rules ≡ rules }
+    {
+        RuledCard {
+            card,
+            planned: 0,
+            fell: ArrayVec::new(),
+            rules,
+            place: Place::new(addressing),
+        }
+    }
+
+    // Plans a fault for the next exchange.
+    fn plan(&mut self, fault: Fault)
+        ensures { Plans self.old self.new }
+    {
+        self.card.forget_past();
+        if self.card.plan(self.card.exchanges(), fault).is_ok() {
+            self.planned = self.planned.saturating_add(1);
+        }
+    }
+
+    // Plans what the rules say of the next exchange, and gives what is planned for it.
+    fn prepare(&mut self, moment: Moment) -> Option<Fault>
+        ensures prepared { Prepares self.old self.new }
+        ensures planned { result ≡ planned_fault self.new.card }
+    {
+        if let Some(fault) = self.rules.next(self.card.exchanges(), moment) {
+            self.plan(fault);
+        }
+        self.card.planned()
+    }
+
+    // Notes what fell in an exchange, where more faults have fallen after it.
+    fn note(&mut self, exchange: u64, faults: u64, fault: Option<Fault>)
+        ensures { Notes exchange faults fault self.old self.new }
+    {
+        if let Some(fault) = fault {
+            if self.card.faults() > faults {
+                let _ = self.fell.try_push(Planned { exchange, fault });
+            }
+        }
+    }
+}
+
+impl Bus for RuledCard {
+    ghost use Rattle.mmc_bus.specs.Exchanges.{Commanded, DataRead, DataWritten, Polled, SetsLines};
+
+    ghost view = { λ ruled. ruled_view ruled };
+
+    fn limits(&self) -> Lines {
+        self.card.limits()
+    }
+
+    fn command(&mut self, frame: [u8; 6], want: Want) -> Reply
+        ensures exchanged { Commanded (ruled_view self.old) frame want result (ruled_view self.new) }
+        ensures falls { DoesCommand (planned_between self.old.card self.new.card) self.old.card frame result self.new.card }
+    {
+        let index = frame[0] % 64;
+        let argument = u32::from_be_bytes([frame[1], frame[2], frame[3], frame[4]]);
+        let fault = self.prepare(Moment::Command(index));
+        let (exchange, faults) = (self.card.exchanges(), self.card.faults());
+        let reply = self.card.command(frame, want);
+        self.note(exchange, faults, fault);
+        self.place = self.place.after_command(index, argument);
+        reply
+    }
+
+    fn read_data(&mut self, buffer: &mut [u8]) -> DataIn
+        ensures exchanged { DataRead (ruled_view self.old) (length buffer.old) result buffer.new (ruled_view self.new) }
+        ensures falls { DoesRead (planned_between self.old.card self.new.card) self.old.card (length buffer.old) result buffer.new self.new.card }
+    {
+        let fault = self.prepare(Moment::Read(self.place.next));
+        let (exchange, faults) = (self.card.exchanges(), self.card.faults());
+        let got = self.card.read_data(buffer);
+        self.note(exchange, faults, fault);
+        self.place = self.place.after_block();
+        got
+    }
+
+    fn write_data(&mut self, block: &[u8; 512]) -> DataOut
+        ensures exchanged { DataWritten (ruled_view self.old) block.now result (ruled_view self.new) }
+        ensures falls { DoesWrite (planned_between self.old.card self.new.card) self.old.card block.now result self.new.card }
+    {
+        let fault = self.prepare(Moment::Write(self.place.next));
+        let (exchange, faults) = (self.card.exchanges(), self.card.faults());
+        let got = self.card.write_data(block);
+        self.note(exchange, faults, fault);
+        self.place = self.place.after_block();
+        got
+    }
+
+    fn busy(&mut self) -> bool
+        ensures exchanged { Polled (ruled_view self.old) result (ruled_view self.new) }
+        ensures falls { DoesPoll (planned_between self.old.card self.new.card) self.old.card result self.new.card }
+    {
+        let fault = self.prepare(Moment::Poll);
+        let (exchange, faults) = (self.card.exchanges(), self.card.faults());
+        let yes = self.card.busy();
+        self.note(exchange, faults, fault);
+        yes
+    }
+
+    fn set_lines(&mut self, width: Width, timing: Timing)
+        ensures { SetsLines (ruled_view self.old) width timing (ruled_view self.new) }
+    {
+        self.card.set_lines(width, timing);
+    }
+}
