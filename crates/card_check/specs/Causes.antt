@@ -1,5 +1,5 @@
 -- What is wrong with a line of a card file.
-use Rattle.std.specs.Prelude.{ℕ, ◌-◌, ◌==◌, Bool, false, List, [], ◌∷◌, Option, None, Some, if◌then◌else◌, length, slice_get}
+use Rattle.std.specs.Prelude.{ℕ, List, [], ◌∷◌, Option, None, Some, if◌then◌else◌}
 use Rattle.card_text.specs.CardFile.{has_room, is_repeated}
 use Rattle.card_text.specs.CardLines.{card_line_of, is_of}
 use Rattle.card_text.specs.Parts.{parts}
@@ -8,9 +8,11 @@ use Rattle.card_text.specs.declared.text_line.Line.{Line}
 use Rattle.card_text.specs.declared.text_line.Line.TheVariants.{Bad, Says, Skipped}
 use Rattle.mmc_frame.specs.declared.kind.Kind.{Kind as CardKind}
 use Rattle.card_check.specs.Keys.{key_of}
+use Rattle.card_check.specs.Strays.{stray_in}
 use Rattle.card_check.specs.declared.cause.Cause.{Cause}
-use Rattle.card_check.specs.declared.cause.Cause.TheVariants.{CarriageReturn, OtherKind, Repeated, TooManyFaults, UnknownKey, Value}
+use Rattle.card_check.specs.declared.cause.Cause.TheVariants.{OtherKind, Repeated, Stray as HasStray, TooManyFaults, UnknownKey, Value}
 use Rattle.card_check.specs.declared.key.Key.{Key}
+use Rattle.card_check.specs.declared.stray.Stray.{Stray}
 
 -- what stands after a key isn't what has to, or there is no such key
 abbrev pub cause_by : Option Key → Cause
@@ -25,17 +27,13 @@ key_of_fields [] = None
 abbrev pub key_in : List ℕ → Option Key
 key_in line = key_of_fields (parts 32 line)
 
-abbrev pub is_return : Option ℕ → Bool
-is_return (Some b) = b == 13
-is_return None = false
-
--- the last byte is a carriage return
-abbrev pub ends_with_return : List ℕ → Bool
-ends_with_return line = is_return (slice_get line (length line - 1))
+abbrev pub cause_with : Option Stray → Option Key → Cause
+cause_with (Some stray) key = HasStray stray
+cause_with None key = cause_by key
 
 -- what is wrong with a line that isn't of the grammar
 abbrev pub cause_of_bad : List ℕ → Cause
-cause_of_bad line = if ends_with_return line then CarriageReturn else cause_by (key_in line)
+cause_of_bad line = cause_with (stray_in line) (key_in line)
 
 -- it repeats a line above it, or plans a fault too many
 abbrev pub why_too_much : List CardLine → CardLine → Option Cause

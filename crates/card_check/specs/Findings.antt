@@ -5,8 +5,9 @@ use Rattle.std.specs.Fmt.{decimal}
 use Rattle.text_out.specs.Hex.{hex_text}
 use Rattle.mmc_frame.specs.declared.kind.Kind.TheVariants.{Mmc, Sd}
 use Rattle.card_check.specs.Keys.{expected_words}
+use Rattle.card_check.specs.Strays.{stray_words}
 use Rattle.card_check.specs.declared.cause.Cause.{Cause}
-use Rattle.card_check.specs.declared.cause.Cause.TheVariants.{CarriageReturn, OtherKind, Repeated, TooManyFaults, UnknownKey, Value}
+use Rattle.card_check.specs.declared.cause.Cause.TheVariants.{OtherKind, Repeated, Stray as HasStray, TooManyFaults, UnknownKey, Value}
 use Rattle.card_check.specs.declared.finding.TheConstants.{MAX_SHOWN}
 
 -- a printable byte as it is, and any other in hexadecimal digits
@@ -30,7 +31,7 @@ found_text line =
 
 -- what is wrong, and what was expected
 abbrev pub cause_words : Cause → List ℕ
-cause_words CarriageReturn = codes "it ends with a carriage return (0d); lines end with a line feed alone"
+cause_words (HasStray stray) = stray_words stray
 cause_words UnknownKey = codes "no such key; the keys are kind, ocr, cid, csd, sectors, ready, busy, early, length, stop, slow-status, late-status, long-ready, long-busy, long-slow-status, locked, fault, scr, rca, cmd8, highspeed, r6-app, ext and ext-changes, each with a space behind it"
 cause_words (Value key) = expected_words key
 cause_words (OtherKind Sd) = codes "an SD card has no such line, and kind is sd"

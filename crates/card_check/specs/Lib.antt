@@ -8,5 +8,6 @@ pub mod Missing
 pub mod Notes
 pub mod Registers
 pub mod Scripts
+pub mod Strays
 pub mod Unopened
 pub mod WrongLines

@@ -1,8 +1,9 @@
 // What is wrong with a line.
 ghost use Rattle.std.specs.Prelude.{◌≡◌};
-ghost use Rattle.card_check.specs.Causes.{cause_of_bad, ends_with_return, why_unfit, wrong_with};
+ghost use Rattle.card_check.specs.Causes.{cause_of_bad, why_unfit, wrong_with};
 
 use crate::key::Key;
+use crate::stray::{Stray, stray_in};
 use card_text::card_file::{has_room, is_repeated};
 use card_text::card_line::{CardLine, card_line};
 use card_text::cut::cut;
@@ -12,8 +13,8 @@ use mmc_frame::Kind;
 /// What is wrong with a line of a card file.
 #[derive(Clone, Copy, Debug, PartialEq, Eq)]
 pub enum Cause {
-    /// It ends with a carriage return, which is a byte like any other.
-    CarriageReturn,
+    /// It has what an editor may have put there.
+    Stray(Stray),
     /// It begins with no key.
     UnknownKey,
     /// What stands after the key isn't what has to.
@@ -26,22 +27,12 @@ pub enum Cause {
     TooManyFaults,
 }
 
-/// Whether a line ends with a carriage return.
-pub(crate) fn ends_with_return(line: &[u8]) -> bool
-    ensures { result ≡ ends_with_return line.now }
-{
-    match line.last() {
-        Some(byte) => *byte == b'\r',
-        None => false,
-    }
-}
-
 // What is wrong with a line that isn't of the grammar.
 fn cause_of_bad(line: &[u8]) -> Cause
     ensures { result ≡ cause_of_bad line.now }
 {
-    if ends_with_return(line) {
-        return Cause::CarriageReturn;
+    if let Some(stray) = stray_in(line) {
+        return Cause::Stray(stray);
     }
     let (key, _) = cut(line, b' ');
     match Key::by(key) {

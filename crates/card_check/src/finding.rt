@@ -5,6 +5,7 @@ ghost use Rattle.text_out.specs.Writing.{Writes};
 
 use crate::cause::Cause;
 use crate::fault::CheckFault;
+use crate::stray::stray_words;
 use mmc_frame::Kind;
 use std::alloc::{AllocError, Global};
 use std::io::Write;
@@ -94,8 +95,7 @@ fn cause_words(cause: Cause) -> &'static [u8]
     ensures { result.now ≡ cause_words cause }
 {
     match cause {
-        Cause::CarriageReturn =>
-            b"it ends with a carriage return (0d); lines end with a line feed alone",
+        Cause::Stray(stray) => stray_words(stray),
         Cause::UnknownKey =>
             b"no such key; the keys are kind, ocr, cid, csd, sectors, ready, busy, early, length, stop, slow-status, late-status, long-ready, long-busy, long-slow-status, locked, fault, scr, rca, cmd8, highspeed, r6-app, ext and ext-changes, each with a space behind it",
         Cause::Value(key) => key.expected(),

@@ -16,6 +16,7 @@ mod registers;
 mod request_notes;
 mod script;
 mod size_note;
+mod stray;
 mod unopened;
 mod unopened_text;
 

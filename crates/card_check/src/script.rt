@@ -5,9 +5,9 @@ ghost use Rattle.text_out.specs.Writing.{Writes};
 ghost use Rattle.card_check.specs.Scripts.{event_words};
 ghost use Rattle.card_check.specs.WrongLines.{Prints, bad_text, bad_texts};
 
-use crate::cause::ends_with_return;
 use crate::fault::CheckFault;
 use crate::finding::put_wrong_line;
+use crate::stray::{stray_in, stray_words};
 use card_text::cut::cut;
 use card_text::fault::ScriptFault;
 use card_text::script::{read_script, script_line};
@@ -19,10 +19,10 @@ use std::io::Write;
 fn event_words(line: &[u8]) -> &'static [u8]
     ensures { result.now ≡ event_words line.now }
 {
-    if ends_with_return(line) {
-        b"it ends with a carriage return (0d); lines end with a line feed alone"
-    } else {
-        b"a line is CLIENT read|erase|trim PART START COUNT, CLIENT write PART START COUNT HH*N,HH*N.., cancel TICKET, turn or run; PART is user, boot1, boot2 or gp1 to gp4, and one space stands between two fields"
+    match stray_in(line) {
+        Some(stray) => stray_words(stray),
+        None =>
+            b"a line is CLIENT read|erase|trim PART START COUNT, CLIENT write PART START COUNT HH*N,HH*N.., cancel TICKET, turn or run; PART is user, boot1, boot2 or gp1 to gp4, and one space stands between two fields",
     }
 }
 
