@@ -102,4 +102,13 @@ def is_printed(name, printed):
     return any(re.fullmatch(re.escape(text).replace(r"\{\}", ".*"), name) for text in re.findall(r'"([^"\n]{6,})"', printed))
 
 
-CHECKS = [counts_that_differ, facts_that_differ, sizes_that_differ, costs_that_differ, figures_without_a_mark]
+def versions_that_differ(documents):
+    """The one number of the header, in cardtool, in an archive's name, and at the top of CHANGELOG."""
+    stands = re.search(r'#define KELIFANDRO_VERSION "(.*)"', source("c/kelifandro.h"))[1]
+    told = [("crates/card_commands/src/help.rt", number) for number in re.findall(r'"cardtool ([\d.]+)', source("crates/card_commands/src/help.rt"))]
+    told += [("CHANGELOG.md", number) for number in re.findall(r"^## ([\d.]+)", documents.texts["CHANGELOG.md"], re.M)[:1]]
+    told += [(name, number) for name, text in documents.texts.items() for number in re.findall(r"kelifandro-(\d+\.\d+\.\d+)", text)]
+    yield from (f"{name}: version {number}, and c/kelifandro.h has {stands}" for name, number in told if number != stands)
+
+
+CHECKS = [counts_that_differ, facts_that_differ, versions_that_differ, sizes_that_differ, costs_that_differ, figures_without_a_mark]

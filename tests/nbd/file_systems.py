@@ -1,6 +1,9 @@
 """File systems with files, copied onto cards that fail: behind it they are clean, and the files are what they were."""
+import os
 import random
+import re
 import shutil
+import subprocess
 from pathlib import Path
 
 import cards
@@ -86,21 +89,43 @@ def of_kind(trial, name, make):
         survives(trial, f"{name} in gp1, {plan}", mmc + faults(seed), image, check, "--part", "gp1")
 
 
+def commands_of(folder, *titles):
+    """The commands of these sections of docs/CARDTOOL.md, as they stand there."""
+    sections = dict(section.split("\n", 1) for section in (TOP / "docs/CARDTOOL.md").read_text().split("\n## ")[1:])
+    lines = [line for title in titles for line in sections[title].splitlines() if line.startswith("    ")]
+    return lines, "\n".join([f"cd {folder}", "PATH=$PATH:.", *lines])
+
+
+def can_mount():
+    """Whether a file of FUSE can be mounted here."""
+    return os.geteuid() == 0 and Path("/dev/fuse").exists() and subprocess.run(["losetup", "-f"], capture_output=True).returncode == 0
+
+
 def as_the_document_says(trial):
-    """The commands of docs/CARDTOOL.md for a file system on a card, and for several clients at once, as they stand there."""
+    """The commands for a file system on a card, for several clients at once, for fio, and for a mounted file system."""
     folder = Path(trial.path("document"))
     for name in ("docs", "examples"):
         shutil.copytree(TOP / name, folder / name)
     (folder / "cardtool").symlink_to(trial.program)
-    section = (TOP / "docs/CARDTOOL.md").read_text().split("## A file system on a card that fails")[1]
-    lines = [line for line in section.splitlines() if line.startswith("    ")]
+    lines, text = commands_of(folder, "A file system on a card that fails", "Several clients at once")
     trial.want("CARDTOOL: its commands", len(lines), 9)
-    commands = trial.file("commands", "\n".join([f"cd {folder}", "PATH=$PATH:.", *lines]))
-    status, output, errors = trial.client("bash", commands)
+    status, output, errors = trial.client("bash", trial.file("commands", text))
     told = [line for line in errors.splitlines() if not line.startswith("e2fsck ")]
     trial.want("CARDTOOL: status, errors", (status, [line for line in told if not line.startswith("cardtool: exchanges ")]), (0, []))
     trial.want("CARDTOOL: what happened", len(told), 1)
     trial.want("CARDTOOL: what is saved", is_same(folder / "after.img", (folder / "files.img").read_bytes()), True)
+    if shutil.which("fio"):
+        status, output, errors = trial.client("bash", trial.file("fio", commands_of(folder, "By fio")[1]))
+        trial.want("CARDTOOL: fio", (status, "err= 0" in output, "cardtool: exchanges " in errors), (0, True, True))
+    else:
+        print("nbd: fio isn't installed: not tried")
+    if shutil.which("nbdfuse") and can_mount():
+        status, output, errors = trial.client("bash", trial.file("mounted", commands_of(folder, "Mounted")[1]))
+        trial.want("CARDTOOL: mounted", status, 0)
+        more = subprocess.run(["debugfs", "-R", "ls -p /more", folder / "kept.img"], capture_output=True, text=True).stdout
+        trial.want("CARDTOOL: what was written to it", sorted(set(re.findall(r"/([\w.]+\.md)/", more))), sorted(path.name for path in (TOP / "docs").glob("*.md")))
+    else:
+        print("nbd: nothing can be mounted here, or nbdfuse isn't installed: not tried")
 
 
 def try_all(trial):

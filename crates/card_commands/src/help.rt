@@ -8,6 +8,9 @@ use crate::texts;
 use std::io::Write;
 use text_out::put::put;
 
+// The project's one number, as `c/kelifandro.h` has it.
+const VERSION: &[u8] = b"cardtool 0.2.0\n";
+
 // The text that the words ask for.
 fn help_text(words: &[&str]) -> Option<&'static str> {
     match words {
@@ -44,6 +47,6 @@ pub fn version<W: Write>(words: &[&str], out: &mut W) -> Result<(), CommandFault
     let ["version" | "--version"] = words else {
         return Err(CommandFault::Usage);
     };
-    put(out, b"cardtool 1.0\n")?;
+    put(out, VERSION)?;
     Ok(())
 }

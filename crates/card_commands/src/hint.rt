@@ -1,6 +1,6 @@
 // A line after an error's, for people: which file, why, and what says more.
 use card_rules::read_rule;
-use card_served::ServeFault;
+use card_served::{ServeFault, path_of};
 use clap::ArgMatches;
 use std::fs::{self, File};
 use std::io::Read;
@@ -8,7 +8,7 @@ use std::rt::Files;
 
 // Why a file can't be read, as the system says it now.
 fn put_cause(rt: &(impl Files + Eprint), name: &str) {
-    let error = match File::open(rt, name) {
+    let error = match File::open(rt, path_of(name)) {
         Err(error) => error,
         Ok(mut file) => match file.read(&mut [0]) {
             Err(error) => error,
@@ -93,6 +93,9 @@ pub fn put_hint(rt: &(impl Files + Eprint), matches: &ArgMatches<'_>, fault: Ser
         ServeFault::ImageSize => put_check_with(rt, matches, "image"),
         ServeFault::Vcd => put_made(rt, matches, "vcd"),
         ServeFault::Save => put_made(rt, matches, "save"),
+        ServeFault::Svg => put_made(rt, matches, "svg"),
+        ServeFault::Html => put_made(rt, matches, "html"),
+        ServeFault::Timing => put_made(rt, matches, "timing"),
         ServeFault::Rule => put_rule(rt, matches),
         _ => {}
     }

@@ -21,9 +21,11 @@ error says what. `serve` has 1 too, where a request failed or was refused. docs/
 pub(crate) const SERVE: &str =
     "usage: cardtool serve --card FILE --script FILE [--image FILE] [--trace N]
                       [--explain] [--vcd FILE] [--save FILE]
+                      [--svg FILE] [--html FILE] [--timing FILE] [--exchanges A..B]
                       [--fault RULE].. [--seed N] [--stats]
 
-Serves the requests of a script on the card of a card file, with a line for each submission, cancellation and answer.
+Serves the requests of a script on the card of a card file, with a line for each submission, cancellation and answer. A file that is
+read may be -, for standard input.
 
     --card FILE    the card file: registers, delays and planned faults
     --script FILE  the script: a request, a cancellation, `turn` or `run` a line
@@ -32,6 +34,12 @@ Serves the requests of a script on the card of a card file, with a line for each
     --explain      puts words after each exchange that is shown; without --trace it shows the last 65536
     --vcd FILE     writes the exchanges as a waveform of CLK, CMD and DAT0 to DAT7; FILE must not be there yet
     --save FILE    writes what the card holds at the end, as an image has it; FILE must not be there yet
+    --svg FILE     draws the last 64 exchanges as a sequence diagram in SVG, with words, planned faults, and what the driver does to
+                   settle the card, or as many as --trace N keeps; FILE must not be there yet, nor in the next two
+    --html FILE    writes a page with the answers, that diagram, the exchanges in words, what happened, and what the card holds
+    --timing FILE  draws the last 16 exchanges as a timing diagram of CMD and DAT in SVG
+    --exchanges A..B
+                   draws exchanges A to B in their place, counted from 0
     --fault RULE   plans faults by a rule as the exchanges come; it may stand more than once, and the first rule that is about an
                    exchange counts:
                        N FAULT           in exchange N, counted from 0
@@ -49,6 +57,7 @@ Status: 0 where every request was served, 1 where one failed or was refused, 2 w
 
     cardtool serve --card examples/sdsc.card --script examples/first.script --trace 6 --explain
     cardtool serve --card examples/sdsc.card --script examples/first.script --fault 'cmd 13 lose-reply' --explain
+    cardtool serve --card examples/lost-status.card --script examples/lost-status.script --html lost-status.html
 ";
 
 /// That of `new`.
@@ -77,7 +86,12 @@ pub(crate) const CHECK: &str = "usage: cardtool check --card FILE [--script FILE
 
 Says whatever is wrong with a card file, a script and an image: each bad line with its number, what was found, and what was
 expected; which register contradicts which; and why a card isn't opened, with the answer of serve. Notes after that, which don't
-change the status, name the requests that will be refused, planned faults that can't fall, and a card that only nbd serves.
+change the status, name the requests that will be refused, planned faults that can't fall, and a card that only nbd serves. A file
+may be -, for standard input.
+
+    --card FILE    the card file
+    --script FILE  the script
+    --image FILE   the image
 
 Status: 0 where nothing is wrong, otherwise 2.
 

@@ -1,3 +1,2 @@
 pub mod FrameLemmas
-pub mod LineLemmas
 pub mod StatusLemmas

@@ -1,13 +1,17 @@
 -- A line of a trace with words after it.
-use Rattle.std.specs.Prelude.{ℕ, ◌-◌, Bool, List, [], ◌∷◌, ◌++◌, codes, if◌then◌else◌, length, replicate, take, Option, None, Some}
+use Rattle.std.specs.Prelude.{ℕ, ◌-◌, List, false, [], ◌∷◌, ◌++◌, codes, if◌then◌else◌, length, replicate, take, Option, None, Some}
 use Rattle.mmc_bus.specs.ExchangeText.{exchange_text}
 use Rattle.std.specs.Fmt.{decimal}
-use Rattle.card_explain.specs.Exchanges.{announces, card_explain}
+use Rattle.card_explain.specs.Exchanges.{card_explain}
 use Rattle.card_explain.specs.Faults.{fault_text}
 use Rattle.card_explain.specs.declared.exchange.KnownCard.{KnownCard}
 use Rattle.card_explain.specs.declared.line.Note.{Note}
 use Rattle.card_explain.specs.declared.line.Numbered.{Numbered}
 use Rattle.card_explain.specs.declared.line.TheConstants.{COLUMN}
+use Rattle.card_explain.specs.declared.settling.Phase.{Phase}
+use Rattle.card_explain.specs.declared.settling.Phase.TheVariants.{Identification, Settling, Transfer}
+use Rattle.card_explain.specs.declared.step.Step.{Step}
+use Rattle.card_explain.specs.Settling.{steps_from}
 
 -- a line without its line feed
 abbrev pub front_of : List ℕ → List ℕ
@@ -22,14 +26,23 @@ unfoldable pub note_words : Option Note → List ℕ
 note_words None = []
 note_words (Some note) = (if note.fell then codes "; fault: " else codes "; doesn't fit: ") ++ fault_text note.fault
 
--- the line of an exchange, its number, the exchange in words, and the fault that was planned for it
-unfoldable pub explained : KnownCard → Bool → Numbered → List ℕ
-explained card is_app one =
-    padded COLUMN (front_of (exchange_text one.exchange))
-    ++ (codes " #" ++ (decimal one.number ++ (codes " " ++ (card_explain card is_app one.exchange
-    ++ (note_words one.note ++ (10 ∷ []))))))
+-- that a card is settled by an exchange
+abbrev pub phase_words : Phase → List ℕ
+phase_words Identification = []
+phase_words Transfer = []
+phase_words Settling = codes "settling: "
 
--- Each exchange after the one before it, which may announce an application command.
-unfoldable pub lines_from : KnownCard → Bool → List Numbered → List ℕ
-lines_from card is_app [] = []
-lines_from card is_app (one ∷ others) = explained card is_app one ++ lines_from card (announces one.exchange) others
+-- the line of an exchange, its number, its phase, the exchange in words, and the fault that was planned for it
+unfoldable pub explained : KnownCard → Step → List ℕ
+explained card step =
+    padded COLUMN (front_of (exchange_text step.numbered.exchange))
+    ++ (codes " #" ++ (decimal step.numbered.number ++ (codes " " ++ (phase_words step.phase
+    ++ (card_explain card step.is_app step.numbered.exchange ++ (note_words step.numbered.note ++ (10 ∷ [])))))))
+
+unfoldable pub lines_by : KnownCard → List Step → List ℕ
+lines_by card [] = []
+lines_by card (step ∷ others) = explained card step ++ lines_by card others
+
+-- each exchange by what those before it say of it
+abbrev pub lines_of : KnownCard → List Numbered → List ℕ
+lines_of card exchanges = lines_by card (steps_from card.kind false Transfer exchanges)

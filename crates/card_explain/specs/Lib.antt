@@ -4,6 +4,8 @@ pub mod Exchanges
 pub mod Explained
 pub mod Faults
 pub mod Frames
+pub mod Halves
 pub mod LongFrames
 pub mod Responses
+pub mod Settling
 pub mod Statuses

@@ -38,9 +38,9 @@ pub fn announces_application_command(exchange: &Exchange) -> bool
     }
 }
 
-// The command that a host means, whichever kind the card turns out to be: CMD8 with an argument is SD's (SD Physical Layer 6.00,
-// section 4.3.13; JESD84-B51, section 6.10.4).
-fn meant(kind: Kind, is_app: bool, index: u8, argument: u32) -> Command
+/// The command that a host means, whichever kind the card turns out to be: CMD8 with an argument is SD's (SD Physical Layer 6.00,
+/// section 4.3.13; JESD84-B51, section 6.10.4).
+pub(crate) fn meant(kind: Kind, is_app: bool, index: u8, argument: u32) -> Command
     ensures { result ≡ meant kind is_app index argument }
 {
     match kind {

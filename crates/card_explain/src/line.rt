@@ -1,10 +1,12 @@
 // A line of a trace with words after it.
 ghost use Rattle.std.specs.Prelude.{IfOk, OnOk, Some, ◌++◌, ◌≡◌};
 ghost use Rattle.mmc_bus.specs.ExchangeText.{exchange_text};
-ghost use Rattle.card_explain.specs.Explained.{explained, front_of, note_words, padded};
+ghost use Rattle.card_explain.specs.Explained.{explained, front_of, note_words, padded, phase_words};
 
 use crate::exchange::{KnownCard, put_exchange};
 use crate::fault::put_fault;
+use crate::settling::Phase;
+use crate::step::Step;
 use crate::words::say;
 use mmc_bus::{Exchange, write_exchange};
 use mmc_card_sim::Fault;
@@ -12,7 +14,7 @@ use std::alloc::{AllocError, Global};
 use text_out::Piece;
 
 /// How many characters a line of a trace is filled up to, before a space and its words.
-pub(crate) const COLUMN: usize = 36;
+pub const COLUMN: usize = 36;
 
 /// A fault that is planned for an exchange.
 #[derive(Clone, Copy, Debug, PartialEq, Eq)]
@@ -65,8 +67,18 @@ fn put_note(out: &mut Vec<u8>, note: Option<Note>) -> Result<(), AllocError>
     put_fault(out, note.fault)
 }
 
-/// Writes the line of an exchange as a trace has it, with its number and the exchange in words after it, and the fault that was
-/// planned for it.
+// What is said of the phase of an exchange.
+fn phase_words(phase: Phase) -> &'static [u8]
+    ensures { result.now ≡ phase_words phase }
+{
+    match phase {
+        Phase::Identification | Phase::Transfer => b"",
+        Phase::Settling => b"settling: ",
+    }
+}
+
+/// Writes the line of an exchange as a trace has it, with its number, whether the card is settled by it, the exchange in words after
+/// that, and the fault that was planned for it.
 ///
 /// # Errors
 /// `AllocError` where memory is refused.
@@ -75,22 +87,22 @@ pub fn put_line(
     alloc: Global,
     out: &mut Vec<u8>,
     card: KnownCard,
-    is_app: bool,
-    numbered: &Numbered,
+    step: &Step,
 ) -> Result<(), AllocError>
-    ensures { OnOk result (out.new.items ≡ out.old.items ++ explained card is_app numbered.now) }
+    ensures { OnOk result (out.new.items ≡ out.old.items ++ explained card step.now) }
 {
-    let line = front(alloc, &numbered.exchange)?;
+    let line = front(alloc, &step.numbered.exchange)?;
     say(
         out,
         &[
             Piece::Text(line.as_slice()),
             Piece::Text(b" #"),
-            Piece::Number(numbered.number),
+            Piece::Number(step.numbered.number),
             Piece::Text(b" "),
         ],
     )?;
-    put_exchange(out, card, is_app, &numbered.exchange)?;
-    put_note(out, numbered.note)?;
+    out.extend_from_slice(phase_words(step.phase))?;
+    put_exchange(out, card, step.is_app, &step.numbered.exchange)?;
+    put_note(out, step.numbered.note)?;
     say(out, &[Piece::Text(b"\n")])
 }

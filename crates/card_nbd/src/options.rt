@@ -47,6 +47,14 @@ pub fn nbd_command<'a>(alloc: Global) -> Result<Command<'a>, AllocError> {
         )
 }
 
+// The name of a file that is read; `-` is none, since standard input is the client's.
+fn file_given<'a>(matches: &ArgMatches<'a>, option: &str) -> Result<Option<&'a str>, NbdFault> {
+    match matches.get_str(option) {
+        Some("-") => Err(NbdFault::Usage),
+        name => Ok(name),
+    }
+}
+
 // The partition that is named, where one is.
 fn part_given(matches: &ArgMatches<'_>) -> Result<Option<Part>, NbdFault> {
     let Some(name) = matches.get_str("part") else {
@@ -61,18 +69,18 @@ fn part_given(matches: &ArgMatches<'_>) -> Result<Option<Part>, NbdFault> {
 /// The values of the words, of which `nbd` is the first.
 ///
 /// # Errors
-/// `Usage` for other words, `NoPart`; `Unserved` with `Rule` or `NoMemory`.
+/// `Usage` for other words, and for a card file or an image `-`; `NoPart`; `Unserved` with `Rule` or `NoMemory`.
 pub fn options_given<'a>(alloc: Global, words: &'a [&'a str]) -> Result<Options<'a>, NbdFault> {
     let command = nbd_command(alloc)?;
     let Ok(matches) = command.try_get_matches_from(words) else {
         return Err(NbdFault::Usage);
     };
-    let Some(card) = matches.get_str("card") else {
+    let Some(card) = file_given(&matches, "card")? else {
         return Err(NbdFault::Usage);
     };
     Ok(Options {
         card,
-        image: matches.get_str("image"),
+        image: file_given(&matches, "image")?,
         save: matches.get_str("save"),
         part: part_given(&matches)?,
         rules: rules_given(alloc, &matches)?,

@@ -1,6 +1,5 @@
 -- An exchange of a card after a fault was planned for it is one of the card as it was before.
-use Rattle.std.proofs.Common.{[], ap, get_or, length, refl, subst, sym, true, ◌<◌, ◌∙◌, ◌∷◌, ◌≡◌, List, ℕ}
-use Rattle.std.proofs.lemmas.List.Elements.{Contains-get_or}
+use Rattle.std.proofs.Common.{[], ap, refl, subst, sym, ◌∙◌, ◌∷◌, ◌≡◌, List, ℕ}
 use Rattle.std.specs.Prelude.{Option, min, ◌+◌, ◌-◌, ◌^◌}
 use Rattle.mmc_card.specs.BusView.{BusView}
 use Rattle.mmc_card.specs.Card.{IsCard}
@@ -10,9 +9,6 @@ use Rattle.mmc_bus.specs.Exchanges.{Exchanged}
 use Rattle.mmc_card_sim.specs.Plan.{fault_at}
 use Rattle.mmc_card_sim.specs.SimView.{SimView, planned_fault, sim_bus_view}
 use Rattle.mmc_card_sim.specs.declared.fault.Fault.{Fault}
-use Rattle.card_rules.specs.Chosen.{IsSaidByOne}
-use Rattle.card_rules.specs.Rules.{IsPlanned, is_about}
-use Rattle.card_rules.specs.declared.moment.Moment.{Moment}
 use Rattle.card_rules.specs.RuledCards.{Prepares, may_fall_by, planned_between, ruled_view}
 use Rattle.card_rules.specs.declared.rule.Rule.{Rule}
 use Rattle.card_rules.specs.declared.ruled_card.RuledCard.{RuledCard}
@@ -81,10 +77,3 @@ falls_as old mid new last is same is_last Does free does =
     subst (λ (n : SimView). Does (planned_between old n) old n) (sym is_last)
     (subst (λ p. Does (fault_at p old.wire.exchanges) old new) (sym same)
     (free (subst (λ (m : SimView). Does (fault_at mid.plan m.wire.exchanges) m new) is does)))
-
--- a rule in its place is one of them
-pub said_by : (rules : List Rule) (i : ℕ) (default : Rule) (number : ℕ) (moment : Moment) (before chance : ℕ) (fault : Fault)
-    → i < length rules → is_about (get_or rules i default).when number moment before chance ≡ true
-    → IsPlanned (get_or rules i default).what moment fault → IsSaidByOne rules number moment fault
-said_by rules i default number moment before chance fault less about planned =
-    (get_or rules i default, Contains-get_or rules i default less, (before, chance, about, planned))

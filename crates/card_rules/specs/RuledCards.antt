@@ -1,15 +1,18 @@
 -- A card in memory whose faults are planned by rules too.
-use Rattle.std.specs.Prelude.{◌+◌, ◌++◌, ◌∷◌, ◌≡◌, Bool, List, None, Option, Some, [], if◌then◌else◌, length, nat_lt, ℕ}
+use Rattle.std.specs.Option.{option_or}
+use Rattle.std.specs.Prelude.{◌+◌, ◌++◌, ◌-◌, ◌<◌, ◌^◌, ◌∷◌, ◌≡◌, Bool, List, None, Option, Some, [], if◌then◌else◌, length, nat_lt, ℕ}
 use Rattle.mmc_card.specs.BusView.{BusView}
 use Rattle.mmc_card.specs.declared.exchange.DataIn.{DataIn}
 use Rattle.mmc_card.specs.declared.exchange.DataOut.{DataOut}
 use Rattle.mmc_card.specs.declared.exchange.Reply.{Reply}
 use Rattle.mmc_card_sim.specs.FaultyExchanges.{Commands, Polls, Reads, Writes, fits_command, fits_poll, fits_read, fits_write}
 use Rattle.mmc_card_sim.specs.Plan.{fault_at, to_come}
-use Rattle.mmc_card_sim.specs.SimView.{SimView, sim_bus_view}
+use Rattle.mmc_card_sim.specs.SimView.{SimView, planned_fault, sim_bus_view}
 use Rattle.mmc_card_sim.specs.declared.fault.Fault.{Fault}
 use Rattle.mmc_card_sim.specs.declared.plan.Planned.{Planned}
 use Rattle.mmc_card_sim.specs.declared.plan.TheConstants.{MAX_PLANNED}
+use Rattle.card_rules.specs.Chosen.{IsSaid, before_of}
+use Rattle.card_rules.specs.declared.moment.Moment.{Moment}
 use Rattle.card_rules.specs.declared.rule.Rule.{Rule}
 use Rattle.card_rules.specs.declared.ruled_card.RuledCard.{RuledCard}
 
@@ -56,6 +59,18 @@ pub record Plans (old new : RuledCard) : Type 0 where
   pub card : new.card ≡ record old.card { plan = new.card.plan }
   pub rules : new.rules.rules ≡ old.rules.rules
   pub fell : new.fell ≡ old.fell
+  pub place : new.place ≡ old.place
+
+-- the card takes one fault more, and can count one exchange more
+abbrev pub HasRoom : SimView → Type 0
+HasRoom card = (to_come card.plan card.wire.exchanges < MAX_PLANNED) × (card.wire.exchanges < 2 ^ 64 - 1)
+
+-- what is planned for such an exchange: what the first rule says that is about it, and else what was planned before
+abbrev pub IsChosen : RuledCard → Moment → Option Fault → Type 0
+IsChosen ruled moment planned =
+    (said : Option Fault)
+    × IsSaid ruled.rules.rules.items ruled.card.wire.exchanges moment (before_of ruled.rules.commands moment) said
+    × (HasRoom ruled.card → planned ≡ option_or said (planned_fault ruled.card))
 
 -- without rules not even that
 pub record Prepares (old new : RuledCard) : Type 0 where
@@ -71,4 +86,5 @@ noted exchange (Some fault) fell =
 pub record Notes (exchange faults : ℕ) (fault : Option Fault) (old new : RuledCard) : Type 0 where
   pub card : new.card ≡ old.card
   pub rules : new.rules ≡ old.rules
+  pub place : new.place ≡ old.place
   pub fell : new.fell.items ≡ (if nat_lt faults old.card.faults then noted exchange fault old.fell.items else old.fell.items)

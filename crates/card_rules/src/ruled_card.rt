@@ -1,7 +1,7 @@
 // A card in memory whose faults are planned by rules too.
-ghost use Rattle.std.specs.Prelude.{◌≡◌, length};
-ghost use Rattle.mmc_card_sim.specs.SimView.{planned_fault, sim_bus_view};
-ghost use Rattle.card_rules.specs.RuledCards.{DoesCommand, DoesPoll, DoesRead, DoesWrite, Notes, Plans, Prepares, planned_between, ruled_view};
+ghost use Rattle.std.specs.Prelude.{◌%◌, ◌≡◌, Some, length, slice_index_or};
+ghost use Rattle.mmc_card_sim.specs.SimView.{planned_fault};
+ghost use Rattle.card_rules.specs.RuledCards.{DoesCommand, DoesPoll, DoesRead, DoesWrite, HasRoom, IsChosen, Notes, Plans, Prepares, planned_between, ruled_view};
 
 use crate::moment::{Moment, Place};
 use crate::rules::Rules;
@@ -42,11 +42,13 @@ impl RuledCard {
 
     // Plans a fault for the next exchange.
     fn plan(&mut self, fault: Fault)
-        ensures { Plans self.old self.new }
+        ensures plans { Plans self.old self.new }
+        ensures planned { HasRoom self.old.card → planned_fault self.new.card ≡ Some fault }
     {
         self.card.forget_past();
-        if self.card.plan(self.card.exchanges(), fault).is_ok() {
-            self.planned = self.planned.saturating_add(1);
+        match self.card.plan(self.card.exchanges(), fault) {
+            Ok(()) => self.planned = self.planned.saturating_add(1),
+            Err(_) => {}
         }
     }
 
@@ -54,6 +56,7 @@ impl RuledCard {
     fn prepare(&mut self, moment: Moment) -> Option<Fault>
         ensures prepared { Prepares self.old self.new }
         ensures planned { result ≡ planned_fault self.new.card }
+        ensures chosen { IsChosen self.old moment (planned_fault self.new.card) }
     {
         if let Some(fault) = self.rules.next(self.card.exchanges(), moment) {
             self.plan(fault);
@@ -75,6 +78,7 @@ impl RuledCard {
 
 impl Bus for RuledCard {
     ghost use Rattle.mmc_bus.specs.Exchanges.{Commanded, DataRead, DataWritten, Polled, SetsLines};
+    ghost use Rattle.card_rules.specs.declared.moment.Moment.TheVariants.{Command, Poll, Read, Write};
 
     ghost view = { λ ruled. ruled_view ruled };
 
@@ -85,6 +89,7 @@ impl Bus for RuledCard {
     fn command(&mut self, frame: [u8; 6], want: Want) -> Reply
         ensures exchanged { Commanded (ruled_view self.old) frame want result (ruled_view self.new) }
         ensures falls { DoesCommand (planned_between self.old.card self.new.card) self.old.card frame result self.new.card }
+        ensures chosen { IsChosen self.old (Command (slice_index_or frame 0 0 % 64)) (planned_between self.old.card self.new.card) }
     {
         let index = frame[0] % 64;
         let argument = u32::from_be_bytes([frame[1], frame[2], frame[3], frame[4]]);
@@ -99,6 +104,7 @@ impl Bus for RuledCard {
     fn read_data(&mut self, buffer: &mut [u8]) -> DataIn
         ensures exchanged { DataRead (ruled_view self.old) (length buffer.old) result buffer.new (ruled_view self.new) }
         ensures falls { DoesRead (planned_between self.old.card self.new.card) self.old.card (length buffer.old) result buffer.new self.new.card }
+        ensures chosen { IsChosen self.old (Read self.old.place.next) (planned_between self.old.card self.new.card) }
     {
         let fault = self.prepare(Moment::Read(self.place.next));
         let (exchange, faults) = (self.card.exchanges(), self.card.faults());
@@ -111,6 +117,7 @@ impl Bus for RuledCard {
     fn write_data(&mut self, block: &[u8; 512]) -> DataOut
         ensures exchanged { DataWritten (ruled_view self.old) block.now result (ruled_view self.new) }
         ensures falls { DoesWrite (planned_between self.old.card self.new.card) self.old.card block.now result self.new.card }
+        ensures chosen { IsChosen self.old (Write self.old.place.next) (planned_between self.old.card self.new.card) }
     {
         let fault = self.prepare(Moment::Write(self.place.next));
         let (exchange, faults) = (self.card.exchanges(), self.card.faults());
@@ -123,6 +130,7 @@ impl Bus for RuledCard {
     fn busy(&mut self) -> bool
         ensures exchanged { Polled (ruled_view self.old) result (ruled_view self.new) }
         ensures falls { DoesPoll (planned_between self.old.card self.new.card) self.old.card result self.new.card }
+        ensures chosen { IsChosen self.old Poll (planned_between self.old.card self.new.card) }
     {
         let fault = self.prepare(Moment::Poll);
         let (exchange, faults) = (self.card.exchanges(), self.card.faults());

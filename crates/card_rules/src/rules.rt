@@ -1,6 +1,6 @@
 // The rules of a card, and what they go by.
-ghost use Rattle.std.specs.Prelude.{◌≡◌, IfSome};
-ghost use Rattle.card_rules.specs.Chosen.{IsSaidByOne};
+ghost use Rattle.std.specs.Prelude.{◌≡◌};
+ghost use Rattle.card_rules.specs.Chosen.{IsSaid, before_of, counted};
 
 use crate::moment::Moment;
 use crate::rule::Rule;
@@ -41,7 +41,6 @@ impl<T: Drop> From<AllocFailed<T>> for RuleFault {
 }
 
 // What the first rule plans that is about this exchange.
-#[tactic(auto, using(crate::proofs::RuledLemmas::said_by))]
 fn said(
     rules: &[Rule],
     random: &mut Pcg32,
@@ -49,7 +48,7 @@ fn said(
     moment: Moment,
     before: u64,
 ) -> Option<Fault>
-    ensures { IfSome result (IsSaidByOne rules.now number moment) }
+    ensures { IsSaid rules.now number moment before result }
 {
     for i in 0..rules.len() {
         let (chance, pick) = (random.next_u32(), random.next_u32());
@@ -98,7 +97,9 @@ impl Rules {
     }
 
     // How many commands with the index of this one came before it.
-    fn before(&self, moment: Moment) -> u64 {
+    fn before(&self, moment: Moment) -> u64
+        ensures { result ≡ before_of self.now.commands moment }
+    {
         match moment {
             Moment::Command(index) => self.commands[usize::from(index) % INDICES],
             _ => 0,
@@ -107,17 +108,18 @@ impl Rules {
 
     // Counts a command.
     fn count(&mut self, moment: Moment)
-        ensures { self.new.rules ≡ self.old.rules }
+        ensures { self.new ≡ record self.old { commands = counted self.old.commands moment } }
     {
         if let Moment::Command(index) = moment {
-            let count = &mut self.commands[usize::from(index) % INDICES];
-            *count = count.saturating_add(1);
+            let place = usize::from(index) % INDICES;
+            self.commands[place] = self.commands[place].saturating_add(1);
         }
     }
 
-    /// The fault that is planned for the next exchange, the one with this number.
+    /// The fault that is planned for the next exchange, the one with this number: the first rule that is about it plans it.
     pub fn next(&mut self, number: u64, moment: Moment) -> Option<Fault>
-        ensures by { IfSome result (IsSaidByOne self.old.rules.items number moment) }
+        ensures said { IsSaid self.old.rules.items number moment (before_of self.old.commands moment) result }
+        ensures counted { self.new.commands ≡ counted self.old.commands moment }
         ensures same { self.new.rules ≡ self.old.rules }
     {
         let before = self.before(moment);

@@ -2,9 +2,13 @@
 use Rattle.std.specs.Prelude.{List, None, Option, Some, [], ◌∷◌, ℕ}
 use Rattle.std.specs.List.{flat_map}
 use Rattle.mmc_card.specs.Card.{Card, stored}
+use Rattle.mmc_card.specs.Sectors.{Sector}
 use Rattle.mmc_card.specs.declared.part.Part.{Part}
 use Rattle.mmc_card.specs.declared.part.Part.TheVariants.{Boot1, Boot2, Gp1, Gp2, Gp3, Gp4, User}
-use Rattle.mmc_card_sim.specs.Store.{bytes_of}
+
+-- the bytes of these sectors, one after the other
+abbrev pub bytes_of : List Sector → List ℕ
+bytes_of sectors = flat_map (λ (sector : Sector). sector) sectors
 
 -- the bytes of these partitions, one after the other
 abbrev pub bytes_in : Card → List Part → List ℕ

@@ -72,6 +72,15 @@ pub enum ServeFault {
     /// The file of `--save` is there already, or couldn't be written.
     #[error("the file of --save is there already, or can't be written")]
     Save,
+    /// The file of `--svg` is there already, or couldn't be written.
+    #[error("the file of --svg is there already, or can't be written")]
+    Svg,
+    /// The file of `--html` is there already, or couldn't be written.
+    #[error("the file of --html is there already, or can't be written")]
+    Html,
+    /// The file of `--timing` is there already, or couldn't be written.
+    #[error("the file of --timing is there already, or can't be written")]
+    Timing,
     /// A rule of `--fault` or the number of `--seed` isn't of its grammar.
     #[error("a rule of --fault, or --seed")]
     Rule,

@@ -4,9 +4,17 @@ use std::fs::{File, OpenOptions};
 use std::io::BufWriter;
 use std::rt::Files;
 
+/// Where a file that is read stands: `-` is standard input.
+pub fn path_of(name: &str) -> &str {
+    match name {
+        "-" => "/dev/stdin",
+        _ => name,
+    }
+}
+
 /// A file that is read, or the fault `unread` where it can't be opened.
 pub fn opened<R: Files>(rt: &R, name: &str, unread: ServeFault) -> Result<R::File, ServeFault> {
-    match File::open(rt, name) {
+    match File::open(rt, path_of(name)) {
         Ok(file) => Ok(file),
         Err(_) => Err(unread),
     }

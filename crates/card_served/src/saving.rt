@@ -1,10 +1,9 @@
 // What a card holds at the end.
-ghost use Rattle.std.specs.Prelude.{OnOk};
+ghost use Rattle.std.specs.Prelude.{◌<◌, OnOk, [], length, slice_index_or};
 ghost use Rattle.std.specs.Io.KnownBytes.{Appends};
 ghost use Rattle.text_out.specs.Writing.{Writes};
 ghost use Rattle.mmc_card.specs.Card.{stored};
-ghost use Rattle.mmc_card_sim.specs.Store.{bytes_of};
-ghost use Rattle.card_served.specs.Saved.{all_parts, bytes_in, saved};
+ghost use Rattle.card_served.specs.Saved.{all_parts, bytes_in, bytes_of, saved};
 
 use mmc_bus::Part;
 use mmc_card_sim::SimCard;
@@ -22,11 +21,26 @@ const PARTS: [Part; 7] = [
     Part::Gp4,
 ];
 
+// Writes a sector of a partition.
+fn save_sector<W: Write>(card: &SimCard, part: Part, i: usize, out: &mut W) -> io::Result<()>
+    requires { i < length (stored card.now.card part) }
+    ensures { Writes (W.contents out.old) (W.contents out.new) result
+        (slice_index_or (stored card.now.card part) i []) }
+{
+    match card.sector(part, i) {
+        Some(sector) => put(out, &sector),
+        None => unreachable!(),
+    }
+}
+
 // Writes the bytes of a partition.
 fn save_part<W: Write>(card: &SimCard, part: Part, out: &mut W) -> io::Result<()>
     ensures { Writes (W.contents out.old) (W.contents out.new) result (bytes_of (stored card.now.card part)) }
 {
-    put(out, card.contents(part))
+    for i in 0..card.size(part) {
+        save_sector(card, part, i, out)?;
+    }
+    Ok(())
 }
 
 // Writes those of all partitions.

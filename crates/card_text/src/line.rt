@@ -12,8 +12,8 @@ use mmc_block::Request;
 use mmc_bus::Part;
 use std::alloc::{AllocError, Global};
 
-// The fields of a line, where there are at most six.
-fn fields(line: &[u8]) -> Option<ArrayVec<&[u8], 6>>
+/// The words of a line between spaces, where there are at most six.
+pub fn fields(line: &[u8]) -> Option<ArrayVec<&[u8], 6>>
     ensures some { IfSome result (λ fields. map (λ f. f.now) fields.items ≡ parts 32 line.now) }
     ensures none { IfNone result (6 < length (parts 32 line.now)) }
 {

@@ -3,7 +3,8 @@ use crate::more::Served;
 use card_explain::{KnownCard, Note, Numbered, put_lines};
 use card_rules::{RuledCard, addressing_of};
 use card_served::{ServeFault, put_healed};
-use mmc_bus::{Bus, Exchange, TraceBus};
+use mmc_block::Healed;
+use mmc_bus::{Bus, Exchange, TraceBus, write_exchange};
 use mmc_card_sim::{CardSpec, Fault, Planned};
 use std::alloc::Global;
 use std::io::{self, Write};
@@ -68,8 +69,28 @@ fn with_notes(
     Ok(noted)
 }
 
-// Writes `trace K` and these lines.
-fn put_all<W: Write>(out: &mut W, count: u64, lines: &[u8]) -> io::Result<()> {
+/// The exchanges that were kept, each with its number and the fault that is planned for it, where any are.
+///
+/// # Errors
+/// `NoMemory`.
+pub fn kept_with_notes(
+    alloc: Global,
+    served: &Served<RuledCard>,
+    plan: &[(u64, Fault)],
+) -> Result<Option<Vec<Numbered>>, ServeFault> {
+    let Some(kept) = &served.kept else {
+        return Ok(None);
+    };
+    let count = served.bus.card.exchanges();
+    let fell = served.bus.fell.as_slice();
+    match with_notes(alloc, kept.as_slice(), count, plan, fell) {
+        Ok(noted) => Ok(Some(noted)),
+        Err(fault) => Err(fault),
+    }
+}
+
+// Writes `trace K`.
+fn put_count<W: Write>(out: &mut W, count: u64) -> io::Result<()> {
     put_pieces(
         out,
         &[
@@ -77,39 +98,51 @@ fn put_all<W: Write>(out: &mut W, count: u64, lines: &[u8]) -> io::Result<()> {
             Piece::Number(count),
             Piece::Text(b"\n"),
         ],
-    )?;
-    put(out, lines)
+    )
 }
 
-/// Writes `trace K` and a line for each of the exchanges that were kept, with words after it and the fault that fell in it or was
-/// planned for it; then what was met and healed. Where none were kept to be explained it writes nothing.
+// Writes `trace K` and these lines, then what was met and healed.
+fn put_all<W: Write>(out: &mut W, count: u64, lines: &[u8], healed: Healed) -> io::Result<()> {
+    put_count(out, count)?;
+    put(out, lines)?;
+    put_healed(out, healed)
+}
+
+/// Writes `trace K` and a line for each of these exchanges, with words after it and the fault that fell in it or was planned for it;
+/// then what was met and healed.
 ///
 /// # Errors
 /// `NoMemory`; `Write` where a write failed, and a front of the lines went out then.
 pub fn put_explained<W: Write>(
     alloc: Global,
     known: KnownCard,
-    served: &Served<RuledCard>,
-    plan: &[(u64, Fault)],
+    noted: &[Numbered],
+    healed: Healed,
     out: &mut W,
 ) -> Result<(), ServeFault> {
-    let Some(kept) = &served.kept else {
-        return Ok(());
-    };
-    let noted = with_notes(
-        alloc,
-        kept.as_slice(),
-        served.bus.card.exchanges(),
-        plan,
-        served.bus.fell.as_slice(),
-    )?;
     let mut lines = Vec::new(alloc);
-    put_lines(alloc, &mut lines, known, noted.as_slice())?;
-    let written = match put_all(out, noted.len() as u64, lines.as_slice()) {
-        Ok(()) => put_healed(out, served.healed),
-        Err(error) => Err(error),
-    };
-    match written {
+    put_lines(alloc, &mut lines, known, noted)?;
+    match put_all(out, noted.len() as u64, lines.as_slice(), healed) {
+        Ok(()) => Ok(()),
+        Err(_) => Err(ServeFault::Write),
+    }
+}
+
+// Writes `trace K` and a line for each of these exchanges.
+fn put_plain<W: Write>(out: &mut W, noted: &[Numbered]) -> io::Result<()> {
+    put_count(out, noted.len() as u64)?;
+    for numbered in noted {
+        write_exchange(&numbered.exchange, out)?;
+    }
+    Ok(())
+}
+
+/// Writes `trace K` and a line for each of these exchanges, without words.
+///
+/// # Errors
+/// `Write`, and a front of the lines went out then.
+pub fn put_unexplained<W: Write>(out: &mut W, noted: &[Numbered]) -> Result<(), ServeFault> {
+    match put_plain(out, noted) {
         Ok(()) => Ok(()),
         Err(_) => Err(ServeFault::Write),
     }

@@ -1,20 +1,20 @@
 // Serves a script, and shows or draws the exchanges.
 ghost use Rattle.std.specs.Prelude.{◌≤◌, None, Some};
 ghost use Rattle.mmc_bus.specs.declared.trace.TheConstants.{MAX_KEPT};
-ghost use Rattle.card_rules.specs.RuledCards.{ruled_view};
 ghost use Rattle.cardtool.specs.More.{IsShown, trace_of};
 ghost use Rattle.cardtool.specs.Whole.{IsServedOver};
 
+use crate::counting::CountingBus;
 use crate::explained::kept_exchanges;
 use crate::serve::{serve_counting, serve_traced};
 use crate::trace::traced;
-use card_rules::RuledCard;
 use card_served::ServeFault;
 use card_text::script::Script;
 use card_wave::WaveBus;
 use mmc_block::Healed;
 use mmc_bus::{Bus, Exchange};
 use std::alloc::Global;
+use std::cell::Cell;
 use std::io::{self, Write};
 
 /// What is shown of the exchanges after the answers.
@@ -120,32 +120,62 @@ pub struct Drawn<V: Write + Drop> {
 }
 
 /// The same, with a waveform of all exchanges where one is wanted: a fault in writing it changes nothing else.
-pub fn serve_drawn<W: Write, V: Write + Drop>(
+pub fn serve_drawn<B: Bus + Drop, W: Write, V: Write + Drop>(
     alloc: Global,
-    card: RuledCard,
+    bus: B,
     script: Script,
     shown: Shown,
     wave: Option<V>,
     out: &mut W,
-) -> (Served<RuledCard>, Option<Drawn<V>>)
+) -> (Served<B>, Option<Drawn<V>>)
     requires { IsShown shown }
-    ensures { IsServedOver (ruled_view card) (ruled_view result.0.bus) script (trace_of shown) (W.contents out.old) (W.contents out.new) result.0.status }
+    ensures { IsServedOver (B.view bus) (B.view result.0.bus) script (trace_of shown) (W.contents out.old) (W.contents out.new) result.0.status }
 {
     let Some(wave) = wave else {
-        return (serve_shown(alloc, card, script, shown, out), None);
+        return (serve_shown(alloc, bus, script, shown, out), None);
     };
     let Served {
         bus,
         kept,
         healed,
         status,
-    } = serve_shown(alloc, WaveBus::new(card, wave), script, shown, out);
-    let (card, wave, written) = bus.into_parts();
+    } = serve_shown(alloc, WaveBus::new(bus, wave), script, shown, out);
+    let (bus, wave, written) = bus.into_parts();
     let served = Served {
-        bus: card,
+        bus,
         kept,
         healed,
         status,
     };
     (served, Some(Drawn { out: wave, written }))
+}
+
+/// The same; the exchanges are counted meanwhile.
+pub fn serve_counted<B: Bus + Drop, W: Write, V: Write + Drop>(
+    alloc: Global,
+    bus: B,
+    count: &Cell<u64>,
+    script: Script,
+    shown: Shown,
+    wave: Option<V>,
+    out: &mut W,
+) -> (Served<B>, Option<Drawn<V>>)
+    requires { IsShown shown }
+    ensures { IsServedOver (B.view bus) (B.view result.0.bus) script (trace_of shown) (W.contents out.old) (W.contents out.new) result.0.status }
+{
+    let bus = CountingBus::new(bus, count);
+    let (served, drawn) = serve_drawn(alloc, bus, script, shown, wave, out);
+    let Served {
+        bus,
+        kept,
+        healed,
+        status,
+    } = served;
+    let served = Served {
+        bus: bus.into_inner(),
+        kept,
+        healed,
+        status,
+    };
+    (served, drawn)
 }

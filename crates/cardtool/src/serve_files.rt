@@ -4,20 +4,26 @@ ghost use Rattle.std.specs.Option.{ForSome};
 ghost use Rattle.mmc_bus.specs.declared.trace.TheConstants.{MAX_KEPT};
 ghost use Rattle.cardtool.specs.More.{IsShown};
 
+use crate::answers::{KeepingWriter, Kept};
 use crate::beside::Beside;
-use crate::explained::{known_card, put_explained};
+use crate::drawing::{Drawings, begun_drawings, discard, draw};
+use crate::explained::{kept_with_notes, known_card, put_explained, put_unexplained};
 use crate::files::{FilesRead, read_files};
-use crate::more::{Drawn, Shown, serve_drawn};
+use crate::more::{Drawn, Served, Shown, serve_counted};
 use crate::options_given::Options;
+use crate::pictures::Pictures;
 use crate::serve::serve;
+use card_explain::{KnownCard, Numbered};
 use card_rules::RuledCard;
 use card_served::{
     ServeFault, WholeFile, begun_where_named, built, named_file, named_new_file, opened, put_stats,
     save,
 };
+use card_text::script::Script;
 use mmc_bus::MAX_KEPT;
-use mmc_card_sim::SimCard;
+use mmc_card_sim::{Fault, SimCard};
 use std::alloc::Global;
+use std::cell::Cell;
 use std::io::{self, BufWriter, Read, Write};
 use std::rt::Files;
 
@@ -41,11 +47,11 @@ pub fn serve_buffered<R: Print + AllocGlobal, C: Read, S: Read, I: Read>(
     }
 }
 
-// What is shown after the answers: without a number the most that a trace keeps, where it is to be explained.
-fn shown(options: &Options<'_>) -> Shown
+// What is kept to be shown after the answers: without a number the most that a trace keeps, where it is to be explained or drawn.
+fn shown(options: &Options<'_>, are_drawn: bool) -> Shown
     ensures { IsShown result }
 {
-    match (options.explains, options.trace) {
+    match (options.explains || are_drawn, options.trace) {
         (true, None) => Shown::Explained(MAX_KEPT as u32),
         (true, Some(n)) => Shown::Explained(n),
         (false, None) => Shown::Nothing,
@@ -77,61 +83,204 @@ fn finish_save<F: Write + Drop>(
     file.finish(rt, written)
 }
 
-// Serves, and explains, draws and saves as the options say.
-fn serve_more<R: Files + Print + Eprint + AllocGlobal, C: Read, S: Read, I: Read>(
-    rt: &R,
-    card: &mut C,
-    script: &mut S,
-    image: &mut Option<I>,
+// Writes the exchanges that were kept after the answers, where that is asked for: with words, or after all was well without.
+fn put_exchanges<W: Write>(
+    alloc: Global,
     options: &Options<'_>,
-    beside: Beside,
-) -> Result<u8, ServeFault> {
-    let alloc = rt.alloc();
-    let Beside { rules, stats } = beside;
-    let FilesRead { spec, plan, script } = read_files(alloc, card, script, image)?;
-    let known = known_card(&spec);
-    let card = built(alloc, spec, plan.as_slice())?;
+    known: KnownCard,
+    served: &Served<RuledCard>,
+    noted: &Result<Option<Vec<Numbered>>, ServeFault>,
+    out: &mut W,
+) -> Result<(), ServeFault> {
+    let noted = match noted {
+        Ok(Some(noted)) => noted.as_slice(),
+        Ok(None) => return Ok(()),
+        Err(fault) => return Err(*fault),
+    };
+    if options.explains {
+        put_explained(alloc, known, noted, served.healed, out)
+    } else if options.trace.is_some() && served.status.is_ok() {
+        put_unexplained(out, noted)
+    } else {
+        Ok(())
+    }
+}
+
+// The files that are written, where they are begun.
+#[derive(Drop)]
+struct Begun<'a, V: Write + Drop, F: Write + Drop> {
+    // The waveform.
+    wave: Option<V>,
+    // The image at the end.
+    image: Option<WholeFile<'a, F>>,
+    // The pictures.
+    drawings: Drawings<'a, F>,
+}
+
+// Begins the files that are written; where one can't be, none is left but that of a waveform.
+fn begun_files<'a, R: Files + AllocGlobal>(
+    rt: &R,
+    options: &Options<'a>,
+    pictures: &Pictures<'a>,
+) -> Result<Begun<'a, BufWriter<R::File>, R::File>, ServeFault> {
     let wave = named_new_file(rt, options.vcd, ServeFault::Vcd)?;
     let image = begun_where_named(rt, options.save, ServeFault::Save)?;
-    let Ok(mut out) = BufWriter::new(alloc, io::writer(rt)) else {
-        return Err(ServeFault::NoMemory);
-    };
-    let card = RuledCard::new(card, rules, known.addressing);
-    let (served, drawn) = serve_drawn(alloc, card, script, shown(options), wave, &mut out);
-    let explained = put_explained(alloc, known, &served, plan.as_slice(), &mut out);
-    let flushed = out.flush();
-    let drawn = finish_wave(drawn);
-    let saved = finish_save(rt, &served.bus.card, image);
-    if stats {
-        put_stats(rt, &served.bus, plan.len(), served.healed);
+    match begun_drawings(rt, pictures) {
+        Ok(drawings) => Ok(Begun {
+            wave,
+            image,
+            drawings,
+        }),
+        Err(fault) => {
+            discard(rt, image);
+            Err(fault)
+        }
     }
-    drawn?;
-    saved?;
-    let status = served.status?;
-    explained?;
+}
+
+// The exit status, or the first fault in the order of these.
+fn ended(
+    files: Result<(), ServeFault>,
+    status: Result<u8, ServeFault>,
+    printed: Result<(), ServeFault>,
+    flushed: io::Result<()>,
+) -> Result<u8, ServeFault> {
+    files?;
+    let status = status?;
+    printed?;
     match flushed {
         Ok(()) => Ok(status),
         Err(_) => Err(ServeFault::Write),
     }
 }
 
+// Writes out what is left of the files, and draws.
+fn finish_files<V: Write + Drop, F: Write + Drop>(
+    rt: &(impl Files + AllocGlobal),
+    pictures: &Pictures<'_>,
+    known: KnownCard,
+    served: &Served<RuledCard>,
+    noted: &Result<Option<Vec<Numbered>>, ServeFault>,
+    answers: &Option<Kept>,
+    planned: usize,
+    image: Option<WholeFile<'_, F>>,
+    drawings: Drawings<'_, F>,
+    drawn: Option<Drawn<V>>,
+) -> Result<(), ServeFault> {
+    let planned = served.bus.planned.saturating_add(planned as u64);
+    let drawn = finish_wave(drawn);
+    let saved = finish_save(rt, &served.bus.card, image);
+    let pictured = draw(
+        rt, pictures, known, served, noted, answers, planned, drawings,
+    );
+    drawn?;
+    saved?;
+    pictured
+}
+
+// Serves a card, and explains, draws and saves as the options say.
+fn serve_card<R: Files + Print + Eprint + AllocGlobal, V: Write + Drop, F: Write + Drop>(
+    rt: &R,
+    card: RuledCard,
+    known: KnownCard,
+    plan: &[(u64, Fault)],
+    script: Script,
+    options: &Options<'_>,
+    pictures: &Pictures<'_>,
+    stats: bool,
+    files: Begun<'_, V, F>,
+) -> Result<u8, ServeFault> {
+    let alloc = rt.alloc();
+    let Begun {
+        wave,
+        image,
+        drawings,
+    } = files;
+    let Ok(out) = BufWriter::new(alloc, io::writer(rt)) else {
+        return Err(ServeFault::NoMemory);
+    };
+    let count = Cell::new(0);
+    let mut out = KeepingWriter::new(alloc, out, &count, pictures.asks());
+    let shown = shown(options, pictures.asks());
+    let (served, drawn) = serve_counted(alloc, card, &count, script, shown, wave, &mut out);
+    let answers = out.take_kept();
+    let noted = kept_with_notes(alloc, &served, plan);
+    let printed = put_exchanges(alloc, options, known, &served, &noted, &mut out);
+    let flushed = out.flush();
+    let files = finish_files(
+        rt,
+        pictures,
+        known,
+        &served,
+        &noted,
+        &answers,
+        plan.len(),
+        image,
+        drawings,
+        drawn,
+    );
+    if stats {
+        put_stats(rt, &served.bus, plan.len(), served.healed);
+    }
+    ended(files, served.status, printed, flushed)
+}
+
+// Serves, and explains, draws and saves as the options say.
+fn serve_more<'a, R: Files + Print + Eprint + AllocGlobal, C: Read, S: Read, I: Read>(
+    rt: &R,
+    card: &mut C,
+    script: &mut S,
+    image: &mut Option<I>,
+    options: &Options<'a>,
+    beside: Beside,
+    pictures: &Pictures<'a>,
+) -> Result<u8, ServeFault> {
+    let alloc = rt.alloc();
+    let Beside { rules, stats } = beside;
+    let FilesRead { spec, plan, script } = read_files(alloc, card, script, image)?;
+    let known = known_card(&spec);
+    let card = built(alloc, spec, plan.as_slice())?;
+    let files = begun_files(rt, options, pictures)?;
+    let card = RuledCard::new(card, rules, known.addressing);
+    serve_card(
+        rt,
+        card,
+        known,
+        plan.as_slice(),
+        script,
+        options,
+        pictures,
+        stats,
+        files,
+    )
+}
+
 /// Opens the files that the options name, the card's first and the image last, and serves. Files that are written must not be
 /// there yet.
 ///
 /// # Errors
-/// `ReadCard`, `ReadScript` or `ReadImage` of a file that can't be opened; then those of `serve`; `Vcd` and `Save` of the files
-/// that are written.
-pub fn serve_files(
+/// `ReadCard`, `ReadScript` or `ReadImage` of a file that can't be opened; then those of `serve`; `Vcd`, `Save`, `Svg`, `Html` and
+/// `Timing` of the files that are written.
+pub fn serve_files<'a>(
     rt: &(impl Files + Print + Eprint + AllocGlobal),
-    options: &Options<'_>,
+    options: &Options<'a>,
     beside: Beside,
+    pictures: &Pictures<'a>,
 ) -> Result<u8, ServeFault> {
     let mut card = opened(rt, options.card, ServeFault::ReadCard)?;
     let mut script = opened(rt, options.script, ServeFault::ReadScript)?;
     let mut image = named_file(rt, options.image, ServeFault::ReadImage)?;
     let is_more = options.explains || options.vcd.is_some() || options.save.is_some();
-    if is_more || beside.asks() {
-        serve_more(rt, &mut card, &mut script, &mut image, options, beside)
+    if is_more || beside.asks() || pictures.asks() {
+        serve_more(
+            rt,
+            &mut card,
+            &mut script,
+            &mut image,
+            options,
+            beside,
+            pictures,
+        )
     } else {
         serve_buffered(rt, &mut card, &mut script, &mut image, options.trace)
     }

@@ -2,8 +2,10 @@
 // people, shows where standard error is a terminal, and with `--explain`.
 use crate::options::matched;
 use crate::options_given::OptionFault;
+use crate::pictures::put_numbers_mistake;
 use card_commands::{put_hint, put_mistake, put_unknown};
 use card_served::ServeFault;
+use clap::ArgMatches;
 use clap::error::ErrorKind;
 use std::rt::Files;
 
@@ -21,15 +23,20 @@ fn put_refused(rt: &(impl Eprint + AllocGlobal), error: &clap::Error) {
     }
 }
 
+// What is wrong with values that `clap` takes.
+fn put_value_mistake(rt: &(impl Eprint + AllocGlobal), matches: &ArgMatches<'_>) {
+    if !put_numbers_mistake(rt, matches) {
+        let _ = eprintln!(rt;
+            "cardtool: --card and --script are needed, and --trace has 1 to 65536"
+        );
+    }
+}
+
 // What is wrong with the words of `serve`.
 fn put_serve_mistake<'a>(rt: &(impl Eprint + AllocGlobal), words: &'a [&'a str]) {
     match matched(rt.alloc(), words) {
         Err(error) => put_refused(rt, &error),
-        Ok(_matches) => {
-            let _ = eprintln!(rt;
-                "cardtool: --card and --script are needed, and --trace has 1 to 65536"
-            );
-        }
+        Ok(matches) => put_value_mistake(rt, &matches),
     }
 }
 

@@ -1,3 +1,2 @@
 pub mod ChipLemmas
-pub mod PieceLemmas
 pub mod StoreLemmas

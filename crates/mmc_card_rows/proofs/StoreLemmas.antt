@@ -1,13 +1,13 @@
 -- Partitions that stand one after the other, and blocks that land in one of them.
-use Rattle.std.proofs.Common.{◌*◌, ◌+◌, ◌++◌, ◌-◌, ◌<◌, ◌∙◌, ◌∷◌, ◌≡◌, ◌≤◌, List, [], ap, arith, drop, false, length}
+use Rattle.std.proofs.Common.{◌*◌, ◌+◌, ◌++◌, ◌-◌, ◌/◌, ◌<◌, ◌∙◌, ◌∷◌, ◌≡◌, ◌≤◌, List, [], ap, arith, drop, false, length}
 use Rattle.std.proofs.Common.{ap₂, append_assoc, min, refl, rules, suc, sym, take, true, zero, ℕ}
 use Rattle.std.proofs.Math.Seq.{drop-append-add, take-length}
-use Rattle.std.proofs.lemmas.List.{drop-drop, length-append, length-drop, length-replicate, length-take, length-take-le}
+use Rattle.std.proofs.lemmas.List.{drop-drop, get_or-drop, get_or-take, length-append, length-drop, length-replicate}
+use Rattle.std.proofs.lemmas.List.{length-take, length-take-le}
 use Rattle.std.proofs.lemmas.List.{places, same_lists, take-replicate, take-take, take_at}
 use Rattle.std.proofs.lemmas.Slice.{drop-put_mid, take-put_mid_below}
 use Rattle.std.specs.Prelude.{IfSome, None, Option, Some, replicate, slice_index_or, slice_set}
 use borrow.Rule.Slice.PartMut.{put_mid}
-use Rattle.mmc_bus.specs.Bytes.{blocks_in}
 use Rattle.mmc_frame.specs.Flips.{AreBytes}
 use Rattle.mmc_card.proofs.ByteLemmas.{block_of}
 use Rattle.mmc_card.proofs.Cards.{blocks_replicate}
@@ -15,10 +15,10 @@ use Rattle.mmc_card.specs.Card.{AreBlocks, landed_in}
 use Rattle.mmc_card.specs.Sectors.{Sector, part_number, pieces}
 use Rattle.mmc_card.specs.declared.part.Part.{Part}
 use Rattle.mmc_card.specs.declared.part.Part.TheVariants.{Boot1, Boot2, Gp1, Gp2, Gp3, Gp4, User}
-use Rattle.mmc_card_rows.proofs.PieceLemmas.{count_blocks}
-use Rattle.mmc_card_rows.specs.SectorLists.{first_sectors, with_values}
+use Rattle.mmc_card_rows.specs.SectorLists.{first_sectors}
 use Rattle.mmc_card_rows.specs.Sizes.{total}
 use Rattle.mmc_card_rows.specs.Store.{split}
+use Rattle.sparse_sectors.specs.SectorLists.{with_values}
 
 -- Where a partition stands.
 
@@ -67,18 +67,18 @@ part_within (n ∷ sizes) xs (suc p) =
     let left = length-drop n xs in
     omega (arith, h, left)
 
--- The same of the bytes of all sectors.
+pub part_fits : (sizes : List ℕ) (xs : List Sector) (p : ℕ) → length xs ≡ total sizes
+    → length (slice_index_or (split sizes xs) p []) ≤ total sizes
+part_fits sizes xs p whole = omega (arith, part_within sizes xs p, whole)
 
-pub part_size : (sizes bytes : List ℕ) (p : ℕ) → p < length sizes → length bytes ≡ 512 * total sizes
-    → length (slice_index_or (split sizes (blocks_in bytes)) p []) ≡ slice_index_or sizes p 0
-part_size sizes bytes p h whole = split_part_length sizes (blocks_in bytes) p h (count_blocks bytes (total sizes) whole)
-
-pub part_fits : (sizes bytes : List ℕ) (p : ℕ) → length bytes ≡ 512 * total sizes
-    → length (slice_index_or (split sizes (blocks_in bytes)) p []) ≤ total sizes
-part_fits sizes bytes p whole =
-    let within = part_within sizes (blocks_in bytes) p in
-    let count = count_blocks bytes (total sizes) whole in
-    omega (arith, within, count)
+-- a sector of the whole is one of a partition
+pub part_at : (sizes : List ℕ) (xs : List Sector) (p i : ℕ) → p < length sizes → i < slice_index_or sizes p 0
+    → slice_index_or xs (total (take p sizes) + i) [] ≡ slice_index_or (slice_index_or (split sizes xs) p []) i []
+part_at sizes xs p i h less =
+    let at = total (take p sizes) in
+    let size = slice_index_or sizes p 0 in
+    sym (ap (λ ys. slice_index_or ys i []) (split_part sizes xs p h)
+    ∙ get_or-take size (drop at xs) i [] less ∙ get_or-drop at xs i [])
 
 put_within : (n s k : ℕ) (xs ys : List Sector) → s + k ≤ n → n ≤ length xs → length ys ≡ k
     → take n (put_mid s k xs ys) ≡ put_mid s k (take n xs) ys
@@ -162,6 +162,15 @@ length_pieces (suc count) bytes = ap suc (length_pieces count (drop 512 bytes))
 pub first_length : (image : Option (List ℕ)) (count erased : ℕ) → length (first_sectors image count erased) ≡ count
 first_length (Some image) count erased = length_pieces count image
 first_length None count erased = length-replicate count (replicate 512 erased)
+
+-- all bytes of an image
+pub of_image : (image : Option (List ℕ)) (bytes items : List ℕ) (count erased : ℕ) → image ≡ Some bytes
+    → IfSome image (λ xs. length xs ≡ 512 * count) → items ≡ bytes
+    → pieces (length items / 512) items ≡ first_sectors image count erased
+of_image image bytes items count erased is whole same =
+    let long : length bytes ≡ 512 * count = rw is at whole in
+    let size : length items / 512 ≡ count = omega (arith, long, ap length same) in
+    ap (λ n. pieces n items) size ∙ ap (pieces count) same ∙ sym (ap (λ x. first_sectors x count erased) is)
 
 -- a card with one partition only
 pub alone : (n : ℕ) (v : Sector)

@@ -1,8 +1,6 @@
 -- The sectors of a card in memory, and what is unfinished in them.
 use Rattle.std.specs.Prelude.{◌++◌, ◌∷◌, Bool, List, [], drop, false, replicate, slice_index_or, slice_set, take}
 use Rattle.std.specs.Prelude.{true, ℕ}
-use Rattle.std.specs.List.{flat_map}
-use Rattle.mmc_bus.specs.Bytes.{blocks_in}
 use Rattle.mmc_card.specs.Card.{landed_in}
 use Rattle.mmc_card.specs.Sectors.{Sector, part_number}
 use Rattle.mmc_card.specs.declared.part.Part.{Part}
@@ -20,14 +18,10 @@ split [] sectors = []
 split (n ∷ sizes) sectors = take n sectors ∷ split sizes (drop n sectors)
 
 unfoldable pub parts_of : Store → List (List Sector)
-parts_of store = split store.sizes (blocks_in store.bytes.items)
+parts_of store = split store.sizes store.sectors
 
 abbrev pub part_of : Store → Part → List Sector
 part_of store part = slice_index_or (parts_of store) (part_number part) []
-
--- the bytes of these sectors, one after the other
-abbrev pub bytes_of : List Sector → List ℕ
-bytes_of sectors = flat_map (λ (sector : Sector). sector) sectors
 
 -- the new values that the write or erase has so far: of an erase so many sectors that are all one byte, and the blocks of a write
 unfoldable pub values_of : Store → List Sector

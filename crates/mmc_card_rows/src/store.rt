@@ -2,15 +2,15 @@
 ghost use Rattle.std.specs.Prelude.{◌*◌, ◌+◌, ◌++◌, ◌<◌, ◌^◌, ◌∷◌, ◌≡◌, ◌≤◌, IfOk, IfSome, None, Some, []};
 ghost use Rattle.std.specs.Prelude.{if◌then◌else◌, length, nat_le, nat_lt, replicate, slice_index_or, slice_set, take, true};
 ghost use Rattle.std.specs.Prelude.{vec_capacity, vec_len};
-ghost use Rattle.mmc_bus.specs.Bytes.{blocks_in};
 ghost use Rattle.mmc_card.specs.Sectors.{part_number};
-ghost use Rattle.mmc_card_rows.specs.SectorLists.{first_sectors, with_values};
+ghost use Rattle.mmc_card_rows.specs.SectorLists.{first_sectors};
 ghost use Rattle.mmc_card_rows.specs.Sizes.{total};
 ghost use Rattle.mmc_card_rows.specs.declared.store.TheConstants.{MAX_LARGE};
 
 use crate::fault::Outcome;
 use mmc_bus::Bytes;
 use mmc_card::Part;
+use sparse_sectors::Sectors;
 use std::alloc::{AllocError, Global};
 
 /// The most sectors that any card in memory may have, in all its partitions together.
@@ -19,8 +19,8 @@ pub const MAX_LARGE: usize = 4_194_304;
 /// The sectors of a card, as they were before the write or erase that is unfinished, and its new values so far.
 #[derive(Debug, Drop)]
 pub struct Store {
-    // The bytes of the partitions one after the other, in the order of `Part`, and how many sectors each has.
-    bytes: Vec<u8>,
+    // The sectors of the partitions one after the other, in the order of `Part`, and how many each has.
+    sectors: Sectors,
     sizes: [usize; 7],
     // The first sector of what is unfinished, counted in its partition, and its new values: so many sectors that an
     // erase makes all one byte, which are kept as their number, and after them the blocks of a write. The room for
@@ -30,7 +30,7 @@ pub struct Store {
     erased_byte: u8,
     blocks: Vec<[u8; 512]>,
     ghost few: { total sizes ≤ MAX_LARGE },
-    ghost whole: { length bytes.items ≡ 512 * total sizes },
+    ghost whole: { length sectors ≡ total sizes },
     ghost room: { total sizes ≤ vec_capacity blocks },
     ghost counted: { erased_count + vec_len blocks ≤ total sizes },
 }
@@ -63,46 +63,27 @@ fn total(sizes: &[usize]) -> usize
     sum
 }
 
-// The bytes of so many sectors of a new card: those of an image, taken over without a copy, or all this byte.
-fn first_bytes(
+// The sectors of a new card: those of an image, whose bytes are taken over without a copy, or so many that are all this byte.
+fn first_sectors(
     alloc: Global,
     count: usize,
     image: Option<Bytes>,
     erased: u8,
-) -> Result<Vec<u8>, AllocError>
+) -> Result<Sectors, AllocError>
     requires few { count ≤ MAX_LARGE }
     requires image { IfSome image (λ bytes. length bytes ≡ 512 * count) }
-    ensures len { IfOk result (λ bytes. length bytes.items ≡ 512 * count) }
-    ensures sectors { IfOk result (λ bytes. blocks_in bytes.items ≡ first_sectors image count erased) }
+    ensures sectors { IfOk result (λ sectors. sectors ≡ first_sectors image count erased) }
+    ensures len { IfOk result (λ sectors. length sectors ≡ count) }
 {
     match image {
-        Some(bytes) => Ok(bytes.into_vec()),
-        None => Ok(vec![in alloc; erased; 512 * count]?),
+        Some(image) => Ok(Sectors::from_image(alloc, image.into_vec())),
+        None => Ok(Sectors::new(alloc, count, erased)?),
     }
-}
-
-// Makes so many sectors, from this one on, all this byte.
-fn erase_sectors(bytes: &mut [u8], first: usize, count: usize, erased: u8)
-    requires { 512 * (first + count) ≤ length bytes.old }
-    ensures sectors { blocks_in bytes.new
-        ≡ with_values (blocks_in bytes.old) first (replicate count (replicate 512 erased)) }
-    ensures len { length bytes.new ≡ length bytes.old }
-{
-    bytes[512 * first..512 * (first + count)].fill(erased);
-}
-
-// Gives the sectors from this one on the values of these blocks.
-fn write_sectors(bytes: &mut [u8], first: usize, blocks: &[[u8; 512]])
-    requires { 512 * (first + length blocks.now) ≤ length bytes.old }
-    ensures sectors { blocks_in bytes.new ≡ with_values (blocks_in bytes.old) first blocks.now }
-    ensures len { length bytes.new ≡ length bytes.old }
-{
-    bytes[512 * first..512 * (first + blocks.len())].copy_from_slice(blocks.as_flattened());
 }
 
 impl Store {
     ghost use Rattle.mmc_card.specs.Card.{landed_in};
-    ghost use Rattle.mmc_card_rows.specs.Store.{bytes_of, landed_by, parts_of, part_of, split, values_of};
+    ghost use Rattle.mmc_card_rows.specs.Store.{landed_by, parts_of, part_of, split, values_of};
 
     /// Partitions of these sizes, at most `MAX_LARGE` sectors together, with the bytes of an image, which is taken over
     /// without a copy, or all with this byte.
@@ -122,7 +103,7 @@ impl Store {
     {
         let count = total(&sizes);
         Ok(Store {
-            bytes: first_bytes(alloc, count, image, erased)?,
+            sectors: first_sectors(alloc, count, image, erased)?,
             sizes,
             start: 0,
             erased_count: 0,
@@ -139,15 +120,6 @@ impl Store {
         total(&self.sizes[..part_number(part)])
     }
 
-    // The sectors of a partition.
-    fn sectors_of(&self, part: Part) -> &[[u8; 512]]
-        ensures { result.now ≡ part_of self.now part }
-    {
-        let first = self.first_of(part);
-        let (sectors, _) = self.bytes.as_chunks::<512>();
-        &sectors[first..first + self.size(part)]
-    }
-
     /// How many sectors a partition has.
     pub fn size(&self, part: Part) -> usize
         ensures size { result ≡ length (part_of self.now part) }
@@ -162,14 +134,10 @@ impl Store {
             ≡ (if nat_lt sector (length (part_of self.now part))
             then Some (slice_index_or (part_of self.now part) sector []) else None) }
     {
-        self.sectors_of(part).get(sector).copied()
-    }
-
-    /// The bytes of a partition.
-    pub fn contents(&self, part: Part) -> &[u8]
-        ensures { result.now ≡ bytes_of (part_of self.now part) }
-    {
-        self.sectors_of(part).as_flattened()
+        if sector < self.size(part) {
+            return Some(*self.sectors.sector(self.first_of(part) + sector));
+        }
+        None
     }
 
     /// A write begins at this sector of its partition.
@@ -282,12 +250,9 @@ impl Store {
         let count = self.count().min(size - start);
         let erased = self.erased_count.min(count);
         let first = self.first_of(part) + start;
-        erase_sectors(&mut self.bytes, first, erased, self.erased_byte);
-        write_sectors(
-            &mut self.bytes,
-            first + erased,
-            &self.blocks[..count - erased],
-        );
+        self.sectors.fill(first, erased, self.erased_byte);
+        self.sectors
+            .put_all(first + erased, &self.blocks[..count - erased]);
         self.drop_values();
     }
 }

@@ -1,6 +1,6 @@
 // A card in memory of any kind, that has the faults that are planned.
 ghost use Rattle.std.specs.Prelude.{◌+◌, ◌-◌, ◌<◌, ◌==◌, ◌^◌, ◌≡◌, ◌≤◌, IfErr, IfOk, IsOk, None, OnErr, Some, []};
-ghost use Rattle.std.specs.Prelude.{false, if◌then◌else◌, length, true, ℕ};
+ghost use Rattle.std.specs.Prelude.{false, if◌then◌else◌, length, slice_get, true, ℕ};
 ghost use Rattle.mmc_card_sim.specs.Plan.{fault_at, refusal_of, to_come};
 ghost use Rattle.mmc_card_sim.specs.FaultyExchanges.{Commands, Polls, Reads, Writes, fits_command, fits_poll};
 ghost use Rattle.mmc_card_sim.specs.FaultyExchanges.{fits_read, fits_write};
@@ -94,7 +94,6 @@ impl SimCard {
     ghost use Rattle.mmc_card_sim.specs.CardSpec.{refusal_within};
     ghost use Rattle.mmc_card_rows.specs.Registers.{made_of};
     ghost use Rattle.mmc_card_sim.specs.SimView.{first_parts};
-    ghost use Rattle.mmc_card_rows.specs.Store.{bytes_of};
 
     /// This card, before any exchange and without a planned fault.
     pub(crate) fn unused(chip: Chip, delays: Delays) -> SimCard
@@ -197,11 +196,18 @@ impl SimCard {
         self.faults
     }
 
-    /// The bytes of a partition, 512 a sector; of a write, erase or trim that is unfinished the old ones.
-    pub fn contents(&self, part: Part) -> &[u8]
-        ensures { result.now ≡ bytes_of (stored self.now.card part) }
+    /// How many sectors a partition has.
+    pub fn size(&self, part: Part) -> usize
+        ensures { result ≡ length (stored self.now.card part) }
     {
-        self.chip.store.contents(part)
+        self.chip.store.size(part)
+    }
+
+    /// A sector of a partition, if there is such a sector; of a write, erase or trim that is unfinished the old one.
+    pub fn sector(&self, part: Part, sector: usize) -> Option<[u8; 512]>
+        ensures { result ≡ slice_get (stored self.now.card part) sector }
+    {
+        self.chip.store.sector(part, sector)
     }
 
     /// Plans a fault for an exchange, counted from 0; a second one for the same exchange replaces the first.

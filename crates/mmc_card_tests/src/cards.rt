@@ -139,9 +139,8 @@ pub fn expect_taken(rt: &impl Abort, card: &mut SimCard, byte: u8, wanted: DataO
 
 /// Sectors of a partition are filled with these bytes, from this one on.
 pub fn expect_filled(rt: &impl Abort, card: &SimCard, part: Part, sector: usize, bytes: &[u8]) {
-    let (sectors, _) = card.contents(part).as_chunks::<512>();
     for (i, byte) in bytes.iter().enumerate() {
-        let found = sectors.get(sector.saturating_add(i));
-        assert!(rt; found == Some(&[*byte; 512]), "sector {sector} and {i}");
+        let found = card.sector(part, sector.saturating_add(i));
+        assert!(rt; found == Some([*byte; 512]), "sector {sector} and {i}");
     }
 }

@@ -136,13 +136,15 @@ module _ {B : Type 0} (view : B → BusView) (opened : BusView) where
 
 -- ---- what stays in a call that makes no exchange
 
+pub bus_and_info : {B : Type 0} (a b : DeviceView B) → a ≡ b → (a.bus ≡ b.bus) × (a.info ≡ b.info)
+bus_and_info {B = B} a b same = (ap (λ (d : DeviceView B). d.bus) same, ap (λ (d : DeviceView B). d.info) same)
+
 -- it changes what waits alone, or nothing
 pub same_by : {A E B : Type 0} {Changes : A → Type 0} (old new : DeviceView B) (reply : Result A E) → IfOk reply Changes
     → ((x : A) → Changes x → (new.bus ≡ old.bus) × (new.info ≡ old.info)) → OnErr reply (new ≡ old)
     → (new.bus ≡ old.bus) × (new.info ≡ old.info)
 same_by old new (Ok x) changes stays refused = stays x changes
-same_by {B = B} old new (Err why) changes stays refused =
-    (ap (λ (d : DeviceView B). d.bus) refused, ap (λ (d : DeviceView B). d.info) refused)
+same_by old new (Err why) changes stays refused = bus_and_info new old refused
 
 pub kept_by : {B : Type 0} (view : B → BusView) (old new : B) → new ≡ old → (view new).is_kept ≡ true → (view old).is_kept ≡ true
 kept_by view old new is kept = subst (λ b. (view b).is_kept ≡ true) is kept

@@ -127,15 +127,27 @@ pub fn is_served(answers: &[Completion], count: u8, byte: u8) -> bool {
     }
 }
 
-// The sectors that were written hold it, and no other one does.
-fn holds(contents: &[u8]) -> bool {
-    for i in 0..contents.len() {
-        let is_written = i >= 512 && i < 1536;
-        if (contents[i] == 0x5a) != is_written {
+// A sector is filled with what was written, or has it nowhere.
+fn is_right(sector: &[u8], is_written: bool) -> bool {
+    for byte in sector {
+        if (*byte == 0x5a) != is_written {
             return false;
         }
     }
-    contents.len() >= 1536
+    true
+}
+
+// The sectors that were written hold it, and no other one does.
+fn holds(card: &SimCard) -> bool {
+    for i in 0..card.size(Part::User) {
+        let Some(sector) = card.sector(Part::User, i) else {
+            return false;
+        };
+        if !is_right(&sector, i == 1 || i == 2) {
+            return false;
+        }
+    }
+    card.size(Part::User) >= 3
 }
 
 fn lines_of<B: Bus>(device: &BlockDev<B>) -> Lines {
@@ -162,7 +174,7 @@ fn judge(bus: &Driver, lines: Lines) -> Result<Served, Fail> {
     check(bus)?;
     let model = bus.host().registers();
     let card = &model.host().card;
-    if !holds(card.contents(Part::User)) {
+    if !holds(card) {
         return Err("not served".into());
     }
     Ok(Served {

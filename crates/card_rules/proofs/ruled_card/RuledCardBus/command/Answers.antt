@@ -1,7 +1,9 @@
+use Rattle.std.specs.Prelude.{◌%◌, slice_index_or}
 use Rattle.mmc_card.specs.Faults.{CommandStep}
 use Rattle.mmc_card.specs.declared.exchange.Exchange.TheVariants.{Command}
 use Rattle.card_rules.proofs.RuledLemmas.{exchanged, falls_as}
-use Rattle.card_rules.specs.RuledCards.{DoesCommand}
+use Rattle.card_rules.specs.RuledCards.{DoesCommand, IsChosen}
+use Rattle.card_rules.specs.declared.moment.Moment.TheVariants.{Command as Commands}
 use Rattle.card_rules.proofs.StepLemmas.{command_seen}
 use Rattle.card_rules.proofs.ruled_card.RuledCardBus.command.Goals as goal
 
@@ -18,4 +20,8 @@ returns c =
       falls =
           falls_as c.args.self.now.card c.prepare-fault.new.self.card c.command-reply.new.self c.note.new.self.card prepared.plans.card
           e.plan c.note.ensures.card (λ f m n. DoesCommand f m c.args.frame c.command-reply.result n) (λ d. d) (e.does, e.counts);
+      chosen =
+          falls_as c.args.self.now.card c.prepare-fault.new.self.card c.command-reply.new.self c.note.new.self.card prepared.plans.card
+          e.plan c.note.ensures.card (λ f m n. IsChosen c.args.self.now (Commands (slice_index_or c.args.frame 0 0 % 64)) f) (λ d. d)
+          c.prepare-fault.ensures.chosen;
     }

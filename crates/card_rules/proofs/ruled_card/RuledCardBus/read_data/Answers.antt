@@ -2,7 +2,8 @@ use Rattle.std.proofs.Common.{length}
 use Rattle.mmc_card.specs.Faults.{ReadStep}
 use Rattle.mmc_card.specs.declared.exchange.Exchange.TheVariants.{In}
 use Rattle.card_rules.proofs.RuledLemmas.{exchanged, falls_as}
-use Rattle.card_rules.specs.RuledCards.{DoesRead}
+use Rattle.card_rules.specs.RuledCards.{DoesRead, IsChosen}
+use Rattle.card_rules.specs.declared.moment.Moment.TheVariants.{Read}
 use Rattle.card_rules.proofs.StepLemmas.{read_seen}
 use Rattle.card_rules.proofs.ruled_card.RuledCardBus.read_data.Goals as goal
 
@@ -19,4 +20,8 @@ returns c =
       falls =
           falls_as c.args.self.now.card c.prepare-fault.new.self.card c.read_data-got.new.self c.note.new.self.card prepared.plans.card
           e.plan c.note.ensures.card (λ f m n. DoesRead f m (length c.args.buffer.now) c.read_data-got.result c.read_data-got.new.buffer n) (λ d. d) (e.does, e.counts);
+      chosen =
+          falls_as c.args.self.now.card c.prepare-fault.new.self.card c.read_data-got.new.self c.note.new.self.card prepared.plans.card
+          e.plan c.note.ensures.card (λ f m n. IsChosen c.args.self.now (Read c.args.self.now.place.next) f) (λ d. d)
+          c.prepare-fault.ensures.chosen;
     }

@@ -15,7 +15,7 @@ another_fits : (store : Store) (part : Part)
     → store.erased_count + store.blocks.len < total store.sizes
 unfolding parts_of values_of
 another_fits store part h =
-    let fits = part_fits store.sizes store.bytes.items (part_number part) store.whole in
+    let fits = part_fits store.sizes store.sectors (part_number part) store.whole in
     let all = length-append (replicate store.erased_count (replicate 512 store.erased_byte)) store.blocks.items in
     let erased = length-replicate store.erased_count (replicate 512 store.erased_byte) in
     let blocks = store.blocks.ok.0 in

@@ -8,7 +8,7 @@ pub invariant_of-self : goal.invariant_of-self
 unfolding parts_of
 invariant_of-self c =
     let store = c.args.self.now in
-    let fits = part_fits store.sizes store.bytes.items (part_number c.args.part) store.whole in
+    let fits = part_fits store.sizes store.sectors (part_number c.args.part) store.whole in
     record {
       few = store.few;
       whole = store.whole;

@@ -8,5 +8,5 @@ pub overflow_add-next : goal.overflow_add-next
 unfolding parts_of
 overflow_add-next c =
     let store = c.args.self.now in
-    let fits = part_fits store.sizes store.bytes.items (part_number c.args.part) store.whole in
+    let fits = part_fits store.sizes store.sectors (part_number c.args.part) store.whole in
     omega (arith, fits, store.few, c.count.ensures.count, c.requires)

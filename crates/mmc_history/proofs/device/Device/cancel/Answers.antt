@@ -1,8 +1,6 @@
-use Rattle.std.proofs.Common.{ap}
-use Rattle.mmc_block.specs.Device.{DeviceView}
 use Rattle.mmc_block.specs.Execution.{cancelled_reply}
 use Rattle.mmc_block.specs.Execution.Event.{Cancel}
-use Rattle.mmc_history.proofs.ServingLemmas.{continues, goes_on, kept_by, same_by}
+use Rattle.mmc_history.proofs.ServingLemmas.{bus_and_info, continues, goes_on, kept_by, same_by}
 use Rattle.mmc_history.proofs.device.Device.cancel.Goals as goal
 
 pub invariant_of-self : goal.invariant_of-self
@@ -11,7 +9,7 @@ invariant_of-self g c =
     let new = c.cancel-reply.new.self in
     let e = c.cancel-reply.ensures in
     let same = same_by old new c.cancel-reply.result e.cancelled
-    (λ _ given. (ap (λ (d : DeviceView g.row.B.Denot). d.bus) given.waits, ap (λ (d : DeviceView g.row.B.Denot). d.info) given.waits))
+    (λ _ given. bus_and_info new _ given.waits)
     e.refused in
     goes_on g.B.Bus.view c.self.inside.opened (Cancel c.args.ticket) (cancelled_reply c.cancel-reply.result) old new
     c.self.inside.calls.past c.then-self-inside.result.past c.then-self-inside.ensures same.1
@@ -23,7 +21,7 @@ returns g c =
     let new = c.cancel-reply.new.self in
     let e = c.cancel-reply.ensures in
     let same = same_by old new c.cancel-reply.result e.cancelled
-    (λ _ given. (ap (λ (d : DeviceView g.row.B.Denot). d.bus) given.waits, ap (λ (d : DeviceView g.row.B.Denot). d.info) given.waits))
+    (λ _ given. bus_and_info new _ given.waits)
     e.refused in
     record {
       continues = continues g.B.Bus.view c.self.inside.opened c.an_execution_has_its_laws.ensures (Cancel c.args.ticket)

@@ -1,8 +1,6 @@
-use Rattle.std.proofs.Common.{ap}
-use Rattle.mmc_block.specs.Device.{DeviceView}
 use Rattle.mmc_block.specs.Execution.{submitted_reply}
 use Rattle.mmc_block.specs.Execution.Event.{Submit}
-use Rattle.mmc_history.proofs.ServingLemmas.{continues, goes_on, kept_by, same_by}
+use Rattle.mmc_history.proofs.ServingLemmas.{bus_and_info, continues, goes_on, kept_by, same_by}
 use Rattle.mmc_history.proofs.device.Device.submit.Goals as goal
 
 pub invariant_of-self : goal.invariant_of-self
@@ -11,7 +9,7 @@ invariant_of-self g c =
     let new = c.submit-reply.new.self in
     let e = c.submit-reply.ensures in
     let same = same_by old new c.submit-reply.result e.accepted
-    (λ _ queued. (ap (λ (d : DeviceView g.row.B.Denot). d.bus) queued.waits, ap (λ (d : DeviceView g.row.B.Denot). d.info) queued.waits))
+    (λ _ given. bus_and_info new _ given.waits)
     e.refused in
     goes_on g.B.Bus.view c.self.inside.opened (Submit c.args.client c.args.request) (submitted_reply c.submit-reply.result) old new
     c.self.inside.calls.past c.then-self-inside.result.past (rw c.of-asked.ensures at c.then-self-inside.ensures) same.1
@@ -23,7 +21,7 @@ returns g c =
     let new = c.submit-reply.new.self in
     let e = c.submit-reply.ensures in
     let same = same_by old new c.submit-reply.result e.accepted
-    (λ _ queued. (ap (λ (d : DeviceView g.row.B.Denot). d.bus) queued.waits, ap (λ (d : DeviceView g.row.B.Denot). d.info) queued.waits))
+    (λ _ given. bus_and_info new _ given.waits)
     e.refused in
     record {
       continues = continues g.B.Bus.view c.self.inside.opened c.an_execution_has_its_laws.ensures

@@ -1,0 +1,10 @@
+pub mod Arrows
+pub mod Columns
+pub mod Escapes
+pub mod Faults
+pub mod Messages
+pub mod Page
+pub mod Rows
+pub mod Sequence
+pub mod Table
+pub mod Timing

@@ -1,0 +1,3 @@
+pub mod ExchangeLines
+pub mod Known
+pub mod TraceText

@@ -1,0 +1,9 @@
+//! Sectors in memory: those of an image in its own bytes, others in memory that is taken as they are written.
+#![tactic(auto)]
+
+mod chunk;
+mod chunks;
+mod image;
+mod sectors;
+
+pub use sectors::Sectors;

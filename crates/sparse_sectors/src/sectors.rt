@@ -1,0 +1,107 @@
+// Sectors in memory.
+ghost use Rattle.std.specs.Prelude.{◌+◌, ◌<◌, ◌^◌, ◌≡◌, ◌≤◌, IfOk, length, replicate, slice_index_or, slice_set, []};
+ghost use Rattle.sparse_sectors.specs.SectorLists.{sectors_in, with_values};
+
+use crate::chunks::Chunks;
+use crate::image;
+use std::alloc::{AllocError, Global};
+use std::marker::Model;
+
+/// Sectors of 512 bytes each, that are written and read by their number, from 0 on. No write is refused.
+#[derive(Debug, Drop)]
+pub struct Sectors {
+    // The first sectors, as the bytes of an image, and those after them.
+    image: Vec<u8>,
+    rest: Chunks,
+}
+
+impl Model for Sectors {
+    ghost use Rattle.std.specs.Prelude.{List, ℕ, ◌++◌};
+    ghost use Rattle.sparse_sectors.specs.SectorLists.{sectors_in};
+
+    ghost Value = { List (List ℕ) };
+
+    ghost view = { λ s. sectors_in s.image.items ++ s.rest };
+}
+
+impl Sectors {
+    /// So many sectors, at most 2^32, that are all this byte. They take memory as they are written, in chunks, whose room
+    /// is taken here as address space.
+    pub fn new(alloc: Global, count: usize, erased: u8) -> Result<Sectors, AllocError>
+        requires { count ≤ 2 ^ 32 }
+        ensures { IfOk result (λ sectors. sectors ≡ replicate count (replicate 512 erased)) }
+    {
+        let rest = Chunks::new(alloc, count, erased)?;
+        Ok(Sectors {
+            image: Vec::new(alloc),
+            rest,
+        })
+    }
+
+    /// The sectors of an image, whose bytes are taken over without a copy; bytes after the last whole sector are none.
+    pub fn from_image(alloc: Global, image: Vec<u8>) -> Sectors
+        ensures { result ≡ sectors_in image.items }
+    {
+        Sectors {
+            image,
+            rest: Chunks::none(alloc),
+        }
+    }
+
+    // How many there are.
+    fn len(&self) -> usize
+        ensures { result ≡ length self.now }
+    {
+        self.image.len() / 512 + self.rest.len()
+    }
+
+    /// A sector.
+    pub fn sector(&self, i: usize) -> &[u8; 512]
+        requires { i < length self.now }
+        ensures { result.now ≡ slice_index_or self.now i [] }
+    {
+        let first = self.image.len() / 512;
+        if i < first {
+            return image::sector(&self.image, i);
+        }
+        self.rest.sector(i - first)
+    }
+
+    /// Gives a sector another value.
+    pub fn put(&mut self, i: usize, sector: &[u8; 512])
+        requires { i < length self.old }
+        ensures { self.new ≡ slice_set self.old i sector.now }
+    {
+        let first = self.image.len() / 512;
+        if i < first {
+            image::put(&mut self.image, i, sector);
+            return;
+        }
+        self.rest.put(i - first, sector);
+    }
+
+    /// Gives the sectors from this one on these values.
+    pub fn put_all(&mut self, first: usize, sectors: &[[u8; 512]])
+        requires { first + length sectors.now ≤ length self.old }
+        ensures { self.new ≡ with_values self.old first sectors.now }
+    {
+        // So each sector's number fits.
+        prove!(first <= self.len());
+        for i in 0..sectors.len() {
+            self.put(first + i, &sectors[i]);
+        }
+    }
+
+    /// Makes so many sectors, from this one on, all this byte.
+    pub fn fill(&mut self, first: usize, count: usize, erased: u8)
+        requires { first + count ≤ length self.old }
+        ensures { self.new ≡ with_values self.old first (replicate count (replicate 512 erased)) }
+    {
+        // So each sector's number fits.
+        prove!(first <= self.len());
+        let blank = [erased; 512];
+        for i in 0..count {
+            self.put(first + i, &blank);
+        }
+    }
+}
