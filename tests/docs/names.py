@@ -6,8 +6,8 @@ from pathlib import Path
 from documents import TOP, files, source
 from tree import needs, ported
 
-# what others than the tree name: the toolchain's commands, and the standards
-FOREIGN = {"fail-alloc", "plant", "ERR_UNSUP", "ERR_UNKNOWN", "ERR_INVALID"}
+# what others than the tree name: commands of the toolchain and of Debian, and the standards
+FOREIGN = {"fail-alloc", "plant", "nbdfuse", "ERR_UNSUP", "ERR_UNKNOWN", "ERR_INVALID"}
 # hosts send these commands; a law names each by its number
 HOSTS = ["mmc_identify", "mmc_switch", "mmc_transfer", "mmc_erase", "mmc_recovery", "mmc_bus"]
 

@@ -1,9 +1,6 @@
 """File systems with files, copied onto cards that fail: behind it they are clean, and the files are what they were."""
-import os
 import random
-import re
 import shutil
-import subprocess
 from pathlib import Path
 
 import cards
@@ -96,13 +93,8 @@ def commands_of(folder, *titles):
     return lines, "\n".join([f"cd {folder}", "PATH=$PATH:.", *lines])
 
 
-def can_mount():
-    """Whether a file of FUSE can be mounted here."""
-    return os.geteuid() == 0 and Path("/dev/fuse").exists() and subprocess.run(["losetup", "-f"], capture_output=True).returncode == 0
-
-
 def as_the_document_says(trial):
-    """The commands for a file system on a card, for several clients at once, for fio, and for a mounted file system."""
+    """The commands for a file system on a card, for several clients at once, and for fio."""
     folder = Path(trial.path("document"))
     for name in ("docs", "examples"):
         shutil.copytree(TOP / name, folder / name)
@@ -119,13 +111,6 @@ def as_the_document_says(trial):
         trial.want("CARDTOOL: fio", (status, "err= 0" in output, "cardtool: exchanges " in errors), (0, True, True))
     else:
         print("nbd: fio isn't installed: not tried")
-    if shutil.which("nbdfuse") and can_mount():
-        status, output, errors = trial.client("bash", trial.file("mounted", commands_of(folder, "Mounted")[1]))
-        trial.want("CARDTOOL: mounted", status, 0)
-        more = subprocess.run(["debugfs", "-R", "ls -p /more", folder / "kept.img"], capture_output=True, text=True).stdout
-        trial.want("CARDTOOL: what was written to it", sorted(set(re.findall(r"/([\w.]+\.md)/", more))), sorted(path.name for path in (TOP / "docs").glob("*.md")))
-    else:
-        print("nbd: nothing can be mounted here, or nbdfuse isn't installed: not tried")
 
 
 def try_all(trial):
