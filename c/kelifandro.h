@@ -49,7 +49,8 @@ enum kelifandro_result {
     KELIFANDRO_NOT_ERASABLE = -6,
     /* Neither a host nor registers are given. */
     KELIFANDRO_NO_HOST = -7,
-    /* Four attempts have failed, by the cause that is named. Each sector of a write, an erase or a trim is old or new. */
+    /* Four attempts have failed, by the cause that is named. Each sector of a write, an erase or a trim is old or new. The card stays
+       open: the next request settles it first, or resets it; RECOVERY says that it didn't answer to that any more. */
     KELIFANDRO_FAILED_ANSWER = -10,
     KELIFANDRO_FAILED_DATA = -11,
     KELIFANDRO_FAILED_STATUS = -12,
@@ -87,11 +88,12 @@ enum kelifandro_data { KELIFANDRO_NO_DATA, KELIFANDRO_READ, KELIFANDRO_WRITE };
 struct kelifandro_command {
     uint8_t index;    /* 0 to 63 */
     uint8_t response; /* enum kelifandro_response */
-    /* The data after the command. Its blocks are moved by read_block and write_block. */
+    /* The data after the command. Its blocks are moved by transfer, or by read_block and write_block. */
     uint8_t data;          /* enum kelifandro_data */
     uint32_t argument;
     uint16_t block_length; /* bytes: 8, 64 or 512 */
-    uint16_t blocks;       /* how many are moved: 1 of a register; a CMD18 or CMD25 without CMD23 before it is ended by CMD12 after them */
+    uint16_t blocks;       /* how many are moved, which a controller's block count is set to: 1 of a register. CMD12, which ends a CMD18 or
+                              CMD25, and CMD23 before one, come as commands of their own: the controller's automatic ones are off */
 };
 
 /* What became of blocks: how many were good or accepted, and what read_block or write_block would have answered to the one that failed, 1
@@ -102,9 +104,9 @@ struct kelifandro_moved {
 };
 
 /* A host controller. Before kelifandro_open the card has had 3.3 V and a clock of at most 400 kHz for a millisecond and 74 clocks (SD
-   Physical Layer 6.00, section 6.4.1), on one data line: no function asks for that. Each has a time to keep: docs/PORTING.md.
-   `is_busy`, `set_ios` and `pause` have to be set, and `transfer` alone (c/examples/port.c), or `send`, `read_block` and `write_block`, or
-   all four. */
+   Physical Layer 6.00, section 6.4.1), on one data line: by what the board does before, or by `set_power`. Each function has a time to
+   keep: docs/PORTING.md. Which of them are set isn't looked at: `is_busy`, `set_ios` and `pause` have to be, and `transfer` alone
+   (c/examples/port.c), or `send`, `read_block` and `write_block`, or all four. */
 struct kelifandro_host {
     void *context;
     /* The most data lines that are wired, 1, 4 or 8 (any other number is 1), and whether it has high speed. */
@@ -113,14 +115,16 @@ struct kelifandro_host {
     /* Sends a command and waits for its response, for 64 clocks at least: 0 where it was heard, and for a command that has none
        (KELIFANDRO_NO_RESPONSE); otherwise why it wasn't heard. Data of an earlier command may have been given up: what is left of it in
        the controller is dropped first. Bits 39 to 8 of a short response go to response[0]; of R2 bits 127 to 96 to
-       response[0], and so on; bits 7 to 0, the check, aren't used. It judges checks and indexes. */
+       response[0], and so on; bits 7 to 0, the check, aren't used. It judges checks and indexes. A command is sent though the card holds
+       DAT0 low (CMD13, CMD12, CMD0 come then), and the end of that isn't waited for: is_busy does. `response` is always there. */
     int (*send)(void *context, const struct kelifandro_command *command, uint32_t response[4]);
     /* Reads the next block: 0 a good one, 1 a bad one, 2 none within 100 ms. */
     int (*read_block)(void *context, void *block, size_t length);
     /* Writes the next block of 512 bytes: 0 the card's status says accepted, 1 rejected, 2 it didn't come. */
     int (*write_block)(void *context, const void *block);
-    /* Waits until the card lets DAT0 go, or so many microseconds are over: 1 where it's still low then, otherwise 0, at once. It is asked
-       after each block that was accepted, and after each R1B; up to sixteen times where the answer is 1. */
+    /* 0 as soon as the card has let DAT0 go; 1 where DAT0 is low still once so many microseconds are over, at most 900,000,000 (count
+       ticks in 64 bits). It is asked after each block that was accepted, and after each R1B; up to sixteen times where the answer is 1.
+       The card's clock runs on meanwhile. */
     int (*is_busy)(void *context, uint32_t microseconds);
     /* Sets how many data lines are in use, the timing, and the clock, to so many hertz at most. No data is under way then. It is told
        before the first command of each call, mostly what is set already. */
@@ -129,9 +133,11 @@ struct kelifandro_host {
     void (*pause)(void *context, uint32_t microseconds);
     /* May be 0. A command and its blocks by one call: sends the command as `send` does, and answers as `send`. Where the response was
        heard it moves the first of the blocks, of command->block_length bytes, one after the other from `memory` on: reads them into
-       it, or writes them. `blocks` have room; it may move fewer, as the controller can, even none. It ends after a block that isn't
-       good or accepted. Between two that it writes it waits until the card is no longer busy, for 512 ms at most, and ends where that takes
-       longer; after the last one is_busy is asked.
+       it, or writes them. `blocks` have room, at most command->blocks, and 0 where there is no data to move; it may move fewer, as the
+       controller can, even none. It ends after a block that isn't good or accepted. Between two that it writes it waits until the card is
+       no longer busy, for 512 ms at most, and ends where that takes longer, with `failed` 0; after the last one is_busy is asked. A
+       controller with DMA of its own: what caches hold of the memory is written back before, and dropped before and after a read; memory
+       that shares a cache line with other data goes through a buffer.
        `moved` is zero before. What it hasn't moved is asked for by read_block, write_block and is_busy. `memory` is what the caller of
        kelifandro_read or kelifandro_write gave, or 512 bytes of the library's, with any alignment; only a command that reads may change
        it. Where it always moves all, `send`, `read_block` and `write_block` may be 0: a block that it leaves is one that didn't come. */
@@ -168,9 +174,9 @@ struct kelifandro_registers {
        gives memory.
        lend: the controller is to read from these bytes or, where `is_written` is 1, to write to them. Writes back what caches hold of
        them, and drops it where they are written to. Answers their bus address, a multiple of 4; 0 where the controller can't have them
-       (not in one piece, not aligned). It may lend a buffer of its own. What a controller can't reach is taken back at once, and goes
-       through the Buffer Data Port: without bit 28 what lies beyond 32 bits, with it what doesn't begin at a multiple of 8 there, and by
-       SDMA what crosses a multiple of 512 KiB.
+       (not in one piece; not a multiple of 4; written to, and sharing a cache line with other data). It may lend a buffer of its own. What
+       a controller can't reach is taken back at once, and goes through the Buffer Data Port: without bit 28 what lies beyond 32 bits, with
+       it what doesn't begin at a multiple of 8 there, and by SDMA what crosses a multiple of 512 KiB.
        take_back: these bytes, which were lent, are the library's again: where they were written to, they hold what the controller has
        left there. The controller is at rest then. */
     uint64_t (*lend)(void *context, void *bytes, size_t n, int is_written);
@@ -183,9 +189,10 @@ struct kelifandro_registers {
     /* What a board knows in place of its controller; 0 is as the registers say. */
     uint8_t is_there;      /* 1: there is always a card: it is soldered, or the slot's switch isn't wired */
     uint8_t is_by_words;   /* 1: the controller takes 32-bit accesses alone: `size` is 4 then, and `offset` a multiple of 4 */
-    uint32_t capabilities; /* where it isn't 0, in place of Capabilities (40h), whatever they read: the base clock in MHz in bits 15 to 8,
-                              rounded up, and bits 18 for eight lines, 19 for ADMA2, 21 for high speed, and 24 for 3.3 V. A controller before 3.00
-                              has six bits for its clock: one that is told as faster than 63 MHz isn't opened
+    uint32_t capabilities; /* where it isn't 0, in place of all of Capabilities (40h): the base clock in MHz in bits 15 to 8, rounded up, and
+                              bits 18 for eight lines that are wired, 19 for ADMA2, 21 for high speed, 22 for SDMA, 24 for 3.3 V, and 28 for
+                              addresses of 64 bits. Where the clock alone is wrong, what is read with another clock. A controller before
+                              3.00 has six bits for it: one that is told as faster than 63 MHz isn't opened
                               (KELIFANDRO_NO_BASE_CLOCK), and one beyond 255 MHz can't be told: divide it before */
 };
 

@@ -207,12 +207,18 @@ def fails(trial):
 
 
 def serves_large_cards(trial):
-    """2^22 sectors are the most. The memory is that of what was written, less than 64 MiB of a card of 128 MiB where 1 MiB was; with an
-    image it is that of the card, once, less than 200 MiB, also while it is saved."""
-    with served(trial, trial.new("--kind", "sd", "--sectors", str(1 << 22))) as session:
-        trial.want("2 GiB: write", session.write((1 << 31) - 512, b"l" * 512), 0)
+    """2^22 sectors are the most. The memory is that of what was written, less than 64 MiB of a card of 2 GiB where 16 MiB were, in one
+    piece and the last sector; with an image it is that of the card, once, less than 200 MiB, also while it is saved."""
+    note, large = trial.path("memory"), trial.file("card", trial.new("--kind", "sd", "--sectors", str(1 << 22)))
+    with Session(trial, large, before=[sys.executable, MEASURED, note]) as session:
+        session.go()
+        for k in range(16):
+            trial.want("2 GiB: write", session.write(1000 * MIB + k * MIB, random_bytes(k, MIB)), 0)
+        trial.want("2 GiB: the last sector", session.write((1 << 31) - 512, b"l" * 512), 0)
         trial.want("2 GiB: read", session.read((1 << 31) - 512, 512), (0, b"l" * 512))
+        trial.want("2 GiB: read back", session.read(1015 * MIB, MIB), (0, random_bytes(15, MIB)))
         ends_well(trial, "2 GiB", session)
+    trial.want("2 GiB: memory", int(Path(note).read_text()) // 1024 < 64, True)
     with Session(trial, trial.file("card", trial.new("--kind", "sd", "--sectors", str((1 << 22) + 1024)))) as session:
         ends_badly(trial, "more than 2 GiB", session, 2)
     image = trial.path("saved")

@@ -4,7 +4,7 @@ use Rattle.mmc_card.specs.Made.{Made}
 use Rattle.mmc_card.specs.declared.exchange.Lines.{Lines}
 use Rattle.mmc_card.specs.declared.part.Part.{Part}
 use Rattle.mmc_erase.specs.Job.{are_units}
-use Rattle.mmc_switch.specs.Info.{IsInfo, sectors_of}
+use Rattle.mmc_switch.specs.Info.{IsInfo}
 use Rattle.mmc_switch.specs.Sizes.{size_of, some_size}
 use Rattle.mmc_switch.specs.declared.info.Info.{Info}
 use Rattle.mmc_requests.specs.Kinds.{is_read}
@@ -17,8 +17,7 @@ use Rattle.mmc_requests.specs.declared.limits.TheConstants.{MAX_COUNT}
 use Rattle.mmc_queue.specs.Requests.{count_of, kind_of, part_of, start_of}
 use Rattle.mmc_queue.specs.declared.request.Request.{Request}
 use Rattle.mmc_block.specs.Refusal.{first_refusal, no_bytes, no_change, no_place, no_sectors, refused_for}
-use Rattle.mmc_block.specs.declared.refused.Refused.{Refused}
-use Rattle.std.specs.Prelude.{None, Some, if◌then◌else◌, not, option_map, ◌&&◌, Bool}
+use Rattle.std.specs.Prelude.{Some, if◌then◌else◌, not, option_map, ◌&&◌, Bool}
 
 module _ (l m : Lines) (made : Made) (a b : Info) (p : IsInfo l made a) (q : IsInfo m made b) where
   size_same : (part : Part) → size_of a.sizes part ≡ size_of b.sizes part

@@ -1,5 +1,5 @@
 -- What a host knows of a card by its registers.
-use Rattle.std.proofs.Common.{Err, Ok, Result, ◌≡◌, ◌≤◌, ◌∙◌, ◌+◌, Bool, List, ap, arith, cond, false, refl, sym, true, ℕ}
+use Rattle.std.proofs.Common.{Err, Ok, ◌≡◌, ◌≤◌, ◌∙◌, Bool, List, ap, arith, cond, false, refl, true, ℕ}
 use Rattle.std.proofs.lemmas.Bool.{leb-true}
 use Rattle.std.specs.Prelude.{nat_le, slice_index_or}
 use Rattle.mmc_frame.specs.declared.addressing.Addressing.{Addressing}

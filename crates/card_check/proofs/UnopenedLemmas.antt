@@ -1,5 +1,5 @@
 -- A card that isn't opened is out of profile, and one that is opened in it.
-use Rattle.std.proofs.Common.{◌≡◌, ◌⊎◌, ◌∙◌, ◌<◌, ◌≤◌, Bool, ap, arith, false, inl, inr, refl, sym, true, ℕ}
+use Rattle.std.proofs.Common.{◌≡◌, ◌⊎◌, ◌∙◌, ◌<◌, ◌≤◌, ap, arith, false, inl, inr, sym, true, ℕ}
 use Rattle.std.proofs.lemmas.Bool.{false≢true}
 use Rattle.mmc_frame.specs.declared.kind.Kind.{Kind}
 use Rattle.mmc_frame.specs.declared.kind.Kind.TheVariants.{Mmc, Sd}
@@ -8,7 +8,7 @@ use Rattle.mmc_regs.specs.CsdFields.{csd_structure, read_bl_len, write_bl_len}
 use Rattle.mmc_regs.specs.Ocr.{access_mode, card_capacity_status, window_at_3_3_volts}
 use Rattle.mmc_ext_csd.specs.ExtCsd.{ext_csd_rev, hc_erase_grp_size, sec_count}
 use Rattle.mmc_card.specs.Made.{Made, csd_number_of}
-use Rattle.mmc_card.specs.Profile.{InProfile, IsByteAddressed, IsHighCapacity, IsSectorAddressed, IsStandardCapacity, MmcInProfile, SdInProfile}
+use Rattle.mmc_card.specs.Profile.{InProfile, IsByteAddressed, IsHighCapacity, IsSectorAddressed, IsStandardCapacity, MmcInProfile}
 use Rattle.card_check.specs.declared.unopened.Unopened.{Unopened}
 use Rattle.card_check.specs.declared.unopened.Unopened.TheVariants.{AccessMode, BytesByOcr, Locked, NeverReady, NoEraseUnit}
 use Rattle.card_check.specs.declared.unopened.Unopened.TheVariants.{NoSectors, ReadLength, Revision, SectorsByOcr, Structure}

@@ -8,6 +8,8 @@ use Rattle.card_maker.specs.Wanted.{IsAsWanted}
 use Rattle.card_maker.specs.declared.wanted.Wanted.{Wanted}
 use Rattle.card_explain.specs.Frames.{frame_text}
 use Rattle.card_explain.specs.LongFrames.{long_frame_text}
+use Rattle.card_explain.specs.declared.exchange.KnownCard.{KnownCard}
+use Rattle.card_trace.specs.TraceText.{trace_text}
 use Rattle.card_decode.specs.Summaries.{PutsRegister}
 use Rattle.card_decode.specs.declared.frame.Frame.{Frame}
 use Rattle.card_decode.specs.declared.frame.Frame.TheVariants.{Long, Short}
@@ -29,7 +31,8 @@ abbrev pub frame_lines : Kind → Frame → List ℕ
 frame_lines kind (Short bytes) = frame_text kind bytes
 frame_lines kind (Long bytes) = long_frame_text bytes
 
--- what a frame says, or a register
+-- what a frame says, or a register, or a trace with words after its lines
 pub data PrintsDecoded (old new : Option (List ℕ)) : Type 0 where
   a_frame : (kind : Kind) (frame : Frame) → Appends old new (frame_lines kind frame) → PrintsDecoded old new
   a_register : (register : Register) (bytes : List ℕ) → PutsRegister register bytes old new (Ok tt) → PrintsDecoded old new
+  a_trace : (card : KnownCard) (text : List ℕ) → Appends old new (trace_text card text) → PrintsDecoded old new

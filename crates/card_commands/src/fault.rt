@@ -25,8 +25,8 @@ pub enum CommandFault {
         /// What it may be.
         expected: &'static str,
     },
-    /// There is no such register.
-    #[error("the registers are ocr, cid, csd, scr, ext_csd, status, switch and frame")]
+    /// Nothing that is decoded has this name.
+    #[error("what is decoded are ocr, cid, csd, scr, ext_csd, status, switch, frame and trace")]
     NoRegister,
     /// A file or standard input wasn't read.
     #[error("{0}")]

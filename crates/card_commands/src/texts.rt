@@ -8,7 +8,7 @@ pub(crate) const OVERVIEW: &str =
     cardtool serve ..        serves a script of requests on the card of a card file
     cardtool new ..          prints a card file
     cardtool check ..        says whatever is wrong with a card file, a script and an image
-    cardtool decode ..       prints the fields of a register or a frame
+    cardtool decode ..       prints the fields of a register or a frame, or a trace in words
     cardtool nbd ..          serves a card as a network block device on standard input and output
     cardtool help [COMMAND]  this text, or that of a command
     cardtool version         the version
@@ -99,17 +99,19 @@ Status: 0 where nothing is wrong, otherwise 2.
 ";
 
 /// That of `decode`.
-pub(crate) const DECODE: &str = "usage: cardtool decode REGISTER [HEX] [--kind sd|mmc]
+pub(crate) const DECODE: &str =
+    "usage: cardtool decode REGISTER [HEX] [--kind sd|mmc] [--addresses bytes|sectors]
 
 Prints the fields of a register or a frame, a line each: name, bits, value, and what it means. Without HEX the digits are read
-from standard input.
+from standard input. Of a trace it prints the lines with words after them.
 
-    REGISTER       ocr, cid, csd, scr, ext_csd, status (the card status), switch (the 64 bytes after CMD6), or frame (the 6 bytes
-                   of a command or a response, or the 17 of an R2)
+    REGISTER       ocr, cid, csd, scr, ext_csd, status (the card status), switch (the 64 bytes after CMD6), frame (the 6 bytes
+                   of a command or a response, or the 17 of an R2), or trace (the exchanges of `serve --trace`)
     HEX            its hexadecimal digits, the first byte first, with or without 0x in front; in quotes with spaces between; an OCR
                    or a card status with 0x may leave leading zeros out; a CID or CSD may lack its last byte, or have 00 there, as
-                   Linux shows them, or come as the 34 digits of an R2
+                   Linux shows them, or come as the 34 digits of an R2; for a trace its lines
     --kind KIND    sd where it is left out, or mmc; scr and switch are of SD cards, ext_csd of eMMC devices
+    --addresses A  bytes where it is left out, or sectors: how the commands of a trace count, up to an OCR in it that says so
 
 Status: 0, or 2 where the digits aren't those of such a register.
 
@@ -117,6 +119,7 @@ Status: 0, or 2 where the digits aren't those of such a register.
     cat /sys/block/mmcblk0/device/cid | cardtool decode cid --kind mmc
     cardtool decode status 0x900
     cardtool decode frame 510000000055
+    cardtool serve --card examples/sdsc.card --script examples/first.script --trace 99 | cardtool decode trace
 ";
 
 /// That of `nbd`.

@@ -12,8 +12,8 @@ use std::alloc::Global;
 use std::io::{self, BufReader, BufWriter, Input, Read, Write};
 use std::rt::Files;
 
-// How many bytes of the input are read at once, and of the output written.
-const AT_ONCE: usize = 1_048_576;
+// How many bytes of the input are read at once, and of the output written: so few that they are still in a cache when they are served.
+const AT_ONCE: usize = 32_768;
 
 // The device of a card, which has the partition that is to go by the empty name.
 fn opened(

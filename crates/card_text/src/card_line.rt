@@ -157,9 +157,9 @@ fn kind(text: &[u8]) -> Option<Kind>
     }
 }
 
-// `yes` or `no`.
+/// `yes` or `no`, and nothing of another text.
 #[tactic(auto, unfolding(crate::specs::CardLines::choice_of))]
-fn choice(text: &[u8]) -> Option<bool>
+pub fn choice(text: &[u8]) -> Option<bool>
     ensures { result ≡ choice_of text.now }
 {
     if text == b"yes".as_slice() {

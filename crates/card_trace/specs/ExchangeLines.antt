@@ -1,7 +1,8 @@
 -- The lines of a trace, as `mmc_bus` prints them.
-use Rattle.std.specs.Prelude.{◌&&◌, ◌==◌, ◌∷◌, Bool, List, None, Option, Some, [], codes, false, if◌then◌else◌, length, option_and_then}
-use Rattle.std.specs.Prelude.{option_map, true, ℕ}
+use Rattle.std.specs.Prelude.{◌&&◌, ◌==◌, ◌∷◌, List, None, Option, Some, [], codes, if◌then◌else◌, length, option_and_then}
+use Rattle.std.specs.Prelude.{option_map, ℕ}
 use Rattle.std.specs.Str.{bytes_eq}
+use Rattle.card_text.specs.CardLines.{choice_of}
 use Rattle.card_text.specs.Hexadecimal.{bytes_of}
 use Rattle.card_text.specs.Numbers.{number_of}
 use Rattle.mmc_card.specs.declared.exchange.DataIn.{DataIn}
@@ -40,15 +41,11 @@ sent_of text =
     else (if bytes_eq text (codes "rejected") then Some Sent.Rejected
     else (if bytes_eq text (codes "nothing") then Some Sent.Nothing else None))
 
-unfoldable pub polled_of : List ℕ → Option Bool
-polled_of text =
-    if bytes_eq text (codes "yes") then Some true else (if bytes_eq text (codes "no") then Some false else None)
-
 -- a block that was written, or a poll
 unfoldable pub ended_of : List ℕ → List ℕ → Option Exchange
 ended_of key end =
     if bytes_eq key (codes "out") then option_map (λ got. Out got) (sent_of end)
-    else (if bytes_eq key (codes "busy") then option_map (λ yes. Busy yes) (polled_of end) else None)
+    else (if bytes_eq key (codes "busy") then option_map (λ yes. Busy yes) (choice_of end) else None)
 
 abbrev pub command_by : List ℕ → Reply → Exchange
 command_by frame reply = Command frame (want_of reply) reply

@@ -1,5 +1,5 @@
 -- What an exchange tells of the card.
-use Rattle.std.specs.Prelude.{◌&&◌, ◌==◌, List, None, Ok, Option, Result, Some, if◌then◌else◌, ℕ}
+use Rattle.std.specs.Prelude.{◌==◌, None, Ok, Option, Result, Some, if◌then◌else◌, ℕ}
 use Rattle.mmc_frame.specs.Frame.{command_in}
 use Rattle.mmc_frame.specs.RegisterFrame.{ocr_in}
 use Rattle.mmc_frame.specs.declared.addressing.Addressing.{Addressing}

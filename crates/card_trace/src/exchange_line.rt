@@ -1,8 +1,9 @@
 // Reads a line of a trace, as `mmc_bus::write_exchange` writes it, without its line feed.
 ghost use Rattle.std.specs.Prelude.{◌≡◌, ◌∷◌, []};
 ghost use Rattle.card_text.specs.Parts.{parts};
-ghost use Rattle.card_trace.specs.ExchangeLines.{command_of, ended_of, exchange_of, polled_of, received_of, reply_of, sent_of, want_of};
+ghost use Rattle.card_trace.specs.ExchangeLines.{command_of, ended_of, exchange_of, received_of, reply_of, sent_of, want_of};
 
+use card_text::card_line::choice;
 use card_text::hexadecimal::bytes;
 use card_text::line::fields;
 use card_text::number::number;
@@ -65,20 +66,6 @@ fn sent(text: &[u8]) -> Option<DataOut>
     }
 }
 
-// What a poll was answered.
-#[tactic(auto, unfolding(crate::specs::ExchangeLines::polled_of))]
-fn polled(text: &[u8]) -> Option<bool>
-    ensures { result ≡ polled_of text.now }
-{
-    if text == b"yes".as_slice() {
-        Some(true)
-    } else if text == b"no".as_slice() {
-        Some(false)
-    } else {
-        None
-    }
-}
-
 // A block that was written, or a poll.
 #[tactic(auto, unfolding(crate::specs::ExchangeLines::ended_of))]
 fn ended(key: &[u8], end: &[u8]) -> Option<Exchange>
@@ -87,7 +74,7 @@ fn ended(key: &[u8], end: &[u8]) -> Option<Exchange>
     if key == b"out".as_slice() {
         Some(Exchange::Out { got: sent(end)? })
     } else if key == b"busy".as_slice() {
-        Some(Exchange::Busy { yes: polled(end)? })
+        Some(Exchange::Busy { yes: choice(end)? })
     } else {
         None
     }

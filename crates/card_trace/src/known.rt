@@ -1,5 +1,5 @@
 // What an exchange tells of the card.
-ghost use Rattle.std.specs.Prelude.{◌≡◌, ◌==◌, if◌then◌else◌};
+ghost use Rattle.std.specs.Prelude.{◌≡◌};
 ghost use Rattle.mmc_regs.specs.Ocr.{card_capacity_status};
 ghost use Rattle.card_trace.specs.Known.{addressing_by, kind_by, known_after, told_by};
 

@@ -4,8 +4,8 @@ ghost use Rattle.std.specs.Prelude.{◌<◌};
 
 use anyhow::{Result, anyhow};
 use mmc_bus::{Bus, DataIn, DataOut, Reply, Timing, Want, Width};
-use mmc_card_sim::SimCard;
 use mmc_card_sim::example_cards::sdsc;
+use mmc_card_sim::{Fault, Outcome, SimCard};
 use mmc_frame::{encode, read_r1, read_r2, read_r3};
 use std::alloc::Global;
 
@@ -16,12 +16,15 @@ pub struct Controller {
 }
 
 impl Controller {
-    /// One with an SD card of four sectors.
+    /// One with an SD card of four sectors, which fails to program the first block that is written, at the poll after it; and the
+    /// response that would say so is lost.
     pub fn new(alloc: Global) -> Result<Controller> {
-        match SimCard::build(alloc, sdsc()) {
-            Ok(card) => Ok(Controller { card }),
-            Err(_) => Err(anyhow!("no memory for a card")),
-        }
+        let Ok(mut card) = SimCard::build(alloc, sdsc()) else {
+            return Err(anyhow!("no memory for a card"));
+        };
+        card.plan(19, Fault::Fail(Outcome::Old))?;
+        card.plan(20, Fault::LoseReply)?;
+        Ok(Controller { card })
     }
 
     /// Sends a command without a response.

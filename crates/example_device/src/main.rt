@@ -1,4 +1,4 @@
-//! An example of a user of the device: over a host controller of its own, a sector is written and read back.
+//! An example of a user of the device: over a host controller of its own, a sector is written and read back, on a card that fails.
 #![tactic(auto)]
 
 mod controller;

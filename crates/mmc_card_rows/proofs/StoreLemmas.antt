@@ -8,6 +8,8 @@ use Rattle.std.proofs.lemmas.List.{places, same_lists, take-replicate, take-take
 use Rattle.std.proofs.lemmas.Slice.{drop-put_mid, take-put_mid_below}
 use Rattle.std.specs.Prelude.{IfSome, None, Option, Some, replicate, slice_index_or, slice_set}
 use borrow.Rule.Slice.PartMut.{put_mid}
+use Rattle.mmc_bus.specs.BlockLaws.{length_pieces}
+use Rattle.mmc_bus.specs.Bytes.{blocks_in}
 use Rattle.mmc_frame.specs.Flips.{AreBytes}
 use Rattle.mmc_card.proofs.ByteLemmas.{block_of}
 use Rattle.mmc_card.proofs.Cards.{blocks_replicate}
@@ -155,22 +157,17 @@ first_blocks (Some image) count erased bytes len below = pieces_blocks count ima
 first_blocks None count erased bytes len below =
     blocks_replicate count (replicate 512 erased) (block_of erased below)
 
-length_pieces : (count : ℕ) (bytes : List ℕ) → length (pieces count bytes) ≡ count
-length_pieces zero bytes = refl
-length_pieces (suc count) bytes = ap suc (length_pieces count (drop 512 bytes))
-
 pub first_length : (image : Option (List ℕ)) (count erased : ℕ) → length (first_sectors image count erased) ≡ count
 first_length (Some image) count erased = length_pieces count image
 first_length None count erased = length-replicate count (replicate 512 erased)
 
 -- all bytes of an image
-pub of_image : (image : Option (List ℕ)) (bytes items : List ℕ) (count erased : ℕ) → image ≡ Some bytes
-    → IfSome image (λ xs. length xs ≡ 512 * count) → items ≡ bytes
-    → pieces (length items / 512) items ≡ first_sectors image count erased
-of_image image bytes items count erased is whole same =
+pub of_image : (image : Option (List ℕ)) (bytes : List ℕ) (count erased : ℕ) → image ≡ Some bytes
+    → IfSome image (λ xs. length xs ≡ 512 * count) → blocks_in bytes ≡ first_sectors image count erased
+of_image image bytes count erased is whole =
     let long : length bytes ≡ 512 * count = rw is at whole in
-    let size : length items / 512 ≡ count = omega (arith, long, ap length same) in
-    ap (λ n. pieces n items) size ∙ ap (pieces count) same ∙ sym (ap (λ x. first_sectors x count erased) is)
+    let size : length bytes / 512 ≡ count = omega (arith, long) in
+    ap (λ n. pieces n bytes) size ∙ sym (ap (λ x. first_sectors x count erased) is)
 
 -- a card with one partition only
 pub alone : (n : ℕ) (v : Sector)

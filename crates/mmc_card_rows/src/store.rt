@@ -76,7 +76,7 @@ fn first_sectors(
     ensures len { IfOk result (λ sectors. length sectors ≡ count) }
 {
     match image {
-        Some(image) => Ok(Sectors::from_image(alloc, image.into_vec())),
+        Some(image) => Ok(Sectors::from_image(alloc, image)),
         None => Ok(Sectors::new(alloc, count, erased)?),
     }
 }

@@ -3,7 +3,8 @@ use Rattle.std.proofs.Common.{[], ap, refl, subst, sym, ◌*◌, ◌++◌, ◌+�
 use Rattle.std.specs.Prelude.{Err, IfOk, Ok, OnErr, Result, reverse}
 use Rattle.std.proofs.lemmas.List.{map_push, reverse-append}
 use Rattle.mmc_card.specs.BusView.{BusView}
-use Rattle.mmc_card.specs.Card.{holds}
+use Rattle.mmc_card.specs.Card.{Card, holds}
+use Rattle.mmc_card.specs.Laws.{Carried}
 use Rattle.mmc_card.specs.Sectors.{Within}
 use Rattle.mmc_block.specs.Answers.{failures}
 use Rattle.mmc_block.specs.Device.{AgreesCounted, Comes, DeviceView, IsOpened, work_of}
@@ -29,6 +30,16 @@ follow_then Steps old mid new (f ∷ es) (s ∷ rs) e r (next, step, rest) h =
 pub one_more : (call : Told) (past : List Told) → reverse (call ∷ past) ≡ reverse past ++ call ∷ []
 one_more call past = reverse-append (call ∷ []) past
 
+-- what stays of a card stays from step to step
+same_card : (card : Card) → Carried card card
+same_card card = record { made = refl; sizes = λ part. refl }
+
+carried_on : (old mid new : Card) → Carried old mid → Carried mid new → Carried old new
+carried_on old mid new first then = record {
+  made = then.made ∙ first.made;
+  sizes = λ part. then.sizes part ∙ first.sizes part;
+}
+
 module _ {B : Type 0} (view : B → BusView) (opened : BusView) where
   abbrev first : Bool → Counted
   first profile = opened_after opened.faults profile (holds opened.card)
@@ -37,6 +48,7 @@ module _ {B : Type 0} (view : B → BusView) (opened : BusView) where
       → ((c : Counted) → IsOpened (view device.bus) c → AgreesCounted view device c) → IsServing view opened device []
   serves_from device is decided agrees = record {
     decided = subst (λ (v : BusView). AreDecided (holds v.card)) (sym is) decided;
+    carried = subst (λ (v : BusView). Carried v.card (view device.bus).card) (sym is) (same_card (view device.bus).card);
     agreed = λ profile in_profile. record {
       counted = first profile;
       executed = refl;
@@ -53,6 +65,9 @@ module _ {B : Type 0} (view : B → BusView) (opened : BusView) where
       → IsServing view opened new (calls ++ record { event = event; reply = reply } ∷ [])
   serves_on old new calls event reply same comes served = record {
     decided = served.decided;
+    carried = let before = served.agreed false (λ h. cc h) in
+        carried_on opened.card (view old.bus).card (view new.bus).card served.carried
+        (comes before.counted before.agrees).0.carried;
     agreed = λ profile in_profile.
         let before = served.agreed profile in_profile in
         let call : Told = record { event = event; reply = reply } in
@@ -92,6 +107,8 @@ module _ {B : Type 0} (view : B → BusView) (opened : BusView) where
         ends = λ idle contents may_hold.
             laws.ends device.info start (events calls) (replies calls) counted.machine now contents served.decided refl refl executed
             (subst (λ ws. Within now (all_failed device.info ws counted.machine.sets)) idle within) may_hold;
+        made = served.carried.made;
+        sizes = served.carried.sizes;
         four_each = λ profile.
             let four = served.agreed true (λ h. profile) in
             let all = laws.faults device.info (first true) (events calls) (replies calls) four.counted refl refl refl

@@ -1,8 +1,8 @@
 -- Headline (docs/AUDIT.md, "What to read").
 -- What the calls of a device come to, whatever fell: the answers and the contents of the card are a run of the sector machine.
-use Rattle.std.specs.Prelude.{◌*◌, ◌++◌, ◌+◌, ◌∷◌, ◌≡◌, ◌≤◌, List, [], map, true, ℕ}
+use Rattle.std.specs.Prelude.{◌*◌, ◌++◌, ◌+◌, ◌∷◌, ◌≡◌, ◌≤◌, List, [], length, map, true, ℕ}
 use Rattle.mmc_card.specs.BusView.{BusView}
-use Rattle.mmc_card.specs.Card.{holds}
+use Rattle.mmc_card.specs.Card.{holds, stored}
 use Rattle.mmc_card.specs.Profile.{InProfile}
 use Rattle.mmc_card.specs.Sectors.{Sector, Within}
 use Rattle.mmc_card.specs.declared.part.Part.{Part}
@@ -35,6 +35,9 @@ pub record HasServed (info : Info) (opened now : BusView) (calls : List Told) : 
   -- and so is what the card holds, while nothing is in service
   pub ends : machine.in_service ≡ [] → (contents : Part → ℕ → Sector) → MayHold (holds now.card) contents
       → EndsInOrder (history info (holds opened.card) (events calls) (replies calls)) (holds now.card) machine.next contents
+  -- the card is made as it was, and each of its partitions has as many sectors
+  pub made : now.card.made ≡ opened.card.made
+  pub sizes : (part : Part) → length (stored now.card part) ≡ length (stored opened.card part)
   -- of a card in profile each failure took four faults
   pub four_each : InProfile opened.card.made → opened.faults + 4 * failures (answers (replies calls)) ≤ now.faults
 

@@ -2,6 +2,7 @@
 use Rattle.std.specs.Prelude.{◌≡◌, Bool, List, true}
 use Rattle.mmc_card.specs.BusView.{BusView}
 use Rattle.mmc_card.specs.Card.{holds}
+use Rattle.mmc_card.specs.Laws.{Carried}
 use Rattle.mmc_card.specs.Profile.{InProfile}
 use Rattle.mmc_block.specs.Device.{AgreesCounted, DeviceView}
 use Rattle.mmc_block.specs.Execution.{Counted, IsCountedExecution, opened_after}
@@ -17,4 +18,5 @@ pub record Agreed {B : Type 0} (view : B → BusView) (opened : BusView) (device
 
 pub record IsServing {B : Type 0} (view : B → BusView) (opened : BusView) (device : DeviceView B) (calls : List Told) : Type 0 where
   pub decided : AreDecided (holds opened.card)
+  pub carried : Carried opened.card (view device.bus).card
   pub agreed : (profile : Bool) → (profile ≡ true → InProfile opened.card.made) → Agreed view opened device calls profile

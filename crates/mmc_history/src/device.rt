@@ -47,7 +47,7 @@ impl<B: Bus> Device<B> {
     /// As `BlockDev::open`, with the bus; of a card in profile only where three faults fell.
     pub fn open(alloc: Global, bus: B) -> Result<Device<B>, (B, OpenFault)>
         ensures opened { IfOk result (λ d. (d.calls ≡ []) × (d.opened ≡ B.view d.bus)) }
-        ensures info { IfOk result (λ d. (B.view d.bus).is_kept ≡ true → IsInfo (B.view bus).limits (B.view bus).card.made d.info) }
+        ensures info { IfOk result (λ d. (B.view d.bus).is_kept ≡ true → IsInfo (B.view bus).limits d.opened.card.made d.info) }
         ensures served { IfOk result (λ d. (B.view d.bus).is_kept ≡ true → HasServed d.info d.opened (B.view d.bus) d.calls) }
         ensures narrows { MatchResult result
             (λ d. (B.view d.bus).is_kept ≡ true → Within (holds (B.view d.bus).card) (holds (B.view bus).card))

@@ -1,9 +1,9 @@
 -- Sectors in chunks.
 use Rattle.std.proofs.Common.{◌*◌, ◌+◌, ◌++◌, ◌-◌, ◌<◌, ◌∙◌, ◌∷◌, ◌≡◌, ◌≤◌, List, [], ap, arith, append_assoc}
-use Rattle.std.proofs.Common.{length, refl, suc, sym, take, zero, ℕ}
+use Rattle.std.proofs.Common.{length, refl, suc, sym, zero, ℕ}
 use Rattle.std.proofs.lemmas.List.{get_or-append_right, get_or-replicate, get_or_append_left, length-append}
 use Rattle.std.proofs.lemmas.List.{length-replicate, length-set, replicate-append-replicate, set-append_left}
-use Rattle.std.proofs.lemmas.List.{set-append_right, set-get_or, take_all}
+use Rattle.std.proofs.lemmas.List.{set-append_right, set-get_or}
 use Rattle.std.specs.Prelude.{replicate, slice_index_or, slice_set}
 use Rattle.sparse_sectors.specs.Chunks.{AreChunks, filled, joined}
 
@@ -29,18 +29,16 @@ set_blank blank sector (suc m) (suc k) less =
 
 -- there are more, by blank ones and this one
 pub filled_grown : (blank sector : List ℕ) (front : List (List ℕ)) (i : ℕ) → length front ≤ i → i < 2048
-    → filled blank ((take i front ++ replicate (i - length front) blank) ++ sector ∷ [])
+    → filled blank ((front ++ replicate (i - length front) blank) ++ sector ∷ [])
     ≡ slice_set (filled blank front) i sector
 filled_grown blank sector front i after small =
     let n = length front in
     let gap : List (List ℕ) = replicate (i - n) blank in
-    let all : take i front ≡ front = take_all i front after in
     let more = length-append (front ++ gap) (sector ∷ []) in
     let both = length-append front gap in
     let rest : 2048 - length ((front ++ gap) ++ sector ∷ []) ≡ (2048 - n) - suc (i - n) =
     omega (arith, after, small, more, both, length-replicate (i - n) blank) in
-    ap (λ xs. filled blank ((xs ++ gap) ++ sector ∷ [])) all
-    ∙ ap (λ k. ((front ++ gap) ++ sector ∷ []) ++ replicate k blank) rest
+    ap (λ k. ((front ++ gap) ++ sector ∷ []) ++ replicate k blank) rest
     ∙ append_assoc (front ++ gap) (sector ∷ []) (replicate ((2048 - n) - suc (i - n)) blank)
     ∙ append_assoc front gap (sector ∷ replicate ((2048 - n) - suc (i - n)) blank)
     ∙ ap (λ xs. front ++ xs) (sym (set_blank blank sector (2048 - n) (i - n) (omega (arith, after, small))))

@@ -1,3 +1,2 @@
 pub mod ChunkLemmas
-pub mod ImageLemmas
 pub mod ValueLemmas

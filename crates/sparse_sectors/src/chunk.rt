@@ -1,17 +1,18 @@
 // A chunk of sectors. Those up to the last one that was written are there, and all after them are blank.
-ghost use Rattle.std.specs.Prelude.{◌<◌, ◌≡◌, IfOk, length, replicate, slice_index_or, slice_set, []};
+ghost use Rattle.std.specs.Prelude.{◌++◌, ◌-◌, ◌<◌, ◌≡◌, ◌≤◌, IfOk, length, replicate, slice_index_or, slice_set, []};
+ghost use Rattle.std.specs.Prelude.{vec_capacity};
 
 use std::alloc::{AllocError, Global};
 use std::marker::Model;
 use std::slice;
 
-// How many sectors a chunk has.
+/// How many sectors a chunk has: 1 MiB.
 pub const CHUNK: usize = 2048;
 
+/// So many sectors of 512 bytes each. No write is refused, since there is room for all.
 #[derive(Debug, Drop)]
 pub struct Chunk {
-    // The sectors that are there. Room for all is taken at once, so that no write is refused, and is touched only as
-    // they come.
+    // The sectors that are there. Their room is touched only as they come.
     front: Vec<[u8; 512]>,
     blank: [u8; 512],
 }
@@ -28,8 +29,19 @@ impl Model for Chunk {
     ghost invariant = { λ c. (vec_len c.front ≤ CHUNK) × (CHUNK ≤ vec_capacity c.front) };
 }
 
+// Adds blank sectors until there are so many.
+fn grow(front: &mut Vec<[u8; 512]>, blank: &[u8; 512], count: usize)
+    requires { count ≤ vec_capacity front.old }
+    ensures grown { front.new.items ≡ front.old.items ++ replicate (count - length front.old.items) blank.now }
+    ensures room { vec_capacity front.old ≤ vec_capacity front.new }
+{
+    while front.len() < count {
+        front.extend_from_slice(slice::from_ref(blank)).unwrap();
+    }
+}
+
 impl Chunk {
-    // A chunk of sectors that are all this byte.
+    /// A chunk of sectors that are all this byte. An error: there is no room in memory.
     pub fn new(alloc: Global, erased: u8) -> Result<Chunk, AllocError>
         ensures { IfOk result (λ chunk. chunk ≡ replicate CHUNK (replicate 512 erased)) }
     {
@@ -40,7 +52,7 @@ impl Chunk {
         })
     }
 
-    // A sector.
+    /// A sector.
     pub fn sector(&self, i: usize) -> &[u8; 512]
         requires { i < CHUNK }
         ensures { result.now ≡ slice_index_or self.now i [] }
@@ -51,7 +63,7 @@ impl Chunk {
         }
     }
 
-    // Gives a sector another value. One after the front that stays blank takes no memory.
+    /// Gives a sector another value. One after all that are there takes no memory if it stays blank.
     #[tactic(auto, using(crate::proofs::ChunkLemmas::filled_set, crate::proofs::ChunkLemmas::filled_grown))]
     pub fn put(&mut self, i: usize, sector: &[u8; 512])
         requires { i < CHUNK }
@@ -64,7 +76,7 @@ impl Chunk {
         if *sector == self.blank {
             return;
         }
-        self.front.resize(i, self.blank).unwrap();
+        grow(&mut self.front, &self.blank, i);
         self.front
             .extend_from_slice(slice::from_ref(sector))
             .unwrap();

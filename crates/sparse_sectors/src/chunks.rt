@@ -5,7 +5,7 @@ use crate::chunk::{CHUNK, Chunk};
 use std::alloc::{AllocError, Global};
 use std::marker::Model;
 
-// So many sectors, from the first chunk on. The last chunk may have some more, which are of no use.
+/// So many sectors of 512 bytes each, from the first chunk on. The last chunk may have some more, which are of no use.
 #[derive(Debug, Drop)]
 pub struct Chunks {
     chunks: Vec<Chunk>,
@@ -25,7 +25,7 @@ impl Model for Chunks {
 }
 
 impl Chunks {
-    // No sectors.
+    /// No sectors.
     pub fn none(alloc: Global) -> Chunks
         ensures { result ≡ [] }
     {
@@ -35,7 +35,7 @@ impl Chunks {
         }
     }
 
-    // So many sectors that are all this byte.
+    /// So many sectors, at most 2^32, that are all this byte. An error: there is no room for them in memory.
     pub fn new(alloc: Global, count: usize, erased: u8) -> Result<Chunks, AllocError>
         requires { count ≤ 2 ^ 32 }
         ensures { IfOk result (λ sectors. sectors ≡ replicate count (replicate 512 erased)) }
@@ -48,7 +48,7 @@ impl Chunks {
         Ok(Chunks { chunks, count })
     }
 
-    // How many there are.
+    /// How many there are.
     pub fn len(&self) -> usize
         ensures len { result ≡ length self.now }
         ensures few { result ≤ 2 ^ 32 }
@@ -56,7 +56,7 @@ impl Chunks {
         self.count
     }
 
-    // A sector.
+    /// A sector.
     pub fn sector(&self, i: usize) -> &[u8; 512]
         requires { i < length self.now }
         ensures { result.now ≡ slice_index_or self.now i [] }
@@ -64,7 +64,7 @@ impl Chunks {
         self.chunks[i / CHUNK].sector(i % CHUNK)
     }
 
-    // Gives a sector another value.
+    /// Gives a sector another value.
     pub fn put(&mut self, i: usize, sector: &[u8; 512])
         requires { i < length self.old }
         ensures { self.new ≡ slice_set self.old i sector.now }

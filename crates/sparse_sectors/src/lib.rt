@@ -3,7 +3,6 @@
 
 mod chunk;
 mod chunks;
-mod image;
 mod sectors;
 
 pub use sectors::Sectors;

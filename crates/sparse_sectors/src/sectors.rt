@@ -1,46 +1,47 @@
 // Sectors in memory.
 ghost use Rattle.std.specs.Prelude.{◌+◌, ◌<◌, ◌^◌, ◌≡◌, ◌≤◌, IfOk, length, replicate, slice_index_or, slice_set, []};
-ghost use Rattle.sparse_sectors.specs.SectorLists.{sectors_in, with_values};
+ghost use Rattle.mmc_bus.specs.Bytes.{blocks_in};
+ghost use Rattle.sparse_sectors.specs.SectorLists.{with_values};
 
 use crate::chunks::Chunks;
-use crate::image;
+use mmc_bus::{Blocks, BlocksMut, Bytes};
 use std::alloc::{AllocError, Global};
 use std::marker::Model;
 
 /// Sectors of 512 bytes each, that are written and read by their number, from 0 on. No write is refused.
 #[derive(Debug, Drop)]
 pub struct Sectors {
-    // The first sectors, as the bytes of an image, and those after them.
-    image: Vec<u8>,
+    // The first sectors, in the bytes of an image, and those after them.
+    image: Bytes,
     rest: Chunks,
 }
 
 impl Model for Sectors {
     ghost use Rattle.std.specs.Prelude.{List, ℕ, ◌++◌};
-    ghost use Rattle.sparse_sectors.specs.SectorLists.{sectors_in};
+    ghost use Rattle.mmc_bus.specs.Bytes.{blocks_in};
 
     ghost Value = { List (List ℕ) };
 
-    ghost view = { λ s. sectors_in s.image.items ++ s.rest };
+    ghost view = { λ s. blocks_in s.image ++ s.rest };
 }
 
 impl Sectors {
     /// So many sectors, at most 2^32, that are all this byte. They take memory as they are written, in chunks, whose room
-    /// is taken here as address space.
+    /// is taken here as address space. An error: there is no such room.
     pub fn new(alloc: Global, count: usize, erased: u8) -> Result<Sectors, AllocError>
         requires { count ≤ 2 ^ 32 }
         ensures { IfOk result (λ sectors. sectors ≡ replicate count (replicate 512 erased)) }
     {
         let rest = Chunks::new(alloc, count, erased)?;
         Ok(Sectors {
-            image: Vec::new(alloc),
+            image: Bytes::new(Vec::new(alloc)),
             rest,
         })
     }
 
     /// The sectors of an image, whose bytes are taken over without a copy; bytes after the last whole sector are none.
-    pub fn from_image(alloc: Global, image: Vec<u8>) -> Sectors
-        ensures { result ≡ sectors_in image.items }
+    pub fn from_image(alloc: Global, image: Bytes) -> Sectors
+        ensures { result ≡ blocks_in image }
     {
         Sectors {
             image,
@@ -52,7 +53,7 @@ impl Sectors {
     fn len(&self) -> usize
         ensures { result ≡ length self.now }
     {
-        self.image.len() / 512 + self.rest.len()
+        self.image.as_slice().len() / 512 + self.rest.len()
     }
 
     /// A sector.
@@ -60,9 +61,9 @@ impl Sectors {
         requires { i < length self.now }
         ensures { result.now ≡ slice_index_or self.now i [] }
     {
-        let first = self.image.len() / 512;
+        let first = self.image.len();
         if i < first {
-            return image::sector(&self.image, i);
+            return self.image.block(i);
         }
         self.rest.sector(i - first)
     }
@@ -72,9 +73,9 @@ impl Sectors {
         requires { i < length self.old }
         ensures { self.new ≡ slice_set self.old i sector.now }
     {
-        let first = self.image.len() / 512;
+        let first = self.image.len();
         if i < first {
-            image::put(&mut self.image, i, sector);
+            *self.image.block_mut(i) = *sector;
             return;
         }
         self.rest.put(i - first, sector);

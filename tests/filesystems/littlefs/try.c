@@ -10,7 +10,7 @@ static struct powered powered;
 static struct kelifandro sd;
 static struct kelifandro_lfs where = {&sd, KELIFANDRO_USER, FIRST, COUNT};
 static struct lfs_config config;
-static lfs2_t lfs;
+static lfs_t lfs;
 
 static void begin(int is_emmc)
 {
@@ -29,14 +29,14 @@ static uint8_t byte_of(unsigned size, unsigned i)
 static int write_file(const char *name, unsigned size)
 {
     uint8_t bytes[NEW_SIZE];
-    lfs2_file_t file;
-    int result = lfs2_file_open(&lfs, &file, name, LFS2_O_WRONLY | LFS2_O_CREAT | LFS2_O_TRUNC);
+    lfs_file_t file;
+    int result = lfs_file_open(&lfs, &file, name, LFS_O_WRONLY | LFS_O_CREAT | LFS_O_TRUNC);
     if (result < 0)
         return result;
     for (unsigned i = 0; i < size; i++)
         bytes[i] = byte_of(size, i);
-    lfs2_ssize_t done = lfs2_file_write(&lfs, &file, bytes, size);
-    int closed = lfs2_file_close(&lfs, &file);
+    lfs_ssize_t done = lfs_file_write(&lfs, &file, bytes, size);
+    int closed = lfs_file_close(&lfs, &file);
     return done < 0 ? (int)done : closed;
 }
 
@@ -44,28 +44,28 @@ static int write_file(const char *name, unsigned size)
 static int is_whole(const char *name, unsigned size)
 {
     uint8_t bytes[NEW_SIZE + 1];
-    lfs2_file_t file;
-    if (lfs2_file_open(&lfs, &file, name, LFS2_O_RDONLY) < 0)
+    lfs_file_t file;
+    if (lfs_file_open(&lfs, &file, name, LFS_O_RDONLY) < 0)
         return 0;
-    lfs2_ssize_t done = lfs2_file_read(&lfs, &file, bytes, sizeof bytes);
-    lfs2_file_close(&lfs, &file);
-    for (lfs2_ssize_t i = 0; i < done; i++)
+    lfs_ssize_t done = lfs_file_read(&lfs, &file, bytes, sizeof bytes);
+    lfs_file_close(&lfs, &file);
+    for (lfs_ssize_t i = 0; i < done; i++)
         if (bytes[i] != byte_of(size, (unsigned)i))
             return 0;
-    return done == (lfs2_ssize_t)size;
+    return done == (lfs_ssize_t)size;
 }
 
 static void fill(int is_emmc)
 {
     begin(is_emmc);
-    expect(lfs2_format(&lfs, &config) == 0 && lfs2_mount(&lfs, &config) == 0, "format", 0);
+    expect(lfs_format(&lfs, &config) == 0 && lfs_mount(&lfs, &config) == 0, "format", 0);
     expect(write_file("a", OLD_SIZE) == 0 && write_file("b", OLD_SIZE) == 0, "first files", 0);
 }
 
 static void mount_again(unsigned long n)
 {
-    lfs2_unmount(&lfs);
-    expect(lfs2_mount(&lfs, &config) == 0, "mounted", n);
+    lfs_unmount(&lfs);
+    expect(lfs_mount(&lfs, &config) == 0, "mounted", n);
 }
 
 /* Each answer is lost in turn, and nothing is seen of it. */
@@ -79,7 +79,7 @@ static unsigned long lose_answers(int is_emmc)
         answers = powered.card.answers;
         mount_again(lost);
         expect(is_whole("b", NEW_SIZE) && is_whole("a", OLD_SIZE), "files", lost);
-        lfs2_unmount(&lfs);
+        lfs_unmount(&lfs);
         lost++;
     } while (powered.card.lost < answers);
     return lost - 1;
@@ -98,7 +98,7 @@ static unsigned long lose_power(int is_emmc)
         expect(is_whole("a", OLD_SIZE), "the file that wasn't touched", calls);
         expect(is_whole("b", NEW_SIZE) || (!is_done && is_whole("b", OLD_SIZE)), "old or new", calls);
         expect(write_file("c", NEW_SIZE) == 0 && is_whole("c", NEW_SIZE), "a file more", calls);
-        lfs2_unmount(&lfs);
+        lfs_unmount(&lfs);
         if (is_over)
             return calls - 1;
     }

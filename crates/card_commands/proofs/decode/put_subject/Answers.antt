@@ -5,7 +5,7 @@ use Rattle.card_commands.proofs.decode.put_subject.Goals as goal
 
 pub returns-in_ok-put-in-Ok-clause-printed : goal.returns-in_ok-put-in-Ok-clause-printed
 returns-in_ok-put-in-Ok-clause-printed g c =
-    a_frame c.args.kind c.in-Ok.frame
+    a_frame c.args.card.kind c.in-Ok.frame
     (subst (λ (text : List ℕ). Appends (g.W.Write.contents c.args.out.now) (g.W.Write.contents c.put.new.out) text)
     (c.as_slice.ensures.value ∙ c.in_ok-lines-in-Ok.ensures)
     c.in_ok-put-in-Ok.ensures)

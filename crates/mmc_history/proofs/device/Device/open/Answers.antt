@@ -1,7 +1,10 @@
-use Rattle.std.proofs.Common.{ap, subst, sym, ◌∙◌}
+use Rattle.std.proofs.Common.{ap, subst, sym, ◌∙◌, ◌≡◌}
 use Rattle.std.specs.Prelude.{reverse}
 use Rattle.mmc_history.proofs.ServingLemmas.{serves_from, tells}
 use Rattle.mmc_history.specs.Serving.{IsServing}
+use Rattle.mmc_card.specs.BusView.{BusView}
+use Rattle.mmc_card.specs.Made.{Made}
+use Rattle.mmc_switch.specs.Info.{IsInfo}
 use Rattle.mmc_history.proofs.device.Device.open.Goals as goal
 
 pub invariant_of-result : goal.invariant_of-result
@@ -11,6 +14,14 @@ invariant_of-result g c kept =
     subst (IsServing g.B.Bus.view c.of-opened.result device) (sym (ap reverse c.new.ensures))
     (serves_from g.B.Bus.view c.of-opened.result device (c.of-opened.ensures ∙ ap g.B.Bus.view c.bus.ensures) (e.decided kept)
     (e.machine kept))
+
+pub returns-clause-info : goal.returns-clause-info
+returns-clause-info g c kept =
+    let bus = g.B.Bus.view c.args.bus in
+    let opened : c.of-opened.result ≡ g.B.Bus.view c.in_ok-device.device.bus = c.of-opened.ensures ∙ ap g.B.Bus.view c.bus.ensures in
+    let made : c.of-opened.result.card.made ≡ bus.card.made =
+    ap (λ (v : BusView). v.card.made) opened ∙ (c.in_ok-device.ensures.stays kept).0.carried.made in
+    subst (λ (m : Made). IsInfo bus.limits m c.in_ok-device.device.info) (sym made) (c.in_ok-device.ensures.info kept)
 
 pub returns-clause-served : goal.returns-clause-served
 returns-clause-served g c kept =

@@ -1,19 +1,17 @@
 use Rattle.std.proofs.Common.{◌/◌, ap, arith, length}
 use Rattle.std.proofs.lemmas.List.{length-append}
-use Rattle.sparse_sectors.specs.SectorLists.{sectors_in}
-use Rattle.sparse_sectors.proofs.ImageLemmas.{length_chunks}
+use Rattle.mmc_bus.specs.BlockLaws.{length_pieces}
+use Rattle.mmc_bus.specs.Bytes.{blocks_in}
 use Rattle.sparse_sectors.proofs.sectors.Sectors.len.Goals as goal
 
 pub returns : goal.returns
 returns c =
-    let bytes = c.self.inside.image.items in
-    let rest = c.self.inside.rest in
+    let image = c.self.inside.image in
     omega (
       arith,
-      length_chunks (length bytes / 512) bytes,
-      length-append (sectors_in bytes) rest,
+      length_pieces (length image / 512) image,
+      length-append (blocks_in image) c.self.inside.rest,
       ap length c.self.view_is,
-      c.len-2.ensures.len,
-      c.len.ensures,
-      c.self.inside.image.ok.0,
+      ap length c.as_slice.ensures,
+      c.len.ensures.len,
     )
