@@ -5,6 +5,9 @@
    mmc_host_ops or coreboot's and U-Boot's send_cmd and set_ios have them. `struct kelifandro_registers` is the registers of an SD host
    controller (SD Host Controller Simplified Specification 3.00), whose driver is in the library.
 
+   An exchange is a command with its response, a block, or a look whether the card is busy. To settle a card is to ask and tell it after
+   a failure until it is ready again.
+
    What is proved: over any answers of your functions and any bytes of `struct kelifandro_card` each call returns, after a counted
    number of exchanges, and nothing overflows or is indexed out of range. Where controller and card conform to the card relation
    (docs/STANDARD.md, "The card"), a request that is done has exactly its effect, and one that failed leaves each sector that it names old

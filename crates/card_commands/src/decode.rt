@@ -98,7 +98,8 @@ fn frame_lines(alloc: Global, kind: Kind, frame: Frame) -> Result<Vec<u8>, Alloc
     }
 }
 
-// Writes a trace with words after its lines.
+// Writes a trace with words after its lines. A text of which no line is an exchange gets no words: it is as long as before, but for a
+// last line feed.
 fn put_trace_text<W: Write>(
     alloc: Global,
     card: KnownCard,
@@ -110,6 +111,9 @@ fn put_trace_text<W: Write>(
 {
     let mut lines = Vec::new(alloc);
     put_trace(alloc, &mut lines, card, text)?;
+    if lines.len() <= text.len().saturating_add(1) {
+        return Err(CommandFault::NoExchange);
+    }
     put(out, lines.as_slice())?;
     Ok(())
 }
@@ -173,7 +177,8 @@ pub(crate) fn command<'a>(alloc: Global) -> Result<Command<'a>, AllocError> {
 /// Without digits among the words they are read from `input`, and so is a trace.
 ///
 /// # Errors
-/// `Usage`, `Value` or `NoRegister` for other words; then `Unread` of the input, `Hex` of the digits; `NoMemory`;
+/// `Usage`, `Value` or `NoRegister` for other words; then `Unread` of the input, `Hex` of the digits, or `NoExchange` of a trace;
+/// `NoMemory`;
 /// `Write`, where a front of the lines went out.
 pub fn decode<R: Read, W: Write>(
     alloc: Global,

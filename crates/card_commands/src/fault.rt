@@ -28,6 +28,9 @@ pub enum CommandFault {
     /// Nothing that is decoded has this name.
     #[error("what is decoded are ocr, cid, csd, scr, ext_csd, status, switch, frame and trace")]
     NoRegister,
+    /// No line of what is to be a trace is an exchange.
+    #[error("no line is an exchange, as: cmd 510000000055 rsp none, in 512 good, out accepted, or busy no")]
+    NoExchange,
     /// A file or standard input wasn't read.
     #[error("{0}")]
     Unread(ServeFault),

@@ -35,7 +35,7 @@ read may be -, for standard input.
     --vcd FILE     writes the exchanges as a waveform of CLK, CMD and DAT0 to DAT7; FILE must not be there yet
     --save FILE    writes what the card holds at the end, as an image has it; FILE must not be there yet
     --svg FILE     draws the last 64 exchanges as a sequence diagram in SVG, with words, planned faults, and what the driver does to
-                   settle the card, or as many as --trace N keeps; FILE must not be there yet, nor in the next two
+                   settle the card; FILE must not be there yet, nor in the next two
     --html FILE    writes a page with the answers, that diagram, the exchanges in words, what happened, and what the card holds
     --timing FILE  draws the last 16 exchanges as a timing diagram of CMD and DAT in SVG
     --exchanges A..B
@@ -56,7 +56,7 @@ read may be -, for standard input.
 Status: 0 where every request was served, 1 where one failed or was refused, 2 where nothing was served or the output failed.
 
     cardtool serve --card examples/sdsc.card --script examples/first.script --trace 6 --explain
-    cardtool serve --card examples/sdsc.card --script examples/first.script --fault 'cmd 13 lose-reply' --explain
+    cardtool serve --card examples/sdsc.card --script examples/first.script --fault 'cmd 13 3 lose-reply' --explain
     cardtool serve --card examples/lost-status.card --script examples/lost-status.script --html lost-status.html
 ";
 

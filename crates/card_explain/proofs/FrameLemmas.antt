@@ -4,7 +4,7 @@ use Rattle.std.proofs.Math.Seq.{get_or-append_seam}
 use Rattle.std.specs.Prelude.{slice_index, slice_range}
 use Rattle.mmc_frame.specs.Check.{bits_of, remainder}
 use Rattle.mmc_frame.specs.RegisterFrame.{with_check}
-use Rattle.card_explain.specs.Frames.{right_check}
+use Rattle.card_explain.specs.Frames.{remainder_of}
 use Rattle.card_explain.specs.LongFrames.{register_check}
 
 after_zeros : (a b c d e : ℕ)
@@ -20,8 +20,8 @@ halved n = omega arith
 pub check_after_zeros : (frame register : List ℕ)
     → register ≡ with_check (0 ∷ 0 ∷ 0 ∷ 0 ∷ 0 ∷ 0 ∷ 0 ∷ 0 ∷ 0 ∷ 0 ∷ (slice_index frame 0 % 128) ∷ slice_index frame 1
     ∷ slice_index frame 2 ∷ slice_index frame 3 ∷ slice_index frame 4 ∷ [])
-    → slice_index register 15 / 2 ≡ right_check frame
-unfolding right_check
+    → slice_index register 15 / 2 ≡ remainder_of frame
+unfolding remainder_of
 check_after_zeros frame register is =
     ap (λ r. slice_index r 15 / 2) is ∙ halved _ ∙ after_zeros _ _ _ _ _
 

@@ -33,15 +33,57 @@ byte_words byte =
     else if byte == 185 then codes ", HS_TIMING"
     else codes ", byte " ++ decimal byte
 
+-- the partition that PARTITION_ACCESS, bits 2 to 0, selects (JESD84-B51, section 7.4.69)
+abbrev pub part_words : ℕ → List ℕ
+part_words value =
+    if value % 8 == 0 then codes ": user"
+    else if value % 8 == 1 then codes ": boot1"
+    else if value % 8 == 2 then codes ": boot2"
+    else if value % 8 == 3 then codes ": RPMB"
+    else if value % 8 == 4 then codes ": gp1"
+    else if value % 8 == 5 then codes ": gp2"
+    else if value % 8 == 6 then codes ": gp3" else codes ": gp4"
+
+-- how many lines BUS_WIDTH sets (JESD84-B51, section 7.4.67)
+abbrev pub lines_words : ℕ → List ℕ
+lines_words value =
+    if value == 0 then codes ": one line"
+    else if value == 1 then codes ": four lines"
+    else if value == 2 then codes ": eight lines" else []
+
+-- which timing HS_TIMING selects, by bits 3 to 0 (JESD84-B51, section 7.4.65)
+abbrev pub timing_words : ℕ → List ℕ
+timing_words value =
+    if value % 16 == 0 then codes ": default speed"
+    else if value % 16 == 1 then codes ": high speed"
+    else if value % 16 == 2 then codes ": HS200"
+    else if value % 16 == 3 then codes ": HS400" else []
+
+-- what a byte is switched to
+abbrev pub value_words : ℕ → ℕ → List ℕ
+value_words byte value =
+    if byte == 179 then part_words value
+    else if byte == 183 then lines_words value
+    else if byte == 185 then timing_words value else []
+
 -- the byte, in bits 23 to 16, and its value, in bits 15 to 8
 abbrev pub switch_words : ℕ → List ℕ
 switch_words argument =
-    byte_words (field 23 16 argument) ++ (codes " to " ++ decimal (field 15 8 argument))
+    byte_words (field 23 16 argument)
+    ++ (codes " to " ++ (decimal (field 15 8 argument) ++ value_words (field 23 16 argument) (field 15 8 argument)))
 
--- bit 31: it switches
+-- another function of group 1 than high speed, in bits 3 to 0; bit 31: it switches
+abbrev pub other_function : ℕ → List ℕ
+other_function argument =
+    (if field 31 31 argument == 1 then codes ", switches group 1 to function " else codes ", asks group 1 for function ")
+    ++ decimal (field 3 0 argument)
+
+-- function 1 of group 1 is high speed
 abbrev pub function_words : ℕ → List ℕ
 function_words argument =
-    if field 31 31 argument == 1 then codes ", switches to high speed" else codes ", asks for high speed"
+    if field 3 0 argument == 1
+    then (if field 31 31 argument == 1 then codes ", switches to high speed" else codes ", asks for high speed")
+    else other_function argument
 
 -- bits 1 and 0: 2 for four lines
 abbrev pub width_words : ℕ → List ℕ

@@ -1,5 +1,5 @@
 -- A line of a trace with words after it.
-use Rattle.std.specs.Prelude.{ℕ, ◌-◌, List, false, [], ◌∷◌, ◌++◌, codes, if◌then◌else◌, length, replicate, take, Option, None, Some}
+use Rattle.std.specs.Prelude.{ℕ, ◌-◌, Bool, List, false, [], ◌∷◌, ◌++◌, codes, drop, if◌then◌else◌, length, replicate, take, Option, None, Some}
 use Rattle.mmc_bus.specs.ExchangeText.{exchange_text}
 use Rattle.std.specs.Fmt.{decimal}
 use Rattle.card_explain.specs.Exchanges.{card_explain}
@@ -26,23 +26,27 @@ unfoldable pub note_words : Option Note → List ℕ
 note_words None = []
 note_words (Some note) = (if note.fell then codes "; fault: " else codes "; doesn't fit: ") ++ fault_text note.fault
 
--- that a card is settled by an exchange
-abbrev pub phase_words : Phase → List ℕ
-phase_words Identification = []
-phase_words Transfer = []
-phase_words Settling = codes "settling: "
+-- that a card is settled by an exchange, or was by those before it
+abbrev pub phase_words : Phase → Bool → List ℕ
+phase_words Settling is_settled = codes "settling: "
+phase_words Identification is_settled = if is_settled then codes "settled: " else []
+phase_words Transfer is_settled = if is_settled then codes "settled: " else []
 
 -- the line of an exchange, its number, its phase, the exchange in words, and the fault that was planned for it
 unfoldable pub explained : KnownCard → Step → List ℕ
 explained card step =
     padded COLUMN (front_of (exchange_text step.numbered.exchange))
-    ++ (codes " #" ++ (decimal step.numbered.number ++ (codes " " ++ (phase_words step.phase
+    ++ (codes " #" ++ (decimal step.numbered.number ++ (codes " " ++ (phase_words step.phase step.is_settled
     ++ (card_explain card step.is_app step.numbered.exchange ++ (note_words step.numbered.note ++ (10 ∷ [])))))))
 
 unfoldable pub lines_by : KnownCard → List Step → List ℕ
 lines_by card [] = []
 lines_by card (step ∷ others) = explained card step ++ lines_by card others
 
--- each exchange by what those before it say of it
-abbrev pub lines_of : KnownCard → List Numbered → List ℕ
-lines_of card exchanges = lines_by card (steps_from card.kind false Transfer exchanges)
+-- the last so many
+abbrev pub last_of : ℕ → List Step → List Step
+last_of most steps = drop (length steps - most) steps
+
+-- the last exchanges, each by what those before it say of it, also those that have no line
+abbrev pub lines_of : KnownCard → List Numbered → ℕ → List ℕ
+lines_of card exchanges most = lines_by card (last_of most (steps_from card.kind false Transfer exchanges))

@@ -92,10 +92,15 @@ phase_after kind Identification exchange = if sends Index.SEND_RELATIVE_ADDR exc
 phase_after kind Transfer exchange = if fails kind exchange then Settling else Transfer
 phase_after kind Settling exchange = Settling
 
+-- settling has ended between these phases
+abbrev pub is_settled : Phase → Phase → Bool
+is_settled Settling Transfer = true
+is_settled before phase = false
+
 -- each exchange with what those before it say of it
 unfoldable pub steps_from : Kind → Bool → Phase → List Numbered → List Step
 steps_from kind is_app left [] = []
 steps_from kind is_app left (one ∷ others) =
     let phase = phase_of left one.exchange in
-    record { numbered = one; is_app = is_app; phase = phase }
+    record { numbered = one; is_app = is_app; phase = phase; is_settled = is_settled left phase }
     ∷ steps_from kind (announces one.exchange) (phase_after kind phase one.exchange) others

@@ -1,7 +1,7 @@
 // What the argument of a command asks for.
 ghost use Rattle.std.specs.Prelude.{OnOk, ◌++◌, ◌≡◌};
-ghost use Rattle.card_explain.specs.Arguments.{argument_words, byte_words, count_words, erase_words, function_words, rca_words, sector_words, width_words};
-ghost use Rattle.card_explain.specs.Arguments.{switch_words};
+ghost use Rattle.card_explain.specs.Arguments.{argument_words, byte_words, count_words, erase_words, function_words, other_function, rca_words};
+ghost use Rattle.card_explain.specs.Arguments.{lines_words, part_words, sector_words, switch_words, timing_words, value_words, width_words};
 
 use crate::words::say;
 use mmc_card::Command;
@@ -38,23 +38,101 @@ fn put_byte(out: &mut Vec<u8>, byte: u32) -> Result<(), AllocError>
     }
 }
 
+// The partition that PARTITION_ACCESS, bits 2 to 0 of PARTITION_CONFIG, selects (JESD84-B51, section 7.4.69).
+fn part_words(value: u32) -> &'static [u8]
+    ensures { result.now ≡ part_words value }
+{
+    match value % 8 {
+        0 => b": user",
+        1 => b": boot1",
+        2 => b": boot2",
+        3 => b": RPMB",
+        4 => b": gp1",
+        5 => b": gp2",
+        6 => b": gp3",
+        _ => b": gp4",
+    }
+}
+
+// How many lines BUS_WIDTH sets (JESD84-B51, section 7.4.67).
+fn lines_words(value: u32) -> &'static [u8]
+    ensures { result.now ≡ lines_words value }
+{
+    match value {
+        0 => b": one line",
+        1 => b": four lines",
+        2 => b": eight lines",
+        _ => b"",
+    }
+}
+
+// Which timing HS_TIMING selects (JESD84-B51, section 7.4.65).
+fn timing_words(value: u32) -> &'static [u8]
+    ensures { result.now ≡ timing_words value }
+{
+    match value % 16 {
+        0 => b": default speed",
+        1 => b": high speed",
+        2 => b": HS200",
+        3 => b": HS400",
+        _ => b"",
+    }
+}
+
+// What a byte of the EXT_CSD is switched to.
+fn value_words(byte: u32, value: u32) -> &'static [u8]
+    ensures { result.now ≡ value_words byte value }
+{
+    match byte {
+        179 => part_words(value),
+        183 => lines_words(value),
+        185 => timing_words(value),
+        _ => b"",
+    }
+}
+
 // The byte of the EXT_CSD that CMD6 of eMMC writes: which one in bits 23 to 16, and its value in bits 15 to 8.
 fn put_switch(out: &mut Vec<u8>, argument: u32) -> Result<(), AllocError>
     ensures { OnOk result (out.new.items ≡ out.old.items ++ switch_words argument) }
 {
-    put_byte(out, argument / 0x1_0000 % 0x100)?;
-    let value = u64::from(argument / 0x100 % 0x100);
-    say(out, &[Piece::Text(b" to "), Piece::Number(value)])
+    let byte = argument / 0x1_0000 % 0x100;
+    let value = argument / 0x100 % 0x100;
+    put_byte(out, byte)?;
+    say(
+        out,
+        &[
+            Piece::Text(b" to "),
+            Piece::Number(u64::from(value)),
+            Piece::Text(value_words(byte, value)),
+        ],
+    )
 }
 
-// Whether CMD6 of SD switches or asks, by bit 31.
-fn function_words(argument: u32) -> &'static [u8]
-    ensures { result.now ≡ function_words argument }
+// Another function of group 1 than high speed, by bits 3 to 0.
+fn put_other_function(out: &mut Vec<u8>, argument: u32) -> Result<(), AllocError>
+    ensures { OnOk result (out.new.items ≡ out.old.items ++ other_function argument) }
 {
-    if argument / 0x8000_0000 == 1 {
-        b", switches to high speed"
+    let verb = if argument / 0x8000_0000 == 1 {
+        b", switches group 1 to function ".as_slice()
     } else {
-        b", asks for high speed"
+        b", asks group 1 for function ".as_slice()
+    };
+    let function = u64::from(argument % 16);
+    say(out, &[Piece::Text(verb), Piece::Number(function)])
+}
+
+// Whether CMD6 of SD switches or asks, by bit 31, and for what: high speed is function 1 of group 1 (SD Physical Layer 6.00,
+// section 4.3.10).
+fn put_function(out: &mut Vec<u8>, argument: u32) -> Result<(), AllocError>
+    ensures { OnOk result (out.new.items ≡ out.old.items ++ function_words argument) }
+{
+    if argument % 16 != 1 {
+        return put_other_function(out, argument);
+    }
+    if argument / 0x8000_0000 == 1 {
+        say_words(out, b", switches to high speed")
+    } else {
+        say_words(out, b", asks for high speed")
     }
 }
 
@@ -131,7 +209,7 @@ pub(crate) fn put_argument(
         Command::SetBlocklen => put_count(out, argument, b" bytes"),
         Command::SetBlockCount => put_count(out, argument % 0x1_0000, b" blocks"),
         Command::Switch => put_switch(out, argument),
-        Command::SwitchFunc => say_words(out, function_words(argument)),
+        Command::SwitchFunc => put_function(out, argument),
         Command::SetBusWidth => say_words(out, width_words(argument)),
         Command::Erase => say_words(out, erase_words(argument)),
         _ => Ok(()),

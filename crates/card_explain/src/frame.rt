@@ -2,9 +2,10 @@
 ghost use Rattle.std.specs.Prelude.{OnOk, ◌++◌, ◌<◌, ◌≡◌};
 ghost use Rattle.card_explain.specs.Frames.{argument_text, back_text, check_text, direction_words, end_bit_text, fields_text, fit_text, fixed_text, frame_text};
 ghost use Rattle.card_explain.specs.Frames.{head_text, index_text, meaning_words, right_check, start_bit_text, start_text, tail_text, transmission_text};
-ghost use Rattle.card_explain.specs.Frames.{verdict_text};
+ghost use Rattle.card_explain.specs.Frames.{r1_meaning, remainder_of, response_words, verdict_text};
 
 use crate::command::put_command;
+use crate::response::{put_r3, put_r6, put_r7};
 use crate::status::put_status;
 use crate::words::say;
 use mmc_card_rows::command_of;
@@ -23,18 +24,47 @@ pub(crate) fn direction_words(first: u8) -> &'static [u8]
     }
 }
 
-// What the frame means: the command, or a card status as an R1 has it.
-#[tactic(auto, unfolding(crate::specs::Frames::meaning_words))]
-fn put_meaning(out: &mut Vec<u8>, kind: Kind, first: u8, argument: u32) -> Result<(), AllocError>
-    ensures { OnOk result (out.new.items ≡ out.old.items ++ meaning_words kind first argument) }
+// A card status, as an R1 has it.
+fn put_r1_meaning(out: &mut Vec<u8>, kind: Kind, argument: u32) -> Result<(), AllocError>
+    ensures { OnOk result (out.new.items ≡ out.old.items ++ r1_meaning kind argument) }
 {
-    if first / 64 % 2 == 1 {
-        let index = first % 64;
+    say(out, &[Piece::Text(b"R1: ")])?;
+    put_status(out, kind, argument)
+}
+
+// A response, by its index: R3 has 63, and of an SD card R6 has that of CMD3 and R7 that of CMD8; all others are R1s.
+fn put_response(
+    out: &mut Vec<u8>,
+    kind: Kind,
+    frame: &[u8; 6],
+    argument: u32,
+) -> Result<(), AllocError>
+    ensures { OnOk result (out.new.items ≡ out.old.items ++ response_words kind frame.now argument) }
+{
+    match (kind, frame[0] % 64) {
+        (_, 63) => put_r3(out, frame),
+        (Kind::Sd, 3) => put_r6(out, kind, frame),
+        (Kind::Sd, 8) => put_r7(out, frame),
+        _ => put_r1_meaning(out, kind, argument),
+    }
+}
+
+// What the frame means: the command, or a response.
+#[tactic(auto, unfolding(crate::specs::Frames::meaning_words))]
+fn put_meaning(
+    out: &mut Vec<u8>,
+    kind: Kind,
+    frame: &[u8; 6],
+    argument: u32,
+) -> Result<(), AllocError>
+    ensures { OnOk result (out.new.items ≡ out.old.items ++ meaning_words kind frame.now argument) }
+{
+    if frame[0] / 64 % 2 == 1 {
+        let index = frame[0] % 64;
         let command = command_of(kind, false, index);
         put_command(out, kind, command, false, index)
     } else {
-        say(out, &[Piece::Text(b"R1: ")])?;
-        put_status(out, kind, argument)
+        put_response(out, kind, frame, argument)
     }
 }
 
@@ -127,16 +157,15 @@ fn put_head(out: &mut Vec<u8>, first: u8) -> Result<(), AllocError>
 fn put_tail(
     out: &mut Vec<u8>,
     kind: Kind,
-    first: u8,
+    frame: &[u8; 6],
     bytes: &[u8],
     argument: u32,
-    last: u8,
 ) -> Result<(), AllocError>
-    ensures { OnOk result (out.new.items ≡ out.old.items ++ tail_text kind first bytes.now argument last) }
+    ensures { OnOk result (out.new.items ≡ out.old.items ++ tail_text kind frame.now bytes.now argument) }
 {
     put_argument_bytes(out, bytes)?;
-    put_meaning(out, kind, first, argument)?;
-    put_back(out, last)
+    put_meaning(out, kind, frame, argument)?;
+    put_back(out, frame[5])
 }
 
 // All fields.
@@ -145,12 +174,12 @@ fn put_fields(out: &mut Vec<u8>, kind: Kind, frame: &[u8; 6]) -> Result<(), Allo
 {
     let argument = u32::from_be_bytes([frame[1], frame[2], frame[3], frame[4]]);
     put_head(out, frame[0])?;
-    put_tail(out, kind, frame[0], &frame[1..5], argument, frame[5])
+    put_tail(out, kind, frame, &frame[1..5], argument)
 }
 
 // The check that fits a frame's first five bytes with a start bit of 0. Zeros before them change no remainder.
-fn right_check(frame: &[u8; 6]) -> u8
-    ensures { result ≡ right_check frame.now }
+fn remainder_of(frame: &[u8; 6]) -> u8
+    ensures { result ≡ remainder_of frame.now }
 {
     let first = frame[0] % 128;
     let bytes = [
@@ -158,6 +187,17 @@ fn right_check(frame: &[u8; 6]) -> u8
     ];
     let register = with_check(&bytes);
     register[15] / 2
+}
+
+// The same; an R3, from the card with index 63, has seven ones there.
+fn right_check(frame: &[u8; 6]) -> u8
+    ensures { result ≡ right_check frame.now }
+{
+    if frame[0] % 128 == 63 {
+        127
+    } else {
+        remainder_of(frame)
+    }
 }
 
 /// Whether a check is the right one.
@@ -235,7 +275,7 @@ fn put_verdict(out: &mut Vec<u8>, frame: &[u8; 6]) -> Result<(), AllocError>
     put_end_bit(out, frame[5])
 }
 
-/// Writes the fields of a frame of 48 bits, a line each, with its command, or with the card status that it has as an R1; and after
+/// Writes the fields of a frame of 48 bits, a line each, with its command, or with what it tells as a response; and after
 /// them whether its check fits, and that the start bit or the end bit is wrong, where it is (SD Physical Layer 6.00, sections 4.7.2
 /// and 4.9; JESD84-B51, sections 6.10.1 and 6.12).
 ///

@@ -67,17 +67,18 @@ fn put_note(out: &mut Vec<u8>, note: Option<Note>) -> Result<(), AllocError>
     put_fault(out, note.fault)
 }
 
-// What is said of the phase of an exchange.
-fn phase_words(phase: Phase) -> &'static [u8]
-    ensures { result.now ≡ phase_words phase }
+// What is said of the phase of an exchange, which may be the first one after settling.
+fn phase_words(phase: Phase, is_settled: bool) -> &'static [u8]
+    ensures { result.now ≡ phase_words phase is_settled }
 {
     match phase {
-        Phase::Identification | Phase::Transfer => b"",
         Phase::Settling => b"settling: ",
+        Phase::Identification | Phase::Transfer if is_settled => b"settled: ",
+        Phase::Identification | Phase::Transfer => b"",
     }
 }
 
-/// Writes the line of an exchange as a trace has it, with its number, whether the card is settled by it, the exchange in words after
+/// Writes the line of an exchange as a trace has it, with its number, whether the card is settled by it or was before it, the exchange in words after
 /// that, and the fault that was planned for it.
 ///
 /// # Errors
@@ -101,7 +102,7 @@ pub fn put_line(
             Piece::Text(b" "),
         ],
     )?;
-    out.extend_from_slice(phase_words(step.phase))?;
+    out.extend_from_slice(phase_words(step.phase, step.is_settled))?;
     put_exchange(out, card, step.is_app, &step.numbered.exchange)?;
     put_note(out, step.numbered.note)?;
     say(out, &[Piece::Text(b"\n")])

@@ -23,7 +23,8 @@ fn put_steps(
     Ok(())
 }
 
-/// Writes a line with words for each of these exchanges, which follow each other, with the fault that was planned for it.
+/// Writes a line with words for each of the last `most` of these exchanges, which follow each other, with the fault that was planned
+/// for it. Those before them tell what comes: an application command, and that the card is being settled.
 ///
 /// # Errors
 /// `AllocError` where memory is refused.
@@ -32,9 +33,11 @@ pub fn put_lines(
     out: &mut Vec<u8>,
     card: KnownCard,
     exchanges: &[Numbered],
+    most: usize,
 ) -> Result<(), AllocError>
-    ensures { OnOk result (out.new.items ≡ out.old.items ++ lines_of card exchanges.now) }
+    ensures { OnOk result (out.new.items ≡ out.old.items ++ lines_of card exchanges.now most) }
 {
     let steps = steps(alloc, card.kind, exchanges)?;
-    put_steps(alloc, out, card, steps.as_slice())
+    let from = steps.len().saturating_sub(most);
+    put_steps(alloc, out, card, &steps[from..])
 }

@@ -83,8 +83,8 @@ fn put_ocr(out: &mut Vec<u8>, ocr: u32) -> Result<(), AllocError>
     )
 }
 
-// An R3, with the OCR.
-fn put_r3(out: &mut Vec<u8>, frame: &[u8; 6]) -> Result<(), AllocError>
+/// An R3, with the OCR.
+pub(crate) fn put_r3(out: &mut Vec<u8>, frame: &[u8; 6]) -> Result<(), AllocError>
     ensures { OnOk result (out.new.items ≡ out.old.items ++ r3_words frame.now) }
 {
     match read_r3(frame) {
@@ -112,8 +112,8 @@ fn put_rca(out: &mut Vec<u8>, rca: u16) -> Result<(), AllocError>
     )
 }
 
-// An R6, with the RCA.
-fn put_r6(out: &mut Vec<u8>, kind: Kind, frame: &[u8; 6]) -> Result<(), AllocError>
+/// An R6, with the RCA.
+pub(crate) fn put_r6(out: &mut Vec<u8>, kind: Kind, frame: &[u8; 6]) -> Result<(), AllocError>
     ensures { OnOk result (out.new.items ≡ out.old.items ++ r6_words kind frame.now) }
 {
     match read_r6(frame) {
@@ -128,8 +128,8 @@ fn put_r6(out: &mut Vec<u8>, kind: Kind, frame: &[u8; 6]) -> Result<(), AllocErr
     }
 }
 
-// An R7, with the voltage and the check pattern.
-fn put_r7(out: &mut Vec<u8>, frame: &[u8; 6]) -> Result<(), AllocError>
+/// An R7, with the voltage and the check pattern.
+pub(crate) fn put_r7(out: &mut Vec<u8>, frame: &[u8; 6]) -> Result<(), AllocError>
     ensures { OnOk result (out.new.items ≡ out.old.items ++ r7_words frame.now) }
 {
     match read_r7(frame) {

@@ -1,6 +1,6 @@
 // Exchanges with what those before them say of them.
 ghost use Rattle.std.specs.Prelude.{IfOk, false, ◌≡◌};
-ghost use Rattle.card_explain.specs.Settling.{steps_from};
+ghost use Rattle.card_explain.specs.Settling.{is_settled, steps_from};
 ghost use Rattle.card_explain.specs.declared.settling.Phase.TheVariants.{Transfer};
 
 use crate::exchange::announces_application_command;
@@ -18,6 +18,18 @@ pub struct Step {
     pub is_app: bool,
     /// The phase that it belongs to.
     pub phase: Phase,
+    /// Whether it is the first one after the card was settled: what failed begins again, or another request.
+    pub is_settled: bool,
+}
+
+// Whether settling has ended between these phases.
+fn is_settled(before: Phase, phase: Phase) -> bool
+    ensures { result ≡ is_settled before phase }
+{
+    match (before, phase) {
+        (Phase::Settling, Phase::Transfer) => true,
+        _ => false,
+    }
 }
 
 /// These exchanges, which follow each other, each with what those before it say of it. The first one is taken as of a card with
@@ -38,6 +50,7 @@ pub fn steps(alloc: Global, kind: Kind, exchanges: &[Numbered]) -> Result<Vec<St
             numbered: *numbered,
             is_app,
             phase,
+            is_settled: is_settled(left, phase),
         })?;
         is_app = announces_application_command(&numbered.exchange);
         left = phase_after(kind, phase, &numbered.exchange);

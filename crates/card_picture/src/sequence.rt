@@ -130,7 +130,7 @@ fn put_messages(
     Ok(())
 }
 
-/// Draws exchanges, which follow each other, as a sequence diagram in SVG 1.1: a row for each, in order, with its number, and lines
+/// Draws exchanges, which follow each other, as a sequence diagram in SVG 2: a row for each, in order, with its number, and lines
 /// for clients, the driver and the card from the first to the last. An exchange for which a fault was planned has it beside it, in
 /// red where it fell, and those of a phase that isn't transfer a band behind them. Each message stands at its place among them.
 ///

@@ -76,7 +76,7 @@ fn put_columns(
     Ok(())
 }
 
-/// Draws exchanges, which follow each other, as a timing diagram in SVG 1.1, which isn't to scale: a column for each, in order, with
+/// Draws exchanges, which follow each other, as a timing diagram in SVG 2, which isn't to scale: a column for each, in order, with
 /// its number, and what it shows of CMD and the data lines; its words show where a viewer's pointer is over it.
 ///
 /// # Errors

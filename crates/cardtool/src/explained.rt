@@ -1,4 +1,5 @@
 // The trace with words after each of its lines, and what was met and healed.
+use crate::answers::Kept;
 use crate::more::Served;
 use card_explain::{KnownCard, Note, Numbered, put_lines};
 use card_rules::{RuledCard, addressing_of};
@@ -108,8 +109,8 @@ fn put_all<W: Write>(out: &mut W, count: u64, lines: &[u8], healed: Healed) -> i
     put_healed(out, healed)
 }
 
-/// Writes `trace K` and a line for each of these exchanges, with words after it and the fault that fell in it or was planned for it;
-/// then what was met and healed.
+/// Writes `trace K` and a line for each of the last `most` of these exchanges, with words after it and the fault that fell in it or was
+/// planned for it; then what was met and healed.
 ///
 /// # Errors
 /// `NoMemory`; `Write` where a write failed, and a front of the lines went out then.
@@ -117,12 +118,64 @@ pub fn put_explained<W: Write>(
     alloc: Global,
     known: KnownCard,
     noted: &[Numbered],
+    most: usize,
     healed: Healed,
     out: &mut W,
 ) -> Result<(), ServeFault> {
     let mut lines = Vec::new(alloc);
-    put_lines(alloc, &mut lines, known, noted)?;
-    match put_all(out, noted.len() as u64, lines.as_slice(), healed) {
+    put_lines(alloc, &mut lines, known, noted, most)?;
+    let count = noted.len().min(most) as u64;
+    match put_all(out, count, lines.as_slice(), healed) {
+        Ok(()) => Ok(()),
+        Err(_) => Err(ServeFault::Write),
+    }
+}
+
+// How much of a line of the answers is shown again.
+const FRONT: usize = 35;
+
+// Whether a line of the answers says that a request is queued.
+fn is_queued(line: &[u8]) -> bool {
+    line.ends_with(b" queued")
+}
+
+// Writes the last exchange before a line of the answers, and the line's front.
+fn put_moment<W: Write>(out: &mut W, count: u64, line: &[u8]) -> io::Result<()> {
+    put_pieces(
+        out,
+        &[
+            Piece::Text(b"after #"),
+            Piece::Number(count.saturating_sub(1)),
+            Piece::Text(b": "),
+            Piece::Text(&line[..line.len().min(FRONT)]),
+            Piece::Text(b"\n"),
+        ],
+    )
+}
+
+// The same for each line that was kept but those of requests that are queued.
+fn put_kept<W: Write>(kept: &Kept, out: &mut W) -> io::Result<()> {
+    let mut from = 0;
+    for line in &kept.lines {
+        let end = line.end.min(kept.text.len());
+        let text = &kept.text[from.min(end)..end];
+        if !is_queued(text) {
+            put_moment(out, line.count, text)?;
+        }
+        from = end.saturating_add(1);
+    }
+    Ok(())
+}
+
+/// Writes for each line of the answers, but those of requests that are queued, after which exchange it came.
+///
+/// # Errors
+/// `Write`, and a front of the lines went out then.
+pub fn put_moments<W: Write>(answers: &Option<Kept>, out: &mut W) -> Result<(), ServeFault> {
+    let Some(kept) = answers else {
+        return Ok(());
+    };
+    match put_kept(kept, out) {
         Ok(()) => Ok(()),
         Err(_) => Err(ServeFault::Write),
     }

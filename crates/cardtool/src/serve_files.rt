@@ -7,7 +7,7 @@ ghost use Rattle.cardtool.specs.More.{IsShown};
 use crate::answers::{KeepingWriter, Kept};
 use crate::beside::Beside;
 use crate::drawing::{Drawings, begun_drawings, discard, draw};
-use crate::explained::{kept_with_notes, known_card, put_explained, put_unexplained};
+use crate::explained::{kept_with_notes, known_card, put_explained, put_moments, put_unexplained};
 use crate::files::{FilesRead, read_files};
 use crate::more::{Drawn, Served, Shown, serve_counted};
 use crate::options_given::Options;
@@ -47,15 +47,23 @@ pub fn serve_buffered<R: Print + AllocGlobal, C: Read, S: Read, I: Read>(
     }
 }
 
-// What is kept to be shown after the answers: without a number the most that a trace keeps, where it is to be explained or drawn.
+// What is kept to be shown after the answers: where it is to be explained or drawn the most that a trace keeps, since those before
+// what is shown tell what comes.
 fn shown(options: &Options<'_>, are_drawn: bool) -> Shown
     ensures { IsShown result }
 {
     match (options.explains || are_drawn, options.trace) {
-        (true, None) => Shown::Explained(MAX_KEPT as u32),
-        (true, Some(n)) => Shown::Explained(n),
+        (true, _) => Shown::Explained(MAX_KEPT as u32),
         (false, None) => Shown::Nothing,
         (false, Some(n)) => Shown::Trace(n),
+    }
+}
+
+// How many exchanges are shown at most.
+fn most_shown(options: &Options<'_>) -> usize {
+    match options.trace {
+        Some(n) => n as usize,
+        None => MAX_KEPT,
     }
 }
 
@@ -90,6 +98,7 @@ fn put_exchanges<W: Write>(
     known: KnownCard,
     served: &Served<RuledCard>,
     noted: &Result<Option<Vec<Numbered>>, ServeFault>,
+    answers: &Option<Kept>,
     out: &mut W,
 ) -> Result<(), ServeFault> {
     let noted = match noted {
@@ -97,10 +106,12 @@ fn put_exchanges<W: Write>(
         Ok(None) => return Ok(()),
         Err(fault) => return Err(*fault),
     };
+    let most = most_shown(options);
     if options.explains {
-        put_explained(alloc, known, noted, served.healed, out)
+        put_explained(alloc, known, noted, most, served.healed, out)?;
+        put_moments(answers, out)
     } else if options.trace.is_some() && served.status.is_ok() {
-        put_unexplained(out, noted)
+        put_unexplained(out, &noted[noted.len().saturating_sub(most)..])
     } else {
         Ok(())
     }
@@ -200,12 +211,13 @@ fn serve_card<R: Files + Print + Eprint + AllocGlobal, V: Write + Drop, F: Write
         return Err(ServeFault::NoMemory);
     };
     let count = Cell::new(0);
-    let mut out = KeepingWriter::new(alloc, out, &count, pictures.asks());
+    let keeps = pictures.asks() || options.explains;
+    let mut out = KeepingWriter::new(alloc, out, &count, keeps);
     let shown = shown(options, pictures.asks());
     let (served, drawn) = serve_counted(alloc, card, &count, script, shown, wave, &mut out);
     let answers = out.take_kept();
     let noted = kept_with_notes(alloc, &served, plan);
-    let printed = put_exchanges(alloc, options, known, &served, &noted, &mut out);
+    let printed = put_exchanges(alloc, options, known, &served, &noted, &answers, &mut out);
     let flushed = out.flush();
     let files = finish_files(
         rt,

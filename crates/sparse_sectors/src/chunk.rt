@@ -70,7 +70,7 @@ impl Chunk {
         ensures { self.new ≡ slice_set self.old i sector.now }
     {
         if i < self.front.len() {
-            self.front[i] = *sector;
+            self.front[i].copy_from_slice(sector);
             return;
         }
         if *sector == self.blank {

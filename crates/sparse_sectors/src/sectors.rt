@@ -75,7 +75,7 @@ impl Sectors {
     {
         let first = self.image.len();
         if i < first {
-            *self.image.block_mut(i) = *sector;
+            self.image.block_mut(i).copy_from_slice(sector);
             return;
         }
         self.rest.put(i - first, sector);

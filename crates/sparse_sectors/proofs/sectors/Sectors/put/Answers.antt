@@ -11,9 +11,10 @@ returns-then-i-first c =
     let rest = c.self.inside.rest in
     let sector = c.args.sector.now in
     let below : c.args.i < length (blocks_in image) = omega (arith, c.len-first.ensures, c.if-i-first.true) in
-    ap (λ xs. xs ++ rest) (block_left image c.args.i sector below c.told-sector)
+    rw c.copy_from_slice.ensures.after
+    (ap (λ xs. xs ++ rest) (block_left image c.args.i sector below c.told-sector)
     ∙ sym (set-append_left (blocks_in image) rest c.args.i sector below)
-    ∙ ap (λ xs. slice_set xs c.args.i sector) c.self.view_is
+    ∙ ap (λ xs. slice_set xs c.args.i sector) c.self.view_is)
 
 pub returns : goal.returns
 returns c =
