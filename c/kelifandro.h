@@ -53,7 +53,7 @@ enum kelifandro_result {
     /* Neither a host nor registers are given. */
     KELIFANDRO_NO_HOST = -7,
     /* Four attempts have failed, by the cause that is named. Each sector of a write, an erase or a trim is old or new. The card stays
-       open: the next request settles it first, or resets it; RECOVERY says that it didn't answer to that any more. */
+       open: the next request settles it first, or resets it; RECOVERY says that the last attempt couldn't even settle it. */
     KELIFANDRO_FAILED_ANSWER = -10,
     KELIFANDRO_FAILED_DATA = -11,
     KELIFANDRO_FAILED_STATUS = -12,

@@ -1,7 +1,9 @@
 // The trace with words after each of its lines, and what was met and healed.
 use crate::answers::Kept;
+use crate::messages::said;
 use crate::more::Served;
 use card_explain::{KnownCard, Note, Numbered, put_lines};
+use card_picture::Message;
 use card_rules::{RuledCard, addressing_of};
 use card_served::{ServeFault, put_healed};
 use mmc_block::Healed;
@@ -109,8 +111,8 @@ fn put_all<W: Write>(out: &mut W, count: u64, lines: &[u8], healed: Healed) -> i
     put_healed(out, healed)
 }
 
-/// Writes `trace K` and a line for each of the last `most` of these exchanges, with words after it and the fault that fell in it or was
-/// planned for it; then what was met and healed.
+/// Writes `trace K` and a line for each of the last `most` of these exchanges, with words after it and the fault that fell in it or
+/// was planned for it; then what was met and healed.
 ///
 /// # Errors
 /// `NoMemory`; `Write` where a write failed, and a front of the lines went out then.
@@ -131,54 +133,39 @@ pub fn put_explained<W: Write>(
     }
 }
 
-// How much of a line of the answers is shown again.
-const FRONT: usize = 35;
-
-// Whether a line of the answers says that a request is queued.
-fn is_queued(line: &[u8]) -> bool {
-    line.ends_with(b" queued")
-}
-
-// Writes the last exchange before a line of the answers, and the line's front.
-fn put_moment<W: Write>(out: &mut W, count: u64, line: &[u8]) -> io::Result<()> {
+// Writes the last exchange before an answer, and the front of its line.
+fn put_moment<W: Write>(out: &mut W, answer: &Message<'_>) -> io::Result<()> {
     put_pieces(
         out,
         &[
             Piece::Text(b"after #"),
-            Piece::Number(count.saturating_sub(1)),
+            Piece::Number(answer.after.saturating_sub(1)),
             Piece::Text(b": "),
-            Piece::Text(&line[..line.len().min(FRONT)]),
+            Piece::Text(answer.words),
             Piece::Text(b"\n"),
         ],
     )
 }
 
-// The same for each line that was kept but those of requests that are queued.
-fn put_kept<W: Write>(kept: &Kept, out: &mut W) -> io::Result<()> {
-    let mut from = 0;
-    for line in &kept.lines {
-        let end = line.end.min(kept.text.len());
-        let text = &kept.text[from.min(end)..end];
-        if !is_queued(text) {
-            put_moment(out, line.count, text)?;
-        }
-        from = end.saturating_add(1);
-    }
-    Ok(())
-}
-
-/// Writes for each line of the answers, but those of requests that are queued, after which exchange it came.
+/// Writes for each answer after which exchange it came.
 ///
 /// # Errors
-/// `Write`, and a front of the lines went out then.
-pub fn put_moments<W: Write>(answers: &Option<Kept>, out: &mut W) -> Result<(), ServeFault> {
+/// `NoMemory`; `Write`, and a front of the lines went out then.
+pub fn put_moments<W: Write>(
+    alloc: Global,
+    answers: &Option<Kept>,
+    out: &mut W,
+) -> Result<(), ServeFault> {
     let Some(kept) = answers else {
         return Ok(());
     };
-    match put_kept(kept, out) {
-        Ok(()) => Ok(()),
-        Err(_) => Err(ServeFault::Write),
+    let said = said(alloc, kept)?;
+    for message in said.as_slice() {
+        if message.is_answer && put_moment(out, message).is_err() {
+            return Err(ServeFault::Write);
+        }
     }
+    Ok(())
 }
 
 // Writes `trace K` and a line for each of these exchanges.

@@ -35,6 +35,21 @@ fn line_between(text: &[u8], begin: usize, end: usize) -> &[u8] {
     &text[begin.min(end)..end]
 }
 
+/// A message for each line that was kept.
+///
+/// # Errors
+/// `AllocError` where memory is refused.
+pub fn said<'a>(alloc: Global, kept: &'a Kept) -> Result<Vec<Message<'a>>, AllocError> {
+    let mut said = Vec::new(alloc);
+    let mut begin = 0;
+    for line in kept.lines.as_slice() {
+        let words = line_between(kept.text.as_slice(), begin, line.end);
+        said.push(message(words, line.count))?;
+        begin = line.end.saturating_add(1);
+    }
+    Ok(said)
+}
+
 /// The messages that were said between the exchanges before the first of these and after the last of them.
 ///
 /// # Errors
@@ -48,15 +63,13 @@ pub fn messages<'a>(
     let (Some(first), Some(last)) = (steps.first(), steps.last()) else {
         return Ok(messages);
     };
-    let mut begin = 0;
-    for line in kept.lines.as_slice() {
-        let is_shown = first.numbered.number <= line.count
-            && line.count <= last.numbered.number.saturating_add(1);
+    let all = said(alloc, kept)?;
+    for message in all.as_slice() {
+        let is_shown = first.numbered.number <= message.after
+            && message.after <= last.numbered.number.saturating_add(1);
         if is_shown {
-            let words = line_between(kept.text.as_slice(), begin, line.end);
-            messages.push(message(words, line.count))?;
+            messages.push(*message)?;
         }
-        begin = line.end.saturating_add(1);
     }
     Ok(messages)
 }

@@ -109,7 +109,7 @@ fn put_exchanges<W: Write>(
     let most = most_shown(options);
     if options.explains {
         put_explained(alloc, known, noted, most, served.healed, out)?;
-        put_moments(answers, out)
+        put_moments(alloc, answers, out)
     } else if options.trace.is_some() && served.status.is_ok() {
         put_unexplained(out, &noted[noted.len().saturating_sub(most)..])
     } else {
