@@ -44,6 +44,25 @@ void *memset(void *to, int byte, size_t n);
 #define KELIFANDRO_TRAP() for (;;)
 #endif
 #endif
+
+/* Where accesses go by bytes a number that begins at a multiple of its size, as those in rooms do, is still had at once. */
+#if KELIFANDRO_BY_BYTES && defined __GNUC__ && defined __BYTE_ORDER__ && __BYTE_ORDER__ == __ORDER_LITTLE_ENDIAN__
+#define KELIFANDRO_AT_ONCE 1
+#define KELIFANDRO_ROOM __attribute__((__aligned__(8)))
+typedef uint16_t __attribute__((__may_alias__)) any16;
+typedef uint32_t __attribute__((__may_alias__)) any32;
+typedef uint64_t __attribute__((__may_alias__)) any64;
+#else
+#define KELIFANDRO_AT_ONCE 0
+#define KELIFANDRO_ROOM
+#endif
+
+/* What is smaller where it is called than where it is taken in. */
+#ifdef __GNUC__
+#define KELIFANDRO_APART __attribute__((__noinline__))
+#else
+#define KELIFANDRO_APART
+#endif
 '''
 TYPE_128 = '''typedef struct {
     uint64_t lo, hi;
@@ -90,7 +109,10 @@ class Core:
                      'srem', 'usub_sat', 'uadd_sat'):
             for n in (8, 16, 24, 32, 40, 48, 56, 64, 128):
                 self.names.take('%s%d' % (word, n))
-        for word in ('move', 'load_pointer', 'store_pointer', 'moved'):
+        for n in (16, 32, 64, 128):
+            for word in ('load%d_aligned', 'store%d_aligned', 'any%d'):
+                self.names.take(word % n)
+        for word in ('move', 'load_pointer', 'store_pointer', 'load_pointer_aligned', 'store_pointer_aligned', 'moved'):
             self.names.take(word)
 
     def name_for(self, function):
@@ -130,7 +152,7 @@ class Core:
     def table_text(self, name):
         values = self.module.tables[name]
         rows = [', '.join(map(str, values[k:k + IN_A_ROW])) for k in range(0, len(values), IN_A_ROW)]
-        return 'static const uint8_t %s[%d] = {\n    %s,\n};\n' % (self.tables[name], len(values), ',\n    '.join(rows))
+        return 'static const KELIFANDRO_ROOM uint8_t %s[%d] = {\n    %s,\n};\n' % (self.tables[name], len(values), ',\n    '.join(rows))
 
     def struct_texts(self):
         """The structs that the functions hand over."""

@@ -262,11 +262,11 @@ class Expressions:
     def load(self, made):
         address = self.operand(made.values[0])
         if made.type == 'ptr':
-            return self.helper('load_pointer', address)
+            return self.helper('load_pointer' + made.suffix(64), address)
         size = bits(made.type)
         if size == 8:
             return Expression(at_address(address), True, [address])
-        return self.helper('load%d' % size, address)
+        return self.helper('load%d%s' % (size, made.suffix(size)), address)
 
     def intrinsic(self, made):
         name, size = made.intrinsic(), bits(made.type)

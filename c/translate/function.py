@@ -143,10 +143,10 @@ class FunctionWriter:
         if not shown:
             return
         if len(shown) == 1:
-            self.line(1, 'uint8_t %s[%d];' % (self.variables[shown[0][0]], max(1, sizes[shown[0][0]])))
+            self.line(1, 'KELIFANDRO_ROOM uint8_t %s[%d];' % (self.variables[shown[0][0]], max(1, sizes[shown[0][0]])))
             return
         name = self.names.fresh('room', 'room')
-        self.line(1, 'uint8_t %s[%d];' % (name, max(begin + sizes[place] for place, begin in shown)))
+        self.line(1, 'KELIFANDRO_ROOM uint8_t %s[%d];' % (name, max(begin + sizes[place] for place, begin in shown)))
         for place, begin in shown:
             self.line(1, 'uint8_t *const %s = %s;' % (self.variables[place], '%s + %d' % (name, begin) if begin else name))
 
@@ -304,7 +304,7 @@ class FunctionWriter:
         if kind == 'i8':
             self.line(depth, '%s = %s;' % (at_address(address), value.text))
             return
-        name = 'store_pointer' if kind == 'ptr' else 'store%d' % bits(kind)
+        name = 'store_pointer' + made.suffix(64) if kind == 'ptr' else 'store%d%s' % (bits(kind), made.suffix(bits(kind)))
         self.line(depth, self.expressions.helper(name, address, value).text + ';')
 
     def write_insert(self, made, depth):

@@ -72,6 +72,31 @@ BSWAP_128 = '''u128 u128_bswap(u128 a)
 {
     return u128_of(bswap64(a.lo), bswap64(a.hi));
 }'''
+LOAD_POINTER_ALIGNED = '''uint8_t *load_pointer_aligned(const uint8_t *bytes)
+{
+#if KELIFANDRO_AT_ONCE
+    return *(uint8_t *const __attribute__((__may_alias__)) *)(const void *)bytes;
+#else
+    return load_pointer(bytes);
+#endif
+}'''
+STORE_POINTER_ALIGNED = '''void store_pointer_aligned(uint8_t *bytes, uint8_t *pointer)
+{
+#if KELIFANDRO_AT_ONCE
+    *(uint8_t *__attribute__((__may_alias__)) *)(void *)bytes = pointer;
+#else
+    store_pointer(bytes, pointer);
+#endif
+}'''
+LOAD_128_ALIGNED = '''u128 load128_aligned(const uint8_t *bytes)
+{
+    return u128_of(load64_aligned(bytes + 8), load64_aligned(bytes));
+}'''
+STORE_128_ALIGNED = '''void store128_aligned(uint8_t *bytes, u128 value)
+{
+    store64_aligned(bytes, value.lo);
+    store64_aligned(bytes + 8, value.hi);
+}'''
 LOAD_128 = '''u128 load128(const uint8_t *bytes)
 {
     return u128_of(load64(bytes + 8), load64(bytes));
@@ -82,8 +107,12 @@ STORE_128 = '''void store128(uint8_t *bytes, u128 value)
     store64(bytes + 8, value.hi);
 }'''
 
+# Smaller on every processor where it stands once.
+APART = {'uadd_sat64'}
 # What a helper calls itself.
-NEEDS = {'u128_bswap': ['bswap64'], 'load128': ['load64'], 'store128': ['store64']}
+NEEDS = {'u128_bswap': ['bswap64'], 'load128': ['load64'], 'store128': ['store64'], 'load128_aligned': ['load64_aligned'],
+         'store128_aligned': ['store64_aligned'], 'load_pointer_aligned': ['load_pointer'], 'store_pointer_aligned': ['store_pointer']}
+NEEDS.update({'%s%d_aligned' % (op, n): ['%s%d' % (op, n)] for op in ('load', 'store') for n in (16, 32, 64)})
 NEEDS.update({'%s%d' % (op, n): ['negative%d' % n] for op in ('sdiv', 'srem') for n in (8, 16, 32, 64)})
 
 
@@ -116,6 +145,28 @@ def load_and_store(n):
 #endif
 }''' % (n, kind, puts, count)
     return {'load%d' % n: load, 'store%d' % n: store}
+
+
+def aligned(n):
+    """The same of a number that begins at a multiple of its size."""
+    kind = unsigned(n)
+    load = '''%s load%d_aligned(const uint8_t *bytes)
+{
+#if KELIFANDRO_AT_ONCE
+    return *(const any%d *)(const void *)bytes;
+#else
+    return load%d(bytes);
+#endif
+}''' % (kind, n, n, n)
+    store = '''void store%d_aligned(uint8_t *bytes, %s value)
+{
+#if KELIFANDRO_AT_ONCE
+    *(any%d *)(void *)bytes = value;
+#else
+    store%d(bytes, value);
+#endif
+}''' % (n, kind, n, n)
+    return {'load%d_aligned' % n: load, 'store%d_aligned' % n: store}
 
 
 def lesser_and_greater(n):
@@ -158,6 +209,9 @@ def all_helpers():
     found = {'trap': TRAP, 'at': AT, 'load_pointer': LOAD_POINTER, 'store_pointer': STORE_POINTER, 'move': MOVE, 'u128_of': OF_128}
     for n in (16, 24, 32, 40, 48, 56, 64):
         found.update(load_and_store(n))
+    for n in (16, 32, 64):
+        found.update(aligned(n))
+    found.update({'load_pointer_aligned': LOAD_POINTER_ALIGNED, 'store_pointer_aligned': STORE_POINTER_ALIGNED})
     for n in (8, 16, 32, 64):
         for made in (lesser_and_greater(n), of_bits(n), with_signs(n)):
             found.update(made)
@@ -165,7 +219,8 @@ def all_helpers():
         head = 'u128 u128_%s(u128 a, u128 b)' % name
         found['u128_' + name] = head + '\n{\n    return u128_of(a.hi %s b.hi, a.lo %s b.lo);\n}' % (sign, sign)
     found.update({'u128_add': ADD_128, 'u128_sub': SUB_128, 'u128_eq': EQ_128, 'u128_lt': LT_128, 'u128_lshr': LSHR_128,
-                  'u128_shl': SHL_128, 'u128_bswap': BSWAP_128, 'load128': LOAD_128, 'store128': STORE_128})
+                  'u128_shl': SHL_128, 'u128_bswap': BSWAP_128, 'load128': LOAD_128, 'store128': STORE_128,
+                  'load128_aligned': LOAD_128_ALIGNED, 'store128_aligned': STORE_128_ALIGNED})
     return found
 
 
@@ -179,4 +234,4 @@ def texts_of(wanted, uses_128):
             raise Refused('no helper %s' % name)
         needed.add(name)
         work += NEEDS.get(name, [])
-    return ['static inline ' + text for name, text in found.items() if name in needed]
+    return ['static %s %s' % ('KELIFANDRO_APART' if name in APART else 'inline', text) for name, text in found.items() if name in needed]

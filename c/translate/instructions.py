@@ -33,6 +33,10 @@ class Instruction:
             words.pop()
         return '.'.join(words)
 
+    def suffix(self, size):
+        """That of a helper for a number of so many bits in memory that begins at a multiple of its size, as far as rooms do."""
+        return '_aligned' if size in (16, 32, 64, 128) and self.line.alignment * 8 >= min(size, 64) else ''
+
     def is_silent(self):
         return self.op == 'call' and self.more.startswith(SILENT_CALLS)
 

@@ -3,8 +3,8 @@
 An array is in use from the first access to it until the last one, by any way through the function; the IR's marks of its life end that
 earlier. Where its address is kept somewhere, every later access may be one to it: then the marks alone count."""
 
-# Places begin at multiples of it.
-STEP = 4
+# Places begin at multiples of it, as the rooms do that they share (KELIFANDRO_ROOM).
+STEP = 8
 
 
 class Addresses:

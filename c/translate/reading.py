@@ -47,6 +47,7 @@ class Line:
 
     def __init__(self, text, number):
         self.text, self.number, self.at = text.strip(), number, 0
+        self.alignment = 1
         self.words = self.split(text.rstrip())
 
     def refused(self, why):
@@ -176,7 +177,7 @@ class Line:
             self.need(',')
             word = self.next()
             if word == 'align':
-                self.number_word()
+                self.alignment = self.number_word()
             elif word.startswith('!') and self.peek().startswith('!'):
                 self.next()
             else:

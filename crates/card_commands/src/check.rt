@@ -63,7 +63,7 @@ fn of_check(fault: CheckFault) -> CommandFault {
 }
 
 // What is known of a card whose registers are taken.
-#[derive(Debug, Drop)]
+#[derive(Drop)]
 struct Checked {
     spec: CardSpec,
     // How many sectors all its partitions have together.

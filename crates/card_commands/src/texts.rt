@@ -20,7 +20,7 @@ error says what. `serve` has 1 too, where a request failed or was refused. docs/
 /// That of `serve`.
 pub(crate) const SERVE: &str =
     "usage: cardtool serve --card FILE --script FILE [--image FILE] [--trace N]
-                      [--explain] [--vcd FILE] [--save FILE]
+                      [--explain] [--vcd FILE] [--save FILE] [--force]
                       [--svg FILE] [--html FILE] [--timing FILE] [--exchanges A..B]
                       [--fault RULE].. [--seed N] [--stats]
 
@@ -32,8 +32,10 @@ read may be -, for standard input.
     --image FILE   what the card holds at first, all partitions in order, 512 bytes a sector
     --trace N      shows the last N exchanges with the card after the answers, from 1 to 65536
     --explain      puts words after each exchange that is shown; without --trace it shows the last 65536
-    --vcd FILE     writes the exchanges as a waveform of CLK, CMD and DAT0 to DAT7; FILE must not be there yet
+    --vcd FILE     writes the exchanges as a waveform of CLK, CMD and DAT0 to DAT7; FILE must not be there yet. With - it goes to
+                   standard output, and the answers to standard error
     --save FILE    writes what the card holds at the end, as an image has it; FILE must not be there yet
+    --force        replaces the files that are written where they are there
     --svg FILE     draws the last 64 exchanges as a sequence diagram in SVG, with words, planned faults, and what the driver does to
                    settle the card; FILE must not be there yet, nor in the next two
     --html FILE    writes a page with the answers, that diagram, the exchanges in words, what happened, and what the card holds
@@ -124,7 +126,7 @@ Status: 0, or 2 where the digits aren't those of such a register.
 
 /// That of `nbd`.
 pub(crate) const NBD: &str =
-    "usage: cardtool nbd --card FILE [--image FILE] [--save FILE] [--part PART] [--fault RULE].. [--seed N] [--stats]
+    "usage: cardtool nbd --card FILE [--image FILE] [--save FILE] [--force] [--part PART] [--fault RULE].. [--seed N] [--stats]
 
 Serves the card of a card file as a network block device (NBD, fixed newstyle) on standard input and output, with the faults that
 the card file and rules plan. Exports are the partitions that the card has, by their names. A client starts it (libnbd's connect_command), or socat
@@ -133,6 +135,7 @@ gives it a socket.
     --card FILE    the card file: registers, delays and planned faults; up to 4194304 sectors, which are 2 GiB
     --image FILE   what the card holds at first, all partitions in order, 512 bytes a sector
     --save FILE    writes what the card holds at the end, of all partitions in order; FILE must not be there yet
+    --force        replaces it at the end where it is there
     --part PART    the partition that goes by the empty name, user where it is left out: user, boot1, boot2, gp1, gp2, gp3 or
                    gp4; it is saved alone
     --fault RULE   plans faults by a rule as the exchanges come: cardtool help serve says which there are

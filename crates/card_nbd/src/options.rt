@@ -16,6 +16,8 @@ pub struct Options<'a> {
     pub image: Option<&'a str>,
     /// The name of the file for the contents at the end, where one was given.
     pub save: Option<&'a str>,
+    /// Whether a file of its name is replaced.
+    pub replaces: bool,
     /// The partition that goes by the empty name, and that is saved alone, where one was given.
     pub part: Option<Part>,
     /// Whether a line at the end says what happened.
@@ -33,6 +35,11 @@ pub fn nbd_command<'a>(alloc: Global) -> Result<Command<'a>, AllocError> {
         .arg(Arg::new(alloc, "card").long("card").required(true))?
         .arg(Arg::new(alloc, "image").long("image"))?
         .arg(Arg::new(alloc, "save").long("save"))?
+        .arg(
+            Arg::new(alloc, "force")
+                .long("force")
+                .action(ArgAction::SetTrue),
+        )?
         .arg(Arg::new(alloc, "part").long("part"))?
         .arg(
             Arg::new(alloc, "fault")
@@ -82,6 +89,7 @@ pub fn options_given<'a>(alloc: Global, words: &'a [&'a str]) -> Result<Options<
         card,
         image: file_given(&matches, "image")?,
         save: matches.get_str("save"),
+        replaces: matches.get_str("force") == Some("true"),
         part: part_given(&matches)?,
         rules: rules_given(alloc, &matches)?,
         stats: matches.get_str("stats") == Some("true"),

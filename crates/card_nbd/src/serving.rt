@@ -64,7 +64,7 @@ fn serve_card<R: Files + Input + Print + Eprint + AllocGlobal>(
     let card = built_large(alloc, spec, plan.as_slice())?;
     let card = RuledCard::new(card, options.rules, addressing);
     let (mut desk, default) = opened(alloc, card, options.part)?;
-    let file = begun_where_named(rt, options.save, ServeFault::Save)?;
+    let file = begun_where_named(rt, options.save, options.replaces, ServeFault::Save)?;
     let served = serve_streams(alloc, &mut desk, default, rt.reader(), io::writer(rt));
     let healed = desk.device().healed();
     let card = desk.close();

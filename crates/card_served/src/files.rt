@@ -1,7 +1,8 @@
 // Opens the files that options name.
 use crate::fault::ServeFault;
+use std::alloc::Global;
 use std::fs::{File, OpenOptions};
-use std::io::BufWriter;
+use std::io::{self, BufWriter, Write};
 use std::rt::Files;
 
 /// Where a file that is read stands: `-` is standard input.
@@ -32,33 +33,64 @@ pub fn named_file<R: Files>(
     }
 }
 
-// A file that wasn't there before, so that nothing that was there is lost.
-fn new_file<R: Files + AllocGlobal>(
-    rt: &R,
-    name: &str,
+// A buffer before a file that was opened.
+fn buffered<F: Write + Drop>(
+    alloc: Global,
+    file: io::Result<F>,
     unmade: ServeFault,
-) -> Result<BufWriter<R::File>, ServeFault> {
-    let Ok(file) = OpenOptions::new()
-        .write(true)
-        .create_new(true)
-        .open(rt, name)
-    else {
+) -> Result<BufWriter<F>, ServeFault> {
+    let Ok(file) = file else {
         return Err(unmade);
     };
-    match BufWriter::new(rt.alloc(), file) {
+    match BufWriter::new(alloc, file) {
         Ok(file) => Ok(file),
         Err(_) => Err(ServeFault::NoMemory),
     }
 }
 
-/// A file that is written and wasn't there before, where one is named, or the fault `unmade` where it can't be made.
+/// A stream of the program, `/dev/stdout` or `/dev/stderr`, after all that was written there.
+///
+/// # Errors
+/// The fault `unmade` where it can't be opened; `NoMemory`.
+pub fn stream<R: Files + AllocGlobal>(
+    rt: &R,
+    name: &str,
+    unmade: ServeFault,
+) -> Result<BufWriter<R::File>, ServeFault> {
+    let file = OpenOptions::new().append(true).open(rt, name);
+    buffered(rt.alloc(), file, unmade)
+}
+
+// A file that is written from here on. It wasn't there before, so that nothing that was there is lost, unless it is to be replaced.
+fn new_file<R: Files + AllocGlobal>(
+    rt: &R,
+    name: &str,
+    replaces: bool,
+    unmade: ServeFault,
+) -> Result<BufWriter<R::File>, ServeFault> {
+    let file = OpenOptions::new()
+        .write(true)
+        .create(true)
+        .truncate(replaces)
+        .create_new(!replaces)
+        .open(rt, name);
+    buffered(rt.alloc(), file, unmade)
+}
+
+/// A file that is written as it goes, where one is named: `-` is standard output, and any other wasn't there before, unless it is
+/// to be replaced.
+///
+/// # Errors
+/// The fault `unmade` where it can't be made; `NoMemory`.
 pub fn named_new_file<R: Files + AllocGlobal>(
     rt: &R,
     name: Option<&str>,
+    replaces: bool,
     unmade: ServeFault,
 ) -> Result<Option<BufWriter<R::File>>, ServeFault> {
     match name {
         None => Ok(None),
-        Some(name) => Ok(Some(new_file(rt, name, unmade)?)),
+        Some("-") => Ok(Some(stream(rt, "/dev/stdout", unmade)?)),
+        Some(name) => Ok(Some(new_file(rt, name, replaces, unmade)?)),
     }
 }

@@ -14,7 +14,7 @@ mod whole_file;
 
 pub use building::{built, built_large};
 pub use fault::ServeFault;
-pub use files::{named_file, named_new_file, opened, path_of};
+pub use files::{named_file, named_new_file, opened, path_of, stream};
 pub use inputs::{card_in, image_front, whole};
 pub use ruled::rules_given;
 pub use saving::save;

@@ -15,6 +15,8 @@ pub struct WholeFile<'a, F: Write + Drop> {
     pub out: BufWriter<F>,
     name: &'a str,
     interim: String,
+    // Whether a file of its name goes then.
+    replaces: bool,
     unmade: ServeFault,
 }
 
@@ -56,13 +58,14 @@ fn interim_file<R: Files + AllocGlobal>(
     Err(unmade)
 }
 
-// Begins a file that isn't there yet.
+// Begins a file that isn't there yet, or is to be replaced.
 fn begun<'a, R: Files + AllocGlobal>(
     rt: &R,
     name: &'a str,
+    replaces: bool,
     unmade: ServeFault,
 ) -> Result<WholeFile<'a, R::File>, ServeFault> {
-    if !is_free(rt, name) {
+    if !replaces && !is_free(rt, name) {
         return Err(unmade);
     }
     let (interim, file) = interim_file(rt, name, unmade)?;
@@ -74,28 +77,30 @@ fn begun<'a, R: Files + AllocGlobal>(
         out,
         name,
         interim,
+        replaces,
         unmade,
     })
 }
 
-/// Begins a file that isn't there yet, where one is named.
+/// Begins a file that isn't there yet, or is to be replaced once this one is whole, where one is named.
 ///
 /// # Errors
-/// The fault `unmade`, where it is there or can't be made, or at the end can't be written or named; `NoMemory`.
+/// The fault `unmade`, where it is there and isn't to be replaced, can't be made, or at the end can't be written or named; `NoMemory`.
 pub fn begun_where_named<'a, R: Files + AllocGlobal>(
     rt: &R,
     name: Option<&'a str>,
+    replaces: bool,
     unmade: ServeFault,
 ) -> Result<Option<WholeFile<'a, R::File>>, ServeFault> {
     match name {
         None => Ok(None),
-        Some(name) => Ok(Some(begun(rt, name, unmade)?)),
+        Some(name) => Ok(Some(begun(rt, name, replaces, unmade)?)),
     }
 }
 
 impl<F: Write + Drop> WholeFile<'_, F> {
-    /// Writes out what a buffer holds back, and gives the file its name, unless another one has got it meanwhile. Where that can't
-    /// be done, or what was written before failed, the file is removed.
+    /// Writes out what a buffer holds back, and gives the file its name, unless another one has got it meanwhile that isn't to be
+    /// replaced. Where that can't be done, or what was written before failed, the file is removed.
     ///
     /// # Errors
     /// The fault of `begun_where_named`, where it was removed.
@@ -104,10 +109,12 @@ impl<F: Write + Drop> WholeFile<'_, F> {
             mut out,
             name,
             interim,
+            replaces,
             unmade,
         } = self;
         let is_written = written.is_ok() && out.flush().is_ok();
-        if is_written && is_free(rt, name) && fs::rename(rt, interim.as_str(), name).is_ok() {
+        let may_have_it = replaces || is_free(rt, name);
+        if is_written && may_have_it && fs::rename(rt, interim.as_str(), name).is_ok() {
             return Ok(());
         }
         let _ = fs::remove_file(rt, interim.as_str());

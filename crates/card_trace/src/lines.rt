@@ -13,7 +13,7 @@ use mmc_bus::Exchange;
 use std::alloc::{AllocError, Global};
 
 /// What the lines so far tell of what comes.
-#[derive(Clone, Copy, Debug, PartialEq, Eq)]
+#[derive(Clone, Copy)]
 struct Reading {
     // The card.
     card: KnownCard,

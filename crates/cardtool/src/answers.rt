@@ -9,7 +9,7 @@ use std::io::{self, Write};
 const MOST: usize = 65_536;
 
 /// A line that was kept.
-#[derive(Clone, Copy, Debug, PartialEq, Eq)]
+#[derive(Clone, Copy)]
 pub struct KeptLine {
     /// What the counter said when it ended.
     pub count: u64,

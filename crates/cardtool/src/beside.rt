@@ -11,6 +11,8 @@ pub struct Beside {
     pub rules: Rules,
     /// Whether a line on standard error says what happened.
     pub stats: bool,
+    /// Whether files that are written replace those of their names.
+    pub replaces: bool,
 }
 
 impl Beside {
@@ -22,7 +24,9 @@ impl Beside {
 
 // Whether a word may ask for any of it, so that words that don't aren't read twice.
 fn may_ask(word: &str) -> bool {
-    word.starts_with("--fault") || word.starts_with("--seed") || word.starts_with("--stats")
+    ["--fault", "--seed", "--stats", "--force"]
+        .iter()
+        .any(|option| word.starts_with(option))
 }
 
 /// What the words ask for, which `options` has read before.
@@ -34,6 +38,7 @@ pub fn beside_given<'a>(alloc: Global, words: &'a [&'a str]) -> Result<Beside, S
         return Ok(Beside {
             rules: Rules::new(Vec::new(alloc), 0),
             stats: false,
+            replaces: false,
         });
     }
     let Ok(matches) = matched(alloc, words) else {
@@ -42,5 +47,6 @@ pub fn beside_given<'a>(alloc: Global, words: &'a [&'a str]) -> Result<Beside, S
     Ok(Beside {
         rules: rules_given(alloc, &matches)?,
         stats: matches.get_str("stats") == Some("true"),
+        replaces: matches.get_str("force") == Some("true"),
     })
 }

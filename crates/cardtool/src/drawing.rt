@@ -67,16 +67,17 @@ impl<'a, F: Write + Drop> Drawings<'a, F> {
 pub fn begun_drawings<'a, R: Files + AllocGlobal>(
     rt: &R,
     pictures: &Pictures<'a>,
+    replaces: bool,
 ) -> Result<Drawings<'a, R::File>, ServeFault> {
-    let svg = begun_where_named(rt, pictures.svg, ServeFault::Svg)?;
-    let html = match begun_where_named(rt, pictures.html, ServeFault::Html) {
+    let svg = begun_where_named(rt, pictures.svg, replaces, ServeFault::Svg)?;
+    let html = match begun_where_named(rt, pictures.html, replaces, ServeFault::Html) {
         Ok(html) => html,
         Err(fault) => {
             discard(rt, svg);
             return Err(fault);
         }
     };
-    match begun_where_named(rt, pictures.timing, ServeFault::Timing) {
+    match begun_where_named(rt, pictures.timing, replaces, ServeFault::Timing) {
         Ok(timing) => Ok(Drawings { svg, html, timing }),
         Err(fault) => {
             discard(rt, svg);

@@ -18,7 +18,7 @@ use std::cell::Cell;
 use std::io::{self, Write};
 
 /// What is shown of the exchanges after the answers.
-#[derive(Clone, Copy, Debug, PartialEq, Eq)]
+#[derive(Clone, Copy)]
 pub enum Shown {
     /// Nothing.
     Nothing,

@@ -11,7 +11,7 @@ use clap::ArgMatches;
 use std::alloc::Global;
 
 /// Which exchanges, by their numbers.
-#[derive(Clone, Copy, Debug, PartialEq, Eq)]
+#[derive(Clone, Copy)]
 pub struct Numbers {
     /// The first one.
     pub first: u64,
@@ -20,7 +20,7 @@ pub struct Numbers {
 }
 
 /// The files of pictures that are asked for, and which exchanges are drawn.
-#[derive(Clone, Copy, Debug, PartialEq, Eq)]
+#[derive(Clone, Copy)]
 pub struct Pictures<'a> {
     /// The name of the file for a sequence diagram.
     pub svg: Option<&'a str>,

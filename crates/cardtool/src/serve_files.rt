@@ -13,11 +13,12 @@ use crate::more::{Drawn, Served, Shown, serve_counted};
 use crate::options_given::Options;
 use crate::pictures::Pictures;
 use crate::serve::serve;
+use crate::wrong::put_idle;
 use card_explain::{KnownCard, Numbered};
 use card_rules::RuledCard;
 use card_served::{
     ServeFault, WholeFile, begun_where_named, built, named_file, named_new_file, opened, put_stats,
-    save,
+    save, stream,
 };
 use card_text::script::Script;
 use mmc_bus::MAX_KEPT;
@@ -133,10 +134,11 @@ fn begun_files<'a, R: Files + AllocGlobal>(
     rt: &R,
     options: &Options<'a>,
     pictures: &Pictures<'a>,
+    replaces: bool,
 ) -> Result<Begun<'a, BufWriter<R::File>, R::File>, ServeFault> {
-    let wave = named_new_file(rt, options.vcd, ServeFault::Vcd)?;
-    let image = begun_where_named(rt, options.save, ServeFault::Save)?;
-    match begun_drawings(rt, pictures) {
+    let wave = named_new_file(rt, options.vcd, replaces, ServeFault::Vcd)?;
+    let image = begun_where_named(rt, options.save, replaces, ServeFault::Save)?;
+    match begun_drawings(rt, pictures, replaces) {
         Ok(drawings) => Ok(Begun {
             wave,
             image,
@@ -190,7 +192,7 @@ fn finish_files<V: Write + Drop, F: Write + Drop>(
 }
 
 // Serves a card, and explains, draws and saves as the options say.
-fn serve_card<R: Files + Print + Eprint + AllocGlobal, V: Write + Drop, F: Write + Drop>(
+fn serve_card<R: Files + Eprint + AllocGlobal, V: Write + Drop, F: Write + Drop, W: Write + Drop>(
     rt: &R,
     card: RuledCard,
     known: KnownCard,
@@ -200,6 +202,7 @@ fn serve_card<R: Files + Print + Eprint + AllocGlobal, V: Write + Drop, F: Write
     pictures: &Pictures<'_>,
     stats: bool,
     files: Begun<'_, V, F>,
+    out: W,
 ) -> Result<u8, ServeFault> {
     let alloc = rt.alloc();
     let Begun {
@@ -207,9 +210,6 @@ fn serve_card<R: Files + Print + Eprint + AllocGlobal, V: Write + Drop, F: Write
         image,
         drawings,
     } = files;
-    let Ok(out) = BufWriter::new(alloc, io::writer(rt)) else {
-        return Err(ServeFault::NoMemory);
-    };
     let count = Cell::new(0);
     let keeps = pictures.asks() || options.explains;
     let mut out = KeepingWriter::new(alloc, out, &count, keeps);
@@ -234,10 +234,11 @@ fn serve_card<R: Files + Print + Eprint + AllocGlobal, V: Write + Drop, F: Write
     if stats {
         put_stats(rt, &served.bus, plan.len(), served.healed);
     }
+    put_idle(rt, &served.bus, pictures.exchanges);
     ended(files, served.status, printed, flushed)
 }
 
-// Serves, and explains, draws and saves as the options say.
+// Serves, and explains, draws and saves as the options say: on standard error where the waveform has standard output.
 fn serve_more<'a, R: Files + Print + Eprint + AllocGlobal, C: Read, S: Read, I: Read>(
     rt: &R,
     card: &mut C,
@@ -248,27 +249,33 @@ fn serve_more<'a, R: Files + Print + Eprint + AllocGlobal, C: Read, S: Read, I: 
     pictures: &Pictures<'a>,
 ) -> Result<u8, ServeFault> {
     let alloc = rt.alloc();
-    let Beside { rules, stats } = beside;
+    let Beside {
+        rules,
+        stats,
+        replaces,
+    } = beside;
     let FilesRead { spec, plan, script } = read_files(alloc, card, script, image)?;
     let known = known_card(&spec);
     let card = built(alloc, spec, plan.as_slice())?;
-    let files = begun_files(rt, options, pictures)?;
+    let files = begun_files(rt, options, pictures, replaces)?;
     let card = RuledCard::new(card, rules, known.addressing);
+    let plan = plan.as_slice();
+    if options.vcd == Some("-") {
+        let out = stream(rt, "/dev/stderr", ServeFault::Write)?;
+        return serve_card(
+            rt, card, known, plan, script, options, pictures, stats, files, out,
+        );
+    }
+    let Ok(out) = BufWriter::new(alloc, io::writer(rt)) else {
+        return Err(ServeFault::NoMemory);
+    };
     serve_card(
-        rt,
-        card,
-        known,
-        plan.as_slice(),
-        script,
-        options,
-        pictures,
-        stats,
-        files,
+        rt, card, known, plan, script, options, pictures, stats, files, out,
     )
 }
 
 /// Opens the files that the options name, the card's first and the image last, and serves. Files that are written must not be
-/// there yet.
+/// there yet, unless they are to be replaced.
 ///
 /// # Errors
 /// `ReadCard`, `ReadScript` or `ReadImage` of a file that can't be opened; then those of `serve`; `Vcd`, `Save`, `Svg`, `Html` and

@@ -1,9 +1,10 @@
-// What is told of words that are refused, and of a card that isn't served. The first line is for programs too; a second one, for
-// people, shows where standard error is a terminal, and with `--explain`.
+// What is told of words that are refused or had no effect, and of a card that isn't served. The first line is for programs too; a
+// second one, for people, shows where standard error is a terminal, and with `--explain`.
 use crate::options::matched;
 use crate::options_given::OptionFault;
-use crate::pictures::put_numbers_mistake;
+use crate::pictures::{Numbers, put_numbers_mistake};
 use card_commands::{put_hint, put_mistake, put_unknown};
+use card_rules::RuledCard;
 use card_served::ServeFault;
 use clap::ArgMatches;
 use clap::error::ErrorKind;
@@ -68,5 +69,22 @@ pub fn put_fault<'a>(
     }
     if let Ok(matches) = matched(rt.alloc(), words) {
         put_hint(rt, &matches, fault);
+    }
+}
+
+/// Tells on standard error of options that had no effect on a card: rules of which none was about an exchange, and numbers of
+/// exchanges to be drawn that are beyond the last.
+pub fn put_idle(rt: &impl Eprint, card: &RuledCard, drawn: Option<Numbers>) {
+    if !card.rules.rules.is_empty() && card.planned == 0 {
+        let _ = eprintln!(rt; "cardtool: --fault: no exchange was one that a rule is about");
+    }
+    let exchanges = card.card.exchanges();
+    match drawn {
+        Some(Numbers { first, .. }) if first >= exchanges => {
+            let _ = eprintln!(rt;
+                "cardtool: --exchanges: there are {exchanges}, counted from 0, and none of these"
+            );
+        }
+        _ => {}
     }
 }

@@ -1,7 +1,6 @@
 -- A command with the blocks after it, as exchanges of the bus over a host.
 use Rattle.std.proofs.Common.{◌+◌, ◌≤◌, ◌∙◌, ◌≡◌, Bool, List, ap, false, refl, sym, true, ℕ, suc, zero}
-use Rattle.std.specs.Prelude.{IfSome, Err, IsErr, Ok, Option, Result, Some, is_ok, nat_lt, slice_index_or}
-use Rattle.std.proofs.lemmas.Bool.Decides.{nat_tests}
+use Rattle.std.specs.Prelude.{◌-◌, IfSome, Err, IsErr, Ok, Option, Result, Some, is_ok, slice_index_or}
 use Rattle.std.proofs.Common.{[], arith, inl, inr, subst}
 use Rattle.mmc_card.specs.CardAnswer.{Silent}
 use Rattle.mmc_frame.specs.Frame.{command_in}
@@ -29,7 +28,7 @@ use Rattle.mmc_host.specs.HostStates.{IsCounted, block_passed, blocks_in, is_acc
 use Rattle.mmc_card.specs.BusView.{BusView}
 use Rattle.mmc_host.specs.Hosts.{Does, HostView, OnlySets, Rests, Sends, Where, WritesBlock, answer_heard, bus_over}
 use Rattle.mmc_host.specs.Together.{CanRead, CanWrite, HostRead, IsBegun, IsUnderWay, HostRested, ReadsWith, WritesWith, all_noted, all_writes_noted}
-use Rattle.mmc_host.specs.Together.{blocks_noted, noted, passed, passed_on, poll_noted, writes_noted}
+use Rattle.mmc_host.specs.Together.{many_noted, noted, passed, passed_on, writes_noted}
 use Rattle.mmc_card.specs.declared.response.Response.TheVariants as To
 use Rattle.mmc_host.specs.declared.told.Heard.{Heard}
 use Rattle.mmc_host.specs.declared.told.HostCommand.{HostCommand}
@@ -57,6 +56,19 @@ one_told old new w v misused exchange Step does tells = record {
 
 noted_tells : (exchange : Exchange) (wire : Wire) → Tells wire exchange (noted exchange wire)
 noted_tells exchange wire = (refl, refl, refl, omega arith)
+
+many_tells : (exchange : Exchange) (k : ℕ) (wire : Wire)
+    → Tells (many_noted exchange k wire) exchange (many_noted exchange (suc k) wire)
+many_tells exchange zero wire = (refl, refl, refl, omega arith)
+many_tells exchange (suc k) wire = (refl, refl, refl, omega arith)
+
+lines_of_many : (exchange : Exchange) (k : ℕ) (wire : Wire) → (many_noted exchange k wire).lines ≡ wire.lines
+lines_of_many exchange zero wire = refl
+lines_of_many exchange (suc k) wire = refl
+
+limits_of_many : (exchange : Exchange) (k : ℕ) (wire : Wire) → (many_noted exchange k wire).limits ≡ wire.limits
+limits_of_many exchange zero wire = refl
+limits_of_many exchange (suc k) wire = refl
 
 -- a wire on which this came, uncounted
 abbrev told : Exchange → Wire → Wire
@@ -94,10 +106,6 @@ pub moved_ios : {T : Type 0} (moved : Moved T) (state : HostState) → (passed_o
 moved_ios (Move.Good good) state = refl
 moved_ios (Move.Failed got) state = refl
 
-lines_of_blocks : (k : ℕ) (wire : Wire) → (blocks_noted k wire).lines ≡ wire.lines
-lines_of_blocks zero wire = refl
-lines_of_blocks (suc k) wire = lines_of_blocks k wire
-
 pub is_other_in : (got : DataIn) → (got ≡ Good → ⊥) → is_good got ≡ false
 is_other_in Received.Good not = absurd (not refl)
 is_other_in Received.Bad not = refl
@@ -107,7 +115,7 @@ module _ {S : Type 0} (blocks : S → List (List ℕ)) (leave : S → ℕ → Li
     (wire : Wire) (misused : Bool) (lines : Where between (lines_of between.state.ios ≡ wire.lines)) where
   -- Where it is kept, the lines stay as they were.
   lines_in : (k : ℕ) (view : HostView) (now : S) → AreGood HostRead blocks leave between was k view now
-      → Where view (lines_of view.state.ios ≡ (blocks_noted k wire).lines)
+      → Where view (lines_of view.state.ios ≡ wire.lines)
   lines_in k view now none_good kept = lines kept
   lines_in k view now (good_one done from held left next before below long read) kept =
       let s = read kept in
@@ -141,19 +149,21 @@ module _ {S : Type 0} (blocks : S → List (List ℕ)) (leave : S → ℕ → Li
       (does_read from from next at misused 512 got left same (sets_none from) read) tells
 
   good_over : (k : ℕ) (view : HostView) (now : S) → AreGood HostRead blocks leave between was k view now
-      → AreGood BlockRead blocks leave (bus_over between wire misused) was k (bus_over view (blocks_noted k wire) misused) now
+      → AreGood BlockRead blocks leave (bus_over between wire misused) was k
+      (bus_over view (many_noted (In 512 Good) k wire) misused) now
   good_over k view now none_good = none_good
   good_over k view now (good_one done from held left next before below long read) =
-      good_one done (bus_over from (blocks_noted done wire) misused) held left
-      (bus_over next (blocks_noted (suc done) wire) misused) (good_over done from held before) below long
-      (one_read from next (blocks_noted done wire) (blocks_noted (suc done) wire) Good left (lines_in done from held before)
-      read (noted_tells (In 512 Good) (blocks_noted done wire)))
+      good_one done (bus_over from (many_noted (In 512 Good) done wire) misused) held left
+      (bus_over next (many_noted (In 512 Good) (suc done) wire) misused) (good_over done from held before) below long
+      (one_read from next (many_noted (In 512 Good) done wire) (many_noted (In 512 Good) (suc done) wire) Good left
+      (λ kept. lines_in done from held before kept ∙ sym (lines_of_many (In 512 Good) done wire)) read
+      (many_tells (In 512 Good) done wire))
 
   -- uncounted
   lines_so : (k : ℕ) (view : HostView) (now : S) → AreGood HostRead blocks leave between was k view now
       → Where view (lines_of view.state.ios ≡ (told_so (In 512 Good) k wire).lines)
   lines_so k view now all kept =
-      lines_in k view now all kept ∙ lines_of_blocks k wire ∙ sym (so_lines (In 512 Good) k wire)
+      lines_in k view now all kept ∙ sym (so_lines (In 512 Good) k wire)
 
   good_so : (k : ℕ) (view : HostView) (now : S) → AreGood HostRead blocks leave between was k view now
       → AreGood BlockRead blocks leave (bus_over between wire misused) was k
@@ -191,12 +201,8 @@ module _ {S : Type 0} (blocks : S → List (List ℕ)) (leave : S → ℕ → Li
         s.limits ∙ limits_in some view held all was,
       )
 
-limits_of : (good : ℕ) (wire : Wire) → (blocks_noted good wire).limits ≡ wire.limits
-limits_of zero wire = refl
-limits_of (suc good) wire = limits_of good wire
-
 limits_noted : (moved : Moved DataIn) (wire : Wire) → (all_noted moved wire).limits ≡ wire.limits
-limits_noted (Move.Good good) wire = limits_of good wire
+limits_noted (Move.Good good) wire = limits_of_many (In 512 Good) good wire
 limits_noted (Move.Failed got) wire = refl
 
 -- A command with the blocks after it, whichever way they go.
@@ -264,24 +270,33 @@ module _ {S : Type 0} {blocks : S → List (List ℕ)} {leave : S → ℕ → Li
 
 -- Writes.
 
-some_polled : (k : ℕ) (wire : Wire) → poll_noted (suc k) wire ≡ noted (Busy false) wire
-some_polled k wire = let less : nat_lt 0 (suc k) ≡ true = grind (arith, nat_tests) in rw less refl
+-- the poll before a block that isn't the first
+abbrev poll_noted : ℕ → Wire → Wire
+poll_noted zero wire = wire
+poll_noted (suc done) wire = noted (Busy false) wire
 
 lines_polled : (k : ℕ) (wire : Wire) → (poll_noted k wire).lines ≡ wire.lines
 lines_polled zero wire = refl
-lines_polled (suc k) wire = ap (λ (w : Wire). w.lines) (some_polled k wire)
+lines_polled (suc k) wire = refl
 
 lines_written : (k : ℕ) (wire : Wire) → (writes_noted k wire).lines ≡ wire.lines
-lines_written zero wire = refl
-lines_written (suc k) wire = lines_polled k (writes_noted k wire) ∙ lines_written k wire
-
-limits_polled : (k : ℕ) (wire : Wire) → (poll_noted k wire).limits ≡ wire.limits
-limits_polled zero wire = refl
-limits_polled (suc k) wire = ap (λ (w : Wire). w.limits) (some_polled k wire)
+lines_written k wire =
+    lines_of_many (Out Accepted) k (many_noted (Busy false) (k - 1) wire) ∙ lines_of_many (Busy false) (k - 1) wire
 
 limits_written : (k : ℕ) (wire : Wire) → (writes_noted k wire).limits ≡ wire.limits
-limits_written zero wire = refl
-limits_written (suc k) wire = limits_polled k (writes_noted k wire) ∙ limits_written k wire
+limits_written k wire =
+    limits_of_many (Out Accepted) k (many_noted (Busy false) (k - 1) wire) ∙ limits_of_many (Busy false) (k - 1) wire
+
+another_tells : (k polls : ℕ) (wire : Wire)
+    → Tells (noted (Busy false) (many_noted (Out Accepted) (suc k) (many_noted (Busy false) polls wire))) (Out Accepted)
+    (many_noted (Out Accepted) (suc (suc k)) (many_noted (Busy false) (suc polls) wire))
+another_tells k zero wire = (refl, refl, refl, omega arith)
+another_tells k (suc polls) wire = (refl, refl, refl, omega arith)
+
+write_tells : (k : ℕ) (wire : Wire) → Tells (poll_noted k (writes_noted k wire)) (Out Accepted) (writes_noted (suc k) wire)
+write_tells zero wire = (refl, refl, refl, omega arith)
+write_tells (suc k) wire =
+    let polls : suc (suc k) - 1 ≡ suc (suc k - 1) = omega arith in rw polls (another_tells k (suc k - 1) wire)
 
 limits_all_written : (moved : Moved DataOut) (wire : Wire)
     → (all_writes_noted moved wire).limits ≡ wire.limits
@@ -313,8 +328,7 @@ rests_over : (done : ℕ) (view ready : HostView) (at : Wire) (misused : Bool) �
     → RestsAfter NotBusy done (bus_over view at misused) (bus_over ready (poll_noted done at) misused)
 rests_over zero view ready at misused rests = ap (λ (v : HostView). bus_over v at misused) rests
 rests_over (suc done) view ready at misused rests =
-    subst (λ (w : Wire). NotBusy (bus_over view at misused) (bus_over ready w misused)) (sym (some_polled done at))
-    (rests_told done view ready at (noted (Busy false) at) misused rests (noted_tells (Busy false) at))
+    rests_told done view ready at (noted (Busy false) at) misused rests (noted_tells (Busy false) at)
 
 -- uncounted
 rests_so : (k : ℕ) (view ready : HostView) (wire : Wire) (misused : Bool) → RestsAfter HostRested k view ready
@@ -366,7 +380,7 @@ module _ (blocks : List (List ℕ)) (between : HostView) (wire : Wire) (misused 
       (rests_over done from ready (writes_noted done wire) misused rests) below
       (one_written ready next (poll_noted done (writes_noted done wire)) (writes_noted (suc done) wire) Accepted
       (slice_index_or blocks done []) (lines_out done from ready before rests) written
-      (noted_tells (Out Accepted) (poll_noted done (writes_noted done wire))))
+      (write_tells done wire))
 
   -- uncounted
   lines_so_out : (k : ℕ) (view ready : HostView) → AreAccepted WritesBlock HostRested blocks between k view

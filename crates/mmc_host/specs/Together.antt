@@ -1,5 +1,5 @@
 -- A command with the blocks after it, by one call of a host.
-use Rattle.std.specs.Prelude.{◌⊎◌, ◌+◌, ◌-◌, ◌<◌, ◌^◌, ◌≡◌, ◌≤◌, IfSome, List, Result, Some, false, if◌then◌else◌, max, min, nat_lt, suc, zero, ℕ}
+use Rattle.std.specs.Prelude.{◌⊎◌, ◌+◌, ◌-◌, ◌<◌, ◌^◌, ◌≡◌, ◌≤◌, IfSome, List, Result, Some, false, max, min, suc, zero, ℕ}
 use Rattle.mmc_frame.specs.Frame.{command_in}
 use Rattle.mmc_card.specs.declared.exchange.Lines.{Lines}
 use Rattle.mmc_card.specs.declared.exchange.DataIn.{DataIn}
@@ -100,25 +100,23 @@ abbrev pub passed_on : {T : Type 0} → Moved T → HostState → HostState
 passed_on (Move.Good good) state = passed good state
 passed_on (Move.Failed got) state = block_passed state false
 
--- what a wire keeps of them; where one failed, of it alone
+-- What a wire keeps of an exchange, and of so many of a kind, one after the other.
 abbrev pub noted : Exchange → Wire → Wire
 noted exchange wire = record wire { last = Some exchange; exchanges = min (wire.exchanges + 1) (2 ^ 64 - 1) }
 
-abbrev pub blocks_noted : ℕ → Wire → Wire
-blocks_noted zero wire = wire
-blocks_noted (suc done) wire = noted (In 512 Good) (blocks_noted done wire)
+abbrev pub many_noted : Exchange → ℕ → Wire → Wire
+many_noted exchange zero wire = wire
+many_noted exchange (suc more) wire =
+    record wire { last = Some exchange; exchanges = min (wire.exchanges + suc more) (2 ^ 64 - 1) }
 
+-- Of blocks; where one failed, of it alone.
 abbrev pub all_noted : Moved DataIn → Wire → Wire
-all_noted (Move.Good good) wire = blocks_noted good wire
+all_noted (Move.Good good) wire = many_noted (In 512 Good) good wire
 all_noted (Move.Failed got) wire = noted (In 512 got) wire
 
--- of those that are written there is a poll before each but the first
-abbrev pub poll_noted : ℕ → Wire → Wire
-poll_noted done wire = if nat_lt 0 done then noted (Busy false) wire else wire
-
+-- Of those that are written there is a poll before each but the first.
 abbrev pub writes_noted : ℕ → Wire → Wire
-writes_noted zero wire = wire
-writes_noted (suc done) wire = noted (Out Accepted) (poll_noted done (writes_noted done wire))
+writes_noted good wire = many_noted (Out Accepted) good (many_noted (Busy false) (good - 1) wire)
 
 abbrev pub all_writes_noted : Moved DataOut → Wire → Wire
 all_writes_noted (Move.Good good) wire = writes_noted good wire

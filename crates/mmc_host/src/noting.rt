@@ -1,6 +1,6 @@
 // What a bus notes of blocks that its host moved together with their command.
-ghost use Rattle.std.specs.Prelude.{◌≡◌, ◌≤◌};
-ghost use Rattle.mmc_host.specs.Together.{all_noted, all_writes_noted, number_of, poll_noted};
+ghost use Rattle.std.specs.Prelude.{◌≡◌, ◌+◌, ◌-◌, ◌^◌, ◌≤◌, min};
+ghost use Rattle.mmc_host.specs.Together.{all_noted, all_writes_noted, number_of};
 
 use mmc_bus::{Moved, Wire};
 use mmc_card::{DataIn, DataOut, Exchange};
@@ -16,45 +16,38 @@ pub fn number_of(count: usize) -> u16
     count.clamp(1, MOST_BLOCKS as usize) as u16
 }
 
+// Counts so many more.
+fn count_more(wire: &mut Wire, more: usize)
+    ensures { wire.new ≡ record wire.old { exchanges = min (wire.old.exchanges + more) (2 ^ 64 - 1) } }
+{
+    wire.exchanges = wire.exchanges.saturating_add(more as u64);
+}
+
 /// Keeps the exchanges of these blocks; where one failed, of it alone, since nobody tells how many came before it.
 pub fn note_blocks(wire: &mut Wire, moved: Moved<DataIn>)
     ensures { wire.new ≡ all_noted moved wire.old }
 {
-    match moved {
-        Moved::Failed(got) => wire.note(Exchange::In { len: 512, got }),
-        Moved::Good(good) => {
-            for _done in 0..good {
-                wire.note(Exchange::In {
-                    len: 512,
-                    got: DataIn::Good,
-                });
-            }
-        }
+    let (got, count) = match moved {
+        Moved::Failed(got) => (got, 1),
+        Moved::Good(good) => (DataIn::Good, good),
+    };
+    if count > 0 {
+        count_more(wire, count - 1);
+        wire.note(Exchange::In { len: 512, got });
     }
 }
 
-// Keeps the poll before a block that isn't the first.
-fn note_poll(wire: &mut Wire, done: usize)
-    ensures { wire.new ≡ poll_noted done wire.old }
-{
-    if done > 0 {
-        wire.note(Exchange::Busy { yes: false });
-    }
-}
-
-/// The same of blocks that are written, with the polls between them.
+/// The same of blocks that are written, with the poll before each but the first.
 pub fn note_written(wire: &mut Wire, moved: Moved<DataOut>)
     ensures { wire.new ≡ all_writes_noted moved wire.old }
 {
-    match moved {
-        Moved::Failed(got) => wire.note(Exchange::Out { got }),
-        Moved::Good(good) => {
-            for done in 0..good {
-                note_poll(wire, done);
-                wire.note(Exchange::Out {
-                    got: DataOut::Accepted,
-                });
-            }
-        }
+    let (got, count) = match moved {
+        Moved::Failed(got) => (got, 1),
+        Moved::Good(good) => (DataOut::Accepted, good),
+    };
+    if count > 0 {
+        count_more(wire, count - 1);
+        count_more(wire, count - 1);
+        wire.note(Exchange::Out { got });
     }
 }

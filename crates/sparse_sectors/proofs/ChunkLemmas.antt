@@ -44,6 +44,19 @@ filled_grown blank sector front i after small =
     ∙ ap (λ xs. front ++ xs) (sym (set_blank blank sector (2048 - n) (i - n) (omega (arith, after, small))))
     ∙ sym (set-append_right front (replicate (2048 - n) blank) n i sector refl after)
 
+-- more blank ones are there
+pub filled_more : (blank : List ℕ) (front : List (List ℕ)) (count : ℕ) → length front ≤ count → count ≤ 2048
+    → filled blank (front ++ replicate (count - length front) blank) ≡ filled blank front
+filled_more blank front count after few =
+    let n = length front in
+    let gap : List (List ℕ) = replicate (count - n) blank in
+    let rest : 2048 - length (front ++ gap) ≡ 2048 - count =
+    omega (arith, after, length-append front gap, length-replicate (count - n) blank) in
+    let sum : (count - n) + (2048 - count) ≡ 2048 - n = omega (arith, after, few) in
+    ap (λ k. (front ++ gap) ++ replicate k blank) rest ∙ append_assoc front gap (replicate (2048 - count) blank)
+    ∙ ap (λ xs. front ++ xs) (replicate-append-replicate (count - n) (2048 - count) blank
+    ∙ ap (λ k. replicate k blank) sum)
+
 -- a sector after those that are there stays blank
 pub filled_blank : (blank sector : List ℕ) (front : List (List ℕ)) (i : ℕ) → length front ≤ i → i < 2048
     → sector ≡ blank → filled blank front ≡ slice_set (filled blank front) i sector

@@ -15,10 +15,12 @@ pub struct Chunk {
     // The sectors that are there. Their room is touched only as they come.
     front: Vec<[u8; 512]>,
     blank: [u8; 512],
+    // each byte of a blank one
+    erased: u8,
 }
 
 impl Model for Chunk {
-    ghost use Rattle.std.specs.Prelude.{List, ℕ, ◌≤◌, vec_len, vec_capacity};
+    ghost use Rattle.std.specs.Prelude.{List, ℕ, ◌≤◌, ◌≡◌, replicate, vec_len, vec_capacity};
     ghost use Rattle.sparse_sectors.specs.Chunks.{filled};
     ghost use Rattle.sparse_sectors.specs.declared.chunk.TheConstants.{CHUNK};
 
@@ -26,7 +28,7 @@ impl Model for Chunk {
 
     ghost view = { λ c. filled c.blank c.front.items };
 
-    ghost invariant = { λ c. (vec_len c.front ≤ CHUNK) × (CHUNK ≤ vec_capacity c.front) };
+    ghost invariant = { λ c. (vec_len c.front ≤ CHUNK) × (CHUNK ≤ vec_capacity c.front) × (c.blank ≡ replicate 512 c.erased) };
 }
 
 // Adds blank sectors until there are so many.
@@ -49,6 +51,7 @@ impl Chunk {
         Ok(Chunk {
             front,
             blank: [erased; 512],
+            erased,
         })
     }
 
@@ -80,5 +83,22 @@ impl Chunk {
         self.front
             .extend_from_slice(slice::from_ref(sector))
             .unwrap();
+    }
+
+    /// Makes a sector all this byte. One after all that are there takes no memory if it stays blank.
+    #[tactic(auto, using(crate::proofs::ChunkLemmas::filled_set))]
+    pub fn fill(&mut self, i: usize, byte: u8)
+        requires { i < CHUNK }
+        ensures { self.new ≡ slice_set self.old i (replicate 512 byte) }
+    {
+        if i < self.front.len() {
+            self.front[i].fill(byte);
+            return;
+        }
+        if byte == self.erased {
+            return;
+        }
+        grow(&mut self.front, &self.blank, i + 1);
+        self.front[i].fill(byte);
     }
 }

@@ -71,4 +71,12 @@ impl Chunks {
     {
         self.chunks[i / CHUNK].put(i % CHUNK, sector);
     }
+
+    /// Makes a sector all this byte.
+    pub fn fill(&mut self, i: usize, byte: u8)
+        requires { i < length self.old }
+        ensures { self.new ≡ slice_set self.old i (replicate 512 byte) }
+    {
+        self.chunks[i / CHUNK].fill(i % CHUNK, byte);
+    }
 }

@@ -93,6 +93,19 @@ impl Sectors {
         }
     }
 
+    // Makes a sector all this byte, in its place.
+    fn fill_one(&mut self, i: usize, byte: u8)
+        requires { i < length self.old }
+        ensures { self.new ≡ slice_set self.old i (replicate 512 byte) }
+    {
+        let first = self.image.len();
+        if i < first {
+            self.image.block_mut(i).fill(byte);
+            return;
+        }
+        self.rest.fill(i - first, byte);
+    }
+
     /// Makes so many sectors, from this one on, all this byte.
     pub fn fill(&mut self, first: usize, count: usize, erased: u8)
         requires { first + count ≤ length self.old }
@@ -100,9 +113,8 @@ impl Sectors {
     {
         // So each sector's number fits.
         prove!(first <= self.len());
-        let blank = [erased; 512];
         for i in 0..count {
-            self.put(first + i, &blank);
+            self.fill_one(first + i, erased);
         }
     }
 }

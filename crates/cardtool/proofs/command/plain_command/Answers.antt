@@ -5,12 +5,14 @@ use Rattle.cardtool.proofs.command.plain_command.Goals as goal
 
 pub returns : goal.returns
 returns c =
-    IfOk-weaker c.arg-10.result _ _
+    IfOk-weaker c.arg-11.result _ _
     (λ r h. h.shape c.option-seed.ensures.local
     ∙ ap₂ with_rule
-    (c.in_ok-arg-9.ensures.shape c.repeated-fault.ensures.local
+    (c.in_ok-arg-10.ensures.shape c.repeated-fault.ensures.local
     ∙ ap₂ with_rule
-    (c.in_ok-arg-8.ensures.shape c.flag-stats.ensures.local
+    (c.in_ok-arg-9.ensures.shape c.flag-stats.ensures.local
+    ∙ ap₂ with_rule
+    (c.in_ok-arg-8.ensures.shape c.flag-force.ensures.local
     ∙ ap₂ with_rule
     (c.in_ok-arg-7.ensures.shape c.option-save.ensures.local
     ∙ ap₂ with_rule
@@ -32,7 +34,8 @@ returns c =
     c.flag-explain.ensures.rule)
     c.option-vcd.ensures.rule)
     c.option-save.ensures.rule)
+    c.flag-force.ensures.rule)
     c.flag-stats.ensures.rule)
     c.repeated-fault.ensures.rule)
     c.option-seed.ensures.rule)
-    c.arg-10.ensures
+    c.arg-11.ensures

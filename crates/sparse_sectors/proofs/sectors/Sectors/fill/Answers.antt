@@ -11,6 +11,6 @@ loop-i-preserved c =
     let blank = replicate 512 c.args.erased in
     let i = c.loop-i.i in
     let below : i < c.args.count = omega arith in
-    (rw c.loop-i.invariant at c.put.ensures)
+    (rw c.loop-i.invariant at c.fill_one.ensures)
     ∙ values_more old (replicate i blank) c.args.first i blank (sym (length-replicate i blank)) (omega (arith, below, c.requires))
     ∙ ap (with_values old c.args.first) (replicate_more i blank)
