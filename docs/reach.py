@@ -10,6 +10,8 @@ WORD = re.compile(r"[A-Za-z_][\w-]*")
 # The calls of a device with its history, whose clause is the headline; and the trait of its bus, which says when one is kept.
 HEADLINE = [("mmc_history", name) for name in ("submit", "cancel", "turn", "close")]
 RELATION = [("mmc_bus", "Bus")]
+# The calls of one client without a queue.
+DIRECT = [("mmc_direct", name) for name in ("read", "write", "erase")]
 
 
 @cache
