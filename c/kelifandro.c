@@ -516,8 +516,8 @@ int64_t kelifandro_get(int32_t stream, uint8_t *bytes, uint64_t n)
     struct kelifandro_call *call = &now->call;
     (void)stream;
     if (call->came) {
-        call->came--;
-        return BLOCK;
+        call->came -= (uint16_t)((uint32_t)n / BLOCK);
+        return (int64_t)n;
     }
 #ifndef KELIFANDRO_WITHOUT_REGISTERS
     if (call->operation == READ_REGISTER)

@@ -1,3 +1,6 @@
+pub mod HeldSlice
 pub mod MovedLemmas
+pub mod Runs
+pub mod TakenLemmas
 pub mod WritesLemmas
 pub mod WaysLemmas

@@ -1,8 +1,7 @@
 -- What C says of the blocks that it moved, and that nothing has to be shown of a host that isn't kept.
-use Rattle.std.proofs.Common.{[], ◌<◌, ◌∙◌, ◌≡◌, ◌≤◌, ◌∷◌, Bool, List, ap, arith, false, length, refl, subst, suc, sym, true, zero, ℕ}
-use Rattle.std.specs.Prelude.{◌==◌, IfSome, None, Option, Some, if◌then◌else◌, slice_set}
+use Rattle.std.proofs.Common.{◌<◌, ◌≡◌, ◌≤◌, Bool, List, arith, false, length, refl, subst, suc, true, ℕ}
+use Rattle.std.specs.Prelude.{◌==◌, IfSome, None, Option, Some, if◌then◌else◌}
 use Rattle.std.proofs.lemmas.Bool.Decides.{nat_tests}
-use Rattle.std.proofs.lemmas.List.{get_or-set_other}
 use Rattle.mmc_bus.proofs.TogetherLemmas.{WritesOne, good_lent}
 use Rattle.mmc_bus.specs.Together.{AreGood, MovesAtMost, ReadOn, good_one, none_good, reads, reads_none}
 use Rattle.mmc_bus.specs.declared.moved.Moved.{Moved}
@@ -13,9 +12,6 @@ use Rattle.mmc_card.specs.declared.exchange.DataOut.TheVariants as Sent
 use Rattle.mmc_host.specs.Hosts.{unkept_host}
 use Rattle.mmc_host.specs.Together.{HostRead}
 use Rattle.c_host.specs.Records.{failed_by, moved_by, refused_by, touched_by}
-use Rattle.c_host.specs.Talk.{Talk, last_count}
-use Rattle.c_host.specs.Talk.Talk.{Came}
-use Rattle.c_host.specs.Told.{AreTaken}
 
 -- So many blocks at most, and one that failed only where there are any.
 
@@ -89,15 +85,3 @@ module _ {S : Type 0} (blocks : S → List (List ℕ)) (leave : S → ℕ → Li
       let f = failed got refl in
       let some = f.1 in
       failing count now all some (omega (arith, some, full)) got f.0
-
--- Places that were taken stay so where another is written.
-
-pub taken_still : (places : List (List ℕ)) (done k : ℕ) (left : List ℕ) (old new : List Talk) → k ≤ done
-    → AreTaken places k old new → AreTaken (slice_set places done left) k old new
-taken_still places done zero left old new few taken = taken
-taken_still places done (suc k) left old new few taken = (
-  taken.0,
-  taken_still places done k left old taken.0 (omega (arith, few)) taken.1,
-  taken.2 ∙ ap (λ bytes. Came (last_count new) bytes ∷ taken.0)
-      (sym (get_or-set_other places done k left [] (λ same. omega (arith, few, same)))),
-)

@@ -1,5 +1,7 @@
 pub mod Noted
 pub mod Records
+pub mod Run
+pub mod RunLaws
 pub mod Talk
 pub mod Told
 pub mod Ways

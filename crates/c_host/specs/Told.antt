@@ -2,7 +2,7 @@
 use Rattle.std.specs.Int.{from_le_bytes, to_le_bytes, w64}
 use Rattle.std.specs.Prelude.{[], ◌%◌, ◌*◌, ◌+◌, ◌==◌, ◌^◌, ◌||◌, ◌∷◌, ◌≡◌, Bool, List, None, Option, Result, Some, if◌then◌else◌, length, nat_le, not}
 use Rattle.std.specs.Prelude.{◌&&◌}
-use Rattle.std.specs.Prelude.{slice_index_or, suc, take, zero, ℕ}
+use Rattle.std.specs.Prelude.{◌<◌, slice_index_or, slice_range, suc, take, zero, ℕ}
 use Rattle.mmc_card.specs.declared.exchange.DataIn.{DataIn}
 use Rattle.mmc_card.specs.declared.exchange.DataOut.{DataOut}
 use Rattle.mmc_bus.specs.declared.moved.Moved.{Moved}
@@ -22,19 +22,24 @@ abbrev pub TellsCommand : HostCommand → Result Heard ResponseFault → List Ta
 TellsCommand command heard old new =
     (new ≡ Asked (command_record command) (last_answer new) ∷ old) × (heard ≡ heard_by command.response (last_answer new))
 
--- so many of these places were taken, one after the other
-abbrev pub AreTaken : List (List ℕ) → ℕ → List Talk → List Talk → Type 0
-AreTaken places zero old new = new ≡ old
-AreTaken places (suc done) old new =
-    (before : List Talk) × AreTaken places done old before
-    × (new ≡ Came (last_count new) (slice_index_or places done []) ∷ before)
+-- these places, so many from this one on, hold the bytes, 512 each
+abbrev pub Hold : List (List ℕ) → ℕ → ℕ → List ℕ → Type 0
+Hold places first count bytes =
+    (i : ℕ) → i < count → slice_index_or places (first + i) [] ≡ slice_range bytes (512 * i) (512 * i + 512)
+
+-- So many of these places were taken, one after the other: what they hold is what came, several at a time.
+pub data AreTaken (places : List (List ℕ)) (old : List Talk) : ℕ → List Talk → Type 0 where
+  none_taken : AreTaken places old 0 old
+  some_taken : (done some count : ℕ) (bytes : List ℕ) (before : List Talk) → AreTaken places old done before
+      → length bytes ≡ 512 * some → Hold places done some bytes
+      → AreTaken places old (done + some) (Came count bytes ∷ before)
 
 -- the command with places for its blocks: what was heard and what was moved is what came, and so is what the places hold
 abbrev pub TellsReadWith : HostCommand → List (List ℕ) → Result Heard ResponseFault → Moved DataIn → List Talk → List Talk
     → Type 0
 TellsReadWith command places heard moved old new =
     (answer : List ℕ)
-    × AreTaken places (touched_by moved (length places)) (Asked (with_record 10 command (length places)) answer ∷ old) new
+    × AreTaken places (Asked (with_record 10 command (length places)) answer ∷ old) (touched_by moved (length places)) new
     × (heard ≡ heard_by command.response answer) × (moved ≡ read_by answer (length places))
 
 -- the command with so many blocks to go after it: what was heard and what was moved is what came
@@ -89,10 +94,10 @@ TellsTable table place old new =
     (new ≡ Asked (18 ∷ []) (last_answer new) ∷ with_lines table (lines_for table.size) old)
     × (place ≡ table_at table.is_wide (from_le_bytes w64 (last_answer new)))
 
--- that the blocks are wanted that have come there, before the first of them, and this is one
+-- that the blocks are wanted that have come there, before the first of them, and these are some
 abbrev pub TellsTaking : ℕ → List ℕ → List Talk → List Talk → Type 0
-TellsTaking i block old new =
-    new ≡ Came (last_count new) block ∷ (if i == 0 then Told (16 ∷ []) ∷ old else old)
+TellsTaking first bytes old new =
+    new ≡ Came (last_count new) bytes ∷ (if first == 0 then Told (16 ∷ []) ∷ old else old)
 
 abbrev pub TellsPause : ℕ → List Talk → List Talk → Type 0
 TellsPause micros old new = new ≡ Told (pause_record micros) ∷ old

@@ -4,7 +4,7 @@ ghost use Rattle.mmc_sdhci.specs.Accesses.{Passes, Reads, Reads8, Writes, Writes
 ghost use Rattle.mmc_sdhci.specs.Beside.{untold};
 ghost use Rattle.mmc_sdhci.specs.Driver.{unkept_controller};
 ghost use Rattle.mmc_sdhci.specs.Controller.{Settled};
-ghost use Rattle.mmc_sdhci.specs.Lending.{Fits, FitsTable, Lends, LendsTable, TakesPlace, unlent};
+ghost use Rattle.mmc_sdhci.specs.Lending.{Fits, FitsTable, Lends, LendsTable, TakesPlace, TakesPlaces, unlent};
 ghost use Rattle.mmc_sdhci.specs.Lent.{Room, ToGo};
 ghost use Rattle.mmc_sdhci.specs.Moving.{Puts, Takes};
 ghost use Rattle.c_host.specs.Talk.Talk.{Asked, Told};
@@ -104,7 +104,15 @@ impl Registers for CRegisters {
         ensures whole { length block.new ≡ 512 }
         ensures told { TellsTaking index block.new self.old.stream.diary.past self.new.stream.diary.past }
     {
-        self.stream.take_place(index, block);
+        self.stream.take_places(index, block);
+    }
+
+    fn take_places(&mut self, index: usize, blocks: &mut [u8])
+        ensures takes { TakesPlaces unkept_controller index blocks.new unkept_controller }
+        ensures whole { length blocks.new ≡ length blocks.old }
+        ensures told { TellsTaking index blocks.new self.old.stream.diary.past self.new.stream.diary.past }
+    {
+        self.stream.take_places(index, blocks);
     }
 
     fn take_back(&mut self)

@@ -104,8 +104,12 @@ impl Stream {
         let heard = heard_by(command.response, &answer);
         let moved = moved_by(failed_by(answer[18]), good_by(&answer), count);
         let touched = touched_by(moved, count);
-        for done in 0..touched {
-            let _ = self.take(blocks.block_mut(done));
+        let mut done = 0;
+        while done < touched {
+            let piece = blocks.blocks_mut(done, touched - done);
+            let some = piece.len() / 512;
+            let _ = self.take(piece);
+            done += some;
         }
         (heard, moved)
     }
@@ -288,14 +292,15 @@ impl Stream {
         table_at(table.is_wide(), u64::from_le_bytes(answer))
     }
 
-    /// Takes a block that has come into memory that was lent.
-    pub fn take_place(&mut self, index: usize, block: &mut [u8; 512])
-        ensures { TellsTaking index block.new self.old.diary.past self.new.diary.past }
+    /// Takes blocks that have come into memory that was lent, from this one on.
+    pub fn take_places(&mut self, index: usize, blocks: &mut [u8])
+        ensures tells { TellsTaking index blocks.new self.old.diary.past self.new.diary.past }
+        ensures length { length blocks.new ≡ length blocks.old }
     {
         if index == 0 {
             self.tell(&[TAKE_PLACES]);
         }
-        let _ = self.take(block);
+        let _ = self.take(blocks);
     }
 
     /// Takes back what was lent.

@@ -20,7 +20,7 @@ error says what. `serve` has 1 too, where a request failed or was refused. docs/
 /// That of `serve`.
 pub(crate) const SERVE: &str =
     "usage: cardtool serve --card FILE --script FILE [--image FILE] [--trace N]
-                      [--explain] [--vcd FILE] [--save FILE] [--force]
+                      [--explain] [--vcd FILE] [--labels] [--save FILE] [--force]
                       [--svg FILE] [--html FILE] [--timing FILE] [--exchanges A..B]
                       [--fault RULE].. [--seed N] [--stats]
 
@@ -34,6 +34,8 @@ read may be -, for standard input.
     --explain      puts words after each exchange that is shown; without --trace it shows the last 65536
     --vcd FILE     writes the exchanges as a waveform of CLK, CMD and DAT0 to DAT7; FILE must not be there yet. With - it goes to
                    standard output, and the answers to standard error
+    --labels       gives the waveform two texts that GTKWave shows: EXCHANGE, the number of the exchange, and PHASE, what it is: a
+                   command as CMD17, READ or WRITE for a block, or BUSY for a poll
     --save FILE    writes what the card holds at the end, as an image has it; FILE must not be there yet
     --force        replaces the files that are written where they are there
     --svg FILE     draws the last 64 exchanges as a sequence diagram in SVG, with words, planned faults, and what the driver does to
@@ -50,8 +52,8 @@ read may be -, for standard input.
                        read S FAULT      in each block of sector S that is read, and with read S-T FAULT of S to T
                        write S FAULT     in each block that is written, likewise
                        random A/B FAULT  in A of B exchanges, by chance
-                   FAULT is as in a card file, lose-reply or bad-block for instance, or any: one that is of such an exchange, by
-                   chance
+                   FAULT is as in a card file, lose-reply or bad-block for instance; any: one that is of such an exchange, by
+                   chance; or gone: nothing comes from the card
     --seed N       other chances; 0 where it is left out
     --stats        says at the end on standard error what happened: exchanges, faults that fell, attempts, settlings, resets
 

@@ -2,7 +2,7 @@
 use Rattle.std.proofs.Common.{[], refl, ◌∷◌, ◌≡◌, List, None, false, ℕ}
 use Rattle.card_text.specs.Parts.{parts}
 use Rattle.card_text.proofs.PartLemmas.{split_some}
-use Rattle.card_rules.specs.RuleTexts.{chance_of, is_any, range_of}
+use Rattle.card_rules.specs.RuleTexts.{chance_of, is_alone, range_of}
 
 where_some : (Says : List (List ℕ) → Type 0) → ((word : List ℕ) (words : List (List ℕ)) → Says (word ∷ words))
     → (words : List (List ℕ)) → (words ≡ [] → ⊥) → Says words
@@ -15,8 +15,8 @@ of_parts : (Says : List (List ℕ) → Type 0) → ((word : List ℕ) (words : L
 unfolding parts
 of_parts Says each at text = where_some Says each _ (split_some _ text)
 
-pub no_any : (a text : List ℕ) → false ≡ is_any (a ∷ parts 32 text)
-no_any a text = of_parts (λ words. false ≡ is_any (a ∷ words)) (λ word words. refl) 32 text
+pub not_alone : (wanted a text : List ℕ) → false ≡ is_alone wanted (a ∷ parts 32 text)
+not_alone wanted a text = of_parts (λ words. false ≡ is_alone wanted (a ∷ words)) (λ word words. refl) 32 text
 
 pub many_sectors : (a b text : List ℕ) → None ≡ range_of (a ∷ b ∷ parts 45 text)
 unfolding range_of

@@ -7,7 +7,7 @@ use Rattle.card_text.specs.Numbers.{number_of}
 use Rattle.card_text.specs.Parts.{parts}
 use Rattle.card_rules.specs.declared.rule.Rule.{Rule}
 use Rattle.card_rules.specs.declared.rule.What.{What}
-use Rattle.card_rules.specs.declared.rule.What.TheVariants.{Any, This}
+use Rattle.card_rules.specs.declared.rule.What.TheVariants.{Any, Gone, This}
 use Rattle.card_rules.specs.declared.rule.When.{When}
 use Rattle.card_rules.specs.declared.rule.When.TheVariants.{After, At, Chance, Each, From, Read, Write}
 
@@ -19,14 +19,16 @@ small_by None = None
 unfoldable pub small_of : List ℕ → Option ℕ
 small_of digits = small_by (number_of digits)
 
--- the word `any` alone
-abbrev pub is_any : List (List ℕ) → Bool
-is_any (word ∷ []) = bytes_eq word (codes "any")
-is_any words = false
+-- this word alone
+abbrev pub is_alone : List ℕ → List (List ℕ) → Bool
+is_alone wanted (word ∷ []) = bytes_eq word wanted
+is_alone wanted words = false
 
--- `any`, or the text of a fault
+-- `any`, `gone`, or the text of a fault
 unfoldable pub what_of : List (List ℕ) → Option What
-what_of words = if is_any words then Some Any else option_map (λ fault. This fault) (fault_of words)
+what_of words =
+    if is_alone (codes "any") words then Some Any
+    else (if is_alone (codes "gone") words then Some Gone else option_map (λ fault. This fault) (fault_of words))
 
 unfoldable pub planned_by : When → List (List ℕ) → Option Rule
 planned_by when words = option_map (λ what. record { when = when; what = what }) (what_of words)

@@ -6,7 +6,7 @@ use Rattle.mmc_card_sim.specs.declared.fault.Fault.TheVariants.{LoseCommand, Los
 use Rattle.card_rules.specs.declared.moment.Moment.{Moment}
 use Rattle.card_rules.specs.declared.moment.Moment.TheVariants.{Command, Poll, Read, Write}
 use Rattle.card_rules.specs.declared.rule.What.{What}
-use Rattle.card_rules.specs.declared.rule.What.TheVariants.{Any, This}
+use Rattle.card_rules.specs.declared.rule.What.TheVariants.{Any, Gone, This}
 use Rattle.card_rules.specs.declared.rule.When.{When}
 use Rattle.card_rules.specs.declared.rule.When.TheVariants.{After, At, Chance, Each, From, Read as ReadOf, Write as WriteOf}
 
@@ -46,10 +46,13 @@ abbrev pub is_of_poll : Fault → Bool
 is_of_poll (Fail outcome) = true
 is_of_poll fault = false
 
--- the fault that a rule names, or where it names none one that is of such an exchange
+-- the fault that a rule names, one that is of such an exchange, or that of a card that is gone
 abbrev pub IsPlanned : What → Moment → Fault → Type 0
 IsPlanned (This named) moment fault = fault ≡ named
 IsPlanned Any (Command index) fault = is_of_command fault ≡ true
 IsPlanned Any (Read sector) fault = is_of_read fault ≡ true
 IsPlanned Any (Write sector) fault = is_of_write fault ≡ true
 IsPlanned Any Poll fault = is_of_poll fault ≡ true
+IsPlanned Gone (Read sector) fault = fault ≡ NoBlock
+IsPlanned Gone (Write sector) fault = fault ≡ LoseBlock
+IsPlanned Gone moment fault = fault ≡ LoseCommand

@@ -51,6 +51,8 @@ pub enum What {
     This(Fault),
     /// Any that is of such an exchange, by chance, and leaves the card as it may be after a fault that is common on a bus.
     Any,
+    /// The card is gone, and nothing comes from it: a command or a block that is written reaches none, and no block is sent.
+    Gone,
 }
 
 /// A rule: in the exchanges that it is about a fault is planned, which falls where it fits.
@@ -152,6 +154,10 @@ impl Rule {
             (What::Any, Moment::Read(_)) => any_of_read(pick),
             (What::Any, Moment::Write(_)) => any_of_write(pick),
             (What::Any, Moment::Poll) => any_of_poll(pick),
+            // a poll can't be lost: where no card is the line isn't held down
+            (What::Gone, Moment::Command(_) | Moment::Poll) => Fault::LoseCommand,
+            (What::Gone, Moment::Read(_)) => Fault::NoBlock,
+            (What::Gone, Moment::Write(_)) => Fault::LoseBlock,
         }
     }
 }

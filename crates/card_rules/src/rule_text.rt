@@ -1,7 +1,7 @@
-// Reads the text of a rule: when, and the text of a fault as a card file has it, or `any`.
+// Reads the text of a rule: when, and the text of a fault as a card file has it, `any`, or `gone`.
 ghost use Rattle.std.specs.Prelude.{◌≡◌};
 ghost use Rattle.card_text.specs.Parts.{left_parts, parts};
-ghost use Rattle.card_rules.specs.RuleTexts.{chance_of, command_of, is_any, nth_of, planned_by, range_of, rule_by, rule_of, small_of, what_of};
+ghost use Rattle.card_rules.specs.RuleTexts.{chance_of, command_of, is_alone, nth_of, planned_by, range_of, rule_by, rule_of, small_of, what_of};
 
 use crate::rule::{Rule, What, When};
 use card_text::cut::cut;
@@ -21,27 +21,29 @@ fn small(digits: &[u8]) -> Option<u32>
     }
 }
 
-// Whether it is the word `any` alone.
-#[tactic(auto, using(crate::proofs::TextLemmas::no_any))]
-fn is_any(text: Option<&[u8]>) -> bool
-    ensures { result ≡ is_any (left_parts 32 text.entry) }
+// Whether it is this word alone.
+#[tactic(auto, using(crate::proofs::TextLemmas::not_alone))]
+fn is_alone(wanted: &[u8], text: Option<&[u8]>) -> bool
+    ensures { result ≡ is_alone wanted.now (left_parts 32 text.entry) }
 {
     let Some(text) = text else {
         return false;
     };
     match cut(text, b' ') {
-        (word, None) => word == b"any".as_slice(),
+        (word, None) => word == wanted,
         (_, Some(_)) => false,
     }
 }
 
-// `any`, or the text of a fault.
+// `any`, `gone`, or the text of a fault.
 #[tactic(auto, unfolding(crate::specs::RuleTexts::what_of))]
 fn what(text: Option<&[u8]>) -> Option<What>
     ensures { result ≡ what_of (left_parts 32 text.entry) }
 {
-    if is_any(text) {
+    if is_alone(b"any", text) {
         Some(What::Any)
+    } else if is_alone(b"gone", text) {
+        Some(What::Gone)
     } else {
         Some(What::This(fault(text)?))
     }
@@ -165,7 +167,7 @@ fn rule_by(key: &[u8], value: &[u8], rest: Option<&[u8]>) -> Option<Rule>
 /// - `read S FAULT`, `read S-T FAULT`: in each block of these sectors that is read, and with `write` that is written
 /// - `random A/B FAULT`: in so many of so many exchanges, by chance
 ///
-/// FAULT is as in a card file, or `any`.
+/// FAULT is as in a card file, `any`, or `gone`.
 #[tactic(auto, unfolding(crate::specs::RuleTexts::rule_of))]
 pub fn read_rule(text: &[u8]) -> Option<Rule>
     ensures { result ≡ rule_of (parts 32 text.now) }

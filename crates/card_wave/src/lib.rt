@@ -9,9 +9,11 @@
 mod block_wave;
 mod command_wave;
 mod header;
+mod labels;
 pub mod laws;
 mod line_check;
 mod line_checks;
+mod phase;
 mod sample;
 mod wave_bus;
 mod wave_writer;

@@ -9,8 +9,8 @@ use crate::sample::Sample;
 use itoa::Buffer;
 use std::io::{ErrorKind, Write};
 
-// The most clocks of a waveform: their times fit 64 bits.
-const MAX_CLOCKS: u64 = 1 << 58;
+/// The most clocks of a waveform: their times fit 64 bits.
+pub(crate) const MAX_CLOCKS: u64 = 1 << 58;
 
 /// What came of a write: of a fault its kind alone is handed on, since an error takes ninety bytes of each frame on its way.
 pub(crate) type Written = Result<(), ErrorKind>;
@@ -37,11 +37,11 @@ pub(crate) fn put_bytes<W: Write>(out: &mut W, bytes: &[u8]) -> Written
     Ok(())
 }
 
-// Writes a time in decimal digits.
-fn put_time<W: Write>(out: &mut W, time: u64) -> Written
-    ensures { Writes (W.contents out.old) (W.contents out.new) result (decimal time) }
+/// Writes a number in decimal digits.
+pub(crate) fn put_number<W: Write>(out: &mut W, number: u64) -> Written
+    ensures { Writes (W.contents out.old) (W.contents out.new) result (decimal number) }
 {
-    put_bytes(out, Buffer::new().format(time).as_bytes())
+    put_bytes(out, Buffer::new().format(number).as_bytes())
 }
 
 // Writes a signal, if it changes.
@@ -75,7 +75,7 @@ fn put_edge<W: Write>(out: &mut W, time: u64, level: bool) -> Written
     ensures { Writes (W.contents out.old) (W.contents out.new) result (edge_text time level) }
 {
     put_bytes(out, b"#")?;
-    put_time(out, time)?;
+    put_number(out, time)?;
     if level {
         put_bytes(out, b"\n1!\n")
     } else {

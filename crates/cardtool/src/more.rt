@@ -1,5 +1,5 @@
 // Serves a script, and shows or draws the exchanges.
-ghost use Rattle.std.specs.Prelude.{◌≤◌, None, Some};
+ghost use Rattle.std.specs.Prelude.{◌≡◌, ◌≤◌, None, Some, if◌then◌else◌};
 ghost use Rattle.mmc_bus.specs.declared.trace.TheConstants.{MAX_KEPT};
 ghost use Rattle.cardtool.specs.More.{IsShown, trace_of};
 ghost use Rattle.cardtool.specs.Whole.{IsServedOver};
@@ -119,13 +119,26 @@ pub struct Drawn<V: Write + Drop> {
     pub written: io::Result<()>,
 }
 
-/// The same, with a waveform of all exchanges where one is wanted: a fault in writing it changes nothing else.
+// A bus that draws a waveform, with labels or without.
+fn wave_bus<B: Bus, V: Write>(bus: B, wave: V, labels: bool) -> WaveBus<B, V>
+    ensures bus { result.bus ≡ bus }
+    ensures labels { result.labels ≡ (if labels then Some 0 else None) }
+{
+    if labels {
+        WaveBus::labelled(bus, wave)
+    } else {
+        WaveBus::new(bus, wave)
+    }
+}
+
+/// The same, with a waveform of all exchanges where one is wanted, with labels or without: a fault in writing it changes nothing else.
 pub fn serve_drawn<B: Bus + Drop, W: Write, V: Write + Drop>(
     alloc: Global,
     bus: B,
     script: Script,
     shown: Shown,
     wave: Option<V>,
+    labels: bool,
     out: &mut W,
 ) -> (Served<B>, Option<Drawn<V>>)
     requires { IsShown shown }
@@ -139,7 +152,7 @@ pub fn serve_drawn<B: Bus + Drop, W: Write, V: Write + Drop>(
         kept,
         healed,
         status,
-    } = serve_shown(alloc, WaveBus::new(bus, wave), script, shown, out);
+    } = serve_shown(alloc, wave_bus(bus, wave, labels), script, shown, out);
     let (bus, wave, written) = bus.into_parts();
     let served = Served {
         bus,
@@ -158,13 +171,14 @@ pub fn serve_counted<B: Bus + Drop, W: Write, V: Write + Drop>(
     script: Script,
     shown: Shown,
     wave: Option<V>,
+    labels: bool,
     out: &mut W,
 ) -> (Served<B>, Option<Drawn<V>>)
     requires { IsShown shown }
     ensures { IsServedOver (B.view bus) (B.view result.0.bus) script (trace_of shown) (W.contents out.old) (W.contents out.new) result.0.status }
 {
     let bus = CountingBus::new(bus, count);
-    let (served, drawn) = serve_drawn(alloc, bus, script, shown, wave, out);
+    let (served, drawn) = serve_drawn(alloc, bus, script, shown, wave, labels, out);
     let Served {
         bus,
         kept,

@@ -19,7 +19,7 @@ pub struct Numbers {
     pub last: u64,
 }
 
-/// The files of pictures that are asked for, and which exchanges are drawn.
+/// The files of pictures that are asked for, which exchanges are drawn, and whether the waveform has labels.
 #[derive(Clone, Copy)]
 pub struct Pictures<'a> {
     /// The name of the file for a sequence diagram.
@@ -30,6 +30,8 @@ pub struct Pictures<'a> {
     pub timing: Option<&'a str>,
     /// Which exchanges, where they are given; otherwise the last.
     pub exchanges: Option<Numbers>,
+    /// Whether the waveform has labels.
+    pub labels: bool,
 }
 
 impl Pictures<'_> {
@@ -45,6 +47,7 @@ fn may_ask(word: &str) -> bool {
         || word.starts_with("--html")
         || word.starts_with("--timing")
         || word.starts_with("--exchanges")
+        || word.starts_with("--labels")
 }
 
 // The numbers that a text gives, as `20..40`.
@@ -70,10 +73,21 @@ fn numbers_given(text: Option<&str>) -> Result<Option<Numbers>, OptionFault> {
     }
 }
 
+// Whether labels are asked for.
+fn asks_labels(matches: &ArgMatches<'_>) -> bool {
+    matches.get_str("labels") == Some("true")
+}
+
+// Whether labels are asked for, and no waveform.
+fn lacks_wave(matches: &ArgMatches<'_>) -> bool {
+    asks_labels(matches) && matches.get_str("vcd").is_none()
+}
+
 /// What the words ask for, which `options` has read before.
 ///
 /// # Errors
-/// `Usage` where the numbers of exchanges are none, or no picture is asked for with them; `NoMemory`.
+/// `Usage` where the numbers of exchanges are none, or no picture is asked for with them, and where labels are asked for and no
+/// waveform; `NoMemory`.
 pub fn pictures_given<'a>(
     alloc: Global,
     words: &'a [&'a str],
@@ -84,6 +98,7 @@ pub fn pictures_given<'a>(
             html: None,
             timing: None,
             exchanges: None,
+            labels: false,
         });
     }
     let Ok(matches) = matched(alloc, words) else {
@@ -95,8 +110,9 @@ pub fn pictures_given<'a>(
         html: matches.get_str("html"),
         timing: matches.get_str("timing"),
         exchanges,
+        labels: asks_labels(&matches),
     };
-    if exchanges.is_some() && !pictures.asks() {
+    if exchanges.is_some() && !pictures.asks() || lacks_wave(&matches) {
         return Err(OptionFault::Usage);
     }
     Ok(pictures)
@@ -115,6 +131,15 @@ pub fn put_numbers_mistake(rt: &impl Eprint, matches: &ArgMatches<'_>) -> bool {
         Some(_) => eprintln!(rt; "cardtool: --exchanges goes with --svg, --html or --timing"),
     };
     true
+}
+
+/// Writes a line on standard error where labels are asked for and no waveform, and says whether they are.
+pub fn put_labels_mistake(rt: &impl Eprint, matches: &ArgMatches<'_>) -> bool {
+    let is_mistake = lacks_wave(matches);
+    if is_mistake {
+        let _ = eprintln!(rt; "cardtool: --labels goes with --vcd");
+    }
+    is_mistake
 }
 
 // Those of these numbers, of exchanges that follow each other.

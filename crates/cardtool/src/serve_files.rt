@@ -214,7 +214,8 @@ fn serve_card<R: Files + Eprint + AllocGlobal, V: Write + Drop, F: Write + Drop,
     let keeps = pictures.asks() || options.explains;
     let mut out = KeepingWriter::new(alloc, out, &count, keeps);
     let shown = shown(options, pictures.asks());
-    let (served, drawn) = serve_counted(alloc, card, &count, script, shown, wave, &mut out);
+    let labels = pictures.labels;
+    let (served, drawn) = serve_counted(alloc, card, &count, script, shown, wave, labels, &mut out);
     let answers = out.take_kept();
     let noted = kept_with_notes(alloc, &served, plan);
     let printed = put_exchanges(alloc, options, known, &served, &noted, &answers, &mut out);
@@ -257,11 +258,11 @@ fn serve_more<'a, R: Files + Print + Eprint + AllocGlobal, C: Read, S: Read, I: 
     let FilesRead { spec, plan, script } = read_files(alloc, card, script, image)?;
     let known = known_card(&spec);
     let card = built(alloc, spec, plan.as_slice())?;
-    let files = begun_files(rt, options, pictures, replaces)?;
     let card = RuledCard::new(card, rules, known.addressing);
     let plan = plan.as_slice();
     if options.vcd == Some("-") {
         let out = stream(rt, "/dev/stderr", ServeFault::Write)?;
+        let files = begun_files(rt, options, pictures, replaces)?;
         return serve_card(
             rt, card, known, plan, script, options, pictures, stats, files, out,
         );
@@ -269,6 +270,7 @@ fn serve_more<'a, R: Files + Print + Eprint + AllocGlobal, C: Read, S: Read, I: 
     let Ok(out) = BufWriter::new(alloc, io::writer(rt)) else {
         return Err(ServeFault::NoMemory);
     };
+    let files = begun_files(rt, options, pictures, replaces)?;
     serve_card(
         rt, card, known, plan, script, options, pictures, stats, files, out,
     )

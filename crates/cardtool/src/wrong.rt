@@ -2,7 +2,7 @@
 // second one, for people, shows where standard error is a terminal, and with `--explain`.
 use crate::options::matched;
 use crate::options_given::OptionFault;
-use crate::pictures::{Numbers, put_numbers_mistake};
+use crate::pictures::{Numbers, put_labels_mistake, put_numbers_mistake};
 use card_commands::{put_hint, put_mistake, put_unknown};
 use card_rules::RuledCard;
 use card_served::ServeFault;
@@ -26,7 +26,7 @@ fn put_refused(rt: &(impl Eprint + AllocGlobal), error: &clap::Error) {
 
 // What is wrong with values that `clap` takes.
 fn put_value_mistake(rt: &(impl Eprint + AllocGlobal), matches: &ArgMatches<'_>) {
-    if !put_numbers_mistake(rt, matches) {
+    if !put_labels_mistake(rt, matches) && !put_numbers_mistake(rt, matches) {
         let _ = eprintln!(rt;
             "cardtool: --card and --script are needed, and --trace has 1 to 65536"
         );

@@ -6,6 +6,7 @@ use Rattle.std.proofs.lemmas.List.{drop-append-le, drop-drop, drop-take, drop_at
 use Rattle.std.proofs.lemmas.List.{length-take-le, take-append-le, take-take, take_all, take_at}
 use Rattle.mmc_card.specs.Sectors.{pieces}
 use Rattle.mmc_bus.specs.Bytes.{blocks_in, with_part}
+use Rattle.mmc_bus.specs.Lending.{left_from}
 
 pub length_pieces : (count : ℕ) (bytes : List ℕ) → length (pieces count bytes) ≡ count
 length_pieces zero bytes = refl
@@ -87,3 +88,14 @@ length_left bytes i left below long =
     let less : i < length bytes / 512 = omega (arith, below, length_pieces (length bytes / 512) bytes) in
     let both = with_is_put bytes i left less long in
     ap length both.0 ∙ both.1
+
+-- what is left in one block is left in each of one
+pub one_left : {S : Type 0} (leave : S → ℕ → List ℕ → S) (was : S) (first : ℕ) (left : List ℕ) → length left ≡ 512
+    → leave was first left ≡ left_from leave was first left 1
+one_left leave was first left long =
+    let start : first + 0 ≡ first = omega arith in
+    sym (ap (λ i. leave was i (take 512 left)) start ∙ ap (leave was first) (take_all 512 left (omega (arith, long))))
+
+-- one block is some of them
+pub some_one : (most : ℕ) → 0 < most → (0 < 1) × (1 ≤ most)
+some_one most some = (omega arith, omega (arith, some))

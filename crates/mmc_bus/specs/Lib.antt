@@ -6,6 +6,7 @@ pub mod ExchangeText
 pub mod Exchanges
 pub mod Heard
 pub mod Learned
+pub mod LeftLaws
 pub mod Lending
 pub mod Scripted
 pub mod ScriptedBus

@@ -115,13 +115,27 @@ impl Blocks for Bytes {
 
 impl BlocksMut for Bytes {
     ghost use Rattle.mmc_bus.specs.Bytes.{with_block};
-    ghost use Rattle.mmc_bus.specs.BlockLaws.{block_left};
+    ghost use Rattle.mmc_bus.specs.BlockLaws.{block_left, one_left, some_one};
 
     ghost with = { with_block };
+
+    // One block at a time.
+    ghost together = { λ bytes i most. 1 };
+
+    ghost with_blocks = { λ bytes i most left. with_block bytes i left };
 
     fn block_mut(&mut self, i: usize) -> &mut [u8; 512] {
         self.piece_mut(i)
     }
 
+    fn blocks_mut(&mut self, i: usize, most: usize) -> &mut [u8] {
+        let _ = most;
+        self.slice_mut(i)
+    }
+
     ghost writes_one = { block_left };
+
+    ghost has_some = { λ bytes i most some inside. some_one most some };
+
+    ghost writes_all = { λ bytes i most left some inside long. one_left with_block bytes i left long };
 }

@@ -1,4 +1,4 @@
--- How long a card is left alone after what it said (docs/STANDARD.md, "Pace").
+-- How long a card is left alone after what it said (docs/PORTING.md, "Pace").
 use Rattle.std.specs.Prelude.{◌&&◌, ◌==◌, ◌||◌, ◌≡◌, Bool, List, Ok, Result, Some, if◌then◌else◌, nat_lt, ℕ}
 use Rattle.mmc_frame.specs.Field.{field}
 use Rattle.mmc_frame.specs.Frame.{command_in}

@@ -21,7 +21,7 @@ pub enum Work {
 
 impl Work {
     /// For how many microseconds a host looks before it says that the card is still busy: sixteen looks are as long as the work
-    /// may take (`docs/STANDARD.md`, "Pace"). They are 512 ms for a write, which serves SDXC too, 2.56 s for a switch, and for an erase
+    /// may take (`docs/PORTING.md`, "Pace"). They are 512 ms for a write, which serves SDXC too, 2.56 s for a switch, and for an erase
     /// 160 s and 256 ms a sector, but four hours at most. A host that finds the card no longer busy says so at once.
     pub fn micros(self) -> u32
         ensures exactly { result ≡ micros_of self }

@@ -55,6 +55,15 @@ impl Entry {
     {
         self.buffer.block_mut(i)
     }
+
+    // The same as a slice.
+    fn bytes_mut(&mut self, i: usize) -> &mut [u8]
+        requires { i < length (blocks_in self.old.buffer) }
+        ensures* writes_back { sem 𝓛 (Lends entry_row (Array byte 0) self.entry result (with_buffer self.old i)) }
+        ensures len { length result.now ≡ 512 }
+    {
+        self.buffer.blocks_mut(i, 1)
+    }
 }
 
 impl Group {
@@ -83,6 +92,15 @@ impl Group {
         ensures value { result.now ≡ slice_index_or (blocks_in (entry_at self.old.members.items k).buffer) i [] }
     {
         self.member_mut(k).block_mut(i)
+    }
+
+    fn member_bytes_mut(&mut self, k: usize, i: usize) -> &mut [u8]
+        requires member { k < length self.old.members.items }
+        requires block { i < length (blocks_in (entry_at self.old.members.items k).buffer) }
+        ensures* writes_back { sem 𝓛 (Lends group_row (Array byte 0) self.entry result (λ left. with_entry self.old k (with_buffer (entry_at self.old.members.items k) i left))) }
+        ensures len { length result.now ≡ 512 }
+    {
+        self.member_mut(k).bytes_mut(i)
     }
 
     // The first member that has a block for the sector.
@@ -176,14 +194,30 @@ impl<'a> Blocks for Writes<'a> {
 
 impl BlocksMut for Group {
     ghost use Rattle.mmc_queue.specs.Lent.{with_lent};
+    ghost use Rattle.mmc_bus.specs.BlockLaws.{one_left, some_one};
     ghost use Rattle.mmc_queue.specs.LentLaws.{one_written};
 
     ghost with = { with_lent };
+
+    // One block at a time.
+    ghost together = { λ group i most. 1 };
+
+    ghost with_blocks = { λ group i most left. with_lent group i left };
 
     fn block_mut(&mut self, i: usize) -> &mut [u8; 512] {
         let (k, j) = self.place(Held::Room, i);
         self.member_block_mut(k, j)
     }
 
+    fn blocks_mut(&mut self, i: usize, most: usize) -> &mut [u8] {
+        let _ = most;
+        let (k, j) = self.place(Held::Room, i);
+        self.member_bytes_mut(k, j)
+    }
+
     ghost writes_one = { one_written };
+
+    ghost has_some = { λ group i most some inside. some_one most some };
+
+    ghost writes_all = { λ group i most left some inside long. one_left with_lent group i left long };
 }

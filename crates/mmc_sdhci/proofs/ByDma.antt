@@ -134,7 +134,7 @@ placed_as leave was xs ys (suc k) same =
 
 -- One more place is filled.
 
-before_or_at : (j i : ℕ) (test : Bool) → (j == i) ≡ test → j < i + 1 → (j ≡ i) ⊎ (j < i)
+pub before_or_at : (j i : ℕ) (test : Bool) → (j == i) ≡ test → j < i + 1 → (j ≡ i) ⊎ (j < i)
 before_or_at j i true is less = inl (eqb-true j i is)
 before_or_at j i false is less =
     let not : j ≡ i → ⊥ = λ (same : j ≡ i). false≢true (sym is ∙ eq-eqb j i same) in

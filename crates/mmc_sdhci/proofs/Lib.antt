@@ -7,7 +7,9 @@ pub mod Glancing
 pub mod Hosting
 pub mod Limits
 pub mod Looking
+pub mod Placing
 pub mod Putting
+pub mod Ranges
 pub mod Reading
 pub mod Sending
 pub mod Telling

@@ -1,5 +1,5 @@
 -- What a port does with memory that it lends to a controller, and takes back.
-use Rattle.std.specs.Prelude.{Bool, IfSome, List, None, Option, Some, [], false, length, slice_index_or, suc, true, zero, ℕ, ◌<◌, ◌%◌, ◌*◌, ◌+◌, ◌^◌, ◌≡◌}
+use Rattle.std.specs.Prelude.{Bool, IfSome, List, None, Option, Some, [], false, length, slice_index_or, slice_range, suc, true, zero, ℕ, ◌<◌, ◌≤◌, ◌%◌, ◌*◌, ◌+◌, ◌^◌, ◌≡◌}
 use Rattle.mmc_sdhci.specs.Controller.{ControllerView, Settled}
 use Rattle.mmc_sdhci.specs.Lent.{Come, Lent, size_of}
 use Rattle.mmc_sdhci.specs.declared.tables.Table.{Table}
@@ -53,6 +53,14 @@ TakesPlace old i block new =
     Settled old
     ((new ≡ old)
     × ((come : List (List ℕ)) → old.dma.lent ≡ Some (Come come) → block ≡ slice_index_or come i [])) new
+
+-- places from this one on are filled with what came there
+abbrev pub TakesPlaces : ControllerView → ℕ → List ℕ → ControllerView → Type 0
+TakesPlaces old first bytes new =
+    Settled old
+    ((new ≡ old)
+    × ((come : List (List ℕ)) → old.dma.lent ≡ Some (Come come) → (i : ℕ) → 512 * i + 512 ≤ length bytes
+    → slice_range bytes (512 * i) (512 * i + 512) ≡ slice_index_or come (first + i) [])) new
 
 -- the first so many of what has come, if all has
 abbrev pub AreThose : Option Lent → ℕ → List (List ℕ) → Type 0

@@ -111,8 +111,13 @@ pub fn take_places<R: Registers, D: BlocksMut>(registers: &mut R, blocks: &mut D
     requires { IsAtRest (R.view registers.old) }
     ensures { TakesBack D.with (R.view registers.old) blocks.old (length (D.blocks blocks.old)) blocks.new (R.view registers.new) }
 {
-    for i in 0..blocks.len() {
-        registers.take_place(i, blocks.block_mut(i));
+    let count = blocks.len();
+    let mut done = 0;
+    while done < count {
+        let piece = blocks.blocks_mut(done, count - done);
+        let some = piece.len() / 512;
+        registers.take_places(done, piece);
+        done += some;
     }
     registers.take_back();
 }

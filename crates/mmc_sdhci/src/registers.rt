@@ -1,7 +1,7 @@
-ghost use Rattle.std.specs.Prelude.{◌≡◌, length};
+ghost use Rattle.std.specs.Prelude.{◌≡◌, ◌+◌, ◌/◌, ◌<◌, ◌^◌, length};
 ghost use Rattle.mmc_sdhci.specs.Controller.{ControllerView, Settled};
 ghost use Rattle.mmc_sdhci.specs.Beside.{Beside, IsBeside, read_on, waited_on};
-ghost use Rattle.mmc_sdhci.specs.Lending.{Fits, FitsTable, IsUnmoved, Lends, LendsTable, NamesLent, TakesPlace, unlent};
+ghost use Rattle.mmc_sdhci.specs.Lending.{Fits, FitsTable, IsUnmoved, Lends, LendsTable, NamesLent, TakesPlace, TakesPlaces, unlent};
 ghost use Rattle.mmc_sdhci.specs.Lent.{Room, ToGo};
 ghost use Rattle.mmc_sdhci.specs.Accesses.{IsAllowed, IsAllowed8, IsAtRest, Passes, Reads, Reads8, Writes, Writes8};
 ghost use Rattle.mmc_sdhci.specs.Moving.{HasRoom, Puts, Takes};
@@ -112,6 +112,20 @@ pub trait Registers {
         requires { IsAtRest (view self.old) }
         ensures takes { TakesPlace (view self.old) index block.new (view self.new) }
         ensures whole { length block.new ≡ 512 };
+
+    /// Fills whole blocks so, from this place on. Who has a faster way takes them by one call.
+    fn take_places(&mut self, index: usize, blocks: &mut [u8])
+        requires rest { IsAtRest (view self.old) }
+        requires room { index + length blocks.old / 512 < 2 ^ 64 }
+        ensures takes { TakesPlaces (view self.old) index blocks.new (view self.new) }
+        ensures whole { length blocks.new ≡ length blocks.old }
+    {
+        for i in 0..blocks.len() / 512 {
+            let mut block = [0; 512];
+            self.take_place(index + i, &mut block);
+            blocks[512 * i..512 * i + 512].copy_from_slice(&block);
+        }
+    }
 
     /// Takes back what was lent.
     fn take_back(&mut self)

@@ -76,7 +76,8 @@ impl Chunk {
             self.front[i].copy_from_slice(sector);
             return;
         }
-        if *sector == self.blank {
+        // one byte tells most that aren't blank
+        if sector[0] == self.erased && *sector == self.blank {
             return;
         }
         grow(&mut self.front, &self.blank, i);

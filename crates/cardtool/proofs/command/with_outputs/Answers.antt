@@ -5,13 +5,16 @@ use Rattle.cardtool.proofs.command.with_outputs.Goals as goal
 
 pub returns : goal.returns
 returns c =
-    IfOk-weaker c.arg-3.result _ _
+    IfOk-weaker c.arg-4.result _ _
     (λ r h. h.shape c.flag-force.ensures.local
     ∙ ap₂ with_rule
-    (c.in_ok-arg-2.ensures.shape c.option-save.ensures.local
+    (c.in_ok-arg-3.ensures.shape c.option-save.ensures.local
+    ∙ ap₂ with_rule
+    (c.in_ok-arg-2.ensures.shape c.flag-labels.ensures.local
     ∙ ap₂ with_rule
     (c.in_ok-arg.ensures.shape c.option-vcd.ensures.local
     ∙ ap₂ with_rule refl c.option-vcd.ensures.rule)
+    c.flag-labels.ensures.rule)
     c.option-save.ensures.rule)
     c.flag-force.ensures.rule)
-    c.arg-3.ensures
+    c.arg-4.ensures

@@ -10,7 +10,7 @@ returns g c =
     let status = c.serve_shown-bus.result.status in
     subst (λ first. IsServedOver (g.B.Bus.view first)
     (g.B.Bus.view c.into_parts-bus.result.0) c.args.script (trace_of c.args.shown) old new status)
-    c.new.ensures.bus
-    (subst (λ last. IsServedOver (g.B.Bus.view c.new.result.bus) (g.B.Bus.view last) c.args.script
+    c.wave_bus.ensures.bus
+    (subst (λ last. IsServedOver (g.B.Bus.view c.wave_bus.result.bus) (g.B.Bus.view last) c.args.script
     (trace_of c.args.shown) old new status)
     (sym c.into_parts-bus.ensures.bus) c.serve_shown-bus.ensures)

@@ -1,23 +1,21 @@
-use Rattle.std.proofs.Common.{[], ◌<◌, ◌≡◌, List, Some, length, ℕ}
-use Rattle.std.specs.Prelude.{slice_index_or}
+use Rattle.std.proofs.Common.{◌-◌, ◌≡◌, ◌≤◌, List, Some, ℕ}
 use Rattle.mmc_sdhci.specs.Controller.{Settled}
-use Rattle.mmc_sdhci.specs.Lending.{placed}
 use Rattle.mmc_sdhci.specs.Lent.{Come}
+use Rattle.mmc_sdhci.proofs.Placing.{AreFilled, AreFrom}
 use Rattle.mmc_sdhci.proofs.moving.take_places.Given as goal
 
-abbrev pub invariant-loop-i : goal.invariant-loop-i
-invariant-loop-i g l =
-    let was = l.initial.blocks in
-    let now = g.D.Blocks.blocks l.blocks in
+abbrev pub invariant-loop-done : goal.invariant-loop-done
+invariant-loop-done g l =
     let v0 = g.R.Registers.view l.initial.registers in
     let v = g.R.Registers.view l.registers in
     record {
-      placed : l.blocks ≡ placed g.D.BlocksMut.with now was l.i;
-      sized : (j : ℕ) → j < l.i → length (slice_index_or now j []) ≡ 512;
-      count : length now ≡ length (g.D.Blocks.blocks was);
+      inside : l.done ≤ l.count;
+      filled : AreFilled g.D.Blocks.blocks g.D.BlocksMut.with l.initial.blocks l.done l.blocks;
       come : Settled v0
           ((v ≡ v0)
-          × ((come : List (List ℕ)) → v0.dma.lent ≡ Some (Come come) → (j : ℕ) → j < l.i
-          → slice_index_or now j [] ≡ slice_index_or come j []))
+          × ((come : List (List ℕ)) → v0.dma.lent ≡ Some (Come come) → AreFrom come l.done (g.D.Blocks.blocks l.blocks)))
           v;
     }
+
+abbrev pub decreases-loop-done : goal.decreases-loop-done
+decreases-loop-done g l = l.count - l.done

@@ -1,0 +1,15 @@
+use Rattle.std.proofs.Common.{refl, sym, ◌∙◌}
+use Rattle.card_wave.proofs.LabelLemmas.{shows_after, shows_none}
+use Rattle.card_wave.proofs.wave_bus.WaveBusBus.begin.Goals as goal
+
+pub returns-then-label-clause-shown : goal.returns-then-label-clause-shown
+returns-then-label-clause-shown g c =
+    rw (← c.self.view_is)
+    (shows_after _ c.begin-reply.new.self _ _ _ _ _ _ (rw (c.of_frame.ensures, ← c.self-2.view_is) at c.label.ensures.labels)
+    (rw (← c.self-2.view_is) at (sym c.label.ensures.can ∙ c.if-label.true))
+    c.draw_command-self-inside.ensures refl refl refl)
+
+pub returns-else-label-clause-shown : goal.returns-else-label-clause-shown
+returns-else-label-clause-shown g c =
+    rw (← c.self.view_is)
+    (shows_none _ c.begin-reply.new.self _ _ _ _ (rw c.of_frame.ensures at c.label.ensures.labels) (sym c.label.ensures.can ∙ c.if-label.false))
