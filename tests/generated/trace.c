@@ -45,9 +45,10 @@ static int32_t ended(int32_t result, const void *card, const void *healed)
     return result;
 }
 
-/* Of a record that was answered as taken in part, the bytes that are to be put again; and of one that came in part, those to come. */
+/* Of a record that was answered as taken in part, the bytes that are to be put again; and of one that came in part, those to come: all
+   blocks of a command at most. */
 static uint64_t put_again;
-static uint8_t kept[512];
+static uint8_t kept[512 * 65535];
 static uint64_t kept_from, kept_to;
 int trace_pieces;
 uint8_t trace_no_part = NO_PART;
