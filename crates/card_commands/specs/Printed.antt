@@ -1,5 +1,5 @@
 -- What the commands print, and how they end.
-use Rattle.std.specs.Prelude.{◌≡◌, ◌⊎◌, List, Ok, Option, ℕ}
+use Rattle.std.specs.Prelude.{◌≡◌, ◌⊎◌, List, Ok, Option, Some, [], ℕ}
 use Rattle.std.specs.Io.KnownBytes.{Appends}
 use Rattle.mmc_frame.specs.declared.kind.Kind.{Kind}
 use Rattle.mmc_card_sim.specs.declared.spec.CardSpec.{CardSpec}
@@ -9,7 +9,12 @@ use Rattle.card_maker.specs.declared.wanted.Wanted.{Wanted}
 use Rattle.card_explain.specs.Frames.{frame_text}
 use Rattle.card_explain.specs.LongFrames.{long_frame_text}
 use Rattle.card_explain.specs.declared.exchange.KnownCard.{KnownCard}
+use Rattle.card_json.specs.Fields.{fields_text}
+use Rattle.card_text.specs.Parts.{without_feed}
+use Rattle.card_text.specs.Script.{lines}
 use Rattle.card_trace.specs.TraceText.{trace_text}
+use Rattle.card_trace.specs.declared.lines.Form.{Form}
+use Rattle.card_trace.specs.declared.lines.Form.TheVariants.{Objects, Words}
 use Rattle.card_decode.specs.Summaries.{PutsRegister}
 use Rattle.card_decode.specs.declared.frame.Frame.{Frame}
 use Rattle.card_decode.specs.declared.frame.Frame.TheVariants.{Long, Short}
@@ -31,8 +36,17 @@ abbrev pub frame_lines : Kind → Frame → List ℕ
 frame_lines kind (Short bytes) = frame_text kind bytes
 frame_lines kind (Long bytes) = long_frame_text bytes
 
--- what a frame says, or a register, or a trace with words after its lines
+-- the lines of a register or of a frame
+pub data IsDecoded (text : List ℕ) : Type 0 where
+  a_frame : (kind : Kind) (frame : Frame) → text ≡ frame_lines kind frame → IsDecoded text
+  a_register : (register : Register) (bytes : List ℕ) → PutsRegister register bytes (Some []) (Some text) (Ok tt) → IsDecoded text
+
+-- a text as it is, or an object for each of its lines
+abbrev pub printed_as : Form → List ℕ → List ℕ
+printed_as Words text = text
+printed_as Objects text = fields_text (lines (without_feed text))
+
+-- what a register or a frame says, or a trace
 pub data PrintsDecoded (old new : Option (List ℕ)) : Type 0 where
-  a_frame : (kind : Kind) (frame : Frame) → Appends old new (frame_lines kind frame) → PrintsDecoded old new
-  a_register : (register : Register) (bytes : List ℕ) → PutsRegister register bytes old new (Ok tt) → PrintsDecoded old new
-  a_trace : (card : KnownCard) (text : List ℕ) → Appends old new (trace_text card text) → PrintsDecoded old new
+  its_lines : (form : Form) (text : List ℕ) → IsDecoded text → Appends old new (printed_as form text) → PrintsDecoded old new
+  a_trace : (form : Form) (card : KnownCard) (text : List ℕ) → Appends old new (trace_text form card text) → PrintsDecoded old new

@@ -20,7 +20,7 @@ error says what. `serve` has 1 too, where a request failed or was refused. docs/
 /// That of `serve`.
 pub(crate) const SERVE: &str =
     "usage: cardtool serve --card FILE --script FILE [--image FILE] [--trace N]
-                      [--explain] [--vcd FILE] [--labels] [--save FILE] [--force]
+                      [--explain] [--json] [--vcd FILE] [--labels] [--save FILE] [--force]
                       [--svg FILE] [--html FILE] [--timing FILE] [--exchanges A..B]
                       [--fault RULE].. [--seed N] [--stats]
 
@@ -32,6 +32,8 @@ read may be -, for standard input.
     --image FILE   what the card holds at first, all partitions in order, 512 bytes a sector
     --trace N      shows the last N exchanges with the card after the answers, from 1 to 65536
     --explain      puts words after each exchange that is shown; without --trace it shows the last 65536
+    --json         prints JSON in place of all that: an object on a line for each answer, for each exchange that is shown, with its
+                   words, and for what happened
     --vcd FILE     writes the exchanges as a waveform of CLK, CMD and DAT0 to DAT7; FILE must not be there yet. With - it goes to
                    standard output, and the answers to standard error
     --labels       gives the waveform two texts that GTKWave shows: EXCHANGE, the number of the exchange, and PHASE, what it is: a
@@ -104,7 +106,7 @@ Status: 0 where nothing is wrong, otherwise 2.
 
 /// That of `decode`.
 pub(crate) const DECODE: &str =
-    "usage: cardtool decode REGISTER [HEX] [--kind sd|mmc] [--addresses bytes|sectors]
+    "usage: cardtool decode REGISTER [HEX] [--kind sd|mmc] [--addresses bytes|sectors] [--json]
 
 Prints the fields of a register or a frame, a line each: name, bits, value, and what it means. Without HEX the digits are read
 from standard input. Of a trace it prints the lines with words after them.
@@ -116,6 +118,8 @@ from standard input. Of a trace it prints the lines with words after them.
                    Linux shows them, or come as the 34 digits of an R2; for a trace its lines
     --kind KIND    sd where it is left out, or mmc; scr and switch are of SD cards, ext_csd of eMMC devices
     --addresses A  bytes where it is left out, or sectors: how the commands of a trace count, up to an OCR in it that says so
+    --json         prints JSON: an object on a line for each field, with its name, bits, value and meaning; of a trace for each
+                   exchange
 
 Status: 0, or 2 where the digits aren't those of such a register.
 

@@ -1,12 +1,13 @@
 -- A text is cut at its first byte `at`.
-use Rattle.std.proofs.Common.{◌≡◌, ℕ, ◌+◌, ◌≤◌, List, [], ◌∷◌, length, take, drop, None, Some, Bool, true, false, cond}
+use Rattle.std.proofs.Common.{◌≡◌, ℕ, ◌+◌, ◌≤◌, List, [], ◌∷◌, length, take, drop, None, Option, Some, Bool, true, false, cond}
 use Rattle.std.proofs.Common.{refl, ap, subst, arith, eqb, length-append, ◌++◌, ◌<◌}
 use Rattle.std.specs.List.{slice_split, position, position_or_len}
 use Rattle.std.proofs.lemmas.List.Splits.{slice_split_first, slice_split_none}
 use Rattle.std.proofs.lemmas.List.Sums.{fails_before_first}
 use Rattle.std.proofs.lemmas.List.Elements.{All-from_get_or}
 use Rattle.std.proofs.lemmas.Option.{cond_some}
-use Rattle.card_text.specs.Parts.{parts}
+use Rattle.card_text.specs.Parts.{left_parts, parts}
+use Rattle.std.specs.Borrow.{Bor}
 use Rattle.card_text.specs.Data.{repeat_of_fields}
 use Rattle.std.specs.List.{onto_first}
 use Rattle.std.proofs.lemmas.Bool.{ltb-true, ltb-false}
@@ -58,3 +59,8 @@ three a b (p ∷ ps) h = refl
 pub two_stars : (a b : List ℕ) (text : List ℕ) → None ≡ repeat_of_fields (a ∷ b ∷ parts 42 text)
 unfolding parts
 two_stars a b text = three a b _ (split_some _ text)
+
+-- where no text is left there is no part
+pub none_left : (at : ℕ) (rest : Option (Bor (List ℕ))) → ((text : Bor (List ℕ)) → rest ≡ Some text → ⊥) → left_parts at rest ≡ []
+none_left at None none = refl
+none_left at (Some text) none = absurd (none text refl)

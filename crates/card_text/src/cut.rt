@@ -1,6 +1,6 @@
-// Cuts a text at a byte.
+// Cuts a text at a byte, and a line feed from its end.
 ghost use Rattle.std.specs.Prelude.{◌≡◌, ◌==◌, position};
-ghost use Rattle.card_text.specs.Parts.{Cuts};
+ghost use Rattle.card_text.specs.Parts.{Cuts, without_feed};
 
 // Where the first byte `at` stands.
 fn place_of(text: &[u8], at: u8) -> Option<usize>
@@ -16,5 +16,16 @@ pub fn cut(text: &[u8], at: u8) -> (&[u8], Option<&[u8]>)
     match place_of(text, at) {
         Some(place) => (&text[..place], Some(&text[place + 1..])),
         None => (text, None),
+    }
+}
+
+/// A text without the line feed that ends its last line.
+pub fn without_feed(text: &[u8]) -> &[u8]
+    ensures { result.now ≡ without_feed text.now }
+{
+    if text.is_empty() || text[text.len() - 1] != b'\n' {
+        text
+    } else {
+        &text[..text.len() - 1]
     }
 }

@@ -1,4 +1,4 @@
-//! A printed trace read again: the exchange of each of its lines, what it tells of the card, and the lines with words after them.
+//! A printed trace read again: the exchange of each of its lines, what it tells of the card, and the lines with words after them, or as JSON.
 #![tactic(auto)]
 
 mod exchange_line;
@@ -7,4 +7,4 @@ mod lines;
 
 pub use exchange_line::read_exchange;
 pub use known::known_after;
-pub use lines::put_trace;
+pub use lines::{Form, put_trace};

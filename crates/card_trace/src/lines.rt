@@ -1,16 +1,25 @@
 // A trace with words after its lines.
-ghost use Rattle.std.specs.Prelude.{IfOk, OnOk, false, ◌++◌, ◌≡◌};
+ghost use Rattle.std.specs.Prelude.{[], IfOk, OnOk, false, ◌++◌, ◌∷◌, ◌≡◌};
 ghost use Rattle.card_explain.specs.Explained.{padded};
 ghost use Rattle.card_explain.specs.declared.line.TheConstants.{COLUMN};
 ghost use Rattle.card_text.specs.Script.{lines};
-ghost use Rattle.card_trace.specs.TraceText.{read_on, said_from, said_of, trace_text, without_feed};
+ghost use Rattle.card_trace.specs.TraceText.{object_of, read_on, said_from, said_of, trace_text, words_of};
 
 use crate::exchange_line::read_exchange;
 use crate::known::known_after;
 use card_explain::{COLUMN, KnownCard, announces_application_command, put_exchange};
-use card_text::cut::cut;
+use card_text::cut::{cut, without_feed};
 use mmc_bus::Exchange;
 use std::alloc::{AllocError, Global};
+
+/// In which form the exchanges of a trace are said.
+#[derive(Clone, Copy, Debug, PartialEq, Eq)]
+pub enum Form {
+    /// Each line with words after it.
+    Words,
+    /// JSON: an object on a line for each exchange.
+    Objects,
+}
 
 /// What the lines so far tell of what comes.
 #[derive(Clone, Copy)]
@@ -48,15 +57,14 @@ fn padded(alloc: Global, line: &[u8]) -> Result<Vec<u8>, AllocError>
 }
 
 // A line, and after it the exchange in words, where it is one.
-#[tactic(auto, unfolding(crate::specs::TraceText::said_of))]
-fn put_said(
+fn put_words(
     alloc: Global,
     out: &mut Vec<u8>,
     reading: Reading,
     line: &[u8],
     exchange: Option<Exchange>,
 ) -> Result<(), AllocError>
-    ensures { OnOk result (out.new.items ≡ out.old.items ++ said_of reading line.now exchange) }
+    ensures { OnOk result (out.new.items ≡ out.old.items ++ words_of reading line.now exchange) }
 {
     let Some(exchange) = exchange else {
         out.extend_from_slice(line)?;
@@ -69,14 +77,54 @@ fn put_said(
     put_exchange(out, card, reading.is_app, &exchange)
 }
 
-// A text without the line feed that ends its last line.
-fn without_feed(text: &[u8]) -> &[u8]
-    ensures { result.now ≡ without_feed text.now }
+// A line as words, with a line feed.
+fn put_words_line(
+    alloc: Global,
+    out: &mut Vec<u8>,
+    reading: Reading,
+    line: &[u8],
+    exchange: Option<Exchange>,
+) -> Result<(), AllocError>
+    ensures { OnOk result (out.new.items ≡ out.old.items ++ (words_of reading line.now exchange ++ 10 ∷ [])) }
 {
-    if text.is_empty() || text[text.len() - 1] != b'\n' {
-        text
-    } else {
-        &text[..text.len() - 1]
+    put_words(alloc, out, reading, line, exchange)?;
+    out.push(b'\n')?;
+    Ok(())
+}
+
+// An exchange as an object.
+fn put_object(
+    alloc: Global,
+    out: &mut Vec<u8>,
+    reading: Reading,
+    exchange: Option<Exchange>,
+) -> Result<(), AllocError>
+    ensures { OnOk result (out.new.items ≡ out.old.items ++ object_of reading exchange) }
+{
+    match exchange {
+        None => Ok(()),
+        Some(exchange) => {
+            let card = known_after(reading.card, &exchange);
+            card_json::put_exchange(alloc, out, card, reading.is_app, &exchange)
+        }
+    }
+}
+
+// What is said of a line in a form.
+#[tactic(auto, unfolding(crate::specs::TraceText::said_of))]
+fn put_said(
+    alloc: Global,
+    out: &mut Vec<u8>,
+    form: Form,
+    reading: Reading,
+    line: &[u8],
+    exchange: Option<Exchange>,
+) -> Result<(), AllocError>
+    ensures { OnOk result (out.new.items ≡ out.old.items ++ said_of form reading line.now exchange) }
+{
+    match form {
+        Form::Words => put_words_line(alloc, out, reading, line, exchange),
+        Form::Objects => put_object(alloc, out, reading, exchange),
     }
 }
 
@@ -84,10 +132,11 @@ fn without_feed(text: &[u8]) -> &[u8]
 fn put_lines(
     alloc: Global,
     out: &mut Vec<u8>,
+    form: Form,
     card: KnownCard,
     text: &[u8],
 ) -> Result<(), AllocError>
-    ensures { OnOk result (out.new.items ≡ out.old.items ++ said_from (record { card = card; is_app = false }) (lines text.now)) }
+    ensures { OnOk result (out.new.items ≡ out.old.items ++ said_from form (record { card = card; is_app = false }) (lines text.now)) }
 {
     let mut reading = Reading {
         card,
@@ -97,26 +146,27 @@ fn put_lines(
     while let Some(text) = rest {
         let (line, others) = cut(text, b'\n');
         let exchange = read_exchange(line);
-        put_said(alloc, out, reading, line, exchange)?;
-        out.push(b'\n')?;
+        put_said(alloc, out, form, reading, line, exchange)?;
         reading = reading.after(exchange);
         rest = others;
     }
     Ok(())
 }
 
-/// Writes each line of a text, and after it, where it is that of an exchange, the exchange in words, as `serve --explain` says them.
-/// What isn't told of the card by the lines before is as `card` says.
+/// Writes what is said of a trace: each line of a text, and after it, where it is that of an exchange, the exchange in words, as
+/// `serve --explain` says them; or an object for each line that is one. What isn't told of the card by the lines before is as `card`
+/// says.
 ///
 /// # Errors
 /// `AllocError` where memory is refused.
 pub fn put_trace(
     alloc: Global,
     out: &mut Vec<u8>,
+    form: Form,
     card: KnownCard,
     text: &[u8],
 ) -> Result<(), AllocError>
-    ensures { OnOk result (out.new.items ≡ out.old.items ++ trace_text card text.now) }
+    ensures { OnOk result (out.new.items ≡ out.old.items ++ trace_text form card text.now) }
 {
-    put_lines(alloc, out, card, without_feed(text))
+    put_lines(alloc, out, form, card, without_feed(text))
 }

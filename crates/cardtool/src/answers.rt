@@ -5,9 +5,6 @@ use std::alloc::{AllocError, Global};
 use std::cell::Cell;
 use std::io::{self, Write};
 
-// The most bytes that are kept.
-const MOST: usize = 65_536;
-
 /// A line that was kept.
 #[derive(Clone, Copy)]
 pub struct KeptLine {
@@ -37,10 +34,10 @@ impl Kept {
         Ok(())
     }
 
-    // Adds these bytes, as many as there is room for.
-    fn keep(&mut self, bytes: &[u8], count: u64) -> Result<(), AllocError> {
+    // Adds these bytes, until so many are kept.
+    fn keep(&mut self, bytes: &[u8], count: u64, most: usize) -> Result<(), AllocError> {
         for byte in bytes {
-            if self.text.len() < MOST {
+            if self.text.len() < most {
                 self.push(*byte, count)?;
             }
         }
@@ -53,28 +50,25 @@ impl Kept {
 pub struct KeepingWriter<'a, W: Write + Drop> {
     out: W,
     count: &'a Cell<u64>,
+    most: usize,
     kept: Option<Kept>,
 }
 
 impl<'a, W: Write + Drop> KeepingWriter<'a, W> {
-    /// A writer over this one, which keeps something where that is asked for.
-    pub fn new(
-        alloc: Global,
-        out: W,
-        count: &'a Cell<u64>,
-        is_keeping: bool,
-    ) -> KeepingWriter<'a, W>
+    /// A writer over this one, which keeps so many bytes at most.
+    pub fn new(alloc: Global, out: W, count: &'a Cell<u64>, most: usize) -> KeepingWriter<'a, W>
         ensures { result.out ≡ out }
     {
-        let kept = if is_keeping {
-            Some(Kept {
-                text: Vec::new(alloc),
-                lines: Vec::new(alloc),
-            })
-        } else {
-            None
-        };
-        KeepingWriter { out, count, kept }
+        let kept = Some(Kept {
+            text: Vec::new(alloc),
+            lines: Vec::new(alloc),
+        });
+        KeepingWriter {
+            out,
+            count,
+            most,
+            kept,
+        }
     }
 
     // Keeps these bytes; where memory is refused, nothing any more.
@@ -83,17 +77,23 @@ impl<'a, W: Write + Drop> KeepingWriter<'a, W> {
     {
         let count = self.count.get();
         if let Some(kept) = &mut self.kept {
-            if kept.keep(bytes, count).is_err() {
+            if kept.keep(bytes, count, self.most).is_err() {
                 self.kept = None;
             }
         }
     }
 
-    /// What was kept, if anything was. From now on nothing is.
-    pub fn take_kept(&mut self) -> Option<Kept>
-        ensures { self.new.out ≡ self.old.out }
+    /// The writer inside, and what was kept, unless memory was refused for it.
+    pub fn into_parts(self) -> (W, Option<Kept>)
+        ensures { result.0 ≡ self.entry.out }
     {
-        self.kept.take()
+        let KeepingWriter {
+            out,
+            count: _,
+            most: _,
+            kept,
+        } = self;
+        (out, kept)
     }
 }
 

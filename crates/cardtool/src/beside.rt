@@ -1,4 +1,4 @@
-// What the words of `serve` ask for beside what `Options` has: faults by rules, and a line that says what happened.
+// What the words of `serve` ask for beside what `Options` has: faults by rules, a line that says what happened, and JSON.
 use crate::options::matched;
 use card_rules::Rules;
 use card_served::{ServeFault, rules_given};
@@ -13,18 +13,20 @@ pub struct Beside {
     pub stats: bool,
     /// Whether files that are written replace those of their names.
     pub replaces: bool,
+    /// Whether all is printed as JSON.
+    pub json: bool,
 }
 
 impl Beside {
     /// Whether anything is.
     pub fn asks(&self) -> bool {
-        self.stats || !self.rules.rules.is_empty()
+        self.stats || self.json || !self.rules.rules.is_empty()
     }
 }
 
 // Whether a word may ask for any of it, so that words that don't aren't read twice.
 fn may_ask(word: &str) -> bool {
-    ["--fault", "--seed", "--stats", "--force"]
+    ["--fault", "--seed", "--stats", "--force", "--json"]
         .iter()
         .any(|option| word.starts_with(option))
 }
@@ -39,6 +41,7 @@ pub fn beside_given<'a>(alloc: Global, words: &'a [&'a str]) -> Result<Beside, S
             rules: Rules::new(Vec::new(alloc), 0),
             stats: false,
             replaces: false,
+            json: false,
         });
     }
     let Ok(matches) = matched(alloc, words) else {
@@ -48,5 +51,6 @@ pub fn beside_given<'a>(alloc: Global, words: &'a [&'a str]) -> Result<Beside, S
         rules: rules_given(alloc, &matches)?,
         stats: matches.get_str("stats") == Some("true"),
         replaces: matches.get_str("force") == Some("true"),
+        json: matches.get_str("json") == Some("true"),
     })
 }

@@ -1,6 +1,6 @@
 // The trace with words after each of its lines, and what was met and healed.
 use crate::answers::Kept;
-use crate::messages::said;
+use crate::messages::{said, shown};
 use crate::more::Served;
 use card_explain::{KnownCard, Note, Numbered, put_lines};
 use card_picture::Message;
@@ -161,7 +161,7 @@ pub fn put_moments<W: Write>(
     };
     let said = said(alloc, kept)?;
     for message in said.as_slice() {
-        if message.is_answer && put_moment(out, message).is_err() {
+        if message.is_answer && put_moment(out, &shown(*message)).is_err() {
             return Err(ServeFault::Write);
         }
     }

@@ -25,7 +25,15 @@ fn message(line: &[u8], after: u64) -> Message<'_> {
     Message {
         after,
         is_answer: is_answer(line),
-        words: &line[..line.len().min(MOST)],
+        words: line,
+    }
+}
+
+/// The message with as much of its line as is shown.
+pub fn shown(message: Message<'_>) -> Message<'_> {
+    Message {
+        words: &message.words[..message.words.len().min(MOST)],
+        ..message
     }
 }
 
@@ -68,7 +76,7 @@ pub fn messages<'a>(
         let is_shown = first.numbered.number <= message.after
             && message.after <= last.numbered.number.saturating_add(1);
         if is_shown {
-            messages.push(*message)?;
+            messages.push(shown(*message))?;
         }
     }
     Ok(messages)

@@ -10,6 +10,7 @@ use crate::drawing::{Drawings, begun_drawings, discard, draw};
 use crate::explained::{kept_with_notes, known_card, put_explained, put_moments, put_unexplained};
 use crate::files::{FilesRead, read_files};
 use crate::more::{Drawn, Served, Shown, serve_counted};
+use crate::objects::put_objects;
 use crate::options_given::Options;
 use crate::pictures::Pictures;
 use crate::serve::serve;
@@ -167,6 +168,15 @@ fn ended(
     }
 }
 
+// What is said besides, and how.
+#[derive(Clone, Copy)]
+struct Said {
+    // Whether a line on standard error says what happened.
+    stats: bool,
+    // Whether all is printed as JSON.
+    json: bool,
+}
+
 // Writes out what is left of the files, and draws.
 fn finish_files<V: Write + Drop, F: Write + Drop>(
     rt: &(impl Files + AllocGlobal),
@@ -191,7 +201,103 @@ fn finish_files<V: Write + Drop, F: Write + Drop>(
     pictured
 }
 
-// Serves a card, and explains, draws and saves as the options say.
+// A script that was served, and where its answers were written.
+#[derive(Drop)]
+struct Played<V: Write + Drop, W: Write + Drop> {
+    // How it was served.
+    served: Served<RuledCard>,
+    // The waveform.
+    drawn: Option<Drawn<V>>,
+    // The answers, unless memory was refused for them.
+    answers: Option<Kept>,
+    // Where they were written.
+    out: W,
+}
+
+// Serves a script, and keeps so many bytes of the answers.
+fn serve_keeping<V: Write + Drop, W: Write + Drop>(
+    alloc: Global,
+    card: RuledCard,
+    script: Script,
+    shown: Shown,
+    wave: Option<V>,
+    labels: bool,
+    most: usize,
+    out: W,
+) -> Played<V, W>
+    requires { IsShown shown }
+{
+    let count = Cell::new(0);
+    let mut out = KeepingWriter::new(alloc, out, &count, most);
+    let (served, drawn) = serve_counted(alloc, card, &count, script, shown, wave, labels, &mut out);
+    let (out, answers) = out.into_parts();
+    Played {
+        served,
+        drawn,
+        answers,
+        out,
+    }
+}
+
+// The same, and nothing is written of the answers, which are all kept.
+fn serve_silently<V: Write + Drop, W: Write + Drop>(
+    alloc: Global,
+    card: RuledCard,
+    script: Script,
+    shown: Shown,
+    wave: Option<V>,
+    labels: bool,
+    out: W,
+) -> Played<V, W>
+    requires { IsShown shown }
+{
+    let Played {
+        served,
+        drawn,
+        answers,
+        out: _,
+    } = serve_keeping(
+        alloc,
+        card,
+        script,
+        shown,
+        wave,
+        labels,
+        usize::MAX,
+        io::sink(),
+    );
+    Played {
+        served,
+        drawn,
+        answers,
+        out,
+    }
+}
+
+// How many bytes of the answers pictures and words are made of at most.
+const MOST_KEPT: usize = 65_536;
+
+// The same, as the options ask for it.
+fn serve_as_asked<V: Write + Drop, W: Write + Drop>(
+    alloc: Global,
+    card: RuledCard,
+    script: Script,
+    options: &Options<'_>,
+    pictures: &Pictures<'_>,
+    json: bool,
+    wave: Option<V>,
+    out: W,
+) -> Played<V, W> {
+    let shown = shown(options, pictures.asks() || json);
+    let labels = pictures.labels;
+    if json {
+        serve_silently(alloc, card, script, shown, wave, labels, out)
+    } else {
+        serve_keeping(alloc, card, script, shown, wave, labels, MOST_KEPT, out)
+    }
+}
+
+// Serves a card, and explains, draws and saves as the options say, or prints all as JSON.
 fn serve_card<R: Files + Eprint + AllocGlobal, V: Write + Drop, F: Write + Drop, W: Write + Drop>(
     rt: &R,
     card: RuledCard,
@@ -200,7 +306,7 @@ fn serve_card<R: Files + Eprint + AllocGlobal, V: Write + Drop, F: Write + Drop,
     script: Script,
     options: &Options<'_>,
     pictures: &Pictures<'_>,
-    stats: bool,
+    said: Said,
     files: Begun<'_, V, F>,
     out: W,
 ) -> Result<u8, ServeFault> {
@@ -210,15 +316,27 @@ fn serve_card<R: Files + Eprint + AllocGlobal, V: Write + Drop, F: Write + Drop,
         image,
         drawings,
     } = files;
-    let count = Cell::new(0);
-    let keeps = pictures.asks() || options.explains;
-    let mut out = KeepingWriter::new(alloc, out, &count, keeps);
-    let shown = shown(options, pictures.asks());
-    let labels = pictures.labels;
-    let (served, drawn) = serve_counted(alloc, card, &count, script, shown, wave, labels, &mut out);
-    let answers = out.take_kept();
+    let Played {
+        served,
+        drawn,
+        answers,
+        mut out,
+    } = serve_as_asked(alloc, card, script, options, pictures, said.json, wave, out);
     let noted = kept_with_notes(alloc, &served, plan);
-    let printed = put_exchanges(alloc, options, known, &served, &noted, &answers, &mut out);
+    let printed = if said.json {
+        put_objects(
+            alloc,
+            most_shown(options),
+            known,
+            &served,
+            &noted,
+            &answers,
+            plan.len(),
+            &mut out,
+        )
+    } else {
+        put_exchanges(alloc, options, known, &served, &noted, &answers, &mut out)
+    };
     let flushed = out.flush();
     let files = finish_files(
         rt,
@@ -232,7 +350,7 @@ fn serve_card<R: Files + Eprint + AllocGlobal, V: Write + Drop, F: Write + Drop,
         drawings,
         drawn,
     );
-    if stats {
+    if said.stats {
         put_stats(rt, &served.bus, plan.len(), served.healed);
     }
     put_idle(rt, &served.bus, pictures.exchanges);
@@ -254,7 +372,9 @@ fn serve_more<'a, R: Files + Print + Eprint + AllocGlobal, C: Read, S: Read, I: 
         rules,
         stats,
         replaces,
+        json,
     } = beside;
+    let said = Said { stats, json };
     let FilesRead { spec, plan, script } = read_files(alloc, card, script, image)?;
     let known = known_card(&spec);
     let card = built(alloc, spec, plan.as_slice())?;
@@ -264,7 +384,7 @@ fn serve_more<'a, R: Files + Print + Eprint + AllocGlobal, C: Read, S: Read, I: 
         let out = stream(rt, "/dev/stderr", ServeFault::Write)?;
         let files = begun_files(rt, options, pictures, replaces)?;
         return serve_card(
-            rt, card, known, plan, script, options, pictures, stats, files, out,
+            rt, card, known, plan, script, options, pictures, said, files, out,
         );
     }
     let Ok(out) = BufWriter::new(alloc, io::writer(rt)) else {
@@ -272,7 +392,7 @@ fn serve_more<'a, R: Files + Print + Eprint + AllocGlobal, C: Read, S: Read, I: 
     };
     let files = begun_files(rt, options, pictures, replaces)?;
     serve_card(
-        rt, card, known, plan, script, options, pictures, stats, files, out,
+        rt, card, known, plan, script, options, pictures, said, files, out,
     )
 }
 

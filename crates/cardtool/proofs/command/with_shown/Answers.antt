@@ -5,10 +5,13 @@ use Rattle.cardtool.proofs.command.with_shown.Goals as goal
 
 pub returns : goal.returns
 returns c =
-    IfOk-weaker c.arg-2.result _ _
-    (λ r h. h.shape c.flag-explain.ensures.local
+    IfOk-weaker c.arg-3.result _ _
+    (λ r h. h.shape c.flag-json.ensures.local
+    ∙ ap₂ with_rule
+    (c.in_ok-arg-2.ensures.shape c.flag-explain.ensures.local
     ∙ ap₂ with_rule
     (c.in_ok-arg.ensures.shape c.option-trace.ensures.local
     ∙ ap₂ with_rule refl c.option-trace.ensures.rule)
     c.flag-explain.ensures.rule)
-    c.arg-2.ensures
+    c.flag-json.ensures.rule)
+    c.arg-3.ensures

@@ -1,0 +1,5 @@
+pub mod Answers
+pub mod Exchanges
+pub mod Fields
+pub mod Objects
+pub mod Words
