@@ -35,6 +35,14 @@ fn put_steps(
     Ok(())
 }
 
+// A member that counts something.
+fn counted(name: &'static str, count: u64) -> Member<'static> {
+    Member {
+        name,
+        said: Said::Number(count),
+    }
+}
+
 // What was met and healed, as `--stats` says it.
 fn put_statistics(
     alloc: Global,
@@ -45,50 +53,17 @@ fn put_statistics(
     let card = &served.bus.card;
     let healed = served.healed;
     let members = [
-        Member {
-            name: "exchanges",
-            said: Said::Number(card.exchanges()),
-        },
-        Member {
-            name: "fell",
-            said: Said::Number(card.faults()),
-        },
-        Member {
-            name: "planned",
-            said: Said::Number(planned),
-        },
-        Member {
-            name: "attempts",
-            said: Said::Number(healed.attempts),
-        },
-        Member {
-            name: "failed_by_answer",
-            said: Said::Number(healed.by_answer),
-        },
-        Member {
-            name: "failed_by_data",
-            said: Said::Number(healed.by_data),
-        },
-        Member {
-            name: "failed_by_status",
-            said: Said::Number(healed.by_status),
-        },
-        Member {
-            name: "failed_by_busy",
-            said: Said::Number(healed.by_busy),
-        },
-        Member {
-            name: "failed_by_recovery",
-            said: Said::Number(healed.by_recovery),
-        },
-        Member {
-            name: "settled",
-            said: Said::Number(healed.settlings),
-        },
-        Member {
-            name: "reset",
-            said: Said::Number(healed.resets),
-        },
+        counted("exchanges", card.exchanges()),
+        counted("fell", card.faults()),
+        counted("planned", planned),
+        counted("attempts", healed.attempts),
+        counted("failed_by_answer", healed.by_answer),
+        counted("failed_by_data", healed.by_data),
+        counted("failed_by_status", healed.by_status),
+        counted("failed_by_busy", healed.by_busy),
+        counted("failed_by_recovery", healed.by_recovery),
+        counted("settled", healed.settlings),
+        counted("reset", healed.resets),
     ];
     put_object(alloc, text, &members)
 }

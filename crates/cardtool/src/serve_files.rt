@@ -297,6 +297,46 @@ fn serve_as_asked<V: Write + Drop, W: Write + Drop>(
     }
 }
 
+// Explains, draws and saves a script that was served, or prints all as JSON.
+fn finish<V: Write + Drop, F: Write + Drop, W: Write + Drop>(
+    rt: &(impl Files + Eprint + AllocGlobal),
+    known: KnownCard,
+    plan: &[(u64, Fault)],
+    options: &Options<'_>,
+    pictures: &Pictures<'_>,
+    said: Said,
+    image: Option<WholeFile<'_, F>>,
+    drawings: Drawings<'_, F>,
+    played: Played<V, W>,
+) -> Result<u8, ServeFault> {
+    let alloc = rt.alloc();
+    let Played {
+        served,
+        drawn,
+        answers,
+        mut out,
+    } = played;
+    let many = plan.len();
+    let noted = kept_with_notes(alloc, &served, plan);
+    let printed = if said.json {
+        let most = most_shown(options);
+        put_objects(
+            alloc, most, known, &served, &noted, &answers, many, &mut out,
+        )
+    } else {
+        put_exchanges(alloc, options, known, &served, &noted, &answers, &mut out)
+    };
+    let flushed = out.flush();
+    let files = finish_files(
+        rt, pictures, known, &served, &noted, &answers, many, image, drawings, drawn,
+    );
+    if said.stats {
+        put_stats(rt, &served.bus, many, served.healed);
+    }
+    put_idle(rt, &served.bus, pictures.exchanges);
+    ended(files, served.status, printed, flushed)
+}
+
 // Serves a card, and explains, draws and saves as the options say, or prints all as JSON.
 fn serve_card<R: Files + Eprint + AllocGlobal, V: Write + Drop, F: Write + Drop, W: Write + Drop>(
     rt: &R,
@@ -310,51 +350,16 @@ fn serve_card<R: Files + Eprint + AllocGlobal, V: Write + Drop, F: Write + Drop,
     files: Begun<'_, V, F>,
     out: W,
 ) -> Result<u8, ServeFault> {
-    let alloc = rt.alloc();
     let Begun {
         wave,
         image,
         drawings,
     } = files;
-    let Played {
-        served,
-        drawn,
-        answers,
-        mut out,
-    } = serve_as_asked(alloc, card, script, options, pictures, said.json, wave, out);
-    let noted = kept_with_notes(alloc, &served, plan);
-    let printed = if said.json {
-        put_objects(
-            alloc,
-            most_shown(options),
-            known,
-            &served,
-            &noted,
-            &answers,
-            plan.len(),
-            &mut out,
-        )
-    } else {
-        put_exchanges(alloc, options, known, &served, &noted, &answers, &mut out)
-    };
-    let flushed = out.flush();
-    let files = finish_files(
-        rt,
-        pictures,
-        known,
-        &served,
-        &noted,
-        &answers,
-        plan.len(),
-        image,
-        drawings,
-        drawn,
-    );
-    if said.stats {
-        put_stats(rt, &served.bus, plan.len(), served.healed);
-    }
-    put_idle(rt, &served.bus, pictures.exchanges);
-    ended(files, served.status, printed, flushed)
+    let alloc = rt.alloc();
+    let played = serve_as_asked(alloc, card, script, options, pictures, said.json, wave, out);
+    finish(
+        rt, known, plan, options, pictures, said, image, drawings, played,
+    )
 }
 
 // Serves, and explains, draws and saves as the options say: on standard error where the waveform has standard output.
