@@ -12,8 +12,11 @@ use std::alloc::Global;
 use std::io::{self, BufReader, BufWriter, Input, Read, Write};
 use std::rt::Files;
 
-// How many bytes of the input are read at once, and of the output written: so few that they are still in a cache when they are served.
-const AT_ONCE: usize = 32_768;
+// How many bytes of the input are read at once: so many that what a client sent while a request was served comes by one read.
+const READ_AT_ONCE: usize = 524_288;
+
+// How many bytes of the output are written at once: so few that they are still in a cache.
+const WRITTEN_AT_ONCE: usize = 32_768;
 
 // The device of a card, which has the partition that is to go by the empty name.
 fn opened(
@@ -40,10 +43,10 @@ fn serve_streams<R: Read + Drop, W: Write + Drop>(
     input: R,
     out: W,
 ) -> Result<(), NbdFault> {
-    let Ok(mut input) = BufReader::with_capacity(alloc, AT_ONCE, input) else {
+    let Ok(mut input) = BufReader::with_capacity(alloc, READ_AT_ONCE, input) else {
         return Err(NbdFault::Unserved(ServeFault::NoMemory));
     };
-    let Ok(mut out) = BufWriter::with_capacity(alloc, AT_ONCE, out) else {
+    let Ok(mut out) = BufWriter::with_capacity(alloc, WRITTEN_AT_ONCE, out) else {
         return Err(NbdFault::Unserved(ServeFault::NoMemory));
     };
     match serve(alloc, desk, default, &mut input, &mut out) {

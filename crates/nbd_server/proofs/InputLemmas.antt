@@ -1,5 +1,6 @@
 -- Bytes that are read and written, one after the other.
-use Rattle.std.proofs.Common.{[], ap, append_assoc, arith, length, refl, subst, sym, take, ◌+◌, ◌++◌, ◌∙◌, ◌≡◌, ◌≢◌, ◌≤◌, Err, List, None, Ok, Option, Result, Some, ℕ}
+use Rattle.std.proofs.Common.{[], ap, append_assoc, arith, is_err, length, refl, false, subst, sym, take, ◌+◌, ◌++◌, ◌∙◌, ◌≡◌, ◌≢◌, ◌≤◌, Err, List, None, Ok, Option, Result, Some, ℕ}
+use Rattle.std.proofs.lemmas.Bool.{false≢true}
 use Rattle.std.specs.Prelude.{IfSome, OnOk}
 use Rattle.std.specs.Io.KnownBytes.{Appends, Consumes, IsAtEnd, Keeps}
 use Rattle.text_out.specs.Writing.{Writes}
@@ -106,3 +107,10 @@ pub has_write : (buffer head after : List ℕ) (header : RequestHeader) → head
     → length after + 28 ≡ length buffer → request_in head ≡ Some header → header.length ≤ length after → HasWhole buffer
 has_write buffer head after header front rest is fits =
     has_whole buffer head after header front rest is (data_within header.command header.length (length after) fits)
+
+-- Pieces of data.
+
+-- what holds where there was no error
+pub was_ok : {X E : Type 0} (r : Result X E) (P : Type 0) → is_err r ≡ false → OnOk r P → P
+was_ok (Ok x) P is h = h
+was_ok (Err e) P is h = absurd (false≢true (sym is))

@@ -1,4 +1,5 @@
 pub mod AnswerLemmas
+pub mod DataLemmas
 pub mod DeskLemmas
 pub mod InputLemmas
 pub mod LongLemmas

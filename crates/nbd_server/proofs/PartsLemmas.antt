@@ -2,8 +2,9 @@
 use Rattle.std.proofs.Common.{[], Err, Ok, Result, ap, append-nil, append_assoc, arith, drop, inl, inr, length, refl, subst, sym, take, ◌*◌, ◌+◌, ◌++◌, ◌-◌, ◌<◌, ◌∙◌, ◌≡◌, ◌≤◌, ◌∷◌, ◌⊎◌, List, suc, zero, ℕ}
 use Rattle.std.proofs.Math.Numerals.{suc-eq-add-one}
 use Rattle.std.proofs.Math.Seq.{drop-append_seam, take-add}
-use Rattle.std.proofs.lemmas.List.{drop-append-le, length-append, length-drop, take-append-le, take_all}
-use Rattle.std.proofs.lemmas.Grind.{flat_map-append}
+use Rattle.std.proofs.lemmas.List.{drop-append-le, drop-take, drop_all, length-append, length-drop, take-append-le, take-take, take_all, take_min}
+use Rattle.std.proofs.lemmas.Grind.{div_ceil_times, flat_map-append}
+use Rattle.std.specs.Int.{div_ceil}
 use Rattle.std.proofs.lemmas.List.Sums.{sum_by-append, sum_by-cons}
 use Rattle.std.proofs.lemmas.List.Sorted.{Contains-permutation, IsPermutation-append, IsPermutation-refl, IsPermutation-sym, IsPermutation-trans}
 use Rattle.std.proofs.lemmas.List.{get_or_append_left, get_or_push}
@@ -274,19 +275,6 @@ pub if_err_then : {X E : Type 0} (r : Result X E) (P Q : E → Type 0) → ((e :
 if_err_then (Ok x) P Q f h = tt
 if_err_then (Err e) P Q f h = f e h
 
-length_of : (n m k : ℕ) → m ≡ k → 512 * (16 * n) + 512 * m - 512 * (16 * n) ≡ 512 * k
-length_of n m k same = omega (arith, same)
-
-place_of : (n : ℕ) → 512 * (16 * n) ≡ 8192 * n
-place_of n = omega arith
-
--- the slice that a part is
-pub slice_of_part : (bytes : List ℕ) (count n m : ℕ) → m ≡ sectors_of count n
-    → take (512 * (16 * n) + 512 * m - 512 * (16 * n)) (drop (512 * (16 * n)) bytes) ≡ bytes_of_part bytes count n
-slice_of_part bytes count n m same =
-    ap (λ k. take k (drop (512 * (16 * n)) bytes)) (length_of n m (sectors_of count n) same)
-    ∙ ap (λ k. take (512 * sectors_of count n) (drop k bytes)) (place_of n)
-
 -- what follows from what holds of the value follows where there is one
 pub if_ok_then : {X E : Type 0} (r : Result X E) (P Q : X → Type 0) → ((x : X) → P x → Q x) → IfOk r P → IfOk r Q
 if_ok_then (Ok x) P Q f h = f x h
@@ -321,11 +309,48 @@ window_more windows count n acts more bytes piece h = record {
       ∙ ap (λ xs. xs ++ (piece ++ [])) h.of_bytes ∙ ap (λ xs. bytes ++ xs) (append-nil piece);
 }
 
-place_after : (done n m : ℕ) → m ≡ 512 * done + 512 * n - 512 * done → 512 * (done + n) ≡ 512 * done + m
-place_after done n m same = omega (arith, same)
-
 -- the first bytes, and then those of the next window
-pub bytes_next : (done n m : ℕ) (bytes : List ℕ) → m ≡ 512 * done + 512 * n - 512 * done
-    → take (512 * (done + n)) bytes ≡ take (512 * done) bytes ++ take m (drop (512 * done) bytes)
-bytes_next done n m bytes same =
-    ap (λ k. take k bytes) (place_after done n m same) ∙ take-add (512 * done) m bytes
+pub bytes_next : (done n : ℕ) (bytes : List ℕ)
+    → take (512 * (done + n)) bytes ≡ take (512 * done) bytes ++ take (512 * n) (drop (512 * done) bytes)
+bytes_next done n bytes = ap (λ k. take k bytes) (omega arith) ∙ take-add (512 * done) (512 * n) bytes
+
+-- Bytes that are taken out part by part, of a whole window or of all that are left.
+
+long_enough : (count n long : ℕ) → 512 * count ≤ long → 16 * n < count → (long ≡ 512 * count) ⊎ (count ≡ 4096)
+    → min 8192 (long - 8192 * n) ≡ 512 * sectors_of count n
+long_enough count n long some more (inl same) = omega (arith, some, more, same)
+long_enough count n long some more (inr same) = omega (arith, some, more, same)
+
+window_or_rest : (count long : ℕ) → (count < 4096) ⊎ (count ≡ 4096) → (count < 4096 → long ≡ 512 * count)
+    → (long ≡ 512 * count) ⊎ (count ≡ 4096)
+window_or_rest count long (inl less) rest = inl (rest less)
+window_or_rest count long (inr same) rest = inr same
+
+pub whole_or_rest : (count long : ℕ) → count ≤ 4096 → (count < 4096 → long ≡ 512 * count)
+    → (long ≡ 512 * count) ⊎ (count ≡ 4096)
+whole_or_rest count long few rest = window_or_rest count long (less_or_same count 4096 (omega (arith, few))) rest
+
+-- the next piece is the next part
+pub next_part : (bytes : List ℕ) (count n : ℕ) → 512 * count ≤ length bytes → 16 * n < count
+    → (length bytes ≡ 512 * count) ⊎ (count ≡ 4096)
+    → take 8192 (drop (8192 * n) bytes) ≡ bytes_of_part (take (512 * count) bytes) count n
+next_part bytes count n some more which =
+    let left = drop (8192 * n) bytes in
+    let long = length-drop (8192 * n) bytes in
+    let room : ℕ = 512 * count - 8192 * n in
+    sym (take_min 8192 left)
+    ∙ ap (λ k. take k left) (ap (min 8192) long ∙ long_enough count n (length bytes) some more which)
+    ∙ sym (take-take (512 * sectors_of count n) room left (omega (arith, more)))
+    ∙ ap (take (512 * sectors_of count n)) (sym (drop-take (8192 * n) room bytes)
+    ∙ ap (λ k. drop (8192 * n) (take k bytes)) (omega (arith, more)))
+
+-- as many parts as there are
+pub all_of : (count parts : ℕ) → parts ≡ div_ceil count 16 → AreAll parts count
+all_of count parts is = let (above, below) = div_ceil_times count 16 (omega arith) in (omega (arith, is, above), omega (arith, is, below))
+
+-- after all parts the rest is left
+pub rest_left : (bytes : List ℕ) (count parts : ℕ) → AreAll parts count → (length bytes ≡ 512 * count) ⊎ (count ≡ 4096)
+    → drop (8192 * parts) bytes ≡ drop (512 * count) bytes
+rest_left bytes count parts (all, few) (inl same) =
+    drop_all (8192 * parts) bytes (omega (arith, all, same)) ∙ sym (drop_all (512 * count) bytes (omega (arith, same)))
+rest_left bytes count parts (all, few) (inr same) = ap (λ k. drop k bytes) (omega (arith, all, few, same))

@@ -7,7 +7,7 @@ use Rattle.std.proofs.lemmas.List.{map-append}
 use Rattle.std.proofs.lemmas.List.Elements.{All-append, All-cons, All-nil}
 use Rattle.std.specs.Io.KnownBytes.{Appends, Consumes, Keeps}
 use Rattle.std.specs.List.{flat_map}
-use Rattle.std.specs.Prelude.{IfOk, IfSome, IsErr, IsErrAnd, OnOk, option_map}
+use Rattle.std.specs.Prelude.{IfOk, IfSome, IsErr, IsErrAnd, OnOk}
 use Rattle.text_out.specs.Writing.{Writes}
 use Rattle.mmc_card.specs.BusView.{BusView}
 use Rattle.mmc_card.specs.declared.part.Part.{Part}
@@ -101,10 +101,6 @@ after_turns export header given xs ys before (plan, its, (turns, own, are, whole
     is,
   ),
 )
-
-pub if_some_mapped : {X Y : Type 0} (o : Option X) (f : X → Y) (P : Y → Type 0) → IfSome o (λ x. P (f x)) → IfSome (option_map f o) P
-if_some_mapped (Some x) f P h = h
-if_some_mapped None f P h = tt
 
 pub if_some_then : {X : Type 0} (o : Option X) (P Q : X → Type 0) → ((x : X) → P x → Q x) → IfSome o P → IfSome o Q
 if_some_then (Some x) P Q f h = f x h

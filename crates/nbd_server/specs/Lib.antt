@@ -1,4 +1,5 @@
 pub mod Acts
+pub mod Data
 pub mod Desk
 pub mod Exports
 pub mod Messages

@@ -51,12 +51,12 @@ IsPlanFor export command span given (Ask request) = IsAsked export command span 
 IsPlanFor export command span given (Answer error) = IsAnswered export command given error
 IsPlanFor export command span given (ReadLong all) = (command ≡ Read) × (all ≡ span)
 IsPlanFor export command span given (WriteLong all bytes) =
-    (command ≡ Write) × (given ≡ Some bytes.items) × (export.can.read_only ≡ false) × (all ≡ span)
+    (command ≡ Write) × (given ≡ Some bytes) × (export.can.read_only ≡ false) × (all ≡ span)
 IsPlanFor export command span given Comes.Flush = ⊥
 
 -- a long write has all bytes of its sectors
 abbrev pub HasAll : Plan → Type 0
-HasAll (WriteLong span bytes) = length bytes.items ≡ 512 * span.count
+HasAll (WriteLong span bytes) = length bytes ≡ 512 * span.count
 HasAll plan = Unit {0}
 
 -- a command that isn't known, bytes that are too many, or that aren't whole sectors of the export

@@ -45,7 +45,7 @@ abbrev pub IsDoneAs : Part → ℕ → Plan → List Act → Type 0
 IsDoneAs part cookie (Answer error) acts = acts ≡ Says cookie error ∷ []
 IsDoneAs part cookie (Ask request) acts = (reply : Reply) × (acts ≡ Asks cookie request reply ∷ [])
 IsDoneAs part cookie (ReadLong span) acts = HasFailed cookie acts ⊎ IsGiven part span cookie acts
-IsDoneAs part cookie (WriteLong span bytes) acts = HasFailed cookie acts ⊎ IsKept part span bytes.items cookie acts
+IsDoneAs part cookie (WriteLong span bytes) acts = HasFailed cookie acts ⊎ IsKept part span bytes cookie acts
 IsDoneAs part cookie Flush acts = acts ≡ Says cookie None ∷ []
 
 -- after turns

@@ -7,6 +7,7 @@ ghost use Rattle.nbd_messages.specs.Requests.{request_in};
 ghost use Rattle.nbd_server.specs.Messages.{HasWhole, IsJunk, IsRequest, Reads, data_length};
 ghost use Rattle.nbd_server.specs.declared.fault.InputFault.TheVariants.{Junk};
 
+use crate::data::{Data, PIECE};
 use crate::fault::InputFault;
 use nbd_messages::{Command, OptionHeader, RequestHeader, option_in, request_in};
 use std::alloc::Global;
@@ -109,23 +110,51 @@ fn next_request<R: Read>(input: &mut BufReader<R>) -> Result<Option<RequestHeade
     }
 }
 
+// So many bytes in pieces, or `None` where memory was refused; they are read either way.
+fn pieces_of<R: Read>(
+    alloc: Global,
+    input: &mut BufReader<R>,
+    count: u64,
+) -> Result<Option<Data>, InputFault>
+    ensures read { IfOk result (λ given. (after : List ℕ) × (length after ≡ count)
+        × IfSome given (λ bytes. bytes ≡ after) × Reads R.remaining input.old input.new after) }
+    ensures fault { IfErr result (λ fault. fault ≢ Junk) }
+{
+    let mut bytes = Data::none(alloc);
+    let mut left = count;
+    while left > 0 {
+        let some = left.min(PIECE as u64) as usize;
+        let piece = match bytes_of(alloc, input, some)? {
+            Some(piece) => piece,
+            None => {
+                skip(input, left)?;
+                return Ok(None);
+            }
+        };
+        left -= some as u64;
+        if bytes.push(piece).is_err() {
+            skip(input, left)?;
+            return Ok(None);
+        }
+    }
+    Ok(Some(bytes))
+}
+
 // The data after a header, which are those of a write. Where they are too many or memory is refused they are read and forgotten.
 fn data_of<R: Read>(
     alloc: Global,
     input: &mut BufReader<R>,
     header: &RequestHeader,
-) -> Result<Option<Vec<u8>>, InputFault>
+) -> Result<Option<Data>, InputFault>
     ensures read { IfOk result (λ given. (after : List ℕ) × (length after ≡ data_length header.now.command header.now.length)
-        × IfSome given (λ bytes. bytes.items ≡ after) × Reads R.remaining input.old input.new after) }
+        × IfSome given (λ bytes. bytes ≡ after) × Reads R.remaining input.old input.new after) }
     ensures fault { IfErr result (λ fault. fault ≢ Junk) }
 {
     if header.command != Some(Command::Write) {
         return Ok(None);
     }
     if header.length <= MAX_LENGTH {
-        if let Some(bytes) = bytes_of(alloc, input, header.length as usize)? {
-            return Ok(Some(bytes));
-        }
+        return pieces_of(alloc, input, header.length as u64);
     }
     skip(input, header.length as u64)?;
     Ok(None)
@@ -137,7 +166,7 @@ pub struct Message {
     /// Its header.
     pub header: RequestHeader,
     /// The data of a write, of which there are none where it is too long or memory was refused.
-    pub given: Option<Vec<u8>>,
+    pub given: Option<Data>,
 }
 
 /// The next request, or `None` where the input has ended before it.
@@ -150,7 +179,7 @@ pub fn next_message<R: Read>(
 ) -> Result<Option<Message>, InputFault>
     ensures read { IfOk result (λ next. MatchOption next (IsAtEnd (reader_remaining R.remaining input.old) × Reads R.remaining input.old input.new [])
         (λ message. (after bytes : List ℕ) × IsRequest message.header after bytes
-        × IfSome message.given (λ given. given.items ≡ after) × Reads R.remaining input.old input.new bytes)) }
+        × IfSome message.given (λ bytes. bytes ≡ after) × Reads R.remaining input.old input.new bytes)) }
     ensures fault { IfErr result (λ fault. fault ≡ Junk → IsJunk (reader_remaining R.remaining input.old) (reader_remaining R.remaining input.new)) }
 {
     let Some(header) = next_request(input)? else {

@@ -2,6 +2,7 @@
 #![tactic(auto)]
 
 mod answers;
+mod data;
 mod desk;
 mod export;
 mod fault;

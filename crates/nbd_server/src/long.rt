@@ -3,7 +3,8 @@
 //    hundredth is served within the four attempts that each request of the device has.
 // 2. As many parts as the device takes are submitted together, so that it joins neighbours, while nothing else waits.
 // 3. The request has one reply, which is an error where some part had one. Of a write that fails each sector is old or new.
-ghost use Rattle.std.specs.Prelude.{◌*◌, ◌++◌, ◌≡◌, ◌≢◌, ◌≤◌, [], IfErr, IfOk, List, length, ℕ};
+ghost use Rattle.std.specs.Prelude.{◌*◌, ◌++◌, ◌<◌, ◌≡◌, ◌≢◌, ◌≤◌, [], IfErr, IfOk, List, OnOk, drop, length, take, ℕ};
+ghost use Rattle.nbd_server.specs.declared.long.TheConstants.{WINDOW};
 ghost use Rattle.mmc_block.specs.Device.{unanswered_of};
 ghost use Rattle.nbd_messages.specs.declared.error.ReplyError.TheVariants.{Failed};
 ghost use Rattle.nbd_server.specs.Acts.{Act, AreOfParts};
@@ -11,10 +12,11 @@ ghost use Rattle.nbd_server.specs.Desk.{Leads};
 ghost use Rattle.nbd_server.specs.Parts.{AreAll, AreRead, AreWindows, AreWritten, HasFailedPart, IsRead, Window, IsWritten, accepted, gathered, reads, writes};
 
 use crate::answers::{are_done, join};
+use crate::data::Data;
 use crate::desk::Desk;
 use crate::span::Span;
 use mmc_block::Request;
-use mmc_bus::{Bus, Bytes, Part};
+use mmc_bus::{Bus, Part};
 use nbd_messages::ReplyError;
 use std::alloc::Global;
 
@@ -44,33 +46,32 @@ fn ask_reads<B: Bus>(
     Ok(parts)
 }
 
-// Submits the parts of a write of these bytes, and gives how many they are.
+// Submits the parts of the next sectors of a write, a whole window or all that are left, and gives how many they are. They take their
+// bytes out of its data.
 fn ask_writes<B: Bus>(
     alloc: Global,
     desk: &mut Desk<B>,
     part: Part,
     span: Span,
-    bytes: &[u8],
+    bytes: &mut Data,
 ) -> Result<u32, ReplyError>
-    requires few { span.count ≤ 4096 }
-    requires whole { length bytes.now ≡ 512 * span.count }
+    requires few { span.count ≤ WINDOW }
+    requires whole { 512 * span.count ≤ length bytes.old }
+    requires rest { span.count < WINDOW → length bytes.old ≡ 512 * span.count }
     ensures leads { (acts : List Act) × AreOfParts acts × Leads B.view desk.old acts desk.new × (gathered acts ≡ [])
-        × IfOk result (λ parts. AreAll parts span.count × (accepted acts ≡ writes part span.start span.count bytes.now parts)) }
+        × IfOk result (λ parts. AreAll parts span.count
+        × (accepted acts ≡ writes part span.start span.count (take (512 * span.count) bytes.old) parts)) }
     ensures refused { IfErr result (λ error. error ≢ Failed) }
+    ensures taken { OnOk result (bytes.new ≡ drop (512 * span.count) bytes.old) }
 {
     let parts = span.count.div_ceil(PART) as u32;
     for number in 0..parts {
-        let before = PART * number as u64;
-        let Span { start, count } = span.after(before, PART);
-        let from = 512 * before as usize;
-        let Ok(piece) = Vec::from_slice(alloc, &bytes[from..from + 512 * count as usize]) else {
-            return Err(ReplyError::NoMemory);
-        };
+        let Span { start, count } = span.after(PART * number as u64, PART);
         let request = Request::Write {
             part,
             start,
             count,
-            bytes: Bytes::new(piece),
+            bytes: bytes.next_piece(),
         };
         desk.ask_part(alloc, request)?;
     }
@@ -97,21 +98,23 @@ fn read_window<B: Bus>(
     join(given.as_slice(), asked?, span.count, bytes)
 }
 
-// Writes sectors in parts that are submitted together.
+// Writes the next sectors of a write, a whole window or all that are left, in parts that are submitted together.
 fn write_window<B: Bus>(
     alloc: Global,
     desk: &mut Desk<B>,
     part: Part,
     span: Span,
-    bytes: &[u8],
+    bytes: &mut Data,
 ) -> Result<(), ReplyError>
-    requires few { span.count ≤ 4096 }
-    requires whole { length bytes.now ≡ 512 * span.count }
+    requires few { span.count ≤ WINDOW }
+    requires whole { 512 * span.count ≤ length bytes.old }
+    requires rest { span.count < WINDOW → length bytes.old ≡ 512 * span.count }
     ensures leads { (acts : List Act) × AreOfParts acts × Leads B.view desk.old acts desk.new
-        × IfOk result (λ done. IsWritten part span.start span.count acts bytes.now)
+        × IfOk result (λ done. IsWritten part span.start span.count acts (take (512 * span.count) bytes.old))
         × IfErr result (λ error. error ≡ Failed → HasFailedPart acts) }
     ensures none { unanswered_of desk.new.device ≡ 0 }
     ensures cleared { desk.new.cookies ≡ [] }
+    ensures taken { OnOk result (bytes.new ≡ drop (512 * span.count) bytes.old) }
 {
     let asked = ask_writes(alloc, desk, part, span, bytes);
     let given = desk.gather();
@@ -161,23 +164,22 @@ pub fn write_long<B: Bus>(
     desk: &mut Desk<B>,
     part: Part,
     span: Span,
-    bytes: &[u8],
+    bytes: Data,
 ) -> Result<(), ReplyError>
     requires none { unanswered_of desk.old.device ≡ 0 }
     requires cleared { desk.old.cookies ≡ [] }
-    requires whole { length bytes.now ≡ 512 * span.count }
+    requires whole { length bytes ≡ 512 * span.count }
     ensures leads { (acts : List Act) × AreOfParts acts × Leads B.view desk.old acts desk.new
-        × IfOk result (λ done. (windows : List Window) × AreWritten part span.start windows × AreWindows windows span.count acts bytes.now)
+        × IfOk result (λ done. (windows : List Window) × AreWritten part span.start windows × AreWindows windows span.count acts bytes)
         × IfErr result (λ error. error ≡ Failed → HasFailedPart acts) }
     ensures none { unanswered_of desk.new.device ≡ 0 }
     ensures cleared { desk.new.cookies ≡ [] }
 {
+    let mut bytes = bytes;
     let mut done = 0_u64;
     while done < span.count {
         let next = span.after(done, WINDOW);
-        let from = 512 * done as usize;
-        let piece = &bytes[from..from + 512 * next.count as usize];
-        write_window(alloc, desk, part, next, piece)?;
+        write_window(alloc, desk, part, next, &mut bytes)?;
         done += next.count;
     }
     Ok(())

@@ -3,17 +3,17 @@
 // 2. Up to `PART` sectors a read or a write is one request of the device. A longer one is served in parts.
 // 3. A trim is one where the card trims. Otherwise it is an erase of the whole erase units in it, if there are any.
 // 4. Zeroes are a trim, where the card trims to zeroes.
-ghost use Rattle.std.specs.Prelude.{◌≡◌, ◌≢◌, ◌<◌, ◌+◌, ◌≤◌, List, MatchOption, Option, Some, option_map, ℕ};
+ghost use Rattle.std.specs.Prelude.{◌≡◌, ◌≢◌, ◌<◌, ◌+◌, ◌≤◌, List, MatchOption, Option, Some, ℕ};
 ghost use Rattle.nbd_messages.specs.declared.command.Command.TheVariants.{Disconnect, Flush, Read, Trim, Write, WriteZeroes};
 ghost use Rattle.nbd_server.specs.Plan.{IsPlan, IsPlanFor, Names};
 ghost use Rattle.nbd_server.specs.declared.span.Span.{Span};
 
+use crate::data::Data;
 use crate::export::Export;
 use crate::input::MAX_LENGTH;
 use crate::long::PART;
 use crate::span::Span;
 use mmc_block::Request;
-use mmc_bus::Bytes;
 use nbd_messages::{Command, ReplyError, RequestHeader};
 
 /// What a request comes to.
@@ -26,7 +26,7 @@ pub enum Plan {
     /// It is read in parts.
     ReadLong(Span),
     /// It is written in parts.
-    WriteLong(Span, Vec<u8>),
+    WriteLong(Span, Data),
     /// Nothing before it may be without an answer.
     Flush,
 }
@@ -81,21 +81,22 @@ fn read(export: &Export, span: Span) -> Plan
     })
 }
 
-fn write(export: &Export, span: Span, bytes: Vec<u8>) -> Plan
-    ensures { IsPlanFor export.now Write span (Some bytes.items) result }
+fn write(export: &Export, span: Span, bytes: Data) -> Plan
+    ensures { IsPlanFor export.now Write span (Some bytes) result }
 {
     if export.can.read_only {
         return Plan::Answer(Some(ReplyError::NotPermitted));
     }
-    if span.count > PART {
-        return Plan::WriteLong(span, bytes);
+    // A piece has as many bytes as a part.
+    match bytes.into_piece() {
+        Ok(bytes) => Plan::Ask(Request::Write {
+            part: export.part,
+            start: span.start,
+            count: span.count,
+            bytes,
+        }),
+        Err(bytes) => Plan::WriteLong(span, bytes),
     }
-    Plan::Ask(Request::Write {
-        part: export.part,
-        start: span.start,
-        count: span.count,
-        bytes: Bytes::new(bytes),
-    })
 }
 
 fn trim(export: &Export, span: Span) -> Plan
@@ -142,10 +143,10 @@ fn write_zeroes(export: &Export, span: Span) -> Plan
 }
 
 // What a request for these sectors comes to.
-fn planned_for(export: &Export, command: Command, span: Span, given: Option<Vec<u8>>) -> Plan
+fn planned_for(export: &Export, command: Command, span: Span, given: Option<Data>) -> Plan
     requires ends { command ≢ Disconnect }
     requires waits { command ≢ Flush }
-    ensures { IsPlanFor export.now command span (option_map (λ bytes. bytes.items) given) result }
+    ensures { IsPlanFor export.now command span given result }
 {
     match (command, given) {
         (Command::Read, _) => read(export, span),
@@ -159,8 +160,8 @@ fn planned_for(export: &Export, command: Command, span: Span, given: Option<Vec<
 
 /// What a request comes to, or `None` where it ends the session. `given` are the data
 /// of a write, of which there are none where it is too long or memory was refused.
-pub fn planned(export: &Export, header: &RequestHeader, given: Option<Vec<u8>>) -> Option<Plan>
-    ensures { MatchOption result (header.now.command ≡ Some Disconnect) (IsPlan export.now header.now (option_map (λ bytes. bytes.items) given)) }
+pub fn planned(export: &Export, header: &RequestHeader, given: Option<Data>) -> Option<Plan>
+    ensures { MatchOption result (header.now.command ≡ Some Disconnect) (IsPlan export.now header.now given) }
 {
     let Some(command) = header.command else {
         return Some(Plan::Answer(Some(ReplyError::Invalid)));

@@ -1,6 +1,6 @@
 // A session: the negotiation of an export, then its requests. All that have come are submitted before the next turn, so that
 // neighbours merge; before the input is waited for, each has its reply.
-ghost use Rattle.std.specs.Prelude.{◌≡◌, ◌⊎◌, IfOk, IfSome, List, OnOk, Option, length, option_map, ℕ};
+ghost use Rattle.std.specs.Prelude.{◌≡◌, ◌⊎◌, IfOk, IfSome, List, OnOk, Option, length, ℕ};
 ghost use Rattle.std.specs.Io.Buffered.{reader_buffer, reader_remaining};
 ghost use Rattle.std.specs.Io.KnownBytes.{Keeps};
 ghost use Rattle.mmc_block.specs.Device.{unanswered_of};
@@ -12,6 +12,7 @@ ghost use Rattle.nbd_server.specs.Served.{IsServedAs, Served};
 ghost use Rattle.nbd_server.specs.Session.{AreTakenUp, EndsAs, IsSession, IsTakenUp, done_of};
 ghost use Rattle.nbd_server.specs.declared.plan.Plan.TheVariants.{Flush, ReadLong, WriteLong};
 
+use crate::data::Data;
 use crate::desk::{Desk, put_data, put_reply};
 use crate::export::Export;
 use crate::fault::{InputFault, OutputFault, SessionFault};
@@ -60,7 +61,7 @@ fn serve_write<B: Bus, W: Write>(
     cookie: u64,
     part: Part,
     span: Span,
-    bytes: Vec<u8>,
+    bytes: Data,
     out: &mut W,
 ) -> Result<(), OutputFault>
     requires { HasAll (WriteLong span bytes) }
@@ -68,7 +69,7 @@ fn serve_write<B: Bus, W: Write>(
         × OnOk result (IsServedAs part cookie (WriteLong span bytes) acts) }
 {
     desk.drain(out)?;
-    match write_long(alloc, desk, part, span, bytes.as_slice()) {
+    match write_long(alloc, desk, part, span, bytes) {
         Ok(()) => put_reply(out, None, cookie),
         Err(error) => put_reply(out, Some(error), cookie),
     }
@@ -105,7 +106,7 @@ fn serve_plan<B: Bus, W: Write>(
         Plan::Answer(error) => put_reply(out, error, cookie),
         Plan::Ask(request) => desk.ask(alloc, cookie, request, out),
         Plan::ReadLong(span) => serve_read(alloc, desk, cookie, part, span, out),
-        Plan::WriteLong(span, bytes) => { serve_write(alloc, desk, cookie, part, span, bytes, out) }
+        Plan::WriteLong(span, bytes) => serve_write(alloc, desk, cookie, part, span, bytes, out),
         Plan::Flush => serve_flush(desk, part, cookie, out),
     }
 }
@@ -118,9 +119,9 @@ fn serve_message<B: Bus, W: Write>(
     message: Message,
     out: &mut W,
 ) -> Result<bool, OutputFault>
-    requires { IfSome message.given (λ bytes. length bytes.items ≡ data_length message.header.command message.header.length) }
+    requires { IfSome message.given (λ bytes. length bytes ≡ data_length message.header.command message.header.length) }
     ensures { (acts : List Act) × Does B.view desk.old desk.new (W.contents out.old) (W.contents out.new) (done_of result) acts
-        × IfOk result (IsTakenUp export.now message.header (option_map (λ bytes. bytes.items) message.given) acts) }
+        × IfOk result (IsTakenUp export.now message.header message.given acts) }
 {
     let Message { header, given } = message;
     let Some(plan) = planned(export, &header, given) else {

@@ -1,12 +1,13 @@
-use Rattle.std.proofs.Common.{drop, arith, refl, subst, take, ◌*◌, ◌+◌, ◌-◌, ◌≡◌, ℕ}
-use Rattle.std.proofs.lemmas.List.{take_all}
+use Rattle.std.proofs.Common.{ap, drop, arith, refl, subst, take, ◌*◌, ◌∙◌, ◌≡◌, ℕ}
+use Rattle.std.proofs.lemmas.List.{drop-drop, take_all}
 use Rattle.nbd_server.specs.Parts.{AreWindows, IsWritten, Window}
 use Rattle.nbd_server.proofs.LongLemmas.{nothing_yet, one_more, parts_failed}
 use Rattle.nbd_server.proofs.PartsLemmas.{bytes_next, failed_later}
 use Rattle.nbd_server.proofs.long.write_long.Goals as goal
 
 pub loop-done-init : goal.loop-done-init
-loop-done-init g c = record { so_far = nothing_yet g.B.Bus.view _ _ _ c.requires.none c.requires.cleared; within = omega arith }
+loop-done-init g c =
+    record { so_far = nothing_yet g.B.Bus.view _ _ _ c.requires.none c.requires.cleared; left = refl; within = omega arith }
 
 pub returns-in_err-write_window-clause-leads : goal.returns-in_err-write_window-clause-leads
 returns-in_err-write_window-clause-leads g c =
@@ -19,13 +20,17 @@ pub loop-done-preserved : goal.loop-done-preserved
 loop-done-preserved g c =
     let (acts, of_parts, leads, is, nothing) = c.in_ok-write_window.ensures.leads in
     let done = c.loop-done.done in
-    let more = take (512 * done + 512 * c.after-next.result.count - 512 * done) (drop (512 * done) c.args.bytes.now) in
-    let one : Window = record { count = c.after-next.result.count; acts = acts; bytes = more } in
+    let count = c.after-next.result.count in
+    let left = c.loop-done.invariant.left in
+    let one : Window = record { count = count; acts = acts; bytes = take (512 * count) (drop (512 * done) c.args.bytes) } in
     record {
-      so_far = rw (bytes_next done c.after-next.result.count _ c.args.bytes.now refl) (one_more g.B.Bus.view _ _ _
+      so_far = rw (bytes_next done count c.args.bytes) (one_more g.B.Bus.view _ _ _
           (λ (from : ℕ) (w : Window). IsWritten c.args.part from w.count w.acts w.bytes) c.args.span.start done _
-          (take (512 * done) c.args.bytes.now) one c.loop-done.invariant.so_far of_parts leads c.after-next.ensures.start is
+          (take (512 * done) c.args.bytes) one c.loop-done.invariant.so_far of_parts leads c.after-next.ensures.start
+          (subst (λ bytes. IsWritten c.args.part c.after-next.result.start count acts (take (512 * count) bytes)) left is)
           c.in_ok-write_window.ensures.none c.in_ok-write_window.ensures.cleared);
+      left = c.in_ok-write_window.ensures.taken ∙ ap (drop (512 * count)) left ∙ drop-drop (512 * count) (512 * done) c.args.bytes
+          ∙ ap (λ k. drop k c.args.bytes) (omega arith);
       within = omega (arith, c.after-next.ensures.count, c.loop-done-test.true);
     }
 
@@ -41,8 +46,8 @@ returns-clause-leads g c =
       (
         h.windows,
         h.served,
-        subst (λ n. AreWindows h.windows n h.acts c.args.bytes.now) all
-            (subst (AreWindows h.windows c.loop-done.done h.acts) (take_all (512 * c.loop-done.done) c.args.bytes.now (omega (arith, all, whole))) h.are),
+        subst (λ n. AreWindows h.windows n h.acts c.args.bytes) all
+            (subst (AreWindows h.windows c.loop-done.done h.acts) (take_all (512 * c.loop-done.done) c.args.bytes (omega (arith, all, whole))) h.are),
       ),
       tt,
     )

@@ -2,7 +2,7 @@ use Rattle.std.proofs.Common.{[], ap, append-nil, arith, inl, inr, length-append
 use Rattle.nbd_server.specs.Acts.{AreTurns}
 use Rattle.nbd_server.specs.Served.{Served}
 use Rattle.nbd_server.proofs.DeskLemmas.{does_none, does_then}
-use Rattle.nbd_server.proofs.SessionLemmas.{after_turns, does_broken, if_no_ok, ends_as, if_some_mapped, none_taken, taken_more, turns_after}
+use Rattle.nbd_server.proofs.SessionLemmas.{after_turns, does_broken, if_no_ok, ends_as, none_taken, taken_more, turns_after}
 use Rattle.nbd_server.proofs.session.serve_all.Goals as goal
 
 pub loop-served-init : goal.loop-served-init
@@ -31,7 +31,7 @@ loop-served-preserved g c =
       does = does_then g.B.Bus.view _ _ _ _ _ _ tt _ so_far.acts (ys ++ zs) so_far.does
           (does_then g.B.Bus.view _ _ _ _ _ _ tt _ ys zs first second);
       taken = taken_more _ _ _ _ so_far.acts (ys ++ zs) so_far.served message.header after next _ so_far.taken is
-          (if_some_mapped message.given _ _ its) (after_turns _ message.header _ ys zs turns by) read;
+          its (after_turns _ message.header _ ys zs turns by) read;
       count = omega (arith, longer, count);
     }
 

@@ -24,12 +24,12 @@ returns-in-Ok g c =
       windows = windows;
       of_parts = of_parts;
       written = written;
-      are = rw c.as_slice.ensures.value at are;
+      are = are;
       done = refl;
     }))
 
-pub returns : goal.returns
-returns g c =
+pub returns-in-Err : goal.returns-in-Err
+returns-in-Err g c =
     let (acts, turns, first) = c.in_ok-drain.ensures.does in
     let (parts, of_parts, leads, nothing, failed) = c.in-Err.ensures.leads in
     served_long g.B.Bus.view _ _ _ _ _ _ tt _ acts parts (Says c.args.cookie (Some c.in-Err.error)) c.args.part c.args.cookie
