@@ -41,9 +41,7 @@ pub(crate) fn command<'a>(alloc: Global) -> Result<Command<'a>, AllocError> {
 // The files that the words name.
 fn names_given<'a>(alloc: Global, words: &'a [&'a str]) -> Result<Names<'a>, CommandFault> {
     let command = command(alloc)?;
-    let Ok(matches) = command.try_get_matches_from(words) else {
-        return Err(CommandFault::Usage);
-    };
+    let matches = command.try_get_matches_from(words)?;
     let Some(card) = matches.get_str("card") else {
         return Err(CommandFault::Usage);
     };

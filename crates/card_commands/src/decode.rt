@@ -264,9 +264,7 @@ pub fn decode<R: Read, W: Write>(
     ensures unprinted { IfErr result (λ fault. (fault ≡ Fault.Write → ⊥) → W.contents out.new ≡ W.contents out.old) }
 {
     let command = command(alloc)?;
-    let Ok(matches) = command.try_get_matches_from(words) else {
-        return Err(CommandFault::Usage);
-    };
+    let matches = command.try_get_matches_from(words)?;
     let Some(register) = matches.get_str("register") else {
         return Err(CommandFault::Usage);
     };

@@ -7,6 +7,7 @@ use card_decode::HexFault;
 use card_maker::MakeFault;
 use card_nbd::NbdFault;
 use card_served::ServeFault;
+use clap::error::ErrorKind;
 use std::alloc::{AllocError, AllocFailed};
 use std::io;
 use thiserror::Error;
@@ -64,6 +65,20 @@ impl<T: Drop> From<AllocFailed<T>> for CommandFault {
 
     fn from(_error: AllocFailed<T>) -> CommandFault {
         CommandFault::NoMemory
+    }
+}
+
+impl From<clap::Error> for CommandFault {
+    ghost use Rattle.clap.specs.Values.{kind_of};
+    ghost use Rattle.card_commands.specs.Faults.{of_words};
+
+    ghost from_gives = { λ error e. e ≡ of_words (kind_of error) };
+
+    fn from(error: clap::Error) -> CommandFault {
+        match error.kind() {
+            ErrorKind::OutOfMemory => CommandFault::NoMemory,
+            _ => CommandFault::Usage,
+        }
     }
 }
 

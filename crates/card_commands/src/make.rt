@@ -96,9 +96,7 @@ pub fn make<W: Write>(alloc: Global, words: &[&str], out: &mut W) -> Result<(), 
     ensures unprinted { IfErr result (λ fault. (fault ≡ Fault.Write → ⊥) → W.contents out.new ≡ W.contents out.old) }
 {
     let command = command(alloc)?;
-    let Ok(matches) = command.try_get_matches_from(words) else {
-        return Err(CommandFault::Usage);
-    };
+    let matches = command.try_get_matches_from(words)?;
     let wanted = wanted(&matches)?;
     match card_by(&wanted) {
         Ok(card) => {

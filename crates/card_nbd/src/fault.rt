@@ -4,6 +4,7 @@ ghost use Rattle.card_nbd.specs.declared.fault.NbdFault.TheVariants.{Unserved};
 ghost use Rattle.card_served.specs.declared.fault.ServeFault.TheVariants.{NoMemory};
 
 use card_served::ServeFault;
+use clap::error::ErrorKind;
 use nbd_server::SessionFault;
 use std::alloc::AllocError;
 use thiserror::Error;
@@ -38,5 +39,21 @@ impl From<AllocError> for NbdFault {
 
     fn from(_error: AllocError) -> NbdFault {
         NbdFault::Unserved(ServeFault::NoMemory)
+    }
+}
+
+impl From<clap::Error> for NbdFault {
+    ghost use Rattle.std.specs.Prelude.{◌≢◌};
+    ghost use Rattle.clap.specs.Values.{kind_of};
+    ghost use Rattle.clap.specs.declared.error.kind.ErrorKind.TheVariants.{OutOfMemory};
+    ghost use Rattle.card_nbd.specs.declared.fault.NbdFault.TheVariants.{Usage};
+
+    ghost from_gives = { λ error e. (e ≡ Unserved NoMemory → kind_of error ≡ OutOfMemory) × (e ≡ Usage → kind_of error ≢ OutOfMemory) };
+
+    fn from(error: clap::Error) -> NbdFault {
+        match error.kind() {
+            ErrorKind::OutOfMemory => NbdFault::Unserved(ServeFault::NoMemory),
+            _ => NbdFault::Usage,
+        }
     }
 }

@@ -79,9 +79,7 @@ fn part_given(matches: &ArgMatches<'_>) -> Result<Option<Part>, NbdFault> {
 /// `Usage` for other words, and for a card file or an image `-`; `NoPart`; `Unserved` with `Rule` or `NoMemory`.
 pub fn options_given<'a>(alloc: Global, words: &'a [&'a str]) -> Result<Options<'a>, NbdFault> {
     let command = nbd_command(alloc)?;
-    let Ok(matches) = command.try_get_matches_from(words) else {
-        return Err(NbdFault::Usage);
-    };
+    let matches = command.try_get_matches_from(words)?;
     let Some(card) = file_given(&matches, "card")? else {
         return Err(NbdFault::Usage);
     };
