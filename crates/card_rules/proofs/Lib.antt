@@ -1,3 +1,4 @@
+pub mod MovingLemmas
 pub mod RuledLemmas
 pub mod StepLemmas
 pub mod TextLemmas

@@ -2,6 +2,7 @@
 #![tactic(auto)]
 
 mod moment;
+mod moving;
 mod rule;
 mod rule_text;
 mod ruled_card;

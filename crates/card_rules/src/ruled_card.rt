@@ -4,9 +4,10 @@ ghost use Rattle.mmc_card_sim.specs.SimView.{planned_fault};
 ghost use Rattle.card_rules.specs.RuledCards.{DoesCommand, DoesPoll, DoesRead, DoesWrite, HasRoom, IsChosen, Notes, Plans, Prepares, planned_between, ruled_view};
 
 use crate::moment::{Moment, Place};
+use crate::moving::is_answered;
 use crate::rules::Rules;
 use arrayvec::ArrayVec;
-use mmc_bus::{Bus, DataIn, DataOut, Lines, Reply, Timing, Want, Width};
+use mmc_bus::{Blocks, BlocksMut, Bus, DataIn, DataOut, Lines, Moved, Reply, Timing, Want, Width};
 use mmc_card_sim::{Fault, MAX_PLANNED, Planned, SimCard};
 use mmc_frame::Addressing;
 
@@ -137,6 +138,32 @@ impl Bus for RuledCard {
         let yes = self.card.busy();
         self.note(exchange, faults, fault);
         yes
+    }
+
+    fn read_with<D: BlocksMut>(
+        &mut self,
+        frame: [u8; 6],
+        want: Want,
+        blocks: &mut D,
+    ) -> (Reply, Moved<DataIn>) {
+        let reply = self.command(frame, want);
+        if !is_answered(&frame, reply) {
+            return (reply, Moved::Good(0));
+        }
+        (reply, self.read_blocks(blocks))
+    }
+
+    fn write_with<D: Blocks>(
+        &mut self,
+        frame: [u8; 6],
+        want: Want,
+        blocks: &D,
+    ) -> (Reply, Moved<DataOut>) {
+        let reply = self.command(frame, want);
+        if !is_answered(&frame, reply) {
+            return (reply, Moved::Good(0));
+        }
+        (reply, self.write_blocks(blocks))
     }
 
     fn set_lines(&mut self, width: Width, timing: Timing)

@@ -233,6 +233,13 @@ impl SimCard {
         self.plan.fault(self.wire.exchanges)
     }
 
+    /// Whether the next poll may find the card busy. It doesn't where no fault is planned for it, and no busy time takes a poll.
+    pub fn may_be_busy(&self) -> bool
+        ensures { result ≡ false → (planned_fault self.now ≡ None) × (self.now.delays.busy ≡ 0) }
+    {
+        self.planned().is_some() || self.delays.busy > 0
+    }
+
     /// Forgets the faults that were planned for exchanges that are past, so that there is room for others.
     pub fn forget_past(&mut self)
         ensures same { (e : ℕ) → self.old.wire.exchanges ≤ e → fault_at self.new.plan e ≡ fault_at self.old.plan e }
