@@ -1,4 +1,3 @@
-pub mod MovingLemmas
 pub mod RuledLemmas
 pub mod StepLemmas
 pub mod TextLemmas

@@ -77,3 +77,7 @@ falls_as old mid new last is same is_last Does free does =
     subst (λ (n : SimView). Does (planned_between old n) old n) (sym is_last)
     (subst (λ p. Does (fault_at p old.wire.exchanges) old new) (sym same)
     (free (subst (λ (m : SimView). Does (fault_at mid.plan m.wire.exchanges) m new) is does)))
+
+-- without rules it is seen as the card alone
+pub plain : (rules : List Rule) (card : SimView) → rules ≡ [] → seen rules card ≡ sim_bus_view card
+plain rules card none = ap (λ (rs : List Rule). seen rs card) none

@@ -88,3 +88,9 @@ pub record Notes (exchange faults : ℕ) (fault : Option Fault) (old new : Ruled
   pub rules : new.rules ≡ old.rules
   pub place : new.place ≡ old.place
   pub fell : new.fell.items ≡ (if nat_lt faults old.card.faults then noted exchange fault old.fell.items else old.fell.items)
+
+-- there were no rules, nothing was planned, and no fault fell
+pub record FallsNone (old new : RuledCard) : Type 0 where
+  pub rules : old.rules.rules.items ≡ []
+  pub plan : old.card.plan ≡ []
+  pub faults : new.card.faults ≡ old.card.faults

@@ -2,7 +2,6 @@
 #![tactic(auto)]
 
 mod moment;
-mod moving;
 mod rule;
 mod rule_text;
 mod ruled_card;

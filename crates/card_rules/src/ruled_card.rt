@@ -1,10 +1,9 @@
 // A card in memory whose faults are planned by rules too.
-ghost use Rattle.std.specs.Prelude.{◌%◌, ◌≡◌, Some, length, slice_index_or};
+ghost use Rattle.std.specs.Prelude.{◌%◌, ◌≡◌, ◌⊎◌, Some, [], length, slice_index_or, true};
 ghost use Rattle.mmc_card_sim.specs.SimView.{planned_fault};
 ghost use Rattle.card_rules.specs.RuledCards.{DoesCommand, DoesPoll, DoesRead, DoesWrite, HasRoom, IsChosen, Notes, Plans, Prepares, planned_between, ruled_view};
 
 use crate::moment::{Moment, Place};
-use crate::moving::is_answered;
 use crate::rules::Rules;
 use arrayvec::ArrayVec;
 use mmc_bus::{Blocks, BlocksMut, Bus, DataIn, DataOut, Lines, Moved, Reply, Timing, Want, Width};
@@ -65,6 +64,13 @@ impl RuledCard {
         self.card.planned()
     }
 
+    // Whether no fault can fall, by rules or as planned, and no busy time takes a poll.
+    fn is_smooth(&self) -> bool
+        ensures { result ≡ true → (self.now.rules.rules.items ≡ []) × (self.now.card.plan ≡ []) }
+    {
+        self.rules.rules.is_empty() && self.card.is_smooth()
+    }
+
     // Notes what fell in an exchange, where more faults have fallen after it.
     fn note(&mut self, exchange: u64, faults: u64, fault: Option<Fault>)
         ensures { Notes exchange faults fault self.old self.new }
@@ -79,7 +85,10 @@ impl RuledCard {
 
 impl Bus for RuledCard {
     ghost use Rattle.mmc_bus.specs.Exchanges.{Commanded, DataRead, DataWritten, Polled, SetsLines};
+    ghost use Rattle.mmc_bus.specs.Together.{ReadWith, WrittenWith};
+    ghost use Rattle.mmc_bus.specs.declared.moved.Moved.TheVariants.{Good};
     ghost use Rattle.card_rules.specs.declared.moment.Moment.TheVariants.{Command, Poll, Read, Write};
+    ghost use Rattle.card_rules.specs.RuledCards.{FallsNone};
 
     ghost view = { λ ruled. ruled_view ruled };
 
@@ -140,17 +149,21 @@ impl Bus for RuledCard {
         yes
     }
 
+    // Blocks are moved with their command only where no fault can fall, so that there is nothing to choose or to note.
     fn read_with<D: BlocksMut>(
         &mut self,
         frame: [u8; 6],
         want: Want,
         blocks: &mut D,
-    ) -> (Reply, Moved<DataIn>) {
-        let reply = self.command(frame, want);
-        if !is_answered(&frame, reply) {
-            return (reply, Moved::Good(0));
+    ) -> (Reply, Moved<DataIn>)
+        ensures read { ReadWith D.blocks D.with (ruled_view self.old) frame want blocks.old result.0 result.1 blocks.new
+            (ruled_view self.new) }
+        ensures falls { (result.1 ≡ Good 0) ⊎ FallsNone self.old self.new }
+    {
+        if self.is_smooth() {
+            return self.card.read_with(frame, want, blocks);
         }
-        (reply, self.read_blocks(blocks))
+        (self.command(frame, want), Moved::Good(0))
     }
 
     fn write_with<D: Blocks>(
@@ -158,12 +171,14 @@ impl Bus for RuledCard {
         frame: [u8; 6],
         want: Want,
         blocks: &D,
-    ) -> (Reply, Moved<DataOut>) {
-        let reply = self.command(frame, want);
-        if !is_answered(&frame, reply) {
-            return (reply, Moved::Good(0));
+    ) -> (Reply, Moved<DataOut>)
+        ensures written { WrittenWith (ruled_view self.old) frame want (D.blocks blocks.now) result.0 result.1 (ruled_view self.new) }
+        ensures falls { (result.1 ≡ Good 0) ⊎ FallsNone self.old self.new }
+    {
+        if self.is_smooth() {
+            return self.card.write_with(frame, want, blocks);
         }
-        (reply, self.write_blocks(blocks))
+        (self.command(frame, want), Moved::Good(0))
     }
 
     fn set_lines(&mut self, width: Width, timing: Timing)

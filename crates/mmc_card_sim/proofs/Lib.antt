@@ -1,6 +1,7 @@
 pub mod BuildLemmas
 pub mod FaultLemmas
 pub mod FlipLemmas
+pub mod MovingLemmas
 pub mod PlanLemmas
 pub mod SimSteps
 pub mod SpecLemmas

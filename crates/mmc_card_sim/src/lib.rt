@@ -6,6 +6,7 @@ mod fault;
 mod faulty_exchanges;
 mod flip;
 mod judging;
+mod moving;
 mod plan;
 mod sim_card;
 mod spec;

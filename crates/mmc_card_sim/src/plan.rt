@@ -1,6 +1,6 @@
 // The faults that are planned for the exchanges of a card in memory.
 ghost use Rattle.std.specs.Prelude.{◌≡◌, ◌<◌, ◌≤◌, ◌==◌, ◌+◌, IfErr, IfNone, IfSome, IsOk, None, OnErr, Some, []};
-ghost use Rattle.std.specs.Prelude.{false, filter, if◌then◌else◌, length, nat_le, slice_index_or, take, ℕ};
+ghost use Rattle.std.specs.Prelude.{false, filter, if◌then◌else◌, length, nat_le, slice_index_or, take, true, ℕ};
 ghost use Rattle.mmc_card_sim.specs.declared.plan.Planned.{Planned};
 ghost use Rattle.mmc_card_sim.specs.Plan.{fault_at, is_full, refusal_of, to_come};
 
@@ -64,6 +64,13 @@ impl Plan {
         Plan {
             planned: ArrayVec::new(),
         }
+    }
+
+    /// Whether no fault is planned.
+    pub fn is_empty(&self) -> bool
+        ensures { result ≡ true → self.now ≡ [] }
+    {
+        self.planned.is_empty()
     }
 
     // The place of an exchange among those that are planned.

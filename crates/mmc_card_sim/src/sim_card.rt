@@ -10,9 +10,10 @@ ghost use Rattle.mmc_card_rows.specs.declared.store.TheConstants.{MAX_LARGE};
 use crate::fault::Fault;
 use crate::faulty_exchanges::{faulty_accept, faulty_command, faulty_poll, faulty_send};
 use crate::judging::judge;
+use crate::moving::is_answered;
 use crate::plan::{Plan, PlanFault};
 use crate::spec::{BuildFault, CardSpec, MAX_SECTORS};
-use mmc_bus::{Bus, Wire};
+use mmc_bus::{Blocks, BlocksMut, Bus, Moved, Wire};
 use mmc_card::{DataIn, DataOut, Exchange, Lines, Part, Reply, Timing, Want, Width, laws};
 use mmc_card_rows::{Chip, Delays, MAX_LARGE, Store};
 use mmc_frame::State;
@@ -233,11 +234,11 @@ impl SimCard {
         self.plan.fault(self.wire.exchanges)
     }
 
-    /// Whether the next poll may find the card busy. It doesn't where no fault is planned for it, and no busy time takes a poll.
-    pub fn may_be_busy(&self) -> bool
-        ensures { result ≡ false → (planned_fault self.now ≡ None) × (self.now.delays.busy ≡ 0) }
+    /// Whether no fault is planned, and no busy time takes a poll: no exchange surprises then.
+    pub fn is_smooth(&self) -> bool
+        ensures { result ≡ true → (self.now.plan ≡ []) × (self.now.delays.busy ≡ 0) }
     {
-        self.planned().is_some() || self.delays.busy > 0
+        self.plan.is_empty() && self.delays.busy == 0
     }
 
     /// Forgets the faults that were planned for exchanges that are past, so that there is room for others.
@@ -337,6 +338,7 @@ impl SimCard {
 
 impl Bus for SimCard {
     ghost use Rattle.mmc_bus.specs.Exchanges.{Commanded, DataRead, DataWritten, Polled, SetsLines};
+    ghost use Rattle.mmc_bus.specs.Together.{ReadWith, WrittenWith};
 
     ghost view = { sim_bus_view };
 
@@ -366,6 +368,39 @@ impl Bus for SimCard {
         ensures { Polled (sim_bus_view self.old) result (sim_bus_view self.new) }
     {
         SimCard::busy(self)
+    }
+
+    fn read_with<D: BlocksMut>(
+        &mut self,
+        frame: [u8; 6],
+        want: Want,
+        blocks: &mut D,
+    ) -> (Reply, Moved<DataIn>)
+        ensures read { ReadWith D.blocks D.with (sim_bus_view self.old) frame want blocks.old result.0 result.1 blocks.new
+            (sim_bus_view self.new) }
+        ensures faults { self.old.plan ≡ [] → self.new.faults ≡ self.old.faults }
+    {
+        let reply = SimCard::command(self, frame, want);
+        if !self.is_smooth() || !is_answered(&frame, reply) {
+            return (reply, Moved::Good(0));
+        }
+        (reply, self.read_blocks(blocks))
+    }
+
+    fn write_with<D: Blocks>(
+        &mut self,
+        frame: [u8; 6],
+        want: Want,
+        blocks: &D,
+    ) -> (Reply, Moved<DataOut>)
+        ensures written { WrittenWith (sim_bus_view self.old) frame want (D.blocks blocks.now) result.0 result.1 (sim_bus_view self.new) }
+        ensures faults { self.old.plan ≡ [] → self.new.faults ≡ self.old.faults }
+    {
+        let reply = SimCard::command(self, frame, want);
+        if !self.is_smooth() || !is_answered(&frame, reply) {
+            return (reply, Moved::Good(0));
+        }
+        (reply, self.write_blocks(blocks))
     }
 
     fn set_lines(&mut self, width: Width, timing: Timing)

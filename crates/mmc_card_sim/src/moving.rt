@@ -1,16 +1,16 @@
-// The blocks of a command, moved with it by one call. Each is an exchange of its own, for which rules plan, and of which it is noted
-// what fell, as if it were moved by a call of its own.
-ghost use Rattle.std.specs.Prelude.{◌≡◌, IsErr, Some, false, length, true, ℕ};
+// The blocks of a command, moved with it by one call: as exchanges of their own, one after the other, where no fault is planned.
+ghost use Rattle.std.specs.Prelude.{◌≡◌, IsErr, Some, [], false, length, true, ℕ};
 ghost use Rattle.mmc_bus.specs.Heard.{response_heard};
 ghost use Rattle.mmc_bus.specs.Together.{BlockRead, BlockWritten, NotBusy, ReadOn, RestsAfter, WrittenOn};
 ghost use Rattle.mmc_card.specs.declared.exchange.DataIn.TheVariants.{Good};
 ghost use Rattle.mmc_card.specs.declared.exchange.DataOut.TheVariants.{Accepted};
 ghost use Rattle.mmc_frame.specs.Frame.{command_in};
-ghost use Rattle.card_rules.specs.RuledCards.{ruled_view};
+ghost use Rattle.mmc_card_sim.specs.SimView.{sim_bus_view};
 
-use crate::ruled_card::RuledCard;
+use crate::sim_card::SimCard;
 use bitflags::Flags;
-use mmc_bus::{Blocks, BlocksMut, Bus, DataIn, DataOut, Moved, Reply};
+use mmc_bus::{Blocks, BlocksMut, Moved};
+use mmc_card::{DataIn, DataOut, Reply};
 use mmc_frame::{Kind, errors, read_command, read_r1};
 
 // Whether a status shows no error of either kind of card.
@@ -18,7 +18,7 @@ fn shows_no_error(status: u32) -> bool {
     errors(Kind::Sd, status).is_empty() && errors(Kind::Mmc, status).is_empty()
 }
 
-/// Whether the response to a command was heard, and shows no error: only then its blocks are moved.
+/// Whether the response to a command was heard, and shows no error: only then are its blocks moved.
 pub fn is_answered(frame: &[u8; 6], reply: Reply) -> bool
     ensures { result ≡ true → (command : ℕ × ℕ) → command_in frame.now ≡ Some command → IsErr (response_heard command.0 reply) → ⊥ }
 {
@@ -51,33 +51,28 @@ fn is_accepted(got: DataOut) -> bool
     }
 }
 
-impl RuledCard {
-    // Polls the card where it is sure to say no, and else does nothing.
-    fn rest(&mut self) -> bool
-        ensures rested { result ≡ true → NotBusy (ruled_view self.old) (ruled_view self.new) }
-        ensures none { result ≡ false → self.new ≡ self.old }
-    {
-        if !self.rules.rules.is_empty() || self.card.may_be_busy() {
-            return false;
-        }
-        // No fault falls, so nothing is to be noted.
-        !self.card.busy()
-    }
-
-    // The same before the next block after so many; before the first one nothing is to be waited for.
+impl SimCard {
+    // Before the next block that is written after so many, but the first, polls the card where it is sure to say no.
     fn is_ready_after(&mut self, done: usize) -> bool
-        ensures rested { result ≡ true → RestsAfter NotBusy done (ruled_view self.old) (ruled_view self.new) }
+        ensures rested { result ≡ true → RestsAfter NotBusy done (sim_bus_view self.old) (sim_bus_view self.new) }
         ensures none { result ≡ false → self.new ≡ self.old }
+        ensures plan { self.new.plan ≡ self.old.plan }
+        ensures faults { self.old.plan ≡ [] → self.new.faults ≡ self.old.faults }
     {
         if done == 0 {
             return true;
         }
-        self.rest()
+        if !self.is_smooth() {
+            return false;
+        }
+        !self.busy()
     }
 
     /// Reads blocks into their places until one isn't good.
     pub fn read_blocks<D: BlocksMut>(&mut self, blocks: &mut D) -> Moved<DataIn>
-        ensures { ReadOn BlockRead D.blocks D.with (ruled_view self.old) blocks.old result (ruled_view self.new) blocks.new }
+        ensures read { ReadOn BlockRead D.blocks D.with (sim_bus_view self.old) blocks.old result (sim_bus_view self.new) blocks.new }
+        ensures plan { self.new.plan ≡ self.old.plan }
+        ensures faults { self.old.plan ≡ [] → self.new.faults ≡ self.old.faults }
     {
         let count = blocks.len();
         for done in 0..count {
@@ -91,7 +86,9 @@ impl RuledCard {
 
     /// Writes blocks until one isn't accepted, or the card may be busy after one.
     pub fn write_blocks<D: Blocks>(&mut self, blocks: &D) -> Moved<DataOut>
-        ensures { WrittenOn BlockWritten NotBusy (D.blocks blocks.now) (ruled_view self.old) result (ruled_view self.new) }
+        ensures written { WrittenOn BlockWritten NotBusy (D.blocks blocks.now) (sim_bus_view self.old) result (sim_bus_view self.new) }
+        ensures plan { self.new.plan ≡ self.old.plan }
+        ensures faults { self.old.plan ≡ [] → self.new.faults ≡ self.old.faults }
     {
         let count = blocks.len();
         for done in 0..count {

@@ -1,5 +1,5 @@
 -- Blocks that are moved with their command: each exchange is one of several.
-use Rattle.std.proofs.Common.{Bool, List, None, arith, false, refl, subst, suc, sym, true, zero, ◌<◌, ◌≡◌, ◌∙◌, ℕ}
+use Rattle.std.proofs.Common.{Bool, List, None, [], arith, false, refl, subst, suc, sym, true, zero, ◌+◌, ◌<◌, ◌≡◌, ◌∙◌, ℕ}
 use Rattle.std.proofs.lemmas.Bool.{false≢true}
 use Rattle.std.specs.Prelude.{◌&&◌, ◌||◌, if◌then◌else◌, nat_lt}
 use Rattle.mmc_bus.specs.Exchanges.{DataRead, Exchanged}
@@ -7,10 +7,13 @@ use Rattle.mmc_bus.specs.Together.{BlockRead, NotBusy, OneOf, RestsAfter}
 use Rattle.mmc_card.specs.BusView.{BusView}
 use Rattle.mmc_card.specs.Card.{Card}
 use Rattle.mmc_card.specs.declared.exchange.DataIn.{DataIn}
+use Rattle.mmc_card.specs.declared.exchange.Lines.{Lines}
 use Rattle.mmc_card.specs.declared.exchange.Exchange.{Exchange}
 use Rattle.mmc_card.specs.declared.exchange.Exchange.TheVariants.{In}
 use Rattle.mmc_card_rows.specs.declared.delays.Delays.{Delays}
-use Rattle.mmc_card_sim.specs.FaultyExchanges.{Polls, fits_poll}
+use Rattle.mmc_card_sim.specs.FaultyExchanges.{Polls, fits_command, fits_poll, fits_read, fits_write}
+use Rattle.mmc_card_sim.specs.Plan.{fault_at}
+use Rattle.mmc_card_sim.specs.declared.plan.Planned.{Planned}
 
 pub one_of : (old new : BusView) (exchange : Exchange) (Step : Type 0) → Exchanged old exchange Step new
     → OneOf old exchange Step new
@@ -44,3 +47,21 @@ none_below = omega arith
 pub rests_after : (done : ℕ) (old new : BusView) → 0 < done → NotBusy old new → RestsAfter NotBusy done old new
 rests_after zero old new some h = absurd (none_below some)
 rests_after (suc done) old new some h = h
+
+-- No fault falls where none is planned.
+
+pub no_read_fails : (plan : List Planned) (exchange size old new : ℕ) (card : Card) (lines : Lines) → plan ≡ []
+    → new ≡ (if fits_read (fault_at plan exchange) card lines size then old + 1 else old) → new ≡ old
+no_read_fails plan exchange size old new card lines none is = rw none at is
+
+pub no_write_fails : (plan : List Planned) (exchange old new : ℕ) (card : Card) (lines : Lines) → plan ≡ []
+    → new ≡ (if fits_write (fault_at plan exchange) card lines then old + 1 else old) → new ≡ old
+no_write_fails plan exchange old new card lines none is = rw none at is
+
+pub no_poll_fails : (plan : List Planned) (exchange old new : ℕ) (card : Card) → plan ≡ []
+    → new ≡ (if fits_poll (fault_at plan exchange) card then old + 1 else old) → new ≡ old
+no_poll_fails plan exchange old new card none is = rw none at is
+
+pub no_command_fails : (plan : List Planned) (exchange old new : ℕ) (delays : Delays) (card : Card) (frame : List ℕ) → plan ≡ []
+    → new ≡ (if fits_command (fault_at plan exchange) delays card frame then old + 1 else old) → new ≡ old
+no_command_fails plan exchange old new delays card frame none is = rw none at is
