@@ -43,12 +43,10 @@ impl From<AllocError> for NbdFault {
 }
 
 impl From<clap::Error> for NbdFault {
-    ghost use Rattle.std.specs.Prelude.{◌≢◌};
     ghost use Rattle.clap.specs.Values.{kind_of};
-    ghost use Rattle.clap.specs.declared.error.kind.ErrorKind.TheVariants.{OutOfMemory};
-    ghost use Rattle.card_nbd.specs.declared.fault.NbdFault.TheVariants.{Usage};
+    ghost use Rattle.card_nbd.specs.Faults.{of_words};
 
-    ghost from_gives = { λ error e. (e ≡ Unserved NoMemory → kind_of error ≡ OutOfMemory) × (e ≡ Usage → kind_of error ≢ OutOfMemory) };
+    ghost from_gives = { λ error e. e ≡ of_words (kind_of error) };
 
     fn from(error: clap::Error) -> NbdFault {
         match error.kind() {
