@@ -6,7 +6,7 @@ use Rattle.mmc_bus.proofs.PollLemmas.{Counts, polled_as}
 use Rattle.mmc_bus.proofs.WorkLemmas.{joined, narrows_then, quiet_parts, refuted, set_then, stays_same, stays_then, worked_as}
 use Rattle.mmc_bus.specs.CommandLaws.{LeftOver, TellsStatus}
 use Rattle.mmc_bus.specs.declared.host.Unheard.{Unheard}
-use Rattle.mmc_bus.specs.Closings.{Closes, ClosesSoon, HasLagged, HasShown, WasAtWork, WillBeClean}
+use Rattle.mmc_bus.specs.Closings.{Closes, ClosesInTime, ClosesSoon, HasLagged, HasShown, IsCalm, WasAtWork, WillBeClean}
 use Rattle.mmc_bus.specs.Learned.{Stays}
 use Rattle.mmc_bus.specs.Work.{Narrows, StaysSet, Worked}
 use Rattle.mmc_bus.specs.declared.cause.Cause.{Cause}
@@ -21,9 +21,11 @@ use Rattle.mmc_card.specs.CardAnswer.{Choice, counted, left_with, shown}
 use Rattle.mmc_card.specs.Judged.{ShowsItself}
 use Rattle.mmc_card.specs.Made.{Made}
 use Rattle.mmc_card.specs.CardLaws.{HasNoErrorOfItsOwn, IsInOrder, Tells}
-use Rattle.mmc_card.specs.Faults.{NoFault}
+use Rattle.mmc_card.proofs.Passing.{still, still_in, still_rested, unmoved_by_time}
+use Rattle.mmc_card.specs.Faults.{NoFault, Passes}
+use Rattle.mmc_card.specs.Laws.{IsStill}
 use Rattle.mmc_card.specs.RowsIdentify.{at_work, lagging, may_lag}
-use Rattle.mmc_frame.specs.declared.card_state.State.TheVariants.{Prg, Tran}
+use Rattle.mmc_frame.specs.declared.card_state.State.TheVariants.{Data, Prg, Tran}
 use Rattle.mmc_frame.specs.declared.kind.Kind.{Kind}
 use Rattle.mmc_frame.specs.Status.{IsAtWork, IsClean, error_bits, own_status}
 
@@ -47,7 +49,7 @@ comes_clean (Err cause) old new up soon = absurd soon
 -- What one status asks, as work.
 abbrev pub Asks : Kind → ℕ → Result Closing Cause → BusView → BusView → Type 0
 Asks kind rca r =
-    Worked Narrows (λ old new. Closes kind r old.card new.card)
+    Worked Narrows (λ old new. ClosesInTime kind r old new)
     (λ old new. WillBeClean kind old.card → old.card.app ≡ false → old.card.rca ≡ rca → ClosesSoon r old.card new.card)
 
 -- errors of its own are those of `errors` and SWITCH_ERROR; order hangs on them, the state, and whether it is busy
@@ -87,6 +89,30 @@ clean_on kind old new e none order =
       },
     )
 
+-- a card that shows itself sound was so before time passed, and before it showed its status
+abbrev pub IsSound : Card → Type 0
+IsSound card = (is_selected card.state ≡ true) × (card.errors ≡ 0)
+
+pub sound_before : (old met : BusView) → Passes old met → IsSound met.card → IsSound old.card
+sound_before old met passes sound =
+    let same = unmoved_by_time old met passes in
+    (sym same.selected ∙ sound.0, same.errors sound.1)
+
+pub sound_in_order : (kind : Kind) (card : Card) → IsInOrder kind card → IsSound card
+sound_in_order kind card order = (ap is_selected order.tran, order.no_error.errors)
+
+pub sound_at_work : (kind : Kind) (old new : Card) → WasAtWork kind old new → IsSound new → IsSound old
+sound_at_work kind old new was sound =
+    (ap (λ (c : Card). is_selected c.state) (sym was.shown) ∙ sound.0, (was.held_none sound.1).errors)
+
+-- a card that has only shown its status is as still as it was
+still_shown : (old new : Card) → HasShown old new → IsStill old → IsStill new
+still_shown old new shows is = subst IsStill (sym shows) (record {
+  rests = is.rests;
+  programs_nothing = is.programs_nothing;
+  sends_nothing = is.sends_nothing;
+})
+
 -- So many statuses showed the card at work.
 pub record Asking (kind : Kind) (rca : ℕ) (old : BusView) (statuses : ℕ) (now : BusView) : Type 0 where
   pub was_kept : old.is_kept ≡ true
@@ -95,8 +121,11 @@ pub record Asking (kind : Kind) (rca : ℕ) (old : BusView) (statuses : ℕ) (no
   pub stays : Stays old now
   pub set : StaysSet old now
   pub narrows : Narrows old now
-  pub back : IsInOrder kind now.card → IsInOrder kind old.card
-  pub card : shown now.card ≡ polled_as (shown old.card) now.card.polled
+  pub sound : IsSound now.card → IsSound old.card
+  -- where it is calm, each of them met it as it was
+  pub back : IsCalm old.card → IsInOrder kind now.card → IsInOrder kind old.card
+  pub card : IsCalm old.card → IsSound now.card
+      → (shown now.card ≡ polled_as (shown old.card) now.card.polled) × IsStill now.card
   pub soon : NoFault old now → WillBeClean kind old.card → old.card.app ≡ false → old.card.rca ≡ rca
       → WillBeClean kind now.card × (now.card.app ≡ false) × (now.card.rca ≡ rca)
       × (now.card.polled ≡ old.card.polled + statuses)
@@ -111,8 +140,9 @@ asking_none kind rca old kept = record {
   stays = stays_same old old.lines;
   set = record { lines = refl; stands = λ setting s. s };
   narrows = λ part sector value h. h;
-  back = λ order. order;
-  card = refl;
+  sound = λ sound. sound;
+  back = λ calm order. order;
+  card = λ calm sound. (refl, calm sound.0 sound.1);
   soon = λ same order app is. (order, app, is, omega arith);
   few = λ same order app is some. absurd (omega (arith, some));
 }
@@ -120,7 +150,14 @@ asking_none kind rca old kept = record {
 pub asking_on : (kind : Kind) (rca : ℕ) (old : BusView) (statuses : ℕ) (now new : BusView)
     → Asking kind rca old statuses now → Asks kind rca (Ok AtWork) now new → Asking kind rca old (statuses + 1) new
 asking_on kind rca old statuses now new p q =
-    let own = q.own in
+    let met = q.own.0 in
+    let passes = q.own.1 in
+    let own = q.own.2 in
+    let sound : IsSound new.card → IsSound now.card =
+    λ sound. sound_before now met passes (sound_at_work kind met.card new.card own sound) in
+    let at_once : IsCalm old.card → IsSound new.card → WasAtWork kind now.card new.card × IsStill now.card = λ calm is.
+    let was = (p.card calm (sound is)).1 in
+    (subst (λ (v : BusView). WasAtWork kind v.card new.card) (still now met was passes) own, was) in
     let after : (same : NoFault old new) (order : WillBeClean kind old.card) (app : old.card.app ≡ false)
     (is : old.card.rca ≡ rca) → WillBeClean kind now.card × (now.card.app ≡ false) × (now.card.rca ≡ rca)
     × (now.card.polled ≡ old.card.polled + statuses) × (now.card.polled < patience)
@@ -130,6 +167,11 @@ asking_on kind rca old statuses now new p q =
     let was = p.soon parts.0 order app is in
     let comes = q.fine parts.1 was.0 was.1 was.2 in
     (was.0, was.1, was.2, was.3, comes.0.1, comes.0.2, comes.1) in
+    let soon_shown : NoFault old new → WillBeClean kind old.card → old.card.app ≡ false → old.card.rca ≡ rca
+    → HasShown now.card new.card = λ same order app is.
+    let was = (after same order app is).0 in
+    let e = still now met (still_in now.card Tran was.1.tran refl refl was.1.rests) passes in
+    subst (λ (v : BusView). HasShown v.card new.card) e own.shown in
     record {
       was_kept = p.was_kept;
       was_card = λ k. p.was_card q.was_card;
@@ -137,15 +179,23 @@ asking_on kind rca old statuses now new p q =
       stays = stays_then old now new p.stays q.stays;
       set = set_then old now new p.set q.set;
       narrows = narrows_then old now new p.narrows q.sectors;
-      back = λ order. p.back (order_back kind now.card new.card (own.held_none order.no_error.errors) own.shown order);
-      card = ap shown own.shown ∙ ap (λ (c : Card). polled_as c new.card.polled) p.card;
+      sound = λ is. p.sound (sound is);
+      back = λ calm order.
+          let was = (at_once calm (sound_in_order kind new.card order)).0 in
+          p.back calm (order_back kind now.card new.card (was.held_none order.no_error.errors) was.shown order);
+      card = λ calm is.
+          let was = at_once calm is in (
+            ap shown was.0.shown ∙ ap (λ (c : Card). polled_as c new.card.polled) (p.card calm (sound is)).0,
+            still_shown now.card new.card was.0.shown was.1,
+          );
       soon = λ same order app is.
           let all = after same order app is in
+          let shows = soon_shown same order app is in
           let was = all.3 in
           let more = all.5 in (
-            clean_on kind now.card new.card own.shown all.6 all.0,
-            ap (λ (c : Card). c.app) own.shown,
-            ap (λ (c : Card). c.rca) own.shown ∙ all.2,
+            clean_on kind now.card new.card shows all.6 all.0,
+            ap (λ (c : Card). c.app) shows,
+            ap (λ (c : Card). c.rca) shows ∙ all.2,
             omega (arith, was, more),
           );
       few = λ same order app is some.
@@ -159,14 +209,22 @@ asking_on kind rca old statuses now new p q =
 abbrev pub Confirms : Kind → ℕ → ℕ → Result Unit Cause → BusView → BusView → Type 0
 Confirms kind rca most r =
     Worked Narrows
-    (λ old new. IsOk r → IsInOrder kind old.card × (new.card ≡ record (shown old.card) { polled = new.card.polled }))
+    (λ old new. IsOk r → IsCalm old.card
+    → IsInOrder kind old.card × (new.card ≡ record (shown old.card) { polled = new.card.polled }))
     (λ old new. WillBeClean kind old.card → old.card.app ≡ false → old.card.rca ≡ rca → patience < old.card.polled + most → IsOk r)
 
 -- the next one is clean
 pub asked_clean : (kind : Kind) (rca most : ℕ) (old : BusView) (statuses : ℕ) (now new : BusView)
     → Asking kind rca old statuses now → Asks kind rca (Ok Clean) now new → Confirms kind rca most (Ok tt) old new
 asked_clean kind rca most old statuses now new p q =
-    let e : new.card ≡ polled_as (shown old.card) now.card.polled = q.own.1 ∙ p.card in
+    let met = q.own.0 in
+    let passes = q.own.1 in
+    let sound = sound_before now met passes (sound_in_order kind met.card q.own.2.0) in
+    let at_once : IsCalm old.card → (IsInOrder kind now.card × (new.card ≡ shown now.card))
+    × (new.card ≡ polled_as (shown old.card) now.card.polled) = λ calm.
+    let was = p.card calm sound in
+    let closes = subst (λ (v : BusView). IsInOrder kind v.card × (new.card ≡ shown v.card)) (still now met was.1 passes) q.own.2 in
+    (closes, closes.1 ∙ was.0) in
     record {
       was_kept = p.was_kept;
       was_card = p.was_card q.was_card;
@@ -174,10 +232,12 @@ asked_clean kind rca most old statuses now new p q =
       stays = stays_then old now new p.stays q.stays;
       set = set_then old now new p.set q.set;
       sectors = narrows_then old now new p.narrows q.sectors;
-      own = λ ok. (
-        p.back q.own.0,
-        e ∙ ap (λ n. polled_as (shown old.card) n) (sym (ap (λ (c : Card). c.polled) e)),
-      );
+      own = λ ok calm.
+          let all = at_once calm in
+          let e = all.1 in (
+            p.back calm all.0.0,
+            e ∙ ap (λ n. polled_as (shown old.card) n) (sym (ap (λ (c : Card). c.polled) e)),
+          );
       fine = λ same order app is enough. refl;
     }
 
@@ -233,7 +293,7 @@ rested_polled card polls =
 abbrev pub Ended : Kind → ℕ → Result Unit Cause → BusView → BusView → Type 0
 Ended kind rca r =
     Worked Narrows
-    (λ old new. IsOk r → IsInOrder kind (rested old.card)
+    (λ old new. IsOk r → is_in old.card.state Data ≡ false → IsInOrder kind (rested old.card)
     × (new.card ≡ record (shown (rested old.card)) { polled = new.card.polled }))
     (λ old new. old.card.polled ≡ 0 → WillBeClean kind (rested old.card) → (rested old.card).app ≡ false
     → (rested old.card).rca ≡ rca → IsOk r)
@@ -249,8 +309,11 @@ pub ended : (kind : Kind) (rca polls most : ℕ) (r : Result Unit Cause) (a b c 
     → Counts (Ok polls) a b → Confirms kind rca most r b c → Ended kind rca r a c
 ended kind rca polls most r a b c is_most p q =
     joined a b c p q (narrows_then a b c p.sectors q.sectors)
-    (λ confirmed.
-    let told = q.own confirmed in
+    (λ confirmed quiet.
+    let calm : IsCalm b.card = λ selected none.
+    let was = p.own refl selected none in
+    subst IsStill (sym was.1) (still_rested (record a.card { polled = was.0 }) quiet) in
+    let told = q.own confirmed calm in
     let was = p.own refl (ap is_selected told.0.tran) told.0.no_error.errors in
     let e = was.1 ∙ rested_polled a.card was.0 in (
       order_like kind _ (rested a.card) refl refl refl refl refl (subst (IsInOrder kind) e told.0),
@@ -397,7 +460,7 @@ told_soon {E} kind old new heard r k clean lag unclean told is tells order all_c
 abbrev pub ConfirmsOnce : Kind → ℕ → Result Unit Cause → BusView → BusView → Type 0
 ConfirmsOnce kind rca r =
     Worked Narrows
-    (λ old new. IsOk r → IsInOrder kind old.card × (new.card ≡ shown old.card))
+    (λ old new. IsOk r → (met : BusView) × Passes old met × IsInOrder kind met.card × (new.card ≡ shown met.card))
     (λ old new. WillBeClean kind old.card → old.card.app ≡ false → old.card.rca ≡ rca → old.card.lags ≡ false → IsOk r)
 
 pub asked_once : (kind : Kind) (rca : ℕ) (closing : Result Closing Cause) (r : Result Unit Cause) (a b : BusView)
@@ -405,5 +468,7 @@ pub asked_once : (kind : Kind) (rca : ℕ) (closing : Result Closing Cause) (r :
     → ConfirmsOnce kind rca r a b
 asked_once kind rca closing r a b only all p =
     worked_as a b p p.sectors
-    (λ ok. subst (λ c. Closes kind c a.card b.card) (only ok) p.own)
+    (λ ok.
+    let closes = subst (λ c. ClosesInTime kind c a b) (only ok) p.own in
+    (closes.0, closes.1, closes.2.0, closes.2.1))
     (λ same order app is up. all (comes_clean closing a.card b.card up (p.fine same order app is)))

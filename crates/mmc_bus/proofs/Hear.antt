@@ -6,11 +6,12 @@ use Rattle.std.proofs.lemmas.Nat.{le_or_r}
 use Rattle.std.specs.Int.Bits.{or_zero_r}
 use Rattle.mmc_frame.specs.Frame.{command_in}
 use Rattle.mmc_frame.specs.declared.card_state.State.{State}
-use Rattle.mmc_frame.specs.declared.card_state.State.TheVariants.{Idle, Prg, Rcv}
+use Rattle.mmc_frame.specs.declared.card_state.State.TheVariants.{Data, Idle, Prg, Rcv}
 use Rattle.mmc_card.specs.declared.exchange.DataIn.{DataIn}
 use Rattle.mmc_card.specs.declared.exchange.DataOut.{DataOut}
 use Rattle.mmc_card.specs.declared.exchange.Exchange.{Exchange}
 use Rattle.mmc_card.specs.declared.exchange.Exchange.TheVariants.{Command}
+use Rattle.mmc_card.specs.declared.exchange.Lines.{Lines}
 use Rattle.mmc_card.specs.declared.exchange.Reply.{Reply}
 use Rattle.mmc_card.specs.declared.exchange.Want.{Want}
 use Rattle.mmc_card.specs.Wanted.{response_to}
@@ -18,13 +19,15 @@ use Rattle.mmc_frame.specs.declared.kind.Kind.{Kind}
 use Rattle.mmc_bus.specs.declared.host.Unheard.{Unheard}
 use Rattle.mmc_card.proofs.Cards.{in_state}
 use Rattle.mmc_card.proofs.Conditions.{by_cond}
-use Rattle.mmc_card.proofs.Steps.{after_poll}
-use Rattle.mmc_card.proofs.FaultCount.{command_counts, write_counts, poll_counts, read_counts}
-use Rattle.mmc_card.proofs.Narrow.{both}
-use Rattle.mmc_card.proofs.NarrowSteps.{command_widens, write_adds, poll_keeps, read_keeps}
+use Rattle.mmc_card.proofs.Steps.{after_poll, after_time}
+use Rattle.mmc_card.proofs.FaultCount.{command_counts, poll_counts, read_counts}
+use Rattle.mmc_card.proofs.Narrow.{accepts_in_rcv, both}
+use Rattle.mmc_card.proofs.NarrowSteps.{poll_keeps, read_keeps}
+use Rattle.mmc_card.proofs.Passing.{GoesOn, accepted_before, accepts_at_rest, accepts_when_free, beside_card, block_adds, block_counts}
+use Rattle.mmc_card.proofs.Passing.{block_stands, card_in_time, goes_on_in_time, ignores_all, not_fewer_in_time, not_sent, run_in_rcv, step_counts}
+use Rattle.mmc_card.proofs.Passing.{step_stands, step_switches, step_widens, still, still_in}
 use Rattle.mmc_bus.proofs.Readers.{Reads, with_errors}
-use Rattle.mmc_card.proofs.Switching.{command_switches}
-use Rattle.mmc_card.proofs.Standing.{command_stands, write_stands, poll_stands, read_stands}
+use Rattle.mmc_card.proofs.Standing.{poll_stands, read_stands}
 use Rattle.mmc_card.specs.CardAnswer.{CardAnswer, Choice, Silent, left_with, refused}
 use Rattle.mmc_card.proofs.Landing.{snoc_length}
 use Rattle.mmc_card.specs.Blocks.{accepted, can_send, can_accept, fallen_short, next_block, next_written, rested, sent}
@@ -32,13 +35,14 @@ use Rattle.mmc_card.specs.Blocks.{ignoring, waited, will_send}
 use Rattle.mmc_card.specs.Card.{AreAmong, Card, IsCard, holds, is_in, is_selected, patience}
 use Rattle.mmc_card.specs.ErrorBits.{command_error_bits}
 use Rattle.mmc_bus.specs.Exchanges.{Exchanged}
-use Rattle.mmc_card.specs.Faults.{CommandStep, FallNoMore, IsFaultless, NoFault, OneFault, Replies, WriteStep, outlive}
+use Rattle.mmc_card.specs.Faults.{CommandStep, FallNoMore, IsFaultless, MeetsBlock, MeetsCommand, NoFault, OneFault, Passes, Replies}
+use Rattle.mmc_card.specs.Faults.{WriteStep, at_once, has_failed, has_fallen_short, has_rested, has_run, outlive}
 use Rattle.mmc_card.specs.Faults.{PollStep, ReadStep, RepliesFlipped, brownout, fail, fail_early, faithful, fall_short}
 use Rattle.mmc_card.specs.Faults.{busy, fail_switch, flip_command, flip_reply, leave_over, lose_command, lose_reply}
 use Rattle.mmc_card.specs.Faults.{find_protection, lose_block, lose_status, reject, slow_inquiry, spoil, turn_out}
 use Rattle.mmc_bus.specs.Heard.{cause_of, cause_of_command}
 use Rattle.mmc_card.specs.Laws.{CountsAtMostOne, erased_by, is_frame_of_run, maybe_erased}
-use Rattle.mmc_bus.specs.Learned.{Asked, CommandFacts, Faithful, Hears, IsAccepted, Obeyed, PollFacts, ReadFacts, WriteFacts, carried_out}
+use Rattle.mmc_bus.specs.Learned.{Asked, CommandMet, Faithful, Hears, IsAccepted, Obeyed, PollFacts, ReadFacts, WriteFacts, carried_out}
 use Rattle.mmc_bus.specs.Learned.{IsThereAfter, may_fail, meant, polled_to}
 use Rattle.mmc_card.specs.declared.command.Command.{Command as Meaning}
 use Rattle.mmc_card.specs.declared.command.Command.TheVariants.{GoIdleState}
@@ -50,9 +54,16 @@ use Rattle.mmc_card.specs.declared.exchange.DataOut.TheVariants as Sent
 
 -- Faults.
 
-later : (old new : BusView) → CountsAtMostOne old new → old.faults ≤ new.faults
-later old new (inl same) = omega (arith, same)
-later old new (inr more) = omega (arith, more)
+not_fewer : (old new : BusView) → CountsAtMostOne old new → old.faults ≤ new.faults
+not_fewer old new (inl same) = omega (arith, same)
+not_fewer old new (inr more) = omega (arith, more)
+
+-- no fault in the whole is none in its parts
+quiet_then : (old met new : BusView) → Passes old met → CountsAtMostOne met new → NoFault old new → NoFault met new
+quiet_then old met new passes counts same =
+    let before = (not_fewer_in_time old met passes).0 in
+    let after = not_fewer met new counts in
+    omega (arith, before, after, same)
 
 -- where a fault fell, none didn't
 fell : {X : Type 0} (old new : BusView) → OneFault old new → NoFault old new → X
@@ -175,7 +186,7 @@ command_sound : {X : Type 0} (Fits : CardAnswer → Type 0) (hears : Reply → R
     (answers : CardAnswer → Result X Unheard)
     (old : BusView) (frame : List ℕ) (index argument : ℕ) (reply : Reply) (new : BusView)
     → Reads Fits hears answers → ((errors : ℕ) (choice : Choice) → Fits (respond choice (with_errors errors old.card) index argument).1)
-    → command_in frame ≡ Some (index, argument) → CommandStep old frame reply new
+    → command_in frame ≡ Some (index, argument) → MeetsCommand old frame reply new
     → (x : X) → hears reply ≡ Ok x → Obeyed answers old.card index argument (hears reply) new.card
 command_sound Fits hears answers old frame index argument reply new reads fits command
     (faithful choice patient count card spells) x h =
@@ -227,7 +238,7 @@ command_fine : {X : Type 0} (Fits : CardAnswer → Type 0) (hears : Reply → Re
     (answers : CardAnswer → Result X Unheard)
     (old : BusView) (frame : List ℕ) (index argument : ℕ) (reply : Reply) (new : BusView)
     → Reads Fits hears answers → ((errors : ℕ) (choice : Choice) → Fits (respond choice (with_errors errors old.card) index argument).1)
-    → command_in frame ≡ Some (index, argument) → CommandStep old frame reply new
+    → command_in frame ≡ Some (index, argument) → MeetsCommand old frame reply new
     → NoFault old new → Faithful answers old.card index argument (hears reply) new.card
 command_fine Fits hears answers old frame index argument reply new reads fits command
     (faithful choice patient count card spells) same =
@@ -255,27 +266,40 @@ command_fine Fits hears answers old frame index argument reply new reads fits co
 command_fine Fits hears answers old frame index argument reply new reads fits command
     (brownout choice lands keeps_length after patient count card silent) same = fell old new count same
 
-pub command_facts : {X : Type 0} (Fits : CardAnswer → Type 0) (hears : Reply → Result X Unheard)
+-- what holds of the card that the command met, holds for each of them
+abbrev pub FitsEach : {X : Type 0} → (BusView → CardAnswer → Type 0) → ℕ → ℕ → X → Type 0
+FitsEach Fits index argument heard =
+    (met : BusView) → IsCard met.card → (errors : ℕ) (choice : Choice)
+    → Fits met (respond choice (with_errors errors met.card) index argument).1
+
+pub command_facts : {X : Type 0} (Fits : BusView → CardAnswer → Type 0) (hears : Reply → Result X Unheard)
     (answers : CardAnswer → Result X Unheard)
     (old : BusView) (frame : List ℕ) (index argument : ℕ) (reply : Reply) (new : BusView)
-    → Reads Fits hears answers → ((errors : ℕ) (choice : Choice) → Fits (respond choice (with_errors errors old.card) index argument).1)
-    → command_in frame ≡ Some (index, argument) → new.limits ≡ old.limits → FallNoMore old new
-    → CommandStep old frame reply new → CommandFacts answers old index argument (hears reply) new
-command_facts Fits hears answers old frame index argument reply new reads fits command limits bounded step =
-    let widens = command_widens old frame reply new step in
+    → ((met : BusView) → Reads (Fits met) hears answers) → FitsEach Fits index argument reply
+    → command_in frame ≡ Some (index, argument) → IsCard old.card → new.limits ≡ old.limits → FallNoMore old new
+    → CommandStep old frame reply new → CommandMet answers old index argument (hears reply) new
+command_facts Fits hears answers old frame index argument reply new reads fits command k limits bounded step =
+    let widens = step_widens old frame reply new step in
+    let met = step.met in
+    let is = card_in_time old met step.passes k in
     record {
       stays = record {
         carried = widens.carried;
-        later = later old new (command_counts old frame reply new step);
+        later = (step_counts old frame reply new step).0;
         bounded = bounded;
         limits = limits;
       };
       narrows = subst (λ s. Within (holds new.card) (maybe_erased (erased_by old.card s) (holds old.card))) command
           widens.widens;
-      stands = λ run. command_stands old frame reply new (ap (is_frame_of_run old.card) command ∙ run) step;
-      switches = λ part switch. command_switches part old frame index argument reply new switch command step;
-      sound = command_sound Fits hears answers old frame index argument reply new reads fits command step;
-      fine = command_fine Fits hears answers old frame index argument reply new reads fits command step;
+      stands = λ run. step_stands old frame reply new (ap (is_frame_of_run old.card) command ∙ run) step;
+      switches = λ part switch. step_switches part old frame index argument reply new switch command step;
+      met = met;
+      passes = step.passes;
+      quiet = λ same. quiet_then old met new step.passes (command_counts met frame reply new step.meets) same;
+      facts = record {
+        sound = command_sound (Fits met) hears answers met frame index argument reply new (reads met) (fits met is) command step.meets;
+        fine = command_fine (Fits met) hears answers met frame index argument reply new (reads met) (fits met is) command step.meets;
+      };
     }
 
 -- Polls.
@@ -295,10 +319,6 @@ falls_short : (card : Card) → is_in card.state Rcv ≡ true → may_fail card 
 falls_short card rcv = rw rcv refl
 
 -- in rcv a write goes on where it was
-abbrev GoesOn : Card → Card → Type 0
-GoesOn old new =
-    is_in new.state Rcv ≡ true → (is_in old.state Rcv ≡ true) × (next_written new ≡ next_written old)
-
 goes_on : (old : BusView) (said : Bool) (new : BusView) → PollStep old said new → GoesOn old.card new.card
 goes_on old said new step =
     after_poll (GoesOn old.card) old said new (λ h. (h, refl))
@@ -390,7 +410,7 @@ poll_facts old said new limits bounded step =
     record {
       stays = record {
         carried = keeps.carried;
-        later = later old new (poll_counts old said new step);
+        later = not_fewer old new (poll_counts old said new step);
         bounded = bounded;
         limits = limits;
       };
@@ -412,12 +432,17 @@ by_offer : (b : Bool) (x y new : Card) (got : DataOut) → new ≡ cond b x y �
 by_offer true x y new got card answer = (λ h. (refl, card), λ t. (answer, card), λ f. cc)
 by_offer false x y new got card answer = (λ h. cc, λ t. cc, λ f. (answer, card))
 
+-- The card that met the block has accepted it as the next one.
+record HasAccepted (block : Sector) (met new : BusView) : Type 0 where
+  could : can_accept met.lines met.card ≡ true
+  goes_on : next_written new.card ≡ next_written met.card + 1
+  shown : new.card.errors ≡ 0 → new.card ≡ accepted block met.card
+
 -- what the answer to a block that is offered tells
 record WriteWays (old : BusView) (block : Sector) (got : DataOut) (new : BusView) : Type 0 where
-  accepts : got ≡ Sent.Accepted → IsAccepted block old new
+  accepts : got ≡ Sent.Accepted → HasAccepted block old new
   fine : NoFault old new → can_accept old.lines old.card ≡ true
       → (got ≡ Sent.Accepted) × (new.card ≡ accepted block old.card)
-  refuses : NoFault old new → can_accept old.lines old.card ≡ false → (got ≡ Sent.Nothing) × (new.card ≡ old.card)
 
 -- the block after an accepted one is for the next sector
 one_further : (card : Card) (block : Sector) → next_written (accepted block card) ≡ next_written card + 1
@@ -437,7 +462,6 @@ unaccepted old block got new count none =
     record {
       accepts = λ h. absurd (none h);
       fine = λ same t. fell old new count same;
-      refuses = λ same t. fell old new count same;
     }
 
 not_nothing : (got : DataOut) → got ≡ Sent.Nothing → got ≡ Sent.Accepted → ⊥
@@ -446,7 +470,7 @@ not_nothing got e h = cc
 not_rejected : (got : DataOut) → got ≡ Sent.Rejected → got ≡ Sent.Accepted → ⊥
 not_rejected got e h = cc
 
-write_ways : (old : BusView) (block : Sector) (got : DataOut) (new : BusView) → WriteStep old block got new
+write_ways : (old : BusView) (block : Sector) (got : DataOut) (new : BusView) → MeetsBlock old block got new
     → WriteWays old block got new
 write_ways old block got new (faithful count card answer) =
     let ways = by_offer (can_accept old.lines old.card) (accepted block old.card) old.card new.card got card answer in
@@ -457,7 +481,6 @@ write_ways old block got new (faithful count card answer) =
         shown = λ none. w.1;
       };
       fine = λ same t. ways.1 t;
-      refuses = λ same f. ways.2 f;
     }
 write_ways old block got new (fall_short lands bits ignores of can count card answer) =
     record {
@@ -470,7 +493,6 @@ write_ways old block got new (fall_short lands bits ignores of can count card an
             ∙ ap (λ n. bit_or n bits) (ignoring_errors ignores (accepted block (fallen_short lands old.card)))) ∙ none));
       };
       fine = λ same t. fell old new count same;
-      refuses = λ same f. fell old new count same;
     }
 write_ways old block got new (lose_block can count card answer) = unaccepted old block got new count
     (not_nothing got answer)
@@ -484,24 +506,78 @@ write_ways old block got new (brownout lands keeps_length after count card answe
     unaccepted old block got new count
     (not_nothing got answer)
 
+-- Time that passed before the block changes nothing of where it goes, and what the card holds if no error shows.
+
+accepts_in_time : (old met : BusView) → Passes old met → (lines : Lines) → can_accept lines met.card ≡ true
+    → can_accept lines (record old.card { is_busy = false }) ≡ true
+accepts_in_time old met passes lines =
+    let c = old.card in
+    let Accepts : Card → Type 0 = λ d. can_accept lines d ≡ true → can_accept lines (record c { is_busy = false }) ≡ true in
+    after_time Accepts old met (accepts_at_rest lines c)
+    (by_cond Accepts (is_in c.state Prg) (λ _ h. cc) (λ _ h. h))
+    (λ choice d _ k h. not_sent lines d.source choice d h) (λ lands prg h. cc) (λ lands rcv h. accepted_before lands lines c h)
+    (λ ignores d k. by_cond Accepts ignores (λ _ h. ignores_all lines d h) (λ _. k)) (λ bits d _ k. k) passes
+
+shown_in_time : (old met : BusView) (block : Sector) → Passes old met → is_in met.card.state Rcv ≡ true → met.card.errors ≡ 0
+    → accepted block met.card ≡ accepted block old.card
+shown_in_time old met block passes rcv none =
+    let c = old.card in
+    let is : (d : Card) → met.card ≡ d → (is_in d.state Rcv ≡ true → d.errors ≡ 0 → accepted block d ≡ accepted block c)
+    → accepted block met.card ≡ accepted block c =
+    λ d e h. ap (λ (x : Card). accepted block x) e
+    ∙ h (ap (λ (x : Card). is_in x.state Rcv) (sym e) ∙ rcv) (ap (λ (x : Card). x.errors) (sym e) ∙ none) in
+    elim passes [
+      | at_once e ↦ ap (λ (v : BusView). accepted block v.card) e
+      | has_rested e ↦ is _ (ap (λ (v : BusView). v.card) e)
+          (by_cond (λ (d : Card). is_in d.state Rcv ≡ true → d.errors ≡ 0 → accepted block d ≡ accepted block c)
+          (is_in c.state Prg) (λ _ there clear. cc (there)) (λ _ there clear. refl))
+      | has_run choice blocks e ↦ is _ (ap (λ (v : BusView). v.card) e)
+          (λ there clear. ap (accepted block) (run_in_rcv choice blocks c there))
+      | has_failed lands bits of prg switching e ↦ is _ (ap (λ (v : BusView). v.card) e) (λ there clear. cc (there))
+      | has_fallen_short lands bits ignores of there is_busy e ↦ is _ (ap (λ (v : BusView). v.card) e)
+          (λ there clear. absurd (signed _ bits of.1 clear))
+    ]
+
+-- a card that can accept a block waits for nothing
+accepts_at_once : (old met : BusView) → can_accept old.lines old.card ≡ true → Passes old met → met ≡ old
+accepts_at_once old met can passes =
+    let rcv = in_state old.card.state Rcv (accepts_in_rcv old.lines old.card can) in
+    still old met (still_in old.card Rcv rcv refl refl (accepts_when_free old.lines old.card can)) passes
+
 pub write_facts : (old : BusView) (block : Sector) (got : DataOut) (new : BusView) → new.limits ≡ old.limits
     → FallNoMore old new
     → WriteStep old block got new → WriteFacts old block got new
 write_facts old block got new limits bounded step =
-    let adds = write_adds old block got new step in
-    let ways = write_ways old block got new step in
+    let adds = block_adds old block got new step in
+    let met = step.met in
+    let ways = write_ways met block got new step.meets in
+    let lines = beside_card old met step.passes (λ (v : BusView). v.lines) (λ card faults. refl) in
     record {
       stays = record {
         carried = adds.carried;
-        later = later old new (write_counts old block got new step);
+        later = (block_counts old block got new step).0;
         bounded = bounded;
         limits = limits;
       };
       widens = adds.adds;
-      stands = write_stands old block got new step;
-      accepts = ways.accepts;
-      fine = ways.fine;
-      refuses = ways.refuses;
+      stands = block_stands old block got new step;
+      accepts = λ h.
+          let a = ways.accepts h in
+          let could = subst (λ l. can_accept l met.card ≡ true) lines a.could in
+          let rcv = accepts_in_rcv old.lines met.card could in
+          let on = (goes_on_in_time old met step.passes rcv).1 in
+          record {
+            could = accepts_in_time old met step.passes old.lines could;
+            goes_on = a.goes_on ∙ ap (λ n. n + 1) on;
+            shown = λ none.
+                let taken = a.shown none in
+                taken ∙ shown_in_time old met block step.passes rcv (sym (ap (λ (c : Card). c.errors) taken) ∙ none);
+          };
+      fine = λ same can.
+          let e = accepts_at_once old met can step.passes in
+          let fine = ways.fine (same ∙ ap (λ (v : BusView). v.faults) (sym e)) in
+          subst (λ (v : BusView). can_accept v.lines v.card ≡ true → (got ≡ Sent.Accepted) × (new.card ≡ accepted block v.card)) e
+          (λ could. fine could) can;
     }
 
 by_ask : (b : Bool) (x y new : Card) (got : DataIn) → new ≡ cond b x y → got ≡ cond b Received.Good Received.Nothing
@@ -566,7 +642,7 @@ read_facts old size got block new limits bounded step =
     record {
       stays = record {
         carried = keeps.carried;
-        later = later old new (read_counts old size got block new step);
+        later = not_fewer old new (read_counts old size got block new step);
         bounded = bounded;
         limits = limits;
       };
@@ -597,11 +673,10 @@ with_facts old exchange new e facts = record {
   };
 }
 
-pub asked : {X : Type 0} (Fits : CardAnswer → Type 0) (hears : Reply → Result X Unheard)
+pub asked : {X : Type 0} (Fits : BusView → CardAnswer → Type 0) (hears : Reply → Result X Unheard)
     (answers : CardAnswer → Result X Unheard)
     (old : BusView) (frame : List ℕ) (index argument : ℕ) (want : Want) (reply : Reply) (heard : Result X Unheard)
-    (new : BusView) → Reads Fits hears answers → (IsCard old.card → (errors : ℕ) (choice : Choice)
-    → Fits (respond choice (with_errors errors old.card) index argument).1)
+    (new : BusView) → ((met : BusView) → Reads (Fits met) hears answers) → FitsEach Fits index argument reply
     → command_in frame ≡ Some (index, argument)
     → ((kind : Kind) (app : Bool) → want ≡ response_to (command_of kind app index)) → heard ≡ hears reply
     → Exchanged old (Command frame want reply) (CommandStep old frame reply new) new
@@ -615,6 +690,6 @@ asked Fits hears answers old frame index argument want reply heard new reads fit
   hearing = hearing;
   cause = ap cause_of e.last ∙ ap (λ s. Some (cause_of_command s reply)) command;
   exchanged = with_facts old (Command frame want reply) new e
-      (λ k limits bounded step. subst (λ x. CommandFacts answers old index argument x new) (sym hearing)
-      (command_facts Fits hears answers old frame index argument reply new reads (fits k) command limits bounded step));
+      (λ k limits bounded step. subst (λ x. CommandMet answers old index argument x new) (sym hearing)
+      (command_facts Fits hears answers old frame index argument reply new reads fits command k limits bounded step));
 }

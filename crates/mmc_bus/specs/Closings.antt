@@ -3,9 +3,12 @@ use Rattle.std.specs.Prelude.{◌+◌, ◌<◌, ◌≡◌, Err, Ok, Result, true
 use Rattle.mmc_frame.specs.declared.kind.Kind.{Kind}
 use Rattle.mmc_bus.specs.declared.status.Closing.{Closing}
 use Rattle.mmc_bus.specs.declared.status.Closing.TheVariants.{AtWork, Clean}
-use Rattle.mmc_card.specs.Card.{Card, patience}
+use Rattle.mmc_card.specs.BusView.{BusView}
+use Rattle.mmc_card.specs.Card.{Card, is_selected, patience}
 use Rattle.mmc_card.specs.CardAnswer.{shown}
 use Rattle.mmc_card.specs.CardLaws.{HasNoErrorOfItsOwn, IsInOrder}
+use Rattle.mmc_card.specs.Faults.{Passes}
+use Rattle.mmc_card.specs.Laws.{IsStill}
 
 -- a card that is judged by its own kind, and is in order
 abbrev pub WillBeClean : Kind → Card → Type 0
@@ -35,6 +38,14 @@ abbrev pub Closes : {E : Type 0} → Kind → Result Closing E → Card → Card
 Closes kind (Ok Clean) old new = IsInOrder kind old × (new ≡ shown old)
 Closes kind (Ok AtWork) old new = WasAtWork kind old new
 Closes kind (Err cause) old new = Unit {0}
+
+-- the same of the card that the status was asked of, once time had passed
+abbrev pub ClosesInTime : {E : Type 0} → Kind → Result Closing E → BusView → BusView → Type 0
+ClosesInTime kind result old new = (met : BusView) × Passes old met × Closes kind result met.card new.card
+
+-- If it is selected and holds no error, nothing goes on in it by itself.
+abbrev pub IsCalm : Card → Type 0
+IsCalm card = is_selected card.state ≡ true → card.errors ≡ 0 → IsStill card
 
 -- What a card in order shows: a clean status, or one that lags, at most so often.
 abbrev pub ClosesSoon : {E : Type 0} → Result Closing E → Card → Card → Type 0

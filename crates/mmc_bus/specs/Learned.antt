@@ -15,7 +15,7 @@ use Rattle.mmc_card.specs.Blocks.{accepted, can_send, can_accept, next_block, ne
 use Rattle.mmc_card.specs.Card.{AreAmong, Card, holds, is_in, is_selected, patience}
 use Rattle.mmc_card.specs.ErrorBits.{command_error_bits}
 use Rattle.mmc_bus.specs.Exchanges.{Exchanged}
-use Rattle.mmc_card.specs.Faults.{FallNoMore, IsFaultless, NoFault}
+use Rattle.mmc_card.specs.Faults.{FallNoMore, IsFaultless, NoFault, Passes}
 use Rattle.mmc_bus.specs.Heard.{cause_of, cause_of_command}
 use Rattle.mmc_card.specs.Judged.{IsSaid}
 use Rattle.mmc_card.specs.Laws.{Carried, StandsIn, StillStands, SwitchesTo, WithinOrAccepted, erased_by}
@@ -76,7 +76,15 @@ pub record Faithful {X : Type 0} (answers : CardAnswer → X) (old : Card) (inde
   -- it names another card
   pub passes : is_foreign (meant old index) old argument ≡ true → (new ≡ old) × (heard ≡ answers Silent)
 
+-- What the host learns of the card that the command met.
 pub record CommandFacts {X : Type 0} (answers : CardAnswer → Result X Unheard) (old : BusView) (index argument : ℕ)
+    (heard : Result X Unheard) (new : BusView) : Type 0 where
+  -- a sound answer comes from the card, fault or not
+  pub sound : (x : X) → heard ≡ Ok x → Obeyed answers old.card index argument heard new.card
+  pub fine : NoFault old new → Faithful answers old.card index argument heard new.card
+
+-- Time passed, and then the command met the card.
+pub record CommandMet {X : Type 0} (answers : CardAnswer → Result X Unheard) (old : BusView) (index argument : ℕ)
     (heard : Result X Unheard) (new : BusView) : Type 0 where
   pub stays : Stays old new
   -- no sector may hold more, but what CMD38 erases
@@ -85,9 +93,11 @@ pub record CommandFacts {X : Type 0} (answers : CardAnswer → Result X Unheard)
   pub stands : is_frame_of_run old.card (Some (index, argument)) ≡ true → StillStands old.card new.card
   -- a switch of the partition, lost or not, leaves it standing, in the old partition or in the new one
   pub switches : (part : Part) → SwitchesTo part old.card index argument → StandsIn part old.card new.card
-  -- a sound answer comes from the card, fault or not
-  pub sound : (x : X) → heard ≡ Ok x → Obeyed answers old.card index argument heard new.card
-  pub fine : NoFault old new → Faithful answers old.card index argument heard new.card
+  pub met : BusView
+  pub passes : Passes old met
+  -- no fault fell since the exchange before either
+  pub quiet : NoFault old new → NoFault met new
+  pub facts : CommandFacts answers met index argument heard new
 
 -- One exchange: a command with this index and argument, the response that is wanted of it, whichever kind the card is
 -- and whether it is an application command or not, and what was heard.
@@ -101,7 +111,7 @@ pub record Asked {X : Type 0} (hears : Reply → Result X Unheard) (answers : Ca
   pub hearing : heard ≡ hears reply
   -- its cause, by the reply alone
   pub cause : cause_of new.last ≡ Some (cause_of_command (Some (index, argument)) reply)
-  pub exchanged : Exchanged old (Did.Command frame want reply) (CommandFacts answers old index argument heard new) new
+  pub exchanged : Exchanged old (Did.Command frame want reply) (CommandMet answers old index argument heard new) new
 
 -- Polls.
 
@@ -134,9 +144,10 @@ pub record PollFacts (old : BusView) (said : Bool) (new : BusView) : Type 0 wher
 
 -- Blocks.
 
--- The card has accepted the block as the next one of its write, and if it holds no error none before it has failed.
+-- The card has accepted the block as the next one of its write, once it wasn't busy any more, and if it holds no error none before
+-- it has failed.
 pub record IsAccepted (block : Sector) (old new : BusView) : Type 0 where
-  pub could : can_accept old.lines old.card ≡ true
+  pub could : can_accept old.lines (record old.card { is_busy = false }) ≡ true
   pub goes_on : next_written new.card ≡ next_written old.card + 1
   pub shown : new.card.errors ≡ 0 → new.card ≡ accepted block old.card
 
@@ -149,7 +160,6 @@ pub record WriteFacts (old : BusView) (block : Sector) (got : DataOut) (new : Bu
   pub accepts : got ≡ Sent.Accepted → IsAccepted block old new
   pub fine : NoFault old new → can_accept old.lines old.card ≡ true
       → (got ≡ Sent.Accepted) × (new.card ≡ accepted block old.card)
-  pub refuses : NoFault old new → can_accept old.lines old.card ≡ false → (got ≡ Sent.Nothing) × (new.card ≡ old.card)
 
 pub record ReadFacts (old : BusView) (size : ℕ) (got : DataIn) (block : List ℕ) (new : BusView) : Type 0 where
   pub stays : Stays old new

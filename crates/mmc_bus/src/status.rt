@@ -5,13 +5,16 @@ ghost use Rattle.mmc_frame.specs.Status.{IsAtWork, IsClean, error_bits, own_stat
 ghost use Rattle.mmc_card.specs.Blocks.{rested};
 ghost use Rattle.mmc_card.specs.CardAnswer.{shown};
 ghost use Rattle.mmc_card.specs.CardLaws.{IsInOrder};
-ghost use Rattle.mmc_bus.specs.Closings.{Closes, ClosesSoon, WillBeClean};
+ghost use Rattle.mmc_bus.specs.Closings.{ClosesInTime, ClosesSoon, IsCalm, WillBeClean};
 ghost use Rattle.mmc_bus.specs.Heard.{cause_of, cause_of_response};
 ghost use Rattle.mmc_bus.specs.Work.{Ends, Narrows, Works};
 ghost use Rattle.mmc_bus.specs.declared.cause.Cause.TheVariants.{Status};
 ghost use Rattle.mmc_bus.specs.declared.status.Closing.TheVariants.{AtWork, Clean};
 ghost use Rattle.mmc_bus.specs.declared.wait.TheConstants.{MAX_POLLS};
-ghost use Rattle.mmc_card.specs.Card.{patience};
+ghost use Rattle.mmc_card.specs.BusView.{BusView};
+ghost use Rattle.mmc_card.specs.Card.{is_in, patience};
+ghost use Rattle.mmc_card.specs.Faults.{Passes};
+ghost use Rattle.mmc_frame.specs.declared.card_state.State.TheVariants.{Data};
 
 use crate::bus::Bus;
 use crate::cause::Cause;
@@ -94,7 +97,7 @@ pub fn ask_closing<B: Bus>(bus: &mut B, kind: Kind, rca: u16) -> Result<Closing,
     ensures ends { Ends 1 (B.view bus.old) result (B.view bus.new) }
     ensures at_work { result ≡ Ok AtWork → cause_of (B.view bus.new).last ≡ Some Status }
     ensures works { Works Narrows
-        (λ old new. Closes kind result old.card new.card)
+        (λ old new. ClosesInTime kind result old new)
         (λ old new. WillBeClean kind old.card → old.card.app ≡ false → old.card.rca ≡ rca
         → ClosesSoon result old.card new.card)
         (B.view bus.old) (B.view bus.new) }
@@ -112,7 +115,7 @@ pub fn ask_closing<B: Bus>(bus: &mut B, kind: Kind, rca: u16) -> Result<Closing,
 pub fn confirm<B: Bus>(bus: &mut B, kind: Kind, rca: u16) -> Result<(), Cause>
     ensures ends { Ends 1 (B.view bus.old) result (B.view bus.new) }
     ensures works { Works Narrows
-        (λ old new. IsOk result → IsInOrder kind old.card × (new.card ≡ shown old.card))
+        (λ old new. IsOk result → (met : BusView) × Passes old met × IsInOrder kind met.card × (new.card ≡ shown met.card))
         (λ old new. WillBeClean kind old.card → old.card.app ≡ false → old.card.rca ≡ rca → old.card.lags ≡ false
         → IsOk result)
         (B.view bus.old) (B.view bus.new) }
@@ -128,7 +131,7 @@ fn confirm_within<B: Bus>(bus: &mut B, kind: Kind, rca: u16, most: u64) -> Resul
     requires { 0 < most }
     ensures ends { Ends most (B.view bus.old) result (B.view bus.new) }
     ensures works { Works Narrows
-        (λ old new. IsOk result → IsInOrder kind old.card
+        (λ old new. IsOk result → IsCalm old.card → IsInOrder kind old.card
         × (new.card ≡ record (shown old.card) { polled = new.card.polled }))
         (λ old new. WillBeClean kind old.card → old.card.app ≡ false → old.card.rca ≡ rca → patience < old.card.polled + most
         → IsOk result)
@@ -152,7 +155,7 @@ fn confirm_within<B: Bus>(bus: &mut B, kind: Kind, rca: u16, most: u64) -> Resul
 pub fn wait_and_confirm<B: Bus>(bus: &mut B, kind: Kind, rca: u16) -> Result<(), Cause>
     ensures ends { Ends (MAX_POLLS + 1) (B.view bus.old) result (B.view bus.new) }
     ensures works { Works Narrows
-        (λ old new. IsOk result → IsInOrder kind (rested old.card)
+        (λ old new. IsOk result → is_in old.card.state Data ≡ false → IsInOrder kind (rested old.card)
         × (new.card ≡ record (shown (rested old.card)) { polled = new.card.polled }))
         (λ old new. old.card.polled ≡ 0 → WillBeClean kind (rested old.card) → (rested old.card).app ≡ false
         → (rested old.card).rca ≡ rca → IsOk result)

@@ -27,7 +27,7 @@ use Rattle.mmc_card.specs.Laws.{Carried}
 use Rattle.mmc_card.specs.ErrorBits.{command_error_bits, error_bits}
 use Rattle.mmc_card.specs.Made.{HasRegisters, Made, first_block_length, is_sd, named_block_length, sectors_in}
 use Rattle.mmc_card.specs.declared.part.Part.{Part}
-use Rattle.mmc_card.specs.Faults.{CommandStep, WriteStep, PollStep, ReadStep}
+use Rattle.mmc_card.specs.Faults.{MeetsBlock, MeetsCommand, PollStep, ReadStep}
 use Rattle.mmc_card.specs.declared.command.Command.{Command}
 use Rattle.mmc_card.specs.Rows.{leaves_erase, reached}
 use Rattle.mmc_card.specs.RowsErase.{holds_address}
@@ -37,7 +37,7 @@ use Rattle.mmc_card.proofs.Ordered.{ordered_fallen_early, ordered_ignoring}
 use Rattle.mmc_card.proofs.Settled.{settled_fallen_early, settled_ignoring}
 use Rattle.mmc_card.proofs.Sending.{sending_fallen_early, sending_ignoring}
 
-basic : (c : Card) → IsCard c → IsBasic c
+pub basic : (c : Card) → IsCard c → IsBasic c
 basic c k = record {
   registers = k.registers;
   apart = k.apart;
@@ -49,7 +49,7 @@ basic c k = record {
   new_values = k.new_values;
 }
 
-ordered : (c : Card) → IsCard c → IsOrdered c
+pub ordered : (c : Card) → IsCard c → IsOrdered c
 ordered c k = record {
   held = k.held;
   busy = k.busy;
@@ -59,13 +59,13 @@ ordered c k = record {
   polled = k.polled;
 }
 
-settled : (c : Card) → IsCard c → IsSettled c
+pub settled : (c : Card) → IsCard c → IsSettled c
 settled c k = record { fits = k.fits; receives = k.receives; switches = k.switches; source = k.source }
 
-sending : (c : Card) → IsCard c → IsSending c
+pub sending : (c : Card) → IsCard c → IsSending c
 sending c k = record { registers = k.registers; erase_group_def = k.erase_group_def; sends = k.sends }
 
-whole : (c : Card) → HasItsSizes c → IsBasic c → IsOrdered c → IsSettled c → IsSending c → IsCard c
+pub whole : (c : Card) → HasItsSizes c → IsBasic c → IsOrdered c → IsSettled c → IsSending c → IsCard c
 whole c sizes b o s g = record {
   sizes = sizes;
   sends = g.sends;
@@ -91,7 +91,7 @@ whole c sizes b o s g = record {
 }
 
 -- a step keeps the sizes
-sizes_then : (a b : Card) → Carried a b → IsCard a → HasItsSizes b
+pub sizes_then : (a b : Card) → Carried a b → IsCard a → HasItsSizes b
 sizes_then a b carried k part =
     carried.sizes part ∙ k.sizes part ∙ ap (λ (m : Made). sectors_in m part) (sym carried.made)
 
@@ -119,7 +119,7 @@ card_raised bits c among k =
 -- Steps.
 
 pub command_leaves_card : (old : BusView) (frame : List ℕ) (reply : Reply) (new : BusView)
-    → CommandStep old frame reply new → IsCard old.card → IsCard new.card
+    → MeetsCommand old frame reply new → IsCard old.card → IsCard new.card
 command_leaves_card old frame reply new step k =
     let o = ordered old.card k in
     let s = settled old.card k in
@@ -166,7 +166,7 @@ poll_leaves_card old said new step k =
     sending_reset step)
 
 pub write_leaves_card : (old : BusView) (block : Sector) (got : DataOut) (new : BusView) → IsBlock block
-    → WriteStep old block got new → IsCard old.card → IsCard new.card
+    → MeetsBlock old block got new → IsCard old.card → IsCard new.card
 write_leaves_card old block got new h step k =
     let o = ordered old.card k in
     let s = settled old.card k in

@@ -22,7 +22,7 @@ use Rattle.mmc_card.specs.Blocks.{accepted, end_errors, ignoring, is_last, over,
 use Rattle.mmc_card.specs.Card.{AreAmong, AreBlocks, Both, Card, First, FromBytes, FromSectors, Held, IsBlock}
 use Rattle.mmc_card.specs.Card.{NoAddress, Source, is_in, is_selected, is_writing}
 use Rattle.mmc_card.specs.ErrorBits.{erase_reset, error_bits, out_of_range}
-use Rattle.mmc_card.specs.Faults.{CommandStep, WriteStep, PollStep, ReadStep}
+use Rattle.mmc_card.specs.Faults.{MeetsBlock, MeetsCommand, PollStep, ReadStep}
 use Rattle.mmc_card.specs.Made.{erased_sector, has_cmd23, has_switch_function, is_mmc}
 use Rattle.mmc_card.specs.declared.command.Command.{Command}
 use Rattle.mmc_card.specs.declared.command.Command.TheVariants.{SdSendOpCond, SendScr, SetBusWidth, AllSendCid, AppCmd}
@@ -250,7 +250,7 @@ card_accepted block c h k =
     chosen_card c _ k (like_same c _ k refl refl refl refl) (up_if (is_last c.left) Prg Rcv refl refl) refl
     (λ w. cc (writing, w)) (blocks_snoc c.values block k.new_values h)
 
-card_ignoring : (ignores : Bool) (c : Card) → IsBasic c → IsBasic (ignoring ignores c)
+pub card_ignoring : (ignores : Bool) (c : Card) → IsBasic c → IsBasic (ignoring ignores c)
 card_ignoring ignores c k =
     by_cond IsBasic ignores
     (λ _. stays_card c _ k (like_same c _ k refl refl refl refl) refl refl refl refl refl refl refl (λ h. h) (λ h. h) (λ h. h))
@@ -270,7 +270,7 @@ end_among : (b : Bool) → AreAmong (if b then out_of_range else 0) error_bits
 end_among true = refl
 end_among false = refl
 
-card_sent_from : (source : Source) (choice : Choice) (c : Card) → c.state ≡ Data → IsBasic c
+pub card_sent_from : (source : Source) (choice : Choice) (c : Card) → c.state ≡ Data → IsBasic c
     → IsBasic (sent_from source choice c)
 card_sent_from FromSectors choice c e k =
     let bits = end_errors choice.says_end c in
@@ -288,7 +288,7 @@ card_sent_from (FromBytes bytes timing) choice c e k =
 -- Steps.
 
 pub command_leaves_card : (old : BusView) (frame : List ℕ) (reply : Reply) (new : BusView)
-    → CommandStep old frame reply new → IsBasic old.card → IsBasic new.card
+    → MeetsCommand old frame reply new → IsBasic old.card → IsBasic new.card
 command_leaves_card old frame reply new step k =
     after_command IsBasic old frame reply new k
     (λ choice. card_answered choice old.card (command_in frame) k)
@@ -304,7 +304,7 @@ poll_leaves_card old said new step k =
     (λ bits card among k. card_raised bits card among k) card_reset step
 
 pub write_leaves_card : (old : BusView) (block : Sector) (got : DataOut) (new : BusView) → IsBlock block
-    → WriteStep old block got new → IsBasic old.card → IsBasic new.card
+    → MeetsBlock old block got new → IsBasic old.card → IsBasic new.card
 write_leaves_card old block got new h step k =
     after_write IsBasic old block got new k (λ _. card_accepted block old.card h k)
     (λ ignores is_busy _. card_rejected ignores is_busy old.card k)

@@ -3,14 +3,14 @@ use Rattle.std.proofs.Common.{Bool, List, inl, inr, ℕ}
 use Rattle.mmc_card.specs.declared.exchange.DataIn.{DataIn}
 use Rattle.mmc_card.specs.declared.exchange.DataOut.{DataOut}
 use Rattle.mmc_card.specs.declared.exchange.Reply.{Reply}
-use Rattle.mmc_card.specs.Faults.{CommandStep, PollStep, ReadStep, WriteStep, brownout, busy, fail, fail_early, faithful}
+use Rattle.mmc_card.specs.Faults.{MeetsBlock, MeetsCommand, PollStep, ReadStep, brownout, busy, fail, fail_early, faithful}
 use Rattle.mmc_card.specs.Faults.{fail_switch, fall_short, find_protection, flip_command, flip_reply, leave_over, lose_block}
 use Rattle.mmc_card.specs.Faults.{lose_command, lose_reply, lose_status, outlive, reject, slow_inquiry, spoil, turn_out}
 use Rattle.mmc_card.specs.Laws.{CountsAtMostOne}
 use Rattle.mmc_card.specs.Sectors.{Sector}
 use Rattle.mmc_card.specs.BusView.{BusView}
 
-pub command_counts : (old : BusView) (frame : List ℕ) (reply : Reply) (new : BusView) → CommandStep old frame reply new
+pub command_counts : (old : BusView) (frame : List ℕ) (reply : Reply) (new : BusView) → MeetsCommand old frame reply new
     → CountsAtMostOne old new
 command_counts old frame reply new (faithful choice patient count card spells) = inl count
 command_counts old frame reply new (lose_command count card silent) = inr count
@@ -32,7 +32,7 @@ poll_counts old said new (fail_early lands bits of prg switching is_busy count c
 poll_counts old said new (fall_short lands bits ignores of rcv is_busy count card answer) = inr count
 poll_counts old said new (brownout choice lands keeps_length after patient count card answer) = inr count
 
-pub write_counts : (old : BusView) (block : Sector) (got : DataOut) (new : BusView) → WriteStep old block got new
+pub write_counts : (old : BusView) (block : Sector) (got : DataOut) (new : BusView) → MeetsBlock old block got new
     → CountsAtMostOne old new
 write_counts old block got new (faithful count card answer) = inl count
 write_counts old block got new (lose_block accepts count card answer) = inr count

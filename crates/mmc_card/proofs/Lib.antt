@@ -10,6 +10,7 @@ pub mod Landing
 pub mod Narrow
 pub mod NarrowSteps
 pub mod Ordered
+pub mod Passing
 pub mod ProfileLemmas
 pub mod Responses
 pub mod SectorLemmas

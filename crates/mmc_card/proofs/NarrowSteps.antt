@@ -13,7 +13,7 @@ use Rattle.mmc_card.proofs.Narrow.{keeps_sent_from, keeps_slow, keeps_then, acce
 use Rattle.mmc_card.proofs.Steps.{after_command, after_write, after_poll, after_read}
 use Rattle.mmc_card.specs.Blocks.{accepted, can_accept, fallen_short}
 use Rattle.mmc_card.specs.Card.{Card}
-use Rattle.mmc_card.specs.Faults.{CommandStep, WriteStep, PollStep, ReadStep}
+use Rattle.mmc_card.specs.Faults.{MeetsBlock, MeetsCommand, PollStep, ReadStep}
 use Rattle.mmc_card.specs.Laws.{Carried, WithinOrAccepted, erased_by}
 use Rattle.mmc_card.specs.Sectors.{Change, Sector}
 use Rattle.mmc_card.specs.BusView.{BusView}
@@ -28,7 +28,7 @@ adds_none : (block : Sector) (c d : Card) → Keeps c d → Adds block c d
 adds_none block c d k = record { carried = k.carried; adds = λ p s v h. inl (k.narrows p s v h) }
 
 -- what was added is settled after it
-adds_then : (block : Sector) (a b c : Card) → Adds block a b → Keeps b c → Adds block a c
+pub adds_then : (block : Sector) (a b c : Card) → Adds block a b → Keeps b c → Adds block a c
 adds_then block a b c p q = record {
   carried = carried_then p.carried q.carried;
   adds = λ i s v h. p.adds i s v (q.narrows i s v h);
@@ -60,13 +60,13 @@ adds_after block lands lines c t =
       ];
     }
 
-wide_after : (change : Option Change) (a b c : Card) → Widens change a b → Keeps b c → Widens change a c
+pub wide_after : (change : Option Change) (a b c : Card) → Widens change a b → Keeps b c → Widens change a c
 wide_after change a b c p q = record {
   carried = carried_then p.carried q.carried;
   widens = λ i s v h. p.widens i s v (q.narrows i s v h);
 }
 
-pub command_widens : (old : BusView) (frame : List ℕ) (reply : Reply) (new : BusView) → CommandStep old frame reply new
+pub command_widens : (old : BusView) (frame : List ℕ) (reply : Reply) (new : BusView) → MeetsCommand old frame reply new
     → Widens (erased_by old.card (command_in frame)) old.card new.card
 command_widens old frame reply new step =
     let change = erased_by old.card (command_in frame) in
@@ -84,7 +84,7 @@ poll_keeps old said new step =
     (λ lands _. keeps_fallen_short lands old.card) (λ ignores card k. keeps_then k (keeps_ignoring ignores card))
     (λ bits card _ k. keeps_then k (keeps_raised bits card)) (λ lands keeps card k. keeps_then k (keeps_reset lands keeps card)) step
 
-pub write_adds : (old : BusView) (block : Sector) (got : DataOut) (new : BusView) → WriteStep old block got new
+pub write_adds : (old : BusView) (block : Sector) (got : DataOut) (new : BusView) → MeetsBlock old block got new
     → Adds block old.card new.card
 write_adds old block got new step =
     after_write (Adds block old.card) old block got new (adds_none block old.card _ (keeps_same old.card))

@@ -319,7 +319,7 @@ settled_answered choice c sent k =
 below_of : (a b : ℕ) → nat_lt a b ≡ true → a < b
 below_of a b h = grind (arith, nat_tests, h)
 
-above_of : (a b : ℕ) → a < b → nat_lt a b ≡ true
+pub above_of : (a b : ℕ) → a < b → nat_lt a b ≡ true
 above_of a b h = grind (arith, nat_tests, h)
 
 room : (lines : Lines) (c : Card) → can_accept lines c ≡ true → next_written c < length (stored c c.part)

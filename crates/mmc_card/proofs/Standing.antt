@@ -18,7 +18,7 @@ use Rattle.mmc_card.specs.CardAnswer.{Choice, garbled, left_with, raised, refuse
 use Rattle.mmc_card.specs.ErrorBits.{erase_reset}
 use Rattle.mmc_card.specs.Blocks.{accepted, fallen_short, is_last, programmed, rejected, rested, sent_from, waited}
 use Rattle.mmc_card.specs.Card.{Both, Card, First, FromBytes, FromSectors, Held, NoAddress, Source, is_in, is_selected}
-use Rattle.mmc_card.specs.Faults.{CommandStep, WriteStep, PollStep, ReadStep}
+use Rattle.mmc_card.specs.Faults.{MeetsBlock, MeetsCommand, PollStep, ReadStep}
 use Rattle.mmc_card.specs.Laws.{IsAfterReset, Setting, Stands, StillStands, is_frame_of_run, is_of_run, setting_of}
 use Rattle.mmc_card.specs.Laws.{timing_once_sent}
 use Rattle.mmc_card.specs.Made.{Made, first_rca, has_cmd23}
@@ -254,11 +254,11 @@ stands_answered s choice c None o h = stands_garbled s choice.keeps_count c h
 
 -- Polls and blocks.
 
-stands_programmed : (s : Setting) (lands : ℕ → Bool) (c : Card) → is_in c.state Prg ≡ true → Stands s c
+pub stands_programmed : (s : Setting) (lands : ℕ → Bool) (c : Card) → is_in c.state Prg ≡ true → Stands s c
     → Stands s (programmed lands c)
 stands_programmed s lands c prg h = stands_quiet s c _ refl refl (up_in c Prg prg refl) refl h
 
-stands_fallen_short : (s : Setting) (lands : ℕ → Bool) (c : Card) → is_in c.state Rcv ≡ true → Stands s c
+pub stands_fallen_short : (s : Setting) (lands : ℕ → Bool) (c : Card) → is_in c.state Rcv ≡ true → Stands s c
     → Stands s (fallen_short lands c)
 stands_fallen_short s lands c rcv h =
     let up = up_in c Rcv rcv refl in
@@ -270,14 +270,14 @@ stands_fallen_early s lands c prg h =
     let up = up_in c Prg prg refl in
     stands_quiet s c _ up (ap (λ x. is_in x Data) (in_state c.state Prg prg)) up refl h
 
-stands_ignoring : (s : Setting) (ignores : Bool) (c : Card) → Stands s c → Stands s (ignoring ignores c)
+pub stands_ignoring : (s : Setting) (ignores : Bool) (c : Card) → Stands s c → Stands s (ignoring ignores c)
 stands_ignoring s ignores c h =
     by_cond (Stands s) ignores
     (λ _. stands_like s c _ refl refl refl
     (reset_like c _ refl refl refl (λ b. b) (λ b. b) (λ b. b) (λ b. b) refl (λ b. b) refl) h)
     (λ _. h)
 
-stands_rested : (s : Setting) (c : Card) → Stands s c → Stands s (rested c)
+pub stands_rested : (s : Setting) (c : Card) → Stands s c → Stands s (rested c)
 stands_rested s c h =
     by_cond (Stands s) (is_in c.state Prg)
     (λ prg. stands_programmed s (λ i. true) c prg h)
@@ -302,7 +302,7 @@ stands_rejected s ignores is_busy c rcv h =
     (λ _. by_cond (Stands s) is_busy (λ _. stands_quiet s c _ refl refl up refl h) (λ _. stands_quiet s c _ refl refl up refl h))
     (λ _. h))
 
-stands_sent_from : (s : Setting) (source : Source) (choice : Choice) (c : Card) → is_in c.state Data ≡ true
+pub stands_sent_from : (s : Setting) (source : Source) (choice : Choice) (c : Card) → is_in c.state Data ≡ true
     → timing_once_sent source c.timing ≡ s.timing → Stands s c → Stands s (sent_from source choice c)
 stands_sent_from s FromSectors choice c data_now t h =
     stands_up s c _ (up_if (is_last c.left) Tran Data refl refl) (up_in c Data data_now refl) refl
@@ -315,7 +315,7 @@ stands_sent_from s (FromBytes bytes timing) choice c data_now t h =
 -- Steps.
 
 pub command_stands : (old : BusView) (frame : List ℕ) (reply : Reply) (new : BusView)
-    → is_frame_of_run old.card (command_in frame) ≡ true → CommandStep old frame reply new
+    → is_frame_of_run old.card (command_in frame) ≡ true → MeetsCommand old frame reply new
     → StillStands old.card new.card
 command_stands old frame reply new o step s h =
     after_command (Stands s) old frame reply new h
@@ -331,7 +331,7 @@ poll_stands old said new step s h =
     (λ lands rcv. stands_fallen_short s lands old.card rcv h) (λ ignores card k. stands_ignoring s ignores card k) (λ bits card _ k. stands_raised s bits card k)
     (λ lands keeps card _. stands_reset s lands keeps card) step
 
-pub write_stands : (old : BusView) (block : Sector) (got : DataOut) (new : BusView) → WriteStep old block got new
+pub write_stands : (old : BusView) (block : Sector) (got : DataOut) (new : BusView) → MeetsBlock old block got new
     → StillStands old.card new.card
 write_stands old block got new step s h =
     let rcv = accepts_in_rcv old.lines old.card in

@@ -1,7 +1,7 @@
 -- What holds of a card holds after a step, if all that a step may do to the card keeps it.
-use Rattle.std.proofs.Common.{Bool, List, ℕ, ◌&&◌, ◌≡◌, false, not, refl, true}
+use Rattle.std.proofs.Common.{Bool, List, ℕ, ◌&&◌, ◌≡◌, ap, false, not, refl, suc, true, zero}
 use Rattle.mmc_frame.specs.Frame.{command_in}
-use Rattle.mmc_frame.specs.declared.card_state.State.TheVariants.{Prg, Rcv}
+use Rattle.mmc_frame.specs.declared.card_state.State.TheVariants.{Data, Prg, Rcv}
 use Rattle.mmc_card.specs.declared.exchange.DataIn.{DataIn}
 use Rattle.mmc_card.specs.declared.exchange.DataOut.{DataOut}
 use Rattle.mmc_card.specs.declared.exchange.Reply.{Reply}
@@ -11,9 +11,10 @@ use Rattle.mmc_card.proofs.Narrow.{both}
 use Rattle.mmc_card.specs.CardAnswer.{Choice, garbled, left_with, raised, reset}
 use Rattle.mmc_card.specs.ErrorBits.{command_error_bits, error_bits, execution_error_bits}
 use Rattle.mmc_card.specs.Blocks.{accepted, asked_for, can_send, can_accept, fallen_early, fallen_short, ignoring, offered}
-use Rattle.mmc_card.specs.Blocks.{polled_once, programmed, rejected, rested, sent, waited, will_send}
+use Rattle.mmc_card.specs.Blocks.{polled_once, programmed, rejected, rested, run_past, sent, waited, will_send}
 use Rattle.mmc_card.specs.Card.{AreAmong, Card, is_in}
-use Rattle.mmc_card.specs.Faults.{CommandStep, PollStep, ReadStep, WriteStep, brownout, busy, fail, fail_early, faithful}
+use Rattle.mmc_card.specs.Faults.{MeetsBlock, MeetsCommand, Passes, PollStep, ReadStep, brownout, busy, fail, fail_early}
+use Rattle.mmc_card.specs.Faults.{at_once, faithful, has_failed, has_fallen_short, has_rested, has_run}
 use Rattle.mmc_card.specs.Faults.{fail_switch, fall_short, find_protection, flip_command, flip_reply, leave_over, lose_block}
 use Rattle.mmc_card.specs.Faults.{lose_command, lose_reply, lose_status, outlive, reject, slow_inquiry, spoil, turn_out}
 use Rattle.mmc_card.specs.Rows.{answered}
@@ -36,11 +37,38 @@ Ignores P = (ignores : Bool) (card : Card) → P card → P (ignoring ignores ca
 among_all : (bits : ℕ) → AreAmong bits execution_error_bits → AreAmong bits error_bits
 among_all bits among = among_wider bits execution_error_bits error_bits among refl
 
+-- blocks that are sent and not taken keep what each of them keeps
+after_run : (P : Card → Type 0) (choice : Choice) (blocks : ℕ) (card : Card) → P card
+    → ((c : Card) → is_in c.state Data ≡ true → P c → P (sent choice c)) → P (run_past choice blocks card)
+after_run P choice zero card start sends = start
+after_run P choice (suc blocks) card start sends =
+    let before = after_run P choice blocks card start sends in
+    by_cond P (is_in (run_past choice blocks card).state Data) (λ here. sends (run_past choice blocks card) here before)
+    (λ _. before)
+
+pub after_time : (P : Card → Type 0) (old met : BusView) → P old.card → P (rested old.card)
+    → ((choice : Choice) (c : Card) → is_in c.state Data ≡ true → P c → P (sent choice c))
+    → ((lands : ℕ → Bool) → is_in old.card.state Prg ≡ true → P (programmed lands old.card))
+    → ((lands : ℕ → Bool) → is_in old.card.state Rcv ≡ true → P (fallen_short lands old.card)) → Ignores P → Bears P
+    → Passes old met → P met.card
+after_time P old met start rest sends failed fell ignored bears passes =
+    let card_of : (c : Card) → met.card ≡ c → P c → P met.card = λ c e. along P e in
+    elim passes [
+      | at_once e ↦ card_of old.card (ap (λ (v : BusView). v.card) e) start
+      | has_rested e ↦ card_of _ (ap (λ (v : BusView). v.card) e) rest
+      | has_run choice blocks e ↦ card_of _ (ap (λ (v : BusView). v.card) e)
+          (after_run P choice blocks old.card start (sends choice))
+      | has_failed lands bits of prg switching e ↦ card_of _ (ap (λ (v : BusView). v.card) e)
+          (bears bits _ (among_all bits of.0) (failed lands prg))
+      | has_fallen_short lands bits ignores of rcv is_busy e ↦ card_of _ (ap (λ (v : BusView). v.card) e)
+          (bears bits _ (among_all bits of.0) (ignored ignores _ (fell lands rcv)))
+    ]
+
 pub after_command : (P : Card → Type 0) (old : BusView) (frame : List ℕ) (reply : Reply) (new : BusView) → P old.card
     → ((choice : Choice) → P (answered choice old.card (command_in frame)).0)
     → ((choice : Choice) (bits : ℕ) → AreAmong bits command_error_bits
     → P (answered choice (left_with bits old.card) (command_in frame)).0)
-    → ((keeps : Bool) → P (garbled keeps old.card)) → Bears P → Survives P → CommandStep old frame reply new → P new.card
+    → ((keeps : Bool) → P (garbled keeps old.card)) → Bears P → Survives P → MeetsCommand old frame reply new → P new.card
 after_command P old frame reply new stays answers leaves garbles bears survives step =
     elim step [
       | faithful choice patient count card spells ↦ along P card (answers choice)
@@ -85,7 +113,7 @@ pub after_write : (P : Card → Type 0) (old : BusView) (block : Sector) (got : 
     → ((ignores is_busy : Bool) → can_accept old.lines old.card ≡ true → P (rejected ignores is_busy old.card))
     → ((lands : ℕ → Bool) → can_accept old.lines old.card ≡ true → P (accepted block (fallen_short lands old.card)))
     → ((lands : ℕ → Bool) → can_accept old.lines old.card ≡ true → P (rejected true false (fallen_short lands old.card)))
-    → Ignores P → Bears P → Survives P → WriteStep old block got new → P new.card
+    → Ignores P → Bears P → Survives P → MeetsBlock old block got new → P new.card
 after_write P old block got new stays accepts rejects falls turns ignored bears survives step =
     let offers : P (offered old.lines block old.card) =
     by_cond P (can_accept old.lines old.card) accepts (λ _. stays) in

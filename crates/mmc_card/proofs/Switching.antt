@@ -19,7 +19,7 @@ use Rattle.mmc_card.proofs.Standing.{stands_garbled, stands_left, stands_quiet, 
 use Rattle.mmc_card.proofs.Steps.{after_command}
 use Rattle.mmc_card.specs.CardAnswer.{Choice, left_with}
 use Rattle.mmc_card.specs.Card.{Card, is_in, stored}
-use Rattle.mmc_card.specs.Faults.{CommandStep}
+use Rattle.mmc_card.specs.Faults.{MeetsCommand}
 use Rattle.mmc_card.specs.Laws.{Setting, Stands, StandsIn, SwitchesTo}
 use Rattle.mmc_card.specs.Made.{Made}
 use Rattle.mmc_card.specs.declared.command.Command.TheVariants.{Switch}
@@ -140,7 +140,7 @@ switch_answers s part choice kind c argument mmc is h =
 
 pub command_switches : (part : Part) (old : BusView) (frame : List ℕ) (index argument : ℕ) (reply : Reply)
     (new : BusView) → SwitchesTo part old.card index argument → command_in frame ≡ Some (index, argument)
-    → CommandStep old frame reply new → StandsIn part old.card new.card
+    → MeetsCommand old frame reply new → StandsIn part old.card new.card
 command_switches part old frame index argument reply new switch command step s h =
     let answers : (choice : Choice) (card : Card) → card.made ≡ old.card.made → Stands s card
     → Switched part s (answered choice card (command_in frame)).0 =

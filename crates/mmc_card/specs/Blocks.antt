@@ -2,7 +2,7 @@
 -- Polls, and blocks that are read and written (SD Physical Layer 6.00, sections 4.3.3 and 4.3.4; JESD84-B51, sections
 -- 6.6.7 and 6.6.8). What makes a card busy, and for how long, is the project's own.
 use Rattle.std.specs.Prelude.{◌&&◌, ◌++◌, ◌+◌, ◌-◌, ◌==◌, ◌∷◌, ◌≡◌, Bool, List, None, Option, Some, [], false, if◌then◌else◌}
-use Rattle.std.specs.Prelude.{length, nat_lt, not, slice_index_or, true, ℕ}
+use Rattle.std.specs.Prelude.{length, nat_lt, not, slice_index_or, suc, true, zero, ℕ}
 use Rattle.mmc_frame.specs.declared.card_state.State.TheVariants.{Data, Prg, Rcv, Tran}
 use Rattle.mmc_card.specs.declared.exchange.Lines.{Lines}
 use Rattle.mmc_card.specs.CardAnswer.{Choice, busied, counted, raised}
@@ -154,3 +154,14 @@ sent choice card = sent_from card.source choice card
 -- a block that is asked for
 abbrev pub asked_for : Choice → Lines → ℕ → Card → Card
 asked_for choice lines size card = if will_send choice lines size card then sent choice card else card
+
+-- Between exchanges.
+
+-- a block of a read that the card sends and nobody takes
+abbrev pub run_on : Choice → Card → Card
+run_on choice card = if is_in card.state Data then sent choice card else card
+
+-- so many of them
+abbrev pub run_past : Choice → ℕ → Card → Card
+run_past choice zero card = card
+run_past choice (suc blocks) card = run_on choice (run_past choice blocks card)

@@ -1,6 +1,6 @@
 -- Relation (docs/AUDIT.md, "What to read").
--- The steps of a kept bus: each exchange is a faithful step, or one fault, which adds one to the count of faults. What
--- may go wrong, and what a card does then, is the project's own.
+-- The steps of a kept bus: time passes, and then each exchange is a faithful step, or one fault, which adds one to the count of
+-- faults. What may go wrong, and what a card does then, is the project's own.
 use Rattle.std.specs.Prelude.{◌&&◌, ◌+◌, ◌<◌, ◌≡◌, ◌≤◌, Bool, IsSomeAnd, List, None, Ok, Option, Some, false}
 use Rattle.std.specs.Prelude.{if◌then◌else◌, is_some, length, true, ℕ}
 use Rattle.mmc_frame.specs.Check.{bits_of}
@@ -14,7 +14,7 @@ use Rattle.mmc_card.specs.declared.exchange.Reply.{Reply}
 use Rattle.mmc_card.specs.CardAnswer.{CardAnswer, Checked, Choice, Silent, R3, R2, garbled, left_with, raised, reset}
 use Rattle.mmc_card.specs.ErrorBits.{command_error_bits, error_bits, execution_error_bits}
 use Rattle.mmc_card.specs.Blocks.{accepted, asked_for, can_send, can_accept, fallen_early, fallen_short, ignoring, next_block}
-use Rattle.mmc_card.specs.Blocks.{offered, polled_once, programmed, rejected, sent, waited, will_send}
+use Rattle.mmc_card.specs.Blocks.{offered, polled_once, programmed, rejected, rested, run_past, sent, waited, will_send}
 use Rattle.mmc_card.specs.Card.{AreAmong, Card, is_in, patience}
 use Rattle.mmc_card.specs.declared.command.Command.{Command}
 use Rattle.mmc_card.specs.declared.command.Command.TheVariants.{SdSendOpCond, SendOpCond, Switch, WriteBlock, WriteMultipleBlock}
@@ -117,64 +117,90 @@ is_write_frame card None = false
 abbrev pub AreOfACommand : ℕ → Type 0
 AreOfACommand bits = AreAmong bits command_error_bits × (bits ≡ 0 → ⊥)
 
--- A command.
-pub data CommandStep (old : BusView) (frame : List ℕ) (reply : Reply) (new : BusView) : Type 0 where
+-- some error bits of execution, one at least
+abbrev pub AreOfExecution : ℕ → Type 0
+AreOfExecution bits = AreAmong bits execution_error_bits × (bits ≡ 0 → ⊥)
+
+-- Since the last exchange time has passed, and the next one meets the card as it is by now: cards leave prg by themselves, and data
+-- once the last block is sent (SD Physical Layer 6.00, section 4.3 and its state diagrams; JESD84-B51, section 6.6). What passes
+-- before a poll or a block that is read shows at the next command, or at the next block that is written.
+pub data Passes (old met : BusView) : Type 0 where
+  -- nothing has happened
+  at_once : met ≡ old → Passes old met
+  -- the busy time has ended, and what was programmed has landed
+  has_rested : met ≡ record old { card = rested old.card } → Passes old met
+  -- so many blocks of a read were sent that nobody took; one that was not counted may say OUT_OF_RANGE at the end
+  has_run : (choice : Choice) (blocks : ℕ) → met ≡ record old { card = run_past choice blocks old.card } → Passes old met
+  -- A fault that nobody has seen: programming of a write, erase or trim has failed, of which some has landed, and error bits
+  -- are raised.
+  has_failed : (lands : ℕ → Bool) (bits : ℕ) → AreOfExecution bits → is_in old.card.state Prg ≡ true → old.card.is_switching ≡ false
+      → met ≡ record old { card = raised bits (programmed lands old.card); faults = old.faults + 1 } → Passes old met
+  -- or in rcv that of an earlier block has, and the transfer goes on, or the card ignores all further blocks until CMD12
+  has_fallen_short : (lands : ℕ → Bool) (bits : ℕ) (ignores : Bool) → AreOfExecution bits → is_in old.card.state Rcv ≡ true
+      → old.card.is_busy ≡ true
+      → met ≡ record old { card = raised bits (ignoring ignores (fallen_short lands old.card)); faults = old.faults + 1 }
+      → Passes old met
+
+-- A command, as the card meets it.
+pub data MeetsCommand (old : BusView) (frame : List ℕ) (reply : Reply) (new : BusView) : Type 0 where
   faithful : (choice : Choice) → IsFaultless choice old.card → NoFault old new
       → new.card ≡ (answered choice old.card (command_in frame)).0
       → Replies old.card (answered choice old.card (command_in frame)).1 reply
-      → CommandStep old frame reply new
+      → MeetsCommand old frame reply new
   -- the card doesn't see it
-  lose_command : OneFault old new → new.card ≡ old.card → reply ≡ Came.Silent → CommandStep old frame reply new
+  lose_command : OneFault old new → new.card ≡ old.card → reply ≡ Came.Silent → MeetsCommand old frame reply new
   -- one bit or two of it are flipped, so its check is bad
   flip_command : (keeps_count : Bool) → OneFault old new → new.card ≡ garbled keeps_count old.card → reply ≡ Came.Silent
-      → CommandStep old frame reply new
+      → MeetsCommand old frame reply new
   -- The card answers, and the host hears nothing; so it may not learn that a switch failed, or that sectors are protected.
   lose_reply : (choice : Choice) → IsPatient choice old.card.inquiries → OneFault old new
       → new.card ≡ (answered choice old.card (command_in frame)).0
       → ((answered choice old.card (command_in frame)).1 ≡ Silent → ⊥) → reply ≡ Came.Silent
-      → CommandStep old frame reply new
+      → MeetsCommand old frame reply new
   -- one bit or two of the answer are flipped
   flip_reply : (choice : Choice) → IsPatient choice old.card.inquiries → OneFault old new
       → new.card ≡ (answered choice old.card (command_in frame)).0
       → RepliesFlipped old.card (answered choice old.card (command_in frame)).1 reply
-      → CommandStep old frame reply new
+      → MeetsCommand old frame reply new
   -- not ready once more than a faithful card is
   slow_inquiry : (choice : Choice) → choice.is_slow ≡ true → patience ≤ old.card.inquiries
       → is_inquiry_frame old.card (command_in frame) ≡ true → OneFault old new
       → new.card ≡ (answered choice old.card (command_in frame)).0
       → Replies old.card (answered choice old.card (command_in frame)).1 reply
-      → CommandStep old frame reply new
+      → MeetsCommand old frame reply new
   -- a switch fails: no byte changes, which SWITCH_ERROR says, in the response or in the first status after it
   fail_switch : (choice : Choice) → choice.fails_switch ≡ true → is_switch_frame old.card (command_in frame) ≡ true
       → OneFault old new → new.card ≡ (answered choice old.card (command_in frame)).0
       → Replies old.card (answered choice old.card (command_in frame)).1 reply
-      → CommandStep old frame reply new
+      → MeetsCommand old frame reply new
   -- a write finds its sectors protected by CMD28: it doesn't begin, and WP_VIOLATION says so
   find_protection : (choice : Choice) → choice.finds_protection ≡ true → IsPatient choice old.card.inquiries
       → is_write_frame old.card (command_in frame) ≡ true → OneFault old new
       → new.card ≡ (answered choice old.card (command_in frame)).0
       → Replies old.card (answered choice old.card (command_in frame)).1 reply
-      → CommandStep old frame reply new
+      → MeetsCommand old frame reply new
   -- error bits outlive CMD0
   outlive : (choice : Choice) (bits argument : ℕ) → AreAmong bits error_bits → IsFaultless choice old.card
       → command_in frame ≡ Some (Index.GO_IDLE_STATE, argument) → OneFault old new
       → new.card ≡ raised bits (answered choice old.card (command_in frame)).0 → reply ≡ Came.Silent
-      → CommandStep old frame reply new
+      → MeetsCommand old frame reply new
   -- the card has an error to show of something on the line that it took for a command before this one
   -- (SD Physical Layer 6.00, section 4.10.1, clear condition B; JESD84-B51, section 6.13)
   leave_over : (choice : Choice) (bits : ℕ) → AreOfACommand bits → IsFaultless choice old.card → OneFault old new
       → new.card ≡ (answered choice (left_with bits old.card) (command_in frame)).0
       → Replies old.card (answered choice (left_with bits old.card) (command_in frame)).1 reply
-      → CommandStep old frame reply new
+      → MeetsCommand old frame reply new
   -- the power fails before the step or after it
   brownout : (choice : Choice) (lands : ℕ → Bool) (keeps_length after : Bool) → IsFaultless choice old.card
       → OneFault old new
       → new.card ≡ reset lands keeps_length (if after then (answered choice old.card (command_in frame)).0 else old.card)
-      → reply ≡ Came.Silent → CommandStep old frame reply new
+      → reply ≡ Came.Silent → MeetsCommand old frame reply new
 
--- some error bits of execution, one at least
-abbrev pub AreOfExecution : ℕ → Type 0
-AreOfExecution bits = AreAmong bits execution_error_bits × (bits ≡ 0 → ⊥)
+-- Time passes, and then a command meets the card.
+pub record CommandStep (old : BusView) (frame : List ℕ) (reply : Reply) (new : BusView) : Type 0 where
+  pub met : BusView
+  pub passes : Passes old met
+  pub meets : MeetsCommand met frame reply new
 
 -- A poll.
 pub data PollStep (old : BusView) (said : Bool) (new : BusView) : Type 0 where
@@ -205,35 +231,41 @@ pub data PollStep (old : BusView) (said : Bool) (new : BusView) : Type 0 where
       → new.card ≡ reset lands keeps_length (if after then (polled_once choice old.card).0 else old.card) → said ≡ false
       → PollStep old said new
 
--- A block that is offered.
-pub data WriteStep (old : BusView) (block : List ℕ) (got : DataOut) (new : BusView) : Type 0 where
+-- A block that is offered, as the card meets it.
+pub data MeetsBlock (old : BusView) (block : List ℕ) (got : DataOut) (new : BusView) : Type 0 where
   faithful : NoFault old new → new.card ≡ offered old.lines block old.card
       → got ≡ (if can_accept old.lines old.card then Sent.Accepted else Sent.Nothing)
-      → WriteStep old block got new
+      → MeetsBlock old block got new
   -- the card doesn't see it
   lose_block : can_accept old.lines old.card ≡ true → OneFault old new → new.card ≡ old.card → got ≡ Sent.Nothing
-      → WriteStep old block got new
+      → MeetsBlock old block got new
   -- the card rejects it, and may ignore all that come after it
   reject : (ignores is_busy : Bool) → can_accept old.lines old.card ≡ true → OneFault old new
       → new.card ≡ rejected ignores is_busy old.card → got ≡ Sent.Rejected
-      → WriteStep old block got new
+      → MeetsBlock old block got new
   -- the card's status is lost, whether it accepted the block or rejected it
   lose_status : (is_accepted ignores is_busy : Bool) → can_accept old.lines old.card ≡ true → OneFault old new
       → new.card ≡ (if is_accepted then accepted block old.card else rejected ignores is_busy old.card) → got ≡ Sent.Nothing
-      → WriteStep old block got new
+      → MeetsBlock old block got new
   -- the card accepts it, and an earlier block turns out not to be programmed, as at a poll
   fall_short : (lands : ℕ → Bool) (bits : ℕ) (ignores : Bool) → AreOfExecution bits → can_accept old.lines old.card ≡ true
       → OneFault old new → new.card ≡ raised bits (ignoring ignores (accepted block (fallen_short lands old.card)))
       → got ≡ Sent.Accepted
-      → WriteStep old block got new
+      → MeetsBlock old block got new
   -- Of a write of several, an earlier block was rejected and all after it are ignored, which a host that sends ahead learns
   -- only now. A write of one block has no earlier one, and `lose_status` says of that one that it was rejected.
   turn_out : (lands : ℕ → Bool) → old.card.is_single ≡ false → can_accept old.lines old.card ≡ true → OneFault old new
       → new.card ≡ rejected true false (fallen_short lands old.card) → got ≡ Sent.Nothing
-      → WriteStep old block got new
+      → MeetsBlock old block got new
   brownout : (lands : ℕ → Bool) (keeps_length after : Bool) → OneFault old new
       → new.card ≡ reset lands keeps_length (if after then offered old.lines block old.card else old.card) → got ≡ Sent.Nothing
-      → WriteStep old block got new
+      → MeetsBlock old block got new
+
+-- Time passes, and then a block that is offered meets the card.
+pub record WriteStep (old : BusView) (block : List ℕ) (got : DataOut) (new : BusView) : Type 0 where
+  pub met : BusView
+  pub passes : Passes old met
+  pub meets : MeetsBlock met block got new
 
 -- A block of this length that is asked for.
 pub data ReadStep (old : BusView) (size : ℕ) (got : DataIn) (block : List ℕ) (new : BusView) : Type 0 where

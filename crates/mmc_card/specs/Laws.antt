@@ -1,6 +1,6 @@
 -- What holds of each step of a card, with a fault or without one.
-use Rattle.std.specs.Prelude.{◌≡◌, ◌⊎◌, Bool, None, Option, Some, [], false, length, true, ℕ}
-use Rattle.mmc_frame.specs.declared.card_state.State.TheVariants.{Data, Idle, Rcv}
+use Rattle.std.specs.Prelude.{◌+◌, ◌≡◌, ◌≤◌, ◌⊎◌, Bool, None, Option, Some, [], false, length, true, ℕ}
+use Rattle.mmc_frame.specs.declared.card_state.State.TheVariants.{Data, Idle, Prg, Rcv}
 use Rattle.mmc_card.specs.declared.exchange.Timing.{Timing}
 use Rattle.mmc_card.specs.declared.exchange.Width.{Width}
 use Rattle.mmc_card.specs.declared.part.Part.{Part}
@@ -139,3 +139,13 @@ pub record SwitchesTo (part : Part) (card : Card) (index argument : ℕ) : Type 
 -- no fault falls, or one
 abbrev pub CountsAtMostOne : BusView → BusView → Type 0
 CountsAtMostOne old new = NoFault old new ⊎ OneFault old new
+
+-- no fault is taken back, and at most so many fall
+abbrev pub CountsAtMost : ℕ → BusView → BusView → Type 0
+CountsAtMost most old new = (old.faults ≤ new.faults) × (new.faults ≤ old.faults + most)
+
+-- nothing goes on in it by itself: it isn't busy, and neither programs nor sends
+pub record IsStill (card : Card) : Type 0 where
+  pub rests : card.is_busy ≡ false
+  pub programs_nothing : is_in card.state Prg ≡ false
+  pub sends_nothing : is_in card.state Data ≡ false

@@ -11,8 +11,8 @@ ghost use Rattle.mmc_regs.specs.declared.csd.Csd.TheVariants.{Mmc, V1, V2};
 ghost use Rattle.mmc_ext_csd.specs.ExtCsd.{ext_csd_in};
 ghost use Rattle.mmc_card.specs.Card.{AreBlocks, Card, HasItsSizes, IsBlock, IsCard, holds, powered_on, stored};
 ghost use Rattle.mmc_card.specs.Made.{HasRegisters, Made, addressing_of, csd_number_of};
-ghost use Rattle.mmc_card.specs.Faults.{CommandStep, WriteStep, PollStep, ReadStep};
-ghost use Rattle.mmc_card.specs.Laws.{Carried, CountsAtMostOne, StandsIn, StillStands, SwitchesTo, WithinOrAccepted};
+ghost use Rattle.mmc_card.specs.Faults.{CommandStep, Passes, PollStep, ReadStep, WriteStep};
+ghost use Rattle.mmc_card.specs.Laws.{Carried, CountsAtMost, IsStill, StandsIn, StillStands, SwitchesTo, WithinOrAccepted};
 ghost use Rattle.mmc_card.specs.Laws.{erased_by, is_frame_of_run, maybe_erased};
 ghost use Rattle.mmc_card.specs.Profile.{InProfile, IsHighCapacity, IsStandardCapacity, MmcInProfile};
 ghost use Rattle.mmc_card.specs.Sectors.{Sector, Within};
@@ -90,15 +90,27 @@ pub fn a_card_after_power_on_is_one()
         → ((part : Part) → AreBlocks (stored (powered_on made sectors) part)) → IsCard (powered_on made sectors) }
 {}
 
-/// A step counts no fault, or one.
-pub fn a_step_counts_at_most_one_fault()
+/// No step takes a fault back. A poll and a block that is read count one at most; a command and a block that is written count two
+/// at most, of which one fell unseen since the exchange before.
+pub fn a_step_counts_few_faults()
     ensures command { (old new : BusView) (frame : List ℕ) (reply : Reply) → CommandStep old frame reply new
-        → CountsAtMostOne old new }
-    ensures poll { (old new : BusView) (said : Bool) → PollStep old said new → CountsAtMostOne old new }
+        → CountsAtMost 2 old new }
+    ensures poll { (old new : BusView) (said : Bool) → PollStep old said new → CountsAtMost 1 old new }
     ensures write { (old new : BusView) (block : Sector) (got : DataOut) → WriteStep old block got new
-        → CountsAtMostOne old new }
+        → CountsAtMost 2 old new }
     ensures read { (old new : BusView) (size : ℕ) (got : DataIn) (block : Sector) → ReadStep old size got block new
-        → CountsAtMostOne old new }
+        → CountsAtMost 1 old new }
+{}
+
+/// Time that passes between two exchanges leaves a card as it is that isn't busy, and neither programs nor sends. Any other one stays
+/// a card that stands as it did; no sector may hold more after it, and no error bit is cleared.
+pub fn time_leaves_a_still_card_as_it_is()
+    ensures still { (old met : BusView) → IsStill old.card → Passes old met → met ≡ old }
+    ensures card { (old met : BusView) → Passes old met → IsCard old.card → IsCard met.card }
+    ensures narrows { (old met : BusView) → Passes old met → Within (holds met.card) (holds old.card) }
+    ensures stands { (old met : BusView) → Passes old met → StillStands old.card met.card }
+    ensures errors { (old met : BusView) → Passes old met → met.card.errors ≡ 0 → old.card.errors ≡ 0 }
+    ensures counts { (old met : BusView) → Passes old met → CountsAtMost 1 old met }
 {}
 
 /// Of each kind, and with each addressing, some card is in profile.

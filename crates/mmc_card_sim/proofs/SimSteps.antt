@@ -19,17 +19,19 @@ use Rattle.mmc_card.specs.declared.command.Command.{Command as Meaning}
 use Rattle.mmc_card.specs.declared.command.Command.TheVariants as Names
 use Rattle.mmc_frame.specs.Frame.{command_in}
 use Rattle.mmc_card.specs.ErrorBits.{card_ecc_failed, com_crc_error, general_error, illegal_command}
-use Rattle.mmc_card.specs.Faults.{AreOfExecution, CommandStep, IsPatient, PollStep, ReadStep, Spells, WriteStep}
+use Rattle.mmc_card.specs.Faults.{AreOfExecution, CommandStep, IsPatient, MeetsBlock, MeetsCommand, PollStep, ReadStep, Spells}
+use Rattle.mmc_card.specs.Faults.{WriteStep, at_once}
 use Rattle.mmc_card.specs.Faults.{is_switch, is_switch_frame, is_write_frame}
-use Rattle.mmc_card.specs.Faults.CommandStep.{brownout as command_brownout, faithful as does_command, flip_command}
-use Rattle.mmc_card.specs.Faults.CommandStep.{fail_switch, find_protection, flip_reply, leave_over, lose_command, lose_reply}
+use Rattle.mmc_card.specs.Faults.MeetsCommand.{brownout as command_brownout, faithful as does_command, flip_command}
+use Rattle.mmc_card.specs.Faults.MeetsCommand.{fail_switch, find_protection, flip_reply, leave_over, lose_command, lose_reply}
 use Rattle.mmc_card.proofs.JudgedLemmas.{replies_as_is}
 use Rattle.mmc_card.specs.Faults.PollStep.{brownout as poll_brownout, busy, fail, fail_early, faithful as does_poll, fall_short}
 use Rattle.mmc_card.specs.Faults.ReadStep.{brownout as read_brownout, faithful as does_read, spoil}
-use Rattle.mmc_card.specs.Faults.WriteStep.{brownout as write_brownout, faithful as does_write, lose_block, lose_status, reject}
+use Rattle.mmc_card.specs.Faults.MeetsBlock.{brownout as write_brownout, faithful as does_write, lose_block, lose_status, reject}
 use Rattle.mmc_card.specs.Sectors.{Sector}
 use Rattle.mmc_frame.specs.declared.card_state.State.TheVariants.{Prg, Rcv, Tran}
-use Rattle.mmc_card.proofs.CardAll.{command_leaves_card, poll_leaves_card, read_leaves_card, write_leaves_card}
+use Rattle.mmc_card.proofs.CardAll.{poll_leaves_card, read_leaves_card}
+use Rattle.mmc_card.proofs.Passing.{block_leaves_card, step_leaves_card}
 use Rattle.mmc_bus.specs.declared.wire.Wire.{Wire}
 use Rattle.mmc_bus.specs.Exchanges.{Commanded, DataRead, DataWritten, Exchanged, Polled}
 use Rattle.mmc_bus.specs.Wires.{Notes, bus_view_with}
@@ -85,6 +87,16 @@ exchanged plan old new faults later before after exchange notes in_bounds was is
         bounded = λ most few. omega (arith, in_bounds, few);
       };
 }
+
+-- To a card in memory nothing happens between two exchanges.
+
+commands_at_once : (old : BusView) (frame : List ℕ) (reply : Reply) (new : BusView) → MeetsCommand old frame reply new
+    → CommandStep old frame reply new
+commands_at_once old frame reply new meets = record { met = old; passes = at_once refl; meets = meets }
+
+writes_at_once : (old : BusView) (block : List ℕ) (got : DataOut) (new : BusView) → MeetsBlock old block got new
+    → WriteStep old block got new
+writes_at_once old block got new meets = record { met = old; passes = at_once refl; meets = meets }
 
 -- Commands.
 
@@ -173,7 +185,7 @@ module _ (plan : List Planned) (old new : Card) (delays : Delays) (soon : delays
     (bare : delays.finds_protection ≡ false) (faults later : ℕ) (before after : Wire) where
   failed_switch : (late : Bool) (frame : List ℕ) (reply : Reply) → later ≡ faults + 1
       → is_switch_frame old (command_in frame) ≡ true → new ≡ (failing late old).0 → Spells (failing late old).1 reply
-      → CommandStep (kept_with plan old faults before) frame reply (kept_with plan new later after)
+      → MeetsCommand (kept_with plan old faults before) frame reply (kept_with plan new later after)
   failed_switch late frame reply one fits card heard =
       let is = fails_to_switch (failing_choice late delays old) old (command_in frame) refl refl fits in
       fail_switch (failing_choice late delays old) refl fits one (card ∙ ap (λ (x : Card × CardAnswer). x.0) is)
@@ -182,7 +194,7 @@ module _ (plan : List Planned) (old new : Card) (delays : Delays) (soon : delays
   command_fault : (fault : Option Fault) (frame : List ℕ) (reply : Reply) → later ≡ faults + 1
       → fits_command fault delays old frame ≡ true
       → new ≡ after_command fault delays old frame → IsHeard fault (done_in fault delays old frame).1 reply
-      → CommandStep (kept_with plan old faults before) frame reply (kept_with plan new later after)
+      → MeetsCommand (kept_with plan old faults before) frame reply (kept_with plan new later after)
   command_fault None frame reply one fits card heard = cc
   command_fault (Some Is.LoseCommand) frame reply one fits card heard = lose_command one card heard
   command_fault (Some (Is.FlipCommand flips)) frame reply one fits card heard = flip_command false one card heard
@@ -232,10 +244,12 @@ module _ (plan : List Planned) (old new : Card) (delays : Delays) (soon : delays
       → Commands fault delays old frame reply fell new
       → CommandStep (kept_with plan old faults before) frame reply (kept_with plan new later after)
   command_step fault frame reply false counts does =
-      does_command (command_choice delays old) (soon_ready delays old soon, refl, bare) counts (does.card refl)
-      (_, said_is old.made.kind delays _, does.answer refl)
+      commands_at_once _ frame reply _
+      (does_command (command_choice delays old) (soon_ready delays old soon, refl, bare) counts (does.card refl)
+      (_, said_is old.made.kind delays _, does.answer refl))
   command_step fault frame reply true counts does =
-      command_fault fault frame reply counts (sym does.fell_is) (does.fault_card refl) (does.fault_reply refl)
+      commands_at_once _ frame reply _
+      (command_fault fault frame reply counts (sym does.fell_is) (does.fault_card refl) (does.fault_reply refl))
 
   pub commanded : (fault : Option Fault) (frame : List ℕ) (want : Want) (reply : Reply) (fell : Bool)
       → later ≡ (if fell then faults + 1 else faults) → Commands fault delays old frame reply fell new
@@ -244,7 +258,7 @@ module _ (plan : List Planned) (old new : Card) (delays : Delays) (soon : delays
       → Commanded (kept_with plan old faults before) frame want reply (kept_with plan new later after) × IsCard new
   commanded fault frame want reply fell counts does k notes in_bounds =
       let step = command_step fault frame reply fell counts does in
-      let is = command_leaves_card (kept_with plan old faults before) frame reply (kept_with plan new later after)
+      let is = step_leaves_card (kept_with plan old faults before) frame reply (kept_with plan new later after)
       step k in
       (exchanged plan old new faults later before after (Command frame want reply) notes in_bounds k is step, is)
 
@@ -315,7 +329,7 @@ module _ (plan : List Planned) (old new : Card) (delays : Delays) (faults later 
   write_fault : (fault : Option Fault) (block : Sector) (got : DataOut) → later ≡ faults + 1
       → fits_write fault old before.lines ≡ true
       → new ≡ after_write fault delays old block → got ≡ written_out fault
-      → WriteStep (kept_with plan old faults before) block got (kept_with plan new later after)
+      → MeetsBlock (kept_with plan old faults before) block got (kept_with plan new later after)
   write_fault (Some Is.LoseBlock) block got one fits card answer = lose_block fits one card answer
   write_fault (Some Is.RejectBusy) block got one fits card answer = reject false true fits one card answer
   write_fault (Some Is.Reject) block got one fits card answer = reject false false fits one card answer
@@ -347,9 +361,11 @@ module _ (plan : List Planned) (old new : Card) (delays : Delays) (faults later 
       → later ≡ (if fell then faults + 1 else faults)
       → Writes fault delays old before.lines block got fell new → WriteStep (kept_with plan old faults before) block got
       (kept_with plan new later after)
-  write_step fault block got false counts does = does_write counts (does.card refl) (does.got_is refl)
+  write_step fault block got false counts does =
+      writes_at_once _ block got _ (does_write counts (does.card refl) (does.got_is refl))
   write_step fault block got true counts does =
-      write_fault fault block got counts (sym does.fell_is) (does.fault_card refl) (does.fault_got refl)
+      writes_at_once _ block got _
+      (write_fault fault block got counts (sym does.fell_is) (does.fault_card refl) (does.fault_got refl))
 
   pub data_written : (fault : Option Fault) (block : Sector) (got : DataOut) (fell : Bool)
       → later ≡ (if fell then faults + 1 else faults)
@@ -358,7 +374,7 @@ module _ (plan : List Planned) (old new : Card) (delays : Delays) (faults later 
       → DataWritten (kept_with plan old faults before) block got (kept_with plan new later after) × IsCard new
   data_written fault block got fell counts does size k notes in_bounds =
       let step = write_step fault block got fell counts does in
-      let is = write_leaves_card (kept_with plan old faults before) block got (kept_with plan new later after)
+      let is = block_leaves_card (kept_with plan old faults before) block got (kept_with plan new later after)
       size step k in
       (exchanged plan old new faults later before after (Out got) notes in_bounds k is step, is)
 

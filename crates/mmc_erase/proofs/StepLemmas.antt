@@ -7,7 +7,9 @@ use Rattle.mmc_card.specs.BusView.{BusView}
 use Rattle.mmc_card.specs.Card.{Both, Card, First as FirstHeld, Held, NoAddress, holds, is_selected, stored}
 use Rattle.mmc_card.specs.CardAnswer.{shown}
 use Rattle.mmc_card.specs.Faults.{NoFault}
-use Rattle.mmc_card.specs.Laws.{erased_by, erased_by_held, maybe_erased}
+use Rattle.mmc_card.proofs.Passing.{still_in}
+use Rattle.mmc_card.specs.Laws.{IsStill, erased_by, erased_by_held, maybe_erased}
+use Rattle.mmc_frame.specs.declared.card_state.State.TheVariants.{Tran}
 use Rattle.mmc_card.specs.Made.{sector_at}
 use Rattle.mmc_card.specs.RowsErase.{erases, erasing, is_no_range, is_trim}
 use Rattle.mmc_card.specs.Sectors.{Within, is_boot, maybe_changed}
@@ -46,9 +48,13 @@ module _ {Own Fine : BusView → BusView → Type 0} (job : Job) (phase : Phase)
 
 -- A card that holds what it is to hold.
 
+still_holding : (held : Held) (card : Card) → IsHolding held card → IsStill card
+still_holding held card holding = still_in card Tran holding.idle.quiet.state refl refl holding.idle.rests
+
 can_hold : (job : Job) (kind : Kind) (held : Held) (card : Card) → kind ≡ job.session.info.kind
     → job.session.info.kind ≡ card.made.kind → IsHolding held card → CanHold kind held card
 can_hold job kind held card named is holding = record {
+  is_still = still_holding held card holding;
   is_kind = sym (named ∙ is);
   tran = holding.idle.quiet.state;
   erase = holding.erase;
@@ -67,14 +73,14 @@ now_holding held next card holding = record { idle = idle_shown (record card { e
 abbrev pub HoldsFirst : Kind → ℕ → Bool → BusView → BusView → Type 0
 HoldsFirst kind address ok =
     Worked Narrows
-    (λ old new. ok ≡ true → old.card.made.kind ≡ kind → old.card.erase ≡ NoAddress
+    (λ old new. ok ≡ true → IsStill old.card → old.card.made.kind ≡ kind → old.card.erase ≡ NoAddress
     → new.card ≡ record (shown old.card) { erase = FirstHeld address })
     (λ old new. CanHold kind NoAddress old.card → ok ≡ true)
 
 abbrev pub HoldsLast : Kind → ℕ → Bool → BusView → BusView → Type 0
 HoldsLast kind address ok =
     Worked Narrows
-    (λ old new. (first : ℕ) → ok ≡ true → old.card.made.kind ≡ kind → old.card.erase ≡ FirstHeld first
+    (λ old new. (first : ℕ) → ok ≡ true → IsStill old.card → old.card.made.kind ≡ kind → old.card.erase ≡ FirstHeld first
     → new.card ≡ record (shown old.card) { erase = Both first address })
     (λ old new. (first : ℕ) → CanHold kind (FirstHeld first) old.card → ok ≡ true)
 
@@ -90,7 +96,7 @@ module _ (job : Job) (faults : ℕ) (kind : Kind) (address : ℕ) (a b : BusView
   first_goes_on work =
       goes_there job First faults a b at work Last tt
       (λ exact.
-      let is = work.own refl (sym (named ∙ at.knows.info.kind)) exact.erase in
+      let is = work.own refl (still_holding NoAddress a.card exact) (sym (named ∙ at.knows.info.kind)) exact.erase in
       subst (IsHolding (FirstHeld (first_of job))) (sym (is ∙ ap (λ n. record (shown a.card) { erase = FirstHeld n }) addressed))
       (now_holding NoAddress (FirstHeld (first_of job)) a.card exact))
 
@@ -107,7 +113,7 @@ module _ (job : Job) (faults : ℕ) (kind : Kind) (address : ℕ) (a b : BusView
   last_goes_on work =
       goes_there job Last faults a b at work Erase tt
       (λ exact.
-      let is = work.own (first_of job) refl (sym (named ∙ at.knows.info.kind)) exact.erase in
+      let is = work.own (first_of job) refl (still_holding (FirstHeld (first_of job)) a.card exact) (sym (named ∙ at.knows.info.kind)) exact.erase in
       subst (IsHolding (Both (first_of job) (last_of job)))
       (sym (is ∙ ap (λ n. record (shown a.card) { erase = Both (first_of job) n }) addressed))
       (now_holding (FirstHeld (first_of job)) (Both (first_of job) (last_of job)) a.card exact))
@@ -117,7 +123,7 @@ module _ (job : Job) (faults : ℕ) (kind : Kind) (address : ℕ) (a b : BusView
 abbrev pub Erases : Kind → ℕ → Bool → BusView → BusView → Type 0
 Erases kind argument ok =
     Worked (λ old new. Within (holds new.card) (maybe_erased (erased_by old.card (Some (38, argument))) (holds old.card)))
-    (λ old new. (first last : ℕ) → ok ≡ true → old.card.erase ≡ Both first last → is_no_range old.card first last ≡ false
+    (λ old new. (first last : ℕ) → ok ≡ true → IsStill old.card → old.card.erase ≡ Both first last → is_no_range old.card first last ≡ false
     → new.card ≡ erases (erasing old.card (is_trim old.card argument) first last) old.card)
     (λ old new. (first last : ℕ) → CanErase kind first last old.card → ok ≡ true)
 
@@ -194,7 +200,7 @@ module _ (job : Job) (faults : ℕ) (kind : Kind) (argument : ℕ) (a b : BusVie
     within = erased_within work.sectors;
     left = goes_there_by job.session (Shown Erase) (Exact job Erase) faults a b at work (Shown (End (Wait 0))) (Exact job (End (Wait 0))) tt
         (λ held. subst (Exact job (End (Wait 0)))
-        (sym (work.own (first_of job) (last_of job) refl held.erase is_range ∙ ap (λ change. erases change a.card) change_is))
+        (sym (work.own (first_of job) (last_of job) refl (still_holding _ a.card held) held.erase is_range ∙ ap (λ change. erases change a.card) change_is))
         (programs held));
   }
 

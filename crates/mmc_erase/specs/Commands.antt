@@ -6,6 +6,7 @@ use Rattle.mmc_frame.specs.declared.kind.Kind.{Kind}
 use Rattle.mmc_frame.specs.declared.kind.Kind.TheVariants.{Mmc, Sd}
 use Rattle.mmc_card.specs.Card.{Both, Card, Held}
 use Rattle.mmc_card.specs.CardLaws.{HasNoError}
+use Rattle.mmc_card.specs.Laws.{IsStill}
 use Rattle.mmc_card.specs.RowsErase.{is_no_range}
 use Rattle.mmc_erase.specs.declared.how.How.{How}
 use Rattle.mmc_erase.specs.declared.how.How.TheVariants.{Erase, Trim}
@@ -25,8 +26,9 @@ abbrev pub argument_of : How → ℕ
 argument_of Erase = 0
 argument_of Trim = 1
 
--- a card in tran that holds this of the sequence, and shows no error in its R1
+-- a card in tran that holds this of the sequence, in which nothing goes on, and shows no error in its R1
 pub record CanHold (kind : Kind) (held : Held) (card : Card) : Type 0 where
+  pub is_still : IsStill card
   pub is_kind : card.made.kind ≡ kind
   pub tran : card.state ≡ Tran
   pub erase : card.erase ≡ held

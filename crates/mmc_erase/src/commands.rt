@@ -4,7 +4,7 @@ ghost use Rattle.std.specs.Prelude.{◌<◌, ◌≡◌, IsOk, Some, false, ℕ};
 ghost use Rattle.mmc_card.specs.Card.{Both, First, NoAddress};
 ghost use Rattle.mmc_card.specs.CardAnswer.{shown};
 ghost use Rattle.mmc_card.specs.Card.{holds};
-ghost use Rattle.mmc_card.specs.Laws.{erased_by, maybe_erased};
+ghost use Rattle.mmc_card.specs.Laws.{IsStill, erased_by, maybe_erased};
 ghost use Rattle.mmc_card.specs.RowsErase.{erases, erasing, is_no_range, is_trim};
 ghost use Rattle.mmc_card.specs.Sectors.{Within};
 ghost use Rattle.mmc_bus.specs.Heard.{is_inquiry_index};
@@ -48,7 +48,7 @@ fn last_command(kind: Kind) -> u8
 pub fn hold_first<B: Bus>(bus: &mut B, kind: Kind, address: u32) -> Result<(), Cause>
     ensures ends { Ends 1 (B.view bus.old) result (B.view bus.new) }
     ensures works { Works Narrows
-        (λ old new. IsOk result → old.card.made.kind ≡ kind → old.card.erase ≡ NoAddress
+        (λ old new. IsOk result → IsStill old.card → old.card.made.kind ≡ kind → old.card.erase ≡ NoAddress
         → new.card ≡ record (shown old.card) { erase = First address })
         (λ old new. CanHold kind NoAddress old.card → IsOk result)
         (B.view bus.old) (B.view bus.new) }
@@ -65,7 +65,7 @@ pub fn hold_first<B: Bus>(bus: &mut B, kind: Kind, address: u32) -> Result<(), C
 pub fn hold_last<B: Bus>(bus: &mut B, kind: Kind, address: u32) -> Result<(), Cause>
     ensures ends { Ends 1 (B.view bus.old) result (B.view bus.new) }
     ensures works { Works Narrows
-        (λ old new. (first : ℕ) → IsOk result → old.card.made.kind ≡ kind → old.card.erase ≡ First first
+        (λ old new. (first : ℕ) → IsOk result → IsStill old.card → old.card.made.kind ≡ kind → old.card.erase ≡ First first
         → new.card ≡ record (shown old.card) { erase = Both first address })
         (λ old new. (first : ℕ) → CanHold kind (First first) old.card → IsOk result)
         (B.view bus.old) (B.view bus.new) }
@@ -83,7 +83,8 @@ pub fn erase<B: Bus>(bus: &mut B, kind: Kind, argument: u32) -> Result<(), Cause
     ensures ends { Ends 1 (B.view bus.old) result (B.view bus.new) }
     ensures works { Works
         (λ old new. Within (holds new.card) (maybe_erased (erased_by old.card (Some (38, argument))) (holds old.card)))
-        (λ old new. (first last : ℕ) → IsOk result → old.card.erase ≡ Both first last → is_no_range old.card first last ≡ false
+        (λ old new. (first last : ℕ) → IsOk result → IsStill old.card → old.card.erase ≡ Both first last
+        → is_no_range old.card first last ≡ false
         → new.card ≡ erases (erasing old.card (is_trim old.card argument) first last) old.card)
         (λ old new. (first last : ℕ) → CanErase kind first last old.card → IsOk result)
         (B.view bus.old) (B.view bus.new) }

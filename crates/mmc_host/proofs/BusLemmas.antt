@@ -2,8 +2,11 @@
 use Rattle.std.proofs.Common.{◌&&◌, ◌+◌, ◌-◌, ◌^◌, ◌∙◌, ◌≡◌, Bool, List, Option, Some, ap, min, not, refl, subst, sym, true, ℕ}
 use Rattle.mmc_frame.specs.Frame.{command_in}
 use Rattle.mmc_card.proofs.Narrow.{both}
+use Rattle.mmc_card.proofs.Passing.{beside_card}
 use Rattle.mmc_card.specs.BusView.{BusView}
-use Rattle.mmc_card.specs.Faults.{CommandStep, WriteStep, PollStep, ReadStep, brownout, busy, fail, fail_early, faithful}
+use Rattle.mmc_card.specs.Faults.{CommandStep, MeetsBlock, MeetsCommand, Passes, PollStep, ReadStep, WriteStep}
+use Rattle.mmc_card.specs.Faults.{at_once, brownout, busy, fail, fail_early, faithful}
+use Rattle.mmc_card.specs.Faults.{has_failed, has_fallen_short, has_rested, has_run}
 use Rattle.mmc_card.specs.Faults.{fail_switch, fall_short, find_protection, flip_command, flip_reply, leave_over, lose_block}
 use Rattle.mmc_card.specs.Faults.{lose_command, lose_reply, lose_status, outlive, reject, slow_inquiry, spoil, turn_out}
 use Rattle.mmc_card.specs.declared.exchange.DataIn.{DataIn}
@@ -41,27 +44,47 @@ seen view lines beside =
       is_kept = beside.is_kept;
     }
 
+-- time passes so whatever else a view says
+moved_time : (old met : BusView) (l : Lines) (a : Beside) → Passes old met → Passes (seen old l a) (seen met l a)
+moved_time old met l a (at_once e) = at_once (ap (λ (v : BusView). seen v l a) e)
+moved_time old met l a (has_rested e) = has_rested (ap (λ (v : BusView). seen v l a) e)
+moved_time old met l a (has_run choice blocks e) = has_run choice blocks (ap (λ (v : BusView). seen v l a) e)
+moved_time old met l a (has_failed lands bits of prg switching e) =
+    has_failed lands bits of prg switching (ap (λ (v : BusView). seen v l a) e)
+moved_time old met l a (has_fallen_short lands bits ignores of rcv is_busy e) =
+    has_fallen_short lands bits ignores of rcv is_busy (ap (λ (v : BusView). seen v l a) e)
+
+-- a command meets a card so
+moved_meeting : (old new : BusView) (l m : Lines) (a b : Beside) (frame : List ℕ) (reply : Reply)
+    → MeetsCommand old frame reply new → MeetsCommand (seen old l a) frame reply (seen new m b)
+moved_meeting old new l m a b frame reply (faithful choice fine count card spells) = faithful choice fine count card spells
+moved_meeting old new l m a b frame reply (lose_command count card silent) = lose_command count card silent
+moved_meeting old new l m a b frame reply (flip_command keeps count card silent) = flip_command keeps count card silent
+moved_meeting old new l m a b frame reply (lose_reply choice fine count card answers silent) =
+    lose_reply choice fine count card answers silent
+moved_meeting old new l m a b frame reply (flip_reply choice fine count card flipped) =
+    flip_reply choice fine count card flipped
+moved_meeting old new l m a b frame reply (slow_inquiry choice slow late inquiry count card spells) =
+    slow_inquiry choice slow late inquiry count card spells
+moved_meeting old new l m a b frame reply (fail_switch choice fails switch count card spells) =
+    fail_switch choice fails switch count card spells
+moved_meeting old new l m a b frame reply (find_protection choice finds late write count card spells) =
+    find_protection choice finds late write count card spells
+moved_meeting old new l m a b frame reply (outlive choice bits argument are fine idle count card silent) =
+    outlive choice bits argument are fine idle count card silent
+moved_meeting old new l m a b frame reply (leave_over choice bits are fine count card spells) =
+    leave_over choice bits are fine count card spells
+moved_meeting old new l m a b frame reply (brownout choice lands keeps after fine count card silent) =
+    brownout choice lands keeps after fine count card silent
+
+-- time passes, and then it meets the card
 moved_command : (old new : BusView) (l m : Lines) (a b : Beside) (frame : List ℕ) (reply : Reply)
     → CommandStep old frame reply new → CommandStep (seen old l a) frame reply (seen new m b)
-moved_command old new l m a b frame reply (faithful choice fine count card spells) = faithful choice fine count card spells
-moved_command old new l m a b frame reply (lose_command count card silent) = lose_command count card silent
-moved_command old new l m a b frame reply (flip_command keeps count card silent) = flip_command keeps count card silent
-moved_command old new l m a b frame reply (lose_reply choice fine count card answers silent) =
-    lose_reply choice fine count card answers silent
-moved_command old new l m a b frame reply (flip_reply choice fine count card flipped) =
-    flip_reply choice fine count card flipped
-moved_command old new l m a b frame reply (slow_inquiry choice slow late inquiry count card spells) =
-    slow_inquiry choice slow late inquiry count card spells
-moved_command old new l m a b frame reply (fail_switch choice fails switch count card spells) =
-    fail_switch choice fails switch count card spells
-moved_command old new l m a b frame reply (find_protection choice finds late write count card spells) =
-    find_protection choice finds late write count card spells
-moved_command old new l m a b frame reply (outlive choice bits argument are fine idle count card silent) =
-    outlive choice bits argument are fine idle count card silent
-moved_command old new l m a b frame reply (leave_over choice bits are fine count card spells) =
-    leave_over choice bits are fine count card spells
-moved_command old new l m a b frame reply (brownout choice lands keeps after fine count card silent) =
-    brownout choice lands keeps after fine count card silent
+moved_command old new l m a b frame reply step = record {
+  met = seen step.met l a;
+  passes = moved_time old step.met l a step.passes;
+  meets = moved_meeting step.met new l m a b frame reply step.meets;
+}
 
 moved_poll : (old new : BusView) (l m : Lines) (a b : Beside) (said : Bool)
     → PollStep old said new → PollStep (seen old l a) said (seen new m b)
@@ -76,19 +99,31 @@ moved_poll old new l m a b said (fall_short lands bits ignores are rcv is count 
 moved_poll old new l m a b said (brownout choice lands keeps after fine count card says) =
     brownout choice lands keeps after fine count card says
 
+-- a block meets a card so
+moved_block : (old new : BusView) (m : Lines) (a b : Beside) (block : List ℕ) (got : DataOut)
+    → MeetsBlock old block got new → MeetsBlock (seen old old.lines a) block got (seen new m b)
+moved_block old new m a b block got (faithful count card is) = faithful count card is
+moved_block old new m a b block got (lose_block can count card is) = lose_block can count card is
+moved_block old new m a b block got (reject ignores is_busy can count card is) = reject ignores is_busy can count card is
+moved_block old new m a b block got (lose_status accepted ignores is_busy can count card is) =
+    lose_status accepted ignores is_busy can count card is
+moved_block old new m a b block got (fall_short lands bits ignores are can count card is) =
+    fall_short lands bits ignores are can count card is
+moved_block old new m a b block got (turn_out lands several can count card is) =
+    turn_out lands several can count card is
+moved_block old new m a b block got (brownout lands keeps after count card is) =
+    brownout lands keeps after count card is
+
+-- time passes, which leaves the lines, and then it meets the card
 moved_write : (old new : BusView) (m : Lines) (a b : Beside) (block : List ℕ) (got : DataOut)
     → WriteStep old block got new → WriteStep (seen old old.lines a) block got (seen new m b)
-moved_write old new m a b block got (faithful count card is) = faithful count card is
-moved_write old new m a b block got (lose_block can count card is) = lose_block can count card is
-moved_write old new m a b block got (reject ignores is_busy can count card is) = reject ignores is_busy can count card is
-moved_write old new m a b block got (lose_status accepted ignores is_busy can count card is) =
-    lose_status accepted ignores is_busy can count card is
-moved_write old new m a b block got (fall_short lands bits ignores are can count card is) =
-    fall_short lands bits ignores are can count card is
-moved_write old new m a b block got (turn_out lands several can count card is) =
-    turn_out lands several can count card is
-moved_write old new m a b block got (brownout lands keeps after count card is) =
-    brownout lands keeps after count card is
+moved_write old new m a b block got step = record {
+  met = seen step.met old.lines a;
+  passes = moved_time old step.met old.lines a step.passes;
+  meets = subst (λ (l : Lines). MeetsBlock (seen step.met l a) block got (seen new m b))
+      (beside_card old step.met step.passes (λ (v : BusView). v.lines) (λ card faults. refl))
+      (moved_block step.met new m a b block got step.meets);
+}
 
 moved_read : (old new : BusView) (m : Lines) (a b : Beside) (size : ℕ) (got : DataIn) (block : List ℕ)
     → ReadStep old size got block new → ReadStep (seen old old.lines a) size got block (seen new m b)

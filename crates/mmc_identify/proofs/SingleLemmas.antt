@@ -10,13 +10,16 @@ use Rattle.mmc_bus.specs.declared.status.Closing.TheVariants.{AtWork, Clean}
 use Rattle.mmc_frame.specs.declared.card_state.State.TheVariants.{Data, Dis, Ident, Idle, Prg, Rcv, Ready, Stby, Tran}
 use Rattle.mmc_frame.specs.declared.kind.Kind.{Kind}
 use Rattle.mmc_card.specs.BusView.{BusView}
-use Rattle.mmc_card.specs.Card.{Card, IsCard, NoAddress, is_selected}
+use Rattle.mmc_card.proofs.Cards.{in_state}
+use Rattle.mmc_card.proofs.Passing.{run_still, unmoved_by_time}
+use Rattle.mmc_card.specs.Blocks.{rested}
+use Rattle.mmc_card.specs.Card.{Card, IsCard, NoAddress, is_in, is_selected}
 use Rattle.mmc_card.specs.declared.exchange.Timing.TheVariants.{Default}
 use Rattle.mmc_card.specs.declared.exchange.Width.TheVariants.{One}
 use Rattle.mmc_card.specs.declared.part.Part.TheVariants.{User}
 use Rattle.mmc_card.specs.CardAnswer.{Choice, bit, busied, done, reset, shown, status}
 use Rattle.mmc_card.specs.CardLaws.{IsInOrder}
-use Rattle.mmc_card.specs.Faults.{NoFault}
+use Rattle.mmc_card.specs.Faults.{NoFault, Passes, at_once, has_failed, has_fallen_short, has_rested, has_run}
 use Rattle.mmc_card.specs.RowsIdentify.{at_work}
 use Rattle.mmc_card.specs.Made.{Made}
 use Rattle.mmc_card.specs.Profile.{InProfile}
@@ -252,6 +255,25 @@ told_unlocked rca told old new is profile locked (inr later) =
     locked told (at_work later.choice old) (less old.made.kind told _ later.told_is)
     ∙ lags_unlocked rca later.choice old is profile.unlocked
 
+-- nor does it look otherwise once it isn't busy
+rests_selected : (rca : ℕ) (card : Card) → IsSelected rca card → IsSelected rca (rested card)
+rests_selected rca card is =
+    let rest : rested card ≡ record card { is_busy = false } = rw is.state refl in
+    subst (IsSelected rca) (sym rest) (record {
+      state = is.state;
+      is_rca = is.is_rca;
+      part = is.part;
+      width = is.width;
+      timing = is.timing;
+      erase_group_def = is.erase_group_def;
+      count = is.count;
+      app = is.app;
+      erase = is.erase;
+      command_errors = is.command_errors;
+      errors = is.errors;
+      switch_error = is.switch_error;
+    })
+
 -- what a clean status leaves
 clean_leaves : (rca : ℕ) (kind : Kind) (old new : Card) → Looks rca old → IsInOrder kind old × (new ≡ shown old) → IsLeft rca new
 clean_leaves rca kind old new looks says =
@@ -269,6 +291,25 @@ work_leaves rca old new shown none is =
     subst (IsSelected rca) (sym shown)
     (shown_selected rca old old.state old.is_busy new.lags new.polled new.errors is.state is.is_rca is.part is.width is.timing
     is.erase_group_def is.erase none)
+
+-- a card in tran is nowhere else
+elsewhere : {X : Type 0} (card : Card) (state : State) → is_in state Tran ≡ false → card.state ≡ Tran → is_in card.state state ≡ true
+    → X
+elsewhere card state other tran there =
+    cc (other, ap (λ s. is_in s Tran) (sym (in_state card.state state there)), ap (λ s. is_in s Tran) tran)
+
+-- it looks so once time has passed, too
+pub looks_in_time : (rca : ℕ) (old met : BusView) → Passes old met → Looks rca old.card → Looks rca met.card
+looks_in_time rca old met passes looks up =
+    let is = looks (sym (unmoved_by_time old met passes).selected ∙ up) in
+    elim passes [
+      | at_once e ↦ subst (λ (v : BusView). IsSelected rca v.card) (sym e) is
+      | has_rested e ↦ subst (λ (v : BusView). IsSelected rca v.card) (sym e) (rests_selected rca old.card is)
+      | has_run choice blocks e ↦ subst (λ (v : BusView). IsSelected rca v.card) (sym e)
+          (subst (IsSelected rca) (sym (run_still choice blocks old.card (ap (λ s. is_in s Data) is.state))) is)
+      | has_failed lands bits of prg switching e ↦ elsewhere old.card Prg refl is.state prg
+      | has_fallen_short lands bits ignores of rcv is_busy e ↦ elsewhere old.card Rcv refl is.state rcv
+    ]
 
 pub closing_own : (rca : ℕ) (kind : Kind) (old new : Card) (r : Result Closing IdentFault) → Closes kind r old new
     → Looks rca old → LooksAfter rca r new

@@ -7,6 +7,8 @@ use Rattle.mmc_card.specs.BusView.{BusView}
 use Rattle.mmc_card.specs.Card.{Card, IsCard, NoAddress, is_selected}
 use Rattle.mmc_card.specs.CardAnswer.{shown}
 use Rattle.mmc_card.specs.CardLaws.{IsInOrder}
+use Rattle.mmc_card.proofs.Passing.{beside_card, stands_in_time, unmoved_by_time}
+use Rattle.mmc_card.specs.Faults.{Passes}
 use Rattle.mmc_card.specs.Laws.{Setting, setting_of}
 use Rattle.mmc_card.specs.RowsErase.{forgotten}
 use Rattle.mmc_bus.proofs.WorkLemmas.{joined, moved_as, moved_then, narrows_then, refuted}
@@ -51,10 +53,11 @@ set_to_blocks card = record (shown (forgotten card)) { block_length = 512 }
 
 abbrev pub SetsBlocks : Result Unit Cause → BusView → BusView → Type 0
 SetsBlocks r =
-    Moved (λ old new. IsOk r → (old.card.state ≡ Tran) × (new.card ≡ set_to_blocks old.card)) Anything
+    Moved (λ old new. IsOk r → (met : BusView) × Passes old met × (met.card.state ≡ Tran) × (new.card ≡ set_to_blocks met.card))
+    Anything
 
 abbrev pub Shows : {X : Type 0} → Result X Cause → BusView → BusView → Type 0
-Shows r = Worked Narrows (λ old new. IsOk r → HasShown old.card new.card) Anything
+Shows r = Worked Narrows (λ old new. IsOk r → (met : BusView) × Passes old met × HasShown met.card new.card) Anything
 
 -- a status shows itself, whether it lags or not
 pub has_shown : {told : ℕ} (old new : Card) → TellsStatus old told new → HasShown old new
@@ -78,6 +81,15 @@ stands_with_blocks session a b lines tran e stands =
       lines = lines ∙ stands.lines;
     }
 
+-- it stands so when a command meets it, too
+stands_met : (session : Session) (old met : BusView) → Passes old met → StandsAs session old → StandsAs session met
+stands_met session old met passes stands = record {
+  part = stands.part;
+  is_part = stands.is_part;
+  stands = stands_in_time old met passes _ stands.stands;
+  lines = beside_card old met passes (λ (v : BusView). v.lines) (λ card faults. refl) ∙ stands.lines;
+}
+
 -- the card after CMD16 and two CMD13, of which the last one finds it in order
 in_order_again : (kind : Kind) (session : Session) (c d : BusView) → c.card.erase ≡ NoAddress
     → d.card ≡ shown c.card → IsInOrder kind c.card → IsCard d.card → Knows session d → StandsAs session d
@@ -91,7 +103,8 @@ pub puts_in_order : {X : Type 0} {Fine : BusView → BusView → Type 0} (info :
     (first : Result Unit Cause) (second : Result X Cause)
     (last : Result Unit Cause) (a b c d : BusView) → IsOk first → IsOk second → b.lines ≡ a.lines
     → SetsBlocks first a b → Shows second b c
-    → Worked Narrows (λ old new. IsOk last → IsInOrder kind old.card × (new.card ≡ shown old.card)) Fine c d
+    → Worked Narrows (λ old new. IsOk last
+    → (met : BusView) × Passes old met × IsInOrder kind met.card × (new.card ≡ shown met.card)) Fine c d
     → Restored info last a d
 puts_in_order info kind first second last a b c d one two lines p q r =
     let rest = stirs_then b c d q r in
@@ -101,10 +114,13 @@ puts_in_order info kind first second last a b c d one two lines p q r =
     let blocks = p.own one in
     let showed = q.own two in
     let final = r.own ok in
-    let with = stands_with_blocks session a b lines blocks.0 blocks.1 stands in
+    let at = beside_card a blocks.0 blocks.1 (λ (v : BusView). v.lines) (λ card faults. refl) in
+    let with = stands_with_blocks session blocks.0 b (lines ∙ sym at) blocks.2 blocks.3
+    (stands_met session a blocks.0 blocks.1 stands) in
     let still = stands_then session b d rest.set with in
-    in_order_again kind session c d (ap (λ (x : Card). x.erase) showed ∙ ap (λ (x : Card). x.erase) blocks.1) final.1
-    final.0 r.is_card
+    let none = (unmoved_by_time c final.0 final.1).erase ∙ ap (λ (x : Card). x.erase) showed.2
+    ∙ (unmoved_by_time b showed.0 showed.1).erase ∙ ap (λ (x : Card). x.erase) blocks.3 in
+    in_order_again kind session final.0 d none final.3 final.2 r.is_card
     (knows_then session a d all.stays knows) still)
     (λ same. tt)
 

@@ -1,7 +1,9 @@
 // Bringing a card back in order where it stands, without a reset.
 ghost use Rattle.std.specs.Prelude.{◌≡◌, ◌+◌, ◌≤◌, IsOk};
 ghost use Rattle.mmc_frame.specs.declared.card_state.State.TheVariants.{Tran};
+ghost use Rattle.mmc_card.specs.BusView.{BusView};
 ghost use Rattle.mmc_card.specs.CardAnswer.{shown};
+ghost use Rattle.mmc_card.specs.Faults.{Passes};
 ghost use Rattle.mmc_card.specs.RowsErase.{forgotten};
 ghost use Rattle.mmc_bus.specs.Closings.{HasShown};
 ghost use Rattle.mmc_bus.specs.Work.{Anything, Moves, Narrows, Works};
@@ -18,7 +20,8 @@ use mmc_switch::Info;
 // CMD13: the status, whatever errors it shows. They are cleared by it.
 fn show_status<B: Bus>(bus: &mut B, rca: u16) -> Result<u32, Cause>
     ensures bounded { (B.view bus.new).exchanges ≤ (B.view bus.old).exchanges + 1 }
-    ensures works { Works Narrows (λ old new. IsOk result → HasShown old.card new.card) Anything
+    ensures works { Works Narrows (λ old new. IsOk result
+        → (met : BusView) × Passes old met × HasShown met.card new.card) Anything
         (B.view bus.old) (B.view bus.new) }
 {
     identify_laws::cmd13_tells_the_status();
@@ -60,8 +63,8 @@ fn set_block_length<B: Bus>(bus: &mut B) -> Result<(), Cause>
     ensures bounded { (B.view bus.new).exchanges ≤ (B.view bus.old).exchanges + 1 }
     ensures lines { (B.view bus.new).lines ≡ (B.view bus.old).lines }
     ensures moves { Moves
-        (λ old new. IsOk result → (old.card.state ≡ Tran)
-        × (new.card ≡ record (shown (forgotten old.card)) { block_length = 512 }))
+        (λ old new. IsOk result → (met : BusView) × Passes old met × (met.card.state ≡ Tran)
+        × (new.card ≡ record (shown (forgotten met.card)) { block_length = 512 }))
         Anything
         (B.view bus.old) (B.view bus.new) }
 {

@@ -1,11 +1,12 @@
 -- Blocks that are read and written.
 use Rattle.std.proofs.Common.{◌∙◌, ◌≡◌, arith, Bool, List, None, Option, Some, ap, false, refl, subst, sym, true, ℕ}
-use Rattle.std.specs.Prelude.{[], ◌&&◌, ◌==◌, ◌||◌, ◌∷◌, is_none, not}
+use Rattle.std.specs.Prelude.{[], ◌&&◌, ◌==◌, ◌||◌, ◌∷◌, if◌then◌else◌, is_none, not}
 use Rattle.std.proofs.lemmas.Bool.{eqb-true, false≢true}
 use Rattle.mmc_frame.specs.Field.{field}
 use Rattle.mmc_card.specs.BusView.{BusView}
 use Rattle.mmc_card.specs.Faults.{WriteStep}
 use Rattle.mmc_bus.specs.Exchanges.{Kept}
+use Rattle.mmc_card.specs.declared.exchange.DataOut.{DataOut}
 use Rattle.mmc_card.specs.declared.exchange.DataOut.TheVariants as Went
 use Rattle.mmc_host.specs.declared.data.Data.{Data}
 use Rattle.mmc_sdhci.specs.Commands.{Moves, ResetsData}
@@ -14,7 +15,7 @@ use Rattle.mmc_sdhci.specs.DataLooks.{DataDropped, DataLooked, following_of, is_
 use Rattle.mmc_sdhci.specs.declared.following.Following.{Following}
 use Rattle.mmc_sdhci.specs.declared.watching.Sought.TheVariants.{Gone}
 use Rattle.mmc_sdhci.proofs.Glancing.{gone_news}
-use Rattle.mmc_host.specs.HostStates.{less_one}
+use Rattle.mmc_host.specs.HostStates.{is_accepted, less_one}
 use Rattle.mmc_card.specs.declared.exchange.DataIn.TheVariants as Came
 use Rattle.mmc_sdhci.specs.Accesses.{Drops, DropsBy, IsAtRest}
 use Rattle.mmc_sdhci.specs.DmaLooks.{SomeMoved}
@@ -22,7 +23,7 @@ use Rattle.mmc_sdhci.specs.Controller.{is_settled, is_still, moved, seen}
 use Rattle.mmc_sdhci.specs.DataLooks.{IsUntold, WriteLook, cleared, is_empty}
 use Rattle.mmc_sdhci.specs.Accesses.{is_at_rest}
 use Rattle.mmc_sdhci.specs.DataLooks.WriteLook.{accepted as write_accepted, failed as write_failed, waits as write_waits}
-use Rattle.mmc_sdhci.specs.Moving.{HasRoom, IsGoing, WritesBlock}
+use Rattle.mmc_sdhci.specs.Moving.{HasRoom, IsGoing, Puts, WritesBlock}
 use Rattle.mmc_sdhci.specs.Moving.{FindsRoom, SeesGone, IsClear, IsSeeking, OnlyWatched, Watches, WhereKept, is_error, looking}
 use Rattle.mmc_sdhci.specs.declared.watching.Sought.{Sought}
 use Rattle.mmc_sdhci.specs.declared.watching.Glance.{Glance}
@@ -331,4 +332,23 @@ has_room v0 v1 under_way found rests going finds is kept =
     let c = clear_at_rest v0 (rests r.0) in (
       (g.1.0, ap (λ (v : ControllerView). v.transfer) r.1 ∙ (g.0 ∙ g.1.1)),
       (ap (λ (v : ControllerView). v.is_ready) r.1, ap (λ (v : ControllerView). v.outgoing) r.1 ∙ c.1),
+    )
+
+-- there was room for the block, it is put in the buffer, and it goes
+pub sent_off : (v0 v1 v2 v3 : ControllerView) (block : List ℕ) (found : Bool) (got : DataOut) → FindsRoom v0 found v1
+    → found ≡ true → Puts v1 block v2 → SeesGone v2 got v3 → WritesBlock v0 block got v3
+sent_off v0 v1 v2 v3 block found got finds is puts sees kept =
+    let s = sees kept in
+    let p = puts s.0 in
+    let r = roomy v0 v1 found finds is p.0 in
+    let m = subst (λ (v : ControllerView). Moves v (WriteStep (seen v) v.outgoing got (seen v3))
+    (if is_accepted got then less_one v.transfer else Data.Nothing) v3)
+    (p.1 ∙ ap (λ (v : ControllerView). record v { outgoing = block; is_ready = false }) r.1) s.1.0 in (
+      r.0,
+      record {
+        step = m.step;
+        transfer = m.transfer;
+        settings = m.settings;
+        built = m.built;
+      },
     )

@@ -72,7 +72,7 @@ pub data ReadLook (old : ControllerView) (size bits : ℕ) (new : ControllerView
       → ReadLook old size bits new
 
 -- A whole block has been written to the buffer, and has gone. Where the buffer has room for several, the card may still reject a
--- block that isn't the last, which the next look says (`WriteStep`, `turn_out`).
+-- block that isn't the last, which the next look says (`MeetsBlock`, `turn_out`).
 abbrev pub is_whole : List ℕ → Bool
 is_whole bytes = length bytes == 512
 

@@ -4,7 +4,11 @@ use Rattle.std.proofs.Common.{◌≡◌, ◌≤◌, ◌∷◌, [], Err, List, ap
 use Rattle.std.proofs.lemmas.Bool.{cond_both, false≢true}
 use Rattle.mmc_card.specs.Card.{Card}
 use Rattle.mmc_card.specs.CardAnswer.{Silent}
-use Rattle.mmc_card.specs.Faults.CommandStep.{lose_command}
+use Rattle.mmc_card.specs.BusView.{BusView}
+use Rattle.mmc_card.specs.Faults.{CommandStep, OneFault, at_once}
+use Rattle.mmc_card.specs.Faults.MeetsCommand.{lose_command}
+use Rattle.mmc_card.specs.declared.exchange.Reply.{Reply}
+use Rattle.mmc_card.specs.declared.exchange.Reply.TheVariants as Came
 use Rattle.mmc_host.specs.Hosts.{answer_heard}
 use Rattle.mmc_card.specs.declared.response.Response.{Response}
 use Rattle.mmc_host.specs.declared.told.ResponseFault.TheVariants.{Timeout}
@@ -104,6 +108,11 @@ unheard Response.R3 index = refl
 unheard Response.R6 index = refl
 unheard Response.R7 index = refl
 
+-- a command is lost at once
+loses : (old new : BusView) (frame : List ℕ) (reply : Reply) → OneFault old new → new.card ≡ old.card → reply ≡ Came.Silent
+    → CommandStep old frame reply new
+loses old new frame reply one card silent = record { met = old; passes = at_once refl; meets = lose_command one card silent }
+
 pub goes_on : StepsGoOn
 goes_on past card faults ok steps told limits command = (
   card,
@@ -112,7 +121,7 @@ goes_on past card faults ok steps told limits command = (
   record {
     was_kept = refl;
     was_card = ok;
-    step = rw (unheard command.response command.index) (λ frame reply is silent. lose_command refl refl silent);
+    step = rw (unheard command.response command.index) (λ frame reply is silent. loses _ _ frame reply refl refl silent);
     is_card = ok;
     bounded = λ most none. none;
   },

@@ -16,7 +16,8 @@ use Rattle.mmc_card.specs.Sectors.{Change, IsIn as IsOneOf, Same, Sector, Sets, 
 use Rattle.mmc_card.specs.declared.exchange.Exchange.TheVariants.{Busy}
 use Rattle.mmc_bus.specs.Together.{OneOf}
 use Rattle.mmc_bus.specs.Exchanges.{Exchanged}
-use Rattle.mmc_bus.specs.Closings.{ClosesSoon, CountsOn, HasShown}
+use Rattle.mmc_bus.proofs.ClosingLemmas.{sound_at_work, sound_before, sound_in_order}
+use Rattle.mmc_bus.specs.Closings.{ClosesSoon, CountsOn, HasShown, WasAtWork}
 use Rattle.mmc_bus.specs.Learned.{PollFacts}
 use Rattle.mmc_bus.specs.declared.cause.Cause.{Cause}
 use Rattle.mmc_bus.specs.declared.status.Closing.{Closing}
@@ -24,8 +25,9 @@ use Rattle.mmc_bus.specs.declared.status.Closing.TheVariants.{AtWork, Clean}
 use Rattle.mmc_bus.specs.declared.wait.TheConstants.{MAX_POLLS}
 use Rattle.mmc_bus.proofs.WorkLemmas.{done_by}
 use Rattle.mmc_switch.proofs.TurnLemmas.{no_more, turn_fails, turn_goes_on}
-use Rattle.mmc_switch.proofs.UnderWayLemmas.{knows_then, part_in, quiet_by, ready_again, set_in, stands_then}
-use Rattle.mmc_switch.specs.Ending.{Confirms, EndingDid, FailsAt, IsEnding, LagsAfter, Polls, ShownIn}
+use Rattle.mmc_switch.proofs.UnderWayLemmas.{knows_then, part_in, quiet_by, ready_again, set_in, stands_then, still_idle}
+use Rattle.mmc_card.proofs.Passing.{still}
+use Rattle.mmc_switch.specs.Ending.{Confirms, EndingDid, FailsAt, IsEnding, IsSound, LagsAfter, Polls, ShownIn}
 use Rattle.mmc_switch.specs.Place.{IsReady}
 use Rattle.mmc_switch.specs.Turns.{LeftIn}
 use Rattle.mmc_switch.specs.UnderWay.{IsBusyAfter, IsCarriedOut, IsIdle, IsProgramming, IsUnderWay, Turn, part_of}
@@ -251,20 +253,26 @@ module _ (session : Session) (change : Change) (Exact : Ending → Card → Type
     works_on : Confirms session.info.kind session.info.rca (Ok AtWork) a b
         → EndingTurned session change Exact faults a (Ok (Some (Confirm (waits + 1)))) b
     works_on work =
-        let own = work.own in
+        let met = work.own.0 in
+        let sound : IsSound b.card → IsSound a.card =
+        λ sound. sound_before a met work.own.1 (sound_at_work session.info.kind met.card b.card work.own.2 sound) in
         let comes : Exact (Confirm waits) a.card → Exact (Confirm (waits + 1)) b.card =
-        λ rests. ends.works waits a.card b.card rests own.shown (own.gets_none (ends.idle waits a.card rests).quiet.errors)
-        own.counts in
+        λ rests.
+        let idle = ends.idle waits a.card rests in
+        let own = subst (λ (v : BusView). WasAtWork session.info.kind v.card b.card)
+        (still a met (still_idle 0 a.card idle) work.own.1) work.own.2 in
+        ends.works waits a.card b.card rests own.shown (own.gets_none idle.quiet.errors) own.counts in
         turn_goes_on session change ShownIn Exact (Exact (Confirm 0)) (Confirm waits) faults a b at work
         (Confirm (waits + 1))
-        (λ sound. (ap (λ (c : Card). is_selected c.state) (sym own.shown) ∙ sound.0, (own.held_none sound.1).errors))
-        (λ rests sound. comes rests) (λ rests quiet. comes rests)
+        sound (λ rests sound. comes rests) (λ rests quiet. comes rests)
 
     -- it is clean
     is_ready : Confirms session.info.kind session.info.rca (Ok Clean) a b → IsReady session b × Exact (Confirm 0) b.card
     is_ready work =
-        let own = work.own in
-        let rests = at.shown (ap is_selected own.0.tran, own.0.no_error.errors) in
+        let met = work.own.0 in
+        let rests = at.shown (sound_before a met work.own.1 (sound_in_order session.info.kind met.card work.own.2.0)) in
+        let own = subst (λ (v : BusView). IsInOrder session.info.kind v.card × (b.card ≡ shown v.card))
+        (still a met (still_idle 0 a.card (ends.idle waits a.card rests)) work.own.1) work.own.2 in
         let stays : Exact (Confirm 0) b.card = subst (Exact (Confirm 0)) (sym own.1) (ends.shows waits a.card rests) in
         let idle = ends.idle 0 b.card stays in (
           ready_again session b work.is_card (knows_then session a b work.stays at.knows)

@@ -15,7 +15,7 @@ use Rattle.mmc_card.specs.BusView.{BusView}
 use Rattle.mmc_card.specs.Card.{Card, FromSectors, IsCard}
 use Rattle.mmc_card.specs.CardAnswer.{Choice}
 use Rattle.mmc_card.specs.Faults.{NoFault}
-use Rattle.mmc_card.specs.Laws.{Setting, erased_by, setting_of}
+use Rattle.mmc_card.specs.Laws.{IsStill, Setting, erased_by, setting_of}
 use Rattle.mmc_card.specs.RowsErase.{forgotten}
 use Rattle.mmc_card.specs.RowsSwitch.{IsExtCsdOf, ext_csd_now, timing_number, width_number}
 use Rattle.mmc_card.specs.RowsTransfer.{sending}
@@ -27,7 +27,7 @@ use Rattle.mmc_bus.specs.declared.host.Unheard.{Unheard}
 use Rattle.mmc_bus.specs.Work.{Moved, Narrows, Worked}
 use Rattle.mmc_bus.proofs.WorkLemmas.{moved_as, moved_by, moved_then, quiet_parts, refuted}
 use Rattle.mmc_switch.specs.Stages.{IsAtRest, IsSet, IsSetOver, lines_of}
-use Rattle.mmc_switch.proofs.RestLemmas.{ErrorsLaw, answers_well, carried_out, set_as}
+use Rattle.mmc_switch.proofs.RestLemmas.{ErrorsLaw, answers_well, carried_out, set_as, still_at_rest}
 
 -- the host's lines stay, and the card is to send these bytes
 abbrev pub IsSending : List ℕ → Timing → BusView → BusView → Type 0
@@ -37,7 +37,7 @@ IsSending bytes timing old new =
 -- The command, where its law asks for `Asks` and the card carries it out where `IsThere` holds.
 abbrev pub Commands : (Asks IsThere : Type 0) → List ℕ → Timing → Result Unit Cause → BusView → BusView → Type 0
 Commands Asks IsThere bytes timing r a b =
-    Moved (λ old new. Asks → IsOk r → IsSending bytes timing a b)
+    Moved (λ old new. IsStill a.card → Asks → IsOk r → IsSending bytes timing a b)
     (λ old new. (is_app : Bool) → Asks → IsThere → IsAtRest is_app a.card → IsOk r) a b
 
 pub commanded : {Asks IsThere : Type 0} (kind : Kind) (bytes : List ℕ) (timing : Timing) (a : BusView)
@@ -46,18 +46,18 @@ pub commanded : {Asks IsThere : Type 0} (kind : Kind) (bytes : List ℕ) (timing
     → erased_by a.card (Some (index, argument)) ≡ None → ErrorsLaw → (Asks → IsThere → a.card.made.kind ≡ kind)
     → (IsOk r → (told : ℕ) × (heard ≡ Ok told) × (error_bits kind (own_status told) ≡ 0))
     → ((told : ℕ) → heard ≡ Ok told → error_bits kind told ≡ 0 → IsOk r)
-    → (Asks → Does IsThere ShowsDropped (sending bytes timing (forgotten a.card)) a heard b)
+    → (IsStill a.card → Asks → Does IsThere ShowsDropped (sending bytes timing (forgotten a.card)) a heard b)
     → Commands Asks IsThere bytes timing r a b
 commanded kind bytes timing a index argument heard b r asked kept none errors of judged judges law =
     let k = asked.exchanged.kept kept in
     let after = sending bytes timing (forgotten a.card) in
     moved_by a index argument heard b none k
-    (λ asks ok. (
+    (λ is asks ok. (
       asked.exchanged.lines,
-      (carried_out kind ShowsDropped after a heard b r judged (law asks) ok).1,
+      (carried_out kind ShowsDropped after a heard b r judged (law is asks) ok).1,
     ))
     (λ same is_app asks there rest.
-    answers_well kind is_app after a heard b r errors k.was_card (of asks there) judges (law asks) same rest there)
+    answers_well kind is_app after a heard b r errors k.was_card (of asks there) judges (law (still_at_rest a.card rest) asks) same rest there)
 
 -- The block.
 
@@ -128,7 +128,7 @@ sends_fine : {Asks IsThere : Type 0} (size : ℕ) (is_app : Bool) (bytes block :
     (setting : Setting) (r : Result Unit Cause) (a b c : BusView) → Commands Asks IsThere bytes timing (Ok tt) a b
     → Received size block r b c → Asks → IsSet is_app setting a → length bytes ≡ size → NoFault a c → IsOk r
 sends_fine size is_app bytes block timing setting r a b c p q asks set long same =
-    let sends = p.own asks refl in
+    let sends = p.own (still_at_rest a.card set.rest) asks refl in
     q.fine (quiet_parts a b c p.stays q.stays same).1
     (sends_all size is_app bytes timing setting a b set sends long)
     (ap (λ (card : Card). card.is_busy) sends.1 ∙ set.rest.rests)
@@ -150,7 +150,7 @@ fetched size is_app bytes block timing tells x a b c told p q =
     let got = q.own refl in
     moved_then a b c p q
     (λ was is asks set setting.
-    let came = block_came is_app bytes block timing was is a b c set setting (p.own asks refl) q.set.lines got.1
+    let came = block_came is_app bytes block timing was is a b c set setting (p.own (still_at_rest a.card set.rest) asks refl) q.set.lines got.1
     got.2.0 got.2.1 in
     (told ∙ ap tells came.0, came.1))
     (λ same was asks can set. refl)
@@ -174,10 +174,12 @@ sent_is card bytes (Ok x) P is p = (subst (IsExtCsdOf card) (sym p.0) (is refl),
 sent_is card bytes (Err cause) P is p = tt
 
 pub ext_csd_sent : (bytes : List ℕ) (r : Result (List ℕ) Cause) (a b : BusView)
-    → (a.card.made.kind ≡ Mmc → IsOk r → IsExtCsdOf a.card bytes)
-    → Fetches (a.card.made.kind ≡ Mmc) (Unit {0}) false bytes a.card.timing (λ bytes. bytes) r a b
+    → (a.card.made.kind ≡ Mmc → IsStill a.card → IsOk r → IsExtCsdOf a.card bytes)
+    → Fetches ((a.card.made.kind ≡ Mmc) × IsStill a.card) (Unit {0}) false bytes a.card.timing (λ bytes. bytes) r a b
     → SendsExtCsd r a b
 ext_csd_sent bytes r a b is p =
     moved_as a b p
-    (λ setting mmc set. sent_is a.card bytes r (IsSet false setting b) (is mmc) (p.own setting setting mmc set set.is_set))
-    (λ same setting mmc set. p.fine same setting mmc tt set)
+    (λ setting mmc set.
+    let calm = still_at_rest a.card set.rest in
+    sent_is a.card bytes r (IsSet false setting b) (is mmc calm) (p.own setting setting (mmc, calm) set set.is_set))
+    (λ same setting mmc set. p.fine same setting (mmc, still_at_rest a.card set.rest) tt set)

@@ -13,7 +13,8 @@ use Rattle.mmc_card.specs.Card.{Card, Held, IsCard, NoAddress, Source}
 use Rattle.mmc_card.specs.CardAnswer.{shown}
 use Rattle.mmc_card.specs.CardLaws.{HasNoError, Tells}
 use Rattle.mmc_card.specs.Faults.{NoFault}
-use Rattle.mmc_card.specs.Laws.{Setting, setting_of}
+use Rattle.mmc_card.proofs.Passing.{still_in}
+use Rattle.mmc_card.specs.Laws.{IsStill, Setting, setting_of}
 use Rattle.mmc_card.specs.Rows.{without_addresses}
 use Rattle.mmc_card.specs.RowsErase.{forgotten}
 use Rattle.mmc_bus.specs.CommandLaws.{Does, ShowsDropped}
@@ -31,6 +32,10 @@ nothing_dropped quietly card none = rw none refl
 -- and it shows itself
 pub shows_itself : (card : Card) (told : ℕ) → card.erase ≡ NoAddress → ShowsDropped card told → Shows card told
 shows_itself card told none shows = subst (λ (c : Card). Shows c told) (nothing_dropped shows.0 card none) shows.1
+
+-- nothing goes on in it by itself
+pub still_at_rest : {is_app : Bool} (card : Card) → IsAtRest is_app card → IsStill card
+still_at_rest card rest = still_in card Tran rest.state refl refl rest.rests
 
 pub no_error : (kind : Kind) (is_app : Bool) (card : Card) → IsAtRest is_app card → HasNoError kind card
 no_error kind is_app card rest =

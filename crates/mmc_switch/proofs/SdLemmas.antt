@@ -20,7 +20,9 @@ use Rattle.mmc_card.specs.declared.exchange.Width.TheVariants.{Eight, Four, One}
 use Rattle.mmc_card.specs.BusView.{BusView}
 use Rattle.mmc_card.specs.Card.{Card, FromBytes, IsCard, Source}
 use Rattle.mmc_card.specs.Faults.{NoFault}
-use Rattle.mmc_card.specs.Laws.{Setting, timing_once_sent}
+use Rattle.mmc_card.proofs.Passing.{still}
+use Rattle.mmc_card.specs.CardAnswer.{shown}
+use Rattle.mmc_card.specs.Laws.{IsStill, Setting, timing_once_sent}
 use Rattle.mmc_card.specs.Made.{Made, csd_number_of, has_high_speed, has_switch_function, is_sd}
 use Rattle.mmc_bus.specs.CommandLaws.{IsSwitchSource, bytes_sent}
 use Rattle.mmc_bus.proofs.CommandLemmas.{switch_bytes}
@@ -35,7 +37,7 @@ use Rattle.mmc_switch.specs.declared.sd.TheConstants as Argument
 use Rattle.mmc_switch.specs.declared.sd.Told.{Told}
 use Rattle.mmc_switch.proofs.FetchLemmas.{Fetches}
 use Rattle.mmc_switch.proofs.SwitchStatusLemmas.{checks_only, same_support, says_timing}
-use Rattle.mmc_switch.proofs.RestLemmas.{moved_on_lines, set_on_lines, set_shown}
+use Rattle.mmc_switch.proofs.RestLemmas.{moved_on_lines, set_on_lines, set_shown, still_at_rest}
 use Rattle.mmc_switch.proofs.UnderWayLemmas.{said_before}
 
 -- the card stays of its kind
@@ -161,17 +163,19 @@ switched_by argument setting card source (Ok status) b sends own =
 switched_by argument setting card source (Err cause) b sends own = tt
 
 pub status_sent : (argument : ℕ) (r : Result (List ℕ) Cause) (a m b : BusView)
-    → (a.card.made.kind ≡ Sd → a.card.app ≡ false → IsOk r → IsSwitchSource a.card argument m.card.source)
-    → Fetches ((a.card.made.kind ≡ Sd) × (a.card.app ≡ false)) (has_switch_function a.card.made ≡ true) false
+    → (a.card.made.kind ≡ Sd → a.card.app ≡ false → IsStill a.card → IsOk r → IsSwitchSource a.card argument m.card.source)
+    → Fetches ((a.card.made.kind ≡ Sd) × (a.card.app ≡ false) × IsStill a.card) (has_switch_function a.card.made ≡ true) false
     (bytes_sent m.card.source) (timing_once_sent m.card.source a.card.timing) (λ bytes. bytes) r a b
     → Switches argument r a b
 status_sent argument r a m b sends p =
     let timed : Setting → Setting =
     λ s. record s { timing = timing_once_sent m.card.source a.card.timing } in
     moved_as a b p
-    (λ setting sd set. switched_by argument setting a.card m.card.source r b (sends sd set.rest.app)
-    (p.own setting (timed setting) (sd, set.rest.app) set (ap timed set.is_set)))
-    (λ same setting sd has set. p.fine same setting (sd, set.rest.app) has set)
+    (λ setting sd set.
+    let is = still_at_rest a.card set.rest in
+    switched_by argument setting a.card m.card.source r b (sends sd set.rest.app is)
+    (p.own setting (timed setting) (sd, set.rest.app, is) set (ap timed set.is_set)))
+    (λ same setting sd has set. p.fine same setting (sd, set.rest.app, still_at_rest a.card set.rest) has set)
 
 abbrev pub SwitchesToHigh : Width → Result Timing Cause → BusView → BusView → Type 0
 SwitchesToHigh width r a b =
@@ -478,6 +482,8 @@ set_up rca switches scr width timing a b c p q =
     (λ sd class set.
     let got = p.own sd class set in (
       record { scr = got.0; width = got.1; timing = got.2.0 },
-      set_shown (user_setting rca width timing 0) b c q.set.lines (q.own refl).1 got.2.1,
+      (let told = q.own refl in
+          let same = still b told.0 (still_at_rest b.card got.2.1.rest) told.1 in
+          set_shown (user_setting rca width timing 0) b c q.set.lines (told.3 ∙ ap (λ (v : BusView). shown v.card) same) got.2.1),
     ))
     (λ same sd class set. refl)

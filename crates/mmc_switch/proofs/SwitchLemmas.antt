@@ -4,7 +4,7 @@ use Rattle.std.specs.Prelude.{◌&&◌, ◌*◌, ◌+◌, ◌==◌, Err, IfSome,
 use Rattle.std.specs.Prelude.{if◌then◌else◌, length}
 use Rattle.mmc_frame.specs.Field.{field}
 use Rattle.mmc_frame.specs.Status.{error_bits, own_status}
-use Rattle.mmc_frame.specs.declared.card_state.State.TheVariants.{Prg}
+use Rattle.mmc_frame.specs.declared.card_state.State.TheVariants.{Data, Prg}
 use Rattle.mmc_frame.specs.declared.kind.Kind.TheVariants.{Mmc}
 use Rattle.mmc_ext_csd.specs.ExtCsd.{high_speed_at_52_mhz, partition_config}
 use Rattle.mmc_card.specs.declared.exchange.Timing.TheVariants.{Default, High}
@@ -19,22 +19,22 @@ use Rattle.mmc_card.specs.Card.{Card, NoAddress, is_in, stored}
 use Rattle.mmc_card.specs.CardAnswer.{shown}
 use Rattle.mmc_card.specs.CardLaws.{HasNoError, IsInOrder, Tells}
 use Rattle.mmc_card.specs.Faults.{NoFault}
-use Rattle.mmc_card.specs.Laws.{Setting, StandsIn, StillStands, erased_by, setting_of}
+use Rattle.mmc_card.specs.Laws.{IsStill, Setting, StandsIn, StillStands, erased_by, setting_of}
 use Rattle.mmc_card.specs.Made.{Made}
 use Rattle.mmc_card.specs.RowsSwitch.{access_switched, accessed, part_accessed, programs_switch, switched, width_number}
 use Rattle.mmc_card.specs.RowsSwitch.{write_byte}
 use Rattle.mmc_bus.specs.declared.cause.Cause.{Cause}
 use Rattle.mmc_bus.specs.declared.host.Unheard.{Unheard}
 use Rattle.mmc_bus.specs.Closings.{WillBeClean}
-use Rattle.mmc_bus.specs.CommandLaws.{Switches as Written}
+use Rattle.mmc_bus.specs.CommandLaws.{HasSwitchError, Switches as Written}
 use Rattle.mmc_bus.specs.Exchanges.{Kept}
 use Rattle.mmc_bus.specs.Heard.{response_of}
-use Rattle.mmc_bus.specs.Learned.{CommandFacts}
+use Rattle.mmc_bus.specs.Learned.{CommandMet}
 use Rattle.mmc_bus.specs.Work.{Done, Moved, Narrows}
 use Rattle.mmc_bus.proofs.ClosingLemmas.{Ended}
 use Rattle.mmc_bus.proofs.WorkLemmas.{done_as, done_by, done_then, moved_as, moved_on, moved_then, narrows_then, quiet_parts, refuted}
 use Rattle.mmc_switch.specs.Info.{has_high_timing}
-use Rattle.mmc_switch.proofs.RestLemmas.{no_error, set_on_lines}
+use Rattle.mmc_switch.proofs.RestLemmas.{no_error, set_on_lines, still_at_rest}
 use Rattle.mmc_switch.specs.Stages.{IsAtRest, IsSet, IsSetOver, MayStandIn, first_setting, lines_of, user_setting}
 use Rattle.mmc_card.specs.Judged.{Shows}
 
@@ -45,14 +45,14 @@ Requests argument r =
     Done (MayStandIn argument) Narrows
     (λ old new. (after : Card) → old.card.made.kind ≡ Mmc → IsAtRest false old.card
     → switched old.card argument ≡ Some after → IsOk r
-    → (new.card ≡ programs_switch after) ⊎ (new.card.switch_error ≡ true))
+    → (new.card ≡ programs_switch after) ⊎ HasSwitchError new.card)
     (λ old new. (after : Card) → old.card.made.kind ≡ Mmc → IsAtRest false old.card
     → switched old.card argument ≡ Some after → IsOk r × (new.card ≡ programs_switch after))
 
 pub requested : (argument : ℕ) (heard : Result ℕ Unheard) (r : Result Unit Cause) (old new : BusView)
     → erased_by old.card (Some (6, argument)) ≡ None → new.lines ≡ old.lines
-    → Kept old (CommandFacts (response_of 6) old 6 argument heard new) new
-    → ((after : Card) → old.card.made.kind ≡ Mmc → old.card.erase ≡ NoAddress → switched old.card argument ≡ Some after
+    → Kept old (CommandMet (response_of 6) old 6 argument heard new) new
+    → (IsStill old.card → (after : Card) → old.card.made.kind ≡ Mmc → old.card.erase ≡ NoAddress → switched old.card argument ≡ Some after
     → Written after old heard new)
     → ((told : ℕ) → Shows old.card told → Tells Mmc old.card (error_bits Mmc told ≡ 0) (HasNoError Mmc old.card))
     → (IsOk r → (told : ℕ) × (heard ≡ Ok told) × (error_bits Mmc (own_status told) ≡ 0))
@@ -61,9 +61,9 @@ requested argument heard r old new none lines k law clean ok all =
     done_by old new k k.step.stays (record { lines = lines; stands = k.step.switches }) (rw none at k.step.narrows)
     (λ after mmc rest to good.
     let told = ok good in
-    ((law after mmc rest.erase to).sound told.0 told.1 told.2).1)
+    ((law (still_at_rest old.card rest) after mmc rest.erase to).sound told.0 told.1 told.2).1)
     (λ same after mmc rest to.
-    let does = (law after mmc rest.erase to).fine same rest.state in
+    let does = (law (still_at_rest old.card rest) after mmc rest.erase to).fine same rest.state in
     let told = does.0 in (
       all told.0 told.1 ((clean told.0 told.2).1 mmc (no_error Mmc false old.card rest)),
       does.1,
@@ -160,14 +160,19 @@ ordered after = record {
 
 -- a clean status after the busy time rules SWITCH_ERROR out
 unfailed : (card : Card) (X : Type 0) → card.made.kind ≡ Mmc → IsInOrder Mmc (rested card)
-    → X ⊎ (card.switch_error ≡ true) → X
+    → X ⊎ HasSwitchError card → X
 unfailed card X mmc order (inl is) = is
 unfailed card X mmc order (inr error) =
     let of : (rested card).made.kind ≡ card.made.kind =
     by_cond (λ (d : Card). d.made.kind ≡ card.made.kind) (is_in card.state Prg) (λ _. refl) (λ _. refl) in
     let stays : (rested card).switch_error ≡ card.switch_error =
     by_cond (λ (d : Card). d.switch_error ≡ card.switch_error) (is_in card.state Prg) (λ _. refl) (λ _. refl) in
-    cc (order.no_error.switch_error refl (of ∙ mmc), stays, error)
+    cc (order.no_error.switch_error refl (of ∙ mmc), stays, error.1)
+
+-- it programs then, and sends nothing
+programs : (after card : Card) → (card ≡ programs_switch after) ⊎ HasSwitchError card → is_in card.state Data ≡ false
+programs after card (inl is) = ap (λ (c : Card). is_in c.state Data) is
+programs after card (inr error) = ap (λ s. is_in s Data) error.0
 
 pub switches : (rca argument : ℕ) (request r : Result Unit Cause) (a b c : BusView) → IsOk request
     → Requests argument request a b → Ended Mmc rca r b c → Switches rca argument r a c
@@ -180,9 +185,11 @@ switches rca argument request r a b c good p q =
     (narrows_then a b c p.sectors q.sectors)
     (λ after mmc rest to ok.
     let mmc_still = ap (λ (m : Made). m.kind) p.stays.carried.made ∙ mmc in
-    let is = unfailed b.card (b.card ≡ programs_switch after) mmc_still (q.own ok).0 (p.own after mmc rest to good) in
+    let did = p.own after mmc rest to good in
+    let ends = q.own ok (programs after b.card did) in
+    let is = unfailed b.card (b.card ≡ programs_switch after) mmc_still ends.0 did in
     rest_again a.card after c.card rest (keeps a.card after argument to).0
-    ((q.own ok).1 ∙ ap (λ card. record (shown (rested card)) { polled = c.card.polled }) is))
+    (ends.1 ∙ ap (λ card. record (shown (rested card)) { polled = c.card.polled }) is))
     (λ same after mmc rest is_rca to.
     let parts = quiet_parts a b c p.stays q.stays same in
     let back = sym (p.fine parts.0 after mmc rest to).1 in

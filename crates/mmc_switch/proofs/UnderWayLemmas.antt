@@ -14,7 +14,8 @@ use Rattle.mmc_card.specs.Blocks.{lines_fit}
 use Rattle.mmc_card.specs.Card.{Card, HasItsSizes, IsCard, NoAddress, is_in, is_selected, stored}
 use Rattle.mmc_card.specs.CardLaws.{HasNoError}
 use Rattle.mmc_card.specs.Faults.{NoFault}
-use Rattle.mmc_card.specs.Laws.{Setting, Stands, setting_of}
+use Rattle.mmc_card.proofs.Passing.{still_in}
+use Rattle.mmc_card.specs.Laws.{IsStill, Setting, Stands, setting_of}
 use Rattle.mmc_card.specs.Made.{Made, sectors_in}
 use Rattle.mmc_card.specs.RowsSwitch.{timing_number, width_number}
 use Rattle.mmc_bus.specs.Learned.{Stays}
@@ -22,7 +23,7 @@ use Rattle.mmc_bus.specs.Work.{StaysSet, Worked}
 use Rattle.mmc_switch.specs.Info.{IsInfo}
 use Rattle.mmc_switch.specs.Place.{IsBroken, IsPartOf, IsReady, Knows, StandsAs, setting_in}
 use Rattle.mmc_switch.specs.Stages.{lines_of}
-use Rattle.mmc_switch.specs.UnderWay.{HasFailed, IsQuiet, IsUnderWay, faults_then, known_part, part_of, room_of}
+use Rattle.mmc_switch.specs.UnderWay.{HasFailed, IsIdle, IsQuiet, IsUnderWay, faults_then, known_part, part_of, room_of}
 use Rattle.mmc_switch.specs.declared.broken.Broken.{Broken}
 use Rattle.mmc_switch.specs.declared.session.Session.{Session}
 
@@ -181,6 +182,10 @@ module _ (session : Session) (view : BusView) (some : IsSome session.selected) (
       let same = eq-eqb (width_number session.info.width) (width_number session.info.width) refl in
       let now = eq-eqb (timing_number session.info.timing) (timing_number session.info.timing) refl in
       rw (lines, width, timing, same, now) refl
+
+-- nothing goes on by itself in a card in tran with nothing to do
+pub still_idle : (count : ℕ) (card : Card) → IsIdle count card → IsStill card
+still_idle count card idle = still_in card Tran idle.quiet.state refl refl idle.rests
 
 pub no_error : (kind : Kind) (count : ℕ) (card : Card) → IsQuiet Tran count card → HasNoError kind card
 no_error kind count card quiet =

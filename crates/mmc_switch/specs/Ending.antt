@@ -5,7 +5,7 @@ use Rattle.mmc_frame.specs.declared.kind.Kind.{Kind}
 use Rattle.mmc_card.specs.BusView.{BusView}
 use Rattle.mmc_card.specs.Card.{Card, is_selected, patience}
 use Rattle.mmc_card.specs.Sectors.{Change}
-use Rattle.mmc_bus.specs.Closings.{Closes, ClosesSoon, WillBeClean}
+use Rattle.mmc_bus.specs.Closings.{ClosesInTime, ClosesSoon, WillBeClean}
 use Rattle.mmc_bus.specs.Learned.{PollFacts}
 use Rattle.mmc_bus.specs.Work.{Anything, Narrows, Worked}
 use Rattle.mmc_bus.specs.declared.cause.Cause.{Cause}
@@ -35,7 +35,7 @@ Polls said = Worked Narrows (λ old new. PollFacts old said new) Anything
 -- Asking for a closing status, by what came.
 abbrev pub Confirms : Kind → ℕ → Result Closing Cause → BusView → BusView → Type 0
 Confirms kind rca result =
-    Worked Narrows (λ old new. Closes kind result old.card new.card)
+    Worked Narrows (λ old new. ClosesInTime kind result old new)
     (λ old new. WillBeClean kind old.card → old.card.app ≡ false → old.card.rca ≡ rca → ClosesSoon result old.card new.card)
 
 -- no clean status came, or one too many that shows the card at work

@@ -11,6 +11,7 @@ ghost use Rattle.mmc_card.specs.RowsSwitch.{IsExtCsdOf, programs_switch, switche
 ghost use Rattle.mmc_card.specs.declared.exchange.Timing.TheVariants as At;
 ghost use Rattle.mmc_card.specs.declared.exchange.Width.TheVariants as Over;
 ghost use Rattle.mmc_card.specs.declared.part.Part.TheVariants.{User};
+ghost use Rattle.mmc_bus.specs.CommandLaws.{HasSwitchError};
 ghost use Rattle.mmc_bus.specs.Work.{Done, Ends, Moves, MovesFrom, Narrows};
 ghost use Rattle.mmc_identify.specs.Stages.{IsFound};
 ghost use Rattle.mmc_switch.specs.Info.{has_high_timing};
@@ -84,7 +85,7 @@ fn request<B: Bus>(bus: &mut B, argument: u32) -> Result<(), Cause>
     ensures done { (B.view bus.new).is_kept ≡ true → Done (MayStandIn argument) Narrows
         (λ old new. (after : Card) → old.card.made.kind ≡ Mmc → IsAtRest false old.card
         → switched old.card argument ≡ Some after → IsOk result
-        → (new.card ≡ programs_switch after) ⊎ (new.card.switch_error ≡ true))
+        → (new.card ≡ programs_switch after) ⊎ HasSwitchError new.card)
         (λ old new. (after : Card) → old.card.made.kind ≡ Mmc → IsAtRest false old.card
         → switched old.card argument ≡ Some after → IsOk result × (new.card ≡ programs_switch after))
         (B.view bus.old) (B.view bus.new) }

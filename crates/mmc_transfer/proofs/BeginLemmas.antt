@@ -7,12 +7,12 @@ use Rattle.mmc_frame.specs.declared.kind.Kind.{Kind}
 use Rattle.mmc_card.specs.Blocks.{next_written}
 use Rattle.mmc_card.specs.BusView.{BusView}
 use Rattle.mmc_card.specs.Card.{NoAddress, is_selected, stored}
-use Rattle.mmc_card.specs.Laws.{Setting}
+use Rattle.mmc_card.specs.Laws.{IsStill, Setting}
 use Rattle.mmc_card.specs.Made.{is_misaligned, is_read_only, sector_at}
 use Rattle.mmc_card.specs.Sectors.{Sector}
 use Rattle.mmc_bus.specs.Work.{Narrows, Worked}
 use Rattle.mmc_bus.specs.declared.cause.Cause.{Cause}
-use Rattle.mmc_switch.proofs.UnderWayLemmas.{no_error, part_in, quiet_by, room_is, set_in}
+use Rattle.mmc_switch.proofs.UnderWayLemmas.{no_error, part_in, quiet_by, room_is, set_in, still_idle}
 use Rattle.mmc_switch.proofs.AddressLemmas.{address_aligned, sector_named}
 use Rattle.mmc_switch.specs.UnderWay.{room_of}
 use Rattle.mmc_transfer.proofs.StepLemmas.{from_both, fails, goes_there}
@@ -32,7 +32,7 @@ use Rattle.mmc_transfer.specs.declared.way.Way.TheVariants.{Read, Write}
 abbrev pub Starts : Kind → Way → Bool → ℕ → Bool → BusView → BusView → Type 0
 Starts kind way is_single address ok =
     Worked Narrows
-    (λ old new. ok ≡ true → old.card.erase ≡ NoAddress → new.card ≡ starts way is_single old.card address)
+    (λ old new. ok ≡ true → IsStill old.card → old.card.erase ≡ NoAddress → new.card ≡ starts way is_single old.card address)
     (λ old new. CanStart kind way old.card address → ok ≡ true)
 
 -- No error of a transfer.
@@ -91,6 +91,7 @@ module _ (job : Job) (blocks : List Sector) (faults : ℕ) (kind : Kind) (addres
       unprotected_by job.way (is_read_only a.card.made) (λ writes. sym at.under_way.knows.info.read_only ∙ job.writable writes) in
       record {
         obeys = record {
+          is_still = still_idle (preset_of job) a.card idle;
           is_kind = sym at.under_way.knows.info.kind ∙ sym of_kind;
           tran = idle.quiet.state;
           erase = idle.quiet.erase;
@@ -141,6 +142,6 @@ module _ (job : Job) (blocks : List Sector) (faults : ℕ) (kind : Kind) (addres
   begin_goes_on work =
       goes_there job blocks (Other Command) faults a b at work (Block 0) tt
       (λ exact. let idle : IsIdle (preset_of job) a.card = from_both job.way exact in
-      subst (Exact job blocks (Block 0)) (sym (work.own refl idle.quiet.erase)) (is_begun job.way idle))
+      subst (Exact job blocks (Block 0)) (sym (work.own refl (still_idle (preset_of job) a.card idle) idle.quiet.erase)) (is_begun job.way idle))
       (let idle : IsIdle (preset_of job) a.card = from_both job.way (at.under_way.shown tt) in
-      begun_there job.way (work.own refl idle.quiet.erase))
+      begun_there job.way (work.own refl (still_idle (preset_of job) a.card idle) idle.quiet.erase))

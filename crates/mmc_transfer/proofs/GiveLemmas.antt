@@ -199,7 +199,7 @@ module _ (job : Job) (blocks : List Sector) (done faults : ℕ) (block : Sector)
         → Turned job blocks faults a (Ok (Some (Other step))) b
     give_ends step to offer =
         let own = offer.own refl in
-        let rcv = accepts_in_rcv a.lines a.card own.could in
+        let rcv = accepts_in_rcv a.lines (record a.card { is_busy = false }) own.could in
         let none : Shown job.way (Other step) b.card → b.card.errors ≡ 0 =
         λ shown. none_shown job.way ((done + 1 == job.count) && is_counted job) (done + 1) b.card way
         (subst (λ s. Shown job.way (Other s) b.card) to shown) in
@@ -222,7 +222,7 @@ module _ (job : Job) (blocks : List Sector) (done faults : ℕ) (block : Sector)
                   sym (ap (λ (c : Card). c.errors) (own.shown (none shown))) ∙ none shown,
                 ))
                 (λ exact shown. comes (own.shown (none shown)) exact)
-                (λ exact same. comes (offer.fine same own.could).1 exact);
+                (λ exact same. comes (offer.fine same (accepts exact)).1 exact);
             placed = subst (λ s. IsPlaced job (Other s) b.card) (sym to)
                 (place_then ((done + 1 == job.count) && is_counted job) own.goes_on rcv);
           };

@@ -6,12 +6,13 @@ use Rattle.mmc_frame.specs.Field.{field}
 use Rattle.mmc_frame.specs.declared.kind.Kind.{Kind}
 use Rattle.mmc_card.specs.BusView.{BusView}
 use Rattle.mmc_card.specs.Card.{NoAddress}
+use Rattle.mmc_card.specs.Laws.{IsStill}
 use Rattle.mmc_card.specs.Made.{is_sd}
 use Rattle.mmc_card.specs.RowsTransfer.{preset_to}
 use Rattle.mmc_card.specs.Sectors.{Sector}
 use Rattle.mmc_bus.specs.Work.{Narrows, Worked}
 use Rattle.mmc_bus.specs.declared.cause.Cause.{Cause}
-use Rattle.mmc_switch.proofs.UnderWayLemmas.{no_error, quiet_by}
+use Rattle.mmc_switch.proofs.UnderWayLemmas.{no_error, quiet_by, still_idle}
 use Rattle.mmc_transfer.proofs.StepLemmas.{for_both, from_both, fails, goes_there}
 use Rattle.mmc_transfer.specs.Commands.{CanPreset}
 use Rattle.mmc_transfer.specs.Running.{Exact, IsIn, Turned, preset_of}
@@ -25,7 +26,7 @@ use Rattle.mmc_transfer.specs.declared.phase.Step.TheVariants.{Command, Preset}
 -- what presetting a count does
 abbrev pub Presets : Kind → ℕ → Bool → BusView → BusView → Type 0
 Presets kind count ok =
-    Worked Narrows (λ old new. ok ≡ true → old.card.erase ≡ NoAddress → new.card ≡ preset_to old.card count)
+    Worked Narrows (λ old new. ok ≡ true → IsStill old.card → old.card.erase ≡ NoAddress → new.card ≡ preset_to old.card count)
     (λ old new. CanPreset kind old.card → ok ≡ true)
 
 -- The count that the card has then.
@@ -49,6 +50,7 @@ module _ (job : Job) (blocks : List Sector) (faults : ℕ) (kind : Kind) (a b : 
       let idle : IsIdle 0 a.card = from_both job.way exact in
       record {
         obeys = record {
+          is_still = still_idle 0 a.card idle;
           is_kind = sym at.under_way.knows.info.kind ∙ sym of_kind;
           tran = idle.quiet.state;
           erase = idle.quiet.erase;
@@ -76,4 +78,4 @@ module _ (job : Job) (blocks : List Sector) (faults : ℕ) (kind : Kind) (a b : 
   preset_goes_on work =
       goes_there job blocks (Other Preset) faults a b at work (Other Command) tt
       (λ exact. let idle : IsIdle 0 a.card = from_both job.way exact in
-      for_both job.way (subst (IsIdle (preset_of job)) (sym (work.own refl idle.quiet.erase)) (is_preset idle))) tt
+      for_both job.way (subst (IsIdle (preset_of job)) (sym (work.own refl (still_idle 0 a.card idle) idle.quiet.erase)) (is_preset idle))) tt

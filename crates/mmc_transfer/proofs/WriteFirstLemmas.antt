@@ -12,7 +12,8 @@ use Rattle.mmc_card.proofs.SectorLemmas.{old_maybe}
 use Rattle.mmc_card.specs.Card.{NoAddress, holds, is_in}
 use Rattle.mmc_bus.proofs.WorkLemmas.{worked_as}
 use Rattle.mmc_bus.specs.Heard.{cause_of}
-use Rattle.mmc_switch.proofs.UnderWayLemmas.{goes_on}
+use Rattle.mmc_card.specs.Laws.{IsStill}
+use Rattle.mmc_switch.proofs.UnderWayLemmas.{goes_on, still_idle}
 use Rattle.mmc_switch.specs.Address.{address_of}
 use Rattle.mmc_switch.specs.UnderWay.{HasFailed, IsIdle, broken_off, faults_then}
 use Rattle.mmc_transfer.proofs.BeginLemmas.{Starts, begin_fails, begin_goes_on}
@@ -229,7 +230,7 @@ module _ (job : Job) (blocks : List Sector) (way : job.way ≡ Write) (full : le
   none_in_tran k view none_accepted kept tran some = omega (arith, some)
   none_in_tran k view (accepted_one zero from ready next before rests below written) kept tran some =
       let could = ((written.kept kept).step.accepts refl).could in
-      let rcv = accepts_in_rcv ready.lines ready.card could in
+      let rcv = accepts_in_rcv ready.lines (record ready.card { is_busy = false }) could in
       let here : ready ≡ between = rests ∙ none_gone 0 from before refl in
       cc (ap (λ (v : BusView). is_in v.card.state Rcv) here ∙ ap (λ s. is_in s Rcv) tran, rcv)
   none_in_tran k view (accepted_one (suc done) from ready next before rests below written) kept tran some =
@@ -276,7 +277,7 @@ module _ (job : Job) (blocks : List Sector) (way : job.way ≡ Write) (full : le
     begun_as : Starts kind job.way (job.count == 1) address false a between
         → between.card ≡ starts job.way (job.count == 1) a.card address
         → Starts kind job.way (job.count == 1) address true a between
-    begun_as work is = worked_as a between work work.sectors (λ ok none. is) (λ same can. refl)
+    begun_as work is = worked_as a between work work.sectors (λ ok still none. is) (λ same can. refl)
 
     begun_on : Starts kind job.way (job.count == 1) address true a between
         → Turn (change_of job blocks) (λ n v. IsIn job blocks (Block 0) n v) faults a between
@@ -321,8 +322,11 @@ module _ (job : Job) (blocks : List Sector) (way : job.way ≡ Write) (full : le
     abbrev pub Answered : Moved DataOut → Type 0
     Answered moved =
         (moved ≡ Move.Good 0)
-        ⊎ (between.is_kept ≡ true → a.card.erase ≡ NoAddress
+        ⊎ (between.is_kept ≡ true → IsStill a.card → a.card.erase ≡ NoAddress
         → (between.card ≡ starts job.way (job.count == 1) a.card address) ⊎ (between.card.state ≡ Tran))
+
+    goes_nothing_on : IsStill a.card
+    goes_nothing_on = still_idle (preset_of job) a.card (from_both job.way (at.under_way.shown tt))
 
     nothing_held : a.card.erase ≡ NoAddress
     nothing_held =
@@ -382,13 +386,13 @@ module _ (job : Job) (blocks : List Sector) (way : job.way ≡ Write) (full : le
     first_turned (Err cause) moved new (writes (suc good) next all) kept work (inl none) r is = cc none
     first_turned (Err cause) moved new (writes (suc good) next all) kept work (inr says) r is =
         let was = accepted_kept (suc good) next all kept in
-        rw is (some_went (suc good) next all kept (omega arith) (work was) (says was nothing_held))
+        rw is (some_went (suc good) next all kept (omega arith) (work was) (says was goes_nothing_on nothing_held))
     first_turned (Err cause) moved new (writes_none more view ready got next all rests below not written) kept work
         (inl none) r is = cc none
     first_turned (Err cause) moved new (writes_none more view ready got next all rests below not written) kept work
         (inr says) r is =
         let was = accepted_kept more view all (rested_kept more view ready rests (written.kept kept).was_kept) in
-        rw is (some_refused more view ready got next all rests below not written kept (work was) (says was nothing_held))
+        rw is (some_refused more view ready got next all rests below not written kept (work was) (says was goes_nothing_on nothing_held))
 
     pub first_goes_on : (started : Result Unit Cause) (moved : Moved DataOut) (new : BusView)
         → WrittenOn BlockOffered FoundAtRest blocks between moved new → new.is_kept ≡ true

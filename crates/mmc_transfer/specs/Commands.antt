@@ -7,6 +7,9 @@ use Rattle.mmc_frame.specs.declared.kind.Kind.{Kind}
 use Rattle.mmc_card.specs.BusView.{BusView}
 use Rattle.mmc_card.specs.Card.{Card, NoAddress}
 use Rattle.mmc_card.specs.CardLaws.{HasNoError}
+use Rattle.mmc_card.specs.Faults.{Passes}
+use Rattle.mmc_card.specs.Laws.{IsStill}
+use Rattle.mmc_bus.specs.CommandLaws.{IsStopped}
 use Rattle.mmc_card.specs.ErrorBits.{out_of_range}
 use Rattle.mmc_card.specs.Made.{has_cmd23}
 use Rattle.mmc_card.specs.RowsTransfer.{begun, preset, transfer_errors}
@@ -34,8 +37,9 @@ abbrev pub starts : Way → Bool → Card → ℕ → Card
 starts way is_single card address =
     begun (state_of way) is_single (if is_single then Some 1 else preset card) card address
 
--- a card of this kind in tran that holds no erase address and shows no error in its R1
+-- a card of this kind in tran in which nothing goes on, that holds no erase address and shows no error in its R1
 pub record CanObey (kind : Kind) (card : Card) : Type 0 where
+  pub is_still : IsStill card
   pub is_kind : card.made.kind ≡ kind
   pub tran : card.state ≡ Tran
   pub erase : card.erase ≡ NoAddress
@@ -55,22 +59,30 @@ pub record CanStart (kind : Kind) (way : Way) (card : Card) (address : ℕ) : Ty
 abbrev pub Begins : Kind → Way → Bool → ℕ → BusView → Result Unit Cause → BusView → Type 0
 Begins kind way is_single address old started =
     Works Narrows
-    (λ old new. IsOk started → old.card.erase ≡ NoAddress → new.card ≡ starts way is_single old.card address)
+    (λ old new. IsOk started → IsStill old.card → old.card.erase ≡ NoAddress → new.card ≡ starts way is_single old.card address)
     (λ old new. CanStart kind way old.card address → IsOk started) old
 
 -- A transfer is under way.
 abbrev pub IsMoving : Card → Type 0
 IsMoving card = (card.state ≡ Data) ⊎ (card.state ≡ Rcv)
 
--- OUT_OF_RANGE alone is no error of CMD12 after a read that ends with the partition's last sector, and is one after a write
--- (SD Physical Layer 6.00, section 4.3.3; JESD84-B51, section 6.6.7)
-abbrev pub may_run_out : Way → Bool → Bool
-may_run_out Read at_end = at_end
-may_run_out Write at_end = false
+-- OUT_OF_RANGE alone is no error of CMD12 after a read: the card goes on sending until CMD12 comes, and may run past the end of the
+-- partition. After a write it is one (SD Physical Layer 6.00, section 4.3.3; JESD84-B51, section 6.6.7).
+abbrev pub may_run_out : Way → Bool
+may_run_out Read = true
+may_run_out Write = false
 
--- it is of this kind, and ends without an error, or at the end of a partition with OUT_OF_RANGE alone
-pub record CanStop (kind : Kind) (at_end : Bool) (card : Card) : Type 0 where
+-- CMD12 ended the transfer, as time had left it.
+abbrev pub EndsIt : BusView → BusView → Type 0
+EndsIt old new = (met : BusView) × Passes old met × IsStopped met.card new.card
+
+-- however much time passes, this holds of the card
+abbrev pub InTime : (Card → Type 0) → BusView → Type 0
+InTime Holds old = (met : BusView) → Passes old met → Holds met.card
+
+-- it is of this kind, and ends without an error, or, where it may run out, with OUT_OF_RANGE alone
+pub record CanStop (kind : Kind) (runs_out : Bool) (card : Card) : Type 0 where
   pub is_kind : card.made.kind ≡ kind
   pub moving : IsMoving card
   pub no_error : HasNoError kind (record card { errors = 0 })
-  pub errors : (card.errors ≡ 0) ⊎ ((at_end ≡ true) × (card.errors ≡ out_of_range))
+  pub errors : (card.errors ≡ 0) ⊎ ((runs_out ≡ true) × (card.errors ≡ out_of_range))

@@ -3,6 +3,7 @@ use Rattle.std.specs.Prelude.{◌+◌, ◌≡◌, ◌≤◌, ◌⊎◌, Bool, Er
 use Rattle.mmc_frame.specs.declared.kind.Kind.{Kind}
 use Rattle.mmc_card.specs.BusView.{BusView}
 use Rattle.mmc_card.specs.Card.{NoAddress}
+use Rattle.mmc_card.specs.Laws.{IsStill}
 use Rattle.mmc_card.specs.declared.exchange.DataIn.{DataIn}
 use Rattle.mmc_card.specs.declared.exchange.DataOut.{DataOut}
 use Rattle.mmc_frame.specs.declared.card_state.State.TheVariants.{Tran}
@@ -42,7 +43,7 @@ pub record StartedWriting (kind : Kind) (is_single : Bool) (address : ℕ) (bloc
   pub kept : between.is_kept ≡ true → old.is_kept ≡ true
   pub works : Begins kind Write is_single address old started between
   pub answered : (moved ≡ Move.Good 0)
-      ⊎ (between.is_kept ≡ true → old.card.erase ≡ NoAddress
+      ⊎ (between.is_kept ≡ true → IsStill old.card → old.card.erase ≡ NoAddress
       → (between.card ≡ starts Write is_single old.card address) ⊎ (between.card.state ≡ Tran))
   pub written : WrittenOn BlockOffered FoundAtRest blocks between moved new
 

@@ -3,12 +3,12 @@ ghost use Rattle.std.specs.Prelude.{◌<◌, ◌^◌, ◌≡◌, ◌⊎◌, IfEr
 ghost use Rattle.mmc_frame.specs.Status.{error_bits};
 ghost use Rattle.mmc_card.specs.Card.{NoAddress, is_selected};
 ghost use Rattle.mmc_card.specs.RowsTransfer.{preset_to};
-ghost use Rattle.mmc_bus.specs.CommandLaws.{IsStopped};
+ghost use Rattle.mmc_card.specs.Laws.{IsStill};
 ghost use Rattle.mmc_bus.specs.Heard.{cause_of_response, is_inquiry_index};
 ghost use Rattle.mmc_bus.specs.Lending.{IsRewritten};
 ghost use Rattle.mmc_bus.specs.Together.{MovesAtMost};
 ghost use Rattle.mmc_bus.specs.Work.{Ends, Narrows, Works};
-ghost use Rattle.mmc_transfer.specs.Commands.{Begins, CanPreset, CanStop, index_of};
+ghost use Rattle.mmc_transfer.specs.Commands.{Begins, CanPreset, CanStop, EndsIt, InTime, index_of};
 ghost use Rattle.mmc_transfer.specs.First.{StartedReading, StartedWriting};
 
 use crate::way::Way;
@@ -30,7 +30,7 @@ use mmc_frame::{Kind, Status, errors};
 pub fn preset<B: Bus>(bus: &mut B, kind: Kind, count: u32) -> Result<(), Cause>
     ensures ends { Ends 1 (B.view bus.old) result (B.view bus.new) }
     ensures works { Works Narrows
-        (λ old new. IsOk result → old.card.erase ≡ NoAddress → new.card ≡ preset_to old.card count)
+        (λ old new. IsOk result → IsStill old.card → old.card.erase ≡ NoAddress → new.card ≡ preset_to old.card count)
         (λ old new. CanPreset kind old.card → IsOk result)
         (B.view bus.old) (B.view bus.new) }
 {
@@ -151,8 +151,8 @@ pub fn stop<B: Bus>(bus: &mut B, kind: Kind, may_run_out: bool) -> Result<(), Ca
     ensures ends { Ends 1 (B.view bus.old) result (B.view bus.new) }
     ensures works { Works Narrows
         (λ old new. IsOk result → (is_selected old.card.state ≡ true)
-        × (old.card.erase ≡ NoAddress → IsStopped old.card new.card) × (may_run_out ≡ false → old.card.errors ≡ 0))
-        (λ old new. CanStop kind may_run_out old.card → IsOk result)
+        × (old.card.erase ≡ NoAddress → EndsIt old new) × (may_run_out ≡ false → old.card.errors ≡ 0))
+        (λ old new. InTime (CanStop kind may_run_out) old → IsOk result)
         (B.view bus.old) (B.view bus.new) }
 {
     transfer_laws::cmd12_ends_a_transfer();

@@ -44,15 +44,13 @@ impl Job {
         self.count == 1 || self.session.info().cmd23
     }
 
-    // Whether a card may say OUT_OF_RANGE at its end, and mean no error: it reads, and its last block is the last sector of the
-    // partition, after which the card looks for one more (SD Physical Layer 6.00, section 4.3.3; JESD84-B51, section 6.6.7).
+    // Whether a card may say OUT_OF_RANGE at its end, and mean no error: it reads, and goes on sending until CMD12 comes, one sector
+    // or two further, and so maybe past the end of the partition (SD Physical Layer 6.00, section 4.3.3; JESD84-B51, section
+    // 6.6.7). What has come is told by the blocks themselves.
     pub(crate) fn may_run_out(&self) -> bool
-        ensures { result ≡ may_run_out self.now.way (self.now.start + self.now.count == room_of self.now.session) }
+        ensures { result ≡ may_run_out self.now.way }
     {
-        match self.way {
-            Way::Read => self.session.room() == self.start + u64::from(self.count),
-            Way::Write => false,
-        }
+        self.way == Way::Read
     }
 
     // The exchange that it begins with: CMD23, where the card knows it and there are several blocks.

@@ -2,8 +2,8 @@
 use Rattle.std.proofs.Common.{◌∙◌, ◌≡◌, ◌∷◌, Bool, List, None, Option, Some, ap, arith, false, length, refl, subst, sym, true, ℕ}
 use Rattle.mmc_bus.specs.Exchanges.{Kept}
 use Rattle.mmc_card.specs.BusView.{BusView}
-use Rattle.mmc_card.specs.Faults.{ReadStep, WriteStep}
-use Rattle.mmc_card.specs.Faults.WriteStep.{brownout, faithful, fall_short, lose_block, lose_status, reject, turn_out}
+use Rattle.mmc_card.specs.Faults.{MeetsBlock, ReadStep, WriteStep}
+use Rattle.mmc_card.specs.Faults.MeetsBlock.{brownout, faithful, fall_short, lose_block, lose_status, reject, turn_out}
 use Rattle.mmc_card.specs.declared.exchange.DataIn.TheVariants as Came
 use Rattle.mmc_card.specs.declared.exchange.DataOut.{DataOut}
 use Rattle.mmc_card.specs.declared.exchange.DataOut.TheVariants as Went
@@ -91,8 +91,8 @@ loses_read story past after s s1 s2 size blocks block still is noted same change
     ))))
 
 -- A block that was rejected may be any whose status didn't come.
-any_rejected : (old new : BusView) (block other : List ℕ) (got : DataOut) → got ≡ Went.Rejected → WriteStep old block got new
-    → WriteStep old other Went.Nothing new
+any_rejected : (old new : BusView) (block other : List ℕ) (got : DataOut) → got ≡ Went.Rejected → MeetsBlock old block got new
+    → MeetsBlock old other Went.Nothing new
 any_rejected old new block other got is (faithful unharmed card told_so) = absurd (lost_by _ got is told_so)
 any_rejected old new block other got is (lose_block can one card said) = absurd (rejected_is_none (sym is ∙ said))
 any_rejected old new block other got is (reject ignores is_busy can one card said) =
@@ -106,7 +106,11 @@ any_rejected old new block other got is (brownout lands keeps late one card said
 
 any_lost : (old new : BusView) (outgoing block other : List ℕ) (got : DataOut) → IsLostAs outgoing block got
     → IsOffered outgoing other → WriteStep old block got new → WriteStep old other Went.Nothing new
-any_lost old new outgoing block other Went.Rejected lost offered step = any_rejected old new block other Went.Rejected refl step
+any_lost old new outgoing block other Went.Rejected lost offered step = record {
+  met = step.met;
+  passes = step.passes;
+  meets = any_rejected step.met new block other Went.Rejected refl step.meets;
+}
 any_lost old new outgoing block other Went.Nothing lost offered step =
     subst (λ (l : List ℕ). WriteStep old l Went.Nothing new) (lost.0 ∙ offered lost.1) step
 any_lost old new outgoing block other Went.Accepted lost offered step = absurd lost

@@ -5,10 +5,10 @@ use Rattle.std.proofs.lemmas.Bool.{false≢true}
 use Rattle.mmc_frame.specs.Field.{field}
 use Rattle.mmc_bus.specs.Exchanges.{Kept}
 use Rattle.mmc_card.specs.BusView.{BusView}
-use Rattle.mmc_card.specs.Faults.{ReadStep, WriteStep}
+use Rattle.mmc_card.specs.Faults.{MeetsBlock, ReadStep, WriteStep}
 use Rattle.mmc_card.specs.Faults.ReadStep.{brownout as read_brownout, faithful as read_faithful, spoil}
-use Rattle.mmc_card.specs.Faults.WriteStep.{brownout as write_brownout, faithful as write_faithful, fall_short, lose_block}
-use Rattle.mmc_card.specs.Faults.WriteStep.{lose_status, reject, turn_out}
+use Rattle.mmc_card.specs.Faults.MeetsBlock.{brownout as write_brownout, faithful as write_faithful, fall_short, lose_block}
+use Rattle.mmc_card.specs.Faults.MeetsBlock.{lose_status, reject, turn_out}
 use Rattle.mmc_card.specs.declared.exchange.DataIn.{DataIn}
 use Rattle.mmc_card.specs.declared.exchange.DataIn.TheVariants as Came
 use Rattle.mmc_card.specs.declared.exchange.DataOut.{DataOut}
@@ -246,8 +246,8 @@ pub lost_by : (accepted_was : Bool) (got : DataOut) → got ≡ Went.Rejected �
 lost_by true got is other = rejected_is (sym is ∙ other)
 lost_by false got is other = rejected_is_none (sym is ∙ other)
 
-unrejected : (old new : BusView) (block : List ℕ) (got : DataOut) → got ≡ Went.Rejected → WriteStep old block got new
-    → WriteStep old block Went.Nothing new
+unrejected : (old new : BusView) (block : List ℕ) (got : DataOut) → got ≡ Went.Rejected → MeetsBlock old block got new
+    → MeetsBlock old block Went.Nothing new
 unrejected old new block got is (write_faithful unharmed card told_so) = absurd (lost_by _ got is told_so)
 unrejected old new block got is (lose_block can one card said) = lose_block can one card refl
 unrejected old new block got is (reject ignores is_busy can one card said) = lose_status false ignores is_busy can one card refl
@@ -262,7 +262,11 @@ untold : (old new : BusView) (block : List ℕ) (got : DataOut) → is_accepted 
     → WriteStep old block Went.Nothing new
 untold old new block Went.Nothing bad step = step
 untold old new block Went.Accepted bad step = absurd (false≢true (sym bad))
-untold old new block Went.Rejected bad step = unrejected old new block Went.Rejected refl step
+untold old new block Went.Rejected bad step = record {
+  met = step.met;
+  passes = step.passes;
+  meets = unrejected step.met new block Went.Rejected refl step.meets;
+}
 
 pub kept_untold : (old new : BusView) (block : List ℕ) (got : DataOut) → is_accepted got ≡ false
     → Kept old (WriteStep old block got new) new → Kept old (WriteStep old block Went.Nothing new) new

@@ -6,10 +6,9 @@ use Rattle.mmc_bus.proofs.host.ask_moving.Goals as goal
 pub returns-clause-asked : goal.returns-clause-asked
 returns-clause-asked g c =
     let old = g.B.Bus.view c.args.bus.now in
-    let command = meant old.card c.args.index in
-    asked (IsAnswerTo command) _ _ old c.encode.result c.args.index c.args.argument c.wanted.result c.begin-reply.result
+    asked (λ met. IsAnswerTo (meant met.card c.args.index)) _ _ old c.encode.result c.args.index c.args.argument c.wanted.result c.begin-reply.result
     c.response_in.result _
-    (response_reads c.flipped_response_is_refused.ensures.r1 c.args.index command
-    (asks_none old.card.made.kind old.card.app c.args.index c.requires.command c.requires.checked))
-    (λ k errors choice. responded_answer choice command (with_errors errors old.card) c.args.index c.args.argument k.registers)
+    (λ met. response_reads c.flipped_response_is_refused.ensures.r1 c.args.index (meant met.card c.args.index)
+    (asks_none met.card.made.kind met.card.app c.args.index c.requires.command c.requires.checked))
+    (λ met k errors choice. responded_answer choice (meant met.card c.args.index) (with_errors errors met.card) c.args.index c.args.argument k.registers)
     c.encode.ensures c.wanted.ensures c.response_in.ensures c.begin-reply.ensures

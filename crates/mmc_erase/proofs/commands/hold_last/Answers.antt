@@ -1,4 +1,4 @@
-use Rattle.mmc_bus.proofs.WorkLemmas.{command_worked}
+use Rattle.mmc_bus.proofs.WorkLemmas.{at_once, command_worked}
 use Rattle.mmc_card.specs.Card.{First}
 use Rattle.mmc_erase.proofs.CommandLemmas.{asked_as, done_where_answered, done_where_it_can, erases_nothing}
 use Rattle.mmc_erase.proofs.CommandLemmas.{is_of_a_run, last_law, last_names_only}
@@ -14,8 +14,8 @@ returns-clause-works g c kept =
     let e = c.cmd33_and_cmd36_hold_the_last_address.ensures in
     command_worked asked (erases_nothing last_index last_names_only kind old.card c.args.address)
     (is_of_a_run last_index last_names_only kind old.card c.args.address) kept
-    (λ first ok is one. let told = c.check_r1.ensures.ok ok in
-    done_where_answered kind _ old _ _ (last_law e.sd e.mmc kind old _ first c.args.address _ k.step is one) told.0 told.1)
+    (λ first ok still is one. let told = c.check_r1.ensures.ok ok in
+    done_where_answered kind _ old _ _ (last_law e.sd e.mmc kind old _ first c.args.address _ (at_once k.step still) is one) told.0 told.1)
     (λ same first can. done_where_it_can kind _ old _ _
-    (last_law e.sd e.mmc kind old _ first c.args.address _ k.step can.is_kind can.erase) (First first)
+    (last_law e.sd e.mmc kind old _ first c.args.address _ (at_once k.step can.is_still) can.is_kind can.erase) (First first)
     c.a_status_tells_of_its_card.ensures.errors k.was_card c.check_r1.ensures.all same can)

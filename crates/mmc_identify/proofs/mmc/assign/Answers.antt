@@ -1,5 +1,7 @@
-use Rattle.std.proofs.Common.{◌∙◌, arith}
-use Rattle.mmc_bus.proofs.WorkLemmas.{moved_by}
+use Rattle.std.proofs.Common.{◌∙◌, arith, refl}
+use Rattle.mmc_bus.proofs.WorkLemmas.{at_once, moved_by}
+use Rattle.mmc_card.proofs.Passing.{still_apart}
+use Rattle.mmc_frame.specs.declared.card_state.State.TheVariants.{Ident}
 use Rattle.mmc_identify.proofs.SingleLemmas.{assigned_fine}
 use Rattle.mmc_identify.proofs.mmc.assign.Goals as goal
 
@@ -9,7 +11,9 @@ returns-clause-moves g c kept =
     let new = g.B.Bus.view c.ask.new.bus in
     let heard = c.ask.result in
     let k = c.ask.ensures.asked.exchanged.kept kept in
-    let law = c.cmd3_gives_the_rca.ensures _ _ _ _ k.step k.was_card in
     let none = c.no_command_but_erase_widens.ensures old.card 3 0x10000 (omega arith) (λ e. cc) in
     moved_by old 3 0x10000 heard new none k tt
-    (λ same mmc ident. let f = assigned_fine old heard new (law mmc) same ident in (c.assigned.ensures ∙ f.0, f.1))
+    (λ same mmc ident.
+    let facts = at_once k.step (still_apart old.card Ident k.was_card ident refl) in
+    let f = assigned_fine old heard new (c.cmd3_gives_the_rca.ensures _ _ _ _ facts k.was_card mmc) same ident in
+    (c.assigned.ensures ∙ f.0, f.1))

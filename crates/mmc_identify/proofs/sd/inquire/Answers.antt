@@ -1,5 +1,9 @@
-use Rattle.std.proofs.Common.{arith, true}
-use Rattle.mmc_bus.proofs.WorkLemmas.{moved_by}
+use Rattle.std.proofs.Common.{◌∙◌, ap, arith, refl, sym, true}
+use Rattle.mmc_bus.proofs.WorkLemmas.{at_once, moved_by}
+use Rattle.mmc_card.proofs.Passing.{card_in_time, still_apart, unmoved_by_time}
+use Rattle.mmc_card.specs.Made.{Made}
+use Rattle.mmc_frame.specs.declared.card_state.State.TheVariants.{Idle}
+use Rattle.mmc_identify.specs.Stages.{ready_ocr}
 use Rattle.mmc_identify.proofs.InquiryLemmas.{inquiry_fine, inquiry_own, served}
 use Rattle.mmc_identify.proofs.sd.inquire.Goals as goal
 
@@ -8,13 +12,18 @@ returns-clause-moves g c kept =
     let old = g.B.Bus.view c.args.bus.now in
     let new = g.B.Bus.view c.ask_ocr.new.bus in
     let k = c.ask_ocr.ensures.asked.exchanged.kept kept in
-    let inquires = c.acmd41_asks_an_sd_card_whether_it_is_ready.ensures _ _ _ _ k.step k.was_card in
+    let met = k.step.met in
+    let is_card = card_in_time old met k.step.passes k.was_card in
+    let made = sym (unmoved_by_time old met k.step.passes).made in
+    let law = c.acmd41_asks_an_sd_card_whether_it_is_ready.ensures in
     moved_by old 41 c.window.result c.ask_ocr.result new
     (c.no_command_but_erase_widens.ensures old.card 41 c.window.result (omega arith) (λ e. absurd (omega (arith, e)))) k
     (λ ocr ok.
-    let told = inquiry_own old c.ask_ocr.result new c.inquired.result c.inquired.ensures k.was_card inquires ocr ok in
-    (told.0.0, told.1))
+    let told = inquiry_own met c.ask_ocr.result new c.inquired.result c.inquired.ensures is_card
+    (law _ _ _ _ k.step.facts is_card) ocr ok in
+    (ap (λ (m : Made). m.kind) made ∙ told.0.0, told.1 ∙ ap ready_ocr (sym made)))
     (λ same times profile can sd idle.
-    inquiry_fine c.args.hcs true times old c.ask_ocr.result new c.inquired.result c.inquired.ensures k.was_card inquires same
+    inquiry_fine c.args.hcs true times old c.ask_ocr.result new c.inquired.result c.inquired.ensures k.was_card
+    (law _ _ _ _ (at_once k.step (still_apart old.card Idle k.was_card idle.state refl)) k.was_card) same
     (sd, idle.app, idle.state) (served c.args.hcs old.card c.window.result c.window.ensures (can sd) idle.told) profile
     idle)

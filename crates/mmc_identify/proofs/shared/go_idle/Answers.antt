@@ -10,5 +10,5 @@ returns-clause-moves g c kept =
     let k = c.tell.ensures.told.exchanged.kept kept in
     let none = c.no_command_but_erase_widens.ensures old.card 0 0 (omega arith) (λ e. cc) in
     moved_by old 0 0 _ new none k tt
-    (λ same. let r = c.cmd0_resets_the_card.ensures _ _ _ _ k.step same in
-    idle_reset r.0 r.1 old.card new.card r.2)
+    (λ same. let r = c.cmd0_resets_the_card.ensures _ _ _ _ k.step.facts (k.step.quiet same) in
+    idle_reset r.0 r.1 k.step.met.card new.card r.2)

@@ -1,5 +1,6 @@
 use Rattle.std.proofs.Common.{◌≤◌, ◌+◌, arith}
-use Rattle.mmc_bus.proofs.WorkLemmas.{command_worked}
+use Rattle.mmc_bus.proofs.WorkLemmas.{at_once, command_worked}
+use Rattle.mmc_card.specs.Laws.{IsStill}
 use Rattle.mmc_bus.specs.Heard.{cause_of, cause_of_response}
 use Rattle.mmc_transfer.proofs.CommandLemmas.{asked_as, begins_where_it_can, begun_where_answered, caused, read_law}
 use Rattle.mmc_transfer.proofs.CommandLemmas.{erases_nothing, is_of_the_run}
@@ -26,13 +27,13 @@ returns-clause-started g c =
       kept = λ kept. (asked.exchanged.kept kept).was_kept;
       works = λ kept.
           let k = asked.exchanged.kept kept in
-          let begins = read_law c.cmd17_begins_a_read.ensures c.cmd18_begins_a_read_of_blocks.ensures is_single old _ address
-          _ k.step k.was_card in
+          let begins = λ (is : IsStill old.card). read_law c.cmd17_begins_a_read.ensures c.cmd18_begins_a_read_of_blocks.ensures is_single old _ address
+          _ (at_once k.step is) k.was_card in
           command_worked asked (erases_nothing Read is_single old.card address) (is_of_the_run Read is_single old.card address)
           kept
-          (λ ok. let told = c.check_r1.ensures.ok ok in
-          begun_where_answered kind Read is_single old address _ _ begins told.0 told.1 told.2)
-          (λ same can. begins_where_it_can kind Read is_single old address _ _ begins
+          (λ ok is. let told = c.check_r1.ensures.ok ok in
+          begun_where_answered kind Read is_single old address _ _ (begins is) told.0 told.1 told.2)
+          (λ same can. begins_where_it_can kind Read is_single old address _ _ (begins can.obeys.is_still)
           c.a_status_tells_of_its_card.ensures.errors k.was_card c.check_r1.ensures.all same can);
       read = all.read;
     }

@@ -1,6 +1,7 @@
 use Rattle.std.proofs.Common.{◌≡◌, ◌⊎◌, ◌≤◌, ◌+◌, arith, inl, inr, refl, ℕ}
 use Rattle.std.specs.Prelude.{Err, IsErr, Ok, Result}
-use Rattle.mmc_bus.proofs.WorkLemmas.{command_worked}
+use Rattle.mmc_bus.proofs.WorkLemmas.{at_once, command_worked}
+use Rattle.mmc_card.specs.Laws.{IsStill}
 use Rattle.mmc_bus.specs.Heard.{cause_of, cause_of_response}
 use Rattle.mmc_bus.specs.declared.host.Unheard.{Unheard}
 use Rattle.mmc_transfer.proofs.CommandLemmas.{asked_as, begins_where_it_can, begun_or_in_tran, begun_where_answered, caused}
@@ -34,19 +35,19 @@ returns-clause-started g c =
       kept = λ kept. (asked.exchanged.kept kept).was_kept;
       works = λ kept.
           let k = asked.exchanged.kept kept in
-          let begins = write_law c.cmd24_begins_a_write.ensures c.cmd25_begins_a_write_of_blocks.ensures is_single old _ address
-          _ k.step k.was_card in
+          let begins = λ (is : IsStill old.card). write_law c.cmd24_begins_a_write.ensures c.cmd25_begins_a_write_of_blocks.ensures is_single old _ address
+          _ (at_once k.step is) k.was_card in
           command_worked asked (erases_nothing Write is_single old.card address) (is_of_the_run Write is_single old.card address)
           kept
-          (λ ok. let told = c.check_r1.ensures.ok ok in
-          begun_where_answered kind Write is_single old address _ _ begins told.0 told.1 told.2)
-          (λ same can. begins_where_it_can kind Write is_single old address _ _ begins
+          (λ ok is. let told = c.check_r1.ensures.ok ok in
+          begun_where_answered kind Write is_single old address _ _ (begins is) told.0 told.1 told.2)
+          (λ same can. begins_where_it_can kind Write is_single old address _ _ (begins can.obeys.is_still)
           c.a_status_tells_of_its_card.ensures.errors k.was_card c.check_r1.ensures.all same can);
       answered = answers_by c.ask_writing-heard.result.0 all.unheard
-          (λ told is kept none.
+          (λ told says kept is none.
           let k = asked.exchanged.kept kept in
-          let begins = write_law c.cmd24_begins_a_write.ensures c.cmd25_begins_a_write_of_blocks.ensures is_single old _ address
-          _ k.step k.was_card in
-          begun_or_in_tran kind Write is_single old address _ _ begins told is none);
+          let begins = λ (is : IsStill old.card). write_law c.cmd24_begins_a_write.ensures c.cmd25_begins_a_write_of_blocks.ensures is_single old _ address
+          _ (at_once k.step is) k.was_card in
+          begun_or_in_tran kind Write is_single old address _ _ (begins is) told says none);
       written = all.written;
     }

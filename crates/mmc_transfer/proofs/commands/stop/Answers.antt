@@ -1,5 +1,6 @@
-use Rattle.std.proofs.Common.{◌∙◌, ap, refl}
+use Rattle.std.proofs.Common.{◌∙◌, ap, refl, sym}
 use Rattle.mmc_card.proofs.CardAll.{card_left, card_reached}
+use Rattle.mmc_card.proofs.Passing.{card_in_time, unmoved_by_time}
 use Rattle.mmc_card.specs.CardAnswer.{left_with}
 use Rattle.mmc_bus.proofs.WorkLemmas.{command_worked}
 use Rattle.mmc_transfer.proofs.CommandLemmas.{held_none, shows_it_stops, shows_nothing}
@@ -12,23 +13,30 @@ use Rattle.mmc_card.specs.declared.command.Command.TheVariants.{Unknown}
 pub returns-clause-works : goal.returns-clause-works
 returns-clause-works g c kept =
     let k = c.ask.ensures.asked.exchanged.kept kept in
-    let card = (g.B.Bus.view c.args.bus.now).card in
-    let law = c.cmd12_ends_a_transfer.ensures.does _ _ _ _ k.step k.was_card in
+    let old = g.B.Bus.view c.args.bus.now in
+    let met = k.step.met in
+    let same = unmoved_by_time old met k.step.passes in
+    let is_card = card_in_time old met k.step.passes k.was_card in
+    let law = c.cmd12_ends_a_transfer.ensures.does _ _ _ _ k.step.facts is_card in
     command_worked c.ask.ensures.asked refl refl kept
     (λ ok. let judged = c.check_stop.ensures.ok ok in
     let told = law.sound judged.0 judged.1 in
-    let met = left_with told.1.0 card in
+    let with = left_with told.1.0 met.card in
     let says = told.1.2 in
     let quietly = says.0.drops_quietly in (
-      told.0,
-      λ none. (says.2.0, says.2.1 ∙ ap (stopped says.2.0) (nothing_dropped quietly met none)),
-      λ never. held_none quietly met
-          (shows_nothing c.args.kind c.args.may_run_out (without_addresses quietly met) judged.0
+      sym same.selected ∙ told.0,
+      λ none. (
+        met,
+        k.step.passes,
+        (says.2.0, says.2.1 ∙ ap (stopped says.2.0) (nothing_dropped quietly with (same.erase ∙ none))),
+      ),
+      λ never. same.errors (held_none quietly with
+          (shows_nothing c.args.kind c.args.may_run_out (without_addresses quietly with) judged.0
           c.a_status_tells_of_its_card.ensures.errors
-          (card_reached says.0 Unknown met (card_left told.1.0 card told.1.1 k.was_card)) says.1 never judged.2),
+          (card_reached says.0 Unknown with (card_left told.1.0 met.card told.1.1 is_card)) says.1 never judged.2)),
     ))
-    (λ same can.
-    let told = law.fine same can.moving in
+    (λ fine can.
+    let told = law.fine (k.step.quiet fine) (can met k.step.passes).moving in
     c.check_stop.ensures.all told.0 told.1
-    (shows_it_stops c.args.kind c.args.may_run_out card told.0 c.a_status_tells_of_its_card.ensures.errors
-    c.a_status_tells_of_its_card.ensures.at_end k.was_card told.2 can))
+    (shows_it_stops c.args.kind c.args.may_run_out met.card told.0 c.a_status_tells_of_its_card.ensures.errors
+    c.a_status_tells_of_its_card.ensures.at_end is_card told.2 (can met k.step.passes)))
