@@ -32,7 +32,7 @@ found_text line =
 -- what is wrong, and what was expected
 abbrev pub cause_words : Cause → List ℕ
 cause_words (HasStray stray) = stray_words stray
-cause_words UnknownKey = codes "no such key; the keys are kind, ocr, cid, csd, sectors, ready, busy, early, length, stop, slow-status, late-status, long-ready, long-busy, long-slow-status, locked, fault, scr, rca, cmd8, highspeed, r6-app, ext and ext-changes, each with a space behind it"
+cause_words UnknownKey = codes "no such key; the keys are kind, ocr, cid, csd, sectors, ready, busy, early, length, stop, slow-status, late-status, long-ready, long-busy, long-slow-status, goes-on, locked, fault, scr, rca, cmd8, highspeed, r6-app, ext and ext-changes, each with a space behind it"
 cause_words (Value key) = expected_words key
 cause_words (OtherKind Sd) = codes "an SD card has no such line, and kind is sd"
 cause_words (OtherKind Mmc) = codes "an eMMC device has no such line, and kind is mmc"

@@ -4,7 +4,7 @@ use Rattle.std.specs.Str.{bytes_eq}
 use Rattle.card_check.specs.declared.key.Key.{Key}
 use Rattle.card_check.specs.declared.key.Key.TheVariants.{Busy, Cid, Csd, Early, Kind, Length, Ocr, Ready, Sectors}
 use Rattle.card_check.specs.declared.key.Key.TheVariants.{Cmd8, Ext, ExtChanges, Fault, HighSpeed, LateStatus, Locked, LongBusy, LongReady}
-use Rattle.card_check.specs.declared.key.Key.TheVariants.{LongSlowStatus, R6App, Rca, Scr, SlowStatus, Stop}
+use Rattle.card_check.specs.declared.key.Key.TheVariants.{GoesOn, LongSlowStatus, R6App, Rca, Scr, SlowStatus, Stop}
 
 -- the key of a name that is none of the others
 unfoldable pub further_key_of : List ℕ → Option Key
@@ -13,6 +13,7 @@ further_key_of name =
     else if bytes_eq name (codes "long-ready") then Some LongReady
     else if bytes_eq name (codes "long-busy") then Some LongBusy
     else if bytes_eq name (codes "long-slow-status") then Some LongSlowStatus
+    else if bytes_eq name (codes "goes-on") then Some GoesOn
     else if bytes_eq name (codes "r6-app") then Some R6App
     else if bytes_eq name (codes "ext-changes") then Some ExtChanges
     else None
@@ -57,6 +58,7 @@ expected_words LateStatus = codes "late-status is a number from 0 to 8"
 expected_words LongReady = codes "long-ready is a number from 0 to 15"
 expected_words LongBusy = codes "long-busy is a number from 0 to 15"
 expected_words LongSlowStatus = codes "long-slow-status is a number from 0 to 15"
+expected_words GoesOn = codes "goes-on is yes or no"
 expected_words Locked = codes "locked is yes or no"
 expected_words Fault = codes "fault is an exchange and one of lose-command, flip-command A [B], lose-reply, flip-reply A [B], fail-switch, fail-switch-late, lose-failed-switch, find-protection, left-over crc|illegal, bad-block, no-block, read-error, lose-block, reject, reject-busy, reject-all, lose-status old|new, fail old|new [8 digits], fail-early old|new [8 digits], busy, brownout old|new"
 expected_words Scr = codes "scr is 16 hexadecimal digits"

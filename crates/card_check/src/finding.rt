@@ -97,7 +97,7 @@ fn cause_words(cause: Cause) -> &'static [u8]
     match cause {
         Cause::Stray(stray) => stray_words(stray),
         Cause::UnknownKey =>
-            b"no such key; the keys are kind, ocr, cid, csd, sectors, ready, busy, early, length, stop, slow-status, late-status, long-ready, long-busy, long-slow-status, locked, fault, scr, rca, cmd8, highspeed, r6-app, ext and ext-changes, each with a space behind it",
+            b"no such key; the keys are kind, ocr, cid, csd, sectors, ready, busy, early, length, stop, slow-status, late-status, long-ready, long-busy, long-slow-status, goes-on, locked, fault, scr, rca, cmd8, highspeed, r6-app, ext and ext-changes, each with a space behind it",
         Cause::Value(key) => key.expected(),
         Cause::OtherKind(Kind::Sd) => b"an SD card has no such line, and kind is sd",
         Cause::OtherKind(Kind::Mmc) => b"an eMMC device has no such line, and kind is mmc",

@@ -20,6 +20,7 @@ pub enum Key {
     LongReady,
     LongBusy,
     LongSlowStatus,
+    GoesOn,
     Locked,
     Fault,
     Scr,
@@ -91,6 +92,8 @@ impl Key {
             Some(Key::LongBusy)
         } else if name == b"long-slow-status".as_slice() {
             Some(Key::LongSlowStatus)
+        } else if name == b"goes-on".as_slice() {
+            Some(Key::GoesOn)
         } else if name == b"r6-app".as_slice() {
             Some(Key::R6App)
         } else if name == b"ext-changes".as_slice() {
@@ -120,6 +123,7 @@ impl Key {
             Key::LongReady => b"long-ready is a number from 0 to 15",
             Key::LongBusy => b"long-busy is a number from 0 to 15",
             Key::LongSlowStatus => b"long-slow-status is a number from 0 to 15",
+            Key::GoesOn => b"goes-on is yes or no",
             Key::Locked => b"locked is yes or no",
             Key::Fault =>
                 b"fault is an exchange and one of lose-command, flip-command A [B], lose-reply, flip-reply A [B], fail-switch, fail-switch-late, lose-failed-switch, find-protection, left-over crc|illegal, bad-block, no-block, read-error, lose-block, reject, reject-busy, reject-all, lose-status old|new, fail old|new [8 digits], fail-early old|new [8 digits], busy, brownout old|new",

@@ -26,7 +26,7 @@ use Rattle.card_text.specs.declared.text_line.Line.TheVariants.{Says, Skipped}
 use Rattle.card_text.specs.CardFile.{AreCardLines, IsCardFile, StandTogether, card_lines_in, kind_in, may_have, plan_of}
 use Rattle.card_text.specs.CardLines.{card_line_of, repeats}
 use Rattle.card_text.specs.CardSpecs.{busy_of_line, early_of_line, ext_csd_of, first_of, given_by, high_speed_of_line}
-use Rattle.card_text.specs.CardSpecs.{ages_of_line, late_of_line, shows_app_cmd_of_line}
+use Rattle.card_text.specs.CardSpecs.{ages_of_line, goes_on_of_line, late_of_line, shows_app_cmd_of_line}
 use Rattle.card_text.specs.CardSpecs.{keeps_length_of_line, lagging_of_line, locked_of_line, ready_of_line, spec_of, stays_busy_of_line, with_byte}
 use Rattle.card_text.specs.Script.{lines}
 use Rattle.card_text.specs.TextLines.{said_in}
@@ -191,6 +191,7 @@ plain_spec kind ocr cid csd sectors =
       stays_busy = false;
       lagging = 0;
       late = 0;
+      goes_on = false;
       shows_app_cmd = false;
       ages = false;
       image = None;
@@ -198,8 +199,8 @@ plain_spec kind ocr cid csd sectors =
 
 -- a spec by each of its fields
 abbrev spec_of_fields : KindRegisters → ℕ → List ℕ → List ℕ → Bool → ℕ → ℕ → ℕ → Option ℕ → Bool → Option Refusal → Bool
-    → ℕ → ℕ → Bool → Bool → Option (List ℕ) → CardSpec
-spec_of_fields kind ocr cid csd locked sectors ready busy early keeps refusal stays lagging late shows ages image =
+    → ℕ → ℕ → Bool → Bool → Bool → Option (List ℕ) → CardSpec
+spec_of_fields kind ocr cid csd locked sectors ready busy early keeps refusal stays lagging late goes shows ages image =
     record {
       registers = record { kind = kind; ocr = ocr; cid = cid; csd = csd; is_locked = locked };
       sectors = sectors;
@@ -211,6 +212,7 @@ spec_of_fields kind ocr cid csd locked sectors ready busy early keeps refusal st
       stays_busy = stays;
       lagging = lagging;
       late = late;
+      goes_on = goes;
       shows_app_cmd = shows;
       ages = ages;
       image = image;
@@ -222,17 +224,17 @@ plain_is : (spec : CardSpec) → IsPlain spec
 plain_is spec h =
     let r = spec.registers in
     let fields : (locked : Bool) (ready busy : ℕ) (early : Option ℕ) (keeps : Bool) (refusal : Option Refusal) (stays : Bool)
-    (lagging late : ℕ) (shows ages : Bool) (image : Option (List ℕ)) → locked ≡ false → ready ≡ 0 → busy ≡ 0 → early ≡ None → keeps ≡ true
-    → refusal ≡ None → stays ≡ false → lagging ≡ 0 → late ≡ 0 → shows ≡ false
+    (lagging late : ℕ) (goes shows ages : Bool) (image : Option (List ℕ)) → locked ≡ false → ready ≡ 0 → busy ≡ 0 → early ≡ None → keeps ≡ true
+    → refusal ≡ None → stays ≡ false → lagging ≡ 0 → late ≡ 0 → goes ≡ false → shows ≡ false
     → ages ≡ false → image ≡ None
-    → spec_of_fields r.kind r.ocr r.cid r.csd locked spec.sectors ready busy early keeps refusal stays lagging late shows
-    ages image
-    ≡ plain_spec r.kind r.ocr r.cid r.csd spec.sectors = λ locked ready busy early keeps refusal stays lagging late shows ages image
-    a b c d e f g i j k l m. cc in
+    → spec_of_fields r.kind r.ocr r.cid r.csd locked spec.sectors ready busy early keeps refusal stays lagging late goes
+    shows ages image
+    ≡ plain_spec r.kind r.ocr r.cid r.csd spec.sectors = λ locked ready busy early keeps refusal stays lagging late goes shows ages image
+    a b c d e f g i j k l m n. cc in
     fields r.is_locked spec.ready spec.busy spec.early spec.keeps_length spec.refusal spec.stays_busy spec.lagging
-    spec.late spec.shows_app_cmd spec.ages spec.image
+    spec.late spec.goes_on spec.shows_app_cmd spec.ages spec.image
     h.unlocked h.ready h.busy h.early h.keeps_length h.refusal h.stays_busy h.lagging
-    h.late h.shows_app_cmd h.ages h.image
+    h.late h.goes_on h.shows_app_cmd h.ages h.image
 
 -- ---- an SD card
 
@@ -515,6 +517,7 @@ mmc_given block ocr cid csd sectors long =
       no_key stays_busy_of_line (λ place byte. refl) 0 block,
       no_key lagging_of_line (λ place byte. refl) 0 block,
       no_key late_of_line (λ place byte. refl) 0 block,
+      no_key goes_on_of_line (λ place byte. refl) 0 block,
       no_key shows_app_cmd_of_line (λ place byte. refl) 0 block,
       no_key ages_of_line (λ place byte. refl) 0 block,
       no_key locked_of_line (λ place byte. refl) 0 block,

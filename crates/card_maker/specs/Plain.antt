@@ -9,7 +9,7 @@ abbrev pub HasFirstRca : KindRegisters → Type 0
 HasFirstRca (Sd sd) = (sd.rca ≡ 1) × (sd.rca_changes ≡ false)
 HasFirstRca (Mmc mmc) = Unit {0}
 
--- The card is ready at once, never busy, not locked, and refuses nothing; each sector is erased.
+-- The card is ready at once, never busy, not locked, waits for the host, and refuses nothing; each sector is erased.
 pub record IsPlain (spec : CardSpec) : Type 0 where
   pub ready : spec.ready ≡ 0
   pub busy : spec.busy ≡ 0
@@ -19,6 +19,7 @@ pub record IsPlain (spec : CardSpec) : Type 0 where
   pub stays_busy : spec.stays_busy ≡ false
   pub lagging : spec.lagging ≡ 0
   pub late : spec.late ≡ 0
+  pub goes_on : spec.goes_on ≡ false
   pub shows_app_cmd : spec.shows_app_cmd ≡ false
   pub ages : spec.ages ≡ false
   pub image : spec.image ≡ None

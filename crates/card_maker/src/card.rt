@@ -229,6 +229,7 @@ fn plain(registers: Registers, sectors: u64) -> CardSpec
         stays_busy: false,
         lagging: 0,
         late: 0,
+        goes_on: false,
         shows_app_cmd: false,
         ages: false,
         image: None,

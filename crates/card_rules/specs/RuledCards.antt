@@ -7,7 +7,7 @@ use Rattle.mmc_card.specs.declared.exchange.DataOut.{DataOut}
 use Rattle.mmc_card.specs.declared.exchange.Reply.{Reply}
 use Rattle.mmc_card_sim.specs.FaultyExchanges.{Commands, Polls, Reads, Writes, fits_command, fits_poll, fits_read, fits_write}
 use Rattle.mmc_card_sim.specs.Plan.{fault_at, to_come}
-use Rattle.mmc_card_sim.specs.SimView.{SimView, planned_fault, sim_bus_view}
+use Rattle.mmc_card_sim.specs.SimView.{SimView, met, planned_fault, sim_bus_view}
 use Rattle.mmc_card_sim.specs.declared.fault.Fault.{Fault}
 use Rattle.mmc_card_sim.specs.declared.plan.Planned.{Planned}
 use Rattle.mmc_card_sim.specs.declared.plan.TheConstants.{MAX_PLANNED}
@@ -36,8 +36,8 @@ counts fell faults = if fell then faults + 1 else faults
 
 abbrev pub DoesCommand : Option Fault → SimView → List ℕ → Reply → SimView → Type 0
 DoesCommand fault old frame reply new =
-    Commands fault old.delays old.card frame reply (fits_command fault old.delays old.card frame) new.card
-    × (new.faults ≡ counts (fits_command fault old.delays old.card frame) old.faults)
+    Commands fault (met old).delays (met old).card frame reply (fits_command fault (met old).delays (met old).card frame) new.card
+    × (new.faults ≡ counts (fits_command fault (met old).delays (met old).card frame) old.faults)
 
 abbrev pub DoesRead : Option Fault → SimView → ℕ → DataIn → List ℕ → SimView → Type 0
 DoesRead fault old size got block new =
@@ -46,8 +46,8 @@ DoesRead fault old size got block new =
 
 abbrev pub DoesWrite : Option Fault → SimView → List ℕ → DataOut → SimView → Type 0
 DoesWrite fault old block got new =
-    Writes fault old.delays old.card old.wire.lines block got (fits_write fault old.card old.wire.lines) new.card
-    × (new.faults ≡ counts (fits_write fault old.card old.wire.lines) old.faults)
+    Writes fault (met old).delays (met old).card old.wire.lines block got (fits_write fault (met old).card old.wire.lines) new.card
+    × (new.faults ≡ counts (fits_write fault (met old).card old.wire.lines) old.faults)
 
 abbrev pub DoesPoll : Option Fault → SimView → Bool → SimView → Type 0
 DoesPoll fault old said new =

@@ -6,11 +6,11 @@ use Rattle.std.specs.Prelude.{slice_set}
 use Rattle.card_text.specs.declared.card_line.CardLine.{CardLine}
 use Rattle.card_text.specs.declared.card_line.CardLine.TheVariants.{Busy, Cid, Cmd8, Csd, Ext, Fault, HighSpeed, Kind}
 use Rattle.card_text.specs.declared.card_line.CardLine.TheVariants.{Early, KeepsLength, Locked, Ocr, Rca, Ready, Scr}
-use Rattle.card_text.specs.declared.card_line.CardLine.TheVariants.{ExtChanges, LateStatus, R6App, Sectors, SlowStatus, StaysBusy}
+use Rattle.card_text.specs.declared.card_line.CardLine.TheVariants.{ExtChanges, GoesOn, LateStatus, R6App, Sectors, SlowStatus, StaysBusy}
 use Rattle.card_text.specs.declared.card_spec.Given.{Given}
 use Rattle.card_text.specs.CardSpecs.{busy_of_line, cid_of_line, cmd8_of_line, csd_of_line, early_of_line, ext_csd_of}
 use Rattle.card_text.specs.CardSpecs.{first_of, given_by, high_speed_of_line, keeps_length_of_line, kind_of_line, lagging_of_line}
-use Rattle.card_text.specs.CardSpecs.{ages_of_line, late_of_line, locked_of_line, ocr_of_line, rca_of_line, shows_app_cmd_of_line}
+use Rattle.card_text.specs.CardSpecs.{ages_of_line, goes_on_of_line, late_of_line, locked_of_line, ocr_of_line, rca_of_line, shows_app_cmd_of_line}
 use Rattle.card_text.specs.CardSpecs.{ready_of_line, scr_of_line, sectors_of_line, stays_busy_of_line, with_byte}
 
 option_or_none : {A : Type 0} (o : Option A) → option_or o None ≡ o
@@ -42,6 +42,7 @@ with_line given (KeepsLength value) = record given { keeps_length = option_or gi
 with_line given (StaysBusy value) = record given { stays_busy = option_or given.stays_busy (Some value) }
 with_line given (SlowStatus value) = record given { lagging = option_or given.lagging (Some value) }
 with_line given (LateStatus value) = record given { late = option_or given.late (Some value) }
+with_line given (GoesOn value) = record given { goes_on = option_or given.goes_on (Some value) }
 with_line given (Locked value) = record given { locked = option_or given.locked (Some value) }
 with_line given (Scr value) = record given { scr = option_or given.scr (Some value) }
 with_line given (Rca value) = record given { rca = option_or given.rca (Some value) }
@@ -67,6 +68,7 @@ by_fields given line = record {
   stays_busy = option_or given.stays_busy (stays_busy_of_line line);
   lagging = option_or given.lagging (lagging_of_line line);
   late = option_or given.late (late_of_line line);
+  goes_on = option_or given.goes_on (goes_on_of_line line);
   locked = option_or given.locked (locked_of_line line);
   scr = option_or given.scr (scr_of_line line);
   rca = option_or given.rca (rca_of_line line);

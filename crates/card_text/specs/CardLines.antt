@@ -9,7 +9,7 @@ use Rattle.mmc_frame.specs.declared.kind.Kind.TheVariants.{Mmc, Sd}
 use Rattle.card_text.specs.declared.card_line.CardLine.{CardLine}
 use Rattle.card_text.specs.declared.card_line.CardLine.TheVariants.{Busy, Cid, Cmd8, Csd, Ext, Fault, HighSpeed, Kind}
 use Rattle.card_text.specs.declared.card_line.CardLine.TheVariants.{Early, KeepsLength, Locked, Ocr, Rca, Ready, Scr}
-use Rattle.card_text.specs.declared.card_line.CardLine.TheVariants.{ExtChanges, LateStatus, R6App, Sectors, SlowStatus, StaysBusy}
+use Rattle.card_text.specs.declared.card_line.CardLine.TheVariants.{ExtChanges, GoesOn, LateStatus, R6App, Sectors, SlowStatus, StaysBusy}
 use Rattle.card_text.specs.declared.card_line.HighSpeedChoice.{HighSpeedChoice}
 use Rattle.card_text.specs.declared.card_line.HighSpeedChoice.TheVariants.{Refused, Taken}
 use Rattle.mmc_card_rows.specs.declared.delays.Refusal.TheVariants.{SelectsDefault, SelectsNone}
@@ -88,8 +88,9 @@ late_line_of key text =
     else (if bytes_eq key (codes "long-ready") then option_map (λ count. Ready count) (long_delay_of text)
     else (if bytes_eq key (codes "long-busy") then option_map (λ count. Busy count) (long_delay_of text)
     else (if bytes_eq key (codes "long-slow-status") then option_map (λ count. SlowStatus count) (long_delay_of text)
+    else (if bytes_eq key (codes "goes-on") then option_map (λ choice. GoesOn choice) (choice_of text)
     else (if bytes_eq key (codes "ext-changes") then option_map (λ choice. ExtChanges choice) (choice_of text)
-    else sd_line_of key text))))
+    else sd_line_of key text)))))
 
 -- a key of what a card does where it is free, or another one, with its value
 unfoldable pub free_line_of : List ℕ → List ℕ → Option CardLine
@@ -179,6 +180,7 @@ repeats (KeepsLength choice) (KeepsLength other) = true
 repeats (StaysBusy choice) (StaysBusy other) = true
 repeats (SlowStatus count) (SlowStatus other) = true
 repeats (LateStatus count) (LateStatus other) = true
+repeats (GoesOn choice) (GoesOn other) = true
 repeats (Locked choice) (Locked other) = true
 repeats (Scr bytes) (Scr others) = true
 repeats (Rca rca) (Rca other) = true

@@ -13,7 +13,7 @@ use Rattle.card_text.specs.declared.card_line.CardLine.TheVariants.{Early, Keeps
 use Rattle.card_text.specs.declared.card_line.HighSpeedChoice.{HighSpeedChoice}
 use Rattle.card_text.specs.declared.card_line.HighSpeedChoice.TheVariants.{Refused, Taken}
 use Rattle.mmc_card_rows.specs.declared.delays.Refusal.{Refusal}
-use Rattle.card_text.specs.declared.card_line.CardLine.TheVariants.{ExtChanges, LateStatus, R6App, SlowStatus, StaysBusy}
+use Rattle.card_text.specs.declared.card_line.CardLine.TheVariants.{ExtChanges, GoesOn, LateStatus, R6App, SlowStatus, StaysBusy}
 use Rattle.card_text.specs.declared.card_line.PublishedRca.{PublishedRca}
 use Rattle.card_text.specs.declared.card_line.PublishedRca.TheVariants.{Changes, Fixed}
 use Rattle.card_text.specs.declared.card_spec.Given.{Given}
@@ -71,6 +71,10 @@ lagging_of_line line = None
 abbrev pub late_of_line : CardLine → Option ℕ
 late_of_line (LateStatus count) = Some count
 late_of_line line = None
+
+abbrev pub goes_on_of_line : CardLine → Option Bool
+goes_on_of_line (GoesOn choice) = Some choice
+goes_on_of_line line = None
 
 abbrev pub locked_of_line : CardLine → Option Bool
 locked_of_line (Locked choice) = Some choice
@@ -130,6 +134,7 @@ given_by ls = record {
   stays_busy = first_of stays_busy_of_line ls;
   lagging = first_of lagging_of_line ls;
   late = first_of late_of_line ls;
+  goes_on = first_of goes_on_of_line ls;
   locked = first_of locked_of_line ls;
   scr = first_of scr_of_line ls;
   rca = first_of rca_of_line ls;
@@ -199,6 +204,7 @@ spec_by given = do
     stays_busy = unwrap_or given.stays_busy false;
     lagging = unwrap_or given.lagging 0;
     late = unwrap_or given.late 0;
+    goes_on = unwrap_or given.goes_on false;
     shows_app_cmd = unwrap_or given.shows_app_cmd false;
     ages = unwrap_or given.ages false;
     image = None;

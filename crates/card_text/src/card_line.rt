@@ -58,6 +58,8 @@ pub enum CardLine {
     SlowStatus(u8),
     /// How many statuses after CMD7 still show stby, and after CMD12 that ends a read data, 0 to 8.
     LateStatus(u8),
+    /// Whether the card goes on by itself between two exchanges.
+    GoesOn(bool),
     /// Whether the card is locked.
     Locked(bool),
     /// The SCR of an SD card, the highest byte first.
@@ -124,6 +126,7 @@ impl CardLine {
             | (CardLine::StaysBusy(_), CardLine::StaysBusy(_))
             | (CardLine::SlowStatus(_), CardLine::SlowStatus(_))
             | (CardLine::LateStatus(_), CardLine::LateStatus(_))
+            | (CardLine::GoesOn(_), CardLine::GoesOn(_))
             | (CardLine::Locked(_), CardLine::Locked(_))
             | (CardLine::Scr(_), CardLine::Scr(_))
             | (CardLine::Rca(_), CardLine::Rca(_))
@@ -285,6 +288,8 @@ fn late_line(key: &[u8], text: &[u8]) -> Option<CardLine>
         Some(CardLine::Busy(long_delay(text)?))
     } else if key == b"long-slow-status".as_slice() {
         Some(CardLine::SlowStatus(long_delay(text)?))
+    } else if key == b"goes-on".as_slice() {
+        Some(CardLine::GoesOn(choice(text)?))
     } else if key == b"ext-changes".as_slice() {
         Some(CardLine::ExtChanges(choice(text)?))
     } else {

@@ -1,15 +1,15 @@
 -- What a chip in memory stands for, and the choices that it makes where a card is free.
-use Rattle.std.specs.Prelude.{◌%◌, ◌&&◌, ◌+◌, ◌/◌, ◌==◌, ◌^◌, ◌≡◌, Bool, List, bit_or, false, if◌then◌else◌, length, nat_lt, not}
+use Rattle.std.specs.Prelude.{◌%◌, ◌&&◌, ◌+◌, ◌/◌, ◌==◌, ◌^◌, ◌≡◌, Bool, List, bit_or, false, if◌then◌else◌, is_some, length, nat_lt, not}
 use Rattle.std.specs.Prelude.{◌∷◌, None, Option, Some, [], true, ℕ}
 use Rattle.mmc_frame.specs.declared.card_state.State.{State}
-use Rattle.mmc_frame.specs.declared.card_state.State.TheVariants.{Prg, Tran}
+use Rattle.mmc_frame.specs.declared.card_state.State.TheVariants.{Data, Prg, Tran}
 use Rattle.mmc_frame.specs.declared.commands.TheConstants as Index
 use Rattle.mmc_frame.specs.declared.kind.Kind.{Kind}
 use Rattle.mmc_frame.specs.declared.kind.Kind.TheVariants.{Mmc}
 use Rattle.mmc_card.specs.declared.exchange.DataIn.{DataIn}
 use Rattle.mmc_card.specs.declared.exchange.DataIn.TheVariants as Received
 use Rattle.mmc_card.specs.declared.exchange.Lines.{Lines}
-use Rattle.mmc_card.specs.Blocks.{asked_for, can_send, next_block}
+use Rattle.mmc_card.specs.Blocks.{asked_for, can_send, next_block, rested, sent}
 use Rattle.mmc_card.specs.Card.{Both, Card, First, FromBytes, FromSectors, Held, NoAddress, Source as CardSource, is_in}
 use Rattle.mmc_card.specs.CardAnswer.{CardAnswer, Choice}
 use Rattle.mmc_card.specs.ErrorBits.{wp_violation}
@@ -164,6 +164,17 @@ finding_protection delays = record delays { finds_protection = true }
 abbrev pub moved_on : Delays → State → State → Delays
 moved_on delays old new =
     record delays { before = if is_in new Tran && not (is_in old Tran) then old else delays.before }
+
+-- What the card does by itself between two exchanges, if it does: it isn't busy any more, and a read has sent one block, if it has
+-- one, that nobody took.
+abbrev pub run_on_once : Card → Card
+run_on_once card = if is_some (next_block card) then sent (choice_of false) card else card
+
+abbrev pub by_itself : Card → Card
+by_itself card = if is_in card.state Data then run_on_once card else rested card
+
+abbrev pub passed : Delays → Card → Card
+passed delays card = if delays.goes_on then by_itself card else card
 
 -- it takes as long as before, and finds its sectors protected or not as before
 pub record KeepsWaits (old new : Delays) : Type 0 where

@@ -8,6 +8,7 @@ ghost use Rattle.mmc_card.specs.ErrorBits.{error_bits};
 ghost use Rattle.mmc_card_rows.specs.declared.store.TheConstants.{MAX_LARGE};
 
 use crate::chip::{Chip, PATIENCE, Source};
+use crate::delays::Delays;
 use crate::switch_rows::{timing_number, width_number};
 use bitflags::Flags;
 use mmc_card::{DataIn, DataOut, Lines};
@@ -37,7 +38,7 @@ impl Chip {
     ghost use Rattle.mmc_card.specs.Blocks.{awaits, can_accept, can_send, end_errors, lines_fit, offered, polled_once};
     ghost use Rattle.mmc_card.specs.Blocks.{rested, sent_from, waited};
     ghost use Rattle.mmc_card.specs.Card.{FromSectors, stored};
-    ghost use Rattle.mmc_card_rows.specs.Chip.{IsBlockSource, Sends, card_of, choice_of};
+    ghost use Rattle.mmc_card_rows.specs.Chip.{IsBlockSource, Sends, card_of, choice_of, passed, run_on_once};
 
     // Whether these are the card's lines.
     fn fits(&self, lines: Lines) -> bool
@@ -186,6 +187,40 @@ impl Chip {
             self.lags = true;
         }
         self.is_busy = false;
+    }
+
+    // The card sends its next block, if it has one, and nobody takes it.
+    fn run_on_once(&mut self)
+        requires { is_in self.old.state Data ≡ true }
+        ensures { card_of self.new ≡ run_on_once (card_of self.old) }
+    {
+        match &self.source {
+            Source::Sectors => {
+                if self.next < self.store.size(self.part) {
+                    self.pass_sector();
+                }
+            }
+            Source::Block(_, timing) => {
+                self.timing = *timing;
+                self.state = State::Tran;
+                self.source = Source::Sectors;
+            }
+        }
+    }
+
+    /// What a card that goes on by itself does between two exchanges: its busy time ends, or a read sends a block that nobody
+    /// takes (SD Physical Layer 6.00, section 4.3; JESD84-B51, section 6.6).
+    pub fn pass_time(&mut self, delays: Delays)
+        ensures { card_of self.new ≡ passed delays (card_of self.old) }
+    {
+        if !delays.goes_on {
+            return;
+        }
+        if self.is_in(State::Data) {
+            self.run_on_once();
+        } else {
+            self.end_busy();
+        }
     }
 
     /// A poll of a card that is slow or not: whether it is busy.

@@ -47,6 +47,9 @@ pub struct Delays {
     /// What an eMMC device that ages says of its life time, DEVICE_LIFE_TIME_EST_TYP_A, byte 268 of its EXT_CSD: at each CMD0 one
     /// more, and 0 after 255. Otherwise it is what the EXT_CSD is made with.
     pub life_time: Option<u8>,
+    /// Whether the card goes on by itself between two exchanges: before a command, and before a block that is written, its busy
+    /// time has ended, and a read has sent one block that nobody took.
+    pub goes_on: bool,
     /// Whether a write finds its sectors protected, as in a fault alone.
     pub finds_protection: bool,
 }

@@ -20,7 +20,7 @@ use Rattle.mmc_card.specs.declared.command.Command.TheVariants as Names
 use Rattle.mmc_frame.specs.Frame.{command_in}
 use Rattle.mmc_card.specs.ErrorBits.{card_ecc_failed, com_crc_error, general_error, illegal_command}
 use Rattle.mmc_card.specs.Faults.{AreOfExecution, CommandStep, IsPatient, MeetsBlock, MeetsCommand, PollStep, ReadStep, Spells}
-use Rattle.mmc_card.specs.Faults.{WriteStep, at_once}
+use Rattle.mmc_card.specs.Faults.{Passes, WriteStep, at_once, has_rested, has_run}
 use Rattle.mmc_card.specs.Faults.{is_switch, is_switch_frame, is_write_frame}
 use Rattle.mmc_card.specs.Faults.MeetsCommand.{brownout as command_brownout, faithful as does_command, flip_command}
 use Rattle.mmc_card.specs.Faults.MeetsCommand.{fail_switch, find_protection, flip_reply, leave_over, lose_command, lose_reply}
@@ -29,13 +29,13 @@ use Rattle.mmc_card.specs.Faults.PollStep.{brownout as poll_brownout, busy, fail
 use Rattle.mmc_card.specs.Faults.ReadStep.{brownout as read_brownout, faithful as does_read, spoil}
 use Rattle.mmc_card.specs.Faults.MeetsBlock.{brownout as write_brownout, faithful as does_write, lose_block, lose_status, reject}
 use Rattle.mmc_card.specs.Sectors.{Sector}
-use Rattle.mmc_frame.specs.declared.card_state.State.TheVariants.{Prg, Rcv, Tran}
+use Rattle.mmc_frame.specs.declared.card_state.State.TheVariants.{Data, Prg, Rcv, Tran}
 use Rattle.mmc_card.proofs.CardAll.{poll_leaves_card, read_leaves_card}
-use Rattle.mmc_card.proofs.Passing.{block_leaves_card, step_leaves_card}
+use Rattle.mmc_card.proofs.Passing.{block_leaves_card, card_in_time, step_leaves_card}
 use Rattle.mmc_bus.specs.declared.wire.Wire.{Wire}
 use Rattle.mmc_bus.specs.Exchanges.{Commanded, DataRead, DataWritten, Exchanged, Polled}
 use Rattle.mmc_bus.specs.Wires.{Notes, bus_view_with}
-use Rattle.mmc_card_rows.specs.Chip.{KeepsWaits, choice_of, command_choice, finding_protection}
+use Rattle.mmc_card_rows.specs.Chip.{KeepsWaits, by_itself, choice_of, command_choice, finding_protection}
 use Rattle.mmc_card.proofs.Cards.{in_state}
 use Rattle.mmc_card_rows.proofs.ChipLemmas.{execution_held}
 use Rattle.mmc_card_rows.specs.FaultErrors.{are_of_execution}
@@ -44,7 +44,7 @@ use Rattle.mmc_card_sim.specs.FaultyExchanges.{Commands, IsHeard, Polls, Reads, 
 use Rattle.mmc_card_sim.specs.FaultyExchanges.{after_read, after_write, fits_command, fits_poll, fits_read, fits_write}
 use Rattle.mmc_card_sim.specs.FaultyExchanges.{done_in, failing, heeded, is_answer, is_busy_fault, poll_choice, read_in, says_yes, written_out}
 use Rattle.mmc_card_sim.specs.Plan.{fault_at, to_come}
-use Rattle.mmc_card_sim.specs.SimView.{SimOk, SimView}
+use Rattle.mmc_card_sim.specs.SimView.{SimOk, SimView, card_met, met, sim_bus_view}
 use Rattle.mmc_card_sim.proofs.PlanLemmas.{spent}
 use Rattle.mmc_card_rows.specs.Store.{lands_by}
 use Rattle.mmc_card_rows.specs.declared.delays.Delays.{Delays}
@@ -55,7 +55,7 @@ use Rattle.mmc_card_rows.specs.declared.fault.Outcome.TheVariants.{New, Old}
 use Rattle.mmc_card_sim.specs.declared.plan.Planned.{Planned}
 use Rattle.mmc_card_sim.proofs.FlipLemmas.{is_flipped}
 use Rattle.std.specs.Int.Bits.{or_zero_r}
-use Rattle.mmc_card.specs.Blocks.{sent}
+use Rattle.mmc_card.specs.Blocks.{next_block, rested, run_past, sent}
 use Rattle.std.specs.Int.RustNames.{bit_and}
 use Rattle.std.proofs.lemmas.Nat.{and_or_apart}
 use Rattle.std.proofs.lemmas.Bool.{eqb-true, ltb-true}
@@ -88,7 +88,23 @@ exchanged plan old new faults later before after exchange notes in_bounds was is
       };
 }
 
--- To a card in memory nothing happens between two exchanges.
+-- What a card in memory does by itself between two exchanges is what a card may do.
+
+gone_on : (old : BusView) (some sends : Bool) → is_in old.card.state Data ≡ sends
+    → Passes old (record old {
+      card = if sends then if some then sent (choice_of false) old.card else old.card else rested old.card;
+    })
+gone_on old some false is = has_rested refl
+gone_on old true true is = has_run (choice_of false) 1 (rw is refl)
+gone_on old false true is = at_once refl
+
+pub time_passes : (sim : SimView) → Passes (sim_bus_view sim) (sim_bus_view (met sim))
+time_passes sim = go sim.delays.goes_on
+  where
+    go : (goes : Bool)
+        → Passes (sim_bus_view sim) (record (sim_bus_view sim) { card = if goes then by_itself sim.card else sim.card })
+    go true = gone_on (sim_bus_view sim) (is_some (next_block sim.card)) (is_in sim.card.state Data) refl
+    go false = at_once refl
 
 commands_at_once : (old : BusView) (frame : List ℕ) (reply : Reply) (new : BusView) → MeetsCommand old frame reply new
     → CommandStep old frame reply new
@@ -239,17 +255,15 @@ module _ (plan : List Planned) (old new : Card) (delays : Delays) (soon : delays
   command_fault (Some Is.RejectBusy) frame reply one fits card heard = cc
   command_fault (Some (Is.FailEarly outcome bits)) frame reply one fits card heard = cc
 
-  command_step : (fault : Option Fault) (frame : List ℕ) (reply : Reply) (fell : Bool)
+  pub command_met : (fault : Option Fault) (frame : List ℕ) (reply : Reply) (fell : Bool)
       → later ≡ (if fell then faults + 1 else faults)
       → Commands fault delays old frame reply fell new
-      → CommandStep (kept_with plan old faults before) frame reply (kept_with plan new later after)
-  command_step fault frame reply false counts does =
-      commands_at_once _ frame reply _
-      (does_command (command_choice delays old) (soon_ready delays old soon, refl, bare) counts (does.card refl)
-      (_, said_is old.made.kind delays _, does.answer refl))
-  command_step fault frame reply true counts does =
-      commands_at_once _ frame reply _
-      (command_fault fault frame reply counts (sym does.fell_is) (does.fault_card refl) (does.fault_reply refl))
+      → MeetsCommand (kept_with plan old faults before) frame reply (kept_with plan new later after)
+  command_met fault frame reply false counts does =
+      does_command (command_choice delays old) (soon_ready delays old soon, refl, bare) counts (does.card refl)
+      (_, said_is old.made.kind delays _, does.answer refl)
+  command_met fault frame reply true counts does =
+      command_fault fault frame reply counts (sym does.fell_is) (does.fault_card refl) (does.fault_reply refl)
 
   pub commanded : (fault : Option Fault) (frame : List ℕ) (want : Want) (reply : Reply) (fell : Bool)
       → later ≡ (if fell then faults + 1 else faults) → Commands fault delays old frame reply fell new
@@ -257,7 +271,7 @@ module _ (plan : List Planned) (old new : Card) (delays : Delays) (soon : delays
       → later + to_come plan after.exchanges ≤ faults + to_come plan before.exchanges
       → Commanded (kept_with plan old faults before) frame want reply (kept_with plan new later after) × IsCard new
   commanded fault frame want reply fell counts does k notes in_bounds =
-      let step = command_step fault frame reply fell counts does in
+      let step = commands_at_once _ frame reply _ (command_met fault frame reply fell counts does) in
       let is = step_leaves_card (kept_with plan old faults before) frame reply (kept_with plan new later after)
       step k in
       (exchanged plan old new faults later before after (Command frame want reply) notes in_bounds k is step, is)
@@ -357,15 +371,13 @@ module _ (plan : List Planned) (old new : Card) (delays : Delays) (faults later 
   write_fault (Some Is.FindProtection) block got one fits card answer = cc
   write_fault (Some (Is.FailEarly outcome bits)) block got one fits card answer = cc
 
-  write_step : (fault : Option Fault) (block : Sector) (got : DataOut) (fell : Bool)
+  pub block_met : (fault : Option Fault) (block : Sector) (got : DataOut) (fell : Bool)
       → later ≡ (if fell then faults + 1 else faults)
-      → Writes fault delays old before.lines block got fell new → WriteStep (kept_with plan old faults before) block got
+      → Writes fault delays old before.lines block got fell new → MeetsBlock (kept_with plan old faults before) block got
       (kept_with plan new later after)
-  write_step fault block got false counts does =
-      writes_at_once _ block got _ (does_write counts (does.card refl) (does.got_is refl))
-  write_step fault block got true counts does =
-      writes_at_once _ block got _
-      (write_fault fault block got counts (sym does.fell_is) (does.fault_card refl) (does.fault_got refl))
+  block_met fault block got false counts does = does_write counts (does.card refl) (does.got_is refl)
+  block_met fault block got true counts does =
+      write_fault fault block got counts (sym does.fell_is) (does.fault_card refl) (does.fault_got refl)
 
   pub data_written : (fault : Option Fault) (block : Sector) (got : DataOut) (fell : Bool)
       → later ≡ (if fell then faults + 1 else faults)
@@ -373,7 +385,7 @@ module _ (plan : List Planned) (old new : Card) (delays : Delays) (faults later 
       → later + to_come plan after.exchanges ≤ faults + to_come plan before.exchanges
       → DataWritten (kept_with plan old faults before) block got (kept_with plan new later after) × IsCard new
   data_written fault block got fell counts does size k notes in_bounds =
-      let step = write_step fault block got fell counts does in
+      let step = writes_at_once _ block got _ (block_met fault block got fell counts does) in
       let is = block_leaves_card (kept_with plan old faults before) block got (kept_with plan new later after)
       size step k in
       (exchanged plan old new faults later before after (Out got) notes in_bounds k is step, is)
@@ -531,3 +543,61 @@ still_ok old new fault fell exchange ok waits plan is unplanned counts notes car
   bounded = (let made = notes.exchanges in omega (arith, made));
   never = rw plan ok.never;
 }
+
+-- What comes before an exchange.
+
+pub met_is_ok : (sim : SimView) (delays : Delays) → SimOk sim → KeepsWaits sim.delays delays
+    → SimOk (record sim { card = card_met sim; delays = delays })
+met_is_ok sim delays ok waits = record {
+  is_card = card_in_time _ _ (time_passes sim) ok.is_card;
+  soon_ready = rw waits.ready ok.soon_ready;
+  soon_rested = rw waits.busy ok.soon_rested;
+  unprotected = waits.finds_protection ∙ ok.unprotected;
+  few = ok.few;
+  bounded = ok.bounded;
+  never = ok.never;
+}
+
+-- An exchange of a card that time has passed for.
+
+pub commanded_in_time : (sim later : SimView) (frame : List ℕ) (want : Want) (reply : Reply) (new : BusView) → IsCard sim.card
+    → later ≡ met sim → MeetsCommand (sim_bus_view later) frame reply new
+    → Commanded (sim_bus_view later) frame want reply new → Commanded (sim_bus_view sim) frame want reply new
+commanded_in_time sim later frame want reply new was is meets e =
+    let met_so = subst (λ (s : SimView). MeetsCommand (sim_bus_view s) frame reply new) is meets in
+    let did = subst (λ (s : SimView). Commanded (sim_bus_view s) frame want reply new) is e in
+    record {
+      lines = did.lines;
+      limits = did.limits;
+      last = did.last;
+      exchanges = did.exchanges;
+      kept = λ kept.
+          record {
+            was_kept = refl;
+            was_card = was;
+            step = record { met = sim_bus_view (met sim); passes = time_passes sim; meets = met_so };
+            is_card = (did.kept kept).is_card;
+            bounded = (did.kept kept).bounded;
+          };
+    }
+
+pub written_in_time : (sim later : SimView) (block : Sector) (got : DataOut) (new : BusView) → IsCard sim.card
+    → later ≡ met sim → MeetsBlock (sim_bus_view later) block got new
+    → DataWritten (sim_bus_view later) block got new → DataWritten (sim_bus_view sim) block got new
+written_in_time sim later block got new was is meets e =
+    let met_so = subst (λ (s : SimView). MeetsBlock (sim_bus_view s) block got new) is meets in
+    let did = subst (λ (s : SimView). DataWritten (sim_bus_view s) block got new) is e in
+    record {
+      lines = did.lines;
+      limits = did.limits;
+      last = did.last;
+      exchanges = did.exchanges;
+      kept = λ kept.
+          record {
+            was_kept = refl;
+            was_card = was;
+            step = record { met = sim_bus_view (met sim); passes = time_passes sim; meets = met_so };
+            is_card = (did.kept kept).is_card;
+            bounded = (did.kept kept).bounded;
+          };
+    }

@@ -27,6 +27,7 @@ card_with kind ocr csd sectors =
       keeps_length = true;
       refusal = None;
       stays_busy = false;
+      goes_on = false;
       lagging = 0;
       late = 0;
       shows_app_cmd = false;

@@ -9,6 +9,7 @@ use Rattle.mmc_card.specs.Card.{Card, IsCard, patience}
 use Rattle.mmc_card.specs.Made.{erased_byte_of_card}
 use Rattle.mmc_card_sim.specs.CardSpec.{sizes_of}
 use Rattle.mmc_card_sim.specs.Plan.{fault_at, to_come}
+use Rattle.mmc_card_rows.specs.Chip.{moved_on, passed}
 use Rattle.mmc_card_rows.specs.Registers.{first_life_time, last_rca_by, made_of, rca_changes_by}
 use Rattle.mmc_card_rows.specs.SectorLists.{first_sectors}
 use Rattle.mmc_card_rows.specs.Sizes.{total}
@@ -51,8 +52,16 @@ first_delays spec =
       before = Idle;
       shows_app_cmd = spec.shows_app_cmd;
       life_time = first_life_time spec.ages spec.registers.kind;
+      goes_on = spec.goes_on;
       finds_protection = false;
     }
+
+-- as the next command, or the next block that is written, meets it: a card that goes on by itself has done so
+abbrev pub card_met : SimView → Card
+card_met sim = passed sim.delays sim.card
+
+abbrev pub met : SimView → SimView
+met sim = record sim { card = card_met sim; delays = moved_on sim.delays sim.card.state (card_met sim).state }
 
 -- It is a card, whose own delays are fifteen exchanges at most, and which finds no sectors protected of its own; no more faults have fallen than exchanges were made, and none
 -- is planned for the number at which their count stays.

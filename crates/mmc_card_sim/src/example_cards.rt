@@ -27,6 +27,7 @@ fn card_with(kind: KindRegisters, ocr: u32, csd: u128, sectors: u64) -> CardSpec
         keeps_length: true,
         refusal: None,
         stays_busy: false,
+        goes_on: false,
         lagging: 0,
         late: 0,
         shows_app_cmd: false,

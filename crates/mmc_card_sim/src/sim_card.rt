@@ -4,7 +4,7 @@ ghost use Rattle.std.specs.Prelude.{false, if◌then◌else◌, length, slice_ge
 ghost use Rattle.mmc_card_sim.specs.Plan.{fault_at, refusal_of, to_come};
 ghost use Rattle.mmc_card_sim.specs.FaultyExchanges.{Commands, Polls, Reads, Writes, fits_command, fits_poll};
 ghost use Rattle.mmc_card_sim.specs.FaultyExchanges.{fits_read, fits_write};
-ghost use Rattle.mmc_card_sim.specs.SimView.{first_delays, planned_fault, sim_bus_view};
+ghost use Rattle.mmc_card_sim.specs.SimView.{card_met, first_delays, met, planned_fault, sim_bus_view};
 ghost use Rattle.mmc_card_rows.specs.declared.store.TheConstants.{MAX_LARGE};
 
 use crate::fault::Fault;
@@ -39,6 +39,7 @@ fn first_delays(spec: &CardSpec) -> Delays
         before: State::Idle,
         shows_app_cmd: spec.shows_app_cmd,
         life_time: registers.first_life_time(spec.ages),
+        goes_on: spec.goes_on,
         finds_protection: false,
     }
 }
@@ -89,6 +90,7 @@ impl SimCard {
     ghost use Rattle.mmc_bus.specs.Exchanges.{Commanded, DataRead, DataWritten, Polled};
     ghost use Rattle.mmc_bus.specs.Wires.{IsUnused};
     ghost use Rattle.mmc_frame.specs.Frame.{command_in};
+    ghost use Rattle.mmc_card.specs.Faults.{MeetsBlock, MeetsCommand};
     ghost use Rattle.mmc_card.specs.Card.{HasItsSizes, IsCard, patience, powered_on, stored};
     ghost use Rattle.mmc_card_rows.specs.Chip.{card_of, delays_after, moved_on};
     ghost use Rattle.mmc_card_sim.specs.CardSpec.{IsRefusal, IsRefusalWithin, refusal_of as spec_refusal};
@@ -250,9 +252,20 @@ impl SimCard {
         self.plan.forget_past(self.wire.exchanges);
     }
 
-    /// Sends a command, and gives what came back, whatever response is wanted.
-    pub fn command(&mut self, frame: [u8; 6], want: Want) -> Reply
+    // What the card has done by itself since the last exchange.
+    fn pass_time(&mut self)
+        ensures card { IsCard self.old.card }
+        ensures met { self.new ≡ met self.old }
+    {
+        let state = self.chip.state;
+        self.chip.pass_time(self.delays);
+        self.delays.note_state(state, self.chip.state);
+    }
+
+    // A command, as the card meets it.
+    fn meet_command(&mut self, frame: [u8; 6], want: Want) -> Reply
         ensures exchanged { Commanded (sim_bus_view self.old) frame want result (sim_bus_view self.new) }
+        ensures meets { MeetsCommand (sim_bus_view self.old) frame result (sim_bus_view self.new) }
         ensures does { Commands (planned_fault self.old) self.old.delays self.old.card frame result
             (fits_command (planned_fault self.old) self.old.delays self.old.card frame) self.new.card }
         ensures counts { self.new.faults
@@ -271,6 +284,23 @@ impl SimCard {
         self.faults = counted(self.faults, fell);
         self.wire.note(Exchange::Command { frame, want, reply });
         reply
+    }
+
+    /// Sends a command, and gives what came back, whatever response is wanted.
+    pub fn command(&mut self, frame: [u8; 6], want: Want) -> Reply
+        ensures exchanged { Commanded (sim_bus_view self.old) frame want result (sim_bus_view self.new) }
+        ensures does { Commands (planned_fault self.old) (met self.old).delays (card_met self.old) frame result
+            (fits_command (planned_fault self.old) (met self.old).delays (card_met self.old) frame) self.new.card }
+        ensures counts { self.new.faults
+            ≡ (if fits_command (planned_fault self.old) (met self.old).delays (card_met self.old) frame
+            then self.old.faults + 1 else self.old.faults) }
+        ensures delays { self.new.delays
+            ≡ moved_on (delays_after (met self.old).delays (command_in frame) self.new.card.rca) (card_met self.old).state
+            self.new.card.state }
+        ensures plan { self.new.plan ≡ self.old.plan }
+    {
+        self.pass_time();
+        self.meet_command(frame, want)
     }
 
     /// Reads a block of the buffer's length.
@@ -296,9 +326,10 @@ impl SimCard {
         got
     }
 
-    /// Writes a block.
-    pub fn write_data(&mut self, block: &[u8; 512]) -> DataOut
+    // A block that is written, as the card meets it.
+    fn meet_block(&mut self, block: &[u8; 512]) -> DataOut
         ensures exchanged { DataWritten (sim_bus_view self.old) block.now result (sim_bus_view self.new) }
+        ensures meets { MeetsBlock (sim_bus_view self.old) block.now result (sim_bus_view self.new) }
         ensures does { Writes (planned_fault self.old) self.old.delays self.old.card self.old.wire.lines block.now result
             (fits_write (planned_fault self.old) self.old.card self.old.wire.lines) self.new.card }
         ensures counts { self.new.faults
@@ -314,6 +345,21 @@ impl SimCard {
         self.faults = counted(self.faults, fell);
         self.wire.note(Exchange::Out { got });
         got
+    }
+
+    /// Writes a block.
+    pub fn write_data(&mut self, block: &[u8; 512]) -> DataOut
+        ensures exchanged { DataWritten (sim_bus_view self.old) block.now result (sim_bus_view self.new) }
+        ensures does { Writes (planned_fault self.old) (met self.old).delays (card_met self.old) self.old.wire.lines block.now result
+            (fits_write (planned_fault self.old) (card_met self.old) self.old.wire.lines) self.new.card }
+        ensures counts { self.new.faults
+            ≡ (if fits_write (planned_fault self.old) (card_met self.old) self.old.wire.lines
+            then self.old.faults + 1 else self.old.faults) }
+        ensures delays { self.new.delays ≡ moved_on (met self.old).delays (card_met self.old).state self.new.card.state }
+        ensures plan { self.new.plan ≡ self.old.plan }
+    {
+        self.pass_time();
+        self.meet_block(block)
     }
 
     /// Polls the card: whether it is busy.

@@ -31,6 +31,9 @@ pub struct CardSpec {
     pub lagging: u8,
     /// How many statuses lag behind CMD7, and after CMD12 that ends a read, and still show stby or data, counted in the same way.
     pub late: u8,
+    /// Whether the card goes on by itself between two exchanges: before a command, and before a block that is written, its busy
+    /// time has ended, and a read has sent one block that nobody took.
+    pub goes_on: bool,
     /// Whether an SD card shows APP_CMD, bit 5 of the status, in each response to CMD3, as most do in their R6: ACMD41 is answered
     /// by an R3, which has no status (SD Physical Layer 6.00, sections 4.9.5 and 4.10.1).
     pub shows_app_cmd: bool,

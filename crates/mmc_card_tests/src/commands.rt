@@ -28,6 +28,7 @@ fn with_byte_addresses(alloc: Global, csd: u128, sectors: u32) -> Result<CardSpe
         stays_busy: false,
         lagging: 0,
         late: 0,
+        goes_on: false,
         shows_app_cmd: false,
         ages: false,
         image: numbered_image(alloc, sectors)?,

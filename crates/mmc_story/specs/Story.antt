@@ -1,6 +1,6 @@
 -- THE ASSUMPTION about a host controller and its card, by the calls of a driver (by registers it is `RegisterStory` of
 -- `sdhci_story`): controller and card conform. There is a story of what became of the card, and all that the host did and was
--- answered is a step of it: what a faithful card does, or one fault of the list in `mmc_card`, `Faults`.
+-- answered is a step of it: time passes, and then comes what a faithful card does, or one fault of the list in `mmc_card`, `Faults`.
 use Rattle.std.specs.Prelude.{◌≡◌, ◌∷◌, Bool, List, None, true, ℕ}
 use Rattle.mmc_card.specs.BusView.{BusView}
 use Rattle.mmc_card.specs.Card.{Card}
