@@ -235,8 +235,8 @@ enum kelifandro_part {
 
 /* What was met and healed since the card was opened, counted: by the answers alone a card that fails at every tenth command looks
    healthy. Attempts of requests that failed for good are among them; what opening met isn't. Each count stays at its largest number once
-   it is there. To settle a card is to end what runs, set the length of blocks again, and ask until its status is clean; where that fails
-   it is reset and identified anew. */
+   it is there. To settle a card is to end what runs, set the length of blocks again, and ask until its status is clean, once more where
+   the response to CMD12 or CMD13 is lost; where that fails it is reset and identified anew. */
 struct kelifandro_healed {
     uint64_t attempts; /* at requests, four at most each, with success or without */
     /* How many of them failed: a response wasn't heard; a block was bad, missing or rejected; a status showed an error; the card was busy

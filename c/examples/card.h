@@ -9,18 +9,28 @@ struct card {
     int is_emmc;
     uint8_t user[USER_SECTORS][512], boot[2][BOOT_SECTORS][512];
     unsigned state; /* SD Physical Layer 6.00, section 4.1 */
+    /* the command that is carried out, and its response */
+    uint8_t index;
+    uint32_t argument, response[4];
     uint16_t rca;
-    int is_app;
-    uint32_t count;        /* preset by CMD23 */
-    uint32_t errors;       /* status bits to show once */
-    uint8_t part;          /* of an eMMC device: 0 user, 1 and 2 boot */
-    const uint8_t *source; /* bytes that are sent, or 0 where sectors are */
-    uint32_t next, left;   /* the next sector, and how many are left; 0xffffffff until CMD12 */
-    int is_single;         /* a write of one block */
-    uint32_t first, last;  /* of an erase */
+    int has_voltage;      /* an SD card has accepted the voltage of a CMD8 */
+    int is_app;           /* the command before was CMD55 */
+    uint32_t count;       /* preset by CMD23 for the next command */
+    uint32_t errors;      /* status bits to show once */
+    uint8_t part;         /* of an eMMC device: 0 user, 1 and 2 boot */
+    uint8_t boot_config;  /* of the byte that selects it the other bits */
+    uint8_t erase_group_def;
+    uint32_t next, left;  /* the next sector, and how many are left; 0xffffffff until CMD12 */
+    int is_single;        /* a write of one block */
+    int is_busy;          /* DAT0 is low */
+    unsigned held;        /* how many addresses of an erase have come, the first and the last one */
+    uint32_t erased[2];
+    /* a register that is sent as a block: of so many bytes, 0 where sectors are sent, and the timing once it is sent */
     uint8_t register_block[512];
+    unsigned register_length;
+    int speed_after;
     /* data lines, timing and, for the host, clock, as the card and as the host behind it are set; they have to be the same */
-    int lines, high_speed, host_lines, host_high_speed, is_switching;
+    int lines, high_speed, host_lines, host_high_speed;
     uint32_t hertz;
     unsigned long told; /* how often the host behind it was told lines, timing or clock */
     /* how many statuses lag after CMD7, CMD12 and a write, as a test sets it; how many are left of them, and the state that they show */
@@ -29,7 +39,7 @@ struct card {
        other bytes and a bad check, and one that is written is rejected */
     unsigned long answers, lost;
     int is_damaged;
-    /* the answer to a look was lost, which said busy then: it is asked again, and nothing has failed */
+    /* the answer to a look was lost: a card that is busy said so once more, and was asked again, so nothing has failed */
     int is_look_lost;
 };
 

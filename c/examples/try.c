@@ -250,7 +250,7 @@ static void slot(void)
 /* Registers that come as blocks are shown as they came; a card that was reset within a call says so until somebody has seen it. */
 static void shown(enum way way)
 {
-    static const uint8_t scr[8] = {0x02, 0x05, 0x00, 0x02}, none[8];
+    static const uint8_t scr[8] = {0x02, 0x05, 0x80, 0x02}, none[8];
     static uint8_t ext_csd[512];
     begin(0, way);
     sd.ext_csd = ext_csd;

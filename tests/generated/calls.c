@@ -189,10 +189,10 @@ static void as_drawn(const struct kelifandro_command *command, uint32_t response
     case 1:
     case 41:
         response[0] = ocr | (busy_left || one_in(200) ? 0 : 0x80000000u);
-        if (busy_left) {
-            busy_left--;
-            card.state = 0;
-        }
+        busy_left -= busy_left != 0;
+        /* the card in memory waits for a host that names sectors */
+        if (card.state <= 1)
+            card.state = response[0] >> 31;
         break;
     case 2:
         memcpy(response, cid, sizeof cid);

@@ -12,7 +12,7 @@ use Rattle.mmc_card_rows.specs.declared.delays.Delays.{Delays}
 use Rattle.mmc_card_sim.specs.FaultyExchanges.{fits_command, fits_poll, fits_read, fits_write}
 use Rattle.mmc_card_sim.specs.FlippedReplies.{is_flip}
 use Rattle.mmc_card_sim.specs.declared.fault.Fault.{Fault as CardFault}
-use Rattle.mmc_card_sim.specs.declared.fault.Fault.TheVariants.{FailEarly, FailSwitch, FailSwitchLate, FailWith, FlipCommand}
+use Rattle.mmc_card_sim.specs.declared.fault.Fault.TheVariants.{FailEarly, FailSwitch, FailSwitchLate, FailWith, FlipCommand, ShowError}
 use Rattle.mmc_card_sim.specs.declared.fault.Fault.TheVariants.{FlipReply, LoseFailedSwitch}
 use Rattle.mmc_card_sim.specs.declared.spec.TheConstants.{MAX_SECTORS}
 use Rattle.mmc_switch.specs.declared.info.Info.{Info}
@@ -86,6 +86,7 @@ can_fall kind FailSwitchLate = is_mmc kind
 can_fall kind LoseFailedSwitch = is_mmc kind
 can_fall kind (FlipCommand flips) = is_flip flips 48
 can_fall kind (FlipReply flips) = is_flip flips 136
+can_fall kind (ShowError bits) = are_of_execution bits
 can_fall kind (FailWith outcome bits) = are_of_execution bits
 can_fall kind (FailEarly outcome bits) = are_of_execution bits
 can_fall kind fault = true
@@ -96,6 +97,7 @@ unfit_words (FlipCommand flips) = codes "a position is past the frame, or the sa
 unfit_words (FlipReply flips) = codes "a position is past the frame, or the same one stands twice"
 unfit_words (FailWith outcome bits) = codes "these bits aren't errors of programming"
 unfit_words (FailEarly outcome bits) = codes "these bits aren't errors of programming"
+unfit_words (ShowError bits) = codes "these bits aren't errors of execution"
 unfit_words fault = codes "an SD card has no CMD6 that writes a byte"
 
 unfoldable pub unfit_line : ℕ → List ℕ → List ℕ

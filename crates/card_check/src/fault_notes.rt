@@ -22,7 +22,9 @@ pub fn can_fall(kind: Kind, fault: Fault) -> bool
         Fault::FailSwitch | Fault::FailSwitchLate | Fault::LoseFailedSwitch => kind == Kind::Mmc,
         Fault::FlipCommand(flips) => is_flip(flips, 48),
         Fault::FlipReply(flips) => is_flip(flips, 136),
-        Fault::FailWith(_, bits) | Fault::FailEarly(_, bits) => is_of_execution(bits),
+        Fault::ShowError(bits) | Fault::FailWith(_, bits) | Fault::FailEarly(_, bits) => {
+            is_of_execution(bits)
+        }
         _ => true,
     }
 }
@@ -38,6 +40,7 @@ fn unfit_words(fault: Fault) -> &'static [u8]
         Fault::FailWith(_, _) | Fault::FailEarly(_, _) => {
             b"these bits aren't errors of programming"
         }
+        Fault::ShowError(_) => b"these bits aren't errors of execution",
         _ => b"an SD card has no CMD6 that writes a byte",
     }
 }

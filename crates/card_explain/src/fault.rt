@@ -21,6 +21,7 @@ fn name_of(fault: Fault) -> &'static [u8]
         Fault::LoseFailedSwitch => b"lose-failed-switch",
         Fault::FindProtection => b"find-protection",
         Fault::LeaveOver(_) => b"left-over",
+        Fault::ShowError(_) => b"show-error",
         Fault::BadBlock => b"bad-block",
         Fault::NoBlock => b"no-block",
         Fault::ReadError => b"read-error",
@@ -92,6 +93,10 @@ pub fn put_fault(out: &mut Vec<u8>, fault: Fault) -> Result<(), AllocError>
         Fault::LoseStatus(outcome) | Fault::Fail(outcome) | Fault::Brownout(outcome) => {
             let outcome = outcome_name(outcome);
             say(out, &[Piece::Text(outcome)])
+        }
+        Fault::ShowError(bits) => {
+            let bits = bits.to_be_bytes();
+            say(out, &[Piece::Text(b" "), Piece::Hex(&bits)])
         }
         Fault::FailWith(outcome, bits) | Fault::FailEarly(outcome, bits) => {
             let outcome = outcome_name(outcome);

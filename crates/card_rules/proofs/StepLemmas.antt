@@ -7,7 +7,7 @@ use Rattle.mmc_card.specs.declared.exchange.Reply.{Reply}
 use Rattle.mmc_card.specs.Faults.{CommandStep, MeetsBlock, MeetsCommand, Passes, PollStep, ReadStep, WriteStep}
 use Rattle.mmc_card.specs.Faults.{at_once, brownout, busy, fail, fail_early, faithful}
 use Rattle.mmc_card.specs.Faults.{has_failed, has_fallen_short, has_rested, has_run}
-use Rattle.mmc_card.specs.Faults.{fail_switch, fall_short, find_protection, flip_command, flip_reply, leave_over, lose_block}
+use Rattle.mmc_card.specs.Faults.{fail_switch, fall_short, find_error, flip_command, lose_block, show_errors}
 use Rattle.mmc_card.specs.Faults.{lose_command, lose_reply, lose_status, outlive, reject, slow_inquiry, spoil, turn_out}
 use Rattle.mmc_card.specs.BusView.{BusView}
 
@@ -30,21 +30,20 @@ module _ (old new : BusView) (before after : Option ℕ) where
   command_meets frame reply (faithful choice patient count card spells) = faithful choice patient count card spells
   command_meets frame reply (lose_command count card silent) = lose_command count card silent
   command_meets frame reply (flip_command keeps_count count card silent) = flip_command keeps_count count card silent
-  command_meets frame reply (lose_reply choice patient count card answers silent) =
-      lose_reply choice patient count card answers silent
-  command_meets frame reply (flip_reply choice patient count card flipped) = flip_reply choice patient count card flipped
+  command_meets frame reply (lose_reply choice patient count card answers refused) =
+      lose_reply choice patient count card answers refused
   command_meets frame reply (slow_inquiry choice slow late inquiry count card spells) =
       slow_inquiry choice slow late inquiry count card spells
   command_meets frame reply (fail_switch choice fails switch count card spells) =
       fail_switch choice fails switch count card spells
-  command_meets frame reply (find_protection choice finds patient writes count card spells) =
-      find_protection choice finds patient writes count card spells
+  command_meets frame reply (find_error choice finds patient transfers count card spells) =
+      find_error choice finds patient transfers count card spells
   command_meets frame reply (outlive choice bits argument among patient resets count card silent) =
       outlive choice bits argument among patient resets count card silent
-  command_meets frame reply (leave_over choice bits of patient count card spells) =
-      leave_over choice bits of patient count card spells
-  command_meets frame reply (brownout choice lands keeps_length after patient count card silent) =
-      brownout choice lands keeps_length after patient count card silent
+  command_meets frame reply (show_errors choice left found among errors some cleared patient count card spells) =
+      show_errors choice left found among errors some cleared patient count card spells
+  command_meets frame reply (brownout choice lands keeps_length after patient count card refused) =
+      brownout choice lands keeps_length after patient count card refused
 
   pub poll_seen : (said : Bool) → PollStep old said new
       → PollStep (record old { may_fall = before }) said (record new { may_fall = after })
@@ -63,9 +62,10 @@ module _ (old new : BusView) (before after : Option ℕ) where
       → MeetsBlock (record old { may_fall = before }) block got (record new { may_fall = after })
   block_meets block got (faithful count card answer) = faithful count card answer
   block_meets block got (lose_block accepts count card answer) = lose_block accepts count card answer
-  block_meets block got (reject ignores is_busy accepts count card answer) = reject ignores is_busy accepts count card answer
-  block_meets block got (lose_status is_accepted ignores is_busy accepts count card answer) =
-      lose_status is_accepted ignores is_busy accepts count card answer
+  block_meets block got (reject bits ignores is_busy among accepts count card answer) =
+      reject bits ignores is_busy among accepts count card answer
+  block_meets block got (lose_status bits is_accepted ignores is_busy among accepts count card answer) =
+      lose_status bits is_accepted ignores is_busy among accepts count card answer
   block_meets block got (fall_short lands bits ignores of accepts count card answer) =
       fall_short lands bits ignores of accepts count card answer
   block_meets block got (turn_out lands several accepts count card answer) = turn_out lands several accepts count card answer

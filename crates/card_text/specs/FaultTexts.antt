@@ -9,7 +9,7 @@ use Rattle.mmc_card_sim.specs.declared.fault.Fault.TheVariants.{BadBlock, Browno
 use Rattle.mmc_card_sim.specs.declared.fault.Fault.TheVariants.{FailSwitch, FailSwitchLate, FlipReply, LeaveOver}
 use Rattle.mmc_card_sim.specs.declared.fault.Fault.TheVariants.{LoseCommand, LoseReply, LoseStatus, NoBlock, ReadError}
 use Rattle.mmc_card_sim.specs.declared.fault.Fault.TheVariants.{FailEarly, FindProtection, LoseBlock, LoseFailedSwitch}
-use Rattle.mmc_card_sim.specs.declared.fault.Fault.TheVariants.{Reject, RejectAll, RejectBusy}
+use Rattle.mmc_card_sim.specs.declared.fault.Fault.TheVariants.{Reject, RejectAll, RejectBusy, ShowError}
 use Rattle.mmc_card_sim.specs.declared.fault.Flips.{Flips}
 use Rattle.mmc_card_rows.specs.declared.fault.Outcome.{Outcome}
 use Rattle.mmc_card_rows.specs.declared.fault.Outcome.TheVariants.{New, Old}
@@ -51,6 +51,11 @@ command_error_in word =
 
 unfoldable pub command_error_of : List (List ℕ) → Option CommandError
 command_error_of words = option_and_then (λ word. command_error_in word) (lone_word_of words)
+
+-- error bits as a status has them, in 8 digits
+unfoldable pub shown_error_of : List (List ℕ) → Option Fault
+shown_error_of words =
+    option_map (λ bytes. ShowError (from_be_bytes w32 bytes)) (option_and_then (λ word. bytes_of 4 word) (lone_word_of words))
 
 -- an outcome alone, or with error bits as a status has them, in 8 digits
 unfoldable pub failure_of : List (List ℕ) → Option Fault
@@ -95,11 +100,12 @@ fault_with_words_of name words =
     if bytes_eq name (codes "flip-command") then option_map (λ flips. FlipCommand flips) (flips_of words)
     else (if bytes_eq name (codes "flip-reply") then option_map (λ flips. FlipReply flips) (flips_of words)
     else (if bytes_eq name (codes "left-over") then option_map (λ error. LeaveOver error) (command_error_of words)
+    else (if bytes_eq name (codes "show-error") then shown_error_of words
     else (if bytes_eq name (codes "lose-status") then option_map (λ outcome. LoseStatus outcome) (outcome_of words)
     else (if bytes_eq name (codes "fail") then failure_of words
     else (if bytes_eq name (codes "fail-early") then option_map (λ fault. early_failure fault) (failure_of words)
     else (if bytes_eq name (codes "brownout") then option_map (λ outcome. Brownout outcome) (outcome_of words)
-    else None))))))
+    else None)))))))
 
 -- the text of a fault, by its fields
 unfoldable pub fault_of : List (List ℕ) → Option Fault

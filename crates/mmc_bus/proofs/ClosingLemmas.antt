@@ -1,10 +1,12 @@
 -- What statuses in a row tell, while the card is at work and then not any more.
 use Rattle.std.proofs.lemmas.Bool.{ltb-true}
 use Rattle.std.proofs.Common.{◌+◌, ◌<◌, ◌-◌, ◌∙◌, ◌≡◌, ◌≤◌, Bool, ap, arith, cond, false, inl, inr, refl, subst, sym, true, ℕ}
-use Rattle.std.specs.Prelude.{Err, IsErr, IsOk, Ok, Result, if◌then◌else◌}
+use Rattle.std.specs.Prelude.{◌⊎◌, Err, IsErr, IsOk, Ok, Result, bit_or, if◌then◌else◌}
+use Rattle.std.specs.Int.Bits.{or_zero_r}
+use Rattle.std.proofs.lemmas.Nat.{le_or_l}
 use Rattle.mmc_bus.proofs.PollLemmas.{Counts, polled_as}
 use Rattle.mmc_bus.proofs.WorkLemmas.{joined, narrows_then, quiet_parts, refuted, set_then, stays_same, stays_then, worked_as}
-use Rattle.mmc_bus.specs.CommandLaws.{LeftOver, TellsStatus}
+use Rattle.mmc_bus.specs.CommandLaws.{Showing, TellsStatus}
 use Rattle.mmc_bus.specs.declared.host.Unheard.{Unheard}
 use Rattle.mmc_bus.specs.Closings.{Closes, ClosesInTime, ClosesSoon, HasLagged, HasShown, IsCalm, WasAtWork, WillBeClean}
 use Rattle.mmc_bus.specs.Learned.{Stays}
@@ -12,18 +14,18 @@ use Rattle.mmc_bus.specs.Work.{Narrows, StaysSet, Worked}
 use Rattle.mmc_bus.specs.declared.cause.Cause.{Cause}
 use Rattle.mmc_bus.specs.declared.status.Closing.{Closing}
 use Rattle.mmc_bus.specs.declared.status.Closing.TheVariants.{AtWork, Clean}
-use Rattle.mmc_card.proofs.CardAll.{card_left}
+use Rattle.mmc_card.proofs.CardAll.{card_showing}
 use Rattle.mmc_card.proofs.Narrow.{both}
 use Rattle.mmc_card.specs.Blocks.{programmed, rested}
 use Rattle.mmc_card.specs.BusView.{BusView}
 use Rattle.mmc_card.specs.Card.{Card, IsCard, is_in, is_selected, patience}
-use Rattle.mmc_card.specs.CardAnswer.{Choice, counted, left_with, shown}
+use Rattle.mmc_card.specs.CardAnswer.{Choice, counted, showing, shown}
 use Rattle.mmc_card.specs.Judged.{ShowsItself}
 use Rattle.mmc_card.specs.Made.{Made}
 use Rattle.mmc_card.specs.CardLaws.{HasNoErrorOfItsOwn, IsInOrder, Tells}
 use Rattle.mmc_card.proofs.Passing.{still, still_in, still_rested, unmoved_by_time}
 use Rattle.mmc_card.specs.Faults.{NoFault, Passes}
-use Rattle.mmc_card.specs.Laws.{IsStill}
+use Rattle.mmc_card.specs.Laws.{AfterSomeTime, IsStill}
 use Rattle.mmc_card.specs.RowsIdentify.{at_work, lagging, may_lag}
 use Rattle.mmc_frame.specs.declared.card_state.State.TheVariants.{Data, Prg, Tran}
 use Rattle.mmc_frame.specs.declared.kind.Kind.{Kind}
@@ -376,19 +378,26 @@ late_seen : (late : Bool) (errors : ℕ) → errors ≡ 0 → (if late then 0 el
 late_seen true errors none = refl
 late_seen false errors none = none
 
--- what such a status leaves
-lags_at_work : (kind : Kind) (choice : Choice) (left : ℕ) (old new : Card) → may_lag old ≡ true → new ≡ lagging choice old
-    → HasNoErrorOfItsOwn kind (at_work choice (left_with left old)) → WasAtWork kind old new
-lags_at_work kind choice left old new may e seen =
-    let errors : new.errors ≡ (if choice.tells_late then old.errors else 0) = ap (λ (c : Card). c.errors) e in
+-- what such a status leaves, which shows errors that are cleared by it
+lags_at_work : (kind : Kind) (choice : Choice) (left found : ℕ) (old new : Card) → (found ≡ 0) ⊎ (new.errors ≡ 0)
+    → may_lag old ≡ true → new ≡ lagging choice (showing left found old)
+    → HasNoErrorOfItsOwn kind (at_work choice (showing left found old)) → WasAtWork kind old new
+lags_at_work kind choice left found old new cleared may e seen =
+    let met = showing left found old in
+    let errors : new.errors ≡ (if choice.tells_late then met.errors else 0) = ap (λ (c : Card). c.errors) e in
     record {
-      shown = lagging_shown choice old new e;
+      shown = lagging_shown choice met new e;
       held_none = λ none. record {
-        errors = late_none choice.tells_late old.errors seen.errors (sym errors ∙ none);
+        errors = (let held = late_none choice.tells_late met.errors seen.errors (sym errors ∙ none) in
+            omega (arith, held, le_or_l old.errors found));
         switch_error = seen.switch_error;
       };
-      gets_none = λ none. errors ∙ late_gets choice.tells_late old.errors none;
-      counts = λ still. lagged choice old new may e;
+      gets_none = λ none. elim cleared [
+        | inl nothing ↦ errors ∙ late_gets choice.tells_late met.errors
+            (ap (bit_or old.errors) nothing ∙ or_zero_r old.errors ∙ none)
+        | inr clear ↦ clear
+      ];
+      counts = λ still. lagged choice met new may e;
     }
 
 -- a card in order shows no error in it
@@ -399,42 +408,57 @@ seen_in_order kind choice card none =
 
 -- a status that was heard, by the card that told it: as it is, or as it lags behind
 told_by : (old new : Card) (heard : Result ℕ Unheard) → IsCard old
-    → ((told : ℕ) → heard ≡ Ok told → LeftOver (λ card. TellsStatus card told new) old)
+    → ((told : ℕ) → heard ≡ Ok told → Showing (λ card. TellsStatus card told new) old new)
     → (P : ℕ → Type 0) (X : Type 0) → (told : ℕ) × (heard ≡ Ok told) × P (own_status told)
-    → ((left told : ℕ) → IsCard (left_with left old) → ShowsItself (left_with left old) told → P (own_status told)
+    → ((left found told : ℕ) → IsCard (showing left found old) → ShowsItself (showing left found old) told → P (own_status told)
     → new ≡ shown old → X)
-    → ((left told : ℕ) (choice : Choice) → IsCard (left_with left old) → ShowsItself (at_work choice (left_with left old)) told
-    → P (own_status told) → may_lag old ≡ true → new ≡ lagging choice old → X)
+    → ((left found told : ℕ) (choice : Choice) → (found ≡ 0) ⊎ (new.errors ≡ 0) → IsCard (showing left found old)
+    → ShowsItself (at_work choice (showing left found old)) told
+    → P (own_status told) → may_lag old ≡ true → new ≡ lagging choice (showing left found old) → X)
     → X
 told_by old new heard k tells P X judged itself lags =
     let says = tells judged.0 judged.1 in
-    let met = card_left says.0 old says.1 k in
-    elim says.2 [
-      | inl is ↦ itself says.0 judged.0 met is.0 judged.2 is.1
-      | inr is ↦ lags says.0 judged.0 is.choice met is.told_is judged.2 is.may is.card
+    let met = card_showing says.left says.found old says.among says.errors k in
+    elim says.is [
+      | inl is ↦ itself says.left says.found judged.0 met is.0 judged.2 is.1
+      | inr is ↦ lags says.left says.found judged.0 is.choice says.cleared met is.told_is judged.2 is.may is.card
     ]
+
+-- a card that shows no error of its own holds none
+none_showing : (kind : Kind) (left found : ℕ) (card : Card) → HasNoErrorOfItsOwn kind (showing left found card)
+    → HasNoErrorOfItsOwn kind card
+none_showing kind left found card none = record {
+  errors = (let held = none.errors in omega (arith, held, le_or_l card.errors found));
+  switch_error = none.switch_error;
+}
+
+order_showing : (kind : Kind) (left found : ℕ) (card : Card) → IsInOrder kind (showing left found card) → IsInOrder kind card
+order_showing kind left found card order = record {
+  no_error = none_showing kind left found card order.no_error;
+  tran = order.tran;
+  rests = order.rests;
+}
 
 pub told_closing : {E : Type 0} (kind : Kind) (old new : Card) (heard : Result ℕ Unheard) (r : Result Closing E) → IsCard old
     → OwnLaw → CleanLaw → LagLaw → UncleanLaw
-    → ((told : ℕ) → heard ≡ Ok told → LeftOver (λ card. TellsStatus card told new) old)
+    → ((told : ℕ) → heard ≡ Ok told → Showing (λ card. TellsStatus card told new) old new)
     → (r ≡ Ok Clean → (told : ℕ) × (heard ≡ Ok told) × IsClean kind (own_status told))
     → (r ≡ Ok AtWork → (told : ℕ) × (heard ≡ Ok told) × IsAtWork kind (own_status told))
     → Closes kind r old new
 told_closing kind old new heard r k own clean lag unclean tells is_clean is_work =
     closes_by kind r old new
     (λ is. told_by old new heard k tells (IsClean kind) _ (is_clean is)
-    (λ left told met shows says e.
-    (order_like kind (left_with left old) old refl refl refl refl refl ((clean kind told _ met shows).0 says), e))
-    (λ left told choice met shows says may e. absurd (unclean kind choice told _ met shows says)))
+    (λ left found told met shows says e. (order_showing kind left found old ((clean kind told _ met shows).0 says), e))
+    (λ left found told choice cleared met shows says may e. absurd (unclean kind choice told _ met shows says)))
     (λ is. told_by old new heard k tells (IsAtWork kind) _ (is_work is)
-    (λ left told met shows says e. record {
+    (λ left found told met shows says e. record {
       shown = as_shown old new e;
-      held_none = λ none. none_like kind (left_with left old) old refl refl refl ((own kind told _ met shows).0 says.no_error);
+      held_none = λ none. none_showing kind left found old ((own kind told _ met shows).0 says.no_error);
       gets_none = λ none. ap (λ (c : Card). c.errors) e;
       counts = λ still. cc (ap (λ (c : Card). c.lags) e, still);
     })
-    (λ left told choice met shows says may e.
-    lags_at_work kind choice left old new may e ((lag kind choice told _ met shows).0 says)))
+    (λ left found told choice cleared met shows says may e.
+    lags_at_work kind choice left found old new cleared may e ((lag kind choice told _ met shows).0 says)))
 
 pub told_soon : {E : Type 0} (kind : Kind) (old new : Card) (heard : Result ℕ Unheard) (r : Result Closing E) → IsCard old
     → CleanLaw → LagLaw → UncleanLaw → (told : ℕ) → heard ≡ Ok told → TellsStatus old told new → WillBeClean kind old
@@ -460,7 +484,7 @@ told_soon {E} kind old new heard r k clean lag unclean told is tells order all_c
 abbrev pub ConfirmsOnce : Kind → ℕ → Result Unit Cause → BusView → BusView → Type 0
 ConfirmsOnce kind rca r =
     Worked Narrows
-    (λ old new. IsOk r → (met : BusView) × Passes old met × IsInOrder kind met.card × (new.card ≡ shown met.card))
+    (λ old new. IsOk r → AfterSomeTime old (λ card. IsInOrder kind card × (new.card ≡ shown card)))
     (λ old new. WillBeClean kind old.card → old.card.app ≡ false → old.card.rca ≡ rca → old.card.lags ≡ false → IsOk r)
 
 pub asked_once : (kind : Kind) (rca : ℕ) (closing : Result Closing Cause) (r : Result Unit Cause) (a b : BusView)
@@ -468,7 +492,5 @@ pub asked_once : (kind : Kind) (rca : ℕ) (closing : Result Closing Cause) (r :
     → ConfirmsOnce kind rca r a b
 asked_once kind rca closing r a b only all p =
     worked_as a b p p.sectors
-    (λ ok.
-    let closes = subst (λ c. ClosesInTime kind c a b) (only ok) p.own in
-    (closes.0, closes.1, closes.2.0, closes.2.1))
+    (λ ok. subst (λ c. ClosesInTime kind c a b) (only ok) p.own)
     (λ same order app is up. all (comes_clean closing a.card b.card up (p.fine same order app is)))

@@ -1,7 +1,7 @@
 -- What a host learns, from the step that its exchange was.
 use Rattle.std.proofs.Common.{◌&&◌, ◌+◌, ◌<◌, ◌∙◌, ◌≡◌, ◌≤◌, Bool, List, ap, arith, bit_or, cond, false, inl, inr, not, refl}
 use Rattle.std.proofs.Common.{subst, sym, true, ℕ}
-use Rattle.std.specs.Prelude.{Ok, Result, Some}
+use Rattle.std.specs.Prelude.{◌⊎◌, Ok, Option, Result, Some}
 use Rattle.std.proofs.lemmas.Nat.{le_or_r}
 use Rattle.std.specs.Int.Bits.{or_zero_r}
 use Rattle.mmc_frame.specs.Frame.{command_in}
@@ -17,32 +17,33 @@ use Rattle.mmc_card.specs.declared.exchange.Want.{Want}
 use Rattle.mmc_card.specs.Wanted.{response_to}
 use Rattle.mmc_frame.specs.declared.kind.Kind.{Kind}
 use Rattle.mmc_bus.specs.declared.host.Unheard.{Unheard}
-use Rattle.mmc_card.proofs.Cards.{in_state}
+use Rattle.mmc_card.proofs.Cards.{among_wider, in_state}
 use Rattle.mmc_card.proofs.Conditions.{by_cond}
 use Rattle.mmc_card.proofs.Steps.{after_poll, after_time}
-use Rattle.mmc_card.proofs.FaultCount.{command_counts, poll_counts, read_counts}
+use Rattle.mmc_card.proofs.FaultCount.{command_counts, poll_counts, read_counts, write_counts}
 use Rattle.mmc_card.proofs.Narrow.{accepts_in_rcv, both}
 use Rattle.mmc_card.proofs.NarrowSteps.{poll_keeps, read_keeps}
 use Rattle.mmc_card.proofs.Passing.{GoesOn, accepted_before, accepts_at_rest, accepts_when_free, beside_card, block_adds, block_counts}
-use Rattle.mmc_card.proofs.Passing.{block_stands, card_in_time, goes_on_in_time, ignores_all, not_fewer_in_time, not_sent, run_in_rcv, step_counts}
-use Rattle.mmc_card.proofs.Passing.{step_stands, step_switches, step_widens, still, still_in}
+use Rattle.mmc_card.proofs.Passing.{block_stands, card_in_time, counts_in_time, goes_on_in_time, ignores_all, not_sent, run_in_rcv, step_counts}
+use Rattle.mmc_card.proofs.Passing.{step_stands, step_switches, step_widens, still, still_in, unmoved_by_time}
 use Rattle.mmc_bus.proofs.Readers.{Reads, with_errors}
 use Rattle.mmc_card.proofs.Standing.{poll_stands, read_stands}
-use Rattle.mmc_card.specs.CardAnswer.{CardAnswer, Choice, Silent, left_with, refused}
+use Rattle.mmc_card.specs.CardAnswer.{CardAnswer, Choice, Silent, refused, showing}
 use Rattle.mmc_card.proofs.Landing.{snoc_length}
 use Rattle.mmc_card.specs.Blocks.{accepted, can_send, can_accept, fallen_short, next_block, next_written, rested, sent}
 use Rattle.mmc_card.specs.Blocks.{ignoring, waited, will_send}
 use Rattle.mmc_card.specs.Card.{AreAmong, Card, IsCard, holds, is_in, is_selected, patience}
-use Rattle.mmc_card.specs.ErrorBits.{command_error_bits}
+use Rattle.mmc_card.specs.ErrorBits.{command_error_bits, error_bits, execution_error_bits}
 use Rattle.mmc_bus.specs.Exchanges.{Exchanged}
 use Rattle.mmc_card.specs.Faults.{CommandStep, FallNoMore, IsFaultless, MeetsBlock, MeetsCommand, NoFault, OneFault, Passes, Replies}
 use Rattle.mmc_card.specs.Faults.{WriteStep, at_once, has_failed, has_fallen_short, has_rested, has_run, outlive}
-use Rattle.mmc_card.specs.Faults.{PollStep, ReadStep, RepliesFlipped, brownout, fail, fail_early, faithful, fall_short}
-use Rattle.mmc_card.specs.Faults.{busy, fail_switch, flip_command, flip_reply, leave_over, lose_command, lose_reply}
-use Rattle.mmc_card.specs.Faults.{find_protection, lose_block, lose_status, reject, slow_inquiry, spoil, turn_out}
+use Rattle.mmc_card.specs.Faults.{PollStep, ReadStep, brownout, fail, fail_early, faithful, fall_short}
+use Rattle.mmc_card.specs.Faults.{IsRefused, busy, fail_switch, find_error, flip_command, lose_command, lose_reply}
+use Rattle.mmc_card.specs.Faults.{show_errors}
+use Rattle.mmc_card.specs.Faults.{lose_block, lose_status, reject, slow_inquiry, spoil, turn_out}
 use Rattle.mmc_bus.specs.Heard.{cause_of, cause_of_command}
-use Rattle.mmc_card.specs.Laws.{CountsAtMostOne, erased_by, is_frame_of_run, maybe_erased}
-use Rattle.mmc_bus.specs.Learned.{Asked, CommandMet, Faithful, Hears, IsAccepted, Obeyed, PollFacts, ReadFacts, WriteFacts, carried_out}
+use Rattle.mmc_card.specs.Laws.{CountsAtMost, IsStill, erased_by, is_frame_of_run, maybe_erased}
+use Rattle.mmc_bus.specs.Learned.{Asked, CommandFacts, CommandMet, Faithful, Hears, IsAccepted, Obeyed, PollFacts, ReadFacts, WriteFacts, carried_out}
 use Rattle.mmc_bus.specs.Learned.{IsThereAfter, may_fail, meant, polled_to}
 use Rattle.mmc_card.specs.declared.command.Command.{Command as Meaning}
 use Rattle.mmc_card.specs.declared.command.Command.TheVariants.{GoIdleState}
@@ -54,16 +55,11 @@ use Rattle.mmc_card.specs.declared.exchange.DataOut.TheVariants as Sent
 
 -- Faults.
 
-not_fewer : (old new : BusView) → CountsAtMostOne old new → old.faults ≤ new.faults
-not_fewer old new (inl same) = omega (arith, same)
-not_fewer old new (inr more) = omega (arith, more)
-
 -- no fault in the whole is none in its parts
-quiet_then : (old met new : BusView) → Passes old met → CountsAtMostOne met new → NoFault old new → NoFault met new
-quiet_then old met new passes counts same =
-    let before = (not_fewer_in_time old met passes).0 in
-    let after = not_fewer met new counts in
-    omega (arith, before, after, same)
+quiet_then : (old met new : BusView) → Passes old met → CountsAtMost 1 met new → NoFault old new → NoFault met new
+quiet_then old met new passes after same =
+    let before = counts_in_time old met passes in
+    omega (arith, before.0, after.0, same)
 
 -- where a fault fell, none didn't
 fell : {X : Type 0} (old new : BusView) → OneFault old new → NoFault old new → X
@@ -71,57 +67,65 @@ fell old new more same = absurd (omega (arith, more, same))
 
 -- Commands.
 
--- what is left over changes nothing of where a command is carried out
-legal_left : (left : ℕ) (command : Meaning) (card : Card)
-    → is_legal command (left_with left card) ≡ is_legal command card
-legal_left left GoIdleState card = refl
-legal_left left _ card = refl
+-- what is to be shown changes nothing of where a command is carried out
+legal_showing : (left found : ℕ) (command : Meaning) (card : Card)
+    → is_legal command (showing left found card) ≡ is_legal command card
+legal_showing left found GoIdleState card = refl
+legal_showing left found _ card = refl
 
 -- silence is silence
 silence : {X : Type 0} (answers : CardAnswer → X) (card : Card) (heard : X) → Hears answers card Silent heard
     → heard ≡ answers Silent
 silence answers card heard h = h.2 ∙ ap answers h.1
 
--- the card that carries the command out, with what is left over
-obeyed_by : {X : Type 0} (answers : CardAnswer → Result X Unheard) (choice : Choice) (left : ℕ) (old : Card)
+-- the card that carries the command out, with what it shows besides
+obeyed_by : {X : Type 0} (answers : CardAnswer → Result X Unheard) (choice : Choice) (left found : ℕ) (old : Card)
     (index argument : ℕ) (heard : Result X Unheard) (new : Card)
     (foreign legal : Bool) → foreign ≡ is_foreign (meant old index) old argument
-    → legal ≡ is_legal (meant old index) (left_with left old)
-    → AreAmong left command_error_bits → ((x : X) → answers Silent ≡ Ok x → ⊥)
-    → new ≡ (cond foreign (left_with left old, Silent) (cond legal (carried_out choice (left_with left old) index argument)
-    (refused (reached choice (meant old index) (left_with left old)), Silent))).0
-    → Hears answers old (cond foreign (left_with left old, Silent)
-    (cond legal (carried_out choice (left_with left old) index argument)
-    (refused (reached choice (meant old index) (left_with left old)), Silent))).1 heard
+    → legal ≡ is_legal (meant old index) (showing left found old)
+    → AreAmong left command_error_bits → AreAmong found error_bits → (found ≡ 0) ⊎ (new.errors ≡ 0)
+    → ((x : X) → answers Silent ≡ Ok x → ⊥)
+    → new ≡ (cond foreign (showing left found old, Silent) (cond legal (carried_out choice (showing left found old) index argument)
+    (refused (reached choice (meant old index) (showing left found old)), Silent))).0
+    → Hears answers old (cond foreign (showing left found old, Silent)
+    (cond legal (carried_out choice (showing left found old) index argument)
+    (refused (reached choice (meant old index) (showing left found old)), Silent))).1 heard
     → (x : X) → heard ≡ Ok x → Obeyed answers old index argument heard new
-obeyed_by answers choice left old index argument heard new true legal f l among mute card answer x h =
+obeyed_by answers choice left found old index argument heard new true legal f l among errors cleared mute card answer x h =
     absurd (mute x (sym (silence answers old heard answer) ∙ h))
-obeyed_by answers choice left old index argument heard new false true f l among mute card answer x h =
+obeyed_by answers choice left found old index argument heard new false true f l among errors cleared mute card answer x h =
     record {
       choice = choice;
       left = left;
+      found = found;
       among = among;
+      errors = errors;
+      cleared = cleared;
+      speaks = λ silent. mute x (sym (silence answers old heard (subst (λ (a : CardAnswer). Hears answers old a heard) silent answer)) ∙ h);
       own = sym f;
-      legal = sym (l ∙ legal_left left (meant old index) old);
+      legal = sym (l ∙ legal_showing left found (meant old index) old);
       card = card;
       answer = answer;
     }
-obeyed_by answers choice left old index argument heard new false false f l among mute card answer x h =
+obeyed_by answers choice left found old index argument heard new false false f l among errors cleared mute card answer x h =
     absurd (mute x (sym (silence answers old heard answer) ∙ h))
 
-obeyed_left : {X : Type 0} (answers : CardAnswer → Result X Unheard) (choice : Choice) (left : ℕ) (old : Card)
-    (index argument : ℕ) (heard : Result X Unheard) (new : Card) → AreAmong left command_error_bits
-    → ((x : X) → answers Silent ≡ Ok x → ⊥) → new ≡ (respond choice (left_with left old) index argument).0
-    → Hears answers old (respond choice (left_with left old) index argument).1 heard
+obeyed_showing : {X : Type 0} (answers : CardAnswer → Result X Unheard) (choice : Choice) (left found : ℕ) (old : Card)
+    (index argument : ℕ) (heard : Result X Unheard) (new : Card) → AreAmong left command_error_bits → AreAmong found error_bits
+    → (found ≡ 0) ⊎ (new.errors ≡ 0)
+    → ((x : X) → answers Silent ≡ Ok x → ⊥) → new ≡ (respond choice (showing left found old) index argument).0
+    → Hears answers old (respond choice (showing left found old) index argument).1 heard
     → (x : X) → heard ≡ Ok x → Obeyed answers old index argument heard new
-obeyed_left answers choice left old index argument heard new among mute card answer x h =
-    obeyed_by answers choice left old index argument heard new (is_foreign (meant old index) old argument)
-    (is_legal (meant old index) (left_with left old))
-    refl refl among mute card answer x h
+obeyed_showing answers choice left found old index argument heard new among errors cleared mute card answer x h =
+    obeyed_by answers choice left found old index argument heard new (is_foreign (meant old index) old argument)
+    (is_legal (meant old index) (showing left found old))
+    refl refl among errors cleared mute card answer x h
 
--- where nothing is left over
-left_none : (card : Card) → left_with 0 card ≡ card
-left_none card = ap (λ (n : ℕ). record card { command_errors = n }) (or_zero_r card.command_errors)
+-- where nothing more is to be shown
+showing_none : (card : Card) → showing 0 0 card ≡ card
+showing_none card =
+    ap (λ (n : ℕ). record card { command_errors = n; errors = bit_or card.errors 0 }) (or_zero_r card.command_errors)
+    ∙ ap (λ (n : ℕ). record card { errors = n }) (or_zero_r card.errors)
 
 obeyed : {X : Type 0} (answers : CardAnswer → Result X Unheard) (choice : Choice) (old : Card) (index argument : ℕ)
     (heard : Result X Unheard) (new : Card)
@@ -129,8 +133,8 @@ obeyed : {X : Type 0} (answers : CardAnswer → Result X Unheard) (choice : Choi
     → Hears answers old (respond choice old index argument).1 heard
     → (x : X) → heard ≡ Ok x → Obeyed answers old index argument heard new
 obeyed answers choice old index argument heard new mute card answer x h =
-    let none = sym (left_none old) in
-    obeyed_left answers choice 0 old index argument heard new refl mute
+    let none = sym (showing_none old) in
+    obeyed_showing answers choice 0 0 old index argument heard new refl refl (inl refl) mute
     (card ∙ ap (λ (c : Card). (respond choice c index argument).0) none)
     (subst (λ (c : Card). Hears answers old (respond choice c index argument).1 heard) none answer) x h
 
@@ -174,7 +178,7 @@ card_at choice old new frame index argument command card = card ∙ ap (λ s. (a
 
 heard_at : {X : Type 0} (Fits : CardAnswer → Type 0) (hears : Reply → Result X Unheard)
     (answers : CardAnswer → Result X Unheard)
-    (choice : Choice) (owner old : Card) (frame : List ℕ) (index argument : ℕ) (reply : Reply) → Reads Fits hears answers
+    (choice : Choice) (owner old : Card) (frame : List ℕ) (index argument : ℕ) (reply : Reply) → Reads (index, argument) Fits hears answers
     → Fits (respond choice old index argument).1 → command_in frame ≡ Some (index, argument)
     → Replies owner (answered choice old (command_in frame)).1 reply
     → Hears answers owner (respond choice old index argument).1 (hears reply)
@@ -182,17 +186,27 @@ heard_at Fits hears answers choice owner old frame index argument reply reads fi
     let r = subst (λ s. Replies owner (answered choice old s).1 reply) command replies in
     (r.0, r.1, reads.whole r.0 reply (reads.said owner.made.kind _ r.0 r.1 fits) r.2)
 
+-- of an answer that is refused nothing is heard
+unheard_at : {X : Type 0} (Fits : CardAnswer → Type 0) (hears : Reply → Result X Unheard)
+    (answers : CardAnswer → Result X Unheard) (choice : Choice) (old : Card) (frame : List ℕ) (index argument : ℕ) (reply : Reply)
+    → Reads (index, argument) Fits hears answers → Fits (respond choice old index argument).1
+    → command_in frame ≡ Some (index, argument)
+    → IsRefused (command_in frame) (answered choice old (command_in frame)).1 reply → (x : X) → hears reply ≡ Ok x → ⊥
+unheard_at Fits hears answers choice old frame index argument reply reads fits command refused =
+    reads.refused (respond choice old index argument).1 reply fits
+    (subst (λ (s : Option (ℕ × ℕ)). IsRefused s (answered choice old s).1 reply) command refused)
+
 command_sound : {X : Type 0} (Fits : CardAnswer → Type 0) (hears : Reply → Result X Unheard)
     (answers : CardAnswer → Result X Unheard)
     (old : BusView) (frame : List ℕ) (index argument : ℕ) (reply : Reply) (new : BusView)
-    → Reads Fits hears answers → ((errors : ℕ) (choice : Choice) → Fits (respond choice (with_errors errors old.card) index argument).1)
+    → Reads (index, argument) Fits hears answers → ((left errors : ℕ) (choice : Choice) → Fits (respond choice (with_errors left errors old.card) index argument).1)
     → command_in frame ≡ Some (index, argument) → MeetsCommand old frame reply new
     → (x : X) → hears reply ≡ Ok x → Obeyed answers old.card index argument (hears reply) new.card
 command_sound Fits hears answers old frame index argument reply new reads fits command
     (faithful choice patient count card spells) x h =
     obeyed answers choice old.card index argument (hears reply) new.card reads.mute
     (card_at choice old.card new.card frame index argument command card)
-    (heard_at Fits hears answers choice old.card old.card frame index argument reply reads (fits _ choice) command spells) x h
+    (heard_at Fits hears answers choice old.card old.card frame index argument reply reads (fits _ _ choice) command spells) x h
 command_sound Fits hears answers old frame index argument reply new reads fits command
     (lose_command count card silent) x h =
     absurd (reads.silent x (ap hears (sym silent) ∙ h))
@@ -200,88 +214,89 @@ command_sound Fits hears answers old frame index argument reply new reads fits c
     (flip_command keeps_count count card silent) x h =
     absurd (reads.silent x (ap hears (sym silent) ∙ h))
 command_sound Fits hears answers old frame index argument reply new reads fits command
-    (lose_reply choice patient count card answers_it silent) x h =
-    absurd (reads.silent x (ap hears (sym silent) ∙ h))
-command_sound Fits hears answers old frame index argument reply new reads fits command
-    (flip_reply choice patient count card flipped) x h =
-    let r = subst (λ s. RepliesFlipped old.card (answered choice old.card s).1 reply) command flipped in
-    absurd (reads.flipped r.0 reply (reads.said old.card.made.kind _ r.0 r.1 (fits _ choice)) r.2 x h)
+    (lose_reply choice patient count card answers_it refused) x h =
+    absurd (unheard_at Fits hears answers choice old.card frame index argument reply reads (fits _ _ choice) command refused x h)
 command_sound Fits hears answers old frame index argument reply new reads fits command
     (slow_inquiry choice slow late inquiry count card spells) x h =
     obeyed answers choice old.card index argument (hears reply) new.card reads.mute
     (card_at choice old.card new.card frame index argument command card)
-    (heard_at Fits hears answers choice old.card old.card frame index argument reply reads (fits _ choice) command spells) x h
+    (heard_at Fits hears answers choice old.card old.card frame index argument reply reads (fits _ _ choice) command spells) x h
 command_sound Fits hears answers old frame index argument reply new reads fits command
     (fail_switch choice fails switch count card spells) x h =
     obeyed answers choice old.card index argument (hears reply) new.card reads.mute
     (card_at choice old.card new.card frame index argument command card)
-    (heard_at Fits hears answers choice old.card old.card frame index argument reply reads (fits _ choice) command spells) x h
+    (heard_at Fits hears answers choice old.card old.card frame index argument reply reads (fits _ _ choice) command spells) x h
 command_sound Fits hears answers old frame index argument reply new reads fits command
-    (find_protection choice finds patient writes count card spells) x h =
+    (find_error choice finds patient transfers count card spells) x h =
     obeyed answers choice old.card index argument (hears reply) new.card reads.mute
     (card_at choice old.card new.card frame index argument command card)
-    (heard_at Fits hears answers choice old.card old.card frame index argument reply reads (fits _ choice) command spells) x h
+    (heard_at Fits hears answers choice old.card old.card frame index argument reply reads (fits _ _ choice) command spells) x h
 command_sound Fits hears answers old frame index argument reply new reads fits command
     (outlive choice bits resets among patient is_reset count card silent) x h =
     absurd (reads.silent x (ap hears (sym silent) ∙ h))
 command_sound Fits hears answers old frame index argument reply new reads fits command
-    (leave_over choice bits of patient count card spells) x h =
-    obeyed_left answers choice bits old.card index argument (hears reply) new.card of.0 reads.mute
-    (card_at choice (left_with bits old.card) new.card frame index argument command card)
-    (heard_at Fits hears answers choice old.card (left_with bits old.card) frame index argument reply reads (fits _ choice)
+    (show_errors choice left found among errors some cleared patient count card spells) x h =
+    obeyed_showing answers choice left found old.card index argument (hears reply) new.card among
+    (among_wider found execution_error_bits error_bits errors refl)
+    cleared reads.mute
+    (card_at choice (showing left found old.card) new.card frame index argument command card)
+    (heard_at Fits hears answers choice old.card (showing left found old.card) frame index argument reply reads (fits _ _ choice)
     command spells) x h
 command_sound Fits hears answers old frame index argument reply new reads fits command
-    (brownout choice lands keeps_length after patient count card silent) x h =
-    absurd (reads.silent x (ap hears (sym silent) ∙ h))
+    (brownout choice lands keeps_length after patient count card refused) x h =
+    absurd (unheard_at Fits hears answers choice old.card frame index argument reply reads (fits _ _ choice) command refused x h)
 
 command_fine : {X : Type 0} (Fits : CardAnswer → Type 0) (hears : Reply → Result X Unheard)
     (answers : CardAnswer → Result X Unheard)
     (old : BusView) (frame : List ℕ) (index argument : ℕ) (reply : Reply) (new : BusView)
-    → Reads Fits hears answers → ((errors : ℕ) (choice : Choice) → Fits (respond choice (with_errors errors old.card) index argument).1)
+    → Reads (index, argument) Fits hears answers → ((left errors : ℕ) (choice : Choice) → Fits (respond choice (with_errors left errors old.card) index argument).1)
     → command_in frame ≡ Some (index, argument) → MeetsCommand old frame reply new
     → NoFault old new → Faithful answers old.card index argument (hears reply) new.card
 command_fine Fits hears answers old frame index argument reply new reads fits command
     (faithful choice patient count card spells) same =
     faithfully answers choice old.card index argument (hears reply) new.card patient
     (card_at choice old.card new.card frame index argument command card)
-    (heard_at Fits hears answers choice old.card old.card frame index argument reply reads (fits _ choice) command spells)
+    (heard_at Fits hears answers choice old.card old.card frame index argument reply reads (fits _ _ choice) command spells)
 command_fine Fits hears answers old frame index argument reply new reads fits command
     (lose_command count card silent) same = fell old new count same
 command_fine Fits hears answers old frame index argument reply new reads fits command
     (flip_command keeps_count count card silent) same = fell old new count same
 command_fine Fits hears answers old frame index argument reply new reads fits command
-    (lose_reply choice patient count card answers_it silent) same = fell old new count same
-command_fine Fits hears answers old frame index argument reply new reads fits command
-    (flip_reply choice patient count card flipped) same = fell old new count same
+    (lose_reply choice patient count card answers_it refused) same = fell old new count same
 command_fine Fits hears answers old frame index argument reply new reads fits command
     (slow_inquiry choice slow late inquiry count card spells) same = fell old new count same
 command_fine Fits hears answers old frame index argument reply new reads fits command
     (fail_switch choice fails switch count card spells) same = fell old new count same
 command_fine Fits hears answers old frame index argument reply new reads fits command
-    (find_protection choice finds patient writes count card spells) same = fell old new count same
+    (find_error choice finds patient transfers count card spells) same = fell old new count same
 command_fine Fits hears answers old frame index argument reply new reads fits command
     (outlive choice bits resets among patient is_reset count card silent) same = fell old new count same
 command_fine Fits hears answers old frame index argument reply new reads fits command
-    (leave_over choice bits of patient count card spells) same = fell old new count same
+    (show_errors choice left found among errors some cleared patient count card spells) same = fell old new count same
 command_fine Fits hears answers old frame index argument reply new reads fits command
-    (brownout choice lands keeps_length after patient count card silent) same = fell old new count same
+    (brownout choice lands keeps_length after patient count card refused) same = fell old new count same
 
 -- what holds of the card that the command met, holds for each of them
 abbrev pub FitsEach : {X : Type 0} → (BusView → CardAnswer → Type 0) → ℕ → ℕ → X → Type 0
 FitsEach Fits index argument heard =
-    (met : BusView) → IsCard met.card → (errors : ℕ) (choice : Choice)
-    → Fits met (respond choice (with_errors errors met.card) index argument).1
+    (met : BusView) → IsCard met.card → (left errors : ℕ) (choice : Choice)
+    → Fits met (respond choice (with_errors left errors met.card) index argument).1
 
 pub command_facts : {X : Type 0} (Fits : BusView → CardAnswer → Type 0) (hears : Reply → Result X Unheard)
     (answers : CardAnswer → Result X Unheard)
     (old : BusView) (frame : List ℕ) (index argument : ℕ) (reply : Reply) (new : BusView)
-    → ((met : BusView) → Reads (Fits met) hears answers) → FitsEach Fits index argument reply
+    → ((met : BusView) → Reads (index, argument) (Fits met) hears answers) → FitsEach Fits index argument reply
     → command_in frame ≡ Some (index, argument) → IsCard old.card → new.limits ≡ old.limits → FallNoMore old new
     → CommandStep old frame reply new → CommandMet answers old index argument (hears reply) new
 command_facts Fits hears answers old frame index argument reply new reads fits command k limits bounded step =
     let widens = step_widens old frame reply new step in
     let met = step.met in
     let is = card_in_time old met step.passes k in
+    let facts : CommandFacts answers met index argument (hears reply) new =
+    record {
+      sound = command_sound (Fits met) hears answers met frame index argument reply new (reads met) (fits met is) command step.meets;
+      fine = command_fine (Fits met) hears answers met frame index argument reply new (reads met) (fits met is) command step.meets;
+    } in
     record {
       stays = record {
         carried = widens.carried;
@@ -296,10 +311,11 @@ command_facts Fits hears answers old frame index argument reply new reads fits c
       met = met;
       passes = step.passes;
       quiet = λ same. quiet_then old met new step.passes (command_counts met frame reply new step.meets) same;
-      facts = record {
-        sound = command_sound (Fits met) hears answers met frame index argument reply new (reads met) (fits met is) command step.meets;
-        fine = command_fine (Fits met) hears answers met frame index argument reply new (reads met) (fits met is) command step.meets;
-      };
+      is_card = is;
+      made = (unmoved_by_time old met step.passes).made;
+      facts = facts;
+      at_once = λ rests.
+          subst (λ (v : BusView). CommandFacts answers v index argument (hears reply) new) (still old met rests step.passes) facts;
     }
 
 -- Polls.
@@ -410,7 +426,7 @@ poll_facts old said new limits bounded step =
     record {
       stays = record {
         carried = keeps.carried;
-        later = not_fewer old new (poll_counts old said new step);
+        later = (poll_counts old said new step).0;
         bounded = bounded;
         limits = limits;
       };
@@ -443,6 +459,7 @@ record WriteWays (old : BusView) (block : Sector) (got : DataOut) (new : BusView
   accepts : got ≡ Sent.Accepted → HasAccepted block old new
   fine : NoFault old new → can_accept old.lines old.card ≡ true
       → (got ≡ Sent.Accepted) × (new.card ≡ accepted block old.card)
+  refuses : NoFault old new → can_accept old.lines old.card ≡ false → (got ≡ Sent.Nothing) × (new.card ≡ old.card)
 
 -- the block after an accepted one is for the next sector
 one_further : (card : Card) (block : Sector) → next_written (accepted block card) ≡ next_written card + 1
@@ -462,6 +479,7 @@ unaccepted old block got new count none =
     record {
       accepts = λ h. absurd (none h);
       fine = λ same t. fell old new count same;
+      refuses = λ same t. fell old new count same;
     }
 
 not_nothing : (got : DataOut) → got ≡ Sent.Nothing → got ≡ Sent.Accepted → ⊥
@@ -481,6 +499,7 @@ write_ways old block got new (faithful count card answer) =
         shown = λ none. w.1;
       };
       fine = λ same t. ways.1 t;
+      refuses = λ same f. ways.2 f;
     }
 write_ways old block got new (fall_short lands bits ignores of can count card answer) =
     record {
@@ -493,12 +512,13 @@ write_ways old block got new (fall_short lands bits ignores of can count card an
             ∙ ap (λ n. bit_or n bits) (ignoring_errors ignores (accepted block (fallen_short lands old.card)))) ∙ none));
       };
       fine = λ same t. fell old new count same;
+      refuses = λ same f. fell old new count same;
     }
 write_ways old block got new (lose_block can count card answer) = unaccepted old block got new count
     (not_nothing got answer)
-write_ways old block got new (reject ignores is_busy can count card answer) = unaccepted old block got new count
+write_ways old block got new (reject bits ignores is_busy among can count card answer) = unaccepted old block got new count
     (not_rejected got answer)
-write_ways old block got new (lose_status is_accepted ignores is_busy can count card answer) = unaccepted old block got new count
+write_ways old block got new (lose_status bits is_accepted ignores is_busy among can count card answer) = unaccepted old block got new count
     (not_nothing got answer)
 write_ways old block got new (turn_out lands several can count card answer) = unaccepted old block got new count
     (not_nothing got answer)
@@ -544,6 +564,10 @@ accepts_at_once old met can passes =
     let rcv = in_state old.card.state Rcv (accepts_in_rcv old.lines old.card can) in
     still old met (still_in old.card Rcv rcv refl refl (accepts_when_free old.lines old.card can)) passes
 
+else_false : (b : Bool) → (b ≡ true → ⊥) → b ≡ false
+else_false true never = absurd (never refl)
+else_false false never = refl
+
 pub write_facts : (old : BusView) (block : Sector) (got : DataOut) (new : BusView) → new.limits ≡ old.limits
     → FallNoMore old new
     → WriteStep old block got new → WriteFacts old block got new
@@ -578,6 +602,12 @@ write_facts old block got new limits bounded step =
           let fine = ways.fine (same ∙ ap (λ (v : BusView). v.faults) (sym e)) in
           subst (λ (v : BusView). can_accept v.lines v.card ≡ true → (got ≡ Sent.Accepted) × (new.card ≡ accepted block v.card)) e
           (λ could. fine could) can;
+      refuses = λ same cannot.
+          let counts = write_counts met block got new step.meets in
+          let nothing = ways.refuses (quiet_then old met new step.passes counts same)
+          (subst (λ l. can_accept l met.card ≡ false) (sym lines)
+          (else_false (can_accept old.lines met.card) (λ can. cc (accepts_in_time old met step.passes old.lines can, cannot)))) in
+          (nothing.0, (met, step.passes, nothing.1));
     }
 
 by_ask : (b : Bool) (x y new : Card) (got : DataIn) → new ≡ cond b x y → got ≡ cond b Received.Good Received.Nothing
@@ -642,7 +672,7 @@ read_facts old size got block new limits bounded step =
     record {
       stays = record {
         carried = keeps.carried;
-        later = not_fewer old new (read_counts old size got block new step);
+        later = (read_counts old size got block new step).0;
         bounded = bounded;
         limits = limits;
       };
@@ -676,7 +706,7 @@ with_facts old exchange new e facts = record {
 pub asked : {X : Type 0} (Fits : BusView → CardAnswer → Type 0) (hears : Reply → Result X Unheard)
     (answers : CardAnswer → Result X Unheard)
     (old : BusView) (frame : List ℕ) (index argument : ℕ) (want : Want) (reply : Reply) (heard : Result X Unheard)
-    (new : BusView) → ((met : BusView) → Reads (Fits met) hears answers) → FitsEach Fits index argument reply
+    (new : BusView) → ((met : BusView) → Reads (index, argument) (Fits met) hears answers) → FitsEach Fits index argument reply
     → command_in frame ≡ Some (index, argument)
     → ((kind : Kind) (app : Bool) → want ≡ response_to (command_of kind app index)) → heard ≡ hears reply
     → Exchanged old (Command frame want reply) (CommandStep old frame reply new) new

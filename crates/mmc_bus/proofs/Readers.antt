@@ -1,4 +1,4 @@
--- What a reader makes of an answer that comes whole, and that it takes no flipped one.
+-- What a reader makes of an answer that comes whole.
 use Rattle.std.proofs.Common.{◌&&◌, ◌<◌, ◌∙◌, ◌≡◌, Bool, List, ap, cond, false, length, refl, subst, sym, true, ℕ}
 use Rattle.std.specs.Prelude.{◌==◌, ◌||◌, Err, None, Ok, Option, Result, Some, if◌then◌else◌, is_ok, not}
 use Rattle.std.proofs.lemmas.Bool.{agree_below_at, eqb-true}
@@ -19,7 +19,7 @@ use Rattle.mmc_card.proofs.Conditions.{by_cond, neither}
 use Rattle.mmc_card.specs.CardAnswer.{CardAnswer, Checked, Choice, Silent, R3, R2, raised, refused, shown, status}
 use Rattle.mmc_card.specs.ErrorBits.{block_len_error, erase_param}
 use Rattle.mmc_card.specs.Card.{Both, Card, First, Held, NoAddress, is_in}
-use Rattle.mmc_card.specs.Faults.{IsFlipped, Spells}
+use Rattle.mmc_card.specs.Faults.{IsRefused, Spells}
 use Rattle.mmc_bus.specs.Heard.{index_of_inquiry, is_inquiry_index, nothing_heard, nothing_of, ocr_heard, ocr_of}
 use Rattle.mmc_bus.specs.Heard.{or_unsound, register_heard, register_of, response_heard, response_of}
 use Rattle.mmc_card.specs.Made.{HasRegisters}
@@ -35,7 +35,7 @@ use Rattle.mmc_card.specs.RowsErase.{erase_held, erases, erasing, forgotten, hol
 use Rattle.mmc_card.specs.RowsErase.{is_trim}
 use Rattle.mmc_card.specs.RowsIdentify.{at_work, inquired, is_served, lagging, may_lag}
 use Rattle.mmc_card.specs.RowsSwitch.{switch_row, switched}
-use Rattle.mmc_card.specs.RowsTransfer.{stopped, transfer_errors, transferred, write_errors}
+use Rattle.mmc_card.specs.RowsTransfer.{stopped, errors_found, transferred}
 use Rattle.mmc_frame.specs.declared.card_state.State.TheVariants.{Tran}
 
 -- The kinds of answer.
@@ -115,13 +115,13 @@ row_answer choice SetBlocklen c index argument r =
     answer_cond SetBlocklen (argument == 512) (record (shown c) { block_length = 512 }, Checked 16 (status false c))
     (shown c, Checked 16 (status false (raised block_len_error c))) refl refl
 row_answer choice ReadSingleBlock c index argument r = transferred_answer ReadSingleBlock 17
-    (transfer_errors false c argument) c _ refl
+    (errors_found false choice c argument) c _ refl
 row_answer choice ReadMultipleBlock c index argument r = transferred_answer ReadMultipleBlock 18
-    (transfer_errors false c argument) c _ refl
+    (errors_found false choice c argument) c _ refl
 row_answer choice WriteBlock c index argument r = transferred_answer WriteBlock 24
-    (write_errors choice c argument) c _ refl
+    (errors_found true choice c argument) c _ refl
 row_answer choice WriteMultipleBlock c index argument r = transferred_answer WriteMultipleBlock 25
-    (write_errors choice c argument) c _ refl
+    (errors_found true choice c argument) c _ refl
 row_answer choice StopTransmission c index argument r =
     answer_cond StopTransmission (is_in c.state Tran && not choice.answers_stop) (refused c, Silent)
     (stopped choice.stays_busy c, Checked 12 (status false c)) tt refl
@@ -133,9 +133,9 @@ row_answer choice Switch c index argument r =
 row_answer choice Unknown c index argument r = tt
 row_answer choice _ c index argument r = refl
 
--- the card with these of bits 23 and 22 to be shown
-abbrev pub with_errors : ℕ → Card → Card
-with_errors errors card = record card { command_errors = errors }
+-- the card with these of bits 23 and 22 to be shown, and these errors of its own
+abbrev pub with_errors : ℕ → ℕ → Card → Card
+with_errors left errors card = record card { command_errors = left; errors = errors }
 
 registers_reached : (choice : Choice) (command : Command) (c : Card) → HasRegisters c.made
     → HasRegisters (reached choice command c).made
@@ -201,12 +201,12 @@ inquiry_answer Mmc Mmc app choice c argument =
 
 -- Readers.
 
-pub record Reads {X : Type 0} (Fits : CardAnswer → Type 0) (hears : Reply → Result X Unheard)
+pub record Reads {X : Type 0} (sent : ℕ × ℕ) (Fits : CardAnswer → Type 0) (hears : Reply → Result X Unheard)
     (answers : CardAnswer → Result X Unheard) : Type 0 where
   pub whole : (answer : CardAnswer) (reply : Reply) → Fits answer → Spells answer reply → hears reply ≡ answers answer
   pub silent : (x : X) → hears Came.Silent ≡ Ok x → ⊥
   pub mute : (x : X) → answers Silent ≡ Ok x → ⊥
-  pub flipped : (answer : CardAnswer) (reply : Reply) → Fits answer → IsFlipped answer reply → (x : X)
+  pub refused : (answer : CardAnswer) (reply : Reply) → Fits answer → IsRefused (Some sent) answer reply → (x : X)
       → hears reply ≡ Ok x → ⊥
   -- what isn't judged of an answer changes nothing of what fits
   pub said : (kind : Kind) (answer said : CardAnswer) → IsSaid kind answer said → Fits answer → Fits said
@@ -263,25 +263,24 @@ response_whole index command asks (Checked other argument) reply fits spells =
 response_whole index command asks (R3 ocr) reply fits spells = cc
 response_whole index command asks (R2 bytes) reply fits spells = ap (response_heard index) spells
 
-response_flipped : ((index other : ℕ) → RefusesFlips 6 (is_response_to index) (is_response_to other))
-    → (index : ℕ) (command : Command) → asks_for_ocr command ≡ false
-    → (answer : CardAnswer) (reply : Reply) → IsAnswerTo command answer → IsFlipped answer reply → (x : ℕ)
-    → response_heard index reply ≡ Ok x → ⊥
-response_flipped law index command asks Silent reply fits f x h = f
-response_flipped law index command asks (Checked other argument) reply fits f x h =
-    received_ok (response_in f.1 index) x (ap (response_heard index) (sym f.4) ∙ h)
-    (law other index f.0 f.1 f.3.0 f.3.1 f.3.3 (fits_ok (response_in f.0 other) argument f.2))
-response_flipped law index command asks (R3 ocr) reply fits f x h = cc
-response_flipped law index command asks (R2 bytes) reply fits f x h = cc (ap (response_heard index) (sym f.2) ∙ h)
+response_refused : (index argument : ℕ) (command : Command) → asks_for_ocr command ≡ false → (answer : CardAnswer) (reply : Reply)
+    → IsAnswerTo command answer → IsRefused (Some (index, argument)) answer reply → (x : ℕ) → response_heard index reply ≡ Ok x → ⊥
+response_refused index argument command asks answer Came.Silent fits refused x h = cc
+response_refused index argument command asks answer (Came.Long frame) fits refused x h = cc
+response_refused index argument command asks Silent (Came.Short frame) fits refused x h = refused
+response_refused index argument command asks (Checked other told) (Came.Short frame) fits refused x h =
+    received_ok (response_in frame index) x h refused
+response_refused index argument command asks (R3 ocr) (Came.Short frame) fits refused x h = cc
+response_refused index argument command asks (R2 bytes) (Came.Short frame) fits refused x h =
+    received_ok (response_in frame index) x h refused
 
-pub response_reads : ((index other : ℕ) → RefusesFlips 6 (is_response_to index) (is_response_to other))
-    → (index : ℕ) (command : Command) → asks_for_ocr command ≡ false
-    → Reads (IsAnswerTo command) (response_heard index) (response_of index)
-response_reads law index command asks = record {
+pub response_reads : (index argument : ℕ) (command : Command) → asks_for_ocr command ≡ false
+    → Reads (index, argument) (IsAnswerTo command) (response_heard index) (response_of index)
+response_reads index argument command asks = record {
   whole = response_whole index command asks;
   silent = λ x h. cc;
   mute = λ x h. cc;
-  flipped = response_flipped law index command asks;
+  refused = response_refused index argument command asks;
   said = answer_said command;
 }
 
@@ -292,20 +291,21 @@ ocr_whole (Checked index argument) reply fits spells = absurd fits
 ocr_whole (R3 ocr) reply fits spells = ap ocr_heard spells
 ocr_whole (R2 bytes) reply fits spells = absurd fits
 
-ocr_flipped : RefusesFlipsBesideOcr → (answer : CardAnswer) (reply : Reply) → IsOcrOrNone answer
-    → IsFlipped answer reply → (x : ℕ) → ocr_heard reply ≡ Ok x → ⊥
-ocr_flipped law Silent reply fits f x h = f
-ocr_flipped law (Checked index argument) reply fits f x h = fits
-ocr_flipped law (R3 ocr) reply fits f x h =
-    received_ok (ocr_in f.0) x (ap ocr_heard (sym f.3) ∙ h) (law ocr f.0 f.1.1 f.1.2 f.1.3 f.2)
-ocr_flipped law (R2 bytes) reply fits f x h = fits
+ocr_refused : (sent : ℕ × ℕ) (answer : CardAnswer) (reply : Reply) → IsOcrOrNone answer → IsRefused (Some sent) answer reply
+    → (x : ℕ) → ocr_heard reply ≡ Ok x → ⊥
+ocr_refused sent answer Came.Silent fits refused x h = cc
+ocr_refused sent answer (Came.Long frame) fits refused x h = cc
+ocr_refused sent Silent (Came.Short frame) fits refused x h = refused
+ocr_refused sent (Checked index argument) (Came.Short frame) fits refused x h = fits
+ocr_refused sent (R3 ocr) (Came.Short frame) fits refused x h = received_ok (ocr_in frame) x h refused
+ocr_refused sent (R2 bytes) (Came.Short frame) fits refused x h = fits
 
-pub ocr_reads : RefusesFlipsBesideOcr → Reads IsOcrOrNone ocr_heard ocr_of
-ocr_reads law = record {
+pub ocr_reads : (sent : ℕ × ℕ) → Reads sent IsOcrOrNone ocr_heard ocr_of
+ocr_reads sent = record {
   whole = ocr_whole;
   silent = λ x h. cc;
   mute = λ x h. cc;
-  flipped = ocr_flipped law;
+  refused = ocr_refused sent;
   said = ocr_said;
 }
 
@@ -316,31 +316,30 @@ register_whole command (Checked index argument) reply fits spells = ap register_
 register_whole command (R3 ocr) reply fits spells = ap register_heard spells
 register_whole command (R2 bytes) reply fits spells = ap register_heard spells
 
-register_flipped : RefusesFlips 17 is_r2 is_r2 → RegistersComeBack → (command : Command) (answer : CardAnswer)
-    (reply : Reply) → IsAnswerTo command answer → IsFlipped answer reply
-    → (x : List ℕ) → register_heard reply ≡ Ok x → ⊥
-register_flipped law back command Silent reply fits f x h = f
-register_flipped law back command (Checked index argument) reply fits f x h = cc (ap register_heard (sym f.4) ∙ h)
-register_flipped law back command (R3 ocr) reply fits f x h = cc (ap register_heard (sym f.3) ∙ h)
-register_flipped law back command (R2 bytes) reply fits f x h =
-    received_ok (register_in f.0) x (ap register_heard (sym f.2) ∙ h)
-    (law (register_frame bytes) f.0 f.1.0 f.1.1 f.1.3 (ap is_ok (back bytes fits.size fits.check fits.end_bit)))
+register_refused : (sent : ℕ × ℕ) (command : Command) (answer : CardAnswer) (reply : Reply) → IsAnswerTo command answer
+    → IsRefused (Some sent) answer reply → (x : List ℕ) → register_heard reply ≡ Ok x → ⊥
+register_refused sent command answer Came.Silent fits refused x h = cc
+register_refused sent command answer (Came.Short frame) fits refused x h = cc
+register_refused sent command Silent (Came.Long frame) fits refused x h = refused
+register_refused sent command (Checked index argument) (Came.Long frame) fits refused x h =
+    received_ok (register_in frame) x h refused
+register_refused sent command (R3 ocr) (Came.Long frame) fits refused x h = received_ok (register_in frame) x h refused
+register_refused sent command (R2 bytes) (Came.Long frame) fits refused x h = received_ok (register_in frame) x h refused
 
-pub register_reads : RefusesFlips 17 is_r2 is_r2 → RegistersComeBack → (command : Command)
-    → Reads (IsAnswerTo command) register_heard register_of
-register_reads law back command = record {
+pub register_reads : (sent : ℕ × ℕ) (command : Command) → Reads sent (IsAnswerTo command) register_heard register_of
+register_reads sent command = record {
   whole = register_whole command;
   silent = λ x h. cc;
   mute = λ x h. cc;
-  flipped = register_flipped law back command;
+  refused = register_refused sent command;
   said = answer_said command;
 }
 
-pub nothing_reads : (command : Command) → Reads (IsAnswerTo command) nothing_heard nothing_of
-nothing_reads command = record {
+pub nothing_reads : (sent : ℕ × ℕ) (command : Command) → Reads sent (IsAnswerTo command) nothing_heard nothing_of
+nothing_reads sent command = record {
   whole = λ answer reply fits spells. refl;
   silent = λ x h. cc;
   mute = λ x h. cc;
-  flipped = λ answer reply fits f x h. cc;
+  refused = λ answer reply fits f x h. cc;
   said = answer_said command;
 }

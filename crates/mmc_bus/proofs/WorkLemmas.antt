@@ -6,8 +6,7 @@ use Rattle.mmc_card.specs.BusView.{BusView}
 use Rattle.mmc_card.specs.CardAnswer.{CardAnswer}
 use Rattle.mmc_card.specs.Faults.{NoFault}
 use Rattle.mmc_card.specs.Card.{IsCard, holds}
-use Rattle.mmc_card.proofs.Passing.{still}
-use Rattle.mmc_card.specs.Laws.{IsStill, erased_by, is_frame_of_run, maybe_erased}
+use Rattle.mmc_card.specs.Laws.{erased_by, is_frame_of_run, maybe_erased}
 use Rattle.mmc_card.specs.Sectors.{Within}
 use Rattle.mmc_card.specs.declared.exchange.Lines.{Lines}
 use Rattle.mmc_card.specs.declared.exchange.Reply.{Reply}
@@ -48,13 +47,6 @@ quiet_parts a b c p q same =
     let l = p.later in
     let m = q.later in
     (omega (arith, l, m, same), omega (arith, l, m, same))
-
--- a command meets a card as it is, if nothing goes on in it by itself
-pub at_once : {X : Type 0} {answers : CardAnswer → Result X Unheard} {old : BusView} {index argument : ℕ} {heard : Result X Unheard}
-    {new : BusView}
-    → CommandMet answers old index argument heard new → IsStill old.card → CommandFacts answers old index argument heard new
-at_once {X} {answers} {old} {index} {argument} {heard} {new} met is =
-    subst (λ (v : BusView). CommandFacts answers v index argument heard new) (still old met.met is met.passes) met.facts
 
 -- Work is done by one exchange.
 pub done_by : {Facts : Type 0} {Stands Holds Own Fine : BusView → BusView → Type 0} (old new : BusView)

@@ -7,8 +7,7 @@ use Rattle.mmc_card.specs.BusView.{BusView}
 use Rattle.mmc_card.specs.Card.{Card, is_selected, patience}
 use Rattle.mmc_card.specs.CardAnswer.{shown}
 use Rattle.mmc_card.specs.CardLaws.{HasNoErrorOfItsOwn, IsInOrder}
-use Rattle.mmc_card.specs.Faults.{Passes}
-use Rattle.mmc_card.specs.Laws.{IsStill}
+use Rattle.mmc_card.specs.Laws.{AfterSomeTime, IsStill}
 
 -- a card that is judged by its own kind, and is in order
 abbrev pub WillBeClean : Kind → Card → Type 0
@@ -41,7 +40,7 @@ Closes kind (Err cause) old new = Unit {0}
 
 -- the same of the card that the status was asked of, once time had passed
 abbrev pub ClosesInTime : {E : Type 0} → Kind → Result Closing E → BusView → BusView → Type 0
-ClosesInTime kind result old new = (met : BusView) × Passes old met × Closes kind result met.card new.card
+ClosesInTime kind result old new = AfterSomeTime old (λ card. Closes kind result card new.card)
 
 -- If it is selected and holds no error, nothing goes on in it by itself.
 abbrev pub IsCalm : Card → Type 0

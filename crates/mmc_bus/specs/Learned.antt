@@ -1,6 +1,6 @@
 -- What a host learns of an exchange over a bus that is kept: what holds whatever fell, what a sound answer tells, fault
 -- or not, and what holds where no fault fell.
-use Rattle.std.specs.Prelude.{◌&&◌, ◌+◌, ◌<◌, ◌||◌, ◌≡◌, ◌≤◌, Bool, List, Ok, Result, Some, false, not, true, ℕ}
+use Rattle.std.specs.Prelude.{◌&&◌, ◌+◌, ◌<◌, ◌||◌, ◌≡◌, ◌≤◌, ◌⊎◌, Bool, List, Ok, Result, Some, false, not, true, ℕ}
 use Rattle.mmc_frame.specs.Frame.{command_in}
 use Rattle.mmc_frame.specs.declared.card_state.State.TheVariants.{Prg, Rcv}
 use Rattle.mmc_frame.specs.declared.kind.Kind.{Kind}
@@ -10,15 +10,15 @@ use Rattle.mmc_card.specs.declared.exchange.DataIn.{DataIn}
 use Rattle.mmc_card.specs.declared.exchange.DataOut.{DataOut}
 use Rattle.mmc_card.specs.declared.exchange.Reply.{Reply}
 use Rattle.mmc_card.specs.declared.exchange.Want.{Want}
-use Rattle.mmc_card.specs.CardAnswer.{CardAnswer, Choice, Silent, left_with, refused}
+use Rattle.mmc_card.specs.CardAnswer.{CardAnswer, Choice, Silent, refused, showing}
 use Rattle.mmc_card.specs.Blocks.{accepted, can_send, can_accept, next_block, next_written, rested, sent, waited}
-use Rattle.mmc_card.specs.Card.{AreAmong, Card, holds, is_in, is_selected, patience}
-use Rattle.mmc_card.specs.ErrorBits.{command_error_bits}
+use Rattle.mmc_card.specs.Card.{AreAmong, Card, IsCard, holds, is_in, is_selected, patience}
+use Rattle.mmc_card.specs.ErrorBits.{command_error_bits, error_bits}
 use Rattle.mmc_bus.specs.Exchanges.{Exchanged}
 use Rattle.mmc_card.specs.Faults.{FallNoMore, IsFaultless, NoFault, Passes}
 use Rattle.mmc_bus.specs.Heard.{cause_of, cause_of_command}
 use Rattle.mmc_card.specs.Judged.{IsSaid}
-use Rattle.mmc_card.specs.Laws.{Carried, StandsIn, StillStands, SwitchesTo, WithinOrAccepted, erased_by}
+use Rattle.mmc_card.specs.Laws.{AfterSomeTime, Carried, IsStill, StandsIn, StillStands, SwitchesTo, WithinOrAccepted, erased_by}
 use Rattle.mmc_card.specs.Laws.{is_frame_of_run, maybe_erased}
 use Rattle.mmc_card.specs.declared.command.Command.{Command}
 use Rattle.mmc_card.specs.Rows.{command_of, is_foreign, is_legal, reached, row}
@@ -53,16 +53,21 @@ carried_out choice card index argument =
 abbrev pub Hears : {X : Type 0} → (CardAnswer → X) → Card → CardAnswer → X → Type 0
 Hears answers card answer heard = (said : CardAnswer) × IsSaid card.made.kind answer said × (heard ≡ answers said)
 
--- The card has carried the command out, and this is its answer; in a fault some of bits 23 and 22 were left over.
+-- The card has carried the command out, and this is its answer; in a fault it shows errors besides, of an earlier command, and
+-- of its own where the response has a status.
 pub record Obeyed {X : Type 0} (answers : CardAnswer → X) (old : Card) (index argument : ℕ) (heard : X)
     (new : Card) : Type 0 where
   pub choice : Choice
   pub left : ℕ
+  pub found : ℕ
   pub among : AreAmong left command_error_bits
+  pub errors : AreAmong found error_bits
+  pub cleared : (found ≡ 0) ⊎ (new.errors ≡ 0)
   pub own : is_foreign (meant old index) old argument ≡ false
   pub legal : is_legal (meant old index) old ≡ true
-  pub card : new ≡ (carried_out choice (left_with left old) index argument).0
-  pub answer : Hears answers old (carried_out choice (left_with left old) index argument).1 heard
+  pub card : new ≡ (carried_out choice (showing left found old) index argument).0
+  pub speaks : (carried_out choice (showing left found old) index argument).1 ≡ Silent → ⊥
+  pub answer : Hears answers old (carried_out choice (showing left found old) index argument).1 heard
 
 -- The card did as the table says, no slower than it may, and all of its answer came.
 pub record Faithful {X : Type 0} (answers : CardAnswer → X) (old : Card) (index argument : ℕ) (heard : X)
@@ -95,9 +100,13 @@ pub record CommandMet {X : Type 0} (answers : CardAnswer → Result X Unheard) (
   pub switches : (part : Part) → SwitchesTo part old.card index argument → StandsIn part old.card new.card
   pub met : BusView
   pub passes : Passes old met
+  pub is_card : IsCard met.card
+  pub made : met.card.made ≡ old.card.made
   -- no fault fell since the exchange before either
   pub quiet : NoFault old new → NoFault met new
   pub facts : CommandFacts answers met index argument heard new
+  -- a card in which nothing went on by itself was met as it was
+  pub at_once : IsStill old.card → CommandFacts answers old index argument heard new
 
 -- One exchange: a command with this index and argument, the response that is wanted of it, whichever kind the card is
 -- and whether it is an application command or not, and what was heard.
@@ -160,6 +169,9 @@ pub record WriteFacts (old : BusView) (block : Sector) (got : DataOut) (new : Bu
   pub accepts : got ≡ Sent.Accepted → IsAccepted block old new
   pub fine : NoFault old new → can_accept old.lines old.card ≡ true
       → (got ≡ Sent.Accepted) × (new.card ≡ accepted block old.card)
+  -- one that couldn't if it weren't busy stays as time has left it
+  pub refuses : NoFault old new → can_accept old.lines (record old.card { is_busy = false }) ≡ false
+      → (got ≡ Sent.Nothing) × AfterSomeTime old (λ card. new.card ≡ card)
 
 pub record ReadFacts (old : BusView) (size : ℕ) (got : DataIn) (block : List ℕ) (new : BusView) : Type 0 where
   pub stays : Stays old new

@@ -11,9 +11,8 @@ ghost use Rattle.mmc_bus.specs.Work.{Ends, Narrows, Works};
 ghost use Rattle.mmc_bus.specs.declared.cause.Cause.TheVariants.{Status};
 ghost use Rattle.mmc_bus.specs.declared.status.Closing.TheVariants.{AtWork, Clean};
 ghost use Rattle.mmc_bus.specs.declared.wait.TheConstants.{MAX_POLLS};
-ghost use Rattle.mmc_card.specs.BusView.{BusView};
 ghost use Rattle.mmc_card.specs.Card.{is_in, patience};
-ghost use Rattle.mmc_card.specs.Faults.{Passes};
+ghost use Rattle.mmc_card.specs.Laws.{AfterSomeTime};
 ghost use Rattle.mmc_frame.specs.declared.card_state.State.TheVariants.{Data};
 
 use crate::bus::Bus;
@@ -115,7 +114,7 @@ pub fn ask_closing<B: Bus>(bus: &mut B, kind: Kind, rca: u16) -> Result<Closing,
 pub fn confirm<B: Bus>(bus: &mut B, kind: Kind, rca: u16) -> Result<(), Cause>
     ensures ends { Ends 1 (B.view bus.old) result (B.view bus.new) }
     ensures works { Works Narrows
-        (λ old new. IsOk result → (met : BusView) × Passes old met × IsInOrder kind met.card × (new.card ≡ shown met.card))
+        (λ old new. IsOk result → AfterSomeTime old (λ card. IsInOrder kind card × (new.card ≡ shown card)))
         (λ old new. WillBeClean kind old.card → old.card.app ≡ false → old.card.rca ≡ rca → old.card.lags ≡ false
         → IsOk result)
         (B.view bus.old) (B.view bus.new) }

@@ -9,7 +9,7 @@ use crate::bus::Bus;
 use crate::host::{Unheard, response_in};
 use crate::moved::Moved;
 use mmc_card::{DataIn, DataOut, wanted};
-use mmc_frame::{encode, laws};
+use mmc_frame::encode;
 
 /// Sends the command with this index, 0 to 63, after which the card sends blocks, and reads its response as `ask` does. The first
 /// blocks are read into their places, as many as the bus moves with the command.
@@ -30,7 +30,6 @@ pub fn ask_reading<B: Bus, D: BlocksMut>(
     ensures count { length (D.blocks blocks.new) ≡ length (D.blocks blocks.old) }
     ensures lent { IsRewritten D.blocks D.with blocks.old blocks.new }
 {
-    laws::flipped_response_is_refused();
     let (reply, moved) = bus.read_with(encode(index, argument), wanted(index), blocks);
     (response_in(&reply, index), moved)
 }
@@ -51,7 +50,6 @@ pub fn ask_writing<B: Bus, D: Blocks>(
     ensures asked { AskedWriting (B.view bus.old) index argument (D.blocks blocks.now) result.0 result.1 (B.view bus.new) }
     ensures few { MovesAtMost result.1 (length (D.blocks blocks.now)) }
 {
-    laws::flipped_response_is_refused();
     let (reply, moved) = bus.write_with(encode(index, argument), wanted(index), blocks);
     (response_in(&reply, index), moved)
 }

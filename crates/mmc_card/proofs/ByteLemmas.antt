@@ -1,9 +1,9 @@
 -- Lists of numbers below 256.
 use Rattle.std.proofs.Common.{◌&&◌, ◌*◌, ◌+◌, ◌<◌, ◌≡◌, ◌≤◌, ◌∷◌, Bool, List, [], arith, false, length, suc, true, zero}
 use Rattle.std.proofs.Common.{◌∙◌, ap, refl, ℕ}
-use Rattle.std.specs.Prelude.{◌%◌, ◌==◌, if◌then◌else◌, nat_lt, replicate, slice_index, slice_set}
+use Rattle.std.specs.Prelude.{◌%◌, ◌==◌, None, Option, Some, if◌then◌else◌, nat_lt, replicate, slice_index, slice_set}
 use Rattle.std.proofs.lemmas.Bool.Decides.{nat_tests}
-use Rattle.std.proofs.lemmas.List.{get_or-set_other, length-replicate, length-set}
+use Rattle.std.proofs.lemmas.List.{get_or-set_other, get_or-set_same, length-replicate, length-set}
 use Rattle.mmc_frame.specs.Field.{field}
 use Rattle.mmc_frame.specs.Flips.{AreBytes}
 use Rattle.mmc_regs.specs.Scr.{data_stat_after_erase, scr_number}
@@ -13,7 +13,8 @@ use Rattle.mmc_card.proofs.Narrow.{both}
 use Rattle.mmc_card.specs.Card.{Card, IsBlock}
 use Rattle.mmc_card.specs.Made.{Made, erased_byte_of_card, erased_sector, is_sd}
 use Rattle.mmc_card.specs.RowsSwitch.{access_number, ext_csd_now, partition_config_for, refusal, timing_number}
-use Rattle.mmc_card.specs.RowsSwitch.{IsExtCsdOf, is_read, reread, width_number}
+use Rattle.mmc_card.specs.RowsSwitch.{IsExtCsdOf, is_read, is_read_of_status, reread, status_sent, width_number, with_second_group}
+use Rattle.mmc_card.specs.CardAnswer.{Choice}
 use Rattle.mmc_card.specs.declared.exchange.Timing.{Timing}
 use Rattle.mmc_card.specs.declared.exchange.Timing.TheVariants.{Default, High}
 use Rattle.mmc_card.specs.declared.exchange.Width.{Width}
@@ -116,6 +117,46 @@ selected_below false byte = omega arith
 pub refusal_bytes : (selects_none : Bool) (status : List ℕ) → AreBytes status → AreBytes (refusal selects_none status)
 refusal_bytes selects_none status bytes =
     bytes_set status 16 _ (selected_below selects_none (slice_index status 16)) bytes
+
+-- A switch status as it is sent.
+
+second_group_bytes : (other : Option ℕ) (status : List ℕ) → AreBytes status → AreBytes (with_second_group other status)
+second_group_bytes None status bytes = bytes
+second_group_bytes (Some function) status bytes = bytes_set status 16 _ (omega arith) bytes
+
+pub sent_bytes : (choice : Choice) (status : List ℕ) → AreBytes status → AreBytes (status_sent choice status)
+sent_bytes choice status bytes =
+    second_group_bytes choice.second_group _ (reread_bytes is_read_of_status choice.unread status bytes)
+
+second_group_length : (other : Option ℕ) (status : List ℕ) → length (with_second_group other status) ≡ length status
+second_group_length None status = refl
+second_group_length (Some function) status = length-set status 16 _
+
+pub sent_length : (choice : Choice) (status : List ℕ) → length (status_sent choice status) ≡ length status
+sent_length choice status =
+    second_group_length choice.second_group _ ∙ reread_length is_read_of_status choice.unread status
+
+-- whether the card has high speed is said
+second_group_supports : (other : Option ℕ) (status : List ℕ)
+    → slice_index (with_second_group other status) 13 ≡ slice_index status 13
+second_group_supports None status = refl
+second_group_supports (Some function) status = get_or-set_other status 16 13 _ 0 (omega arith)
+
+pub sent_supports : (choice : Choice) (status : List ℕ) → slice_index (status_sent choice status) 13 ≡ slice_index status 13
+sent_supports choice status =
+    second_group_supports choice.second_group _ ∙ reread_at is_read_of_status choice.unread status 13 refl
+
+-- and so is what is selected
+second_group_selects : (other : Option ℕ) (status : List ℕ) → 16 < length status
+    → field 3 0 (slice_index (with_second_group other status) 16) ≡ field 3 0 (slice_index status 16)
+second_group_selects None status inside = refl
+second_group_selects (Some function) status inside = ap (field 3 0) (get_or-set_same status 16 _ 0 inside) ∙ omega arith
+
+pub sent_selects : (choice : Choice) (status : List ℕ) → 16 < length status
+    → field 3 0 (slice_index (status_sent choice status) 16) ≡ field 3 0 (slice_index status 16)
+sent_selects choice status inside =
+    second_group_selects choice.second_group _ (omega (arith, reread_length is_read_of_status choice.unread status, inside))
+    ∙ ap (field 3 0) (reread_at is_read_of_status choice.unread status 16 refl)
 
 -- Blocks.
 

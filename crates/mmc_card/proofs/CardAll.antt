@@ -21,7 +21,7 @@ use Rattle.mmc_card.proofs.Settled.{IsSettled, accepts_still, settled_accepted, 
 use Rattle.mmc_card.proofs.Settled.{settled_garbled, settled_left, settled_programmed, settled_raised, settled_reached}
 use Rattle.mmc_card.proofs.Settled.{settled_rejected, settled_reset, settled_rested, settled_sent_from, settled_waited}
 use Rattle.mmc_card.proofs.Steps.{after_command, after_write, after_poll, after_read}
-use Rattle.mmc_card.specs.CardAnswer.{Choice, left_with, raised}
+use Rattle.mmc_card.specs.CardAnswer.{Choice, left_with, raised, showing}
 use Rattle.mmc_card.specs.Card.{AreAmong, AreBlocks, Card, HasItsSizes, IsBlock, IsCard, powered_on, stored}
 use Rattle.mmc_card.specs.Laws.{Carried}
 use Rattle.mmc_card.specs.ErrorBits.{command_error_bits, error_bits}
@@ -116,6 +116,10 @@ card_raised bits c among k =
     whole _ k.sizes (cards.card_raised bits c among (basic c k)) (ordered_raised bits c (ordered c k))
     (settled_raised bits c (settled c k)) (sending_raised bits c (sending c k))
 
+pub card_showing : (left found : ℕ) (c : Card) → AreAmong left command_error_bits → AreAmong found error_bits → IsCard c
+    → IsCard (showing left found c)
+card_showing left found c among errors k = card_raised found (left_with left c) errors (card_left left c among k)
+
 -- Steps.
 
 pub command_leaves_card : (old : BusView) (frame : List ℕ) (reply : Reply) (new : BusView)
@@ -128,17 +132,17 @@ command_leaves_card old frame reply new step k =
     (rows.command_leaves_card old frame reply new step (basic old.card k))
     (after_command IsOrdered old frame reply new o
     (λ choice. ordered_answered choice old.card (command_in frame) o)
-    (λ choice bits _. ordered_answered choice _ (command_in frame) (ordered_left bits old.card o))
+    (λ choice left found _ _. ordered_answered choice _ (command_in frame) (ordered_raised found _ (ordered_left left old.card o)))
     (λ keeps. ordered_garbled keeps old.card o) (λ bits card _ k. ordered_raised bits card k)
     (λ lands keeps card _. ordered_reset lands keeps card) step)
     (after_command IsSettled old frame reply new s
     (λ choice. settled_answered choice old.card (command_in frame) s)
-    (λ choice bits _. settled_answered choice _ (command_in frame) (settled_left bits old.card s))
+    (λ choice left found _ _. settled_answered choice _ (command_in frame) (settled_raised found _ (settled_left left old.card s)))
     (λ keeps. settled_garbled keeps old.card s) (λ bits card _ k. settled_raised bits card k)
     (λ lands keeps card _. settled_reset lands keeps card) step)
     (after_command IsSending old frame reply new g
     (λ choice. sending_answered choice old.card (command_in frame) g)
-    (λ choice bits _. sending_answered choice _ (command_in frame) (sending_left bits old.card g))
+    (λ choice left found _ _. sending_answered choice _ (command_in frame) (sending_raised found _ (sending_left left old.card g)))
     (λ keeps. sending_garbled keeps old.card g) (λ bits card _ k. sending_raised bits card k) sending_reset step)
 
 pub poll_leaves_card : (old : BusView) (said : Bool) (new : BusView) → PollStep old said new → IsCard old.card

@@ -37,7 +37,7 @@ use Rattle.mmc_card.specs.RowsErase.{erase_held, erases, erasing, forgotten, hol
 use Rattle.mmc_card.specs.RowsErase.{is_no_range, is_trim}
 use Rattle.mmc_card.specs.RowsIdentify.{inquired, is_served, may_lag}
 use Rattle.mmc_card.specs.RowsSwitch.{ext_csd_now, is_read, reread, switch_row, switch_source}
-use Rattle.mmc_card.specs.RowsTransfer.{begun, preset, sending_from, stopped, transfer_errors, transferred, write_errors}
+use Rattle.mmc_card.specs.RowsTransfer.{begun, preset, sending_from, stopped, transfer_errors, transferred, errors_found}
 use Rattle.mmc_card.specs.Sectors.{Sector}
 use Rattle.mmc_card.specs.BusView.{BusView}
 
@@ -182,17 +182,17 @@ card_row choice SetBlocklen c index argument l k =
     refl refl refl (λ h. h) (λ h. refl) (λ h. h))
     (λ _. card_shown c k)
 card_row choice ReadSingleBlock c index argument l k =
-    card_transferred 17 (transfer_errors false c argument) c _ k (card_begun Data true (Some 1) c argument refl k)
+    card_transferred 17 (errors_found false choice c argument) c _ k (card_begun Data true (Some 1) c argument refl k)
 card_row choice ReadMultipleBlock c index argument l k =
-    card_transferred 18 (transfer_errors false c argument) c _ k (card_begun Data false (preset c) c argument refl k)
+    card_transferred 18 (errors_found false choice c argument) c _ k (card_begun Data false (preset c) c argument refl k)
 card_row choice SetBlockCount c index argument l k =
     card_in_tran c _
     (in_state c.state Tran (both (is_in c.state Tran) (has_cmd23 c.made) l).0) k
     (like_shown c _ refl refl refl refl) refl refl refl
 card_row choice WriteBlock c index argument l k =
-    card_transferred 24 (write_errors choice c argument) c _ k (card_begun Rcv true (Some 1) c argument refl k)
+    card_transferred 24 (errors_found true choice c argument) c _ k (card_begun Rcv true (Some 1) c argument refl k)
 card_row choice WriteMultipleBlock c index argument l k =
-    card_transferred 25 (write_errors choice c argument) c _ k (card_begun Rcv false (preset c) c argument refl k)
+    card_transferred 25 (errors_found true choice c argument) c _ k (card_begun Rcv false (preset c) c argument refl k)
 card_row choice EraseStart c index argument l k = card_first index c argument c.erase (in_state c.state Tran l) k
 card_row choice EraseEnd c index argument l k = card_last index c argument c.erase (in_state c.state Tran l) k
 card_row choice Erase c index argument l k = card_erase c argument c.erase k
@@ -292,7 +292,8 @@ pub command_leaves_card : (old : BusView) (frame : List ℕ) (reply : Reply) (ne
 command_leaves_card old frame reply new step k =
     after_command IsBasic old frame reply new k
     (λ choice. card_answered choice old.card (command_in frame) k)
-    (λ choice bits among. card_answered choice _ (command_in frame) (card_left bits old.card among k)) (λ keeps. card_garbled keeps old.card k)
+    (λ choice left found among errors. card_answered choice _ (command_in frame)
+    (card_raised found _ errors (card_left left old.card among k))) (λ keeps. card_garbled keeps old.card k)
     (λ bits card among k. card_raised bits card among k) card_reset step
 
 pub poll_leaves_card : (old : BusView) (said : Bool) (new : BusView) → PollStep old said new → IsBasic old.card

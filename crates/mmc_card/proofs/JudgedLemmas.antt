@@ -7,7 +7,7 @@ use Rattle.std.proofs.lemmas.Nat.{and_block, and_le_r, and_mask}
 use Rattle.std.proofs.lemmas.Nat.Bits.{bit_at-lt, bit_at_and, same_from_bits}
 use Rattle.mmc_frame.specs.Field.{field}
 use Rattle.mmc_frame.specs.Status.{IsAtWork, IsClean, error_bits, error_mask, own_status, state_number}
-use Rattle.mmc_frame.specs.declared.card_state.State.TheVariants.{Prg, Stby}
+use Rattle.mmc_frame.specs.declared.card_state.State.TheVariants.{Prg, Stby, Tran}
 use Rattle.mmc_frame.specs.declared.kind.Kind.{Kind}
 use Rattle.mmc_frame.specs.declared.kind.Kind.TheVariants.{Mmc, Sd}
 use Rattle.mmc_card.proofs.StatusLemmas.{bit_among, clean_status, lagging_is_not_clean, lagging_status, own_status_errors}
@@ -18,7 +18,7 @@ use Rattle.mmc_card.specs.Faults.{Replies, Spells}
 use Rattle.mmc_card.specs.declared.exchange.Reply.{Reply}
 use Rattle.mmc_card.specs.CardLaws.{HasNoError, HasNoErrorOfItsOwn, IsInOrder, Tells}
 use Rattle.mmc_card.specs.ErrorBits.{out_of_range}
-use Rattle.mmc_card.specs.Judged.{Agree, IsSaid, Shows, ShowsItself, errors_and_lock, whole_status}
+use Rattle.mmc_card.specs.Judged.{Agree, IsReadyInTran, IsSaid, Shows, ShowsItself, errors_and_lock, errors_and_state}
 use Rattle.mmc_card.specs.RowsIdentify.{at_work}
 
 -- two that agree in these bits agree in some of them
@@ -43,7 +43,7 @@ agree_in some bits a b among same =
 
 pub said_as_is : (kind : Kind) (answer : CardAnswer) → IsSaid kind answer answer
 said_as_is kind Silent = refl
-said_as_is kind (Checked index argument) = (argument, refl, refl)
+said_as_is kind (Checked index argument) = (argument, refl, refl, λ _ _. refl)
 said_as_is kind (R3 ocr) = (ocr, refl, inl refl)
 said_as_is kind (R2 bytes) = refl
 
@@ -69,17 +69,16 @@ same_field : (low count a b : ℕ) → Splits low a → Splits low b → Agree (
     → a / 2 ^ low % 2 ^ count * 2 ^ low ≡ b / 2 ^ low % 2 ^ count * 2 ^ low
 same_field low count a b x y same = sym (field_masked low count a x) ∙ same ∙ field_masked low count b y
 
--- CURRENT_STATE and READY_FOR_DATA
-work_among : (made : Kind) → AreAmong 0x1f00 (whole_status made)
-work_among Sd = refl
-work_among Mmc = refl
+-- CURRENT_STATE
+state_among : (made : Kind) → AreAmong 0x1e00 (errors_and_state made)
+state_among Sd = refl
+state_among Mmc = refl
 
-pub same_work : (made : Kind) (a b : ℕ) → Agree (whole_status made) a b
-    → (field 12 9 a ≡ field 12 9 b) × (field 8 8 a ≡ field 8 8 b)
-same_work made a b same =
-    let both = same_field 8 5 a b (omega arith, omega arith, omega arith) (omega arith, omega arith, omega arith)
-    (agree_in 0x1f00 (whole_status made) a b (work_among made) same) in
-    (omega (arith, both), omega (arith, both))
+same_state : (made : Kind) (a b : ℕ) → Agree (errors_and_state made) a b → field 12 9 a ≡ field 12 9 b
+same_state made a b same =
+    let both = same_field 9 4 a b (omega arith, omega arith, omega arith) (omega arith, omega arith, omega arith)
+    (agree_in 0x1e00 (errors_and_state made) a b (state_among made) same) in
+    omega (arith, both)
 
 -- CARD_IS_LOCKED
 lock_among : (made : Kind) → AreAmong (2 ^ 25) (errors_and_lock made)
@@ -196,55 +195,79 @@ pub agree_own : (made : Kind) (a b : ℕ) → Agree (errors_and_lock made) a b
     → Agree (errors_and_lock made) (own_status a) (own_status b)
 agree_own made a b same = own_masked made a ∙ ap own_status same ∙ sym (own_masked made b)
 
-less_among : (made : Kind) → AreAmong (errors_and_lock made) (whole_status made)
+less_among : (made : Kind) → AreAmong (errors_and_lock made) (errors_and_state made)
 less_among Sd = refl
 less_among Mmc = refl
 
-pub less : (made : Kind) (a b : ℕ) → Agree (whole_status made) a b → Agree (errors_and_lock made) a b
-less made a b same = agree_in (errors_and_lock made) (whole_status made) a b (less_among made) same
+pub less : (made : Kind) (a b : ℕ) → Agree (errors_and_state made) a b → Agree (errors_and_lock made) a b
+less made a b same = agree_in (errors_and_lock made) (errors_and_state made) a b (less_among made) same
 
-same_own : (kind made : Kind) → Fits kind made → (a b : ℕ) → Agree (whole_status made) a b
-    → error_bits kind (own_status a) ≡ error_bits kind (own_status b)
-same_own kind made fits a b same =
-    same_errors kind made fits (own_status a) (own_status b) (agree_own made a b (less made a b same))
+-- what is told of a status, and the status
+abbrev pub Says : Kind → ℕ → ℕ → Type 0
+Says made told status = Agree (errors_and_state made) told status × IsReadyInTran told status
 
--- what two that agree say of errors and state is the same
+same_own : (kind made : Kind) → Fits kind made → (told status : ℕ) → Says made told status
+    → error_bits kind (own_status told) ≡ error_bits kind (own_status status)
+same_own kind made fits told status says =
+    same_errors kind made fits (own_status told) (own_status status) (agree_own made told status (less made told status says.0))
+
+-- what both say of the state is the same, and in tran of being ready
 work_of_own : (n : ℕ) → (field 12 9 (own_status n) ≡ field 12 9 n) × (field 8 8 (own_status n) ≡ field 8 8 n)
 work_of_own n = (omega arith, omega arith)
 
-same_own_work : (made : Kind) (a b : ℕ) → Agree (whole_status made) a b
-    → (field 12 9 (own_status a) ≡ field 12 9 (own_status b)) × (field 8 8 (own_status a) ≡ field 8 8 (own_status b))
-same_own_work made a b same =
-    let s = same_work made a b same in
-    let x = work_of_own a in
-    let y = work_of_own b in
-    (x.0 ∙ s.0 ∙ sym y.0, x.1 ∙ s.1 ∙ sym y.1)
+same_own_work : (made : Kind) (told status : ℕ) → Says made told status
+    → (field 12 9 (own_status told) ≡ field 12 9 (own_status status))
+    × (field 12 9 (own_status status) ≡ state_number Tran → field 8 8 (own_status told) ≡ field 8 8 (own_status status))
+same_own_work made told status says =
+    let x = work_of_own told in
+    let y = work_of_own status in (
+      x.0 ∙ same_state made told status says.0 ∙ sym y.0,
+      λ tran. x.1 ∙ says.1 (sym y.0 ∙ tran) ∙ sym y.1,
+    )
 
-clean_as : (kind made : Kind) → Fits kind made → (a b : ℕ) → Agree (whole_status made) a b
-    → IsClean kind (own_status a) → IsClean kind (own_status b)
-clean_as kind made fits a b same clean =
-    let work = same_own_work made a b same in
-    record {
-      no_error = sym (same_own kind made fits a b same) ∙ clean.no_error;
-      in_tran = sym work.0 ∙ clean.in_tran;
-      ready_for_data = sym work.1 ∙ clean.ready_for_data;
-    }
+clean_as : (kind made : Kind) → Fits kind made → (told status : ℕ) → Says made told status
+    → (IsClean kind (own_status told) → IsClean kind (own_status status))
+    × (IsClean kind (own_status status) → IsClean kind (own_status told))
+clean_as kind made fits told status says =
+    let work = same_own_work made told status says in
+    let errors = same_own kind made fits told status says in (
+      λ clean. (let tran = sym work.0 ∙ clean.in_tran in
+          record {
+            no_error = sym errors ∙ clean.no_error;
+            in_tran = tran;
+            ready_for_data = sym (work.1 tran) ∙ clean.ready_for_data;
+          }),
+      λ clean. record {
+        no_error = errors ∙ clean.no_error;
+        in_tran = work.0 ∙ clean.in_tran;
+        ready_for_data = work.1 clean.in_tran ∙ clean.ready_for_data;
+      },
+    )
 
-at_work_as : (kind made : Kind) → Fits kind made → (a b : ℕ) → Agree (whole_status made) a b
-    → IsAtWork kind (own_status a) → IsAtWork kind (own_status b)
-at_work_as kind made fits a b same works =
-    let work = same_own_work made a b same in
-    record {
-      no_error = sym (same_own kind made fits a b same) ∙ works.no_error;
-      from_stby = subst (λ n. state_number Stby ≤ n) work.0 works.from_stby;
-      to_prg = subst (λ n. n ≤ state_number Prg) work.0 works.to_prg;
-      unready = λ tran. sym work.1 ∙ works.unready (work.0 ∙ tran);
-    }
+at_work_as : (kind made : Kind) → Fits kind made → (told status : ℕ) → Says made told status
+    → (IsAtWork kind (own_status told) → IsAtWork kind (own_status status))
+    × (IsAtWork kind (own_status status) → IsAtWork kind (own_status told))
+at_work_as kind made fits told status says =
+    let work = same_own_work made told status says in
+    let errors = same_own kind made fits told status says in (
+      λ works. record {
+        no_error = sym errors ∙ works.no_error;
+        from_stby = subst (λ n. state_number Stby ≤ n) work.0 works.from_stby;
+        to_prg = subst (λ n. n ≤ state_number Prg) work.0 works.to_prg;
+        unready = λ tran. sym (work.1 tran) ∙ works.unready (work.0 ∙ tran);
+      },
+      λ works. record {
+        no_error = errors ∙ works.no_error;
+        from_stby = subst (λ n. state_number Stby ≤ n) (sym work.0) works.from_stby;
+        to_prg = subst (λ n. n ≤ state_number Prg) (sym work.0) works.to_prg;
+        unready = λ tran. (let status_tran = sym work.0 ∙ tran in work.1 status_tran ∙ works.unready status_tran);
+      },
+    )
 
 -- What is told of a card.
 
 pub told_state : (told : ℕ) (card : Card) → ShowsItself card told → field 12 9 told ≡ state_number card.state
-told_state told card shows = (same_work card.made.kind told _ shows).0 ∙ status_state false card
+told_state told card shows = same_state card.made.kind told _ shows.0 ∙ status_state false card
 
 pub told_errors : (kind : Kind) (told : ℕ) (card : Card) → IsCard card → Shows card told
     → Tells kind card (error_bits kind told ≡ 0) (HasNoError kind card)
@@ -270,8 +293,8 @@ told_clean kind told card k shows =
     let made = card.made.kind in
     tells_by kind made card refl (λ by. IsClean by (own_status told)) (λ by. IsInOrder by card)
     (λ by fits. (let law = clean_status by false card k in (
-      λ clean. law.0 (clean_as by made fits told _ shows clean),
-      λ of_kind order. clean_as by made fits _ told (sym shows) (law.1 of_kind order),
+      λ clean. law.0 ((clean_as by made fits told _ shows).0 clean),
+      λ of_kind order. (clean_as by made fits told _ shows).1 (law.1 of_kind order),
     )))
     (clean_fewer (own_status told)) (sd_in_order card)
 
@@ -291,15 +314,15 @@ told_at_work kind choice told card k shows =
     let seen = at_work choice card in
     tells_by kind made card refl (λ by. IsAtWork by (own_status told)) (λ by. HasNoErrorOfItsOwn by seen)
     (λ by fits. (let law = lagging_status by choice card k in (
-      λ works. law.0 (at_work_as by made fits told _ shows works),
-      λ of_kind none. at_work_as by made fits _ told (sym shows) (law.1 of_kind none),
+      λ works. law.0 ((at_work_as by made fits told _ shows).0 works),
+      λ of_kind none. (at_work_as by made fits told _ shows).1 (law.1 of_kind none),
     )))
     (at_work_fewer (own_status told)) (sd_none_of_its_own seen)
 
 sd_unclean : (choice : Choice) (told : ℕ) (card : Card) → IsCard card → ShowsItself (at_work choice card) told
     → IsClean Sd (own_status told) → ⊥
 sd_unclean choice told card k shows clean =
-    lagging_is_not_clean Sd choice card k (clean_as Sd card.made.kind (sd_fits card.made.kind) told _ shows clean)
+    lagging_is_not_clean Sd choice card k ((clean_as Sd card.made.kind (sd_fits card.made.kind) told _ shows).0 clean)
 
 pub told_unclean : (kind : Kind) (choice : Choice) (told : ℕ) (card : Card) → IsCard card
     → ShowsItself (at_work choice card) told → IsClean kind (own_status told) → ⊥

@@ -14,7 +14,7 @@ use Rattle.mmc_card.proofs.Responses.{after_response}
 use Rattle.mmc_card.proofs.Landing.{at_snoc, landed_size, landed_within, snoc_length}
 use Rattle.mmc_card.proofs.SectorLemmas.{by_touch, cond_in_new, cond_in_old, in_cond, maybe_within, old_maybe}
 use Rattle.mmc_card.proofs.SectorLemmas.{same_part, touched_by, untouched, within_same}
-use Rattle.mmc_card.specs.CardAnswer.{Choice, garbled, left_with, raised, refused, reset}
+use Rattle.mmc_card.specs.CardAnswer.{Choice, garbled, left_with, raised, refused, reset, showing}
 use Rattle.mmc_card.specs.Blocks.{accepted, can_send, can_accept, fallen_short, programmed, rejected, rested, sent_from}
 use Rattle.mmc_card.specs.Blocks.{fallen_early, ignoring, waited}
 use Rattle.mmc_card.specs.Card.{Both, Card, First, FromBytes, FromSectors, Held, NoAddress, Source, at_sector, holds}
@@ -33,7 +33,7 @@ use Rattle.mmc_card.specs.RowsErase.{erase_held, erases, erasing, hold_first, ho
 use Rattle.mmc_card.specs.RowsErase.{is_trim}
 use Rattle.mmc_card.specs.RowsIdentify.{inquired, is_served, may_lag}
 use Rattle.mmc_card.specs.RowsSwitch.{access_switched, accessed, part_accessed, switch_row, switched, write_byte}
-use Rattle.mmc_card.specs.RowsTransfer.{begun, preset, stopped, transfer_errors, transferred, write_errors}
+use Rattle.mmc_card.specs.RowsTransfer.{begun, preset, stopped, transfer_errors, transferred, errors_found}
 use Rattle.mmc_card.specs.Sectors.{Change, IsIn, Sector, Sets, Within, maybe_changed, part_number, touches, value_of}
 
 -- made the same, of the same sizes, and no sector may hold more
@@ -301,16 +301,16 @@ widens_row choice SetBlocklen c index argument =
     wide _ c _
     (first_by_cond (Keeps c) (argument == 512) _ _ (λ _. plain c _ refl refl refl) (λ _. plain c _ refl refl refl))
 widens_row choice ReadSingleBlock c index argument =
-    wide _ c _ (keeps_transferred 17 (transfer_errors false c argument) c _ (keeps_begun Data true (Some 1) c argument))
+    wide _ c _ (keeps_transferred 17 (errors_found false choice c argument) c _ (keeps_begun Data true (Some 1) c argument))
 widens_row choice ReadMultipleBlock c index argument =
     wide _ c _
-    (keeps_transferred 18 (transfer_errors false c argument) c _ (keeps_begun Data false (preset c) c argument))
+    (keeps_transferred 18 (errors_found false choice c argument) c _ (keeps_begun Data false (preset c) c argument))
 widens_row choice SetBlockCount c index argument = wide _ c _ (plain c _ refl refl refl)
 widens_row choice WriteBlock c index argument =
-    wide _ c _ (keeps_transferred 24 (write_errors choice c argument) c _ (keeps_begun Rcv true (Some 1) c argument))
+    wide _ c _ (keeps_transferred 24 (errors_found true choice c argument) c _ (keeps_begun Rcv true (Some 1) c argument))
 widens_row choice WriteMultipleBlock c index argument =
     wide _ c _
-    (keeps_transferred 25 (write_errors choice c argument) c _ (keeps_begun Rcv false (preset c) c argument))
+    (keeps_transferred 25 (errors_found true choice c argument) c _ (keeps_begun Rcv false (preset c) c argument))
 widens_row choice EraseStart c index argument = wide _ c _ (keeps_first index c argument c.erase)
 widens_row choice EraseEnd c index argument = wide _ c _ (keeps_last index c argument c.erase)
 widens_row choice Erase c index argument = widens_erase c argument c.erase
@@ -358,27 +358,27 @@ widens_answered choice c (Some command) =
     widens_responded choice (command_of c.made.kind c.app command.0) c command.0 command.1
 widens_answered choice c None = wide _ c _ (keeps_garbled choice.keeps_count c)
 
--- what is left over erases nothing
-held_left : (bits : ℕ) (c : Card) (argument : ℕ) (held : Held)
-    → erased_by_held (left_with bits c) argument held ≡ erased_by_held c argument held
-held_left bits c argument (Both first last) = refl
-held_left bits c argument _ = refl
+-- what is to be shown erases nothing
+held_showing : (left found : ℕ) (c : Card) (argument : ℕ) (held : Held)
+    → erased_by_held (showing left found c) argument held ≡ erased_by_held c argument held
+held_showing left found c argument (Both first last) = refl
+held_showing left found c argument _ = refl
 
-command_left : (bits : ℕ) (command : Command) (c : Card) (argument : ℕ)
-    → erased_by_command command (left_with bits c) argument ≡ erased_by_command command c argument
-command_left bits Erase c argument = held_left bits c argument c.erase
-command_left bits _ c argument = refl
+command_showing : (left found : ℕ) (command : Command) (c : Card) (argument : ℕ)
+    → erased_by_command command (showing left found c) argument ≡ erased_by_command command c argument
+command_showing left found Erase c argument = held_showing left found c argument c.erase
+command_showing left found _ c argument = refl
 
-erased_left : (bits : ℕ) (c : Card) (sent : Option (ℕ × ℕ)) → erased_by (left_with bits c) sent ≡ erased_by c sent
-erased_left bits c (Some command) = command_left bits (command_of c.made.kind c.app command.0) c command.1
-erased_left bits c None = refl
+erased_showing : (left found : ℕ) (c : Card) (sent : Option (ℕ × ℕ)) → erased_by (showing left found c) sent ≡ erased_by c sent
+erased_showing left found c (Some command) = command_showing left found (command_of c.made.kind c.app command.0) c command.1
+erased_showing left found c None = refl
 
-pub widens_left : (choice : Choice) (bits : ℕ) (c : Card) (sent : Option (ℕ × ℕ))
-    → Widens (erased_by c sent) c (answered choice (left_with bits c) sent).0
-widens_left choice bits c sent =
-    subst (λ t. Widens t c (answered choice (left_with bits c) sent).0) (erased_left bits c sent)
-    (wide_then _ c (left_with bits c) _ (plain c (left_with bits c) refl refl refl)
-    (widens_answered choice (left_with bits c) sent))
+pub widens_showing : (choice : Choice) (left found : ℕ) (c : Card) (sent : Option (ℕ × ℕ))
+    → Widens (erased_by c sent) c (answered choice (showing left found c) sent).0
+widens_showing choice left found c sent =
+    let met = showing left found c in
+    subst (λ t. Widens t c (answered choice met sent).0) (erased_showing left found c sent)
+    (wide_then _ c met _ (plain c met refl refl refl) (widens_answered choice met sent))
 
 -- Blocks.
 

@@ -9,7 +9,7 @@ use Rattle.mmc_card.specs.declared.exchange.Reply.{Reply}
 use Rattle.mmc_card.proofs.Narrow.{Keeps, Widens, accepted_adds, carried_accepted, carried_then, keeps_fallen_early, keeps_fallen_short}
 use Rattle.mmc_card.proofs.Narrow.{keeps_ignoring}
 use Rattle.mmc_card.proofs.Narrow.{keeps_garbled, keeps_programmed, keeps_raised, keeps_rejected, keeps_reset, keeps_rested, keeps_same}
-use Rattle.mmc_card.proofs.Narrow.{keeps_sent_from, keeps_slow, keeps_then, accepts_in_rcv, wide, widens_answered, widens_left}
+use Rattle.mmc_card.proofs.Narrow.{keeps_sent_from, keeps_slow, keeps_then, accepts_in_rcv, wide, widens_answered, widens_showing}
 use Rattle.mmc_card.proofs.Steps.{after_command, after_write, after_poll, after_read}
 use Rattle.mmc_card.specs.Blocks.{accepted, can_accept, fallen_short}
 use Rattle.mmc_card.specs.Card.{Card}
@@ -72,7 +72,7 @@ command_widens old frame reply new step =
     let change = erased_by old.card (command_in frame) in
     after_command (Widens change old.card) old frame reply new (wide change old.card _ (keeps_same old.card))
     (λ choice. widens_answered choice old.card (command_in frame))
-    (λ choice bits _. widens_left choice bits old.card (command_in frame))
+    (λ choice left found _ _. widens_showing choice left found old.card (command_in frame))
     (λ keeps. wide change old.card _ (keeps_garbled keeps old.card))
     (λ bits card _ w. wide_after change old.card card _ w (keeps_raised bits card))
     (λ lands keeps card w. wide_after change old.card card _ w (keeps_reset lands keeps card)) step

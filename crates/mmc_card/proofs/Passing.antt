@@ -40,7 +40,7 @@ use Rattle.mmc_card.specs.Card.{Both, Card, FromBytes, FromSectors, Held, IsBloc
 use Rattle.mmc_card.specs.CardAnswer.{Choice, raised}
 use Rattle.mmc_card.specs.ErrorBits.{out_of_range}
 use Rattle.mmc_card.specs.Faults.{CommandStep, Passes, WriteStep, at_once, has_failed, has_fallen_short, has_rested, has_run}
-use Rattle.mmc_card.specs.Laws.{Carried, CountsAtMost, CountsAtMostOne, IsNextWritten, Stands, StandsIn, StillStands, SwitchesTo}
+use Rattle.mmc_card.specs.Laws.{Carried, CountsAtMost, IsNextWritten, Stands, StandsIn, StillStands, SwitchesTo}
 use Rattle.mmc_card.specs.Laws.{IsStill, erased_by}
 use Rattle.mmc_card.specs.Laws.{erased_by_command, erased_by_held, is_frame_of_run, is_of_run}
 use Rattle.mmc_card.specs.Made.{Made, erased_sector, is_mmc, sector_at}
@@ -177,10 +177,9 @@ goes_on_in_time old met passes =
     (λ ignores d k. by_cond (GoesOn c) ignores (λ _ h. k h) (λ _. k)) (λ bits d _ k. k) passes
 
 -- faults, if any, are counted
-pub not_fewer_in_time : (old met : BusView) → Passes old met → (old.faults ≤ met.faults) × (met.faults ≤ old.faults + 1)
-not_fewer_in_time old met passes =
-    let count : (n : ℕ) → met.faults ≡ n → (old.faults ≤ n) × (n ≤ old.faults + 1)
-    → (old.faults ≤ met.faults) × (met.faults ≤ old.faults + 1) =
+pub counts_in_time : (old met : BusView) → Passes old met → CountsAtMost 1 old met
+counts_in_time old met passes =
+    let count : (n : ℕ) → met.faults ≡ n → (old.faults ≤ n) × (n ≤ old.faults + 1) → CountsAtMost 1 old met =
     λ n e both. (omega (arith, e, both.0), omega (arith, e, both.1)) in
     elim passes [
       | at_once e ↦ count old.faults (ap (λ (v : BusView). v.faults) e) (omega arith, omega arith)
@@ -332,11 +331,10 @@ step_switches part old frame index argument reply new switch command step s h =
     (stands_in_time old step.met step.passes s h)
 
 -- what is counted before the exchange, and in it
-counts : (old met new : BusView) → Passes old met → CountsAtMostOne met new → CountsAtMost 2 old new
-counts old met new passes (inl same) =
-    let both = not_fewer_in_time old met passes in (omega (arith, both.0, same), omega (arith, both.1, same))
-counts old met new passes (inr more) =
-    let both = not_fewer_in_time old met passes in (omega (arith, both.0, more), omega (arith, both.1, more))
+counts : (old met new : BusView) → Passes old met → CountsAtMost 1 met new → CountsAtMost 2 old new
+counts old met new passes after =
+    let before = counts_in_time old met passes in
+    (omega (arith, before.0, after.0), omega (arith, before.1, after.1))
 
 pub step_counts : (old : BusView) (frame : List ℕ) (reply : Reply) (new : BusView) → CommandStep old frame reply new
     → CountsAtMost 2 old new

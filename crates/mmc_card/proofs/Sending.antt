@@ -4,7 +4,7 @@ use Rattle.std.specs.Prelude.{◌==◌, None, Option, Some}
 use Rattle.mmc_frame.specs.declared.card_state.State.{State}
 use Rattle.mmc_frame.specs.declared.card_state.State.TheVariants.{Data, Prg, Rcv, Tran}
 use Rattle.mmc_frame.specs.Flips.{AreBytes}
-use Rattle.mmc_card.proofs.ByteLemmas.{ext_csd_bytes, refusal_bytes, reread_bytes}
+use Rattle.mmc_card.proofs.ByteLemmas.{ext_csd_bytes, refusal_bytes, reread_bytes, sent_bytes}
 use Rattle.mmc_card.proofs.Conditions.{along, by_cond, first_by_cond}
 use Rattle.mmc_card.proofs.Responses.{after_answer, after_response}
 use Rattle.mmc_card.proofs.Narrow.{AreSwitched, may_switch}
@@ -22,7 +22,7 @@ use Rattle.mmc_card.specs.Rows.{answered, leaves_erase, reached, responded, row}
 use Rattle.mmc_card.specs.RowsErase.{erase_held, hold_first, hold_last, holds_address, is_no_range}
 use Rattle.mmc_card.specs.RowsIdentify.{inquired, is_served, may_lag}
 use Rattle.mmc_card.specs.RowsSwitch.{ext_csd_now, is_read_of_status, is_to_speed_up, switch_row, switch_source}
-use Rattle.mmc_card.specs.RowsTransfer.{begun, preset, transfer_errors, transferred, write_errors}
+use Rattle.mmc_card.specs.RowsTransfer.{begun, preset, transfer_errors, transferred, errors_found}
 use Rattle.mmc_card.specs.Blocks.{ignoring}
 use Rattle.mmc_card.specs.RowsSwitch.{is_read}
 
@@ -143,7 +143,7 @@ switch_source_bytes : (choice : Choice) (c : Card) (argument : ℕ) → AreBytes
     → SendsBytes (switch_source choice c argument)
 switch_source_bytes choice c argument bytes =
     by_cond SendsBytes (is_to_speed_up c argument && choice.refuses_speed)
-    (λ _. reread_bytes is_read_of_status choice.unread _ (refusal_bytes choice.selects_none c.made.switch_status bytes)) (λ _. bytes)
+    (λ _. sent_bytes choice _ (refusal_bytes choice.selects_none c.made.switch_status bytes)) (λ _. sent_bytes choice _ bytes)
 
 sending_row : (choice : Choice) (command : Command) (c : Card) (index argument : ℕ) → IsSending c
     → IsSending (row choice command c index argument).0
@@ -164,13 +164,13 @@ sending_row choice SendStatus c index argument k =
     first_by_cond IsSending (may_lag c && choice.is_behind) _ _ (λ _. sending_like c _ k refl refl refl)
     (λ _. sending_shown c k)
 sending_row choice ReadSingleBlock c index argument k =
-    sending_transferred 17 (transfer_errors false c argument) c _ k (sending_begun Data true (Some 1) c argument k)
+    sending_transferred 17 (errors_found false choice c argument) c _ k (sending_begun Data true (Some 1) c argument k)
 sending_row choice ReadMultipleBlock c index argument k =
-    sending_transferred 18 (transfer_errors false c argument) c _ k (sending_begun Data false (preset c) c argument k)
+    sending_transferred 18 (errors_found false choice c argument) c _ k (sending_begun Data false (preset c) c argument k)
 sending_row choice WriteBlock c index argument k =
-    sending_transferred 24 (write_errors choice c argument) c _ k (sending_begun Rcv true (Some 1) c argument k)
+    sending_transferred 24 (errors_found true choice c argument) c _ k (sending_begun Rcv true (Some 1) c argument k)
 sending_row choice WriteMultipleBlock c index argument k =
-    sending_transferred 25 (write_errors choice c argument) c _ k (sending_begun Rcv false (preset c) c argument k)
+    sending_transferred 25 (errors_found true choice c argument) c _ k (sending_begun Rcv false (preset c) c argument k)
 sending_row choice EraseStart c index argument k = sending_first index c argument c.erase k
 sending_row choice EraseEnd c index argument k = sending_last index c argument c.erase k
 sending_row choice Erase c index argument k = sending_erase c argument c.erase k

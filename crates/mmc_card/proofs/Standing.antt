@@ -14,7 +14,7 @@ use Rattle.mmc_card.proofs.Conditions.{by_cond, first_by_cond}
 use Rattle.mmc_card.proofs.Responses.{after_response}
 use Rattle.mmc_card.proofs.Narrow.{both, sends_data, accepts_in_rcv}
 use Rattle.mmc_card.proofs.Steps.{after_command, after_write, after_poll, after_read}
-use Rattle.mmc_card.specs.CardAnswer.{Choice, garbled, left_with, raised, refused, reset, shown}
+use Rattle.mmc_card.specs.CardAnswer.{Choice, garbled, left_with, raised, refused, reset, showing, shown}
 use Rattle.mmc_card.specs.ErrorBits.{erase_reset}
 use Rattle.mmc_card.specs.Blocks.{accepted, fallen_short, is_last, programmed, rejected, rested, sent_from, waited}
 use Rattle.mmc_card.specs.Card.{Both, Card, First, FromBytes, FromSectors, Held, NoAddress, Source, is_in, is_selected}
@@ -30,7 +30,7 @@ use Rattle.mmc_card.specs.declared.command.Command.TheVariants.{WriteMultipleBlo
 use Rattle.mmc_card.specs.Rows.{answered, command_of, is_legal, leaves_erase, reached, responded, row}
 use Rattle.mmc_card.specs.RowsErase.{erase_held, forgotten, hold_first, hold_last, holds_address, is_no_range}
 use Rattle.mmc_card.specs.RowsIdentify.{may_lag}
-use Rattle.mmc_card.specs.RowsTransfer.{begun, preset, transfer_errors, transferred, write_errors}
+use Rattle.mmc_card.specs.RowsTransfer.{begun, preset, transfer_errors, transferred, errors_found}
 use Rattle.mmc_card.specs.Sectors.{Sector}
 use Rattle.mmc_card.specs.BusView.{BusView}
 use Rattle.mmc_card.specs.Blocks.{fallen_early, ignoring}
@@ -137,6 +137,9 @@ stands_raised s bits c h =
     stands_like s c (raised bits c) refl refl refl
     (reset_like c (raised bits c) refl refl refl (λ b. b) (λ b. b) (λ b. b) (λ b. b) refl (λ b. b) refl) h
 
+pub stands_showing : (s : Setting) (left found : ℕ) (c : Card) → Stands s c → Stands s (showing left found c)
+stands_showing s left found c h = stands_raised s found (left_with left c) (stands_left s left c h)
+
 pub stands_reached : (s : Setting) (choice : Choice) (command : Command) (c : Card) → Stands s c → Stands s (reached choice command c)
 stands_reached s choice command c h =
     by_cond (Stands s) (leaves_erase command) (λ _. h)
@@ -221,16 +224,16 @@ stands_row s choice SendStatus c index argument o l h =
 stands_row s choice SetBlockCount c index argument o l h =
     stands_like s c _ refl refl refl (λ a. tran_not_reset c (both (is_in c.state Tran) (has_cmd23 c.made) l).0 a) h
 stands_row s choice ReadSingleBlock c index argument o l h =
-    stands_transferred s 17 (transfer_errors false c argument) c _ h
+    stands_transferred s 17 (errors_found false choice c argument) c _ h
     (stands_begun s Data true (Some 1) c argument refl l h)
 stands_row s choice ReadMultipleBlock c index argument o l h =
-    stands_transferred s 18 (transfer_errors false c argument) c _ h
+    stands_transferred s 18 (errors_found false choice c argument) c _ h
     (stands_begun s Data false (preset c) c argument refl l h)
 stands_row s choice WriteBlock c index argument o l h =
-    stands_transferred s 24 (write_errors choice c argument) c _ h
+    stands_transferred s 24 (errors_found true choice c argument) c _ h
     (stands_begun s Rcv true (Some 1) c argument refl l h)
 stands_row s choice WriteMultipleBlock c index argument o l h =
-    stands_transferred s 25 (write_errors choice c argument) c _ h
+    stands_transferred s 25 (errors_found true choice c argument) c _ h
     (stands_begun s Rcv false (preset c) c argument refl l h)
 stands_row s choice EraseStart c index argument o l h = stands_first s index c argument c.erase l h
 stands_row s choice EraseEnd c index argument o l h = stands_last s index c argument c.erase l h
@@ -320,7 +323,8 @@ pub command_stands : (old : BusView) (frame : List ℕ) (reply : Reply) (new : B
 command_stands old frame reply new o step s h =
     after_command (Stands s) old frame reply new h
     (λ choice. stands_answered s choice old.card (command_in frame) o h)
-    (λ choice bits _. stands_answered s choice (left_with bits old.card) (command_in frame) o (stands_left s bits old.card h))
+    (λ choice left found _ _. stands_answered s choice (showing left found old.card) (command_in frame) o
+    (stands_showing s left found old.card h))
     (λ keeps. stands_garbled s keeps old.card h) (λ bits card _ k. stands_raised s bits card k)
     (λ lands keeps card _. stands_reset s lands keeps card) step
 

@@ -17,7 +17,7 @@ use Rattle.mmc_card.proofs.Conditions.{along, by_cond}
 use Rattle.mmc_card.specs.CardAnswer.{Choice, bit, status}
 use Rattle.mmc_card.specs.Card.{AreAmong, Card, IsCard}
 use Rattle.mmc_card.specs.ErrorBits.{card_is_locked, command_error_bits, error_bits as held_bits, out_of_range}
-use Rattle.mmc_card.specs.Judged.{whole_status}
+use Rattle.mmc_card.specs.Judged.{errors_and_state}
 use Rattle.mmc_card.specs.RowsIdentify.{at_work, leads_to_tran}
 use Rattle.mmc_card.specs.CardLaws.{HasNoError, HasNoErrorOfItsOwn, IsInOrder, Tells}
 
@@ -213,9 +213,9 @@ status_above w app c =
     omega (arith, some, zero, and_le_r (2 ^ 5 * bit app) 0, and_le_r 0 0)
 
 pub status_app : (kind : Kind) (app : Bool) (c : Card)
-    → bit_and (status app c) (whole_status kind) ≡ bit_and (status false c) (whole_status kind)
-status_app Sd app c = status_above (whole_status Sd / 2 ^ 7) app c
-status_app Mmc app c = status_above (whole_status Mmc / 2 ^ 7) app c
+    → bit_and (status app c) (errors_and_state kind) ≡ bit_and (status false c) (errors_and_state kind)
+status_app Sd app c = status_above (errors_and_state Sd / 2 ^ 7) app c
+status_app Mmc app c = status_above (errors_and_state Mmc / 2 ^ 7) app c
 
 -- What a status says of its card alone.
 

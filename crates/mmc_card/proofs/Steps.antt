@@ -8,14 +8,14 @@ use Rattle.mmc_card.specs.declared.exchange.Reply.{Reply}
 use Rattle.mmc_card.proofs.Cards.{among_wider}
 use Rattle.mmc_card.proofs.Conditions.{along, by_cond, first_by_cond}
 use Rattle.mmc_card.proofs.Narrow.{both}
-use Rattle.mmc_card.specs.CardAnswer.{Choice, garbled, left_with, raised, reset}
+use Rattle.mmc_card.specs.CardAnswer.{Choice, garbled, raised, reset, showing}
 use Rattle.mmc_card.specs.ErrorBits.{command_error_bits, error_bits, execution_error_bits}
 use Rattle.mmc_card.specs.Blocks.{accepted, asked_for, can_send, can_accept, fallen_early, fallen_short, ignoring, offered}
 use Rattle.mmc_card.specs.Blocks.{polled_once, programmed, rejected, rested, run_past, sent, waited, will_send}
 use Rattle.mmc_card.specs.Card.{AreAmong, Card, is_in}
 use Rattle.mmc_card.specs.Faults.{MeetsBlock, MeetsCommand, Passes, PollStep, ReadStep, brownout, busy, fail, fail_early}
 use Rattle.mmc_card.specs.Faults.{at_once, faithful, has_failed, has_fallen_short, has_rested, has_run}
-use Rattle.mmc_card.specs.Faults.{fail_switch, fall_short, find_protection, flip_command, flip_reply, leave_over, lose_block}
+use Rattle.mmc_card.specs.Faults.{fail_switch, fall_short, find_error, flip_command, lose_block, show_errors}
 use Rattle.mmc_card.specs.Faults.{lose_command, lose_reply, lose_status, outlive, reject, slow_inquiry, spoil, turn_out}
 use Rattle.mmc_card.specs.Rows.{answered}
 use Rattle.mmc_card.specs.Sectors.{Sector}
@@ -66,8 +66,8 @@ after_time P old met start rest sends failed fell ignored bears passes =
 
 pub after_command : (P : Card → Type 0) (old : BusView) (frame : List ℕ) (reply : Reply) (new : BusView) → P old.card
     → ((choice : Choice) → P (answered choice old.card (command_in frame)).0)
-    → ((choice : Choice) (bits : ℕ) → AreAmong bits command_error_bits
-    → P (answered choice (left_with bits old.card) (command_in frame)).0)
+    → ((choice : Choice) (left found : ℕ) → AreAmong left command_error_bits → AreAmong found error_bits
+    → P (answered choice (showing left found old.card) (command_in frame)).0)
     → ((keeps : Bool) → P (garbled keeps old.card)) → Bears P → Survives P → MeetsCommand old frame reply new → P new.card
 after_command P old frame reply new stays answers leaves garbles bears survives step =
     elim step [
@@ -75,12 +75,12 @@ after_command P old frame reply new stays answers leaves garbles bears survives 
       | lose_command count card silent ↦ along P card stays
       | flip_command keeps_count count card silent ↦ along P card (garbles keeps_count)
       | lose_reply choice patient count card heard silent ↦ along P card (answers choice)
-      | flip_reply choice patient count card flipped ↦ along P card (answers choice)
       | slow_inquiry choice slow late inquiry count card spells ↦ along P card (answers choice)
       | fail_switch choice fails switch count card spells ↦ along P card (answers choice)
-      | find_protection choice finds patient writes count card spells ↦ along P card (answers choice)
+      | find_error choice finds patient transfers count card spells ↦ along P card (answers choice)
       | outlive choice bits argument among patient resets count card silent ↦ along P card (bears bits _ among (answers choice))
-      | leave_over choice bits of patient count card spells ↦ along P card (leaves choice bits of.0)
+      | show_errors choice left found among errors some cleared patient count card spells ↦ along P card
+          (leaves choice left found among (among_all found errors))
       | brownout choice lands keeps_length after patient count card silent ↦ along P card
           (survives lands keeps_length _ (by_cond P after (λ _. answers choice) (λ _. stays)))
     ]
@@ -120,9 +120,10 @@ after_write P old block got new stays accepts rejects falls turns ignored bears 
     elim step [
       | faithful count card answer ↦ along P card offers
       | lose_block can count card answer ↦ along P card stays
-      | reject ignores is_busy can count card answer ↦ along P card (rejects ignores is_busy can)
-      | lose_status is_accepted ignores is_busy can count card answer ↦ along P card
-          (by_cond P is_accepted (λ _. accepts can) (λ _. rejects ignores is_busy can))
+      | reject bits ignores is_busy among can count card answer ↦ along P card
+          (bears bits _ (among_all bits among) (rejects ignores is_busy can))
+      | lose_status bits is_accepted ignores is_busy among can count card answer ↦ along P card
+          (bears bits _ (among_all bits among) (by_cond P is_accepted (λ _. accepts can) (λ _. rejects ignores is_busy can)))
       | fall_short lands bits ignores of can count card answer ↦ along P card
           (bears bits _ (among_all bits of.0) (ignored ignores _ (falls lands can)))
       | turn_out lands several can count card answer ↦ along P card (turns lands can)

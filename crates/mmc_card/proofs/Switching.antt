@@ -15,9 +15,9 @@ use Rattle.mmc_card.specs.declared.part.Part.TheVariants.{Boot1, Boot2, Gp1, Gp2
 use Rattle.mmc_card.proofs.ByteLemmas.{access_below}
 use Rattle.mmc_card.proofs.CardRows.{legal_reached}
 use Rattle.mmc_card.proofs.Conditions.{by_cond, first_by_cond}
-use Rattle.mmc_card.proofs.Standing.{stands_garbled, stands_left, stands_quiet, stands_raised, stands_reached, stands_refused, stands_reset, up_in}
+use Rattle.mmc_card.proofs.Standing.{stands_garbled, stands_showing, stands_quiet, stands_raised, stands_reached, stands_refused, stands_reset, up_in}
 use Rattle.mmc_card.proofs.Steps.{after_command}
-use Rattle.mmc_card.specs.CardAnswer.{Choice, left_with}
+use Rattle.mmc_card.specs.CardAnswer.{Choice, showing}
 use Rattle.mmc_card.specs.Card.{Card, is_in, stored}
 use Rattle.mmc_card.specs.Faults.{MeetsCommand}
 use Rattle.mmc_card.specs.Laws.{Setting, Stands, StandsIn, SwitchesTo}
@@ -149,7 +149,7 @@ command_switches part old frame index argument reply new switch command step s h
     (switch_answers s part choice card.made.kind card argument (ap (λ (m : Made). m.kind) made ∙ switch.mmc)
     (switch.access ∙ ap (λ (m : Made). write_byte 179 (partition_config_for m part)) (sym made)) h)) in
     after_command (Switched part s) old frame reply new (inl h) (λ choice. answers choice old.card refl h)
-    (λ choice bits _. answers choice (left_with bits old.card) refl (stands_left s bits old.card h))
+    (λ choice left found _ _. answers choice (showing left found old.card) refl (stands_showing s left found old.card h))
     (λ keeps. inl (stands_garbled s keeps old.card h))
     (λ bits card _ k. elim k [ inl stays ↦ inl (stands_raised s bits card stays) | inr moves ↦ inr (stands_raised _ bits card moves) ])
     (λ lands keeps card _. inl (stands_reset s lands keeps card)) step

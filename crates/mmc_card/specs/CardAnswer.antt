@@ -1,7 +1,7 @@
 -- Relation (docs/AUDIT.md, "What to read").
 -- What a card shows of itself in a response, and what it does with the error bits that it has shown.
 -- When error bits are raised, shown and cleared is the project's own choice, made here once.
-use Rattle.std.specs.Prelude.{◌%◌, ◌*◌, ◌+◌, ◌-◌, ◌^◌, Bool, List, bit_or, false, if◌then◌else◌, min, not, true, ℕ}
+use Rattle.std.specs.Prelude.{◌%◌, ◌*◌, ◌+◌, ◌-◌, ◌^◌, Bool, List, Option, bit_or, false, if◌then◌else◌, min, not, true, ℕ}
 use Rattle.mmc_frame.specs.Field.{field}
 use Rattle.mmc_frame.specs.Status.{state_number}
 use Rattle.mmc_frame.specs.declared.card_state.State.{State}
@@ -37,8 +37,8 @@ pub record Choice : Type 0 where
   -- a switch of an eMMC device fails; where none is carried out, the status after it alone says so
   pub fails_switch : Bool
   pub says_late : Bool
-  -- a write finds its sectors protected
-  pub finds_protection : Bool
+  -- which error bits a read or a write finds, so that it doesn't begin
+  pub finds : ℕ
   -- CMD12 that ends a read leaves the card busy
   pub stays_busy : Bool
   -- CMD12 is answered in tran too
@@ -53,6 +53,8 @@ pub record Choice : Type 0 where
   pub tells_late : Bool
   -- places in the EXT_CSD or in a switch status, and the bytes that stand there, where nobody reads them
   pub unread : List (ℕ × ℕ)
+  -- another function of group 2 in a switch status
+  pub second_group : Option ℕ
 
 abbrev pub bit : Bool → ℕ
 bit b = if b then 1 else 0
@@ -92,6 +94,10 @@ shown card =
 -- some of bits 23 and 22 are left to be shown, besides those that are
 abbrev pub left_with : ℕ → Card → Card
 left_with bits card = record card { command_errors = bit_or card.command_errors bits }
+
+-- and error bits of execution too
+abbrev pub showing : ℕ → ℕ → Card → Card
+showing left found card = raised found (left_with left card)
 
 -- A command that isn't carried out: no response, and ILLEGAL_COMMAND.
 abbrev pub refused : Card → Card

@@ -1,23 +1,22 @@
 -- Relation (docs/AUDIT.md, "What to read").
 -- The steps of a kept bus: time passes, and then each exchange is a faithful step, or one fault, which adds one to the count of
 -- faults. What may go wrong, and what a card does then, is the project's own.
-use Rattle.std.specs.Prelude.{◌&&◌, ◌+◌, ◌<◌, ◌≡◌, ◌≤◌, Bool, IsSomeAnd, List, None, Ok, Option, Some, false}
-use Rattle.std.specs.Prelude.{if◌then◌else◌, is_some, length, true, ℕ}
-use Rattle.mmc_frame.specs.Check.{bits_of}
-use Rattle.mmc_frame.specs.Flips.{AreBytes, Flips}
-use Rattle.mmc_frame.specs.Frame.{argument_in, command_in, response_in}
-use Rattle.mmc_frame.specs.RegisterFrame.{ocr_frame, register_frame}
+use Rattle.std.specs.Prelude.{◌&&◌, ◌+◌, ◌<◌, ◌≡◌, ◌≤◌, ◌⊎◌, Bool, IsSomeAnd, List, None, Ok, Option, Some, false}
+use Rattle.std.specs.Prelude.{if◌then◌else◌, is_ok, is_some, true, ℕ}
+use Rattle.mmc_frame.specs.Frame.{command_in, response_in}
+use Rattle.mmc_frame.specs.RegisterFrame.{ocr_frame, ocr_in, register_frame, register_in}
 use Rattle.mmc_frame.specs.declared.card_state.State.TheVariants.{Idle, Prg, Rcv, Tran}
 use Rattle.mmc_card.specs.declared.exchange.DataIn.{DataIn}
 use Rattle.mmc_card.specs.declared.exchange.DataOut.{DataOut}
 use Rattle.mmc_card.specs.declared.exchange.Reply.{Reply}
-use Rattle.mmc_card.specs.CardAnswer.{CardAnswer, Checked, Choice, Silent, R3, R2, garbled, left_with, raised, reset}
+use Rattle.mmc_card.specs.CardAnswer.{CardAnswer, Checked, Choice, Silent, R3, R2, garbled, raised, reset, showing}
 use Rattle.mmc_card.specs.ErrorBits.{command_error_bits, error_bits, execution_error_bits}
 use Rattle.mmc_card.specs.Blocks.{accepted, asked_for, can_send, can_accept, fallen_early, fallen_short, ignoring, next_block}
 use Rattle.mmc_card.specs.Blocks.{offered, polled_once, programmed, rejected, rested, run_past, sent, waited, will_send}
 use Rattle.mmc_card.specs.Card.{AreAmong, Card, is_in, patience}
 use Rattle.mmc_card.specs.declared.command.Command.{Command}
 use Rattle.mmc_card.specs.declared.command.Command.TheVariants.{SdSendOpCond, SendOpCond, Switch, WriteBlock, WriteMultipleBlock}
+use Rattle.mmc_card.specs.declared.command.Command.TheVariants.{ReadMultipleBlock, ReadSingleBlock}
 use Rattle.mmc_card.specs.Judged.{IsSaid}
 use Rattle.mmc_frame.specs.declared.commands.TheConstants as Index
 use Rattle.mmc_card.specs.Rows.{answered, command_of}
@@ -55,25 +54,15 @@ Spells (R2 bytes) reply = reply ≡ Came.Long (register_frame bytes)
 abbrev pub Replies : Card → CardAnswer → Reply → Type 0
 Replies card answer reply = (said : CardAnswer) × IsSaid card.made.kind answer said × Spells said reply
 
--- a frame of this many bytes, of which one bit or two are flipped
-abbrev pub AreFlipped : ℕ → List ℕ → List ℕ → Type 0
-AreFlipped size frame heard =
-    (length frame ≡ size) × (length heard ≡ size) × AreBytes heard × Flips (bits_of frame) (bits_of heard)
-
--- The reply is this answer with one bit or two flipped; of an R3 never those of the OCR, which nothing protects.
-abbrev pub IsFlipped : CardAnswer → Reply → Type 0
-IsFlipped Silent reply = ⊥
-IsFlipped (Checked index argument) reply =
-    (frame : List ℕ) × (heard : List ℕ) × (response_in frame index ≡ Ok argument) × AreFlipped 6 frame heard
-    × (reply ≡ Came.Short heard)
-IsFlipped (R3 ocr) reply =
-    (heard : List ℕ) × AreFlipped 6 (ocr_frame ocr) heard × (argument_in heard ≡ ocr) × (reply ≡ Came.Short heard)
-IsFlipped (R2 bytes) reply =
-    (heard : List ℕ) × AreFlipped 17 (register_frame bytes) heard × (reply ≡ Came.Long heard)
-
--- such a reply with one bit or two flipped
-abbrev pub RepliesFlipped : Card → CardAnswer → Reply → Type 0
-RepliesFlipped card answer reply = (said : CardAnswer) × IsSaid card.made.kind answer said × IsFlipped said reply
+-- Nothing comes of an answer to this command, or something that no reader takes: no sound register, no OCR where one is asked for,
+-- and no sound response to this command (SD Physical Layer 6.00, sections 4.5 and 4.9; JESD84-B51, sections 6.12 and 8.2).
+abbrev pub IsRefused : Option (ℕ × ℕ) → CardAnswer → Reply → Type 0
+IsRefused sent answer Came.Silent = Unit {0}
+IsRefused sent Silent reply = ⊥
+IsRefused sent answer (Came.Long frame) = is_ok (register_in frame) ≡ false
+IsRefused sent (R3 ocr) (Came.Short frame) = is_ok (ocr_in frame) ≡ false
+IsRefused (Some command) answer (Came.Short frame) = is_ok (response_in frame command.0) ≡ false
+IsRefused None answer (Came.Short frame) = ⊥
 
 -- a readiness inquiry that the card could answer with ready
 abbrev pub is_inquiry : Command → Card → ℕ → Bool
@@ -98,24 +87,22 @@ is_switch_frame card None = false
 abbrev pub IsPatient : Choice → ℕ → Type 0
 IsPatient choice times = choice.is_slow ≡ true → times < patience
 
--- so it is at a command, no switch fails, and no write finds its sectors protected
+-- so it is at a command, no switch fails, and no read or write finds an error
 abbrev pub IsFaultless : Choice → Card → Type 0
 IsFaultless choice card =
-    IsPatient choice card.inquiries × (choice.fails_switch ≡ false) × (choice.finds_protection ≡ false)
+    IsPatient choice card.inquiries × (choice.fails_switch ≡ false) × (choice.finds ≡ 0)
 
--- CMD24 or CMD25
-abbrev pub is_write : Command → Bool
-is_write WriteBlock = true
-is_write WriteMultipleBlock = true
-is_write _ = false
+-- CMD17, CMD18, CMD24 or CMD25
+abbrev pub is_transfer : Command → Bool
+is_transfer ReadSingleBlock = true
+is_transfer ReadMultipleBlock = true
+is_transfer WriteBlock = true
+is_transfer WriteMultipleBlock = true
+is_transfer _ = false
 
-abbrev pub is_write_frame : Card → Option (ℕ × ℕ) → Bool
-is_write_frame card (Some command) = is_write (command_of card.made.kind card.app command.0)
-is_write_frame card None = false
-
--- ILLEGAL_COMMAND, COM_CRC_ERROR, or both
-abbrev pub AreOfACommand : ℕ → Type 0
-AreOfACommand bits = AreAmong bits command_error_bits × (bits ≡ 0 → ⊥)
+abbrev pub is_transfer_frame : Card → Option (ℕ × ℕ) → Bool
+is_transfer_frame card (Some command) = is_transfer (command_of card.made.kind card.app command.0)
+is_transfer_frame card None = false
 
 -- some error bits of execution, one at least
 abbrev pub AreOfExecution : ℕ → Type 0
@@ -152,15 +139,12 @@ pub data MeetsCommand (old : BusView) (frame : List ℕ) (reply : Reply) (new : 
   -- one bit or two of it are flipped, so its check is bad
   flip_command : (keeps_count : Bool) → OneFault old new → new.card ≡ garbled keeps_count old.card → reply ≡ Came.Silent
       → MeetsCommand old frame reply new
-  -- The card answers, and the host hears nothing; so it may not learn that a switch failed, or that sectors are protected.
+  -- The card answers, and the host hears nothing, or nothing sound; so it may not learn that a switch failed, or that sectors are
+  -- protected.
   lose_reply : (choice : Choice) → IsPatient choice old.card.inquiries → OneFault old new
       → new.card ≡ (answered choice old.card (command_in frame)).0
-      → ((answered choice old.card (command_in frame)).1 ≡ Silent → ⊥) → reply ≡ Came.Silent
-      → MeetsCommand old frame reply new
-  -- one bit or two of the answer are flipped
-  flip_reply : (choice : Choice) → IsPatient choice old.card.inquiries → OneFault old new
-      → new.card ≡ (answered choice old.card (command_in frame)).0
-      → RepliesFlipped old.card (answered choice old.card (command_in frame)).1 reply
+      → ((answered choice old.card (command_in frame)).1 ≡ Silent → ⊥)
+      → IsRefused (command_in frame) (answered choice old.card (command_in frame)).1 reply
       → MeetsCommand old frame reply new
   -- not ready once more than a faithful card is
   slow_inquiry : (choice : Choice) → choice.is_slow ≡ true → patience ≤ old.card.inquiries
@@ -173,9 +157,10 @@ pub data MeetsCommand (old : BusView) (frame : List ℕ) (reply : Reply) (new : 
       → OneFault old new → new.card ≡ (answered choice old.card (command_in frame)).0
       → Replies old.card (answered choice old.card (command_in frame)).1 reply
       → MeetsCommand old frame reply new
-  -- a write finds its sectors protected by CMD28: it doesn't begin, and WP_VIOLATION says so
-  find_protection : (choice : Choice) → choice.finds_protection ≡ true → IsPatient choice old.card.inquiries
-      → is_write_frame old.card (command_in frame) ≡ true → OneFault old new
+  -- A read or a write finds an error: it doesn't begin, and its response says why, as WP_VIOLATION of sectors that CMD28 has
+  -- protected (SD Physical Layer 6.00, section 4.3.6; JESD84-B51, section 6.6.15).
+  find_error : (choice : Choice) → AreOfExecution choice.finds → IsPatient choice old.card.inquiries
+      → is_transfer_frame old.card (command_in frame) ≡ true → OneFault old new
       → new.card ≡ (answered choice old.card (command_in frame)).0
       → Replies old.card (answered choice old.card (command_in frame)).1 reply
       → MeetsCommand old frame reply new
@@ -184,17 +169,20 @@ pub data MeetsCommand (old : BusView) (frame : List ℕ) (reply : Reply) (new : 
       → command_in frame ≡ Some (Index.GO_IDLE_STATE, argument) → OneFault old new
       → new.card ≡ raised bits (answered choice old.card (command_in frame)).0 → reply ≡ Came.Silent
       → MeetsCommand old frame reply new
-  -- the card has an error to show of something on the line that it took for a command before this one
-  -- (SD Physical Layer 6.00, section 4.10.1, clear condition B; JESD84-B51, section 6.13)
-  leave_over : (choice : Choice) (bits : ℕ) → AreOfACommand bits → IsFaultless choice old.card → OneFault old new
-      → new.card ≡ (answered choice (left_with bits old.card) (command_in frame)).0
-      → Replies old.card (answered choice (left_with bits old.card) (command_in frame)).1 reply
+  -- The card has errors to show besides: of something on the line that it took for a command before this one, and of execution,
+  -- found since or while it answers (SD Physical Layer 6.00, section 4.10.1, clear condition B, types x and r; JESD84-B51,
+  -- section 6.13). Those of execution show in this response, and are cleared by it.
+  show_errors : (choice : Choice) (left found : ℕ) → AreAmong left command_error_bits → AreAmong found execution_error_bits
+      → (left + found ≡ 0 → ⊥) → (found ≡ 0) ⊎ (new.card.errors ≡ 0)
+      → IsFaultless choice old.card → OneFault old new
+      → new.card ≡ (answered choice (showing left found old.card) (command_in frame)).0
+      → Replies old.card (answered choice (showing left found old.card) (command_in frame)).1 reply
       → MeetsCommand old frame reply new
   -- the power fails before the step or after it
   brownout : (choice : Choice) (lands : ℕ → Bool) (keeps_length after : Bool) → IsFaultless choice old.card
       → OneFault old new
       → new.card ≡ reset lands keeps_length (if after then (answered choice old.card (command_in frame)).0 else old.card)
-      → reply ≡ Came.Silent → MeetsCommand old frame reply new
+      → IsRefused (command_in frame) (answered choice old.card (command_in frame)).1 reply → MeetsCommand old frame reply new
 
 -- Time passes, and then a command meets the card.
 pub record CommandStep (old : BusView) (frame : List ℕ) (reply : Reply) (new : BusView) : Type 0 where
@@ -239,13 +227,15 @@ pub data MeetsBlock (old : BusView) (block : List ℕ) (got : DataOut) (new : Bu
   -- the card doesn't see it
   lose_block : can_accept old.lines old.card ≡ true → OneFault old new → new.card ≡ old.card → got ≡ Sent.Nothing
       → MeetsBlock old block got new
-  -- the card rejects it, and may ignore all that come after it
-  reject : (ignores is_busy : Bool) → can_accept old.lines old.card ≡ true → OneFault old new
-      → new.card ≡ rejected ignores is_busy old.card → got ≡ Sent.Rejected
+  -- The card rejects it, and may ignore all that come after it. It may have error bits of execution to show.
+  reject : (bits : ℕ) (ignores is_busy : Bool) → AreAmong bits execution_error_bits → can_accept old.lines old.card ≡ true
+      → OneFault old new → new.card ≡ raised bits (rejected ignores is_busy old.card) → got ≡ Sent.Rejected
       → MeetsBlock old block got new
-  -- the card's status is lost, whether it accepted the block or rejected it
-  lose_status : (is_accepted ignores is_busy : Bool) → can_accept old.lines old.card ≡ true → OneFault old new
-      → new.card ≡ (if is_accepted then accepted block old.card else rejected ignores is_busy old.card) → got ≡ Sent.Nothing
+  -- the card's status is lost, whether it accepted the block or rejected it, with errors to show or none
+  lose_status : (bits : ℕ) (is_accepted ignores is_busy : Bool) → AreAmong bits execution_error_bits
+      → can_accept old.lines old.card ≡ true → OneFault old new
+      → new.card ≡ raised bits (if is_accepted then accepted block old.card else rejected ignores is_busy old.card)
+      → got ≡ Sent.Nothing
       → MeetsBlock old block got new
   -- the card accepts it, and an earlier block turns out not to be programmed, as at a poll
   fall_short : (lands : ℕ → Bool) (bits : ℕ) (ignores : Bool) → AreOfExecution bits → can_accept old.lines old.card ≡ true

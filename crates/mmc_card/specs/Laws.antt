@@ -7,7 +7,7 @@ use Rattle.mmc_card.specs.declared.part.Part.{Part}
 use Rattle.mmc_card.specs.Blocks.{next_written}
 use Rattle.mmc_card.specs.Card.{Both, Card, FromBytes, FromSectors, Held, IsApart, Source, holds, is_in, is_selected}
 use Rattle.mmc_card.specs.Card.{stored}
-use Rattle.mmc_card.specs.Faults.{NoFault, OneFault}
+use Rattle.mmc_card.specs.Faults.{Passes}
 use Rattle.mmc_card.specs.Made.{first_rca}
 use Rattle.mmc_card.specs.declared.command.Command.{Command}
 use Rattle.mmc_card.specs.declared.command.Command.TheVariants.{Erase, EraseEnd, EraseStart, ReadMultipleBlock}
@@ -136,13 +136,17 @@ pub record SwitchesTo (part : Part) (card : Card) (index argument : ℕ) : Type 
   pub switch : index ≡ Index.SWITCH_FUNC
   pub access : argument ≡ write_byte 179 (partition_config_for card.made part)
 
--- no fault falls, or one
-abbrev pub CountsAtMostOne : BusView → BusView → Type 0
-CountsAtMostOne old new = NoFault old new ⊎ OneFault old new
-
 -- no fault is taken back, and at most so many fall
 abbrev pub CountsAtMost : ℕ → BusView → BusView → Type 0
 CountsAtMost most old new = (old.faults ≤ new.faults) × (new.faults ≤ old.faults + most)
+
+-- time has passed, and this holds of the card by now
+abbrev pub AfterSomeTime : BusView → (Card → Type 0) → Type 0
+AfterSomeTime old Holds = (met : BusView) × Passes old met × Holds met.card
+
+-- this holds of the card however much time passes
+abbrev pub AfterAnyTime : BusView → (Card → Type 0) → Type 0
+AfterAnyTime old Holds = (met : BusView) → Passes old met → Holds met.card
 
 -- nothing goes on in it by itself: it isn't busy, and neither programs nor sends
 pub record IsStill (card : Card) : Type 0 where

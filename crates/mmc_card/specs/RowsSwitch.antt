@@ -42,9 +42,10 @@ abbrev pub refusal : Bool → List ℕ → List ℕ
 refusal selects_none status =
     slice_set status 16 (16 * field 7 4 (slice_index status 16) + (if selects_none then 15 else 0))
 
--- The bytes that are read of a switch status: which functions of group 1 it has, and which is selected.
+-- The bytes of a switch status of which something is read: whether the card has high speed, and which function of group 1 is
+-- selected.
 abbrev pub is_read_of_status : ℕ → Bool
-is_read_of_status place = nat_le 12 place && nat_le place 16
+is_read_of_status place = (place == 13) || (place == 16)
 
 -- these bytes, with others in places that aren't read
 abbrev pub reread : (ℕ → Bool) → List (ℕ × ℕ) → List ℕ → List ℕ
@@ -52,14 +53,24 @@ reread is_read [] bytes = bytes
 reread is_read (other ∷ others) bytes =
     reread is_read others (if is_read other.0 then bytes else slice_set bytes other.0 (other.1 % 256))
 
+-- with this function of group 2, which has the high half of byte 16, or the one that it had
+abbrev pub with_second_group : Option ℕ → List ℕ → List ℕ
+with_second_group None status = status
+with_second_group (Some function) status =
+    slice_set status 16 (16 * (function % 16) + field 3 0 (slice_index status 16))
+
+-- A switch status as it is sent this time: with another current, other functions of the other groups, or functions that are busy
+-- (SD Physical Layer 6.00, section 4.3.10 and table 4-13).
+abbrev pub status_sent : Choice → List ℕ → List ℕ
+status_sent choice status = with_second_group choice.second_group (reread is_read_of_status choice.unread status)
+
 -- The 64 bytes that the card sends: its switch status, and once that is sent it has switched; or, where it is to switch
--- and leaves high speed unselected, a status that says so, maybe with another current or with functions that are busy, and the
--- timing stays (SD Physical Layer 6.00, section 4.3.10 and table 4-13).
+-- and leaves high speed unselected, a status that says so, and the timing stays (SD Physical Layer 6.00, section 4.3.10).
 abbrev pub switch_source : Choice → Card → ℕ → Source
 switch_source choice card argument =
     if is_to_speed_up card argument && choice.refuses_speed
-    then FromBytes (reread is_read_of_status choice.unread (refusal choice.selects_none card.made.switch_status)) card.timing
-    else FromBytes card.made.switch_status (timing_after card argument)
+    then FromBytes (status_sent choice (refusal choice.selects_none card.made.switch_status)) card.timing
+    else FromBytes (status_sent choice card.made.switch_status) (timing_after card argument)
 
 -- CMD6 of SD, SWITCH_FUNC
 abbrev pub switch_func : Choice → Card → ℕ → Card × CardAnswer
@@ -103,12 +114,12 @@ ext_csd_now card =
     179 (partition_config_for card.made card.part)) 183 (width_number card.width)) 185 (timing_number card.timing)
 
 -- The bytes that are read of an EXT_CSD. All others are open at each CMD8: life time, BKOPS_STATUS, the exceptions and
--- CORRECTLY_PRG_SECTORS_NUM change while a device works (JESD84-B51, section 7.4).
+-- CORRECTLY_PRG_SECTORS_NUM change while a device works, and BUS_WIDTH needn't be readable (JESD84-B51, section 7.4).
 abbrev pub is_read : ℕ → Bool
 is_read place =
-    (nat_le 143 place && nat_le place 155) || ((place == 175) || ((place == 179) || ((place == 181) || ((place == 183)
+    (nat_le 143 place && nat_le place 155) || ((place == 175) || ((place == 179) || ((place == 181)
     || ((place == 185) || ((place == 192) || ((place == 196) || ((nat_le 212 place && nat_le place 215)
-    || ((place == 221) || ((place == 224) || ((place == 226) || (place == 231))))))))))))
+    || ((place == 221) || ((place == 224) || ((place == 226) || (place == 231)))))))))))
 
 -- CMD8 of eMMC, SEND_EXT_CSD
 abbrev pub send_ext_csd : Choice → Card → Card × CardAnswer

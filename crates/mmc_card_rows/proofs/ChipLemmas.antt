@@ -1,24 +1,25 @@
 -- What a chip keeps true of its fields, and why a transfer doesn't begin.
 use Rattle.std.proofs.Common.{◌%◌, ◌*◌, ◌+◌, ◌/◌, ◌==◌, ◌^◌, ◌∙◌, ◌≡◌, ◌≤◌, Bool, List, ap, arith, bit_or, false, refl}
-use Rattle.std.proofs.Common.{sym, true, ℕ}
+use Rattle.std.proofs.Common.{subst, sym, true, ℕ}
 use Rattle.std.proofs.lemmas.Bool.Decides.{nat_tests}
 use Rattle.std.specs.Prelude.{◌||◌, if◌then◌else◌, nat_le}
 use Rattle.mmc_frame.proofs.Bytes.{and_true}
 use Rattle.mmc_card.proofs.Cards.{among_wider}
 use Rattle.mmc_card.specs.Faults.{AreOfExecution}
 use Rattle.std.specs.Int.{bit_at}
-use Rattle.std.specs.Int.Bits.{or_add_and}
+use Rattle.std.specs.Int.Bits.{or_add_and, or_zero_r}
 use Rattle.std.specs.Int.RustNames.{bit_and}
 use Rattle.std.proofs.lemmas.Bool.{eqb-true, ne_eqb}
 use Rattle.std.proofs.lemmas.Nat.{and_block, and_le_r, le_or_l, shr-shr, shr_split}
 use Rattle.std.proofs.lemmas.Nat.Bits.{bit_at_or, same_from_bits}
 use Rattle.mmc_card.specs.Card.{AreAmong, Card}
-use Rattle.mmc_card.specs.CardAnswer.{CardAnswer, Checked, bit, raised, shown, status}
+use Rattle.mmc_card.specs.CardAnswer.{CardAnswer, Checked, Choice, bit, raised, shown, status}
 use Rattle.mmc_card.specs.ErrorBits.{address_error, block_len_error, command_error_bits, error_bits}
 use Rattle.mmc_card.specs.ErrorBits.{execution_error_bits, out_of_range, wp_violation}
-use Rattle.mmc_card.specs.RowsTransfer.{transferred}
+use Rattle.mmc_card.specs.RowsTransfer.{errors_found, transfer_errors, transferred}
 use Rattle.mmc_card.specs.Sectors.{Change, Sector}
-use Rattle.mmc_card_rows.specs.Chip.{Answers, card_of}
+use Rattle.mmc_card_rows.specs.Chip.{Answers, card_of, command_choice, errors_with}
+use Rattle.mmc_card_rows.specs.declared.delays.Delays.{Delays}
 use Rattle.mmc_card_rows.specs.FaultErrors.{are_of_execution}
 use Rattle.mmc_card_rows.specs.declared.answer.Answer.{Answer}
 use Rattle.mmc_card_rows.specs.declared.chip.Chip.{Chip}
@@ -158,6 +159,19 @@ refused_transfer index bits errors card after now new answer held some raises di
     let is : card_of now ≡ raised errors card = raises ∙ ap (λ n. raised n card) (omega (arith, held)) in
     rw (ap choose (some_held bits errors held some))
     (did.0 ∙ ap shown is, did.1 ∙ ap (λ (c : Card). Checked index (status false c)) is, did.2)
+
+-- what a card finds is the protection that it is to find
+found_so : (finds is_write : Bool) (choice : Choice) (card : Card) (address : ℕ) → choice.finds ≡ (if finds then wp_violation else 0)
+    → errors_with finds is_write card address ≡ errors_found is_write choice card address
+found_so true is_write choice card address is = rw is refl
+found_so false is_write choice card address is = rw is (sym (or_zero_r (transfer_errors is_write card address)))
+
+pub found_with : (index : ℕ) (is_write : Bool) (delays : Delays) (card after : Card) (address : ℕ) (new : Chip) (answer : Answer)
+    → Answers (transferred index (errors_with delays.finds_protection is_write card address) card after) new answer
+    → Answers (transferred index (errors_found is_write (command_choice delays card) card address) card after) new answer
+found_with index is_write delays card after address new answer did =
+    subst (λ (n : ℕ). Answers (transferred index n card after) new answer)
+    (found_so delays.finds_protection is_write (command_choice delays card) card address refl) did
 
 -- a change of a partition is unfinished
 pub with_change : (card : Card) (parts : List (List Sector)) (start : ℕ) (values : List Sector) (change : Change)

@@ -89,7 +89,7 @@ choice_of is_slow = record {
   selects_none = true;
   fails_switch = false;
   says_late = false;
-  finds_protection = false;
+  finds = 0;
   stays_busy = false;
   answers_stop = false;
   drops_quietly = false;
@@ -98,6 +98,7 @@ choice_of is_slow = record {
   shows_ready = false;
   tells_late = false;
   unread = [];
+  second_group = None;
 }
 
 -- an SD card that refuses to switch to high speed
@@ -129,7 +130,7 @@ command_choice delays card =
       refuses_speed = refuses delays.refusal;
       unread = life_time_bytes card.made.kind delays.life_time;
       selects_none = selects_none delays.refusal;
-      finds_protection = delays.finds_protection;
+      finds = if delays.finds_protection then wp_violation else 0;
       stays_busy = delays.stays_busy;
       is_behind =
           nat_lt 0 (lagging_behind delays.before delays)
@@ -156,7 +157,7 @@ delays_after delays command rca =
       life_time = if is_reset command then aged delays.life_time else delays.life_time;
     }
 
--- the same, but that a write finds its sectors protected
+-- the same, but that a read or a write finds its sectors protected
 abbrev pub finding_protection : Delays → Delays
 finding_protection delays = record delays { finds_protection = true }
 
@@ -182,9 +183,9 @@ pub record KeepsWaits (old new : Delays) : Type 0 where
   pub busy : new.busy ≡ old.busy
   pub finds_protection : new.finds_protection ≡ old.finds_protection
 
--- why a transfer can't begin, where a write finds its sectors protected or not
-abbrev pub errors_found : Bool → Bool → Card → ℕ → ℕ
-errors_found finds is_write card address =
+-- why a transfer can't begin, where it finds its sectors protected or not
+abbrev pub errors_with : Bool → Bool → Card → ℕ → ℕ
+errors_with finds is_write card address =
     if finds then bit_or (transfer_errors is_write card address) wp_violation else transfer_errors is_write card address
 
 -- the chip is the card after a step, and this is its answer

@@ -6,3 +6,4 @@ pub mod SectorLists
 pub mod Sizes
 pub mod Store
 pub mod Switches
+pub mod Transfers

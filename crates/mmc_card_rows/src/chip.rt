@@ -159,7 +159,8 @@ impl Chip {
     ghost use Rattle.mmc_card_rows.specs.Store.{parts_of, values_of};
     ghost use Rattle.std.specs.Prelude.{[], None};
     ghost use Rattle.mmc_card.specs.Rows.{answered, is_legal, reached, respond, row};
-    ghost use Rattle.mmc_card.specs.Faults.{is_switch_frame, is_write_frame};
+    ghost use Rattle.mmc_card.specs.Faults.{is_switch_frame, is_transfer_frame};
+    ghost use Rattle.mmc_card_rows.specs.Transfers.{is_write_frame};
     ghost use Rattle.mmc_card.specs.RowsSwitch.{switch_row};
     ghost use Rattle.mmc_card.specs.declared.command.Command.TheVariants.{Switch};
     ghost use Rattle.mmc_frame.specs.declared.card_state.State.TheVariants.{Tran};
@@ -365,8 +366,8 @@ impl Chip {
             Command::StopTransmission => self.stop_transmission(delays),
             Command::SendStatus => self.send_status(delays),
             Command::SetBlocklen => self.set_blocklen(argument),
-            Command::ReadSingleBlock => self.read_single_block(argument),
-            Command::ReadMultipleBlock => self.read_multiple_block(argument),
+            Command::ReadSingleBlock => self.read_single_block(delays, argument),
+            Command::ReadMultipleBlock => self.read_multiple_block(delays, argument),
             Command::SetBlockCount => self.set_block_count(argument),
             Command::WriteBlock => self.write_block(delays, argument),
             Command::WriteMultipleBlock => self.write_multiple_block(delays, argument),
@@ -425,6 +426,25 @@ impl Chip {
                 let command = command_of(self.registers.kind(), self.is_app, index);
                 matches!(command, Command::WriteBlock | Command::WriteMultipleBlock)
                     && self.is_in(State::Tran)
+            }
+            None => false,
+        }
+    }
+
+    /// Whether a frame is CMD17, CMD18, CMD24 or CMD25, in tran.
+    pub fn is_transfer(&self, frame: &[u8; 6]) -> bool
+        ensures { result ≡ (is_transfer_frame (card_of self.now) (command_in frame.now) && is_in self.now.state Tran) }
+    {
+        match read_command(frame) {
+            Some((index, _)) => {
+                let command = command_of(self.registers.kind(), self.is_app, index);
+                matches!(
+                    command,
+                    Command::ReadSingleBlock
+                        | Command::ReadMultipleBlock
+                        | Command::WriteBlock
+                        | Command::WriteMultipleBlock
+                ) && self.is_in(State::Tran)
             }
             None => false,
         }

@@ -22,7 +22,7 @@ impl Chip {
     ghost use Rattle.mmc_card.specs.RowsTransfer.{begun, preset, read_multiple_block, read_single_block};
     ghost use Rattle.mmc_card.specs.RowsTransfer.{set_block_count_to, set_blocklen, stop_transmission};
     ghost use Rattle.mmc_card.specs.RowsTransfer.{transferred, write_block, write_multiple_block};
-    ghost use Rattle.mmc_card_rows.specs.Chip.{Answers, card_of, command_choice, errors_found};
+    ghost use Rattle.mmc_card_rows.specs.Chip.{Answers, card_of, command_choice, errors_with};
 
     /// The sector that an address names.
     pub fn sector_at(&self, address: u32) -> usize
@@ -52,7 +52,7 @@ impl Chip {
 
     // The errors of a transfer that is to begin at an address.
     fn errors_at(&self, finds_protection: bool, is_write: bool, address: u32) -> Status
-        ensures errors { bits_in result ≡ 2 ^ 13 * errors_found finds_protection is_write (card_of self.now) address }
+        ensures errors { bits_in result ≡ 2 ^ 13 * errors_with finds_protection is_write (card_of self.now) address }
         ensures known { AreAmong (bits_in result) (2 ^ 13 * error_bits) }
     {
         let is_beyond = self.sector_at(address) >= self.store.size(self.part);
@@ -93,7 +93,7 @@ impl Chip {
         address: u32,
     ) -> Answer
         requires { index < 64 }
-        ensures { Answers (transferred index (errors_found finds_protection is_write (card_of self.old) address) (card_of self.old)
+        ensures { Answers (transferred index (errors_with finds_protection is_write (card_of self.old) address) (card_of self.old)
             (begun (if is_write then Rcv else Data) is_single left (card_of self.old) address)) self.new result }
     {
         let errors = self.errors_at(finds_protection, is_write, address);
@@ -119,19 +119,28 @@ impl Chip {
     }
 
     /// CMD17.
-    pub fn read_single_block(&mut self, address: u32) -> Answer
-        ensures { Answers (read_single_block (card_of self.old) address) self.new result }
+    pub fn read_single_block(&mut self, delays: Delays, address: u32) -> Answer
+        ensures { Answers (read_single_block (command_choice delays (card_of self.old)) (card_of self.old) address) self.new
+            result }
     {
-        self.transfer(READ_SINGLE_BLOCK, false, false, true, Some(1), address)
+        self.transfer(
+            READ_SINGLE_BLOCK,
+            delays.finds_protection,
+            false,
+            true,
+            Some(1),
+            address,
+        )
     }
 
     /// CMD18.
-    pub fn read_multiple_block(&mut self, address: u32) -> Answer
-        ensures { Answers (read_multiple_block (card_of self.old) address) self.new result }
+    pub fn read_multiple_block(&mut self, delays: Delays, address: u32) -> Answer
+        ensures { Answers (read_multiple_block (command_choice delays (card_of self.old)) (card_of self.old) address)
+            self.new result }
     {
         self.transfer(
             READ_MULTIPLE_BLOCK,
-            false,
+            delays.finds_protection,
             false,
             false,
             self.preset(),

@@ -1,5 +1,4 @@
--- Flipping bits of frames: what a mask does to a byte, and that a reply with flipped bits is one that the card relation
--- allows.
+-- Flipping bits of frames: what a mask does to a byte, and that a reply with flipped bits is refused.
 use Rattle.std.proofs.Common.{◌%◌, ◌*◌, ◌++◌, ◌+◌, ◌/◌, ◌<◌, ◌^◌, ◌∙◌, ◌∷◌, ◌≡◌, ◌≤◌, ◌⊎◌, Bool, List, None, Option}
 use Rattle.std.proofs.Common.{Some, [], ap, arith, bit_xor, drop, false, inl, inr, length, not, refl, subst, suc, sym}
 use Rattle.std.proofs.Common.{take, true, zero, ℕ}
@@ -14,12 +13,34 @@ use Rattle.mmc_frame.specs.Frame.{argument_in}
 use Rattle.mmc_frame.specs.RegisterFrame.{ocr_frame, register_frame}
 use Rattle.mmc_frame.proofs.Bytes.{length-bits_of}
 use Rattle.mmc_card.specs.CardAnswer.{CardAnswer, Checked, R2, R3, Silent}
-use Rattle.mmc_card.specs.Faults.{AreFlipped, IsFlipped}
+use Rattle.mmc_card.specs.Faults.{IsRefused}
+use Rattle.mmc_frame.specs.Flips.{RefusesFlips, RefusesFlipsBesideOcr, is_r2, is_response_to}
+use Rattle.mmc_frame.specs.RegisterFrame.{RegistersComeBack}
+use Rattle.mmc_frame.specs.Frame.{response_in}
+use Rattle.mmc_bus.proofs.Readers.{IsAnswerTo}
+use Rattle.mmc_card.specs.declared.command.Command.{Command}
+use Rattle.std.specs.Prelude.{Ok, is_ok}
 use Rattle.mmc_card.specs.declared.exchange.Reply.{Reply}
 use Rattle.mmc_card.specs.declared.exchange.Reply.TheVariants as Came
 use Rattle.mmc_card_sim.specs.FlippedReplies.{AreFlippedIn, HasBytes, IsHeardFlipped, are_beside_ocr, can_flip, flip_both}
 use Rattle.mmc_card_sim.specs.FlippedReplies.{flip_second, is_beside_ocr, is_flip, is_flip_of}
 use Rattle.mmc_card_sim.specs.declared.fault.Flips as Positions
+
+-- a frame of this many bytes, of which one bit or two are flipped
+abbrev AreFlipped : ℕ → List ℕ → List ℕ → Type 0
+AreFlipped size frame heard =
+    (length frame ≡ size) × (length heard ≡ size) × AreBytes heard × Flips (bits_of frame) (bits_of heard)
+
+-- The reply is this answer with one bit or two flipped; of an R3 never those of the OCR.
+abbrev IsFlipped : CardAnswer → Reply → Type 0
+IsFlipped Silent reply = ⊥
+IsFlipped (Checked index argument) reply =
+    (frame : List ℕ) × (heard : List ℕ) × (response_in frame index ≡ Ok argument) × AreFlipped 6 frame heard
+    × (reply ≡ Came.Short heard)
+IsFlipped (R3 ocr) reply =
+    (heard : List ℕ) × AreFlipped 6 (ocr_frame ocr) heard × (argument_in heard ≡ ocr) × (reply ≡ Came.Short heard)
+IsFlipped (R2 bytes) reply =
+    (heard : List ℕ) × AreFlipped 17 (register_frame bytes) heard × (reply ≡ Came.Long heard)
 
 -- a bit, flipped where the mask's is set
 abbrev pub masked : Bool → Bool → Bool
@@ -222,8 +243,8 @@ long_heard flips frame (Came.Short heard) sent flipped bytes fits = absurd flipp
 long_heard flips frame (Came.Long heard) sent flipped bytes fits =
     (heard, are_flipped 17 flips frame heard fits sent.0 bytes.0 bytes.1 flipped, refl)
 
--- a reply with flipped bits is one that the card relation allows
-pub is_flipped : (flips : Positions.Flips) (answer : CardAnswer) (reply : Reply) → can_flip flips answer ≡ true
+-- a reply of which these bits are flipped
+is_flipped : (flips : Positions.Flips) (answer : CardAnswer) (reply : Reply) → can_flip flips answer ≡ true
     → IsHeardFlipped flips answer reply → IsFlipped answer reply
 is_flipped flips Silent reply fits h = cc
 is_flipped flips (Checked index argument) reply fits h =
@@ -239,3 +260,29 @@ is_flipped flips (R3 ocr) reply fits h =
 is_flipped flips (R2 register) reply fits h =
     long_heard flips (register_frame register) reply (subst HasBytes h.spells h.sent_bytes)
     (subst (λ sent. AreFlippedIn flips sent reply) h.spells h.flipped) h.bytes fits
+
+-- the laws of the readers of frames
+pub record FlipLaws : Type 0 where
+  pub response : (index other : ℕ) → RefusesFlips 6 (is_response_to index) (is_response_to other)
+  pub ocr : RefusesFlipsBesideOcr
+  pub register : RefusesFlips 17 is_r2 is_r2
+  pub back : RegistersComeBack
+
+refuses : FlipLaws → (sent : ℕ × ℕ) (command : Command) (answer : CardAnswer) (reply : Reply) → IsAnswerTo command answer
+    → IsFlipped answer reply → IsRefused (Some sent) answer reply
+refuses laws sent command Silent reply fits f = absurd f
+refuses laws sent command (Checked index argument) reply fits f =
+    subst (IsRefused (Some sent) (Checked index argument)) (sym f.4)
+    (laws.response index sent.0 f.0 f.1 f.3.0 f.3.1 f.3.3 (ap is_ok f.2))
+refuses laws sent command (R3 ocr) reply fits f =
+    subst (IsRefused (Some sent) (R3 ocr)) (sym f.3) (laws.ocr ocr f.0 f.1.1 f.1.2 f.1.3 f.2)
+refuses laws sent command (R2 bytes) reply fits f =
+    subst (IsRefused (Some sent) (R2 bytes)) (sym f.2)
+    (laws.register (register_frame bytes) f.0 f.1.0 f.1.1 f.1.3 (ap is_ok (laws.back bytes fits.size fits.check fits.end_bit)))
+
+-- a reply with flipped bits is one that no reader takes
+pub flipped_is_refused : FlipLaws → (sent : ℕ × ℕ) (command : Command) (flips : Positions.Flips) (answer : CardAnswer)
+    (reply : Reply) → IsAnswerTo command answer → can_flip flips answer ≡ true → IsHeardFlipped flips answer reply
+    → IsRefused (Some sent) answer reply
+flipped_is_refused laws sent command flips answer reply fits can heard =
+    refuses laws sent command answer reply fits (is_flipped flips answer reply can heard)

@@ -1,6 +1,6 @@
 -- The exchanges of a card in memory, with a fault or without one, are steps of a card, and leave one.
 use Rattle.std.proofs.Common.{◌&&◌, ◌+◌, ◌-◌, ◌/◌, ◌<◌, ◌^◌, ◌||◌, ◌≡◌, ◌≤◌, ◌∙◌, Bool, List, None, Some, ap, arith}
-use Rattle.std.proofs.Common.{◌⊎◌, bit_or, false, inl, inr, not, refl, subst, sym, true, ℕ}
+use Rattle.std.proofs.Common.{◌⊎◌, bit_or, cond, false, inl, inr, not, refl, subst, sym, true, ℕ}
 use Rattle.std.specs.Prelude.{◌==◌, Option, if◌then◌else◌, is_some, min, nat_le, nat_lt}
 use Rattle.std.proofs.lemmas.Bool.Decides.{nat_tests}
 use Rattle.mmc_frame.proofs.Bytes.{and_true}
@@ -11,19 +11,26 @@ use Rattle.mmc_card.specs.declared.exchange.Exchange.TheVariants.{Busy, Command,
 use Rattle.mmc_card.specs.declared.exchange.Reply.{Reply}
 use Rattle.mmc_card.specs.declared.exchange.Want.{Want}
 use Rattle.mmc_card.specs.BusView.{BusView}
-use Rattle.mmc_card.specs.Card.{Card, IsBlock, IsCard, is_in, patience}
-use Rattle.mmc_card.specs.CardAnswer.{CardAnswer, Checked, Choice, R2, R3, Silent, raised}
-use Rattle.mmc_card.specs.Rows.{answered, command_of, responded}
+use Rattle.mmc_card.specs.Card.{AreAmong, Card, IsBlock, IsCard, is_in, patience}
+use Rattle.mmc_card.specs.CardAnswer.{CardAnswer, Checked, Choice, R2, R3, Silent, left_with, raised, showing, shown, status}
+use Rattle.mmc_card.specs.Rows.{answered, command_of, reached, responded}
 use Rattle.mmc_card.specs.RowsSwitch.{switched}
 use Rattle.mmc_card.specs.declared.command.Command.{Command as Meaning}
 use Rattle.mmc_card.specs.declared.command.Command.TheVariants as Names
 use Rattle.mmc_frame.specs.Frame.{command_in}
-use Rattle.mmc_card.specs.ErrorBits.{card_ecc_failed, com_crc_error, general_error, illegal_command}
+use Rattle.mmc_card.specs.ErrorBits.{card_ecc_failed, com_crc_error, command_error_bits, general_error, illegal_command, wp_violation}
 use Rattle.mmc_card.specs.Faults.{AreOfExecution, CommandStep, IsPatient, MeetsBlock, MeetsCommand, PollStep, ReadStep, Spells}
 use Rattle.mmc_card.specs.Faults.{Passes, WriteStep, at_once, has_rested, has_run}
-use Rattle.mmc_card.specs.Faults.{is_switch, is_switch_frame, is_write_frame}
+use Rattle.mmc_card.specs.Faults.{IsRefused, Replies, is_switch, is_switch_frame, is_transfer, is_transfer_frame}
+use Rattle.mmc_card_rows.specs.Transfers.{is_write, is_write_frame}
+use Rattle.mmc_card.specs.declared.exchange.Reply.TheVariants as Came
+use Rattle.mmc_bus.proofs.Readers.{IsAnswerTo, responded_answer}
+use Rattle.mmc_card_sim.proofs.FlipLemmas.{FlipLaws, flipped_is_refused}
+use Rattle.mmc_card_sim.specs.FlippedReplies.{IsHeardFlipped, can_flip}
+use Rattle.mmc_card_sim.specs.declared.fault.Flips.{Flips}
+use Rattle.mmc_card.specs.RowsTransfer.{begun, errors_found, preset}
 use Rattle.mmc_card.specs.Faults.MeetsCommand.{brownout as command_brownout, faithful as does_command, flip_command}
-use Rattle.mmc_card.specs.Faults.MeetsCommand.{fail_switch, find_protection, flip_reply, leave_over, lose_command, lose_reply}
+use Rattle.mmc_card.specs.Faults.MeetsCommand.{fail_switch, find_error, lose_command, lose_reply, show_errors}
 use Rattle.mmc_card.proofs.JudgedLemmas.{replies_as_is}
 use Rattle.mmc_card.specs.Faults.PollStep.{brownout as poll_brownout, busy, fail, fail_early, faithful as does_poll, fall_short}
 use Rattle.mmc_card.specs.Faults.ReadStep.{brownout as read_brownout, faithful as does_read, spoil}
@@ -53,13 +60,12 @@ use Rattle.mmc_card_sim.specs.declared.fault.Fault.{Fault}
 use Rattle.mmc_card_sim.specs.declared.fault.Fault.TheVariants as Is
 use Rattle.mmc_card_rows.specs.declared.fault.Outcome.TheVariants.{New, Old}
 use Rattle.mmc_card_sim.specs.declared.plan.Planned.{Planned}
-use Rattle.mmc_card_sim.proofs.FlipLemmas.{is_flipped}
 use Rattle.std.specs.Int.Bits.{or_zero_r}
 use Rattle.mmc_card.specs.Blocks.{next_block, rested, run_past, sent}
 use Rattle.std.specs.Int.RustNames.{bit_and}
 use Rattle.std.proofs.lemmas.Nat.{and_or_apart}
 use Rattle.std.proofs.lemmas.Bool.{eqb-true, ltb-true}
-use Rattle.mmc_card.specs.Judged.{Agree, IsEarlyOcr, IsSaid, judged}
+use Rattle.mmc_card.specs.Judged.{Agree, IsEarlyOcr, IsReadyInTran, IsSaid, judged}
 use Rattle.mmc_frame.specs.declared.kind.Kind.{Kind}
 use Rattle.mmc_frame.specs.declared.kind.Kind.TheVariants.{Mmc, Sd}
 use Rattle.mmc_card_rows.specs.Answer.{early_ocr, said_as}
@@ -175,6 +181,12 @@ said_by true kind index argument is =
     (and_or_apart (judged kind 3) argument 0x20 (apart_from_app kind))
 said_by false kind index argument is = refl
 
+-- and it is in none of CMD13's
+ready_by : (shows : Bool) (index argument : ℕ) → (shows ≡ true → index ≡ 3) → index ≡ 13
+    → IsReadyInTran (if shows then bit_or argument 0x20 else argument) argument
+ready_by true index argument third is = absurd (omega (arith, third refl, is))
+ready_by false index argument third is = λ tran. refl
+
 -- bits 30 and 29 of an OCR aren't judged before the card is ready
 ocr_said : (below : Bool) (early ocr : ℕ) → below ≡ nat_lt ocr (2 ^ 31)
     → let told = if below then early_ocr early ocr else ocr in
@@ -185,20 +197,137 @@ ocr_said false early ocr is = inl refl
 said_is : (kind : Kind) (delays : Delays) (answer : CardAnswer) → IsSaid kind answer (said_as delays answer)
 said_is kind delays Silent = refl
 said_is kind delays (Checked index argument) =
-    let shows = delays.shows_app_cmd in (
+    let shows = delays.shows_app_cmd in
+    let third : (shows && (index == 3)) ≡ true → index ≡ 3 = λ is. eqb-true index 3 (and_true shows (index == 3) is).1 in (
       _,
       refl,
-      said_by (shows && (index == 3)) kind index argument (λ is. eqb-true index 3 (and_true shows (index == 3) is).1),
+      said_by (shows && (index == 3)) kind index argument third,
+      ready_by (shows && (index == 3)) index argument third,
     )
 said_is kind delays (R3 ocr) = (_, refl, ocr_said (nat_lt ocr (2 ^ 31)) delays.early ocr refl)
 said_is kind delays (R2 bytes) = refl
+
+-- an answer is of the same kind as it is sent
+refused_said : (delays : Delays) (sent : ℕ × ℕ) (answer : CardAnswer) (reply : Reply)
+    → IsRefused (Some sent) (said_as delays answer) reply → IsRefused (Some sent) answer reply
+refused_said delays sent answer Came.Silent refused = tt
+refused_said delays sent Silent (Came.Short frame) refused = refused
+refused_said delays sent Silent (Came.Long frame) refused = refused
+refused_said delays sent (Checked index argument) (Came.Short frame) refused = refused
+refused_said delays sent (Checked index argument) (Came.Long frame) refused = refused
+refused_said delays sent (R3 ocr) (Came.Short frame) refused = refused
+refused_said delays sent (R3 ocr) (Came.Long frame) refused = refused
+refused_said delays sent (R2 bytes) (Came.Short frame) refused = refused
+refused_said delays sent (R2 bytes) (Came.Long frame) refused = refused
+
+answers_said : (delays : Delays) (command : Meaning) (answer : CardAnswer) → IsAnswerTo command answer
+    → IsAnswerTo command (said_as delays answer)
+answers_said delays command Silent fits = fits
+answers_said delays command (Checked index argument) fits = fits
+answers_said delays command (R3 ocr) fits = fits
+answers_said delays command (R2 bytes) fits = fits
+
+-- an answer whose bits are flipped is lost
+lost_by_flips : FlipLaws → (choice : Choice) (delays : Delays) (card : Card) (sent : Option (ℕ × ℕ)) (flips : Flips) (reply : Reply)
+    → IsCard card → can_flip flips (said_as delays (answered choice card sent).1) ≡ true
+    → IsHeardFlipped flips (said_as delays (answered choice card sent).1) reply
+    → ((answered choice card sent).1 ≡ Silent → ⊥) × IsRefused sent (answered choice card sent).1 reply
+lost_by_flips laws choice delays card None flips reply k can heard = cc
+lost_by_flips laws choice delays card (Some command) flips reply k can heard =
+    let meaning = command_of card.made.kind card.app command.0 in
+    let answer = (answered choice card (Some command)).1 in (
+      λ silent. cc (ap (λ (a : CardAnswer). can_flip flips (said_as delays a)) silent, can),
+      refused_said delays command answer reply
+          (flipped_is_refused laws command meaning flips (said_as delays answer) reply
+          (answers_said delays meaning answer (responded_answer choice meaning card command.0 command.1 k.registers)) can heard),
+    )
+
+transfer_clears : (b : Bool) (index errors : ℕ) (card after : Card) → after.errors ≡ 0
+    → (cond {A = Card × CardAnswer} b (after, Checked index (status false card))
+    (shown card, Checked index (status false (raised errors card)))).0.errors ≡ 0
+transfer_clears true index errors card after clear = clear
+transfer_clears false index errors card after clear = refl
+
+-- the response to a read or a write shows all errors, and clears them
+clears : (choice : Choice) (command : Meaning) (card : Card) (index argument : ℕ) → is_transfer command ≡ true
+    → is_in card.state Tran ≡ true → (responded choice command card index argument).0.errors ≡ 0
+clears choice Names.ReadSingleBlock card index argument is tran =
+    let met = reached choice Names.ReadSingleBlock card in
+    let errors = errors_found false choice met argument in
+    rw tran (transfer_clears (errors == 0) 17 errors met (begun Data true (Some 1) met argument) refl)
+clears choice Names.ReadMultipleBlock card index argument is tran =
+    let met = reached choice Names.ReadMultipleBlock card in
+    let errors = errors_found false choice met argument in
+    rw tran (transfer_clears (errors == 0) 18 errors met (begun Data false (preset met) met argument) refl)
+clears choice Names.WriteBlock card index argument is tran =
+    let met = reached choice Names.WriteBlock card in
+    let errors = errors_found true choice met argument in
+    rw tran (transfer_clears (errors == 0) 24 errors met (begun Rcv true (Some 1) met argument) refl)
+clears choice Names.WriteMultipleBlock card index argument is tran =
+    let met = reached choice Names.WriteMultipleBlock card in
+    let errors = errors_found true choice met argument in
+    rw tran (transfer_clears (errors == 0) 25 errors met (begun Rcv false (preset met) met argument) refl)
+clears choice Names.GoIdleState card index argument is tran = cc
+clears choice Names.SendOpCond card index argument is tran = cc
+clears choice Names.SdSendOpCond card index argument is tran = cc
+clears choice Names.AllSendCid card index argument is tran = cc
+clears choice Names.SendRelativeAddr card index argument is tran = cc
+clears choice Names.SetRelativeAddr card index argument is tran = cc
+clears choice Names.SelectCard card index argument is tran = cc
+clears choice Names.SendIfCond card index argument is tran = cc
+clears choice Names.SendExtCsd card index argument is tran = cc
+clears choice Names.SendCsd card index argument is tran = cc
+clears choice Names.StopTransmission card index argument is tran = cc
+clears choice Names.SendStatus card index argument is tran = cc
+clears choice Names.SetBlocklen card index argument is tran = cc
+clears choice Names.SetBlockCount card index argument is tran = cc
+clears choice Names.EraseStart card index argument is tran = cc
+clears choice Names.EraseEnd card index argument is tran = cc
+clears choice Names.Erase card index argument is tran = cc
+clears choice Names.Switch card index argument is tran = cc
+clears choice Names.SwitchFunc card index argument is tran = cc
+clears choice Names.SetBusWidth card index argument is tran = cc
+clears choice Names.SendScr card index argument is tran = cc
+clears choice Names.AppCmd card index argument is tran = cc
+clears choice Names.Unknown card index argument is tran = cc
+
+clears_all : (choice : Choice) (card : Card) (sent : Option (ℕ × ℕ)) → is_transfer_frame card sent ≡ true
+    → is_in card.state Tran ≡ true → (answered choice card sent).0.errors ≡ 0
+clears_all choice card (Some command) is tran =
+    clears choice (command_of card.made.kind card.app command.0) card command.0 command.1 is tran
+clears_all choice card None is tran = cc
+
+-- what is left over alone, and errors of execution alone
+left_alone : (left : ℕ) (card : Card) → showing left 0 card ≡ left_with left card
+left_alone left card = ap (λ (n : ℕ). record (left_with left card) { errors = n }) (or_zero_r card.errors)
+
+found_alone : (found : ℕ) (card : Card) → showing 0 found card ≡ raised found card
+found_alone found card = ap (λ (n : ℕ). record (raised found card) { command_errors = n }) (or_zero_r card.command_errors)
+
+-- where nothing comes nothing is taken
+nothing_heard : (sent : Option (ℕ × ℕ)) (answer : CardAnswer) (reply : Reply) → reply ≡ Came.Silent → IsRefused sent answer reply
+nothing_heard sent answer reply silent = subst (IsRefused sent answer) (sym silent) tt
+
+-- who writes transfers
+writes_by : (command : Meaning) → is_write command ≡ true → is_transfer command ≡ true
+writes_by Names.WriteBlock h = refl
+writes_by Names.WriteMultipleBlock h = refl
+writes_by _ h = cc
+
+writes_transfer : (card : Card) (sent : Option (ℕ × ℕ)) → is_write_frame card sent ≡ true → is_transfer_frame card sent ≡ true
+writes_transfer card (Some command) h = writes_by (command_of card.made.kind card.app command.0) h
+writes_transfer card None h = cc
 
 -- the choice of a card whose switch fails
 abbrev failing_choice : Bool → Delays → Card → Choice
 failing_choice late delays card = record (command_choice delays card) { fails_switch = true; says_late = late }
 
 module _ (plan : List Planned) (old new : Card) (delays : Delays) (soon : delays.ready ≤ patience)
-    (bare : delays.finds_protection ≡ false) (faults later : ℕ) (before after : Wire) where
+    (bare : delays.finds_protection ≡ false) (k : IsCard old) (laws : FlipLaws) (faults later : ℕ) (before after : Wire) where
+  -- it finds nothing
+  finds_none : (command_choice delays old).finds ≡ 0
+  finds_none = ap (λ b. if b then wp_violation else 0) bare
+
   failed_switch : (late : Bool) (frame : List ℕ) (reply : Reply) → later ≡ faults + 1
       → is_switch_frame old (command_in frame) ≡ true → new ≡ (failing late old).0 → Spells (failing late old).1 reply
       → MeetsCommand (kept_with plan old faults before) frame reply (kept_with plan new later after)
@@ -206,6 +335,16 @@ module _ (plan : List Planned) (old new : Card) (delays : Delays) (soon : delays
       let is = fails_to_switch (failing_choice late delays old) old (command_in frame) refl refl fits in
       fail_switch (failing_choice late delays old) refl fits one (card ∙ ap (λ (x : Card × CardAnswer). x.0) is)
       (replies_as_is old _ reply (subst (λ (x : Card × CardAnswer). Spells x.1 reply) is heard))
+
+  left_over : (left : ℕ) (frame : List ℕ) (reply : Reply) → AreAmong left command_error_bits → (left + 0 ≡ 0 → ⊥) → later ≡ faults + 1
+      → new ≡ (heeded delays (left_with left old) frame).0 → Spells (heeded delays (left_with left old) frame).1 reply
+      → MeetsCommand (kept_with plan old faults before) frame reply (kept_with plan new later after)
+  left_over left frame reply among some one card heard =
+      let choice = command_choice delays old in
+      let e = sym (left_alone left old) in
+      show_errors choice left 0 among refl some (inl refl) (soon_ready delays old soon, refl, finds_none) one
+      (card ∙ ap (λ (c : Card). (answered choice c (command_in frame)).0) e)
+      (subst (λ (c : Card). Replies old (answered choice c (command_in frame)).1 reply) e (_, said_is old.made.kind delays _, heard))
 
   command_fault : (fault : Option Fault) (frame : List ℕ) (reply : Reply) → later ≡ faults + 1
       → fits_command fault delays old frame ≡ true
@@ -216,10 +355,10 @@ module _ (plan : List Planned) (old new : Card) (delays : Delays) (soon : delays
   command_fault (Some (Is.FlipCommand flips)) frame reply one fits card heard = flip_command false one card heard
   command_fault (Some Is.LoseReply) frame reply one fits card heard =
       lose_reply (command_choice delays old) (soon_ready delays old soon) one card
-      (λ none. cc (ap (λ answer. is_answer (said_as delays answer)) none, fits)) heard
+      (λ none. cc (ap (λ answer. is_answer (said_as delays answer)) none, fits)) (nothing_heard _ _ reply heard)
   command_fault (Some (Is.FlipReply flips)) frame reply one fits card heard =
-      flip_reply (command_choice delays old) (soon_ready delays old soon) one card
-      (_, said_is old.made.kind delays _, is_flipped flips (heeded delays old frame).1 reply fits heard)
+      let lost = lost_by_flips laws (command_choice delays old) delays old (command_in frame) flips reply k fits heard in
+      lose_reply (command_choice delays old) (soon_ready delays old soon) one card lost.0 lost.1
   command_fault (Some Is.FailSwitch) frame reply one fits card heard = failed_switch false frame reply one fits card heard
   command_fault (Some Is.FailSwitchLate) frame reply one fits card heard =
       failed_switch true frame reply one fits card heard
@@ -227,21 +366,31 @@ module _ (plan : List Planned) (old new : Card) (delays : Delays) (soon : delays
       let is = fails_to_switch (failing_choice false delays old) old (command_in frame) refl refl fits in
       lose_reply (failing_choice false delays old) (soon_ready delays old soon) one
       (card ∙ ap (λ (x : Card × CardAnswer). x.0) is)
-      (λ none. cc (ap (λ (x : Card × CardAnswer). x.1) is, none)) heard
+      (λ none. cc (ap (λ (x : Card × CardAnswer). x.1) is, none)) (nothing_heard _ _ reply heard)
   command_fault (Some Is.FindProtection) frame reply one fits card heard =
-      find_protection (command_choice (finding_protection delays) old) refl
+      find_error (command_choice (finding_protection delays) old) (refl, λ none. cc)
       (soon_ready (finding_protection delays) old soon)
-      (and_true (is_write_frame old (command_in frame)) (is_in old.state Tran) fits).0 one card
+      (writes_transfer old (command_in frame) (and_true (is_write_frame old (command_in frame)) (is_in old.state Tran) fits).0) one card
       (_, said_is old.made.kind (finding_protection delays) _, heard)
   command_fault (Some (Is.LeaveOver ComCrc)) frame reply one fits card heard =
-      leave_over (command_choice delays old) com_crc_error (refl, λ none. cc) (soon_ready delays old soon, refl, bare) one
-      card (_, said_is old.made.kind delays _, heard)
+      left_over com_crc_error frame reply refl (λ none. cc) one card heard
   command_fault (Some (Is.LeaveOver Illegal)) frame reply one fits card heard =
-      leave_over (command_choice delays old) illegal_command (refl, λ none. cc) (soon_ready delays old soon, refl, bare) one
-      card (_, said_is old.made.kind delays _, heard)
+      left_over illegal_command frame reply refl (λ none. cc) one card heard
+  command_fault (Some (Is.ShowError bits)) frame reply one fits card heard =
+      let parts = and_true (are_of_execution bits) (is_transfer_frame old (command_in frame) && is_in old.state Tran) fits in
+      let there = and_true (is_transfer_frame old (command_in frame)) (is_in old.state Tran) parts.1 in
+      let of = execution_held bits parts.0 in
+      let found = bits / 2 ^ 13 in
+      let choice = command_choice delays old in
+      let e = sym (found_alone found old) in
+      show_errors choice 0 found refl of.0 (λ none. of.1 (omega (arith, none)))
+      (inr (ap (λ (c : Card). c.errors) card ∙ clears_all choice (raised found old) (command_in frame) there.0 there.1))
+      (soon_ready delays old soon, refl, finds_none) one
+      (card ∙ ap (λ (c : Card). (answered choice c (command_in frame)).0) e)
+      (subst (λ (c : Card). Replies old (answered choice c (command_in frame)).1 reply) e (_, said_is old.made.kind delays _, heard))
   command_fault (Some (Is.Brownout outcome)) frame reply one fits card heard =
       command_brownout (choice_of false) (lands_by outcome) delays.keeps_length false (λ slow. absurd cc, refl, refl) one card
-      heard
+      (nothing_heard _ _ reply heard)
   command_fault (Some Is.BadBlock) frame reply one fits card heard = cc
   command_fault (Some Is.NoBlock) frame reply one fits card heard = cc
   command_fault (Some Is.ReadError) frame reply one fits card heard = cc
@@ -260,17 +409,17 @@ module _ (plan : List Planned) (old new : Card) (delays : Delays) (soon : delays
       → Commands fault delays old frame reply fell new
       → MeetsCommand (kept_with plan old faults before) frame reply (kept_with plan new later after)
   command_met fault frame reply false counts does =
-      does_command (command_choice delays old) (soon_ready delays old soon, refl, bare) counts (does.card refl)
+      does_command (command_choice delays old) (soon_ready delays old soon, refl, finds_none) counts (does.card refl)
       (_, said_is old.made.kind delays _, does.answer refl)
   command_met fault frame reply true counts does =
       command_fault fault frame reply counts (sym does.fell_is) (does.fault_card refl) (does.fault_reply refl)
 
   pub commanded : (fault : Option Fault) (frame : List ℕ) (want : Want) (reply : Reply) (fell : Bool)
       → later ≡ (if fell then faults + 1 else faults) → Commands fault delays old frame reply fell new
-      → IsCard old → Notes before (Command frame want reply) after
+      → Notes before (Command frame want reply) after
       → later + to_come plan after.exchanges ≤ faults + to_come plan before.exchanges
       → Commanded (kept_with plan old faults before) frame want reply (kept_with plan new later after) × IsCard new
-  commanded fault frame want reply fell counts does k notes in_bounds =
+  commanded fault frame want reply fell counts does notes in_bounds =
       let step = commands_at_once _ frame reply _ (command_met fault frame reply fell counts does) in
       let is = step_leaves_card (kept_with plan old faults before) frame reply (kept_with plan new later after)
       step k in
@@ -305,6 +454,7 @@ module _ (plan : List Planned) (old new : Card) (delays : Delays) (faults later 
   read_fault (Some Is.FailSwitch) size got block one fits card answer = cc
   read_fault (Some Is.FailSwitchLate) size got block one fits card answer = cc
   read_fault (Some (Is.LeaveOver error)) size got block one fits card answer = cc
+  read_fault (Some (Is.ShowError bits)) size got block one fits card answer = cc
   read_fault (Some Is.Busy) size got block one fits card answer = cc
   read_fault (Some Is.Reject) size got block one fits card answer = cc
   read_fault (Some Is.RejectAll) size got block one fits card answer = cc
@@ -345,12 +495,16 @@ module _ (plan : List Planned) (old new : Card) (delays : Delays) (faults later 
       → new ≡ after_write fault delays old block → got ≡ written_out fault
       → MeetsBlock (kept_with plan old faults before) block got (kept_with plan new later after)
   write_fault (Some Is.LoseBlock) block got one fits card answer = lose_block fits one card answer
-  write_fault (Some Is.RejectBusy) block got one fits card answer = reject false true fits one card answer
-  write_fault (Some Is.Reject) block got one fits card answer = reject false false fits one card answer
+  write_fault (Some Is.RejectBusy) block got one fits card answer =
+      reject 0 false true refl fits one (card ∙ sym (raised_none _)) answer
+  write_fault (Some Is.Reject) block got one fits card answer =
+      reject 0 false false refl fits one (card ∙ sym (raised_none _)) answer
   write_fault (Some Is.RejectAll) block got one fits card answer =
-      reject (not old.is_single) false fits one card answer
-  write_fault (Some (Is.LoseStatus Old)) block got one fits card answer = lose_status false false false fits one card answer
-  write_fault (Some (Is.LoseStatus New)) block got one fits card answer = lose_status true false false fits one card answer
+      reject 0 (not old.is_single) false refl fits one (card ∙ sym (raised_none _)) answer
+  write_fault (Some (Is.LoseStatus Old)) block got one fits card answer =
+      lose_status 0 false false false refl fits one (card ∙ sym (raised_none _)) answer
+  write_fault (Some (Is.LoseStatus New)) block got one fits card answer =
+      lose_status 0 true false false refl fits one (card ∙ sym (raised_none _)) answer
   write_fault (Some (Is.Brownout outcome)) block got one fits card answer =
       write_brownout (lands_by outcome) delays.keeps_length false one card answer
   write_fault None block got one fits card answer = cc
@@ -361,6 +515,7 @@ module _ (plan : List Planned) (old new : Card) (delays : Delays) (faults later 
   write_fault (Some Is.FailSwitch) block got one fits card answer = cc
   write_fault (Some Is.FailSwitchLate) block got one fits card answer = cc
   write_fault (Some (Is.LeaveOver error)) block got one fits card answer = cc
+  write_fault (Some (Is.ShowError bits)) block got one fits card answer = cc
   write_fault (Some Is.Busy) block got one fits card answer = cc
   write_fault (Some Is.BadBlock) block got one fits card answer = cc
   write_fault (Some Is.NoBlock) block got one fits card answer = cc
@@ -455,6 +610,7 @@ module _ (plan : List Planned) (old new : Card) (delays : Delays) (soon : delays
   poll_fault (Some Is.FailSwitch) said one fits card is = cc
   poll_fault (Some Is.FailSwitchLate) said one fits card is = cc
   poll_fault (Some (Is.LeaveOver error)) said one fits card is = cc
+  poll_fault (Some (Is.ShowError bits)) said one fits card is = cc
   poll_fault (Some Is.BadBlock) said one fits card is = cc
   poll_fault (Some Is.NoBlock) said one fits card is = cc
   poll_fault (Some Is.ReadError) said one fits card is = cc

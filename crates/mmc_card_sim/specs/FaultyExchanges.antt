@@ -16,7 +16,7 @@ use Rattle.mmc_card.specs.Blocks.{fallen_early, fallen_short, next_written, wait
 use Rattle.mmc_card.specs.Card.{Card, is_in, patience, stored}
 use Rattle.mmc_card.specs.CardAnswer.{CardAnswer, Choice, Silent, garbled, left_with, raised, reset}
 use Rattle.mmc_card.specs.ErrorBits.{card_ecc_failed, general_error}
-use Rattle.mmc_card.specs.Faults.{Spells, is_switch_frame, is_write_frame}
+use Rattle.mmc_card.specs.Faults.{Spells, is_switch_frame, is_transfer_frame}
 use Rattle.mmc_card.specs.Rows.{answered, reached}
 use Rattle.mmc_card.specs.RowsSwitch.{switch_row}
 use Rattle.mmc_card.specs.declared.command.Command.TheVariants.{Switch}
@@ -25,6 +25,7 @@ use Rattle.mmc_card_sim.specs.FlippedReplies.{IsHeardFlipped, can_flip, is_flip}
 use Rattle.mmc_card_rows.specs.FaultErrors.{are_of_execution, error_bit}
 use Rattle.mmc_card_rows.specs.Chip.{Sends, choice_of, command_choice, finding_protection}
 use Rattle.mmc_card_rows.specs.Store.{lands_by}
+use Rattle.mmc_card_rows.specs.Transfers.{is_write_frame}
 use Rattle.mmc_card_rows.specs.declared.delays.Delays.{Delays}
 use Rattle.mmc_card_rows.specs.declared.fault.CommandError.{CommandError}
 use Rattle.mmc_card_sim.specs.declared.fault.Fault.{Fault}
@@ -32,7 +33,7 @@ use Rattle.mmc_card_sim.specs.declared.fault.Fault.TheVariants.{BadBlock, Browno
 use Rattle.mmc_card_sim.specs.declared.fault.Fault.TheVariants.{FailSwitch, FailSwitchLate, FlipReply, LeaveOver}
 use Rattle.mmc_card_sim.specs.declared.fault.Fault.TheVariants.{LoseCommand, LoseReply, LoseStatus, NoBlock, ReadError}
 use Rattle.mmc_card_sim.specs.declared.fault.Fault.TheVariants.{FailEarly, FindProtection, LoseBlock, LoseFailedSwitch}
-use Rattle.mmc_card_sim.specs.declared.fault.Fault.TheVariants.{Reject, RejectAll, RejectBusy}
+use Rattle.mmc_card_sim.specs.declared.fault.Fault.TheVariants.{Reject, RejectAll, RejectBusy, ShowError}
 use Rattle.mmc_card_rows.specs.declared.fault.Outcome.TheVariants.{New}
 
 -- Commands.
@@ -50,12 +51,17 @@ failing says_late card = switch_row says_late (reached (choice_of false) Switch 
 abbrev pub heeded_with : CommandError → Delays → Card → List ℕ → Card × CardAnswer
 heeded_with error delays card frame = heeded delays (left_with (error_bit error) card) frame
 
+-- and of the card that has these errors to show besides, by their places in a status
+abbrev pub heeded_raised : ℕ → Delays → Card → List ℕ → Card × CardAnswer
+heeded_raised bits delays card frame = heeded delays (raised (bits / 2 ^ 13) card) frame
+
 -- what the card does with this frame where this fault falls
 abbrev pub done_in : Option Fault → Delays → Card → List ℕ → Card × CardAnswer
 done_in (Some FailSwitch) delays card frame = failing false card
 done_in (Some FailSwitchLate) delays card frame = failing true card
 done_in (Some FindProtection) delays card frame = heeded (finding_protection delays) card frame
 done_in (Some (LeaveOver error)) delays card frame = heeded_with error delays card frame
+done_in (Some (ShowError bits)) delays card frame = heeded_raised bits delays card frame
 done_in _ delays card frame = heeded delays card frame
 
 abbrev pub is_answer : CardAnswer → Bool
@@ -73,6 +79,8 @@ fits_command (Some FailSwitchLate) delays card frame = is_switch_frame card (com
 fits_command (Some LoseFailedSwitch) delays card frame = is_switch_frame card (command_in frame)
 fits_command (Some FindProtection) delays card frame = is_write_frame card (command_in frame) && is_in card.state Tran
 fits_command (Some (LeaveOver error)) delays card frame = true
+fits_command (Some (ShowError bits)) delays card frame =
+    are_of_execution bits && (is_transfer_frame card (command_in frame) && is_in card.state Tran)
 fits_command (Some (Brownout outcome)) delays card frame = true
 fits_command _ delays card frame = false
 
@@ -86,6 +94,7 @@ after_command (Some FailSwitchLate) delays card frame = (failing true card).0
 after_command (Some LoseFailedSwitch) delays card frame = (failing false card).0
 after_command (Some FindProtection) delays card frame = (heeded (finding_protection delays) card frame).0
 after_command (Some (LeaveOver error)) delays card frame = (heeded_with error delays card frame).0
+after_command (Some (ShowError bits)) delays card frame = (heeded_raised bits delays card frame).0
 after_command (Some (Brownout outcome)) delays card frame = reset (lands_by outcome) delays.keeps_length card
 after_command _ delays card frame = card
 
@@ -96,6 +105,7 @@ IsHeard (Some FailSwitch) answer reply = Spells answer reply
 IsHeard (Some FailSwitchLate) answer reply = Spells answer reply
 IsHeard (Some FindProtection) answer reply = Spells answer reply
 IsHeard (Some (LeaveOver error)) answer reply = Spells answer reply
+IsHeard (Some (ShowError bits)) answer reply = Spells answer reply
 IsHeard _ answer reply = reply ≡ Came.Silent
 
 pub record Commands (fault : Option Fault) (delays : Delays) (old : Card) (frame : List ℕ) (reply : Reply)

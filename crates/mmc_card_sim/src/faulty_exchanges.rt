@@ -72,6 +72,7 @@ fn command_protected(chip: &mut Chip, delays: Delays, frame: &[u8; 6]) -> (Reply
 }
 
 /// The response to a command.
+#[tactic(auto, using(mmc_card_rows::proofs::ChipLemmas::execution_is_error))]
 pub fn faulty_command(
     chip: &mut Chip,
     fault: Option<Fault>,
@@ -101,6 +102,10 @@ pub fn faulty_command(
         Some(Fault::FindProtection) => command_protected(chip, delays, frame),
         Some(Fault::LeaveOver(error)) => {
             chip.leave_over(error);
+            (heed(chip, delays, frame).spelled(), true)
+        }
+        Some(Fault::ShowError(bits)) if is_of_execution(bits) && chip.is_transfer(frame) => {
+            chip.raise_bits(bits);
             (heed(chip, delays, frame).spelled(), true)
         }
         Some(Fault::Brownout(outcome)) => {

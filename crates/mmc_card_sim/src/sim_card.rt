@@ -16,7 +16,7 @@ use crate::spec::{BuildFault, CardSpec, MAX_SECTORS};
 use mmc_bus::{Blocks, BlocksMut, Bus, Moved, Wire};
 use mmc_card::{DataIn, DataOut, Exchange, Lines, Part, Reply, Timing, Want, Width, laws};
 use mmc_card_rows::{Chip, Delays, MAX_LARGE, Store};
-use mmc_frame::State;
+use mmc_frame::{State, laws as frame_laws};
 use std::alloc::Global;
 use std::marker::Model;
 
@@ -276,6 +276,10 @@ impl SimCard {
             self.new.card.state }
         ensures plan { self.new.plan ≡ self.old.plan }
     {
+        frame_laws::flipped_response_is_refused();
+        frame_laws::flipped_register_is_refused();
+        frame_laws::flipped_beside_the_ocr_is_refused();
+        frame_laws::register_comes_back();
         let fault = self.plan.fault(self.wire.exchanges);
         let state = self.chip.state;
         let (reply, fell) = faulty_command(&mut self.chip, fault, self.delays, &frame);

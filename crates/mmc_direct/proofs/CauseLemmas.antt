@@ -10,7 +10,7 @@ use Rattle.mmc_card.specs.declared.exchange.Exchange.{Exchange}
 use Rattle.mmc_card.specs.declared.exchange.Exchange.TheVariants.{Busy, Command, In, Out}
 use Rattle.mmc_card.specs.declared.exchange.Reply.{Reply}
 use Rattle.mmc_recovery.specs.Settled.{given_up}
-use Rattle.mmc_recovery.specs.declared.settling.TheConstants.{EXCHANGES_OF_A_SETTLE}
+use Rattle.mmc_recovery.specs.declared.settling.TheConstants.{EXCHANGES_OF_A_PATIENT_SETTLE}
 use Rattle.mmc_switch.specs.declared.broken.Broken.{Broken}
 use Rattle.mmc_switch.specs.declared.session.Session.{Session}
 use Rattle.mmc_direct.specs.Served.{IfLeft, IsCausedIn, answer_of}
@@ -53,7 +53,7 @@ caused_by_exchange before old (Err broken) new cause =
 
 -- a settle that failed
 pub caused_by_settle : (broken : Broken) (old : BusView) (result : Result Session Broken) (new : BusView)
-    → new.exchanges ≤ old.exchanges + EXCHANGES_OF_A_SETTLE → IfErr result (λ left. left ≡ given_up broken)
+    → new.exchanges ≤ old.exchanges + EXCHANGES_OF_A_PATIENT_SETTLE → IfErr result (λ left. left ≡ given_up broken)
     → IfErr result (λ left. IsCausedIn 0 left old new)
 caused_by_settle broken old (Ok session) new bounded left = tt
 caused_by_settle broken old (Err unsettled) new bounded left =

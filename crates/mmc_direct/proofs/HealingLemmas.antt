@@ -13,7 +13,6 @@ use Rattle.mmc_direct.specs.Served.{IfServed, answer_of}
 use Rattle.mmc_switch.specs.Stands.{stands_of}
 use Rattle.mmc_direct.specs.declared.served.Served.{Served}
 use Rattle.mmc_switch.specs.declared.stands.Stands.{Stands}
-use Rattle.mmc_switch.specs.declared.stands.Stands.TheVariants as Stands
 
 pub heals_first : (stands : Stands) (old settled : Healed) (left : Stands) (new : Healed) → HasSettled stands old settled
     → new ≡ after_attempt left settled → Heals stands old 1 left new

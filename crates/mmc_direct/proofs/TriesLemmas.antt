@@ -14,7 +14,6 @@ use Rattle.mmc_requests.specs.Changes.{erased_at, written_at}
 use Rattle.mmc_direct.specs.Served.{IsCausedIn}
 use Rattle.mmc_switch.specs.Stands.{StandsIn, info_of, stands_of}
 use Rattle.mmc_switch.specs.declared.stands.Stands.{Stands}
-use Rattle.mmc_switch.specs.declared.stands.Stands.TheVariants as Stands
 use Rattle.mmc_direct.proofs.AttemptLemmas.{tried_again, tried_enough}
 
 -- a cause after so many exchanges more

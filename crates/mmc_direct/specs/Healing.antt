@@ -5,7 +5,6 @@ use Rattle.mmc_recovery.specs.declared.healed.Healed.{Healed}
 use Rattle.mmc_switch.specs.declared.broken.Broken.{Broken}
 use Rattle.mmc_requests.specs.declared.limits.TheConstants.{ATTEMPTS}
 use Rattle.mmc_switch.specs.declared.stands.Stands.{Stands}
-use Rattle.mmc_switch.specs.declared.stands.Stands.TheVariants as Stands
 
 -- the card has to be reset
 abbrev pub must_reset : Stands → Bool

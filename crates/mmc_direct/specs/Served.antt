@@ -4,14 +4,13 @@ use Rattle.mmc_card.specs.BusView.{BusView}
 use Rattle.mmc_bus.specs.Heard.{cause_of}
 use Rattle.mmc_bus.specs.declared.cause.Cause.{Cause}
 use Rattle.mmc_bus.specs.declared.cause.Cause.TheVariants.{Recovery}
-use Rattle.mmc_recovery.specs.declared.settling.TheConstants.{EXCHANGES_OF_A_SETTLE}
+use Rattle.mmc_recovery.specs.declared.settling.TheConstants.{EXCHANGES_OF_A_PATIENT_SETTLE}
 use Rattle.mmc_switch.specs.declared.broken.Broken.{Broken}
 use Rattle.mmc_switch.specs.declared.session.Session.{Session}
 use Rattle.mmc_direct.specs.declared.refused.NotDone.{NotDone}
 use Rattle.mmc_direct.specs.declared.refused.NotDone.TheVariants.{Failed, Refused as RefusedFor}
 use Rattle.mmc_requests.specs.declared.refused.Refused.{Refused}
 use Rattle.mmc_switch.specs.declared.stands.Stands.{Stands}
-use Rattle.mmc_switch.specs.declared.stands.Stands.TheVariants as Stands
 
 -- What came of attempts.
 
@@ -69,4 +68,4 @@ pub record IsUnsettled (broken : Broken) : Type 0 where
 pub record IsCausedIn (before : ℕ) (broken : Broken) (old new : BusView) : Type 0 where
   pub heard : broken.cause ≢ Recovery → cause_of new.last ≡ Some broken.cause
   pub unsettled : broken.cause ≡ Recovery → IsUnsettled broken
-  pub settles : broken.cause ≡ Recovery → new.exchanges ≤ old.exchanges + (before + EXCHANGES_OF_A_SETTLE)
+  pub settles : broken.cause ≡ Recovery → new.exchanges ≤ old.exchanges + (before + EXCHANGES_OF_A_PATIENT_SETTLE)

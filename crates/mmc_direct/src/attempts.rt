@@ -7,7 +7,8 @@ ghost use Rattle.mmc_bus.specs.Lending.{IsRewritten};
 ghost use Rattle.mmc_erase.specs.declared.how.How.{How};
 ghost use Rattle.mmc_switch.specs.Info.{lasting, sectors_of};
 ghost use Rattle.mmc_recovery.specs.Healed.{with_settling};
-ghost use Rattle.mmc_recovery.specs.Settled.{TellsReset, session_of};
+ghost use Rattle.mmc_recovery.specs.Settled.{TellsResetWithin, session_of};
+ghost use Rattle.mmc_recovery.specs.declared.order.TheConstants.{EXCHANGES_OF_A_PATIENT_RESTORATION};
 ghost use Rattle.mmc_direct.specs.Attempts.{HasPrepared, HasTried, erasing, moving};
 ghost use Rattle.mmc_requests.specs.Changes.{erased_at, written_at};
 ghost use Rattle.mmc_direct.specs.Healing.{HasSettled};
@@ -20,21 +21,22 @@ ghost use Rattle.mmc_direct.specs.declared.attempts.TheConstants.{EXCHANGES_BESI
 
 use mmc_bus::{Blocks, BlocksMut, Bus, Part};
 use mmc_erase::{How, erase_run};
-use mmc_recovery::{EXCHANGES_OF_A_SETTLE, Healed, settle_telling};
+use mmc_recovery::{EXCHANGES_OF_A_PATIENT_SETTLE, Healed, settle_patiently};
 use mmc_switch::{Broken, EXCHANGES_OF_A_SWITCH, Session, Stands, select};
 use mmc_transfer::{read_run, write_run};
 
 /// The most exchanges of an attempt beside those of its run: a settle and a select.
-pub const EXCHANGES_BESIDE_A_RUN: u64 = EXCHANGES_OF_A_SETTLE + EXCHANGES_OF_A_SWITCH;
+pub const EXCHANGES_BESIDE_A_RUN: u64 = EXCHANGES_OF_A_PATIENT_SETTLE + EXCHANGES_OF_A_SWITCH;
 
-// Settles the card where something has failed.
+// Settles the card where something has failed, with patience.
 fn settled<B: Bus>(bus: &mut B, healed: &mut Healed, stands: Stands) -> Result<Session, Broken>
     ensures info { lasting (info_of (stands_of result)) ≡ lasting (info_of stands) }
-    ensures bounded { (B.view bus.new).exchanges ≤ (B.view bus.old).exchanges + EXCHANGES_OF_A_SETTLE }
+    ensures bounded { (B.view bus.new).exchanges ≤ (B.view bus.old).exchanges + EXCHANGES_OF_A_PATIENT_SETTLE }
     ensures kept { (B.view bus.new).is_kept ≡ true → (B.view bus.old).is_kept ≡ true }
     ensures cause { IfErr result (λ broken. IsCausedIn 0 broken (B.view bus.old) (B.view bus.new)) }
     ensures told { IfBroken stands (λ broken. (was_reset : Bool) × (healed.new ≡ with_settling was_reset healed.old)
-        × TellsReset broken (B.view bus.old) (session_of result) was_reset (B.view bus.new)) }
+        × TellsResetWithin EXCHANGES_OF_A_PATIENT_RESTORATION broken (B.view bus.old) (session_of result) was_reset
+        (B.view bus.new)) }
     ensures healed { HasSettled stands healed.old healed.new }
     ensures prepared { (B.view bus.new).is_kept ≡ true → StandsIn stands (B.view bus.old)
         → HasPrepared (B.view bus.old) result (B.view bus.new) }
@@ -42,7 +44,7 @@ fn settled<B: Bus>(bus: &mut B, healed: &mut Healed, stands: Stands) -> Result<S
     match stands {
         Stands::Ready(session) => Ok(session),
         Stands::Broken(broken) => {
-            let (outcome, was_reset) = settle_telling(bus, broken);
+            let (outcome, was_reset) = settle_patiently(bus, broken);
             *healed = healed.settled(was_reset);
             outcome
         }

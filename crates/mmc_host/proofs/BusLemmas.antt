@@ -7,7 +7,7 @@ use Rattle.mmc_card.specs.BusView.{BusView}
 use Rattle.mmc_card.specs.Faults.{CommandStep, MeetsBlock, MeetsCommand, Passes, PollStep, ReadStep, WriteStep}
 use Rattle.mmc_card.specs.Faults.{at_once, brownout, busy, fail, fail_early, faithful}
 use Rattle.mmc_card.specs.Faults.{has_failed, has_fallen_short, has_rested, has_run}
-use Rattle.mmc_card.specs.Faults.{fail_switch, fall_short, find_protection, flip_command, flip_reply, leave_over, lose_block}
+use Rattle.mmc_card.specs.Faults.{fail_switch, fall_short, find_error, flip_command, lose_block, show_errors}
 use Rattle.mmc_card.specs.Faults.{lose_command, lose_reply, lose_status, outlive, reject, slow_inquiry, spoil, turn_out}
 use Rattle.mmc_card.specs.declared.exchange.DataIn.{DataIn}
 use Rattle.mmc_card.specs.declared.exchange.DataOut.{DataOut}
@@ -60,22 +60,20 @@ moved_meeting : (old new : BusView) (l m : Lines) (a b : Beside) (frame : List �
 moved_meeting old new l m a b frame reply (faithful choice fine count card spells) = faithful choice fine count card spells
 moved_meeting old new l m a b frame reply (lose_command count card silent) = lose_command count card silent
 moved_meeting old new l m a b frame reply (flip_command keeps count card silent) = flip_command keeps count card silent
-moved_meeting old new l m a b frame reply (lose_reply choice fine count card answers silent) =
-    lose_reply choice fine count card answers silent
-moved_meeting old new l m a b frame reply (flip_reply choice fine count card flipped) =
-    flip_reply choice fine count card flipped
+moved_meeting old new l m a b frame reply (lose_reply choice fine count card answers refused) =
+    lose_reply choice fine count card answers refused
 moved_meeting old new l m a b frame reply (slow_inquiry choice slow late inquiry count card spells) =
     slow_inquiry choice slow late inquiry count card spells
 moved_meeting old new l m a b frame reply (fail_switch choice fails switch count card spells) =
     fail_switch choice fails switch count card spells
-moved_meeting old new l m a b frame reply (find_protection choice finds late write count card spells) =
-    find_protection choice finds late write count card spells
+moved_meeting old new l m a b frame reply (find_error choice finds late transfers count card spells) =
+    find_error choice finds late transfers count card spells
 moved_meeting old new l m a b frame reply (outlive choice bits argument are fine idle count card silent) =
     outlive choice bits argument are fine idle count card silent
-moved_meeting old new l m a b frame reply (leave_over choice bits are fine count card spells) =
-    leave_over choice bits are fine count card spells
-moved_meeting old new l m a b frame reply (brownout choice lands keeps after fine count card silent) =
-    brownout choice lands keeps after fine count card silent
+moved_meeting old new l m a b frame reply (show_errors choice left found among errors some cleared fine count card spells) =
+    show_errors choice left found among errors some cleared fine count card spells
+moved_meeting old new l m a b frame reply (brownout choice lands keeps after fine count card refused) =
+    brownout choice lands keeps after fine count card refused
 
 -- time passes, and then it meets the card
 moved_command : (old new : BusView) (l m : Lines) (a b : Beside) (frame : List ℕ) (reply : Reply)
@@ -104,9 +102,10 @@ moved_block : (old new : BusView) (m : Lines) (a b : Beside) (block : List ℕ) 
     → MeetsBlock old block got new → MeetsBlock (seen old old.lines a) block got (seen new m b)
 moved_block old new m a b block got (faithful count card is) = faithful count card is
 moved_block old new m a b block got (lose_block can count card is) = lose_block can count card is
-moved_block old new m a b block got (reject ignores is_busy can count card is) = reject ignores is_busy can count card is
-moved_block old new m a b block got (lose_status accepted ignores is_busy can count card is) =
-    lose_status accepted ignores is_busy can count card is
+moved_block old new m a b block got (reject bits ignores is_busy among can count card is) =
+    reject bits ignores is_busy among can count card is
+moved_block old new m a b block got (lose_status bits accepted ignores is_busy among can count card is) =
+    lose_status bits accepted ignores is_busy among can count card is
 moved_block old new m a b block got (fall_short lands bits ignores are can count card is) =
     fall_short lands bits ignores are can count card is
 moved_block old new m a b block got (turn_out lands several can count card is) =

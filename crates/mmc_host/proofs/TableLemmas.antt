@@ -14,9 +14,9 @@ use Rattle.mmc_card.specs.CardAnswer.{CardAnswer, Choice, Silent}
 use Rattle.mmc_card.specs.Rows.{command_of, is_foreign, is_legal, leaves_erase, reached, responded, row}
 use Rattle.mmc_card.specs.RowsErase.{erase_held, hold_first, hold_last, holds_address, is_no_range}
 use Rattle.mmc_card.specs.RowsIdentify.{is_served, may_lag}
-use Rattle.mmc_card.specs.RowsSwitch.{ext_csd_now, is_read, is_read_of_status, is_to_speed_up, refusal, reread, switch_row}
+use Rattle.mmc_card.specs.RowsSwitch.{ext_csd_now, is_read, is_to_speed_up, refusal, reread, switch_row}
 use Rattle.mmc_card.specs.RowsSwitch.{switch_source, switched}
-use Rattle.mmc_card.specs.RowsTransfer.{begun, preset, sending, sending_from, transfer_errors, transferred, write_errors}
+use Rattle.mmc_card.specs.RowsTransfer.{begun, preset, sending, sending_from, transfer_errors, transferred, errors_found}
 use Rattle.mmc_card.specs.declared.command.Command.{Command}
 use Rattle.mmc_card.specs.declared.command.Command.TheVariants.{SdSendOpCond, SendScr, SetBusWidth, AllSendCid, AppCmd}
 use Rattle.mmc_card.specs.declared.command.Command.TheVariants.{Erase, EraseEnd, EraseStart, GoIdleState}
@@ -34,7 +34,7 @@ use Rattle.mmc_host.specs.declared.data.Data.{Data}
 use Rattle.mmc_host.specs.Fits.{AreSent, AreToCome, Begins, HasDataAfter, IsAnswered, IsBusyAfter}
 use Rattle.mmc_card.specs.Wanted.{response_to, want_of}
 use Rattle.mmc_host.specs.Table.{data_of, response_of}
-use Rattle.mmc_card.proofs.ByteLemmas.{reread_length}
+use Rattle.mmc_card.proofs.ByteLemmas.{reread_length, sent_length}
 
 -- the card that a command reaches has other errors and erase addresses alone
 record Likeness (old now : Card) : Type 0 where
@@ -86,13 +86,13 @@ busy_row choice SendStatus card index argument =
 busy_row choice SetBlocklen card index argument =
     first_by_cond (Rests SetBlocklen card) (argument == 512) _ _ (λ _ busy. inl busy) (λ _ busy. inl busy)
 busy_row choice ReadSingleBlock card index argument =
-    first_by_cond (Rests ReadSingleBlock card) (transfer_errors false card argument == 0) _ _ (λ _ busy. inl busy) (λ _ busy. inl busy)
+    first_by_cond (Rests ReadSingleBlock card) (errors_found false choice card argument == 0) _ _ (λ _ busy. inl busy) (λ _ busy. inl busy)
 busy_row choice ReadMultipleBlock card index argument =
-    first_by_cond (Rests ReadMultipleBlock card) (transfer_errors false card argument == 0) _ _ (λ _ busy. inl busy) (λ _ busy. inl busy)
+    first_by_cond (Rests ReadMultipleBlock card) (errors_found false choice card argument == 0) _ _ (λ _ busy. inl busy) (λ _ busy. inl busy)
 busy_row choice WriteBlock card index argument =
-    first_by_cond (Rests WriteBlock card) (write_errors choice card argument == 0) _ _ (λ _ busy. inl busy) (λ _ busy. inl busy)
+    first_by_cond (Rests WriteBlock card) (errors_found true choice card argument == 0) _ _ (λ _ busy. inl busy) (λ _ busy. inl busy)
 busy_row choice WriteMultipleBlock card index argument =
-    first_by_cond (Rests WriteMultipleBlock card) (write_errors choice card argument == 0) _ _ (λ _ busy. inl busy) (λ _ busy. inl busy)
+    first_by_cond (Rests WriteMultipleBlock card) (errors_found true choice card argument == 0) _ _ (λ _ busy. inl busy) (λ _ busy. inl busy)
 busy_row choice EraseStart card index argument = busy_first index card argument card.erase
 busy_row choice EraseEnd card index argument = busy_last index card argument card.erase
 busy_row choice _ card index argument = λ busy. inl busy
@@ -192,13 +192,13 @@ answer_row choice SendStatus card index argument =
     pair_by (Answers SendStatus index) (may_lag card && choice.is_behind) _ _ refl refl
 answer_row choice SetBlocklen card index argument = pair_by (Answers SetBlocklen index) (argument == 512) _ _ refl refl
 answer_row choice ReadSingleBlock card index argument =
-    pair_by (Answers ReadSingleBlock index) (transfer_errors false card argument == 0) _ _ refl refl
+    pair_by (Answers ReadSingleBlock index) (errors_found false choice card argument == 0) _ _ refl refl
 answer_row choice ReadMultipleBlock card index argument =
-    pair_by (Answers ReadMultipleBlock index) (transfer_errors false card argument == 0) _ _ refl refl
+    pair_by (Answers ReadMultipleBlock index) (errors_found false choice card argument == 0) _ _ refl refl
 answer_row choice WriteBlock card index argument =
-    pair_by (Answers WriteBlock index) (write_errors choice card argument == 0) _ _ refl refl
+    pair_by (Answers WriteBlock index) (errors_found true choice card argument == 0) _ _ refl refl
 answer_row choice WriteMultipleBlock card index argument =
-    pair_by (Answers WriteMultipleBlock index) (write_errors choice card argument == 0) _ _ refl refl
+    pair_by (Answers WriteMultipleBlock index) (errors_found true choice card argument == 0) _ _ refl refl
 answer_row choice EraseStart card index argument = answer_first index card argument card.erase
 answer_row choice EraseEnd card index argument = answer_last index card argument card.erase
 answer_row choice Erase card index argument = answer_erase index card argument card.erase
@@ -294,11 +294,8 @@ module _ (moved : ℕ) where
       → AreSent 64 1 (switch_source choice card argument) card.left
   status_length choice card argument size =
       by_cond (λ source. AreSent 64 1 source card.left) (is_to_speed_up card argument && choice.refuses_speed)
-      (λ _. (
-        reread_length is_read_of_status choice.unread (refusal choice.selects_none card.made.switch_status)
-            ∙ (length-set card.made.switch_status 16 _ ∙ size),
-        refl,
-      )) (λ _. (size, refl))
+      (λ _. (sent_length choice (refusal choice.selects_none card.made.switch_status) ∙ (length-set card.made.switch_status 16 _ ∙ size), refl))
+      (λ _. (sent_length choice card.made.switch_status ∙ size, refl))
 
   ext_csd_length : (card : Card) → length card.made.ext_csd ≡ 512 → length (ext_csd_now card) ≡ 512
   ext_csd_length card size = simp length-set size
@@ -328,19 +325,19 @@ module _ (moved : ℕ) where
       first_by_cond (Moves SetBlocklen card) (argument == 512) _ _ (λ _. stays _ card _ refl) (λ _. stays _ card _ refl)
   move_row choice ReadSingleBlock card index argument sized =
       let after = begun In.Data true (Some 1) card argument in
-      move_transfer ReadSingleBlock 17 (transfer_errors false card argument) card after
+      move_transfer ReadSingleBlock 17 (errors_found false choice card argument) card after
       (begins_to_send (data_of ReadSingleBlock card.count moved) card after refl (refl, (refl, refl)))
   move_row choice ReadMultipleBlock card index argument sized =
       let after = begun In.Data false (preset card) card argument in
-      move_transfer ReadMultipleBlock 18 (transfer_errors false card argument) card after
+      move_transfer ReadMultipleBlock 18 (errors_found false choice card argument) card after
       (begins_to_send (data_of ReadMultipleBlock card.count moved) card after refl (refl, (refl, preset_blocks (card.count == 0) card.count)))
   move_row choice WriteBlock card index argument sized =
       let after = begun In.Rcv true (Some 1) card argument in
-      move_transfer WriteBlock 24 (write_errors choice card argument) card after
+      move_transfer WriteBlock 24 (errors_found true choice card argument) card after
       (begins_to_accept (data_of WriteBlock card.count moved) card after refl (refl, refl))
   move_row choice WriteMultipleBlock card index argument sized =
       let after = begun In.Rcv false (preset card) card argument in
-      move_transfer WriteMultipleBlock 25 (write_errors choice card argument) card after
+      move_transfer WriteMultipleBlock 25 (errors_found true choice card argument) card after
       (begins_to_accept (data_of WriteMultipleBlock card.count moved) card after refl (refl, preset_blocks (card.count == 0) card.count))
   move_row choice EraseStart card index argument sized = move_first index card argument card.erase
   move_row choice EraseEnd card index argument sized = move_last index card argument card.erase

@@ -2,10 +2,11 @@
 use Rattle.std.proofs.Common.{◌∙◌, ◌≡◌, List, Option, Some, refl, subst, sym, ℕ}
 use Rattle.mmc_frame.specs.Frame.{command_in}
 use Rattle.mmc_card.specs.BusView.{BusView}
-use Rattle.mmc_card.specs.CardAnswer.{CardAnswer, Silent}
-use Rattle.mmc_card.specs.Faults.{IsFlipped, MeetsCommand, RepliesFlipped, Spells, at_once, brownout, fail_switch, faithful}
-use Rattle.mmc_card.specs.Faults.{find_protection, flip_command, flip_reply, leave_over, lose_command, lose_reply}
-use Rattle.mmc_card.specs.Faults.{outlive, slow_inquiry}
+use Rattle.mmc_card.specs.CardAnswer.{CardAnswer, Silent, reset}
+use Rattle.std.specs.Prelude.{if◌then◌else◌}
+use Rattle.mmc_card.specs.Faults.{IsRefused, MeetsCommand, Spells, at_once, brownout, fail_switch, faithful}
+use Rattle.mmc_card.specs.Faults.{find_error, flip_command, lose_command, lose_reply}
+use Rattle.mmc_card.specs.Faults.{outlive, show_errors, slow_inquiry}
 use Rattle.mmc_card.specs.Judged.{IsSaid}
 use Rattle.mmc_card.specs.Card.{Card}
 use Rattle.mmc_card.specs.Rows.{answered}
@@ -24,11 +25,9 @@ faithful_is_heard choice old new index argument said fine count card is frame re
       );
 }
 
--- nothing that comes is flipped silence
-not_silent : (card : Card) (answer : CardAnswer) (reply : Reply) → RepliesFlipped card answer reply → answer ≡ Silent → ⊥
-not_silent card answer reply flipped silent =
-    let f = subst (λ (a : CardAnswer). RepliesFlipped card a reply) silent flipped in
-    subst (λ (a : CardAnswer). IsFlipped a reply) f.1 f.2
+-- silence is no answer that is taken
+refused_in_silence : (sent : Option (ℕ × ℕ)) (answer : CardAnswer) (heard : Reply) → Spells Silent heard → IsRefused sent answer heard
+refused_in_silence sent answer heard silent = subst (IsRefused sent answer) (sym silent) tt
 
 -- what meets a card and can't be told is lost
 unsound_meets : (old new : BusView) (index argument : ℕ) (frame : List ℕ) (reply : Reply)
@@ -41,25 +40,28 @@ unsound_meets old new index argument frame reply command (lose_command count car
     absurd (unsound Silent silent)
 unsound_meets old new index argument frame reply command (flip_command keeps count card silent) unsound =
     absurd (unsound Silent silent)
-unsound_meets old new index argument frame reply command (lose_reply choice fine count card answers silent) unsound =
-    absurd (unsound Silent silent)
+unsound_meets old new index argument frame reply command (lose_reply choice fine count card answers refused) unsound =
+    λ other heard same silent. let e = command ∙ sym same in
+    lose_reply choice fine count
+    (subst (λ (s : Option (ℕ × ℕ)). new.card ≡ (answered choice old.card s).0) e card)
+    (subst (λ (s : Option (ℕ × ℕ)). (answered choice old.card s).1 ≡ Silent → ⊥) e answers)
+    (refused_in_silence (command_in other) _ heard silent)
 unsound_meets old new index argument frame reply command (slow_inquiry choice slow late inquiry count card spells) unsound =
     absurd (unsound spells.0 spells.2)
 unsound_meets old new index argument frame reply command (fail_switch choice fails switch count card spells) unsound =
     absurd (unsound spells.0 spells.2)
-unsound_meets old new index argument frame reply command (find_protection choice finds late write count card spells) unsound =
+unsound_meets old new index argument frame reply command (find_error choice finds late transfers count card spells) unsound =
     absurd (unsound spells.0 spells.2)
 unsound_meets old new index argument frame reply command (outlive choice bits other are fine idle count card silent) unsound =
     absurd (unsound Silent silent)
-unsound_meets old new index argument frame reply command (leave_over choice bits are fine count card spells) unsound =
+unsound_meets old new index argument frame reply command (show_errors choice left found among errors some cleared fine count card spells) unsound =
     absurd (unsound spells.0 spells.2)
-unsound_meets old new index argument frame reply command (brownout choice lands keeps after fine count card silent) unsound =
-    absurd (unsound Silent silent)
-unsound_meets old new index argument frame reply command (flip_reply choice fine count card flipped) unsound =
-    λ other heard same silent. let e = command ∙ sym same in
-    lose_reply choice fine count
-    (subst (λ (s : Option (ℕ × ℕ)). new.card ≡ (answered choice old.card s).0) e card)
-    (subst (λ (s : Option (ℕ × ℕ)). (answered choice old.card s).1 ≡ Silent → ⊥) e (not_silent old.card _ reply flipped)) silent
+unsound_meets old new index argument frame reply command (brownout choice lands keeps after fine count card refused) unsound =
+    λ other heard same silent.
+    brownout choice lands keeps after fine count
+    (subst (λ (s : Option (ℕ × ℕ)). new.card ≡ reset lands keeps (if after then (answered choice old.card s).0 else old.card))
+    (command ∙ sym same) card)
+    (refused_in_silence (command_in other) _ heard silent)
 
 pub unsound_is_lost : UnsoundIsLost
 unsound_is_lost old new index argument frame reply command step unsound =

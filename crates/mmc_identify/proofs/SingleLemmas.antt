@@ -47,7 +47,7 @@ pub register_own : {IsThere : Type 0} (register : Made → List ℕ) (after : Ca
     (heard : Result (List ℕ) Unheard) (new : BusView)
     → Does IsThere (λ card bytes. bytes ≡ register card.made) after old heard new
     → IfOk (judged.told_register heard) (λ bytes. bytes ≡ register old.card.made)
-register_own register after old (Ok bytes) new does = (does.sound bytes refl).1.2
+register_own register after old (Ok bytes) new does = (does.sound bytes refl).1.is
 register_own register after old (Err unheard) new does = tt
 
 -- what is heard where it is determined
@@ -103,7 +103,7 @@ pub published_own : (old : BusView) (heard : Result ℕ Unheard) (new : BusView)
     → IfOk (judged.published heard) (λ rca. rca ≡ new.card.rca)
 published_own old (Ok told) new does =
     subst (λ (known : ℕ). IfOk (judged.published (Ok told)) (λ rca. rca ≡ known))
-    (let says = (does.sound told refl).1 in says.2) (published_told _ told)
+    (let says = (does.sound told refl).1 in says.is) (published_told _ told)
 published_own old (Err unheard) new does = tt
 
 pub assigned_fine : (old : BusView) (heard : Result ℕ Unheard) (new : BusView)
@@ -250,9 +250,9 @@ lags_unlocked rca choice card is lock =
 pub told_unlocked : (rca told : ℕ) (old new : Card) → IsSelected rca old → InProfile old.made → LockLaw
     → TellsStatus old told new → field 25 25 told ≡ 0
 told_unlocked rca told old new is profile locked (inl itself) =
-    shows_unlocked rca told old is profile locked (less old.made.kind told _ itself.0)
+    shows_unlocked rca told old is profile locked (less old.made.kind told _ itself.0.0)
 told_unlocked rca told old new is profile locked (inr later) =
-    locked told (at_work later.choice old) (less old.made.kind told _ later.told_is)
+    locked told (at_work later.choice old) (less old.made.kind told _ later.told_is.0)
     ∙ lags_unlocked rca later.choice old is profile.unlocked
 
 -- nor does it look otherwise once it isn't busy

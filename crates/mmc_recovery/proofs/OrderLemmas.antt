@@ -1,6 +1,6 @@
 -- A card that is brought back in order where it stands.
 use Rattle.std.proofs.Common.{◌∙◌, ◌≡◌, ap, inl, inr, refl, subst, sym, ℕ}
-use Rattle.std.specs.Prelude.{IsErr, IsOk, Result}
+use Rattle.std.specs.Prelude.{Err, IsErr, IsOk, Result}
 use Rattle.mmc_frame.specs.declared.card_state.State.TheVariants.{Tran}
 use Rattle.mmc_frame.specs.declared.kind.Kind.{Kind}
 use Rattle.mmc_card.specs.BusView.{BusView}
@@ -9,13 +9,14 @@ use Rattle.mmc_card.specs.CardAnswer.{shown}
 use Rattle.mmc_card.specs.CardLaws.{IsInOrder}
 use Rattle.mmc_card.proofs.Passing.{beside_card, stands_in_time, unmoved_by_time}
 use Rattle.mmc_card.specs.Faults.{Passes}
-use Rattle.mmc_card.specs.Laws.{Setting, setting_of}
+use Rattle.mmc_card.specs.Laws.{AfterSomeTime, Setting, setting_of}
 use Rattle.mmc_card.specs.RowsErase.{forgotten}
 use Rattle.mmc_bus.proofs.WorkLemmas.{joined, moved_as, moved_then, narrows_then, refuted}
 use Rattle.mmc_bus.specs.Closings.{HasShown}
 use Rattle.mmc_bus.specs.CommandLaws.{TellsStatus}
-use Rattle.mmc_bus.specs.Work.{Anything, Done, Moved, Narrows, Worked}
+use Rattle.mmc_bus.specs.Work.{Anything, Moved, Narrows, Worked}
 use Rattle.mmc_bus.specs.declared.cause.Cause.{Cause}
+use Rattle.mmc_bus.specs.declared.cause.Cause.TheVariants.{Answer}
 use Rattle.mmc_switch.proofs.UnderWayLemmas.{knows_then, quiet_by, ready_again, stands_then}
 use Rattle.mmc_switch.specs.Place.{IsReady, Knows, StandsAs}
 use Rattle.mmc_switch.specs.declared.info.Info.{Info}
@@ -33,19 +34,6 @@ stirs_then a b c p q = joined a b c p q (narrows_then a b c p.sectors q.sectors)
 abbrev pub Restored : Info → Result Unit Cause → BusView → BusView → Type 0
 Restored info r = Moved (Restores info r) Anything
 
--- A failure restores nothing.
-
-pub restores_none : {Stands Own Fine : BusView → BusView → Type 0} (info : Info) (r : Result Unit Cause) (a b : BusView)
-    → IsErr r → Done Stands Narrows Own Fine a b → Restored info r a b
-restores_none info r a b err p = moved_as a b p (λ session same knows stands ok. refuted r err ok) (λ same. tt)
-
-pub restores_none_then : {Stands Own Fine Set More Easy : BusView → BusView → Type 0} (info : Info)
-    (r : Result Unit Cause) (a b c : BusView)
-    → IsErr r → Done Stands Narrows Own Fine a b → Done Set Narrows More Easy b c
-    → Restored info r a c
-restores_none_then info r a b c err p q =
-    moved_then a b c p q (λ session same knows stands ok. refuted r err ok) (λ same. tt)
-
 -- Blocks of 512 bytes, and nothing is held.
 
 abbrev pub set_to_blocks : Card → Card
@@ -53,11 +41,11 @@ set_to_blocks card = record (shown (forgotten card)) { block_length = 512 }
 
 abbrev pub SetsBlocks : Result Unit Cause → BusView → BusView → Type 0
 SetsBlocks r =
-    Moved (λ old new. IsOk r → (met : BusView) × Passes old met × (met.card.state ≡ Tran) × (new.card ≡ set_to_blocks met.card))
+    Moved (λ old new. IsOk r → AfterSomeTime old (λ card. (card.state ≡ Tran) × (new.card ≡ set_to_blocks card)))
     Anything
 
 abbrev pub Shows : {X : Type 0} → Result X Cause → BusView → BusView → Type 0
-Shows r = Worked Narrows (λ old new. IsOk r → (met : BusView) × Passes old met × HasShown met.card new.card) Anything
+Shows r = Worked Narrows (λ old new. IsOk r → AfterSomeTime old (λ card. HasShown card new.card)) Anything
 
 -- a status shows itself, whether it lags or not
 pub has_shown : {told : ℕ} (old new : Card) → TellsStatus old told new → HasShown old new
@@ -90,6 +78,23 @@ stands_met session old met passes stands = record {
   lines = beside_card old met passes (λ (v : BusView). v.lines) (λ card faults. refl) ∙ stands.lines;
 }
 
+-- and after CMD16, which met it in tran
+stands_once_set : (session : Session) (a b : BusView) → b.lines ≡ a.lines
+    → AfterSomeTime a (λ card. (card.state ≡ Tran) × (b.card ≡ set_to_blocks card)) → StandsAs session a → StandsAs session b
+stands_once_set session a b lines blocks stands =
+    let at = beside_card a blocks.0 blocks.1 (λ (v : BusView). v.lines) (λ card faults. refl) in
+    stands_with_blocks session blocks.0 b (lines ∙ sym at) blocks.2.0 blocks.2.1
+    (stands_met session a blocks.0 blocks.1 stands)
+
+-- Blocks were set, and what came then failed.
+pub restores_none_then : {Own Fine : BusView → BusView → Type 0} (info : Info) (first r : Result Unit Cause) (a b c : BusView)
+    → IsOk first → IsErr r → b.lines ≡ a.lines → SetsBlocks first a b → Worked Narrows Own Fine b c → Restored info r a c
+restores_none_then info first r a b c one err lines p q =
+    moved_then a b c p q
+    (λ session same knows stands.
+    (λ ok. refuted r err ok, λ unheard. stands_then session b c q.set (stands_once_set session a b lines (p.own one) stands)))
+    (λ same. tt)
+
 -- the card after CMD16 and two CMD13, of which the last one finds it in order
 in_order_again : (kind : Kind) (session : Session) (c d : BusView) → c.card.erase ≡ NoAddress
     → d.card ≡ shown c.card → IsInOrder kind c.card → IsCard d.card → Knows session d → StandsAs session d
@@ -104,24 +109,24 @@ pub puts_in_order : {X : Type 0} {Fine : BusView → BusView → Type 0} (info :
     (last : Result Unit Cause) (a b c d : BusView) → IsOk first → IsOk second → b.lines ≡ a.lines
     → SetsBlocks first a b → Shows second b c
     → Worked Narrows (λ old new. IsOk last
-    → (met : BusView) × Passes old met × IsInOrder kind met.card × (new.card ≡ shown met.card)) Fine c d
+    → AfterSomeTime old (λ card. IsInOrder kind card × (new.card ≡ shown card))) Fine c d
     → Restored info last a d
 puts_in_order info kind first second last a b c d one two lines p q r =
     let rest = stirs_then b c d q r in
     let all : Moved Anything Anything a d = moved_then a b d p rest tt (λ same. tt) in
     moved_as a d all
-    (λ session same knows stands ok.
+    (λ session same knows stands.
     let blocks = p.own one in
-    let showed = q.own two in
-    let final = r.own ok in
-    let at = beside_card a blocks.0 blocks.1 (λ (v : BusView). v.lines) (λ card faults. refl) in
-    let with = stands_with_blocks session blocks.0 b (lines ∙ sym at) blocks.2 blocks.3
-    (stands_met session a blocks.0 blocks.1 stands) in
-    let still = stands_then session b d rest.set with in
-    let none = (unmoved_by_time c final.0 final.1).erase ∙ ap (λ (x : Card). x.erase) showed.2
-    ∙ (unmoved_by_time b showed.0 showed.1).erase ∙ ap (λ (x : Card). x.erase) blocks.3 in
-    in_order_again kind session final.0 d none final.3 final.2 r.is_card
-    (knows_then session a d all.stays knows) still)
+    let still = stands_then session b d rest.set (stands_once_set session a b lines blocks stands) in (
+      λ ok.
+          let showed = q.own two in
+          let final = r.own ok in
+          let none = (unmoved_by_time c final.0 final.1).erase ∙ ap (λ (x : Card). x.erase) showed.2
+          ∙ (unmoved_by_time b showed.0 showed.1).erase ∙ ap (λ (x : Card). x.erase) blocks.2.1 in
+          in_order_again kind session final.0 d none final.2.1 final.2.0 r.is_card
+          (knows_then session a d all.stays knows) still,
+      λ unheard. still,
+    ))
     (λ same. tt)
 
 -- The card's work is ended, and then it is put in order.
@@ -130,6 +135,15 @@ pub restores : {Own Fine : BusView → BusView → Type 0} (info : Info) (r : Re
     → Worked Narrows Own Fine a b → Restored info r b c → Restored info r a c
 restores info r a b c p q =
     moved_then a b c p q
-    (λ session same knows stands ok.
-    q.own session same (knows_then session a b p.stays knows) (stands_then session a b p.set stands) ok)
+    (λ session same knows stands.
+    q.own session same (knows_then session a b p.stays knows) (stands_then session a b p.set stands))
+    (λ same. tt)
+
+-- An answer wasn't heard, and it is tried once more.
+pub restores_again : (info : Info) (first r : Result Unit Cause) (a b c : BusView) → Restored info first a b → first ≡ Err Answer
+    → Restored info r b c → Restored info r a c
+restores_again info first r a b c p unheard q =
+    moved_then a b c p q
+    (λ session same knows stands.
+    q.own session same (knows_then session a b p.stays knows) ((p.own session same knows stands).1 unheard))
     (λ same. tt)

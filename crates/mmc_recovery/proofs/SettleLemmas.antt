@@ -39,4 +39,4 @@ pub restored_ready : (broken : Broken) (session : Session) (info : Info) (a b : 
     → info ≡ broken.session.info → session ≡ broken.session → Restored info (Ok tt) a b → IsBroken broken a
     → IsReady session b
 restored_ready broken session info a b none is e p is_broken =
-    subst (λ s. IsReady s b) (sym e) (p.own broken.session (sym is) is_broken.knows (is_broken.stands none) refl)
+    subst (λ s. IsReady s b) (sym e) ((p.own broken.session (sym is) is_broken.knows (is_broken.stands none)).0 refl)

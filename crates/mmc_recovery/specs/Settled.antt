@@ -1,21 +1,29 @@
 -- What settling does with the card of a broken session, and what it leaves.
 use Rattle.std.specs.Prelude.{◌+◌, ◌≡◌, ◌≤◌, Bool, Err, IfSome, IsOk, MatchResult, None, Ok, Option, Result, Some}
-use Rattle.std.specs.Prelude.{false, true}
+use Rattle.std.specs.Prelude.{false, true, ℕ}
 use Rattle.mmc_card.specs.BusView.{BusView}
 use Rattle.mmc_card.specs.declared.part.Part.TheVariants.{User}
 use Rattle.mmc_bus.specs.declared.cause.Cause.{Cause}
-use Rattle.mmc_bus.specs.declared.cause.Cause.TheVariants.{Recovery}
+use Rattle.mmc_bus.specs.declared.cause.Cause.TheVariants.{Answer, Recovery}
 use Rattle.mmc_switch.specs.Place.{IsBroken, IsReady, Knows, StandsAs}
 use Rattle.mmc_switch.specs.declared.broken.Broken.{Broken}
 use Rattle.mmc_switch.specs.declared.info.Info.{Info}
 use Rattle.mmc_switch.specs.declared.session.Session.{Session}
-use Rattle.mmc_recovery.specs.declared.order.TheConstants.{EXCHANGES_OF_A_RESTORATION}
+use Rattle.mmc_recovery.specs.declared.order.Patience.{Patience}
+use Rattle.mmc_recovery.specs.declared.order.Patience.TheVariants.{Once, Twice}
+use Rattle.mmc_recovery.specs.declared.order.TheConstants.{EXCHANGES_OF_A_PATIENT_RESTORATION, EXCHANGES_OF_A_RESTORATION}
 
--- A card that stood as its session says, with this known of it, is ready for that session if this is a success.
+-- the most exchanges of a restoration with so much patience
+abbrev pub most_exchanges : Patience → ℕ
+most_exchanges Once = EXCHANGES_OF_A_RESTORATION
+most_exchanges Twice = EXCHANGES_OF_A_PATIENT_RESTORATION
+
+-- A card that stood as its session says, with this known of it, is ready for that session if this is a success, and stands so
+-- still where an answer wasn't heard.
 abbrev pub Restores : Info → Result Unit Cause → BusView → BusView → Type 0
 Restores info result old new =
-    (session : Session) → session.info ≡ info → Knows session old → StandsAs session old → IsOk result
-    → IsReady session new
+    (session : Session) → session.info ≡ info → Knows session old → StandsAs session old
+    → (IsOk result → IsReady session new) × (result ≡ Err Answer → StandsAs session new)
 
 -- a card that is ready for its session, or one that is left broken
 abbrev pub Leaves : Result Session Broken → BusView → Type 0
@@ -32,10 +40,14 @@ session_of (Ok session) = Some session
 session_of (Err left) = None
 
 -- Whether a card was reset, by the session with which it goes on, if it does: it wasn't only where it goes on as it was, and was
--- no more than restored where it stood.
-pub record TellsReset (broken : Broken) (was : BusView) (session : Option Session) (was_reset : Bool)
+-- no more than restored where it stood, by so many exchanges at most.
+pub record TellsResetWithin (most : ℕ) (broken : Broken) (was : BusView) (session : Option Session) (was_reset : Bool)
     (now : BusView) : Type 0 where
   pub needed : broken.must_reset ≡ true → was_reset ≡ true
   pub as_it_was : was_reset ≡ false → session ≡ Some broken.session
-  pub few : was_reset ≡ false → now.exchanges ≤ was.exchanges + EXCHANGES_OF_A_RESTORATION
+  pub few : was_reset ≡ false → now.exchanges ≤ was.exchanges + most
   pub anew : was_reset ≡ true → IfSome session (λ s. s.selected ≡ Some User)
+
+-- where it is tried once to restore the card
+abbrev pub TellsReset : Broken → BusView → Option Session → Bool → BusView → Type 0
+TellsReset = TellsResetWithin EXCHANGES_OF_A_RESTORATION

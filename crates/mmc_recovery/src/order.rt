@@ -1,13 +1,13 @@
 // Bringing a card back in order where it stands, without a reset.
-ghost use Rattle.std.specs.Prelude.{◌≡◌, ◌+◌, ◌≤◌, IsOk};
+ghost use Rattle.std.specs.Prelude.{◌≡◌, ◌+◌, ◌≤◌, IfErr, IsOk};
 ghost use Rattle.mmc_frame.specs.declared.card_state.State.TheVariants.{Tran};
-ghost use Rattle.mmc_card.specs.BusView.{BusView};
 ghost use Rattle.mmc_card.specs.CardAnswer.{shown};
-ghost use Rattle.mmc_card.specs.Faults.{Passes};
+ghost use Rattle.mmc_card.specs.Laws.{AfterSomeTime};
 ghost use Rattle.mmc_card.specs.RowsErase.{forgotten};
 ghost use Rattle.mmc_bus.specs.Closings.{HasShown};
+ghost use Rattle.mmc_bus.specs.declared.cause.Cause.TheVariants as Why;
 ghost use Rattle.mmc_bus.specs.Work.{Anything, Moves, Narrows, Works};
-ghost use Rattle.mmc_recovery.specs.Settled.{Restores};
+ghost use Rattle.mmc_recovery.specs.Settled.{Restores, most_exchanges};
 
 use mmc_bus::{
     Bus, Cause, MAX_POLLS, ask, confirm, identify_laws, rca_argument, transfer_laws,
@@ -21,7 +21,7 @@ use mmc_switch::Info;
 fn show_status<B: Bus>(bus: &mut B, rca: u16) -> Result<u32, Cause>
     ensures bounded { (B.view bus.new).exchanges ≤ (B.view bus.old).exchanges + 1 }
     ensures works { Works Narrows (λ old new. IsOk result
-        → (met : BusView) × Passes old met × HasShown met.card new.card) Anything
+        → AfterSomeTime old (λ card. HasShown card new.card)) Anything
         (B.view bus.old) (B.view bus.new) }
 {
     identify_laws::cmd13_tells_the_status();
@@ -58,20 +58,22 @@ fn end_work<B: Bus>(bus: &mut B, rca: u16) -> Result<(), Cause>
     }
 }
 
-// CMD16 with 512, whatever errors its R1 shows: it drops a preset count and held erase addresses.
+// CMD16 with 512, whatever errors its R1 shows: it drops a preset count and held erase addresses. Where it isn't heard the cause
+// is `Recovery`: no law says how it leaves the card then.
 fn set_block_length<B: Bus>(bus: &mut B) -> Result<(), Cause>
     ensures bounded { (B.view bus.new).exchanges ≤ (B.view bus.old).exchanges + 1 }
     ensures lines { (B.view bus.new).lines ≡ (B.view bus.old).lines }
+    ensures cause { IfErr result (λ cause. cause ≡ Why.Recovery) }
     ensures moves { Moves
-        (λ old new. IsOk result → (met : BusView) × Passes old met × (met.card.state ≡ Tran)
-        × (new.card ≡ record (shown (forgotten met.card)) { block_length = 512 }))
+        (λ old new. IsOk result → AfterSomeTime old (λ card. (card.state ≡ Tran)
+        × (new.card ≡ record (shown (forgotten card)) { block_length = 512 })))
         Anything
         (B.view bus.old) (B.view bus.new) }
 {
     transfer_laws::cmd16_sets_the_block_length();
     match ask(bus, SET_BLOCKLEN, 512) {
         Ok(_) => Ok(()),
-        Err(_) => Err(Cause::Answer),
+        Err(_) => Err(Cause::Recovery),
     }
 }
 
@@ -92,11 +94,37 @@ pub const EXCHANGES_OF_A_RESTORATION: u64 = MAX_POLLS + 5;
 /// Brings a card of which this is known back in order, without a reset.
 ///
 /// # Errors
-/// Any cause means that only a reset may help.
+/// `Answer` where CMD12 or CMD13 isn't heard: the card stands as it did. Any other cause means that only a reset may help.
 pub fn restore<B: Bus>(bus: &mut B, info: &Info) -> Result<(), Cause>
     ensures bounded { (B.view bus.new).exchanges ≤ (B.view bus.old).exchanges + EXCHANGES_OF_A_RESTORATION }
     ensures moves { Moves (Restores info.now result) Anything (B.view bus.old) (B.view bus.new) }
 {
     end_work(bus, info.rca)?;
     put_in_order(bus, info)
+}
+
+/// The most exchanges of a restoration that is tried once more.
+pub const EXCHANGES_OF_A_PATIENT_RESTORATION: u64 = 2 * EXCHANGES_OF_A_RESTORATION;
+
+/// How often it is tried to restore a card, before it is reset.
+#[derive(Clone, Copy)]
+pub enum Patience {
+    /// Once.
+    Once,
+    /// Once more where CMD12 or CMD13 isn't heard.
+    Twice,
+}
+
+/// As `restore`, with so much patience: CMD13 tells how a card stands by now that didn't answer.
+///
+/// # Errors
+/// Those of `restore`, when it was tried last.
+pub fn restore_with<B: Bus>(bus: &mut B, info: &Info, patience: Patience) -> Result<(), Cause>
+    ensures bounded { (B.view bus.new).exchanges ≤ (B.view bus.old).exchanges + most_exchanges patience }
+    ensures moves { Moves (Restores info.now result) Anything (B.view bus.old) (B.view bus.new) }
+{
+    match (restore(bus, info), patience) {
+        (Err(Cause::Answer), Patience::Twice) => restore(bus, info),
+        (restored, _) => restored,
+    }
 }

@@ -484,6 +484,6 @@ set_up rca switches scr width timing a b c p q =
       record { scr = got.0; width = got.1; timing = got.2.0 },
       (let told = q.own refl in
           let same = still b told.0 (still_at_rest b.card got.2.1.rest) told.1 in
-          set_shown (user_setting rca width timing 0) b c q.set.lines (told.3 ∙ ap (λ (v : BusView). shown v.card) same) got.2.1),
+          set_shown (user_setting rca width timing 0) b c q.set.lines (told.2.1 ∙ ap (λ (v : BusView). shown v.card) same) got.2.1),
     ))
     (λ same sd class set. refl)

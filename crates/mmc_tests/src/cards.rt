@@ -88,6 +88,8 @@ pub fn answers_of_emmc(alloc: Global, ext_csd: [u8; 512]) -> Result<VecDeque<Bus
 pub enum Said {
     /// An R1 to this command, 0 to 63, with this status.
     Response(u8, u32),
+    /// No response to a command.
+    Silent,
     /// Whether the card is busy.
     Busy(bool),
 }
@@ -98,6 +100,7 @@ pub fn saying(alloc: Global, said: &[Said]) -> Result<ScriptedBus, Fail> {
     for each in said.iter() {
         let answer = match *each {
             Said::Response(index, status) => r1(index % 64, status),
+            Said::Silent => BusAnswer::Command(Reply::Silent),
             Said::Busy(is_busy) => BusAnswer::Busy(is_busy),
         };
         answers.push_back(answer).ok().ok_or("no room")?;

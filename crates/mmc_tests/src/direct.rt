@@ -2,7 +2,7 @@
 use crate::cards::*;
 use crate::transfer::{filled, is_all};
 use mmc_bus::{Bytes, Part};
-use mmc_card_sim::{Fault, SimCard};
+use mmc_card_sim::{CardSpec, Fault, SimCard};
 use mmc_direct::{Healed, How, Kind, NotDone, Refused, Stands, erase, read, refusal, write};
 use mmc_switch::{Cause, Session};
 use std::alloc::Global;
@@ -188,5 +188,36 @@ fn gives_up_after_four_attempts(rt: HostRuntime) -> Result<(), Fail> {
         ..Healed::new()
     };
     assert_eq!(rt; healed, counted);
+    Ok(())
+}
+
+// The response to the CMD18 of a read of two blocks is lost, and the card sends them by itself: CMD13 still shows data, and then CMD12
+// finds it in tran, where it isn't answered. CMD13 once more shows tran, and the read is made again.
+#[test]
+fn resets_no_card_that_ended_a_read_by_itself(rt: HostRuntime) -> Result<(), Fail> {
+    let spec = CardSpec {
+        goes_on: true,
+        ..spec_of(Which::Sdhc)
+    };
+    let mut card = built(rt.alloc(), spec)?;
+    let session = opened(&mut card).ok_or("not opened")?;
+    let first = card.exchanges();
+    let start = first.checked_add(1).ok_or("too many")?;
+    card.plan(start, Fault::LoseReply)
+        .ok()
+        .ok_or("not planned")?;
+    let mut room = filled(rt.alloc(), 0, 2)?;
+    let mut healed = Healed::new();
+    let ready = Stands::Ready(session);
+    let served = read(&mut card, &mut healed, ready, Part::User, 0, &mut room);
+    assert_eq!(rt; served.answer, Ok(()));
+    let counted = Healed {
+        attempts: 2,
+        by_answer: 1,
+        settlings: 1,
+        ..Healed::new()
+    };
+    assert_eq!(rt; healed, counted);
+    assert_eq!(rt; Some(card.exchanges()), first.checked_add(2 + 2 + 4 + 4));
     Ok(())
 }

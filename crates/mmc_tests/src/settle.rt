@@ -1,7 +1,7 @@
 // Settling by buses that lie.
 use crate::cards::*;
 use mmc_bus::TraceBus;
-use mmc_recovery::settle;
+use mmc_recovery::{settle, settle_patiently};
 use mmc_switch::Cause;
 use std::alloc::Global;
 use std::test::Fail;
@@ -54,6 +54,53 @@ fn settles_by_the_state_that_is_shown(rt: HostRuntime) -> Result<(), Fail> {
         (&busy[..], (false, 17 + 5)),
     ] {
         assert_eq!(rt; settled_by(rt.alloc(), said)?, settling);
+    }
+    Ok(())
+}
+
+// The same with patience: whether it succeeds, whether the card was reset, and after how many exchanges.
+fn settled_patiently_by(alloc: Global, said: &[Said]) -> Result<(bool, bool, usize), Fail> {
+    let mut bus = saying(alloc, said)?;
+    let session = opened(&mut bus).ok_or("not opened")?;
+    let mut bus = TraceBus::new(alloc, bus, 160).ok().ok_or("no trace")?;
+    let (settled, was_reset) = settle_patiently(&mut bus, session.break_off(Cause::Answer));
+    Ok((settled.is_ok(), was_reset, bus.len()))
+}
+
+#[test]
+fn tries_once_more_where_an_answer_is_missing(rt: HostRuntime) -> Result<(), Fail> {
+    let data = Said::Response(13, 0xb00);
+    let tran = Said::Response(13, 0x900);
+    let programs = Said::Response(13, 0xe00);
+    let length = Said::Response(16, 0x900);
+    let mut busy = [Said::Busy(true); 17];
+    busy[0] = programs;
+    for (said, settling) in [
+        // The card showed data, and had come to tran when CMD12 came. CMD13 shows then that it was illegal.
+        (
+            &[
+                data,
+                Said::Silent,
+                Said::Response(13, 0x0040_0900),
+                length,
+                tran,
+                tran,
+            ][..],
+            (true, false, 2 + 4),
+        ),
+        (
+            &[tran, length, tran, Said::Silent, tran, length, tran, tran][..],
+            (true, false, 4 + 4),
+        ),
+        // Twice is the last time. No CMD16, the wrong status, and a card that stays busy lead to the reset at once.
+        (&[][..], (false, true, 2 + 5)),
+        (&[data, Said::Silent, data][..], (false, true, 4 + 5)),
+        (&[tran][..], (false, true, 2 + 5)),
+        (&[Said::Response(13, 0x700)][..], (false, true, 1 + 5)),
+        (&[tran, length, tran, programs][..], (false, true, 4 + 5)),
+        (&busy[..], (false, true, 17 + 5)),
+    ] {
+        assert_eq!(rt; settled_patiently_by(rt.alloc(), said)?, settling);
     }
     Ok(())
 }

@@ -17,7 +17,8 @@ use Rattle.mmc_bus.specs.Work.{Narrows, Worked}
 use Rattle.mmc_bus.specs.declared.cause.Cause.{Cause}
 use Rattle.mmc_switch.specs.UnderWay.{room_of}
 use Rattle.mmc_transfer.proofs.StepLemmas.{all_written, each_way, either_way, fails, for_both, goes_there}
-use Rattle.mmc_transfer.specs.Commands.{CanStop, EndsIt, InTime, may_run_out}
+use Rattle.mmc_card.specs.Laws.{AfterAnyTime}
+use Rattle.mmc_transfer.specs.Commands.{CanStop, EndsIt, may_run_out}
 use Rattle.mmc_transfer.specs.Running.{AreStored, Exact, HasStopped, IsIn, IsSending, IsTaking, IsThere, Turned, change_of, is_counted}
 use Rattle.mmc_switch.specs.Ending.{IsEnding}
 use Rattle.mmc_switch.specs.declared.ending.Ending.TheVariants.{Wait}
@@ -33,7 +34,7 @@ Stops kind at_end ok =
     Worked Narrows
     (λ old new. ok ≡ true → (is_selected old.card.state ≡ true)
     × (old.card.erase ≡ NoAddress → EndsIt old new) × (at_end ≡ false → old.card.errors ≡ 0))
-    (λ old new. InTime (CanStop kind at_end) old → ok ≡ true)
+    (λ old new. AfterAnyTime old (CanStop kind at_end) → ok ≡ true)
 
 -- A card that sent blocks, and one that accepted them.
 
@@ -119,7 +120,7 @@ module _ (job : Job) (blocks : List Sector) (all : length blocks ≡ job.count) 
   waits_still taking rests met passes = still a met (still_in a.card Rcv taking.quiet.state refl refl rests) passes
 
   -- the exact card can stop
-  can_stop : Exact job blocks (Other Stop) a.card → InTime (CanStop kind at_end) a
+  can_stop : Exact job blocks (Other Stop) a.card → AfterAnyTime a (CanStop kind at_end)
   can_stop exact met passes =
       either_way job.way
       (λ reads sending.

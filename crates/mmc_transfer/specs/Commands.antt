@@ -7,8 +7,7 @@ use Rattle.mmc_frame.specs.declared.kind.Kind.{Kind}
 use Rattle.mmc_card.specs.BusView.{BusView}
 use Rattle.mmc_card.specs.Card.{Card, NoAddress}
 use Rattle.mmc_card.specs.CardLaws.{HasNoError}
-use Rattle.mmc_card.specs.Faults.{Passes}
-use Rattle.mmc_card.specs.Laws.{IsStill}
+use Rattle.mmc_card.specs.Laws.{AfterSomeTime, IsStill}
 use Rattle.mmc_bus.specs.CommandLaws.{IsStopped}
 use Rattle.mmc_card.specs.ErrorBits.{out_of_range}
 use Rattle.mmc_card.specs.Made.{has_cmd23}
@@ -74,11 +73,7 @@ may_run_out Write = false
 
 -- CMD12 ended the transfer, as time had left it.
 abbrev pub EndsIt : BusView → BusView → Type 0
-EndsIt old new = (met : BusView) × Passes old met × IsStopped met.card new.card
-
--- however much time passes, this holds of the card
-abbrev pub InTime : (Card → Type 0) → BusView → Type 0
-InTime Holds old = (met : BusView) → Passes old met → Holds met.card
+EndsIt old new = AfterSomeTime old (λ card. IsStopped card new.card)
 
 -- it is of this kind, and ends without an error, or, where it may run out, with OUT_OF_RANGE alone
 pub record CanStop (kind : Kind) (runs_out : Bool) (card : Card) : Type 0 where

@@ -3,12 +3,12 @@ ghost use Rattle.std.specs.Prelude.{◌<◌, ◌^◌, ◌≡◌, ◌⊎◌, IfEr
 ghost use Rattle.mmc_frame.specs.Status.{error_bits};
 ghost use Rattle.mmc_card.specs.Card.{NoAddress, is_selected};
 ghost use Rattle.mmc_card.specs.RowsTransfer.{preset_to};
-ghost use Rattle.mmc_card.specs.Laws.{IsStill};
+ghost use Rattle.mmc_card.specs.Laws.{AfterAnyTime, IsStill};
 ghost use Rattle.mmc_bus.specs.Heard.{cause_of_response, is_inquiry_index};
 ghost use Rattle.mmc_bus.specs.Lending.{IsRewritten};
 ghost use Rattle.mmc_bus.specs.Together.{MovesAtMost};
 ghost use Rattle.mmc_bus.specs.Work.{Ends, Narrows, Works};
-ghost use Rattle.mmc_transfer.specs.Commands.{Begins, CanPreset, CanStop, EndsIt, InTime, index_of};
+ghost use Rattle.mmc_transfer.specs.Commands.{Begins, CanPreset, CanStop, EndsIt, index_of};
 ghost use Rattle.mmc_transfer.specs.First.{StartedReading, StartedWriting};
 
 use crate::way::Way;
@@ -152,7 +152,7 @@ pub fn stop<B: Bus>(bus: &mut B, kind: Kind, may_run_out: bool) -> Result<(), Ca
     ensures works { Works Narrows
         (λ old new. IsOk result → (is_selected old.card.state ≡ true)
         × (old.card.erase ≡ NoAddress → EndsIt old new) × (may_run_out ≡ false → old.card.errors ≡ 0))
-        (λ old new. InTime (CanStop kind may_run_out) old → IsOk result)
+        (λ old new. AfterAnyTime old (CanStop kind may_run_out) → IsOk result)
         (B.view bus.old) (B.view bus.new) }
 {
     transfer_laws::cmd12_ends_a_transfer();

@@ -14,11 +14,11 @@ returns c = record {
   sd = λ old new address heard facts kind none.
       does_in (response_of 32) Tran Shows _
       (λ choice card. Checked 32 (status false card)) EraseStart old 32 address heard new facts (rw kind refl)
-      refl refl (λ errors choice there. ap (λ held. hold_first 32 (with_errors errors old.card) address held) none)
-      (λ errors choice said is. r1_told old.card.made.kind 32 false (with_errors errors old.card) said refl refl is);
+      refl refl (λ left errors choice keeps there. ap (λ held. hold_first 32 (with_errors left errors old.card) address held) none)
+      (λ left errors choice said is. r1_told old.card.made.kind 32 false (with_errors left errors old.card) said refl refl is);
   mmc = λ old new address heard facts kind none.
       does_in (response_of 35) Tran Shows _
       (λ choice card. Checked 35 (status false card)) EraseStart old 35 address heard new facts (rw kind refl)
-      refl refl (λ errors choice there. ap (λ held. hold_first 35 (with_errors errors old.card) address held) none)
-      (λ errors choice said is. r1_told old.card.made.kind 35 false (with_errors errors old.card) said refl refl is);
+      refl refl (λ left errors choice keeps there. ap (λ held. hold_first 35 (with_errors left errors old.card) address held) none)
+      (λ left errors choice said is. r1_told old.card.made.kind 35 false (with_errors left errors old.card) said refl refl is);
 }

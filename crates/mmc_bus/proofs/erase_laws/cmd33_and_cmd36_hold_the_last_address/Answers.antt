@@ -14,11 +14,11 @@ returns c = record {
   sd = λ old new first address heard facts kind one.
       does_in (response_of 33) Tran Shows _
       (λ choice card. Checked 33 (status false card)) EraseEnd old 33 address heard new facts (rw kind refl)
-      refl refl (λ errors choice there. ap (λ held. hold_last 33 (with_errors errors old.card) address held) one)
-      (λ errors choice said is. r1_told old.card.made.kind 33 false (with_errors errors old.card) said refl refl is);
+      refl refl (λ left errors choice keeps there. ap (λ held. hold_last 33 (with_errors left errors old.card) address held) one)
+      (λ left errors choice said is. r1_told old.card.made.kind 33 false (with_errors left errors old.card) said refl refl is);
   mmc = λ old new first address heard facts kind one.
       does_in (response_of 36) Tran Shows _
       (λ choice card. Checked 36 (status false card)) EraseEnd old 36 address heard new facts (rw kind refl)
-      refl refl (λ errors choice there. ap (λ held. hold_last 36 (with_errors errors old.card) address held) one)
-      (λ errors choice said is. r1_told old.card.made.kind 36 false (with_errors errors old.card) said refl refl is);
+      refl refl (λ left errors choice keeps there. ap (λ held. hold_last 36 (with_errors left errors old.card) address held) one)
+      (λ left errors choice said is. r1_told old.card.made.kind 36 false (with_errors left errors old.card) said refl refl is);
 }

@@ -13,5 +13,5 @@ pub returns : goal.returns
 returns c = λ old new argument first last heard facts two range.
     does_in (response_of 38) Tran Shows _
     (λ choice card. Checked 38 (status false card)) Erase old 38 argument heard new facts refl
-    refl refl (λ errors choice there. ap (λ held. erase_held (with_errors errors old.card) argument held) two ∙ rw range refl)
-    (λ errors choice said is. r1_told old.card.made.kind 38 false (with_errors errors old.card) said refl refl is)
+    refl refl (λ left errors choice keeps there. ap (λ held. erase_held (with_errors left errors old.card) argument held) two ∙ rw range refl)
+    (λ left errors choice said is. r1_told old.card.made.kind 38 false (with_errors left errors old.card) said refl refl is)

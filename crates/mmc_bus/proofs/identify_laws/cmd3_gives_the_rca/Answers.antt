@@ -14,6 +14,6 @@ pub returns : goal.returns
 returns c = λ old new argument heard facts k kind.
     does_in (response_of 3) Ident Shows _
     (λ choice card. Checked 3 (status false card)) SetRelativeAddr old 3 argument heard new facts (rw kind refl)
-    refl (rw kind refl) (λ errors choice there. ap (λ (c : Card). row choice SetRelativeAddr c 3 argument)
-    (low_reached choice SetRelativeAddr (with_errors errors old.card) Ident k.held there refl))
-    (λ errors choice said is. r1_told old.card.made.kind 3 false (with_errors errors old.card) said refl (rw kind refl) is)
+    refl (rw kind refl) (λ left errors choice keeps there. ap (λ (c : Card). row choice SetRelativeAddr c 3 argument)
+    (low_reached choice SetRelativeAddr (with_errors left errors old.card) Ident k.held there refl))
+    (λ left errors choice said is. r1_told old.card.made.kind 3 false (with_errors left errors old.card) said refl (rw kind refl) is)

@@ -42,9 +42,9 @@ returns c = record {
       does_either {N = ℕ} (response_of 3) Ident Stby (λ choice. published choice old.card.made) (λ (card : Card). card.rca)
       (λ rca card told. field 31 16 told ≡ rca) (λ rca. record (shown old.card) { state = Stby; rca = rca })
       (λ choice card. Checked 3 (r6_argument (published choice old.card.made) card)) SendRelativeAddr old 3 argument heard new facts (rw kind refl)
-      refl refl (λ errors choice there. ap (λ (c : Card). row choice SendRelativeAddr c 3 argument)
-      (low_either choice SendRelativeAddr (with_errors errors old.card) Ident Stby k.held there refl refl))
-      (λ errors choice said is. publishes old.card.made.kind (published choice old.card.made) (with_errors errors old.card) said kind
+      refl refl (λ left errors choice keeps there. ap (λ (c : Card). row choice SendRelativeAddr c 3 argument)
+      (low_either choice SendRelativeAddr (with_errors left errors old.card) Ident Stby k.held there refl refl))
+      (λ left errors choice said is. publishes old.card.made.kind (published choice old.card.made) (with_errors left errors old.card) said kind
       (published_below old.card.made.is_nameless choice.rca) is)
       (λ choice. refl);
   named = λ old new argument heard facts k kind named same there zero.

@@ -27,11 +27,11 @@ returns c = record {
         owns argument old.card there.2,
         rw (there.0, either_in old.card.state Idle (is_identified old.card.state) there.1) refl,
       ))
-      (λ errors choice there. ap (λ (d : Card). (
+      (λ left errors choice keeps there. ap (λ (d : Card). (
         record d { app = true },
-        Checked 55 (status true (without_addresses choice.drops_quietly (with_errors errors old.card))),
-      )) (dropped shown choice.drops_quietly (with_errors errors old.card) refl))
-      (λ errors choice said is. shows_dropped old.card.made.kind 55 true choice (with_errors errors old.card) said refl refl is);
+        Checked 55 (status true (without_addresses choice.drops_quietly (with_errors left errors old.card))),
+      )) (dropped shown choice.drops_quietly (with_errors left errors old.card) refl))
+      (λ left errors choice said is. shows_dropped old.card.made.kind 55 true choice (with_errors left errors old.card) said refl refl is);
   mmc = λ old new argument heard facts k kind mine none.
       unheard (response_of 55) AppCmd old 55 argument heard new facts refl (owns argument old.card mine)
       (rw kind refl) (λ choice. none_held choice AppCmd old.card none) refl;

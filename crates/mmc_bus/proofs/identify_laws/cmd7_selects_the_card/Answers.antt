@@ -17,6 +17,6 @@ returns c = λ old new argument heard facts k.
     new facts refl
     (λ own legal. (in_state old.card.state Stby legal, named argument old.card own))
     (λ there. (owns argument old.card there.1, in_is old.card.state Stby there.0))
-    (λ errors choice there. ap (λ (c : Card). row choice SelectCard c 7 argument)
-    (low_reached choice SelectCard (with_errors errors old.card) Stby k.held there.0 refl))
-    (λ errors choice said is. r1_told old.card.made.kind 7 false (with_errors errors old.card) said refl refl is)
+    (λ left errors choice keeps there. ap (λ (c : Card). row choice SelectCard c 7 argument)
+    (low_reached choice SelectCard (with_errors left errors old.card) Stby k.held there.0 refl))
+    (λ left errors choice said is. r1_told old.card.made.kind 7 false (with_errors left errors old.card) said refl refl is)

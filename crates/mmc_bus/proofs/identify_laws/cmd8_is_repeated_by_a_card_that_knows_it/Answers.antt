@@ -30,8 +30,9 @@ returns c = record {
   does = λ old new argument heard facts k kind voltage.
       does_known (response_of 8) Idle old.card.made.answers_cmd8 (λ card told. field 11 0 told ≡ field 11 0 argument) _
       (λ choice card. Checked 8 (field 11 0 argument)) SendIfCond old 8 argument heard new facts (rw kind refl)
-      refl refl (λ errors choice there. ap (λ (c : Card). row choice SendIfCond c 8 argument)
-      (low_reached choice SendIfCond (with_errors errors old.card) Idle k.held there refl) ∙ rw voltage refl) (λ errors choice said is. repeated old.card.made.kind argument said kind is);
+      refl refl (λ left errors choice keeps there. ap (λ (c : Card). row choice SendIfCond c 8 argument)
+      (low_reached choice SendIfCond (with_errors left errors old.card) Idle k.held there refl)
+      ∙ ap (λ n. row choice SendIfCond (with_errors left n old.card) 8 argument) (keeps refl) ∙ rw voltage refl) (λ left errors choice said is. repeated old.card.made.kind argument said kind is);
   unknown = λ old new argument heard facts k kind none idle same.
       unheard (response_of 8) SendIfCond old 8 argument heard new facts (rw kind refl) refl
       (rw (idle, none) refl) (λ choice. low_reached choice SendIfCond old.card Idle k.held idle refl) refl same;

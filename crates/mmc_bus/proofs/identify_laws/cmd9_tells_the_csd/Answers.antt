@@ -15,9 +15,10 @@ returns c = λ old new argument heard facts k.
     does register_of _ (λ card csd. csd ≡ card.made.csd) _ (λ choice card. R2 card.made.csd) SendCsd old 9 argument heard new facts refl
     (λ own legal. (in_state old.card.state Stby legal, named argument old.card own))
     (λ there. (owns argument old.card there.1, in_is old.card.state Stby there.0))
-    (λ errors choice there. ap (λ (c : Card). row choice SendCsd c 9 argument)
-    (low_reached choice SendCsd (with_errors errors old.card) Stby k.held there.0 refl))
-    (λ errors choice said is. (
+    (λ left errors choice keeps there. ap (λ (c : Card). row choice SendCsd c 9 argument)
+    (low_reached choice SendCsd (with_errors left errors old.card) Stby k.held there.0 refl)
+    ∙ ap (λ n. row choice SendCsd (with_errors left n old.card) 9 argument) (keeps refl))
+    (λ left errors choice said is. (
       old.card.made.csd,
       ap register_of is ∙ ap or_unsound (c.register_comes_back.ensures old.card.made.csd k.registers.csd k.registers.csd_check
           k.registers.csd_end),

@@ -17,6 +17,6 @@ returns c = λ old new argument heard facts kind app.
     does_in (response_of 6) Tran ShowsDropped _
     (λ choice card. Checked 6 (status true (without_addresses choice.drops_quietly card))) SetBusWidth old 6 argument heard new facts
     (rw (kind, app) refl)
-    refl refl (λ errors choice there. ap (λ (d : Card). (d, Checked 6 (status true (without_addresses choice.drops_quietly (with_errors errors old.card)))))
-    (dropped (λ d. record (shown d) { width = width_by (field 1 0 argument) d.width }) choice.drops_quietly (with_errors errors old.card) refl))
-    (λ errors choice said is. shows_dropped old.card.made.kind 6 true choice (with_errors errors old.card) said refl refl is)
+    refl refl (λ left errors choice keeps there. ap (λ (d : Card). (d, Checked 6 (status true (without_addresses choice.drops_quietly (with_errors left errors old.card)))))
+    (dropped (λ d. record (shown d) { width = width_by (field 1 0 argument) d.width }) choice.drops_quietly (with_errors left errors old.card) refl))
+    (λ left errors choice said is. shows_dropped old.card.made.kind 6 true choice (with_errors left errors old.card) said refl refl is)

@@ -6,7 +6,7 @@ use Rattle.mmc_bus.proofs.switch_laws.cmd6_sends_the_switch_status.Goals as goal
 use Rattle.mmc_bus.specs.CommandLaws.{ShowsDropped, bytes_sent}
 use Rattle.mmc_bus.specs.Heard.{response_of}
 use Rattle.mmc_card.specs.Card.{Card, Source}
-use Rattle.mmc_card.specs.CardAnswer.{CardAnswer, Checked, Choice, status, left_with}
+use Rattle.mmc_card.specs.CardAnswer.{CardAnswer, Checked, Choice, showing, status}
 use Rattle.mmc_card.specs.Laws.{timing_once_sent}
 use Rattle.mmc_card.specs.Made.{has_switch_function}
 use Rattle.mmc_card.specs.Rows.{row, without_addresses}
@@ -35,17 +35,17 @@ returns c = record {
       (λ source. sending (bytes_sent source) (timing_once_sent source old.card.timing) (forgotten old.card))
       (λ choice card. Checked 6 (status false (without_addresses choice.drops_quietly card))) SwitchFunc old 6 argument heard new facts
       (rw (kind, app) refl) refl refl
-      (λ errors choice. sends choice (with_errors errors old.card) argument
+      (λ left errors choice keeps. sends choice (with_errors left errors old.card) argument
       ∙ ap (λ (s : Source). (
         sending_from s (forgotten old.card),
-        Checked 6 (status false (without_addresses choice.drops_quietly (with_errors errors old.card))),
+        Checked 6 (status false (without_addresses choice.drops_quietly (with_errors left errors old.card))),
       ))
       (sym (switch_bytes old.card.timing old.card argument _ (choice, refl))))
-      (λ errors choice said is. shows_dropped old.card.made.kind 6 false choice
-      (with_errors errors old.card) said refl refl is) (λ choice. switch_bytes old.card.timing old.card argument _ (choice, refl));
+      (λ left errors choice said is. shows_dropped old.card.made.kind 6 false choice
+      (with_errors left errors old.card) said refl refl is) (λ choice. switch_bytes old.card.timing old.card argument _ (choice, refl));
   sends = λ old new argument told heard facts kind app h.
       let o = facts.sound told h in
-      let d = comes o.choice SwitchFunc (left_with o.left old.card) 6 argument _ (rw (kind, app) refl)
-      (sends o.choice (left_with o.left old.card) argument) in
+      let d = comes o.choice SwitchFunc (showing o.left o.found old.card) 6 argument _ (rw (kind, app) refl)
+      (sends o.choice (showing o.left o.found old.card) argument) in
       (o.choice, ap (λ (card : Card). card.source) (o.card ∙ ap (λ (x : Card × CardAnswer). x.0) d));
 }

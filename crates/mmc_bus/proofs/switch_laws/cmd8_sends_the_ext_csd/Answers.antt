@@ -5,7 +5,7 @@ use Rattle.mmc_bus.proofs.CommandLemmas.{comes, does_in_chosen, dropped, shows_d
 use Rattle.mmc_bus.proofs.switch_laws.cmd8_sends_the_ext_csd.Goals as goal
 use Rattle.mmc_card.proofs.ByteLemmas.{reread_is}
 use Rattle.mmc_card.specs.Card.{Card}
-use Rattle.mmc_card.specs.CardAnswer.{CardAnswer, Checked, Choice, left_with, status}
+use Rattle.mmc_card.specs.CardAnswer.{CardAnswer, Checked, Choice, showing, status}
 use Rattle.mmc_bus.specs.CommandLaws.{ShowsDropped, bytes_sent}
 use Rattle.mmc_bus.specs.Heard.{response_of}
 use Rattle.mmc_card.specs.declared.command.Command.TheVariants.{SendExtCsd}
@@ -32,13 +32,13 @@ returns c = record {
       (λ (card : Card). bytes_sent card.source) ShowsDropped
       (λ bytes. sending bytes old.card.timing (forgotten old.card))
       (λ choice card. Checked 8 (status false (without_addresses choice.drops_quietly card))) SendExtCsd old 8 argument heard new facts (rw kind refl)
-      refl refl (λ errors choice. sends choice (with_errors errors old.card) argument)
-      (λ errors choice said is. shows_dropped old.card.made.kind 8 false choice (with_errors errors old.card) said refl (rw kind refl) is)
+      refl refl (λ left errors choice keeps. sends choice (with_errors left errors old.card) argument)
+      (λ left errors choice said is. shows_dropped old.card.made.kind 8 false choice (with_errors left errors old.card) said refl (rw kind refl) is)
       (λ choice. refl);
   sends = λ old new argument told heard facts kind h.
       let o = facts.sound told h in
-      let d = comes o.choice SendExtCsd (left_with o.left old.card) 8 argument _ (rw kind refl)
-      (sends o.choice (left_with o.left old.card) argument) in
+      let d = comes o.choice SendExtCsd (showing o.left o.found old.card) 8 argument _ (rw kind refl)
+      (sends o.choice (showing o.left o.found old.card) argument) in
       subst (IsExtCsdOf old.card)
       (sym (ap (λ (card : Card). bytes_sent card.source) (o.card ∙ ap (λ (x : Card × CardAnswer). x.0) d)))
       (reread_is o.choice.unread old.card);

@@ -16,9 +16,9 @@ returns-clause-asked g c =
       between = e.between;
       asked = asked (λ met. IsAnswerTo (meant met.card c.args.index)) _ _ old c.encode.result c.args.index c.args.argument c.wanted.result
           c.read_with-reply.result.0 c.response_in.result _
-          (λ met. response_reads c.flipped_response_is_refused.ensures.r1 c.args.index (meant met.card c.args.index)
+          (λ met. response_reads c.args.index c.args.argument (meant met.card c.args.index)
           (asks_none met.card.made.kind met.card.app c.args.index c.requires.command c.requires.checked))
-          (λ met k errors choice. responded_answer choice (meant met.card c.args.index) (with_errors errors met.card) c.args.index c.args.argument k.registers)
+          (λ met k left errors choice. responded_answer choice (meant met.card c.args.index) (with_errors left errors met.card) c.args.index c.args.argument k.registers)
           c.encode.ensures c.wanted.ensures c.response_in.ensures e.commanded;
       cause = ap cause_of e.commanded.last
           ∙ ap (λ s. Some (cause_of_command s c.read_with-reply.result.0)) c.encode.ensures

@@ -18,6 +18,6 @@ returns c = λ old new argument heard facts.
     (λ choice card. Checked 51 (status true (without_addresses choice.drops_quietly card))) SendScr old 51 argument heard new facts
     (told_app old.card.made.kind old.card.app old.card) (λ there. rw (there.0, there.1) refl) refl
     (λ there. in_is old.card.state Tran there.2)
-    (λ errors choice. ap (λ (d : Card). (d, Checked 51 (status true (without_addresses choice.drops_quietly (with_errors errors old.card)))))
-    (dropped (λ d. sending d.made.scr d.timing d) choice.drops_quietly (with_errors errors old.card) refl))
-    (λ errors choice said is. shows_dropped old.card.made.kind 51 true choice (with_errors errors old.card) said refl refl is)
+    (λ left errors choice keeps. ap (λ (d : Card). (d, Checked 51 (status true (without_addresses choice.drops_quietly (with_errors left errors old.card)))))
+    (dropped (λ d. sending d.made.scr d.timing d) choice.drops_quietly (with_errors left errors old.card) refl))
+    (λ left errors choice said is. shows_dropped old.card.made.kind 51 true choice (with_errors left errors old.card) said refl refl is)

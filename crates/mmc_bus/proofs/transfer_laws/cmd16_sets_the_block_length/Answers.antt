@@ -14,7 +14,7 @@ pub returns : goal.returns
 returns c = λ old new heard facts.
     does_in (response_of 16) Tran ShowsDropped _
     (λ choice card. Checked 16 (status false (without_addresses choice.drops_quietly card))) SetBlocklen old 16 512 heard new facts refl
-    refl refl (λ errors choice there. ap (λ (d : Card).
-    (record d { block_length = 512 }, Checked 16 (status false (without_addresses choice.drops_quietly (with_errors errors old.card)))))
-    (dropped shown choice.drops_quietly (with_errors errors old.card) refl)) (λ errors choice said is. shows_dropped old.card.made.kind 16 false choice
-    (with_errors errors old.card) said refl refl is)
+    refl refl (λ left errors choice keeps there. ap (λ (d : Card).
+    (record d { block_length = 512 }, Checked 16 (status false (without_addresses choice.drops_quietly (with_errors left errors old.card)))))
+    (dropped shown choice.drops_quietly (with_errors left errors old.card) refl)) (λ left errors choice said is. shows_dropped old.card.made.kind 16 false choice
+    (with_errors left errors old.card) said refl refl is)

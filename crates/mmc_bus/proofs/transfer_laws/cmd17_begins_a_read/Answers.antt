@@ -2,12 +2,12 @@ use Rattle.std.proofs.Common.{false, refl, true}
 use Rattle.std.specs.Prelude.{Some}
 use Rattle.mmc_frame.specs.declared.card_state.State.TheVariants.{Data}
 use Rattle.mmc_bus.proofs.Readers.{with_errors}
-use Rattle.mmc_bus.proofs.CommandLemmas.{begins, errors_of, transfers}
+use Rattle.mmc_bus.proofs.CommandLemmas.{begins, transfers}
 use Rattle.mmc_bus.proofs.transfer_laws.cmd17_begins_a_read.Goals as goal
-use Rattle.mmc_card.specs.RowsTransfer.{begun}
+use Rattle.mmc_card.specs.RowsTransfer.{begun, errors_found}
 
 pub returns : goal.returns
 returns c = λ old new address heard facts card.
     begins false 17 _ old address heard new facts card refl refl refl
-    (λ errors choice. transfers (λ d. errors_of false choice d address) choice.drops_quietly 17 (with_errors errors old.card)
+    (λ left errors choice. transfers (λ d. errors_found false choice d address) choice.drops_quietly 17 (with_errors left errors old.card)
     (λ d. begun Data true (Some 1) d address) refl refl refl)

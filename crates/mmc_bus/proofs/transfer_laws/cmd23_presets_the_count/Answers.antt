@@ -16,6 +16,6 @@ pub returns : goal.returns
 returns c = λ old new argument heard facts.
     does_known (response_of 23) Tran (has_cmd23 old.card.made) ShowsDropped _
     (λ choice card. Checked 23 (status false (without_addresses choice.drops_quietly card))) SetBlockCount old 23 argument heard new facts refl
-    refl refl (λ errors choice there. ap (λ (d : Card). (d, Checked 23 (status false (without_addresses choice.drops_quietly (with_errors errors old.card)))))
-    (dropped (λ d. preset_to d argument) choice.drops_quietly (with_errors errors old.card) refl))
-    (λ errors choice said is. shows_dropped old.card.made.kind 23 false choice (with_errors errors old.card) said refl refl is)
+    refl refl (λ left errors choice keeps there. ap (λ (d : Card). (d, Checked 23 (status false (without_addresses choice.drops_quietly (with_errors left errors old.card)))))
+    (dropped (λ d. preset_to d argument) choice.drops_quietly (with_errors left errors old.card) refl))
+    (λ left errors choice said is. shows_dropped old.card.made.kind 23 false choice (with_errors left errors old.card) said refl refl is)

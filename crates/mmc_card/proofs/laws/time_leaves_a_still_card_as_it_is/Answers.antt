@@ -1,4 +1,4 @@
-use Rattle.mmc_card.proofs.Passing.{card_in_time, keeps_in_time, not_fewer_in_time, stands_in_time, still, unmoved_by_time}
+use Rattle.mmc_card.proofs.Passing.{card_in_time, counts_in_time, keeps_in_time, stands_in_time, still, unmoved_by_time}
 use Rattle.mmc_card.proofs.laws.time_leaves_a_still_card_as_it_is.Goals as goal
 
 pub returns : goal.returns
@@ -8,5 +8,5 @@ returns c = record {
   narrows = λ old met passes. (keeps_in_time old met passes).narrows;
   stands = stands_in_time;
   errors = λ old met passes. (unmoved_by_time old met passes).errors;
-  counts = not_fewer_in_time;
+  counts = counts_in_time;
 }

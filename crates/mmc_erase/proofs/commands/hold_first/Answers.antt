@@ -1,4 +1,4 @@
-use Rattle.mmc_bus.proofs.WorkLemmas.{at_once, command_worked}
+use Rattle.mmc_bus.proofs.WorkLemmas.{command_worked}
 use Rattle.mmc_card.specs.Laws.{IsStill}
 use Rattle.mmc_card.specs.Card.{NoAddress}
 use Rattle.mmc_erase.proofs.CommandLemmas.{asked_as, done_where_answered, done_where_it_can, erases_nothing}
@@ -13,7 +13,7 @@ returns-clause-works g c kept =
     let asked = asked_as c.first_command.ensures.named c.ask.ensures.asked in
     let k = asked.exchanged.kept kept in
     let e = c.cmd32_and_cmd35_hold_the_first_address.ensures in
-    let law = λ (is : IsStill old.card). first_law e.sd e.mmc kind old _ c.args.address _ (at_once k.step is) in
+    let law = λ (is : IsStill old.card). first_law e.sd e.mmc kind old _ c.args.address _ (k.step.at_once is) in
     command_worked asked (erases_nothing first_index first_names_only kind old.card c.args.address)
     (is_of_a_run first_index first_names_only kind old.card c.args.address) kept
     (λ ok still is none. let told = c.check_r1.ensures.ok ok in

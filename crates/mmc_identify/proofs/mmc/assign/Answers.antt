@@ -1,5 +1,5 @@
 use Rattle.std.proofs.Common.{◌∙◌, arith, refl}
-use Rattle.mmc_bus.proofs.WorkLemmas.{at_once, moved_by}
+use Rattle.mmc_bus.proofs.WorkLemmas.{moved_by}
 use Rattle.mmc_card.proofs.Passing.{still_apart}
 use Rattle.mmc_frame.specs.declared.card_state.State.TheVariants.{Ident}
 use Rattle.mmc_identify.proofs.SingleLemmas.{assigned_fine}
@@ -14,6 +14,6 @@ returns-clause-moves g c kept =
     let none = c.no_command_but_erase_widens.ensures old.card 3 0x10000 (omega arith) (λ e. cc) in
     moved_by old 3 0x10000 heard new none k tt
     (λ same mmc ident.
-    let facts = at_once k.step (still_apart old.card Ident k.was_card ident refl) in
+    let facts = k.step.at_once (still_apart old.card Ident k.was_card ident refl) in
     let f = assigned_fine old heard new (c.cmd3_gives_the_rca.ensures _ _ _ _ facts k.was_card mmc) same ident in
     (c.assigned.ensures ∙ f.0, f.1))

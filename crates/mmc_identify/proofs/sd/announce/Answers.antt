@@ -1,6 +1,6 @@
 use Rattle.std.proofs.Common.{◌∙◌, ap, arith, refl, sym}
-use Rattle.mmc_bus.proofs.WorkLemmas.{at_once, moved_by}
-use Rattle.mmc_card.proofs.Passing.{card_in_time, still_apart, unmoved_by_time}
+use Rattle.mmc_bus.proofs.WorkLemmas.{moved_by}
+use Rattle.mmc_card.proofs.Passing.{still_apart}
 use Rattle.mmc_card.specs.Made.{Made}
 use Rattle.mmc_frame.specs.declared.card_state.State.TheVariants.{Idle}
 use Rattle.mmc_identify.proofs.InquiryLemmas.{announced, answered_by_sd}
@@ -13,12 +13,12 @@ returns-clause-moves g c kept =
     let k = c.ask.ensures.asked.exchanged.kept kept in
     let met = k.step.met in
     let law = c.cmd55_announces_an_application_command.ensures.idle in
-    let expects = law _ _ _ _ k.step.facts (card_in_time old met k.step.passes k.was_card) in
+    let expects = law _ _ _ _ k.step.facts (k.step.is_card) in
     moved_by old 55 0 c.ask.result new
     (c.no_command_but_erase_widens.ensures old.card 55 0 (omega arith) (λ e. absurd (omega (arith, e)))) k
-    (λ ok. ap (λ (m : Made). m.kind) (sym (unmoved_by_time old met k.step.passes).made)
+    (λ ok. ap (λ (m : Made). m.kind) (sym k.step.made)
     ∙ answered_by_sd met c.ask.result new c.answered.result c.answered.ensures expects ok)
     (λ same accepted times idle.
-    let facts = at_once k.step (still_apart old.card Idle k.was_card idle.state refl) in
+    let facts = k.step.at_once (still_apart old.card Idle k.was_card idle.state refl) in
     announced old c.ask.result new c.answered.result c.answered.ensures k.was_card (law _ _ _ _ facts k.was_card)
     (c.a_command_to_another_card_changes_nothing.ensures.app_cmd _ _ _ _ facts) same accepted times idle)

@@ -1,6 +1,6 @@
 use Rattle.std.proofs.Common.{◌∙◌, ap, arith, refl, sym, true}
-use Rattle.mmc_bus.proofs.WorkLemmas.{at_once, moved_by}
-use Rattle.mmc_card.proofs.Passing.{card_in_time, still_apart, unmoved_by_time}
+use Rattle.mmc_bus.proofs.WorkLemmas.{moved_by}
+use Rattle.mmc_card.proofs.Passing.{still_apart}
 use Rattle.mmc_card.specs.Made.{Made}
 use Rattle.mmc_frame.specs.declared.card_state.State.TheVariants.{Idle}
 use Rattle.mmc_identify.specs.Stages.{ready_ocr}
@@ -13,8 +13,8 @@ returns-clause-moves g c kept =
     let new = g.B.Bus.view c.ask_ocr.new.bus in
     let k = c.ask_ocr.ensures.asked.exchanged.kept kept in
     let met = k.step.met in
-    let is_card = card_in_time old met k.step.passes k.was_card in
-    let made = sym (unmoved_by_time old met k.step.passes).made in
+    let is_card = k.step.is_card in
+    let made = sym k.step.made in
     let law = c.acmd41_asks_an_sd_card_whether_it_is_ready.ensures in
     moved_by old 41 c.window.result c.ask_ocr.result new
     (c.no_command_but_erase_widens.ensures old.card 41 c.window.result (omega arith) (λ e. absurd (omega (arith, e)))) k
@@ -24,6 +24,6 @@ returns-clause-moves g c kept =
     (ap (λ (m : Made). m.kind) made ∙ told.0.0, told.1 ∙ ap ready_ocr (sym made)))
     (λ same times profile can sd idle.
     inquiry_fine c.args.hcs true times old c.ask_ocr.result new c.inquired.result c.inquired.ensures k.was_card
-    (law _ _ _ _ (at_once k.step (still_apart old.card Idle k.was_card idle.state refl)) k.was_card) same
+    (law _ _ _ _ (k.step.at_once (still_apart old.card Idle k.was_card idle.state refl)) k.was_card) same
     (sd, idle.app, idle.state) (served c.args.hcs old.card c.window.result c.window.ensures (can sd) idle.told) profile
     idle)

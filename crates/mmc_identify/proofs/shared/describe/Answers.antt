@@ -1,7 +1,7 @@
 use Rattle.std.proofs.Common.{◌∙◌, ◌≡◌, arith, refl, subst, sym}
 use Rattle.std.specs.Prelude.{IfOk}
-use Rattle.mmc_bus.proofs.WorkLemmas.{at_once, moved_by}
-use Rattle.mmc_card.proofs.Passing.{card_in_time, still_apart, unmoved_by_time}
+use Rattle.mmc_bus.proofs.WorkLemmas.{moved_by}
+use Rattle.mmc_card.proofs.Passing.{still_apart}
 use Rattle.mmc_card.specs.Made.{Made}
 use Rattle.mmc_frame.specs.declared.card_state.State.TheVariants.{Stby}
 use Rattle.mmc_identify.specs.Judged as judged
@@ -16,8 +16,8 @@ returns-clause-moves g c kept =
     let argument = c.rca_argument.result in
     let k = c.ask_register.ensures.asked.exchanged.kept kept in
     let met = k.step.met in
-    let made = (unmoved_by_time old met k.step.passes).made in
-    let law = c.cmd9_tells_the_csd.ensures _ _ _ _ k.step.facts (card_in_time old met k.step.passes k.was_card) in
+    let made = k.step.made in
+    let law = c.cmd9_tells_the_csd.ensures _ _ _ _ k.step.facts (k.step.is_card) in
     let none = c.no_command_but_erase_widens.ensures old.card 9 argument (omega arith) (λ e. cc) in
     let is_rca = c.rca_argument.ensures.names in
     moved_by old 9 argument heard new none k
@@ -26,6 +26,6 @@ returns-clause-moves g c kept =
     (register_own (λ made. made.csd) _ met heard new law)))
     (λ same named.
     let rests = still_apart old.card Stby k.was_card named.state refl in
-    let tells = c.cmd9_tells_the_csd.ensures _ _ _ _ (at_once k.step rests) k.was_card in
+    let tells = c.cmd9_tells_the_csd.ensures _ _ _ _ (k.step.at_once rests) k.was_card in
     let f = described_fine c.args.rca argument old heard new is_rca tells same named in
     (c.told_register.ensures ∙ f.0, f.1))

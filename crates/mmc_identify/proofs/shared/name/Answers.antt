@@ -1,7 +1,7 @@
 use Rattle.std.proofs.Common.{◌∙◌, ◌≡◌, arith, refl, subst, sym}
 use Rattle.std.specs.Prelude.{IfOk}
-use Rattle.mmc_bus.proofs.WorkLemmas.{at_once, moved_by}
-use Rattle.mmc_card.proofs.Passing.{card_in_time, still_apart, unmoved_by_time}
+use Rattle.mmc_bus.proofs.WorkLemmas.{moved_by}
+use Rattle.mmc_card.proofs.Passing.{still_apart}
 use Rattle.mmc_card.specs.Made.{Made}
 use Rattle.mmc_frame.specs.declared.card_state.State.TheVariants.{Ready}
 use Rattle.mmc_identify.specs.Judged as judged
@@ -15,8 +15,8 @@ returns-clause-moves g c kept =
     let heard = c.ask_register.result in
     let k = c.ask_register.ensures.asked.exchanged.kept kept in
     let met = k.step.met in
-    let made = (unmoved_by_time old met k.step.passes).made in
-    let law = c.cmd2_tells_the_cid.ensures _ _ _ _ k.step.facts (card_in_time old met k.step.passes k.was_card) in
+    let made = k.step.made in
+    let law = c.cmd2_tells_the_cid.ensures _ _ _ _ k.step.facts (k.step.is_card) in
     let none = c.no_command_but_erase_widens.ensures old.card 2 0 (omega arith) (λ e. cc) in
     moved_by old 2 0 heard new none k
     (subst (λ r. IfOk r (λ cid. cid ≡ old.card.made.cid)) (sym c.told_register.ensures)
@@ -24,5 +24,5 @@ returns-clause-moves g c kept =
     (register_own (λ made. made.cid) _ met heard new law)))
     (λ same ready.
     let rests = still_apart old.card Ready k.was_card ready refl in
-    let f = named_fine old heard new (c.cmd2_tells_the_cid.ensures _ _ _ _ (at_once k.step rests) k.was_card) same ready in
+    let f = named_fine old heard new (c.cmd2_tells_the_cid.ensures _ _ _ _ (k.step.at_once rests) k.was_card) same ready in
     (c.told_register.ensures ∙ f.0, f.1))

@@ -1,6 +1,5 @@
 use Rattle.std.proofs.Common.{arith}
 use Rattle.mmc_frame.specs.declared.kind.Kind.TheVariants.{Mmc}
-use Rattle.mmc_bus.proofs.WorkLemmas.{at_once}
 use Rattle.mmc_switch.proofs.SwitchLemmas.{requested}
 use Rattle.mmc_switch.proofs.mmc.request.Goals as goal
 
@@ -15,6 +14,6 @@ returns-clause-done g c kept =
     let none = c.no_command_but_erase_widens.ensures old.card 6 argument (omega arith)
     (λ is. absurd (omega (arith, is))) in
     requested argument heard c.check_own.result old new none e.lines k
-    (λ is after. c.cmd6_switches_an_emmc_device.ensures old new argument heard after (at_once k.step is))
+    (λ is after. c.cmd6_switches_an_emmc_device.ensures old new argument heard after (k.step.at_once is))
     (λ told. c.a_status_tells_of_its_card.ensures.errors Mmc told old.card k.was_card) c.check_own.ensures.ok
     c.check_own.ensures.all

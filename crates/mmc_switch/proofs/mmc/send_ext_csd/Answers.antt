@@ -6,7 +6,7 @@ use Rattle.mmc_card.specs.RowsSwitch.{IsExtCsdOf}
 use Rattle.mmc_switch.proofs.FetchLemmas.{block_fails, command_fails, commanded, ext_csd_length, ext_csd_sent, fetched}
 use Rattle.mmc_switch.proofs.mmc.send_ext_csd.Goals as goal
 use Rattle.mmc_bus.specs.CommandLaws.{bytes_sent}
-use Rattle.mmc_bus.proofs.WorkLemmas.{at_once, refuted}
+use Rattle.mmc_bus.proofs.WorkLemmas.{refuted}
 
 pub returns-in_err-check_own-clause-moves : goal.returns-in_err-check_own-clause-moves
 returns-in_err-check_own-clause-moves g c kept =
@@ -22,7 +22,7 @@ returns-in_err-check_own-clause-moves g c kept =
     let none = c.no_command_but_erase_widens.ensures a.card 8 0 (omega arith) (λ e. absurd (omega (arith, e))) in
     let p = commanded {Asks = (a.card.made.kind ≡ Mmc) × IsStill a.card} Mmc bytes timing a 8 0 c.ask.result b (Err cause) asked
     kept none c.a_status_tells_of_its_card.ensures.errors (λ asks there. asks.0) judged.ok judged.all
-    (λ is asks. c.cmd8_sends_the_ext_csd.ensures.does _ _ _ _ (at_once k.step is) asks.0) in
+    (λ is asks. c.cmd8_sends_the_ext_csd.ensures.does _ _ _ _ (k.step.at_once is) asks.0) in
     ext_csd_sent bytes r a b (λ mmc is ok. refuted r c.from_residual.ensures.0 ok)
     (command_fails false bytes timing (λ bytes. bytes) cause r a b
     (λ asks can rest. rest.state) c.from_residual.ensures.0 p)
@@ -43,9 +43,9 @@ returns-in_err-receive-clause-moves g c kept =
     let none = c.no_command_but_erase_widens.ensures a.card 8 0 (omega arith) (λ e. absurd (omega (arith, e))) in
     let p = commanded {Asks = (a.card.made.kind ≡ Mmc) × IsStill a.card} Mmc bytes timing a 8 0 c.ask.result b (Ok tt) asked
     q.was_kept none c.a_status_tells_of_its_card.ensures.errors (λ asks there. asks.0) judged.ok judged.all
-    (λ is asks. c.cmd8_sends_the_ext_csd.ensures.does _ _ _ _ (at_once k.step is) asks.0) in
+    (λ is asks. c.cmd8_sends_the_ext_csd.ensures.does _ _ _ _ (k.step.at_once is) asks.0) in
     let sends : a.card.made.kind ≡ Mmc → IsStill a.card → IsExtCsdOf a.card bytes =
-    λ mmc is. c.cmd8_sends_the_ext_csd.ensures.sends _ _ _ _ _ (at_once k.step is) mmc (judged.ok refl).1 in
+    λ mmc is. c.cmd8_sends_the_ext_csd.ensures.sends _ _ _ _ _ (k.step.at_once is) mmc (judged.ok refl).1 in
     ext_csd_sent bytes r a d (λ mmc is ok. sends mmc is)
     (block_fails 512 false bytes c.receive.new.buffer timing (λ bytes. bytes) cause r a b d
     (λ asks can card. (sends asks.0 asks.1).len ∙ ext_csd_length a.card (card.registers.ext_csd asks.0)) c.from_residual-in_err-receive.ensures.0 p q)
@@ -64,8 +64,8 @@ returns-clause-moves g c kept =
     let none = c.no_command_but_erase_widens.ensures a.card 8 0 (omega arith) (λ e. absurd (omega (arith, e))) in
     let p = commanded {Asks = (a.card.made.kind ≡ Mmc) × IsStill a.card} Mmc bytes timing a 8 0 c.ask.result b (Ok tt) asked
     q.was_kept none c.a_status_tells_of_its_card.ensures.errors (λ asks there. asks.0) judged.ok judged.all
-    (λ is asks. c.cmd8_sends_the_ext_csd.ensures.does _ _ _ _ (at_once k.step is) asks.0) in
+    (λ is asks. c.cmd8_sends_the_ext_csd.ensures.does _ _ _ _ (k.step.at_once is) asks.0) in
     let sends : a.card.made.kind ≡ Mmc → IsStill a.card → IsExtCsdOf a.card bytes =
-    λ mmc is. c.cmd8_sends_the_ext_csd.ensures.sends _ _ _ _ _ (at_once k.step is) mmc (judged.ok refl).1 in
+    λ mmc is. c.cmd8_sends_the_ext_csd.ensures.sends _ _ _ _ _ (k.step.at_once is) mmc (judged.ok refl).1 in
     ext_csd_sent bytes (Ok c.receive.new.buffer) a d (λ mmc is ok. sends mmc is)
     (fetched 512 false bytes c.receive.new.buffer timing (λ bytes. bytes) c.receive.new.buffer a b d refl p q)

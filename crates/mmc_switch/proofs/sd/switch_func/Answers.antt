@@ -3,7 +3,7 @@ use Rattle.std.specs.Prelude.{Err, Ok}
 use Rattle.mmc_frame.specs.declared.kind.Kind.TheVariants.{Sd}
 use Rattle.mmc_card.specs.Laws.{IsStill, timing_once_sent}
 use Rattle.mmc_bus.specs.CommandLaws.{IsSwitchSource, bytes_sent}
-use Rattle.mmc_bus.proofs.WorkLemmas.{at_once, refuted}
+use Rattle.mmc_bus.proofs.WorkLemmas.{refuted}
 use Rattle.mmc_switch.proofs.FetchLemmas.{block_fails, command_fails, commanded, fetched}
 use Rattle.mmc_switch.proofs.SdLemmas.{status_sent}
 use Rattle.mmc_switch.proofs.SwitchStatusLemmas.{sent_length}
@@ -24,7 +24,7 @@ returns-in_err-check_own-clause-moves g c kept =
     let none = c.no_command_but_erase_widens.ensures a.card 6 argument (omega arith) (λ e. absurd (omega (arith, e))) in
     let p = commanded {Asks = (a.card.made.kind ≡ Sd) × (a.card.app ≡ false) × IsStill a.card} Sd bytes timing a 6 argument
     c.ask.result b (Err cause) asked kept none c.a_status_tells_of_its_card.ensures.errors (λ asks there. asks.0) judged.ok judged.all
-    (λ is asks. c.cmd6_sends_the_switch_status.ensures.does _ _ _ _ (at_once k.step is) asks.0 asks.1) in
+    (λ is asks. c.cmd6_sends_the_switch_status.ensures.does _ _ _ _ (k.step.at_once is) asks.0 asks.1) in
     status_sent argument r a b b (λ sd app is ok. refuted r c.from_residual.ensures.0 ok)
     (command_fails false bytes timing (λ bytes. bytes) cause r a b
     (λ asks has rest. (rest.state, has)) c.from_residual.ensures.0 p)
@@ -46,9 +46,9 @@ returns-in_err-receive-clause-moves g c kept =
     let none = c.no_command_but_erase_widens.ensures a.card 6 argument (omega arith) (λ e. absurd (omega (arith, e))) in
     let p = commanded {Asks = (a.card.made.kind ≡ Sd) × (a.card.app ≡ false) × IsStill a.card} Sd bytes timing a 6 argument
     c.ask.result b (Ok tt) asked q.was_kept none c.a_status_tells_of_its_card.ensures.errors (λ asks there. asks.0) judged.ok judged.all
-    (λ is asks. c.cmd6_sends_the_switch_status.ensures.does _ _ _ _ (at_once k.step is) asks.0 asks.1) in
+    (λ is asks. c.cmd6_sends_the_switch_status.ensures.does _ _ _ _ (k.step.at_once is) asks.0 asks.1) in
     let sends : a.card.made.kind ≡ Sd → a.card.app ≡ false → IsStill a.card → IsSwitchSource a.card argument b.card.source =
-    λ sd app is. c.cmd6_sends_the_switch_status.ensures.sends _ _ _ _ _ (at_once k.step is) sd app (judged.ok refl).1 in
+    λ sd app is. c.cmd6_sends_the_switch_status.ensures.sends _ _ _ _ _ (k.step.at_once is) sd app (judged.ok refl).1 in
     status_sent argument r a b d (λ sd app is ok. refuted r c.from_residual-in_err-receive.ensures.0 ok)
     (block_fails 64 false bytes c.receive.new.buffer timing (λ bytes. bytes) cause r a b d
     (λ asks has card. sent_length a.card argument b.card.source (sends asks.0 asks.1 asks.2)
@@ -69,8 +69,8 @@ returns-clause-moves g c kept =
     let none = c.no_command_but_erase_widens.ensures a.card 6 argument (omega arith) (λ e. absurd (omega (arith, e))) in
     let p = commanded {Asks = (a.card.made.kind ≡ Sd) × (a.card.app ≡ false) × IsStill a.card} Sd bytes timing a 6 argument
     c.ask.result b (Ok tt) asked q.was_kept none c.a_status_tells_of_its_card.ensures.errors (λ asks there. asks.0) judged.ok judged.all
-    (λ is asks. c.cmd6_sends_the_switch_status.ensures.does _ _ _ _ (at_once k.step is) asks.0 asks.1) in
+    (λ is asks. c.cmd6_sends_the_switch_status.ensures.does _ _ _ _ (k.step.at_once is) asks.0 asks.1) in
     let sends : a.card.made.kind ≡ Sd → a.card.app ≡ false → IsStill a.card → IsSwitchSource a.card argument b.card.source =
-    λ sd app is. c.cmd6_sends_the_switch_status.ensures.sends _ _ _ _ _ (at_once k.step is) sd app (judged.ok refl).1 in
+    λ sd app is. c.cmd6_sends_the_switch_status.ensures.sends _ _ _ _ _ (k.step.at_once is) sd app (judged.ok refl).1 in
     status_sent argument (Ok c.new.result) a b d (λ sd app is ok. sends sd app is)
     (fetched 64 false bytes c.receive.new.buffer timing (λ bytes. bytes) c.new.result a b d c.new.ensures p q)

@@ -1,4 +1,4 @@
-use Rattle.mmc_bus.proofs.WorkLemmas.{at_once, command_worked}
+use Rattle.mmc_bus.proofs.WorkLemmas.{command_worked}
 use Rattle.mmc_card.specs.Laws.{IsStill}
 use Rattle.mmc_transfer.proofs.CommandLemmas.{asked_as, begin_law, begins_where_it_can, begun_where_answered}
 use Rattle.mmc_transfer.proofs.CommandLemmas.{erases_nothing, is_of_the_run}
@@ -14,7 +14,7 @@ returns-clause-works g c kept =
     let asked = asked_as c.command_of.ensures.named c.ask_moving.ensures.asked in
     let k = asked.exchanged.kept kept in
     let begins = λ (is : IsStill old.card). begin_law c.cmd17_begins_a_read.ensures c.cmd18_begins_a_read_of_blocks.ensures
-    c.cmd24_begins_a_write.ensures c.cmd25_begins_a_write_of_blocks.ensures way is_single old _ address _ (at_once k.step is)
+    c.cmd24_begins_a_write.ensures c.cmd25_begins_a_write_of_blocks.ensures way is_single old _ address _ (k.step.at_once is)
     k.was_card in
     command_worked asked (erases_nothing way is_single old.card address) (is_of_the_run way is_single old.card address)
     kept

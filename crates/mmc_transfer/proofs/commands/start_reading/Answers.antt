@@ -1,5 +1,5 @@
 use Rattle.std.proofs.Common.{◌≤◌, ◌+◌, arith}
-use Rattle.mmc_bus.proofs.WorkLemmas.{at_once, command_worked}
+use Rattle.mmc_bus.proofs.WorkLemmas.{command_worked}
 use Rattle.mmc_card.specs.Laws.{IsStill}
 use Rattle.mmc_bus.specs.Heard.{cause_of, cause_of_response}
 use Rattle.mmc_transfer.proofs.CommandLemmas.{asked_as, begins_where_it_can, begun_where_answered, caused, read_law}
@@ -28,7 +28,7 @@ returns-clause-started g c =
       works = λ kept.
           let k = asked.exchanged.kept kept in
           let begins = λ (is : IsStill old.card). read_law c.cmd17_begins_a_read.ensures c.cmd18_begins_a_read_of_blocks.ensures is_single old _ address
-          _ (at_once k.step is) k.was_card in
+          _ (k.step.at_once is) k.was_card in
           command_worked asked (erases_nothing Read is_single old.card address) (is_of_the_run Read is_single old.card address)
           kept
           (λ ok is. let told = c.check_r1.ensures.ok ok in

@@ -1,6 +1,6 @@
 use Rattle.std.proofs.Common.{◌≡◌, ◌⊎◌, ◌≤◌, ◌+◌, arith, inl, inr, refl, ℕ}
 use Rattle.std.specs.Prelude.{Err, IsErr, Ok, Result}
-use Rattle.mmc_bus.proofs.WorkLemmas.{at_once, command_worked}
+use Rattle.mmc_bus.proofs.WorkLemmas.{command_worked}
 use Rattle.mmc_card.specs.Laws.{IsStill}
 use Rattle.mmc_bus.specs.Heard.{cause_of, cause_of_response}
 use Rattle.mmc_bus.specs.declared.host.Unheard.{Unheard}
@@ -36,7 +36,7 @@ returns-clause-started g c =
       works = λ kept.
           let k = asked.exchanged.kept kept in
           let begins = λ (is : IsStill old.card). write_law c.cmd24_begins_a_write.ensures c.cmd25_begins_a_write_of_blocks.ensures is_single old _ address
-          _ (at_once k.step is) k.was_card in
+          _ (k.step.at_once is) k.was_card in
           command_worked asked (erases_nothing Write is_single old.card address) (is_of_the_run Write is_single old.card address)
           kept
           (λ ok is. let told = c.check_r1.ensures.ok ok in
@@ -47,7 +47,7 @@ returns-clause-started g c =
           (λ told says kept is none.
           let k = asked.exchanged.kept kept in
           let begins = λ (is : IsStill old.card). write_law c.cmd24_begins_a_write.ensures c.cmd25_begins_a_write_of_blocks.ensures is_single old _ address
-          _ (at_once k.step is) k.was_card in
+          _ (k.step.at_once is) k.was_card in
           begun_or_in_tran kind Write is_single old address _ _ (begins is) told says none);
       written = all.written;
     }

@@ -1,7 +1,8 @@
-use Rattle.std.proofs.Common.{◌∙◌, ap, refl, sym}
-use Rattle.mmc_card.proofs.CardAll.{card_left, card_reached}
-use Rattle.mmc_card.proofs.Passing.{card_in_time, unmoved_by_time}
-use Rattle.mmc_card.specs.CardAnswer.{left_with}
+use Rattle.std.proofs.Common.{◌∙◌, ◌≡◌, ap, arith, refl, sym}
+use Rattle.std.proofs.lemmas.Nat.{le_or_l}
+use Rattle.mmc_card.proofs.CardAll.{card_reached, card_showing}
+use Rattle.mmc_card.proofs.Passing.{unmoved_by_time}
+use Rattle.mmc_card.specs.CardAnswer.{showing}
 use Rattle.mmc_bus.proofs.WorkLemmas.{command_worked}
 use Rattle.mmc_transfer.proofs.CommandLemmas.{held_none, shows_it_stops, shows_nothing}
 use Rattle.mmc_transfer.proofs.commands.stop.Goals as goal
@@ -16,13 +17,14 @@ returns-clause-works g c kept =
     let old = g.B.Bus.view c.args.bus.now in
     let met = k.step.met in
     let same = unmoved_by_time old met k.step.passes in
-    let is_card = card_in_time old met k.step.passes k.was_card in
+    let is_card = k.step.is_card in
     let law = c.cmd12_ends_a_transfer.ensures.does _ _ _ _ k.step.facts is_card in
     command_worked c.ask.ensures.asked refl refl kept
     (λ ok. let judged = c.check_stop.ensures.ok ok in
     let told = law.sound judged.0 judged.1 in
-    let with = left_with told.1.0 met.card in
-    let says = told.1.2 in
+    let shows = told.1 in
+    let with = showing shows.left shows.found met.card in
+    let says = shows.is in
     let quietly = says.0.drops_quietly in (
       sym same.selected ∙ told.0,
       λ none. (
@@ -30,10 +32,12 @@ returns-clause-works g c kept =
         k.step.passes,
         (says.2.0, says.2.1 ∙ ap (stopped says.2.0) (nothing_dropped quietly with (same.erase ∙ none))),
       ),
-      λ never. same.errors (held_none quietly with
+      λ never. (let held : with.errors ≡ 0 = held_none quietly with
           (shows_nothing c.args.kind c.args.may_run_out (without_addresses quietly with) judged.0
           c.a_status_tells_of_its_card.ensures.errors
-          (card_reached says.0 Unknown with (card_left told.1.0 met.card told.1.1 is_card)) says.1 never judged.2)),
+          (card_reached says.0 Unknown with (card_showing shows.left shows.found met.card shows.among shows.errors is_card)) says.1 never
+          judged.2) in
+          same.errors (omega (arith, held, le_or_l met.card.errors shows.found))),
     ))
     (λ fine can.
     let told = law.fine (k.step.quiet fine) (can met k.step.passes).moving in

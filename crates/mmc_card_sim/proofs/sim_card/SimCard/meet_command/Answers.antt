@@ -13,10 +13,15 @@ counted-self-inside-requires c =
 pub invariant_of-self : goal.invariant_of-self
 invariant_of-self c =
     let did = commanded c.self.inside.plan _ _ _ c.self.invariant.soon_ready
-    c.self.invariant.unprotected _ _ _ _ c.fault-fault.result c.args.frame
+    c.self.invariant.unprotected c.self.invariant.is_card (record {
+      response = c.flipped_response_is_refused.ensures.r1;
+      ocr = c.flipped_beside_the_ocr_is_refused.ensures;
+      register = c.flipped_register_is_refused.ensures;
+      back = c.register_comes_back.ensures;
+    }) _ _ _ _ c.fault-fault.result c.args.frame
     c.args.want c.faulty_command-reply.result.0
     c.faulty_command-reply.result.1 c.counted-self-inside.ensures c.faulty_command-reply.ensures
-    c.self.invariant.is_card c.note.ensures
+    c.note.ensures
     (in_all _ c.fault-fault.result c.faulty_command-reply.result.1 _ _ _ c.self.invariant c.fault-fault.ensures
     (λ none. c.faulty_command-reply.ensures.fell_is
     ∙ ap (λ f. fits_command f c.self.inside.delays (card_of c.self.inside.chip) c.args.frame) none)
@@ -30,10 +35,15 @@ invariant_of-self c =
 pub returns-clause-exchanged : goal.returns-clause-exchanged
 returns-clause-exchanged c =
     let did = commanded c.self.inside.plan _ _ _ c.self.invariant.soon_ready
-    c.self.invariant.unprotected _ _ _ _ c.fault-fault.result c.args.frame
+    c.self.invariant.unprotected c.self.invariant.is_card (record {
+      response = c.flipped_response_is_refused.ensures.r1;
+      ocr = c.flipped_beside_the_ocr_is_refused.ensures;
+      register = c.flipped_register_is_refused.ensures;
+      back = c.register_comes_back.ensures;
+    }) _ _ _ _ c.fault-fault.result c.args.frame
     c.args.want c.faulty_command-reply.result.0
     c.faulty_command-reply.result.1 c.counted-self-inside.ensures c.faulty_command-reply.ensures
-    c.self.invariant.is_card c.note.ensures
+    c.note.ensures
     (in_all _ c.fault-fault.result c.faulty_command-reply.result.1 _ _ _ c.self.invariant c.fault-fault.ensures
     (λ none. c.faulty_command-reply.ensures.fell_is
     ∙ ap (λ f. fits_command f c.self.inside.delays (card_of c.self.inside.chip) c.args.frame) none)
@@ -43,6 +53,11 @@ returns-clause-exchanged c =
 pub returns-clause-meets : goal.returns-clause-meets
 returns-clause-meets c =
     let met = command_met c.self.inside.plan _ _ _ c.self.invariant.soon_ready
-    c.self.invariant.unprotected _ _ _ _ c.fault-fault.result c.args.frame c.faulty_command-reply.result.0
+    c.self.invariant.unprotected c.self.invariant.is_card (record {
+      response = c.flipped_response_is_refused.ensures.r1;
+      ocr = c.flipped_beside_the_ocr_is_refused.ensures;
+      register = c.flipped_register_is_refused.ensures;
+      back = c.register_comes_back.ensures;
+    }) _ _ _ _ c.fault-fault.result c.args.frame c.faulty_command-reply.result.0
     c.faulty_command-reply.result.1 c.counted-self-inside.ensures c.faulty_command-reply.ensures in
     rw (← c.self.view_is) met
