@@ -27,8 +27,7 @@ ERRORS = EXECUTION | bits(28, 24, 13)
 
 Made = namedtuple("Made", "kind ocr cid csd scr ext_csd is_nameless is_locked answers_cmd8 has_cmd6 has_cmd23 has_high_speed")
 # `erase` holds none, one or two addresses. `source` is what a read sends, if no sectors: its name, its length, and the timing
-# after it. `left` are the blocks to come, None where they aren't counted. `switch_error` is 1 where the next status shows it, and
-# 2 while a status of a programming device may show it or not.
+# after it. `left` are the blocks to come, None where they aren't counted.
 Card = namedtuple("Card", "state rca part width timing erase_group_def block_length count app erase command_errors command_may "
                           "may must switch_error accepted_cmd8 inquiries is_busy polled lags source place left is_single "
                           "is_switching")
@@ -106,13 +105,13 @@ def sectors_in(made, part):
 
 
 # The bytes that are read of an EXT_CSD (docs/STANDARD.md, "EXT_CSD"); all others are open.
-IS_READ = {*range(143, 156), 175, 179, 181, 183, 185, 192, 196, *range(212, 216), 221, 224, 226, 231}
+IS_READ = {*range(143, 156), 175, 179, 181, 185, 192, 196, *range(212, 216), 221, 224, 226, 231}
 
 
 def powered_on(made, block_length):
     return Card(state=IDLE, rca=0 if made.kind == SD else 1, part=0, width=1, timing="default", erase_group_def=0,
                 block_length=block_length, count=0, app=False, erase=(), command_errors=0, command_may=0, may=0, must=False,
-                switch_error=0, accepted_cmd8=False, inquiries=0, is_busy=False, polled=0, lags=False, source=None, place=0,
+                switch_error=False, accepted_cmd8=False, inquiries=0, is_busy=False, polled=0, lags=False, source=None, place=0,
                 left=None, is_single=False, is_switching=False)
 
 
@@ -147,7 +146,7 @@ def done(card):
 
 
 def shown(card):
-    return done(card)._replace(may=0, must=False, switch_error=0)
+    return done(card)._replace(may=0, must=False, switch_error=False)
 
 
 def raised(card):
@@ -176,7 +175,7 @@ def waited(card):
 
 
 def programmed(card):
-    return card._replace(state=TRAN, is_busy=False, lags=True, switch_error=min(card.switch_error, 1))
+    return card._replace(state=TRAN, is_busy=False, lags=True)
 
 
 def rested(card):

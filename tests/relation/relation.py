@@ -26,7 +26,7 @@ class Relation(Rows):
         of_command = told & COMMAND_ERRORS
         if card.command_errors & ~of_command or of_command & ~(card.command_errors | card.command_may):
             return False
-        if bool(told & LOCKED) != made.is_locked or made.kind == MMC and bool(told & SWITCH_ERROR) != bool(card.switch_error):
+        if bool(told & LOCKED) != made.is_locked or made.kind == MMC and bool(told & SWITCH_ERROR) != card.switch_error:
             return False
         if not is_cmd13:
             return True
@@ -246,7 +246,7 @@ class Relation(Rows):
             return bool(block[13] & 2) == made.has_high_speed and block[16] & 15 in selected
         now = bytearray(made.ext_csd or block)
         now[175], now[179] = card.erase_group_def, now[179] & ~7 | card.part
-        now[183], now[185] = {1: 0, 4: 1, 8: 2}[card.width], 1 if card.timing == "high" else 0
+        now[185] = 1 if card.timing == "high" else 0
         return all(block[at] == now[at] for at in IS_READ)
 
     def received(self, card, size, came, block):

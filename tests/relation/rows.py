@@ -103,15 +103,12 @@ class Rows:
         if card.app:
             yield refused(card), None, 0
             return
-        if card.switch_error == 2:
-            yield self.status(shown(card)._replace(switch_error=2), card._replace(switch_error=0))
-        yield self.status(shown(card), card._replace(switch_error=min(card.switch_error, 1)))
-        if card.state == TRAN and card.lags:
-            fault = 1 if card.polled >= PATIENCE else 0
+        yield self.status(shown(card), card)
+        if card.state == TRAN and card.lags and card.polled < PATIENCE:
             new, behind = waited(shown(card))._replace(lags=True), card._replace(state=UNKNOWN)
-            yield self.status(new, behind, 0, fault)
+            yield self.status(new, behind)
             if card.may:
-                yield self.status(new._replace(may=card.may, must=card.must), behind._replace(may=0, must=False), 0, fault)
+                yield self.status(new._replace(may=card.may, must=card.must), behind._replace(may=0, must=False))
 
     def app_cmd(self, card, index, argument):
         yield self.status(shown(card)._replace(app=True), card)
@@ -201,15 +198,15 @@ class Rows:
         return [card._replace(timing="high") if value == 1 and self.made.has_high_speed else None]
 
     def switch(self, card, index, argument):
-        """CMD6 of eMMC. SWITCH_ERROR shows in its R1, or first in a status while it programs or after that."""
+        """CMD6 of eMMC. SWITCH_ERROR shows in its R1, or in the first status after it."""
         def programs(after):
             return busied(shown(after))._replace(state=PRG, is_switching=True)
         for after in self.switched(card, argument):
             if after is not None:
                 yield self.status(programs(after), card)
             fault = 0 if after is None else 1
-            yield self.status(programs(card), card._replace(switch_error=1), 0, fault)
-            yield self.status(programs(card)._replace(switch_error=2), card, 0, fault)
+            yield self.status(programs(card), card._replace(switch_error=True), 0, fault)
+            yield self.status(programs(card)._replace(switch_error=True), card, 0, fault)
 
     def erase_start(self, card, index, argument):
         yield self.held(card, argument, 0)
