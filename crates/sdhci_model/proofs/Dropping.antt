@@ -95,9 +95,9 @@ any_rejected : (old new : BusView) (block other : List ℕ) (got : DataOut) → 
     → MeetsBlock old other Went.Nothing new
 any_rejected old new block other got is (faithful unharmed card told_so) = absurd (lost_by _ got is told_so)
 any_rejected old new block other got is (lose_block can one card said) = absurd (rejected_is_none (sym is ∙ said))
-any_rejected old new block other got is (reject ignores is_busy can one card said) =
-    lose_status false ignores is_busy can one card refl
-any_rejected old new block other got is (lose_status was ignores is_busy can one card said) =
+any_rejected old new block other got is (reject bits ignores is_busy among can one card said) =
+    lose_status bits false ignores is_busy among can one card refl
+any_rejected old new block other got is (lose_status bits was ignores is_busy among can one card said) =
     absurd (rejected_is_none (sym is ∙ said))
 any_rejected old new block other got is (fall_short lands bits ignores are can one card said) =
     absurd (rejected_is (sym is ∙ said))

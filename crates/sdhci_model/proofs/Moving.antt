@@ -250,9 +250,10 @@ unrejected : (old new : BusView) (block : List ℕ) (got : DataOut) → got ≡ 
     → MeetsBlock old block Went.Nothing new
 unrejected old new block got is (write_faithful unharmed card told_so) = absurd (lost_by _ got is told_so)
 unrejected old new block got is (lose_block can one card said) = lose_block can one card refl
-unrejected old new block got is (reject ignores is_busy can one card said) = lose_status false ignores is_busy can one card refl
-unrejected old new block got is (lose_status was ignores is_busy can one card said) =
-    lose_status was ignores is_busy can one card refl
+unrejected old new block got is (reject bits ignores is_busy among can one card said) =
+    lose_status bits false ignores is_busy among can one card refl
+unrejected old new block got is (lose_status bits was ignores is_busy among can one card said) =
+    lose_status bits was ignores is_busy among can one card refl
 unrejected old new block got is (fall_short lands bits ignores are can one card said) =
     absurd (rejected_is (sym is ∙ said))
 unrejected old new block got is (turn_out lands several can one card said) = absurd (rejected_is_none (sym is ∙ said))
